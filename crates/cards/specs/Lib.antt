@@ -1,0 +1,4 @@
+pub mod Decks
+pub mod Faults
+pub mod Files
+pub mod Numbers

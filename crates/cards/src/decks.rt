@@ -1,0 +1,88 @@
+//! A card, and a deck of them.
+
+ghost use Rattle.std.specs.Prelude.{◌≡◌, ◌≤◌, ◌↔◌, [], ◌∷◌, ◌++◌, length, OnOk, OnErr, IsErrOf};
+
+use crate::faults::DeckFault;
+use bcd::Code;
+use std::alloc::Global;
+use std::marker::Model;
+
+/// How many columns a card has.
+pub const COLUMNS: usize = 80;
+
+/// How many cards a deck has at most.
+pub const LARGEST_DECK: usize = 2000;
+
+/// A card: the character of each column, from column 1 on.
+#[derive(Clone, Copy, Debug, PartialEq, Eq)]
+pub struct Card(pub [Code; COLUMNS]);
+
+/// At most 2,000 cards, in order.
+#[derive(Debug, Drop)]
+pub struct Deck {
+    cards: Vec<Card>,
+}
+
+impl Model for Deck {
+    ghost use Rattle.std.specs.Prelude.{List, ◌≤◌, length};
+    ghost use Rattle.cards.specs.declared.decks.Card.{Card};
+    ghost use Rattle.cards.specs.declared.decks.TheConstants.{LARGEST_DECK};
+
+    ghost Value = { List Card };
+
+    ghost view = { λ deck. deck.cards.items };
+
+    ghost invariant = { λ deck. length deck.cards.items ≤ LARGEST_DECK };
+}
+
+impl Deck {
+    /// A deck of no card. It takes no memory.
+    pub fn empty(alloc: Global) -> Self
+        ensures { result ≡ [] }
+    {
+        Deck {
+            cards: Vec::new(alloc),
+        }
+    }
+
+    /// The cards in order.
+    pub fn cards(&self) -> &[Card]
+        ensures cards { result.now ≡ self.now }
+        ensures limit { length result.now ≤ LARGEST_DECK }
+    {
+        &self.cards
+    }
+
+    /// Adds a card behind the others. An error leaves the deck as it was.
+    pub fn push(&mut self, card: Card) -> Result<(), DeckFault>
+        ensures ok { OnOk result (self.new ≡ self.old ++ card ∷ []) }
+        ensures full { IsErrOf result DeckFault.TooManyCards ↔ (length self.old ≡ LARGEST_DECK) }
+        ensures err { OnErr result (self.new ≡ self.old) }
+    {
+        if self.cards.len() == LARGEST_DECK {
+            return Err(DeckFault::TooManyCards);
+        }
+        self.cards.try_reserve(1)?;
+        self.cards.push_reserved(Card(card.0));
+        Ok(())
+    }
+}
+
+#[cfg(test)]
+mod tests {
+    use super::*;
+    use std::test::Fail;
+
+    #[test]
+    fn two_thousand_cards_and_no_more(rt: HostRuntime) -> Result<(), Fail> {
+        let blank = || Card([Code::blank(); COLUMNS]);
+        let mut deck = Deck::empty(rt.alloc());
+        for _ in 0..2000 {
+            deck.push(blank())?;
+        }
+        assert_eq!(rt; deck.push(blank()).map_err(|fault| fault.number()), Err(33));
+        assert_eq!(rt; deck.cards().len(), 2000);
+        assert_eq!(rt; DeckFault::NoMemory.number(), 1);
+        Ok(())
+    }
+}

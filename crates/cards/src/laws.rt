@@ -1,0 +1,20 @@
+//! The law of the two files.
+
+ghost use Rattle.std.specs.Prelude.{◌≡◌, ◌≢◌, ℕ, List};
+ghost use Rattle.cards.specs.Decks.{IsDeck};
+ghost use Rattle.cards.specs.Faults.{IsFirstFault};
+ghost use Rattle.cards.specs.Files.{file_of};
+ghost use Rattle.cards.specs.declared.decks.Card.{Card};
+ghost use Rattle.cards.specs.declared.faults.CardFault.{CardFault};
+ghost use Rattle.cards.specs.declared.forms.Form.{Form};
+
+/// The law of the two files: a file is one deck's at most, or it has one first fault, and not
+/// both. So what was written is read as the deck that it was.
+pub fn one_reading()
+    ensures one_deck { (form : Form) (one two : List Card) → IsDeck one → IsDeck two →
+        file_of form one ≡ file_of form two → one ≡ two }
+    ensures one_fault { (form : Form) (file : List ℕ) (one two : CardFault) →
+        IsFirstFault form file one → IsFirstFault form file two → one ≡ two }
+    ensures not_both { (form : Form) (file : List ℕ) (fault : CardFault) (deck : List Card) →
+        IsFirstFault form file fault → IsDeck deck → file ≢ file_of form deck }
+{}

@@ -1,0 +1,59 @@
+//! Writing a deck as its text or its punch file.
+
+ghost use Rattle.std.specs.Prelude.{◌≡◌, ◌++◌, IfOk, OnOk};
+ghost use Rattle.cards.specs.Files.{text_of, punch_file_of, file_of, line_of, column_of};
+
+use crate::decks::{Card, Deck};
+use crate::forms::{Form, LINE_FEED, digit_of};
+use bcd::Code;
+use std::alloc::{AllocError, Global};
+
+/// The text of a deck: eighty glyphs and a line feed a card.
+pub fn write_text(alloc: Global, deck: &Deck) -> Result<Vec<u8>, AllocError>
+    ensures { IfOk result (λ text. text.items ≡ text_of deck.now) }
+{
+    write(alloc, Form::Text, deck)
+}
+
+/// The punch file of a deck: three hexadecimal digits a column and a line feed a card.
+pub fn write_punched(alloc: Global, deck: &Deck) -> Result<Vec<u8>, AllocError>
+    ensures { IfOk result (λ file. file.items ≡ punch_file_of deck.now) }
+{
+    write(alloc, Form::Punched, deck)
+}
+
+fn write(alloc: Global, form: Form, deck: &Deck) -> Result<Vec<u8>, AllocError>
+    ensures { IfOk result (λ file. file.items ≡ file_of form deck.now) }
+{
+    let mut out = Vec::new(alloc);
+    for card in deck.cards() {
+        push_card(&mut out, form, card)?;
+    }
+    Ok(out)
+}
+
+fn push_card(out: &mut Vec<u8>, form: Form, card: &Card) -> Result<(), AllocError>
+    ensures { OnOk result (out.new.items ≡ out.old.items ++ line_of form card.now) }
+{
+    for code in &card.0 {
+        push_column(out, form, *code)?;
+    }
+    out.push(LINE_FEED)?;
+    Ok(())
+}
+
+#[tactic(auto, unfolding(crate::specs::Files::column_of))]
+fn push_column(out: &mut Vec<u8>, form: Form, code: Code) -> Result<(), AllocError>
+    ensures { OnOk result (out.new.items ≡ out.old.items ++ column_of form code) }
+{
+    match form {
+        Form::Text => out.push(code.glyph())?,
+        Form::Punched => {
+            let punches = code.punches();
+            out.push(digit_of(punches / 256 % 16))?;
+            out.push(digit_of(punches / 16 % 16))?;
+            out.push(digit_of(punches % 16))?;
+        }
+    }
+    Ok(())
+}

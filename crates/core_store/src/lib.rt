@@ -1,0 +1,87 @@
+//! Storage: a character and a word mark at each position, and the registers beside it.
+//!
+//! `Core` is what the instructions of the machine stand on. Its contract is the list of cells:
+//! each call is an equation on that list by the words of `specs/Storage.antt`, so all that is
+//! built over a `Core` is proved once for every way of keeping marks. `FlagCore` keeps the list
+//! as it is. After `blank` no call takes memory.
+#![tactic(auto)]
+
+mod flags;
+mod registers;
+mod sizes;
+
+ghost use Rattle.std.specs.Prelude.{◌≡◌, ◌+◌, ◌<◌, ◌≤◌, ℕ, List, Bool, true, false, length, IfOk, IfSome};
+ghost use Rattle.core_store.specs.Storage.{blank_storage, code_at, is_marked, put, with_mark, greatest_mark, least_mark, GreatestMark, LeastMark, Storage, positions_of};
+
+use bcd::Code;
+pub use flags::FlagCore;
+pub use registers::{Check, Compared, Registers};
+pub use sizes::Size;
+use std::alloc::{AllocError, Global};
+
+/// No storage has more positions: addresses are numbers below this one.
+pub const LARGEST_SIZE: u16 = 16000;
+
+/// A storage of a fixed size.
+pub trait Core: Sized + Drop {
+    /// The cells from position 0 on.
+    ghost cells: { Self → List (ℕ × Bool) };
+
+    /// A storage that is all blank and unmarked. The only call that takes memory.
+    fn blank(alloc: Global, size: Size) -> Result<Self, AllocError>
+        ensures { IfOk result (λ core. cells core ≡ blank_storage (positions_of size)) };
+
+    /// Makes this storage equal to another of its size.
+    fn copy_from(&mut self, other: &Self)
+        requires { length (cells self.old) ≡ length (cells other.now) }
+        ensures { cells self.new ≡ cells other.now };
+
+    /// How many positions there are.
+    fn size(&self) -> u16
+        ensures size { result ≡ length (cells self.now) }
+        ensures limit { result ≤ LARGEST_SIZE };
+
+    /// The character at a position.
+    fn get(&self, position: u16) -> Code
+        requires { position < length (cells self.now) }
+        ensures { result ≡ code_at (cells self.now) position };
+
+    /// Whether a position has a word mark.
+    fn is_marked(&self, position: u16) -> bool
+        requires { position < length (cells self.now) }
+        ensures { result ≡ is_marked (cells self.now) position };
+
+    /// Writes a character. The mark stays.
+    fn put(&mut self, position: u16, code: Code)
+        requires { position < length (cells self.old) }
+        ensures { cells self.new ≡ put (cells self.old) position code };
+
+    /// Sets a word mark. The character stays.
+    fn set_mark(&mut self, position: u16)
+        requires { position < length (cells self.old) }
+        ensures { cells self.new ≡ with_mark (cells self.old) position true };
+
+    /// Clears a word mark. The character stays.
+    fn clear_mark(&mut self, position: u16)
+        requires { position < length (cells self.old) }
+        ensures { cells self.new ≡ with_mark (cells self.old) position false };
+
+    /// The greatest marked position not above a position, where the field that ends there begins.
+    fn mark_at_or_below(&self, position: u16) -> Option<u16>
+        requires { position < length (cells self.now) }
+        ensures mark { result ≡ greatest_mark (cells self.now) position }
+        ensures within { IfSome result (λ found. found ≤ position) };
+
+    /// The least marked one of the next eight positions, where an instruction ends.
+    fn mark_after(&self, position: u16) -> Option<u16>
+        requires { position < length (cells self.now) }
+        ensures mark { result ≡ least_mark (cells self.now) (position + 1) 8 }
+        ensures within { IfSome result (λ found. (position < found) × (found ≤ position + 8) × (found < length (cells self.now))) };
+}
+
+/// The law of the two searches: what is found is the greatest mark not above the position, and
+/// the least among those asked for; where nothing is found there is none.
+pub fn nearest_marks()
+    ensures greatest { (s : Storage) (p : ℕ) → GreatestMark s p (greatest_mark s p) }
+    ensures least { (s : Storage) (p count : ℕ) → LeastMark s p count (least_mark s p count) }
+{}

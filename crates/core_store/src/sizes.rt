@@ -1,0 +1,57 @@
+//! How large a storage is.
+
+ghost use Rattle.std.specs.Prelude.{◌≡◌, ◌≢◌, ◌≤◌, IfSome, IfNone};
+ghost use Rattle.core_store.specs.Storage.{positions_of};
+
+use crate::LARGEST_SIZE;
+
+/// The sizes of storage that a machine may have.
+#[derive(Clone, Copy, Debug, PartialEq, Eq)]
+pub enum Size {
+    Positions1400,
+    Positions2000,
+    Positions4000,
+}
+
+impl Size {
+    /// How many positions the storage has.
+    pub fn positions(self) -> u16
+        ensures positions { result ≡ positions_of self }
+        ensures limit { result ≤ LARGEST_SIZE }
+    {
+        match self {
+            Size::Positions1400 => 1400,
+            Size::Positions2000 => 2000,
+            Size::Positions4000 => 4000,
+        }
+    }
+
+    /// The size with so many positions, if there is one.
+    pub fn of_positions(positions: u16) -> Option<Size>
+        ensures found { IfSome result (λ size. positions_of size ≡ positions) }
+        ensures missing { IfNone result ((size : Size) → positions_of size ≢ positions) }
+    {
+        match positions {
+            1400 => Some(Size::Positions1400),
+            2000 => Some(Size::Positions2000),
+            4000 => Some(Size::Positions4000),
+            _ => None,
+        }
+    }
+}
+
+#[cfg(test)]
+mod tests {
+    use super::*;
+    use std::test::Fail;
+
+    #[test]
+    fn three_sizes(rt: HostRuntime) -> Result<(), Fail> {
+        for positions in [1400, 2000, 4000] {
+            let size = Size::of_positions(positions).ok_or("a size")?;
+            assert_eq!(rt; size.positions(), positions);
+        }
+        assert_eq!(rt; Size::of_positions(1399), None);
+        Ok(())
+    }
+}

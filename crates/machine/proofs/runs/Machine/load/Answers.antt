@@ -1,0 +1,23 @@
+use Rattle.std.proofs.Common.{◌≡◌, ◌∙◌, ◌≤◌, ap, sym, arith, refl, length}
+use Rattle.std.proofs.lemmas.List.{length-replicate}
+use Rattle.core_store.specs.Storage.{positions_of}
+use Rattle.machine.specs.Run.{first_card}
+use Rattle.machine.proofs.Steps.{at_least_1400, length-loaded}
+use Rattle.machine.proofs.runs.Machine.load.Goals as goal
+
+pub invariant_of-parts : goal.invariant_of-parts
+invariant_of-parts g c =
+    let s = g.C.Core.cells c.in_ok-core.core in
+    let long : length s ≡ positions_of c.args.size = length-loaded s c.args.size (first_card c.args.deck) c.in_ok-core.ensures in
+    let most : 1400 ≤ positions_of c.args.size = at_least_1400 c.args.size in
+    omega arith
+
+pub invariant_of-result : goal.invariant_of-result
+invariant_of-result g c =
+    let s = g.C.Core.cells c.in_ok-core.core in
+    length-loaded s c.args.size (first_card c.args.deck) c.in_ok-core.ensures
+    ∙ sym (ap length c.in_ok-spare.ensures ∙ length-replicate (positions_of c.args.size) _)
+
+pub returns : goal.returns
+returns g c =
+    rw (c.in_ok-core.ensures, c.first_registers.ensures, c.new.ensures.items, c.new-2.ensures.items, c.at_the_top.ensures) refl

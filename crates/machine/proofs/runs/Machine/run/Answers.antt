@@ -1,0 +1,63 @@
+use Rattle.std.proofs.Common.{◌≡◌, ◌∙◌, ap, sym, arith}
+use Rattle.machine.specs.Run.{State}
+use Rattle.machine.proofs.Steps.{over_stopped, over_done, left_step, left_prints, executed_is, stems_step}
+use Rattle.machine.proofs.runs.Machine.run.Goals as goal
+
+-- the run ended at a halt or check
+
+pub returns-then-not-is_running-clause-machine : goal.returns-then-not-is_running-clause-machine
+returns-then-not-is_running-clause-machine g c =
+    (over_stopped _ _ _ _ _ _ c.loop-attempted.invariant.left (sym c.is_running.ensures ∙ c.if-not-is_running.true)).machine
+
+pub returns-then-not-is_running-clause-meter : goal.returns-then-not-is_running-clause-meter
+returns-then-not-is_running-clause-meter g c =
+    (over_stopped _ _ _ _ _ _ c.loop-attempted.invariant.left (sym c.is_running.ensures ∙ c.if-not-is_running.true)).meter
+
+pub returns-then-not-is_running-clause-executed : goal.returns-then-not-is_running-clause-executed
+returns-then-not-is_running-clause-executed g c =
+    let over = over_stopped _ _ _ _ _ _ c.loop-attempted.invariant.left (sym c.is_running.ensures ∙ c.if-not-is_running.true) in
+    c.report.ensures.executed ∙ executed_is _ _ _ _ _ over.attempts c.loop-attempted.invariant.checkpoint.standing over.machine
+
+pub returns-then-not-is_running-clause-standing : goal.returns-then-not-is_running-clause-standing
+returns-then-not-is_running-clause-standing g c =
+    let over = over_stopped _ _ _ _ _ _ c.loop-attempted.invariant.left (sym c.is_running.ensures ∙ c.if-not-is_running.true) in
+    c.report.ensures.standing ∙ ap (λ (x : State). x.standing) over.machine
+
+-- the run ended at its limit
+
+pub returns-clause-machine : goal.returns-clause-machine
+returns-clause-machine g c = (over_done _ _ _ _ _ _ c.loop-attempted.invariant.left (omega arith)).machine
+
+pub returns-clause-meter : goal.returns-clause-meter
+returns-clause-meter g c = (over_done _ _ _ _ _ _ c.loop-attempted.invariant.left (omega arith)).meter
+
+pub returns-clause-executed : goal.returns-clause-executed
+returns-clause-executed g c =
+    let whole : c.loop-attempted.attempted ≡ c.args.limit = omega arith in
+    let over = over_done _ _ _ _ _ _ c.loop-attempted.invariant.left (omega arith) in
+    c.report-2.ensures.executed ∙ executed_is _ _ _ _ _ (sym whole ∙ over.attempts) c.loop-attempted.invariant.checkpoint.standing over.machine
+
+pub returns-clause-standing : goal.returns-clause-standing
+returns-clause-standing g c =
+    let over = over_done _ _ _ _ _ _ c.loop-attempted.invariant.left (omega arith) in
+    c.report-2.ensures.standing ∙ ap (λ (x : State). x.standing) over.machine
+
+-- memory was wanted in its middle
+
+pub returns-in-Err-clause-memory : goal.returns-in-Err-clause-memory
+returns-in-Err-clause-memory g c =
+    left_prints _ _ _ _ _ _ c.loop-attempted.invariant.left c.loop-attempted.invariant.stems (omega arith) c.in-Err.ensures.memory
+
+-- one more step
+
+pub loop-attempted-preserved : goal.loop-attempted-preserved
+loop-attempted-preserved g c =
+    let stepped = c.in_default.ensures.step in
+    record {
+      left =
+          left_step _ _ _ _ _ _ c.loop-attempted.invariant.left _ _ (omega arith) (sym c.is_running.ensures ∙ c.if-not-is_running.false) stepped
+          c.in_default.ensures.meter;
+      stems = stems_step _ _ _ stepped c.loop-attempted.invariant.stems;
+      spare = c.loop-attempted.invariant.spare;
+      checkpoint = c.loop-attempted.invariant.checkpoint;
+    }

@@ -1,0 +1,14 @@
+use Rattle.std.proofs.Common.{◌≡◌}
+use Rattle.machine.proofs.Steps.{Left, Stems, IsCheckpointOf}
+use Rattle.machine.proofs.runs.Machine.run.Given as goal
+
+abbrev pub invariant-loop-attempted : goal.invariant-loop-attempted
+invariant-loop-attempted g l =
+    let now = l.self-inside.parts in
+    let old = l.fn.self in
+    record {
+      left : Left old now l.limit l.attempted l.fn.meter l.meter;
+      stems : Stems old now;
+      spare : g.C.Core.cells l.self-inside.spare ≡ old.works.storage;
+      checkpoint : IsCheckpointOf l.checkpoint old;
+    }

@@ -1,0 +1,116 @@
+-- whole runs of the machine
+use Rattle.std.specs.Prelude.{ℕ, zero, suc, ◌+◌, ◌-◌, ◌&&◌, ◌^◌, min, Bool, true, false, if◌then◌else◌, Result, Ok, Err, List, [], ◌∷◌, None, take}
+use Rattle.cards.specs.declared.decks.Card.{Card}
+use Rattle.core_store.specs.Storage.{Storage, blank_storage, put_codes, with_mark, positions_of}
+use Rattle.core_store.specs.declared.sizes.Size.{Size}
+use Rattle.core_store.specs.declared.registers.Check.{Check}
+use Rattle.core_store.specs.declared.registers.Compared.TheVariants.{Equal}
+use Rattle.machine.specs.declared.operations.Course.{Course}
+use Rattle.machine.specs.declared.operations.Course.TheVariants.{GoesOn, Halts}
+use Rattle.machine.specs.declared.parts.Standing.{Standing}
+use Rattle.machine.specs.declared.parts.Standing.TheVariants.{Running, Halted, Checked}
+use Rattle.machine.specs.declared.parts.Event.{Event}
+use Rattle.machine.specs.declared.parts.Event.TheVariants.{Next, Halt, Stop}
+use Rattle.machine.specs.declared.printer.Line.{Line}
+use Rattle.machine.specs.declared.runs.Checkpoint.{Checkpoint}
+use Rattle.machine.specs.declared.switches.Switches.{Switches}
+use Rattle.machine.specs.Effect.{Works, attempt}
+
+-- what a machine works on, and how it stands
+pub record State : Type 0 where
+  pub works : Works
+  pub standing : Standing
+
+abbrev pub is_running : Standing → Bool
+is_running Running = true
+is_running Halted = false
+is_running (Checked check) = false
+
+abbrev pub is_halted : Standing → Bool
+is_halted Running = false
+is_halted Halted = true
+is_halted (Checked check) = false
+
+abbrev pub is_checked : Standing → Bool
+is_checked Running = false
+is_checked Halted = false
+is_checked (Checked check) = true
+
+abbrev pub standing_after : Course → Standing
+standing_after GoesOn = Running
+standing_after Halts = Halted
+
+-- what a step tells of where the machine then stands
+abbrev pub event_of : Standing → Event
+event_of Running = Next
+event_of Halted = Halt
+event_of (Checked check) = Stop check
+
+-- the characters of a deck's first card
+abbrev pub first_card : List Card → List ℕ
+first_card [] = []
+first_card (card ∷ cards) = card.0
+
+-- a machine after the load button: the first card is in the read area, marked at its left, and the machine begins there
+abbrev pub loaded : List Card → Size → Switches → State
+loaded deck size switches = record {
+  works = record {
+    storage = with_mark (put_codes (blank_storage (positions_of size)) 1 (first_card deck)) 1 true;
+    registers = record { i = 1; a = 0; b = 0; compare = Equal; overflow = false };
+    units = record {
+      hopper = record { deck = deck; taken = 1 };
+      punch = [];
+      printer = record { lines = []; carriage = record { form = 1; line = 1; waiting = None; channel_12 = false } };
+      switches = switches;
+    };
+  };
+  standing = Running;
+}
+
+-- a machine at a halt running again with new switches
+abbrev pub started : State → Switches → State
+started m switches = record m { works = record m.works { units = record m.works.units { switches = switches } }; standing = Running }
+
+-- a machine back at a checkpoint: what it has made since is taken away
+abbrev pub restored : State → Storage → Checkpoint → State
+restored m storage c = record {
+  works = record {
+    storage = storage;
+    registers = c.registers;
+    units = record m.works.units {
+      hopper = record m.works.units.hopper { taken = c.taken };
+      printer = record { lines = take c.lines m.works.units.printer.lines; carriage = c.carriage };
+    };
+  };
+  standing = c.standing;
+}
+
+-- a check changes nothing but the standing
+abbrev pub attempted : State → Result (Works × Course) Check → State
+attempted m (Ok (works, course)) = record { works = works; standing = standing_after course }
+attempted m (Err check) = record m { standing = Checked check }
+
+-- one attempted instruction; a machine at a halt or check stays as it is
+unfoldable pub step : State → State
+step m = if is_running m.standing then attempted m (attempt m.works) else m
+
+-- so many steps
+unfoldable pub after : State → ℕ → State
+after m zero = m
+after m (suc count) = after (step m) count
+
+-- how many of them are attempts, from a running machine
+unfoldable pub attempts : State → ℕ → ℕ
+attempts m zero = 0
+attempts m (suc count) = (if is_running m.standing then 1 else 0) + attempts (step m) count
+
+-- the same without one that ended in a check
+unfoldable pub executed : State → ℕ → ℕ
+executed m count = attempts m count - (if is_running m.standing && is_checked (after m count).standing then 1 else 0)
+
+abbrev pub lines_of : State → List Line
+lines_of m = m.works.units.printer.lines
+
+-- a count that rises and stays at the greatest that 64 bits hold
+abbrev pub risen : ℕ → ℕ → ℕ
+risen ticks more = ticks + min more (2 ^ 64 - 1 - ticks)

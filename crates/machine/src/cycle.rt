@@ -1,0 +1,125 @@
+//! The instruction cycle.
+
+ghost use Rattle.std.specs.Prelude.{◌≡◌, ◌+◌, ◌%◌, ◌<◌, ◌≤◌, ℕ, length, Ok, IfOk, IfErr, OnErr, OnOk};
+ghost use Rattle.machine.specs.Effect.{attempt, works_of, GivesUp, next_of};
+ghost use Rattle.machine.specs.Run.{step, attempts, lines_of, risen, is_running, is_checked, is_halted, standing_after, event_of};
+
+use crate::decode::{Word, decode, word_length};
+use crate::meter::Meter;
+use crate::operations::{Course, execute};
+use crate::parts::{Event, Parts, Standing};
+use crate::units::{Fault, Units};
+use core_store::{Check, Core, LARGEST_SIZE, Registers};
+use std::alloc::AllocError;
+
+/// The position after an instruction, modulo 16000.
+fn next_of(i: u16, count: u16) -> u16
+    requires { i + count ≤ LARGEST_SIZE }
+    ensures { result ≡ next_of i count }
+{
+    let next = i + count;
+    if next == LARGEST_SIZE { 0 } else { next }
+}
+
+/// Reads the instruction at register I and does it.
+#[tactic(auto, unfolding(crate::specs::Effect::attempt, crate::specs::Word::word))]
+fn attempt<C: Core>(
+    core: &mut C,
+    registers: &mut Registers,
+    units: &mut Units,
+) -> Result<Course, Fault>
+    requires { 333 ≤ length (C.cells core.old) }
+    ensures done { IfOk result (λ course. attempt (works_of (C.cells core.old) registers.old units.old) ≡ Ok (works_of (C.cells core.new) registers.new units.new, course)) }
+    ensures refused { IfErr result (λ fault. GivesUp fault (works_of (C.cells core.old) registers.old units.old) (attempt (works_of (C.cells core.old) registers.old units.old))) }
+    ensures unchanged { OnErr result (works_of (C.cells core.new) registers.new units.new ≡ works_of (C.cells core.old) registers.old units.old) }
+{
+    let i = registers.i;
+    if i >= core.size() {
+        return Err(Fault::Stopped(Check::Address));
+    }
+    let Some(count) = word_length(core, i) else {
+        return Err(Fault::Stopped(Check::Instruction));
+    };
+    let word = Word {
+        first: i,
+        length: count,
+    };
+    let decoded = match decode(core, registers, word) {
+        Ok(decoded) => decoded,
+        Err(check) => return Err(Fault::Stopped(check)),
+    };
+    execute(core, registers, units, decoded, next_of(i, count))
+}
+
+/// How a machine stands after an instruction.
+fn standing_after(course: Course) -> Standing
+    ensures { result ≡ standing_after course }
+{
+    match course {
+        Course::GoesOn => Standing::Running,
+        Course::Halts => Standing::Halted,
+    }
+}
+
+impl Standing {
+    /// What a step tells of it.
+    pub fn event(self) -> Event
+        ensures { result ≡ event_of self }
+    {
+        match self {
+            Standing::Running => Event::Next,
+            Standing::Halted => Event::Halt,
+            Standing::Checked(check) => Event::Stop(check),
+        }
+    }
+
+    /// Whether the machine goes on.
+    pub fn is_running(self) -> bool
+        ensures { result ≡ is_running self }
+    {
+        matches!(self, Standing::Running)
+    }
+
+    /// Whether the machine was stopped by a check.
+    pub fn is_checked(self) -> bool
+        ensures { result ≡ is_checked self }
+    {
+        matches!(self, Standing::Checked(_))
+    }
+}
+
+impl<C: Core> Parts<C> {
+    /// Whether the machine goes on.
+    pub(crate) fn is_running(&self) -> bool
+        ensures { result ≡ is_running self.now.standing }
+    {
+        self.standing.is_running()
+    }
+
+    /// One step. Only an instruction that prints may fail for memory, and then nothing changes.
+    pub(crate) fn step(&mut self, meter: &mut Meter) -> Result<(), AllocError>
+        ensures step { OnOk result (self.new ≡ step self.old) }
+        ensures unchanged { OnErr result (self.new ≡ self.old) }
+        ensures memory { OnErr result (length (lines_of self.old) < length (lines_of (step self.old))) }
+        ensures meter { OnOk result (meter.new ≡ risen meter.old (attempts self.old 1)) }
+    {
+        if !self.is_running() {
+            return Ok(());
+        }
+        match attempt(&mut self.core, &mut self.registers, &mut self.units) {
+            Ok(course) => {
+                self.standing = standing_after(course);
+                meter.tick();
+                Ok(())
+            }
+            Err(fault) => match fault {
+                Fault::Stopped(check) => {
+                    self.standing = Standing::Checked(check);
+                    meter.tick();
+                    Ok(())
+                }
+                Fault::NoMemory => Err(AllocError),
+            },
+        }
+    }
+}

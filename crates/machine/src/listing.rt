@@ -1,0 +1,75 @@
+//! Listings: printed lines as a text.
+
+ghost use Rattle.std.specs.Prelude.{◌≡◌, ◌≤◌, ◌++◌, ◌∷◌, [], length, map, IfOk, OnOk};
+ghost use Rattle.machine.specs.Listing.{shown};
+
+use crate::printer::Line;
+use bcd::Code;
+use std::alloc::{AllocError, Global};
+
+const LINE_FEED: u8 = 10;
+
+const FORM_FEED: u8 = 12;
+
+/// What the printer shows of a character: thirteen of them are not on its chain.
+#[tactic(auto, unfolding(crate::specs::Listing::shown))]
+fn shown(code: Code) -> u8
+    ensures { result ≡ shown code }
+{
+    match code.glyph() {
+        b':' | b'>' | b'"' | b'^' | b'=' | b'\\' | b'+' | b']' | b';' | b'_' | b'[' | b'<' | b'}' =>
+            b' ',
+        glyph => glyph,
+    }
+}
+
+/// How many characters there are without the trailing blanks.
+fn length_shown(codes: &[Code]) -> usize
+    ensures { result ≤ length codes.now }
+{
+    for length in (0..codes.len()).rev() {
+        if shown(codes[length]) != b' ' {
+            return length + 1;
+        }
+    }
+    0
+}
+
+/// Adds what a line shows, without trailing blanks, and its end.
+fn push_line(text: &mut Vec<u8>, codes: &[Code]) -> Result<(), AllocError> {
+    for code in &codes[..length_shown(codes)] {
+        text.push(shown(*code))?;
+    }
+    text.push(LINE_FEED)?;
+    Ok(())
+}
+
+/// Adds so many lines that show nothing.
+fn push_empty_lines(text: &mut Vec<u8>, count: u8) -> Result<(), AllocError> {
+    for _ in 0..count {
+        text.push(LINE_FEED)?;
+    }
+    Ok(())
+}
+
+/// The listing of printed lines that rise by form and line: each form that holds one, from its
+/// line 1 to its last printed line, each line without trailing blanks and ended by a line feed,
+/// and a form feed between two forms.
+pub fn render(alloc: Global, lines: &[Line]) -> Result<Vec<u8>, AllocError> {
+    let mut text = Vec::new(alloc);
+    let mut form = 0u32;
+    let mut done = 0u8;
+    for line in lines {
+        if line.form != form {
+            if form > 0 {
+                text.push(FORM_FEED)?;
+            }
+            form = line.form;
+            done = 0;
+        }
+        push_empty_lines(&mut text, line.line.saturating_sub(done).saturating_sub(1))?;
+        push_line(&mut text, &line.codes)?;
+        done = line.line;
+    }
+    Ok(text)
+}

@@ -1,0 +1,229 @@
+//! Machines, and whole runs of them.
+
+ghost use Rattle.std.specs.Prelude.{◌≡◌, ◌+◌, ◌-◌, ◌<◌, ◌≤◌, ◌&&◌, ℕ, [], length, true, false, IfOk, OnErr, OnOk, if◌then◌else◌};
+ghost use Rattle.core_store.specs.Storage.{blank_storage, put_codes, with_mark, positions_of};
+ghost use Rattle.machine.specs.Run.{first_card, State, step, after, attempts, executed, lines_of, risen, is_running, is_checked, is_halted, event_of, loaded, started, restored};
+ghost use Rattle.machine.specs.Effect.{works_of};
+
+use crate::meter::Meter;
+use crate::parts::{Event, Parts, Standing};
+use crate::printer::{Carriage, Printer};
+use crate::switches::Switches;
+use crate::units::{Hopper, Punch, Units, put_card};
+use cards::Deck;
+use core_store::{Compared, Core, Registers, Size};
+use std::alloc::{AllocError, Global};
+use std::marker::Model;
+
+/// How a run ended.
+#[derive(Clone, Copy, Debug, PartialEq, Eq)]
+pub struct Ran {
+    /// How many instructions were done; one that ended in a check is not counted.
+    pub executed: u32,
+    pub standing: Standing,
+}
+
+/// What a run goes back to, beside the storage, where memory is wanted in its middle.
+#[derive(Clone, Copy)]
+struct Checkpoint {
+    registers: Registers,
+    taken: u16,
+    lines: usize,
+    carriage: Carriage,
+    standing: Standing,
+}
+
+/// A machine, with the second storage that a run goes back to.
+#[derive(Drop)]
+pub struct Machine<C: Core> {
+    parts: Parts<C>,
+    spare: C,
+}
+
+impl<C: Core> Model for Machine<C> {
+    ghost use Rattle.std.specs.Prelude.{◌≡◌, length};
+    ghost use Rattle.machine.specs.Run.{State};
+
+    ghost Value = { State };
+
+    ghost view = { λ m. m.parts };
+
+    ghost invariant = { λ m. length m.parts.works.storage ≡ length (C.cells m.spare) };
+}
+
+/// The registers after the load button: the first instruction stands at 001.
+fn first_registers() -> Registers
+    ensures { result ≡ record { i = 1; a = 0; b = 0; compare = Compared.Equal; overflow = false } }
+{
+    Registers {
+        i: 1,
+        a: 0,
+        b: 0,
+        compare: Compared::Equal,
+        overflow: false,
+    }
+}
+
+/// A storage with the first card in its read area, marked at its left.
+fn loaded_core<C: Core>(alloc: Global, deck: &Deck, size: Size) -> Result<C, AllocError>
+    requires { 0 < length deck.now }
+    ensures { IfOk result (λ core. C.cells core ≡ with_mark (put_codes (blank_storage (positions_of size)) 1 (first_card deck.now)) 1 true) }
+{
+    let mut core = C::blank(alloc, size)?;
+    put_card(&mut core, &deck.cards()[0]);
+    core.set_mark(1);
+    Ok(core)
+}
+
+impl<C: Core> Machine<C> {
+    /// A machine after the load button, with a deck in its reader and the switches set. The only
+    /// call that takes memory, but for what instructions print.
+    pub fn load(
+        alloc: Global,
+        deck: Deck,
+        size: Size,
+        switches: Switches,
+    ) -> Result<Machine<C>, AllocError>
+        requires { 0 < length deck }
+        ensures { IfOk result (λ machine. machine ≡ loaded deck size switches) }
+    {
+        let core = loaded_core(alloc, &deck, size)?;
+        let spare = C::blank(alloc, size)?;
+        let units = Units {
+            hopper: Hopper { deck, taken: 1 },
+            punch: Punch {
+                cards: Vec::new(alloc),
+            },
+            printer: Printer {
+                lines: Vec::new(alloc),
+                carriage: Carriage::at_the_top(),
+            },
+            switches,
+        };
+        let parts = Parts {
+            core,
+            registers: first_registers(),
+            units,
+            standing: Standing::Running,
+        };
+        Ok(Machine { parts, spare })
+    }
+
+    /// The machine's picture.
+    pub fn parts(&self) -> &Parts<C>
+        ensures { result.now ≡ self.now }
+    {
+        &self.parts
+    }
+
+    /// Lets a machine at a halt go on, with the switches set anew.
+    pub fn start(&mut self, switches: Switches)
+        requires { is_halted self.old.standing ≡ true }
+        ensures { self.new ≡ started self.old switches }
+    {
+        self.parts.start(switches);
+    }
+
+    /// One instruction. Only one that prints may fail for memory, and then nothing changes.
+    pub fn step(&mut self, meter: &mut Meter) -> Result<Event, AllocError>
+        ensures machine { OnOk result (self.new ≡ step self.old) }
+        ensures event { IfOk result (λ event. event ≡ event_of (step self.old).standing) }
+        ensures meter { OnOk result (meter.new ≡ risen meter.old (attempts self.old 1)) }
+        ensures unchanged { OnErr result (self.new ≡ self.old) }
+        ensures memory { OnErr result (length (lines_of self.old) < length (lines_of (step self.old))) }
+    {
+        self.parts.step(meter)?;
+        Ok(self.parts.standing.event())
+    }
+
+    /// Runs until the limit, a halt or a check. Every attempted instruction ticks the meter. Only
+    /// what prints may fail for memory, and then the machine is as before the call.
+    pub fn run(&mut self, limit: u32, meter: &mut Meter) -> Result<Ran, AllocError>
+        ensures machine { OnOk result (self.new ≡ after self.old limit) }
+        ensures meter { OnOk result (meter.new ≡ risen meter.old (attempts self.old limit)) }
+        ensures executed { IfOk result (λ ran. ran.executed ≡ executed self.old limit) }
+        ensures standing { IfOk result (λ ran. ran.standing ≡ (after self.old limit).standing) }
+
+        ensures unchanged { OnErr result (self.new ≡ self.old) }
+        ensures memory { OnErr result (length (lines_of self.old) < length (lines_of (after self.old limit))) }
+    {
+        let checkpoint = self.parts.checkpoint(&mut self.spare);
+        for attempted in 0..limit {
+            if !self.parts.is_running() {
+                return Ok(self.parts.report(checkpoint.standing, attempted));
+            }
+            if let Err(error) = self.parts.step(meter) {
+                self.parts.restore(&self.spare, checkpoint);
+                return Err(error);
+            }
+        }
+        Ok(self.parts.report(checkpoint.standing, limit))
+    }
+}
+
+impl<C: Core> Parts<C> {
+    /// Running again, with the switches set anew.
+    fn start(&mut self, switches: Switches)
+        ensures { self.new ≡ started self.old switches }
+    {
+        self.units.switches = switches;
+        self.standing = Standing::Running;
+    }
+
+    /// Copies the storage, and tells the rest of where the machine stands.
+    fn checkpoint(&self, spare: &mut C) -> Checkpoint
+        requires { length self.now.works.storage ≡ length (C.cells spare.old) }
+        ensures storage { C.cells spare.new ≡ self.now.works.storage }
+        ensures registers { result.registers ≡ self.now.works.registers }
+        ensures taken { result.taken ≡ self.now.works.units.hopper.taken }
+        ensures lines { result.lines ≡ length (lines_of self.now) }
+        ensures carriage { result.carriage ≡ self.now.works.units.printer.carriage }
+        ensures standing { result.standing ≡ self.now.standing }
+    {
+        spare.copy_from(&self.core);
+        Checkpoint {
+            registers: self.registers,
+            taken: self.units.hopper.taken,
+            lines: self.units.printer.lines.len(),
+            carriage: self.units.printer.carriage,
+            standing: self.standing,
+        }
+    }
+
+    /// Goes back to a storage and a checkpoint: what was printed since is taken away.
+    fn restore(&mut self, storage: &C, checkpoint: Checkpoint)
+        requires { length self.old.works.storage ≡ length (C.cells storage.now) }
+        ensures { self.new ≡ restored self.old (C.cells storage.now) checkpoint }
+    {
+        self.core.copy_from(storage);
+        self.registers = checkpoint.registers;
+        self.units.hopper.taken = checkpoint.taken;
+        self.units.printer.lines.truncate(checkpoint.lines);
+        self.units.printer.carriage = checkpoint.carriage;
+        self.standing = checkpoint.standing;
+    }
+
+    /// How a run ended that began at a standing and made so many attempts.
+    fn report(&self, began: Standing, attempted: u32) -> Ran
+        ensures executed { result.executed ≡ attempted - (if is_running began && is_checked self.now.standing then 1 else 0) }
+        ensures standing { result.standing ≡ self.now.standing }
+    {
+        let ended_in_check = began.is_running() && self.standing.is_checked();
+        Ran {
+            executed: if ended_in_check {
+                attempted.saturating_sub(1)
+            } else {
+                attempted
+            },
+            standing: self.standing,
+        }
+    }
+}
+
+/// The laws of runs: so many steps and then so many more are the steps together, and so are
+/// their attempts and the ticks of the meter.
+pub fn runs_add()
+    ensures machine { (m : State) (first second : ℕ) → after (after m first) second ≡ after m (first + second) }
+    ensures attempts { (m : State) (first second : ℕ) → attempts m (first + second) ≡ attempts m first + attempts (after m first) second }
+    ensures meter { (ticks first second : ℕ) → risen (risen ticks first) second ≡ risen ticks (first + second) }
+{}

@@ -1,0 +1,128 @@
+//! Whole runs of small decks.
+
+use crate::{Machine, Meter, Ran, Standing, Switches, render};
+use bitflags::Flags;
+use cards::{Deck, read_text};
+use core_store::{Check, Core, FlagCore, Size};
+use std::alloc::Global;
+use std::test::Fail;
+
+/// The loading cards of a program that prints each data card, until the last one.
+const LIST_CARDS: [&str; 4] = [
+    ",008015,022029,036040,047054,061068,072)008015)022029)036036N0000001040",
+    "/332/,0011M0802802B360A                L023355,337338,342343,3503511040",
+    "B342.                                  L006361,360361N000000N0000001040",
+    "                                       /333080",
+];
+
+/// Adds a card to a deck text.
+fn push_card(text: &mut Vec<u8>, card: &str) -> Result<(), Fail> {
+    text.extend_from_slice(card.as_bytes())?;
+    for _ in card.len()..80 {
+        text.push(b' ')?;
+    }
+    text.push(b'\n')?;
+    Ok(())
+}
+
+/// A deck of two lots of cards, each card without its trailing blanks.
+fn deck_of(alloc: Global, program: &[&str], data: &[&str]) -> Result<Deck, Fail> {
+    let mut text = Vec::new(alloc);
+    for card in program {
+        push_card(&mut text, card)?;
+    }
+    for card in data {
+        push_card(&mut text, card)?;
+    }
+    Ok(read_text(alloc, &text)?)
+}
+
+#[test]
+fn two_cards_are_printed_as_two_lines(rt: HostRuntime) -> Result<(), Fail> {
+    let alloc = rt.alloc();
+    let deck = deck_of(alloc, &LIST_CARDS, &["HELLO", "WORLD"])?;
+    assert_eq!(rt; deck.cards().len(), 6);
+    let mut machine = Machine::<FlagCore>::load(alloc, deck, Size::Positions4000, Switches::A)?;
+    let mut meter = Meter::new();
+    let ran = machine.run(34, &mut meter)?;
+    assert_eq!(rt;
+        ran,
+        Ran {
+            executed: 34,
+            standing: Standing::Running
+        }
+    );
+    assert_eq!(rt; machine.parts().units.printer.lines.len(), 2);
+    let ran = machine.run(2000, &mut meter)?;
+    assert_eq!(rt;
+        ran,
+        Ran {
+            executed: 1,
+            standing: Standing::Halted
+        }
+    );
+    assert_eq!(rt; machine.parts().registers.i, 361);
+    assert_eq!(rt; meter.ticks(), 35);
+    let text = render(alloc, &machine.parts().units.printer.lines)?;
+    assert!(rt; text.as_slice() == b"HELLO\nWORLD\n".as_slice());
+    Ok(())
+}
+
+#[test]
+fn a_start_goes_on_behind_the_halt(rt: HostRuntime) -> Result<(), Fail> {
+    let alloc = rt.alloc();
+    let deck = deck_of(alloc, &LIST_CARDS, &["HELLO"])?;
+    assert_eq!(rt; deck.cards().len(), 5);
+    let mut machine = Machine::<FlagCore>::load(alloc, deck, Size::Positions1400, Switches::A)?;
+    let mut meter = Meter::new();
+    let ran = machine.run(2000, &mut meter)?;
+    assert_eq!(rt; ran.standing, Standing::Halted);
+    assert!(rt; matches!(machine.parts().standing, Standing::Halted));
+    machine.start(Switches::empty());
+    let ticks = meter.ticks();
+    let ran = machine.run(10, &mut meter)?;
+    assert_eq!(rt;
+        ran,
+        Ran {
+            executed: 0,
+            standing: Standing::Checked(Check::Instruction)
+        }
+    );
+    assert_eq!(rt; machine.parts().registers.i, 361);
+    assert_eq!(rt; meter.ticks(), ticks.wrapping_add(1));
+    Ok(())
+}
+
+#[test]
+fn runs_that_do_not_halt(rt: HostRuntime) -> Result<(), Fail> {
+    let alloc = rt.alloc();
+    let cases = [
+        (
+            LIST_CARDS.as_slice(),
+            25,
+            Standing::Checked(Check::ReaderEmpty),
+            342,
+            26,
+        ),
+        ([",008012B008"].as_slice(), 2000, Standing::Running, 8, 2000),
+        (
+            [",008015L000200"].as_slice(),
+            1,
+            Standing::Checked(Check::Address),
+            8,
+            2,
+        ),
+    ];
+    for (cards, executed, standing, next, ticks) in cases {
+        let deck = deck_of(alloc, cards, &[])?;
+        assert!(rt; deck.cards().len() > 0);
+        let mut machine = Machine::<FlagCore>::load(alloc, deck, Size::Positions4000, Switches::A)?;
+        let mut meter = Meter::new();
+        let ran = machine.run(2000, &mut meter)?;
+        assert_eq!(rt; ran, Ran { executed, standing });
+        assert_eq!(rt; machine.parts().registers.i, next);
+        assert_eq!(rt; meter.ticks(), ticks);
+        assert_eq!(rt; machine.parts().units.printer.lines.len(), 0);
+    }
+    Ok(())
+}

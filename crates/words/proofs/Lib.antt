@@ -1,0 +1,4 @@
+pub mod Values
+pub mod Leaf
+pub mod Rows
+pub mod Taken

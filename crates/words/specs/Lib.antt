@@ -1,0 +1,3 @@
+pub mod Plain
+pub mod Command
+pub mod Asked
