@@ -53,7 +53,8 @@ impl Deck {
         &self.cards
     }
 
-    /// Adds a card behind the others. An error leaves the deck as it was.
+    /// Adds a card behind the others. At 2,000 cards, or for want of memory, it is refused and
+    /// the deck stays as it was.
     pub fn push(&mut self, card: Card) -> Result<(), DeckFault>
         ensures ok { OnOk result (self.new ≡ self.old ++ card ∷ []) }
         ensures full { IsErrOf result DeckFault.TooManyCards ↔ (length self.old ≡ LARGEST_DECK) }

@@ -41,6 +41,7 @@ const OUT_OF_MEMORY: CardFault = CardFault {
     column: 0,
 };
 
+/// The deck of a file of this form.
 fn read(alloc: Global, form: Form, bytes: &[u8]) -> Result<Deck, CardFault>
     ensures deck { IfOk result (λ deck. IsDeck deck × (bytes.now ≡ file_of form deck)) }
     ensures fault { IfErr result (λ fault. IsFault form bytes.now fault) }
@@ -53,7 +54,7 @@ fn read(alloc: Global, form: Form, bytes: &[u8]) -> Result<Deck, CardFault>
         if read == LARGEST_DECK {
             return Err(CardFault::behind(0, number, CardError::TooManyCards));
         }
-        // `?` on a card beside a slice has no generated proof.
+        // `?` has no generated proof here, where a card stands beside a slice.
         let (card, behind) = match split_card(form, rest, number) {
             Ok(found) => found,
             Err(fault) => return Err(fault),

@@ -12,26 +12,28 @@ use std::alloc::{AllocError, Global};
 pub fn write_text(alloc: Global, deck: &Deck) -> Result<Vec<u8>, AllocError>
     ensures { IfOk result (λ text. text.items ≡ text_of deck.now) }
 {
-    write(alloc, Form::Text, deck)
+    write(alloc, Form::Text, deck.cards())
 }
 
 /// The punch file of a deck: three hexadecimal digits a column and a line feed a card.
 pub fn write_punched(alloc: Global, deck: &Deck) -> Result<Vec<u8>, AllocError>
     ensures { IfOk result (λ file. file.items ≡ punch_file_of deck.now) }
 {
-    write(alloc, Form::Punched, deck)
+    write(alloc, Form::Punched, deck.cards())
 }
 
-fn write(alloc: Global, form: Form, deck: &Deck) -> Result<Vec<u8>, AllocError>
-    ensures { IfOk result (λ file. file.items ≡ file_of form deck.now) }
+/// The lines of the cards, one behind the other.
+fn write(alloc: Global, form: Form, cards: &[Card]) -> Result<Vec<u8>, AllocError>
+    ensures { IfOk result (λ file. file.items ≡ file_of form cards.now) }
 {
     let mut out = Vec::new(alloc);
-    for card in deck.cards() {
+    for card in cards {
         push_card(&mut out, form, card)?;
     }
     Ok(out)
 }
 
+/// Adds the line of a card.
 fn push_card(out: &mut Vec<u8>, form: Form, card: &Card) -> Result<(), AllocError>
     ensures { OnOk result (out.new.items ≡ out.old.items ++ line_of form card.now) }
 {
@@ -42,6 +44,7 @@ fn push_card(out: &mut Vec<u8>, form: Form, card: &Card) -> Result<(), AllocErro
     Ok(())
 }
 
+/// Adds a column of a card.
 #[tactic(auto, unfolding(crate::specs::Files::column_of))]
 fn push_column(out: &mut Vec<u8>, form: Form, code: Code) -> Result<(), AllocError>
     ensures { OnOk result (out.new.items ≡ out.old.items ++ column_of form code) }

@@ -1,3 +1,5 @@
 pub mod Spelling
 pub mod Moving
 pub mod Steps
+pub mod Listings
+pub mod InRange

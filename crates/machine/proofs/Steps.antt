@@ -114,19 +114,19 @@ step_prints m w same running prints =
 -- ---- what each attempt keeps
 
 -- a fact of the value where there is no check
-abbrev Each : {T : Type 0} → (T → Type 0) → Result T Check → Type 0
+abbrev pub Each : {T : Type 0} → (T → Type 0) → Result T Check → Type 0
 Each P (Ok x) = P x
 Each P (Err check) = Unit {0}
 
-each_require : {T : Type 0} (P : T → Type 0) (test : Bool) (check : Check) (rest : Result T Check) → Each P rest → Each P (require test check rest)
+pub each_require : {T : Type 0} (P : T → Type 0) (test : Bool) (check : Check) (rest : Result T Check) → Each P rest → Each P (require test check rest)
 each_require P true check rest h = h
 each_require P false check rest h = tt
 
-each_find : {S T : Type 0} (P : T → Type 0) (found : Option S) (check : Check) (rest : S → Result T Check) → ((x : S) → Each P (rest x)) → Each P (find_or found check rest)
+pub each_find : {S T : Type 0} (P : T → Type 0) (found : Option S) (check : Check) (rest : S → Result T Check) → ((x : S) → Each P (rest x)) → Each P (find_or found check rest)
 each_find P (Some x) check rest h = h x
 each_find P None check rest h = tt
 
-each_then : {S T : Type 0} (Q : S → Type 0) (P : T → Type 0) (first : Result S Check) (rest : S → Result T Check) → Each Q first → ((x : S) → Q x → Each P (rest x)) → Each P (and_then first rest)
+pub each_then : {S T : Type 0} (Q : S → Type 0) (P : T → Type 0) (first : Result S Check) (rest : S → Result T Check) → Each Q first → ((x : S) → Q x → Each P (rest x)) → Each P (and_then first rest)
 each_then Q P (Ok x) rest q h = h x q
 each_then Q P (Err check) rest q h = tt
 

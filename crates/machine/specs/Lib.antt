@@ -5,4 +5,5 @@ pub mod Printed
 pub mod Units
 pub mod Effect
 pub mod Run
+pub mod Ranges
 pub mod Listing

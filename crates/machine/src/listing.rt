@@ -1,7 +1,7 @@
 //! Listings: printed lines as a text.
 
-ghost use Rattle.std.specs.Prelude.{◌≡◌, ◌≤◌, ◌++◌, ◌∷◌, [], length, map, IfOk, OnOk};
-ghost use Rattle.machine.specs.Listing.{shown};
+ghost use Rattle.std.specs.Prelude.{◌≡◌, ◌≢◌, ◌≤◌, ◌<◌, ◌-◌, ◌++◌, ◌∷◌, ℕ, [], length, map, take, replicate, slice_index, IfOk, OnOk};
+ghost use Rattle.machine.specs.Listing.{shown, blank, text_of, rendered, line_feed, form_feed, IsRising};
 
 use crate::printer::Line;
 use bcd::Code;
@@ -24,8 +24,12 @@ fn shown(code: Code) -> u8
 }
 
 /// How many characters there are without the trailing blanks.
+#[tactic(auto, using(crate::proofs::Listings::text_is))]
 fn length_shown(codes: &[Code]) -> usize
-    ensures { result ≤ length codes.now }
+    ensures within { result ≤ length codes.now }
+    ensures blank_from_there { (k : ℕ) → result ≤ k → k < length codes.now → shown (slice_index codes.now k) ≡ blank }
+    ensures not_before { 0 < result → shown (slice_index codes.now (result - 1)) ≢ blank }
+    ensures text { text_of codes.now ≡ map shown (take result codes.now) }
 {
     for length in (0..codes.len()).rev() {
         if shown(codes[length]) != b' ' {
@@ -36,7 +40,9 @@ fn length_shown(codes: &[Code]) -> usize
 }
 
 /// Adds what a line shows, without trailing blanks, and its end.
-fn push_line(text: &mut Vec<u8>, codes: &[Code]) -> Result<(), AllocError> {
+fn push_line(text: &mut Vec<u8>, codes: &[Code]) -> Result<(), AllocError>
+    ensures { OnOk result (text.new.items ≡ text.old.items ++ (text_of codes.now ++ line_feed ∷ [])) }
+{
     for code in &codes[..length_shown(codes)] {
         text.push(shown(*code))?;
     }
@@ -45,7 +51,9 @@ fn push_line(text: &mut Vec<u8>, codes: &[Code]) -> Result<(), AllocError> {
 }
 
 /// Adds so many lines that show nothing.
-fn push_empty_lines(text: &mut Vec<u8>, count: u8) -> Result<(), AllocError> {
+fn push_empty_lines(text: &mut Vec<u8>, count: u8) -> Result<(), AllocError>
+    ensures { OnOk result (text.new.items ≡ text.old.items ++ replicate count line_feed) }
+{
     for _ in 0..count {
         text.push(LINE_FEED)?;
     }
@@ -55,7 +63,9 @@ fn push_empty_lines(text: &mut Vec<u8>, count: u8) -> Result<(), AllocError> {
 /// The listing of printed lines that rise by form and line: each form that holds one, from its
 /// line 1 to its last printed line, each line without trailing blanks and ended by a line feed,
 /// and a form feed between two forms.
-pub fn render(alloc: Global, lines: &[Line]) -> Result<Vec<u8>, AllocError> {
+pub fn render(alloc: Global, lines: &[Line]) -> Result<Vec<u8>, AllocError>
+    ensures { IsRising lines.now → IfOk result (λ text. text.items ≡ rendered lines.now) }
+{
     let mut text = Vec::new(alloc);
     let mut form = 0u32;
     let mut done = 0u8;
@@ -72,4 +82,33 @@ pub fn render(alloc: Global, lines: &[Line]) -> Result<Vec<u8>, AllocError> {
         done = line.line;
     }
     Ok(text)
+}
+
+#[cfg(test)]
+mod tests {
+    use super::*;
+    use std::test::Fail;
+
+    /// A line on which the glyphs stand from the left.
+    fn printed(form: u32, line: u8, glyphs: &[u8]) -> Line {
+        let mut codes = [Code::blank(); 132];
+        for (code, glyph) in codes.iter_mut().zip(glyphs) {
+            *code = Code::from_glyph(*glyph).unwrap_or(Code::blank());
+        }
+        Line { form, line, codes }
+    }
+
+    #[test]
+    fn listings_of_printed_lines(rt: HostRuntime) -> Result<(), Fail> {
+        let alloc = rt.alloc();
+        let none = render(alloc, &[])?;
+        assert!(rt; none.is_empty());
+        let apart = render(alloc, &[printed(1, 1, b"HELLO"), printed(1, 4, b" WORLD")])?;
+        assert!(rt; apart.as_slice() == b"HELLO\n\n\n WORLD\n".as_slice());
+        let forms = render(alloc, &[printed(1, 1, b""), printed(2, 1, b"")])?;
+        assert!(rt; forms.as_slice() == b"\n\x0c\n".as_slice());
+        let off_the_chain = render(alloc, &[printed(1, 1, b"A:B=")])?;
+        assert!(rt; off_the_chain.as_slice() == b"A B\n".as_slice());
+        Ok(())
+    }
 }

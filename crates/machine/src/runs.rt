@@ -1,9 +1,14 @@
 //! Machines, and whole runs of them.
 
-ghost use Rattle.std.specs.Prelude.{◌≡◌, ◌+◌, ◌-◌, ◌<◌, ◌≤◌, ◌&&◌, ℕ, [], length, true, false, IfOk, OnErr, OnOk, if◌then◌else◌};
+ghost use Rattle.std.specs.Prelude.{◌≡◌, ◌+◌, ◌-◌, ◌<◌, ◌≤◌, ◌&&◌, ℕ, List, [], length, true, false, IfOk, IfSome, MatchOption, OnErr, OnOk, if◌then◌else◌};
+ghost use Rattle.cards.specs.declared.decks.Card.{Card};
+ghost use Rattle.core_store.specs.declared.sizes.Size.{Size};
+ghost use Rattle.machine.specs.declared.switches.Switches.{Switches};
 ghost use Rattle.core_store.specs.Storage.{blank_storage, put_codes, with_mark, positions_of};
+ghost use Rattle.machine.specs.Listing.{IsRising};
 ghost use Rattle.machine.specs.Run.{first_card, State, step, after, attempts, executed, lines_of, risen, is_running, is_checked, is_halted, event_of, loaded, started, restored};
 ghost use Rattle.machine.specs.Effect.{works_of};
+ghost use Rattle.machine.specs.Ranges.{IsInRange};
 
 use crate::meter::Meter;
 use crate::parts::{Event, Parts, Standing};
@@ -43,12 +48,13 @@ pub struct Machine<C: Core> {
 impl<C: Core> Model for Machine<C> {
     ghost use Rattle.std.specs.Prelude.{◌≡◌, length};
     ghost use Rattle.machine.specs.Run.{State};
+    ghost use Rattle.machine.specs.Ranges.{IsInRange};
 
     ghost Value = { State };
 
     ghost view = { λ m. m.parts };
 
-    ghost invariant = { λ m. length m.parts.works.storage ≡ length (C.cells m.spare) };
+    ghost invariant = { λ m. IsInRange m.parts × (length m.parts.works.storage ≡ length (C.cells m.spare)) };
 }
 
 /// The registers after the load button: the first instruction stands at 001.
@@ -76,8 +82,8 @@ fn loaded_core<C: Core>(alloc: Global, deck: &Deck, size: Size) -> Result<C, All
 }
 
 impl<C: Core> Machine<C> {
-    /// A machine after the load button, with a deck in its reader and the switches set. The only
-    /// call that takes memory, but for what instructions print.
+    /// A machine after the load button, with a deck in its reader and the switches set. Memory is
+    /// taken for its two storages.
     pub fn load(
         alloc: Global,
         deck: Deck,
@@ -109,9 +115,29 @@ impl<C: Core> Machine<C> {
         Ok(Machine { parts, spare })
     }
 
+    /// A machine with this picture, or none if no machine has it. What `parts` shows is in range,
+    /// so from it the very machine is made that showed it. Memory is taken for the second storage
+    /// alone, and so only for a picture in range.
+    pub fn from_parts(alloc: Global, parts: Parts<C>) -> Result<Option<Machine<C>>, AllocError>
+        ensures machine { IfOk result (λ made. IfSome made (λ machine. machine ≡ parts)) }
+        ensures in_range { IfOk result (λ made. MatchOption made (¬ IsInRange parts) (λ _. IsInRange parts)) }
+        ensures memory { OnErr result (IsInRange parts) }
+    {
+        if !parts.is_in_range() {
+            return Ok(None);
+        }
+        let Some(size) = Size::of_positions(parts.core.size()) else {
+            return Ok(None);
+        };
+        let spare = C::blank(alloc, size)?;
+        Ok(Some(Machine { parts, spare }))
+    }
+
     /// The machine's picture.
     pub fn parts(&self) -> &Parts<C>
-        ensures { result.now ≡ self.now }
+        ensures picture { result.now ≡ self.now }
+        ensures in_range { IsInRange self.now }
+        ensures lines { IsRising (lines_of self.now) }
     {
         &self.parts
     }
@@ -219,6 +245,14 @@ impl<C: Core> Parts<C> {
         }
     }
 }
+
+/// The law of the ranges: the picture of a loaded deck is in range, and it stays so whatever is
+/// run and however often the machine is started again.
+pub fn stays_in_range()
+    ensures loaded { (deck : List Card) (size : Size) (switches : Switches) → 0 < length deck → IsInRange (loaded deck size switches) }
+    ensures after { (m : State) (count : ℕ) → IsInRange m → IsInRange (after m count) }
+    ensures started { (m : State) (switches : Switches) → IsInRange m → IsInRange (started m switches) }
+{}
 
 /// The laws of runs: so many steps and then so many more are the steps together, and so are
 /// their attempts and the ticks of the meter.

@@ -1,6 +1,8 @@
 //! Whole runs of small decks.
 
-use crate::{Machine, Meter, Ran, Standing, Switches, render};
+use crate::{
+    Hopper, Machine, Meter, Parts, Printer, Punch, Ran, Standing, Switches, Units, render,
+};
 use bitflags::Flags;
 use cards::{Deck, read_text};
 use core_store::{Check, Core, FlagCore, Size};
@@ -123,6 +125,115 @@ fn runs_that_do_not_halt(rt: HostRuntime) -> Result<(), Fail> {
         assert_eq!(rt; machine.parts().registers.i, next);
         assert_eq!(rt; meter.ticks(), ticks);
         assert_eq!(rt; machine.parts().units.printer.lines.len(), 0);
+    }
+    Ok(())
+}
+
+/// A picture put together again from its fields.
+fn copy_of(alloc: Global, parts: &Parts<FlagCore>) -> Result<Parts<FlagCore>, Fail> {
+    let size = Size::of_positions(parts.core.size()).ok_or("a size")?;
+    let mut core = FlagCore::blank(alloc, size)?;
+    core.copy_from(&parts.core);
+    let mut deck = Deck::empty(alloc);
+    for card in parts.units.hopper.deck.cards() {
+        deck.push(*card)?;
+    }
+    let units = Units {
+        hopper: Hopper {
+            deck,
+            taken: parts.units.hopper.taken,
+        },
+        punch: Punch {
+            cards: Vec::new(alloc),
+        },
+        printer: Printer {
+            lines: parts.units.printer.lines.clone()?,
+            carriage: parts.units.printer.carriage,
+        },
+        switches: parts.units.switches,
+    };
+    Ok(Parts {
+        core,
+        registers: parts.registers,
+        units,
+        standing: parts.standing,
+    })
+}
+
+/// The machine of a copy of this machine's picture.
+fn remade(alloc: Global, machine: &Machine<FlagCore>) -> Result<Machine<FlagCore>, Fail> {
+    let picture = copy_of(alloc, machine.parts())?;
+    Ok(Machine::from_parts(alloc, picture)?.ok_or("a picture in range")?)
+}
+
+/// What a machine has printed once it has run on.
+fn listing_of(alloc: Global, machine: &mut Machine<FlagCore>) -> Result<Vec<u8>, Fail> {
+    machine.run(2000, &mut Meter::new())?;
+    Ok(render(alloc, &machine.parts().units.printer.lines)?)
+}
+
+/// What the machine of a copy of this machine's picture has printed once it has run on.
+fn listing_of_copy(alloc: Global, machine: &Machine<FlagCore>) -> Result<Vec<u8>, Fail> {
+    let mut copy = remade(alloc, machine)?;
+    listing_of(alloc, &mut copy)
+}
+
+#[test]
+fn a_machine_goes_on_from_its_picture(rt: HostRuntime) -> Result<(), Fail> {
+    let alloc = rt.alloc();
+    let deck = deck_of(alloc, &LIST_CARDS, &["HELLO", "WORLD"])?;
+    assert!(rt; deck.cards().len() > 0);
+    let mut machine = Machine::<FlagCore>::load(alloc, deck, Size::Positions1400, Switches::A)?;
+    machine.run(30, &mut Meter::new())?;
+    let listing = listing_of_copy(alloc, &machine)?;
+    assert!(rt; listing.as_slice() == b"HELLO\nWORLD\n".as_slice());
+    Ok(())
+}
+
+/// What is wrong with a picture.
+#[derive(Clone, Copy)]
+enum Wrong {
+    Register,
+    CarriageLine,
+    NoCardRead,
+    CardBehindTheDeck,
+    LinesBackwards,
+}
+
+/// Puts something wrong into a picture.
+fn put_wrong(parts: &mut Parts<FlagCore>, wrong: Wrong) {
+    match wrong {
+        Wrong::Register => parts.registers.b = 16000,
+        Wrong::CarriageLine => parts.units.printer.carriage.line = 67,
+        Wrong::NoCardRead => parts.units.hopper.taken = 0,
+        Wrong::CardBehindTheDeck => parts.units.hopper.taken = 7,
+        Wrong::LinesBackwards => parts.units.printer.lines.reverse(),
+    }
+}
+
+/// Whether no machine has the picture of this one with something wrong in it.
+fn is_refused(alloc: Global, machine: &Machine<FlagCore>, wrong: Wrong) -> Result<bool, Fail> {
+    let mut picture = copy_of(alloc, machine.parts())?;
+    put_wrong(&mut picture, wrong);
+    Ok(Machine::from_parts(alloc, picture)?.is_none())
+}
+
+#[test]
+fn no_machine_has_a_picture_out_of_range(rt: HostRuntime) -> Result<(), Fail> {
+    let alloc = rt.alloc();
+    let deck = deck_of(alloc, &LIST_CARDS, &["HELLO", "WORLD"])?;
+    assert_eq!(rt; deck.cards().len(), 6);
+    let mut machine = Machine::<FlagCore>::load(alloc, deck, Size::Positions1400, Switches::A)?;
+    machine.run(34, &mut Meter::new())?;
+    assert_eq!(rt; machine.parts().units.printer.lines.len(), 2);
+    for wrong in [
+        Wrong::Register,
+        Wrong::CarriageLine,
+        Wrong::NoCardRead,
+        Wrong::CardBehindTheDeck,
+        Wrong::LinesBackwards,
+    ] {
+        assert!(rt; is_refused(alloc, &machine, wrong)?);
     }
     Ok(())
 }

@@ -12,6 +12,9 @@ use cards::{Card, Deck};
 use core_store::{Check, Core, LARGEST_SIZE};
 use std::marker::Model;
 
+/// The punch makes no more cards.
+pub const MOST_CARDS: usize = 10_000;
+
 /// The card reader: a deck, of which the first cards have been read.
 #[derive(Drop)]
 pub struct Hopper {

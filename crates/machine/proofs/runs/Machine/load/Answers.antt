@@ -2,6 +2,7 @@ use Rattle.std.proofs.Common.{◌≡◌, ◌∙◌, ◌≤◌, ap, sym, arith, r
 use Rattle.std.proofs.lemmas.List.{length-replicate}
 use Rattle.core_store.specs.Storage.{positions_of}
 use Rattle.machine.specs.Run.{first_card}
+use Rattle.machine.proofs.InRange.{loaded_in_range}
 use Rattle.machine.proofs.Steps.{at_least_1400, length-loaded}
 use Rattle.machine.proofs.runs.Machine.load.Goals as goal
 
@@ -14,9 +15,11 @@ invariant_of-parts g c =
 
 pub invariant_of-result : goal.invariant_of-result
 invariant_of-result g c =
-    let s = g.C.Core.cells c.in_ok-core.core in
-    length-loaded s c.args.size (first_card c.args.deck) c.in_ok-core.ensures
-    ∙ sym (ap length c.in_ok-spare.ensures ∙ length-replicate (positions_of c.args.size) _)
+    let s = g.C.Core.cells c.in_ok-core.core in (
+      rw (c.in_ok-core.ensures, c.first_registers.ensures, c.new.ensures.items, c.new-2.ensures.items, c.at_the_top.ensures)
+          (loaded_in_range c.args.deck c.args.size c.args.switches c.requires),
+      length-loaded s c.args.size (first_card c.args.deck) c.in_ok-core.ensures ∙ sym (ap length c.in_ok-spare.ensures ∙ length-replicate (positions_of c.args.size) _),
+    )
 
 pub returns : goal.returns
 returns g c =

@@ -1,5 +1,6 @@
 use Rattle.std.proofs.Common.{◌≡◌, ◌∙◌, ap, sym, arith}
 use Rattle.machine.specs.Run.{State}
+use Rattle.machine.proofs.InRange.{step_in_range}
 use Rattle.machine.proofs.Steps.{over_stopped, over_done, left_step, left_prints, executed_is, stems_step}
 use Rattle.machine.proofs.runs.Machine.run.Goals as goal
 
@@ -58,6 +59,7 @@ loop-attempted-preserved g c =
           left_step _ _ _ _ _ _ c.loop-attempted.invariant.left _ _ (omega arith) (sym c.is_running.ensures ∙ c.if-not-is_running.false) stepped
           c.in_default.ensures.meter;
       stems = stems_step _ _ _ stepped c.loop-attempted.invariant.stems;
+      in_range = step_in_range _ _ stepped c.loop-attempted.invariant.in_range;
       spare = c.loop-attempted.invariant.spare;
       checkpoint = c.loop-attempted.invariant.checkpoint;
     }

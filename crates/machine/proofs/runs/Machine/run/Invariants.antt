@@ -1,4 +1,5 @@
 use Rattle.std.proofs.Common.{◌≡◌}
+use Rattle.machine.specs.Ranges.{IsInRange}
 use Rattle.machine.proofs.Steps.{Left, Stems, IsCheckpointOf}
 use Rattle.machine.proofs.runs.Machine.run.Given as goal
 
@@ -9,6 +10,7 @@ invariant-loop-attempted g l =
     record {
       left : Left old now l.limit l.attempted l.fn.meter l.meter;
       stems : Stems old now;
+      in_range : IsInRange now;
       spare : g.C.Core.cells l.self-inside.spare ≡ old.works.storage;
       checkpoint : IsCheckpointOf l.checkpoint old;
     }

@@ -1,0 +1,56 @@
+//! The program: joins the counter to the process's words, files and streams.
+#![tactic(auto)]
+
+use counter::{
+    Misuse, RunFault, Source, Status, Task, run_deck, show_help, task_of, tell_fault, tell_misuse,
+};
+use std::fs::File;
+use std::process::ExitCode;
+use std::{env, io};
+
+/// The words, with the program's name in front.
+fn words_given(rt: &HostRuntime) -> Result<Vec<String>, Misuse> {
+    Ok(env::args(rt)?.collect(rt.alloc())?)
+}
+
+/// Does what the words ask for.
+fn done(rt: &HostRuntime) -> io::Result<Status> {
+    let alloc = rt.alloc();
+    let mut output = rt.stdout();
+    let mut errors = rt.stderr();
+    let words = match words_given(rt) {
+        Ok(words) => words,
+        Err(misuse) => return tell_misuse(&mut errors, misuse),
+    };
+    let words = words.as_slice();
+    let behind_name = if words.is_empty() { words } else { &words[1..] };
+    match task_of(alloc, behind_name) {
+        Ok(Task::Help) => show_help(&mut output, &mut errors),
+        Ok(
+            Task::Run {
+                deck: Source::Input,
+                size,
+                switches,
+            },
+        ) => run_deck(alloc, rt.stdin(), &mut output, &mut errors, size, switches),
+        Ok(
+            Task::Run {
+                deck: Source::File(path),
+                size,
+                switches,
+            },
+        ) => match File::open(rt, path) {
+            Ok(file) => run_deck(alloc, file, &mut output, &mut errors, size, switches),
+            Err(_) => tell_fault(&mut errors, RunFault::Device),
+        },
+        Err(misuse) => tell_misuse(&mut errors, misuse),
+    }
+}
+
+/// An error here is one of the standard error, on which nothing can be told: status 1.
+fn main(rt: HostRuntime) -> ExitCode {
+    match done(&rt) {
+        Ok(status) => ExitCode::from(status.code()),
+        Err(_) => ExitCode::from(Status::Told.code()),
+    }
+}

@@ -1,0 +1,4 @@
+pub mod Switches
+pub mod Told
+pub mod Runs
+pub mod Tasks

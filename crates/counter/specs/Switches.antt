@@ -1,0 +1,36 @@
+-- The text of a set of sense switches.
+use Rattle.std.specs.Prelude.{ℕ, ◌+◌, ◌<◌, ◌==◌, nat_le, List, [], ◌∷◌, ◌++◌, Option, Some, None, if◌then◌else◌}
+use Rattle.std.specs.Option.{option_and_then}
+use Rattle.std.specs.Int.RustNames.{bit_and}
+use Rattle.machine.specs.declared.Switches.{Switches}
+
+-- the letter of the switch with this bit, if it is on
+abbrev pub letter_of : ℕ → ℕ → ℕ → List ℕ
+letter_of bits bit letter = if bit_and bits bit == bit then letter ∷ [] else []
+
+-- the letters from A to G of the switches that are on
+unfoldable pub letters_of : ℕ → List ℕ
+letters_of bits = letter_of bits 1 65 ++ letter_of bits 2 66 ++ letter_of bits 4 67 ++ letter_of bits 8 68
+    ++ letter_of bits 16 69 ++ letter_of bits 32 70 ++ letter_of bits 64 71
+
+-- these letters, or a hyphen where none is on
+abbrev pub text_of_bits : ℕ → List ℕ
+text_of_bits bits = if bits == 0 then 45 ∷ [] else letters_of bits
+
+abbrev pub text_of : Switches → List ℕ
+text_of switches = text_of_bits switches.0
+
+-- none but the seven switches is on
+abbrev pub AreSeven : Switches → Type 0
+AreSeven switches = switches.0 < 128
+
+-- the bit of a letter from A to G
+abbrev pub letter_bit : ℕ → Option ℕ
+letter_bit letter = if letter == 65 then Some 1 else (if letter == 66 then Some 2 else (if letter == 67 then Some 4
+    else (if letter == 68 then Some 8 else (if letter == 69 then Some 16 else (if letter == 70 then Some 32
+    else (if letter == 71 then Some 64 else None))))))
+
+-- the bits with those of letters that rise above them
+unfoldable pub risen : ℕ → List ℕ → Option ℕ
+risen bits [] = Some bits
+risen bits (letter ∷ letters) = option_and_then (λ bit. if nat_le bit bits then None else risen (bits + bit) letters) (letter_bit letter)

@@ -1,0 +1,90 @@
+-- What is told, and how the program ends.
+use Rattle.std.specs.Prelude.{◌≡◌, ◌⊎◌, ℕ, List, [], ◌∷◌, ◌++◌, Bool, true, false, if◌then◌else◌, Option, codes, decimal}
+use Rattle.std.specs.Io.KnownBytes.{Appends, Keeps}
+use Rattle.std.specs.declared.io.ErrorKind.{ErrorKind}
+use Rattle.std.specs.declared.io.ErrorKind.TheVariants.{OutOfMemory}
+use Rattle.cards.specs.Numbers.{card_error_number}
+use Rattle.core_store.specs.declared.registers.Check.{Check}
+use Rattle.core_store.specs.declared.registers.Check.TheVariants as check
+use Rattle.machine.specs.declared.parts.Standing.{Standing}
+use Rattle.machine.specs.declared.parts.Standing.TheVariants as standing
+use Rattle.words.specs.Asked.{complaint}
+use Rattle.words.specs.declared.WordsFault.TheVariants.{Memory}
+use Rattle.counter.specs.declared.tasks.Misuse.{Misuse}
+use Rattle.counter.specs.declared.tasks.Misuse.TheVariants as misuse
+use Rattle.counter.specs.declared.faults.RunFault.{RunFault}
+use Rattle.counter.specs.declared.faults.RunFault.TheVariants as fault
+use Rattle.counter.specs.declared.reports.Report.{Report}
+use Rattle.counter.specs.declared.statuses.Status.{Status}
+use Rattle.counter.specs.declared.statuses.Status.TheVariants as status
+
+abbrev pub status_code : Status → ℕ
+status_code status.Done = 0
+status_code status.Told = 1
+status_code status.Misused = 2
+
+-- how a run ends that leaves the machine so
+abbrev pub status_at : Standing → Status
+status_at standing.Halted = status.Done
+status_at standing.Running = status.Told
+status_at (standing.Checked kind) = status.Told
+
+abbrev pub check_words : Check → List ℕ
+check_words check.Address = codes "ADDRESS"
+check_words check.Instruction = codes "INSTRUCTION"
+check_words check.Data = codes "DATA"
+check_words check.Overlap = codes "OVERLAP"
+check_words check.ReaderEmpty = codes "READER EMPTY"
+check_words check.PunchFull = codes "PUNCH FULL"
+check_words check.PrinterFull = codes "PRINTER FULL"
+
+-- how a machine stands, with its register I
+abbrev pub standing_words : Standing → ℕ → List ℕ
+standing_words standing.Running next = codes "running"
+standing_words standing.Halted next = codes "halted next " ++ decimal next
+standing_words (standing.Checked kind) next = codes "check " ++ check_words kind ++ codes " at " ++ decimal next
+
+abbrev pub report_words : Report → List ℕ
+report_words report = codes "cards " ++ decimal report.cards ++ codes " lines " ++ decimal report.lines ++ codes " "
+    ++ standing_words report.stand.standing report.stand.next
+
+abbrev pub fault_words : RunFault → List ℕ
+fault_words (fault.Card f) = codes "card " ++ decimal f.card ++ codes " column " ++ decimal f.column ++ codes " fault "
+    ++ decimal (card_error_number f.error)
+fault_words fault.Empty = codes "refused 13"
+fault_words fault.Memory = codes "fault 1"
+fault_words fault.Device = codes "fault device"
+
+-- what is wrong with the words
+abbrev pub misuse_words : Misuse → List ℕ
+misuse_words (misuse.Words f) = complaint f
+misuse_words misuse.NoText = codes "a word is not UTF-8 text"
+misuse_words misuse.Size = codes "SIZE must be 1400, 2000 or 4000"
+misuse_words misuse.Switches = codes "SWITCHES must be rising letters of ABCDEFG, or - for none"
+
+-- there was no memory to read the words
+abbrev pub want_of_memory : Misuse
+want_of_memory = misuse.Words Memory
+
+-- what an error of the process says of its words
+abbrev pub misuse_of : ErrorKind → Misuse
+misuse_of OutOfMemory = want_of_memory
+misuse_of _ = misuse.NoText
+
+abbrev pub is_want_of_memory : Misuse → Bool
+is_want_of_memory (misuse.Words Memory) = true
+is_want_of_memory _ = false
+
+-- a complaint and the line on how the program is called; want of memory is a fault, and no misuse
+abbrev pub misuse_message : List ℕ → Misuse → List ℕ
+misuse_message usage m = if is_want_of_memory m then fault_words fault.Memory ++ 10 ∷ []
+    else codes "bureau: " ++ misuse_words m ++ 10 ∷ usage ++ 10 ∷ []
+
+abbrev pub misuse_status : Misuse → Status
+misuse_status m = if is_want_of_memory m then status.Told else status.Misused
+
+-- the help went out, or the output failed
+abbrev pub IsHelpShown : List ℕ → Status → Option (List ℕ) → Option (List ℕ) → Option (List ℕ) → Option (List ℕ) → Type 0
+IsHelpShown help ended output_old output_new errors_old errors_new =
+    ((ended ≡ status.Done) × Appends output_old output_new help × Keeps errors_old errors_new)
+    ⊎ ((ended ≡ status.Told) × Appends errors_old errors_new (fault_words fault.Device ++ 10 ∷ []))

@@ -1,0 +1,52 @@
+//! What is told on the second writer, and the help.
+
+ghost use Rattle.std.specs.Prelude.{◌≡◌, ◌∷◌, [], ◌++◌, IfOk, OnOk};
+ghost use Rattle.std.specs.Io.KnownBytes.{Appends};
+ghost use Rattle.counter.specs.Told.{IsHelpShown, fault_words, misuse_message, misuse_status};
+
+use crate::faults::RunFault;
+use crate::statuses::Status;
+use crate::tasks::Misuse;
+use std::io;
+use std::io::Write;
+use words::{HELP, USAGE};
+
+/// Puts all bytes out.
+pub(crate) fn put_out<W: Write>(output: &mut W, bytes: &[u8]) -> io::Result<()>
+    ensures { OnOk result (Appends (W.contents output.old) (W.contents output.new) bytes.now) }
+{
+    output.write_all(bytes)?;
+    output.flush()
+}
+
+/// Tells a fault. An error is the writer's.
+pub fn tell_fault<E: Write>(errors: &mut E, fault: RunFault) -> io::Result<Status>
+    ensures { IfOk result (λ status. (status ≡ Status.Told)
+        × Appends (E.contents errors.old) (E.contents errors.new) (fault_words fault ++ 10 ∷ [])) }
+{
+    writeln!(errors, "{fault}")?;
+    Ok(Status::Told)
+}
+
+/// Tells what is wrong with the words, and how the program is called. An error is the writer's.
+pub fn tell_misuse<E: Write>(errors: &mut E, misuse: Misuse) -> io::Result<Status>
+    ensures { IfOk result (λ status. (status ≡ misuse_status misuse)
+        × Appends (E.contents errors.old) (E.contents errors.new) (misuse_message USAGE.now misuse)) }
+{
+    if misuse.is_want_of_memory() {
+        return tell_fault(errors, RunFault::Memory);
+    }
+    writeln!(errors, "bureau: {misuse}\n{USAGE}")?;
+    Ok(Status::Misused)
+}
+
+/// Puts the help out. An error is the second writer's, to which nothing can be told.
+pub fn show_help<W: Write, E: Write>(output: &mut W, errors: &mut E) -> io::Result<Status>
+    ensures { IfOk result (λ status. IsHelpShown HELP.now status
+        (W.contents output.old) (W.contents output.new) (E.contents errors.old) (E.contents errors.new)) }
+{
+    if put_out(output, HELP.as_bytes()).is_err() {
+        return tell_fault(errors, RunFault::Device);
+    }
+    Ok(Status::Done)
+}
