@@ -183,6 +183,88 @@ mod tests {
     use super::*;
     use std::test::Fail;
 
+    /// Glyph, punches and rank of each number from 0 on, as another program lists them.
+    const LISTED: [(u8, u16, u8); 64] = [
+        (b' ', 0x000, 0),
+        (b'1', 0x100, 55),
+        (b'2', 0x080, 56),
+        (b'3', 0x040, 57),
+        (b'4', 0x020, 58),
+        (b'5', 0x010, 59),
+        (b'6', 0x008, 60),
+        (b'7', 0x004, 61),
+        (b'8', 0x002, 62),
+        (b'9', 0x001, 63),
+        (b'0', 0x200, 54),
+        (b'#', 0x042, 20),
+        (b'@', 0x022, 21),
+        (b':', 0x012, 22),
+        (b'>', 0x00A, 23),
+        (b'"', 0x006, 24),
+        (b'^', 0x082, 19),
+        (b'/', 0x300, 13),
+        (b'S', 0x280, 46),
+        (b'T', 0x240, 47),
+        (b'U', 0x220, 48),
+        (b'V', 0x210, 49),
+        (b'W', 0x208, 50),
+        (b'X', 0x204, 51),
+        (b'Y', 0x202, 52),
+        (b'Z', 0x201, 53),
+        (b'|', 0x282, 45),
+        (b',', 0x242, 14),
+        (b'%', 0x222, 15),
+        (b'=', 0x212, 16),
+        (b'\\', 0x20A, 17),
+        (b'+', 0x206, 18),
+        (b'-', 0x400, 12),
+        (b'J', 0x500, 36),
+        (b'K', 0x480, 37),
+        (b'L', 0x440, 38),
+        (b'M', 0x420, 39),
+        (b'N', 0x410, 40),
+        (b'O', 0x408, 41),
+        (b'P', 0x404, 42),
+        (b'Q', 0x402, 43),
+        (b'R', 0x401, 44),
+        (b'!', 0x600, 35),
+        (b'$', 0x442, 7),
+        (b'*', 0x422, 8),
+        (b']', 0x412, 9),
+        (b';', 0x40A, 10),
+        (b'_', 0x406, 11),
+        (b'&', 0x800, 6),
+        (b'A', 0x900, 26),
+        (b'B', 0x880, 27),
+        (b'C', 0x840, 28),
+        (b'D', 0x820, 29),
+        (b'E', 0x810, 30),
+        (b'F', 0x808, 31),
+        (b'G', 0x804, 32),
+        (b'H', 0x802, 33),
+        (b'I', 0x801, 34),
+        (b'?', 0xA00, 25),
+        (b'.', 0x842, 1),
+        (b')', 0x822, 2),
+        (b'[', 0x812, 3),
+        (b'<', 0x80A, 4),
+        (b'}', 0x806, 5),
+    ];
+
+    #[test]
+    fn all_as_listed(rt: HostRuntime) -> Result<(), Fail> {
+        for number in 0..64u8 {
+            let (glyph, punches, rank) = LISTED[number as usize];
+            let code = Code::from_number(number).ok_or("a number below 64")?;
+            assert_eq!(rt; code.glyph(), glyph, "{number}");
+            assert_eq!(rt; code.punches(), punches, "{number}");
+            assert_eq!(rt; code.rank(), rank, "{number}");
+            assert_eq!(rt; Code::from_glyph(glyph), Some(code), "{number}");
+            assert_eq!(rt; Code::of_punches(punches), Some(code), "{number}");
+        }
+        Ok(())
+    }
+
     #[test]
     fn known_card_codes(rt: HostRuntime) -> Result<(), Fail> {
         let cards = [
