@@ -273,7 +273,7 @@ pub record Stems (old now : State) : Type 0 where
   pub longer : length (lines_of old) ≤ length (lines_of now)
   pub begins : take (length (lines_of old)) (lines_of now) ≡ lines_of old
 
-take_whole : (xs : List Line) → take (length xs) xs ≡ xs
+pub take_whole : {X : Type 0} (xs : List X) → take (length xs) xs ≡ xs
 take_whole [] = refl
 take_whole (x ∷ xs) = ap (λ ys. x ∷ ys) (take_whole xs)
 
@@ -294,6 +294,11 @@ stems_step old now next e stems =
       begins =
           ap (take (length (lines_of old))) keeps.more.1 ∙ take-append-le (length (lines_of old)) (lines_of now) keeps.more.0 stems.longer ∙ stems.begins;
     })
+
+pub stems_after : (old now : State) (count : ℕ) → Stems old now → Stems old (after now count)
+unfolding after
+stems_after old now zero stems = stems
+stems_after old now (suc count) stems = stems_after old (step now) count (stems_step old now (step now) refl stems)
 
 -- ---- a run by what is left of it
 

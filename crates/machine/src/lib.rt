@@ -29,6 +29,6 @@ pub use listing::render;
 pub use meter::Meter;
 pub use parts::{Event, Parts, Standing};
 pub use printer::{Carriage, LAST_FORM, LINES_OF_FORM, Line, MOST_LINES, Motion, Printer};
-pub use runs::{Machine, Ran, runs_add, stays_in_range};
+pub use runs::{Machine, Ran, runs_add, runs_only_add, stays_in_range};
 pub use switches::Switches;
 pub use units::{Hopper, MOST_CARDS, Punch, Units};

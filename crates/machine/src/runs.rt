@@ -1,6 +1,6 @@
 //! Machines, and whole runs of them.
 
-ghost use Rattle.std.specs.Prelude.{◌≡◌, ◌+◌, ◌-◌, ◌<◌, ◌≤◌, ◌&&◌, ℕ, List, [], length, true, false, IfOk, IfSome, MatchOption, OnErr, OnOk, if◌then◌else◌};
+ghost use Rattle.std.specs.Prelude.{◌≡◌, ◌+◌, ◌-◌, ◌<◌, ◌≤◌, ◌&&◌, ℕ, List, [], length, true, false, IfOk, IfSome, MatchOption, OnErr, OnOk, if◌then◌else◌, take};
 ghost use Rattle.cards.specs.declared.decks.Card.{Card};
 ghost use Rattle.core_store.specs.declared.sizes.Size.{Size};
 ghost use Rattle.machine.specs.declared.switches.Switches.{Switches};
@@ -252,6 +252,15 @@ pub fn stays_in_range()
     ensures loaded { (deck : List Card) (size : Size) (switches : Switches) → 0 < length deck → IsInRange (loaded deck size switches) }
     ensures after { (m : State) (count : ℕ) → IsInRange m → IsInRange (after m count) }
     ensures started { (m : State) (switches : Switches) → IsInRange m → IsInRange (started m switches) }
+{}
+
+/// The law of what was made: a run keeps the deck and the switches, and the cards and lines that
+/// were there are the first of those that are there after it.
+pub fn runs_only_add()
+    ensures deck { (m : State) (count : ℕ) → (after m count).works.units.hopper.deck ≡ m.works.units.hopper.deck }
+    ensures switches { (m : State) (count : ℕ) → (after m count).works.units.switches ≡ m.works.units.switches }
+    ensures cards { (m : State) (count : ℕ) → take (length m.works.units.punch) (after m count).works.units.punch ≡ m.works.units.punch }
+    ensures lines { (m : State) (count : ℕ) → take (length (lines_of m)) (lines_of (after m count)) ≡ lines_of m }
 {}
 
 /// The laws of runs: so many steps and then so many more are the steps together, and so are

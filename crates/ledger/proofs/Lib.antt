@@ -1,0 +1,8 @@
+pub mod Crash
+pub mod Handed
+pub mod Offices
+pub mod ReadBack
+pub mod Replies
+pub mod Saved
+pub mod Sliced
+pub mod Stretches

@@ -1,0 +1,83 @@
+-- Offices and the tables that stand for them.
+use Rattle.std.proofs.Common.{◌≡◌, ◌<◌, ℕ, List, [], ◌∷◌, map, find, All, Option, Some, None, Result, Ok, Err, IfOk, Bool, true, false, ◌&&◌, ◌==◌, bytes_eq, if◌then◌else◌, refl, sym, ap, subst, ◌∙◌}
+use Rattle.std.specs.List.{AllByRecursion}
+use Rattle.std.specs.Option.{option_map}
+use Rattle.sqlite.specs.Effect.{Database}
+use Rattle.sqlite.specs.State.{State, IsUnchanged}
+use Rattle.tables.specs.Tables.{NamedJob, is_job, job_named}
+use Rattle.ledger.specs.Office.{Job, Entry, Office, is_entry, entry_of, job_of, picture}
+use Rattle.ledger.specs.Standing.{IsJob, Rows, StandsIn, named, job_cells}
+use Rattle.machine.specs.Run as run
+use Rattle.tables.specs.Cells.{JobCells}
+use Rattle.ledger.specs.declared.office.Stretch.{Stretch}
+use Rattle.ledger.specs.Kept.{Kept, kept_of}
+
+-- what was read changed nothing
+pub still : (old new : State) (office : Office) → IsUnchanged old new → StandsIn old office → StandsIn new office
+still old new office same s = subst (λ db. Rows db office) (sym same.0.now_is) s
+
+pub if_ok_then : {X E : Type 0} (P Q : X → Type 0) (r : Result X E) → ((x : X) → P x → Q x) → IfOk r P → IfOk r Q
+if_ok_then P Q (Ok x) f h = f x h
+if_ok_then P Q (Err e) f h = tt
+
+-- the entry of a job that is found
+pub entry_found : (customer : List ℕ) (number : ℕ) (office : Office) (job : Job) → job_of customer number office ≡ Some job → (e : Entry) × (entry_of customer number office ≡ Some e) × (e.job ≡ job)
+entry_found customer number office job h = go (entry_of customer number office) refl
+  where
+    go : (o : Option Entry) → entry_of customer number office ≡ o → (e : Entry) × (entry_of customer number office ≡ Some e) × (e.job ≡ job)
+    go None is = absurd (let e = rw is at h in cc)
+    go (Some e) is = (e, is, let same : Some e.job ≡ Some job = rw is at h in cc)
+
+all_found : (P : Entry → Type 0) (customer : List ℕ) (number : ℕ) (office : Office) (e : Entry) → AllByRecursion P office → entry_of customer number office ≡ Some e → P e
+all_found P customer number [] e all h = absurd (let none = h in cc)
+all_found P customer number (first ∷ office) e all h = go (is_entry customer number first) refl (λ rest. all_found P customer number office e all.1 rest)
+  where
+    go : (b : Bool) → is_entry customer number first ≡ b → (entry_of customer number office ≡ Some e → P e) → P e
+    go true is later =
+        let same : Some first ≡ Some e = rw is at h in
+        let one : first ≡ e = cc in
+        subst P one all.0
+    go false is later = later (rw is at h)
+
+-- a job that is found may hold what any job may
+pub job_is : (customer : List ℕ) (number : ℕ) (office : Office) (job : Job) → AllByRecursion (λ e. IsJob e.job) office → job_of customer number office ≡ Some job → IsJob job
+job_is customer number office job all h =
+    let it = entry_found customer number office job h in
+    subst IsJob it.2 (all_found (λ e. IsJob e.job) customer number office it.0 all it.1)
+
+-- the row of a job is found where the job is
+pub named_of : (customer : List ℕ) (number : ℕ) (office : Office) → job_named customer number (map named office) ≡ option_map named (entry_of customer number office)
+named_of customer number [] = refl
+named_of customer number (e ∷ office) = go (is_entry customer number e) refl (named_of customer number office)
+  where
+    go : (b : Bool) → is_entry customer number e ≡ b → job_named customer number (map named office) ≡ option_map named (entry_of customer number office)
+        → job_named customer number (map named (e ∷ office)) ≡ option_map named (entry_of customer number (e ∷ office))
+    go true is rest = rw is
+    go false is rest = rw is rest
+
+-- what a look-up of the row tells of the job
+row_told : (customer : List ℕ) (number : ℕ) (office : Office) → option_map (λ (j : NamedJob). j.cells) (job_named customer number (map named office)) ≡ option_map job_cells (job_of customer number office)
+row_told customer number office = rw (named_of customer number office) (go (entry_of customer number office))
+  where
+    go : (o : Option Entry) → option_map (λ (j : NamedJob). j.cells) (option_map named o) ≡ option_map job_cells (option_map (λ (e : Entry). e.job) o)
+    go None = refl
+    go (Some e) = refl
+
+pub row_found : (customer : List ℕ) (number : ℕ) (office : Office) (found : Option JobCells) (row : JobCells) → found ≡ option_map (λ (j : NamedJob). j.cells) (job_named customer number (map named office)) → found ≡ Some row
+    → (job : Job) × (job_of customer number office ≡ Some job) × (row ≡ job_cells job)
+row_found customer number office found row told is = go (job_of customer number office) refl
+  where
+    go : (o : Option Job) → job_of customer number office ≡ o → (job : Job) × (job_of customer number office ≡ Some job) × (row ≡ job_cells job)
+    go None at = absurd (let e : Some row ≡ None = sym is ∙ told ∙ row_told customer number office ∙ ap (option_map job_cells) at in cc)
+    go (Some job) at = (job, at, let e : Some row ≡ Some (job_cells job) = sym is ∙ told ∙ row_told customer number office ∙ ap (option_map job_cells) at in cc)
+
+pub row_none : (customer : List ℕ) (number : ℕ) (office : Office) (found : Option JobCells) → found ≡ option_map (λ (j : NamedJob). j.cells) (job_named customer number (map named office)) → found ≡ None → job_of customer number office ≡ None
+row_none customer number office found told is = go (job_of customer number office) refl
+  where
+    go : (o : Option Job) → job_of customer number office ≡ o → job_of customer number office ≡ None
+    go None at = at
+    go (Some job) at = absurd (let e : None ≡ Some (job_cells job) = sym is ∙ told ∙ row_told customer number office ∙ ap (option_map job_cells) at in cc)
+
+pub kept_is : (stretches : List Stretch) (held collected : Bool) (machine : run.State) (job : Job) → stretches ≡ job.stretches → held ≡ job.held → collected ≡ job.collected → machine ≡ picture job
+    → ◌≡◌ {A = Kept} (record { stretches = stretches; held = held; collected = collected; machine = machine }) (kept_of job)
+kept_is stretches held collected machine job one two three four = rw (one, two, three, four)

@@ -1,0 +1,6 @@
+pub mod Found
+pub mod Kept
+pub mod New
+pub mod Numbers
+pub mod Office
+pub mod Standing

@@ -1,0 +1,99 @@
+-- the tables stand for an office
+use Rattle.std.specs.Prelude.{◌≡◌, ◌<◌, ◌≤◌, ℕ, false, List, [], ◌∷◌, ◌++◌, map, length, All, Option, Some, None, IsTrue}
+use Rattle.std.specs.List.{AllByRecursion}
+use Rattle.std.specs.Option.{option_map}
+use Rattle.cards.specs.Decks.{IsCard, IsDeck}
+use Rattle.core_store.specs.Storage.{positions_of}
+use Rattle.machine.specs.Ranges.{IsInRange}
+use Rattle.machine.specs.Run.{State}
+use Rattle.pictures.specs.Columns.{deck_bytes, truth, picture_cells, line_cells, HoldsCharacters, IsLine}
+use Rattle.sqlite.specs.Effect.{Database}
+use Rattle.sqlite.specs.Tree.{Trees}
+use Rattle.sqlite.specs.State as store
+use Rattle.tables.specs.Cells.{JobCells, PictureCells, LineCells}
+use Rattle.tables.specs.Schema.{bureau_schema}
+use Rattle.tables.specs.Tables.{NamedJob, Tables, Holds}
+use Rattle.tables.specs.declared.rows.StretchRow.{StretchRow}
+use Rattle.ledger.specs.declared.commands.Kind.{Kind}
+use Rattle.ledger.specs.declared.commands.Kind.TheVariants.{Object}
+use Rattle.ledger.specs.declared.commands.Reply.{Reply}
+use Rattle.ledger.specs.declared.office.Stretch.{Stretch}
+use Rattle.ledger.specs.Office.{Job, Entry, Office, job_of, loaded_deck, picture, granted}
+
+abbrev pub kind_number : Kind → ℕ
+kind_number Object = 0
+
+abbrev pub job_cells : Job → JobCells
+job_cells job = record { kind = kind_number job.kind; size = positions_of job.size; deck = deck_bytes job.deck; loaded = deck_bytes (loaded_deck job); held = truth job.held; collected = truth job.collected }
+
+abbrev pub named : Entry → NamedJob
+named e = record { customer = e.customer; number = e.number; cells = job_cells e.job }
+
+abbrev pub stretch_row : Stretch → StretchRow
+stretch_row s = record { switches = s.switches.0; granted = s.granted }
+
+abbrev pub stretches_of : Option Job → List StretchRow
+stretches_of None = []
+stretches_of (Some job) = map stretch_row job.stretches
+
+abbrev pub picture_of : Option Job → Option PictureCells
+picture_of None = None
+picture_of (Some job) = Some (picture_cells (picture job))
+
+abbrev pub cards_of : Option Job → List (List ℕ)
+cards_of None = []
+cards_of (Some job) = map (λ card. card.0) (picture job).works.units.punch
+
+abbrev pub lines_of : Option Job → List LineCells
+lines_of None = []
+lines_of (Some job) = map line_cells (picture job).works.units.printer.lines
+
+-- what the tables of an office hold
+abbrev pub tables_of : Office → Tables
+tables_of office = record {
+  jobs = map named office;
+  stretches = λ customer number. stretches_of (job_of customer number office);
+  pictures = λ customer number. picture_of (job_of customer number office);
+  cards = λ customer number. cards_of (job_of customer number office);
+  lines = λ customer number. lines_of (job_of customer number office);
+}
+
+-- the switches fit a byte
+abbrev pub HasSwitches : Stretch → Type 0
+HasSwitches s = s.switches.0 < 256
+
+-- what any job may hold
+pub record IsJob (job : Job) : Type 0 where
+  pub deck : IsDeck job.deck
+  pub card : 0 < length job.deck
+  pub begun : 0 < length job.stretches
+  pub switches : AllByRecursion HasSwitches job.stretches
+  pub most : granted job.stretches ≤ 1000000000
+  pub machine : IsInRange (picture job)
+  pub storage : HoldsCharacters (picture job).works.storage
+  pub cards : All IsCard (picture job).works.units.punch
+  pub lines : All IsLine (picture job).works.units.printer.lines
+
+-- the rows of the tables are those of the office, and no others
+pub record Rows (db : Database) (office : Office) : Type 0 where
+  pub tables : Holds db (tables_of office)
+  pub jobs : AllByRecursion (λ e. IsJob e.job) office
+
+-- what a connection sees is that of the office
+abbrev pub StandsIn : store.State → Office → Type 0
+StandsIn s office = Rows s.now office
+
+-- a step inside the transaction: the office and the reply are those of the change
+pub record Served (new : store.State) (change : Office → Office × Reply) (office : Office) (reply : Reply) : Type 0 where
+  pub reply_is : reply ≡ (change office).1
+  pub stands : StandsIn new (change office).0
+
+-- what a crash leaves opens to the office, and to no other
+abbrev pub LeftAs : Trees → Office → Type 0
+LeftAs db office = Rows (record { schema = bureau_schema; trees = db }) office
+
+-- between commands the tables stand for the office, and a crash leaves it alone
+pub record Stands (s : store.State) (office : Office) : Type 0 where
+  pub outside : s.in_transaction ≡ false
+  pub now : IsTrue s.is_open → StandsIn s office
+  pub left : (db : Trees) → s.may_leave db → LeftAs db office

@@ -1,0 +1,32 @@
+-- the parts of a machine whose columns a row holds
+use Rattle.std.specs.Prelude.{◌≡◌, length}
+use Rattle.core_store.specs.declared.registers.Registers.{Registers}
+use Rattle.machine.specs.declared.printer.Carriage.{Carriage}
+use Rattle.machine.specs.declared.units.Units.{Units}
+use Rattle.pictures.specs.declared.parts.Media.{Media}
+use Rattle.pictures.specs.Columns.{truth, compare_number, waiting_number}
+use Rattle.tables.specs.Cells.{PictureCells}
+
+pub record HasRegisters (row : PictureCells) (r : Registers) : Type 0 where
+  pub i : row.i ≡ r.i
+  pub a : row.a ≡ r.a
+  pub b : row.b ≡ r.b
+  pub compare : row.compare ≡ compare_number r.compare
+  pub overflow : row.overflow ≡ truth r.overflow
+
+pub record HasCarriage (row : PictureCells) (c : Carriage) : Type 0 where
+  pub form : row.form ≡ c.form
+  pub line : row.line ≡ c.line
+  pub waiting : row.waiting ≡ waiting_number c.waiting
+  pub channel : row.channel ≡ truth c.channel_12
+
+-- and that have read and made what stands in the other tables
+pub record HasUnits (row : PictureCells) (media : Media) (u : Units) : Type 0 where
+  pub deck : media.deck ≡ u.hopper.deck
+  pub taken : row.taken ≡ u.hopper.taken
+  pub switches : media.switches ≡ u.switches
+  pub punched : media.cards.items ≡ u.punch
+  pub cards : row.cards ≡ length u.punch
+  pub printed : media.lines.items ≡ u.printer.lines
+  pub lines : row.lines ≡ length u.printer.lines
+  pub carriage : HasCarriage row u.printer.carriage

@@ -1,0 +1,32 @@
+//! Characters as bytes.
+
+ghost use Rattle.std.specs.Prelude.{◌≡◌, length, true, IsTrue};
+ghost use Rattle.cards.specs.Decks.{AreCharacters};
+
+use bcd::Code;
+
+/// Writes the numbers of characters.
+pub fn write_numbers(codes: &[Code], bytes: &mut [u8])
+    requires { length bytes.old ≡ length codes.now }
+    ensures numbers { bytes.new ≡ codes.now }
+    ensures characters { AreCharacters codes.now }
+{
+    for place in 0..codes.len() {
+        bytes[place] = codes[place].number();
+    }
+}
+
+/// Writes the characters of these numbers, if each is the number of one.
+pub fn read_codes(numbers: &[u8], codes: &mut [Code]) -> bool
+    requires { length codes.old ≡ length numbers.now }
+    ensures all { AreCharacters numbers.now → IsTrue result }
+    ensures only { IsTrue result → (codes.new ≡ numbers.now) × AreCharacters numbers.now }
+{
+    for place in 0..numbers.len() {
+        let Some(code) = Code::from_number(numbers[place]) else {
+            return false;
+        };
+        codes[place] = code;
+    }
+    true
+}

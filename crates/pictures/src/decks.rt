@@ -1,0 +1,162 @@
+//! Cards and decks as bytes.
+
+ghost use Rattle.std.specs.Prelude.{◌≡◌, ◌≢◌, ◌++◌, List, ℕ, All, map, Some, IfOk, IfSome, IsSome, IsNone};
+ghost use Rattle.cards.specs.declared.decks.Card.{Card};
+ghost use Rattle.cards.specs.Decks.{IsCard, IsDeck};
+ghost use Rattle.pictures.specs.Columns.{deck_bytes};
+
+use crate::codes::{read_codes, write_numbers};
+use bcd::Code;
+use cards::{COLUMNS, Card, Deck, DeckFault};
+use std::alloc::{AllocError, Global};
+use tables::CardRow;
+
+/// A card as bytes, one a column.
+pub fn card_bytes(card: &Card) -> [u8; COLUMNS]
+    ensures bytes { result ≡ card.now.0 }
+    ensures card { IsCard card.now }
+{
+    let mut bytes = [0; COLUMNS];
+    write_numbers(&card.0, &mut bytes);
+    bytes
+}
+
+/// The card of these bytes, if there is one.
+fn read_card(bytes: &[u8]) -> Option<Card>
+    ensures all { (card : Card) → IsCard card → bytes.now ≡ card.0 → result ≡ Some card }
+    ensures only { IfSome result (λ card. (card.0 ≡ bytes.now) × IsCard card) }
+{
+    if bytes.len() != COLUMNS {
+        return None;
+    }
+    let mut codes = [Code::blank(); COLUMNS];
+    if !read_codes(bytes, &mut codes) {
+        return None;
+    }
+    Some(Card(codes))
+}
+
+/// The card that the bytes begin with, and the bytes behind it.
+fn split_card(bytes: &[u8]) -> Option<(Card, &[u8])>
+    ensures found { IfSome result (λ found. IsCard found.0 × (bytes.now ≡ found.0.0 ++ found.1.now)) }
+    ensures missing { IsNone result → (card : Card) (behind : List ℕ) → IsCard card → bytes.now ≢ card.0 ++ behind }
+{
+    if bytes.len() < COLUMNS {
+        return None;
+    }
+    let (columns, behind) = bytes.split_at(COLUMNS);
+    match read_card(columns) {
+        Some(card) => Some((card, behind)),
+        None => None,
+    }
+}
+
+/// The cards of a deck as bytes, one card behind the other.
+pub fn deck_bytes(alloc: Global, deck: &Deck) -> Result<Vec<u8>, AllocError>
+    ensures bytes { IfOk result (λ bytes. bytes.items ≡ deck_bytes deck.now) }
+    ensures deck { IfOk result (λ bytes. IsDeck deck.now) }
+{
+    let mut bytes = Vec::new(alloc);
+    for card in deck.cards() {
+        bytes.extend_from_slice(&card_bytes(card))?;
+    }
+    Ok(bytes)
+}
+
+/// The deck of these bytes, if there is one.
+pub fn read_deck(alloc: Global, bytes: &[u8]) -> Result<Option<Deck>, AllocError>
+    ensures all { IfOk result (λ read. (deck : List Card) → IsDeck deck → bytes.now ≡ deck_bytes deck → read ≡ Some deck) }
+    ensures only { IfOk result (λ read. IfSome read (λ deck. (deck_bytes deck ≡ bytes.now) × IsDeck deck)) }
+{
+    let mut deck = Deck::empty(alloc);
+    let mut rest = bytes;
+    while !rest.is_empty() {
+        let Some((card, behind)) = split_card(rest) else {
+            return Ok(None);
+        };
+        match deck.push(card) {
+            Ok(()) => {}
+            Err(DeckFault::TooManyCards) => return Ok(None),
+            Err(DeckFault::NoMemory) => return Err(AllocError),
+        }
+        rest = behind;
+    }
+    Ok(Some(deck))
+}
+
+/// The cards of these rows, if each is one.
+pub fn read_cards(alloc: Global, rows: &[CardRow]) -> Result<Option<Vec<Card>>, AllocError>
+    ensures all { IfOk result (λ read. (cards : List Card) → All IsCard cards → rows.now ≡ map (λ card. card.0) cards → IfSome read (λ made. made.items ≡ cards) × IsSome read) }
+    ensures only { IfOk result (λ read. IfSome read (λ made. (map (λ (card : Card). card.0) made.items ≡ rows.now) × All IsCard made.items)) }
+{
+    let mut cards = Vec::with_capacity(alloc, rows.len())?;
+    for row in rows {
+        let Some(card) = read_card(&row.card) else {
+            return Ok(None);
+        };
+        cards.push(Card(card.0))?;
+    }
+    Ok(Some(cards))
+}
+
+#[cfg(test)]
+mod tests {
+    use super::*;
+    use std::test::Fail;
+
+    /// A card that has one character in each column.
+    fn card_of(glyph: u8) -> Result<Card, Fail> {
+        let code = Code::from_glyph(glyph).ok_or("a glyph")?;
+        Ok(Card([code; COLUMNS]))
+    }
+
+    #[test]
+    fn a_deck_to_bytes_and_back(rt: HostRuntime) -> Result<(), Fail> {
+        let mut deck = Deck::empty(rt.alloc());
+        deck.push(card_of(b'A')?)?;
+        deck.push(card_of(b'0')?)?;
+        let bytes = deck_bytes(rt.alloc(), &deck)?;
+        let mut listed = vec![in rt.alloc(); 49; 80]?;
+        listed.extend_from_slice(&[10; 80])?;
+        assert_eq!(rt; bytes, listed);
+        let read = read_deck(rt.alloc(), &bytes)?.ok_or("a deck")?;
+        assert!(rt; read.cards() == deck.cards());
+        Ok(())
+    }
+
+    #[test]
+    fn bytes_that_are_no_deck(rt: HostRuntime) -> Result<(), Fail> {
+        let cases = [
+            (0, 0, true),
+            (79, 0, false),
+            (80, 63, true),
+            (80, 64, false),
+            (81, 0, false),
+            (160_000, 0, true),
+            (160_080, 0, false),
+        ];
+        for (length, byte, is_deck) in cases {
+            let bytes = vec![in rt.alloc(); byte; length]?;
+            let read = read_deck(rt.alloc(), &bytes)?;
+            assert_eq!(rt; read.is_some(), is_deck, "{length} of {byte}");
+        }
+        Ok(())
+    }
+
+    #[test]
+    fn rows_of_cards(rt: HostRuntime) -> Result<(), Fail> {
+        let alloc = rt.alloc();
+        let cards = [card_of(b'A')?, card_of(b' ')?];
+        let mut rows = Vec::new(alloc);
+        for card in &cards {
+            let card = Vec::from_slice(alloc, &card_bytes(card))?;
+            rows.push(CardRow { card })?;
+        }
+        let read = read_cards(alloc, &rows)?.ok_or("cards")?;
+        assert!(rt; read.as_slice() == cards.as_slice());
+        let card = vec![in alloc; 0; 79]?;
+        rows.push(CardRow { card })?;
+        assert!(rt; read_cards(alloc, &rows)?.is_none());
+        Ok(())
+    }
+}

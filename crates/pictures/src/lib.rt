@@ -1,0 +1,20 @@
+//! Cards, lines and pictures of machines as the columns of the tables hold them.
+//!
+//! `specs/Columns.antt` says which bytes and numbers stand for what. Each pair of calls here is
+//! exact in both directions: what was written is read as what it was, and what is read would be
+//! written as it stands; bytes and numbers that stand for nothing are read as nothing.
+#![tactic(auto)]
+
+mod codes;
+mod decks;
+mod lines;
+mod numbers;
+mod parts;
+mod storage;
+#[cfg(test)]
+mod tests;
+
+pub use decks::{card_bytes, deck_bytes, read_cards, read_deck};
+pub use lines::{line_row, read_lines};
+pub use numbers::{read_switches, read_truth, switches_number, truth};
+pub use parts::{Media, picture_row, read_picture};

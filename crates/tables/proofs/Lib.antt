@@ -1,0 +1,15 @@
+pub mod Added
+pub mod Behind
+pub mod Creating
+pub mod Frames
+pub mod Inserting
+pub mod Keys
+pub mod Looking
+pub mod Made
+pub mod Placing
+pub mod ReadTexts
+pub mod Reading
+pub mod Replacing
+pub mod Selecting
+pub mod Texts
+pub mod Updating

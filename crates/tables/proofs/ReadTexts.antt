@@ -1,0 +1,171 @@
+-- What the texts mean that read the tables or change a row.
+use Rattle.std.proofs.Common.{◌≡◌, ℕ, List, [], ◌∷◌, codes, refl, false}
+use Rattle.sqlite.specs.Term.{Term, col, op2}
+use Rattle.sqlite_sql.specs.declared.ops.BinaryOp.TheVariants.{Compare}
+use Rattle.sqlite_sql.specs.declared.ops.CompareOp.TheVariants.{Eq}
+use Rattle.sqlite.specs.Collation.TheVariants.{Binary}
+use Rattle.sqlite.specs.Command.TheVariants.{Update, Select}
+use Rattle.sqlite_tied.specs.Compute.{everything}
+use Rattle.sqlite.specs.Listing.{understood, reads_listing}
+use Rattle.sqlite.proofs.Callers.{IsPlain, command_of}
+use Rattle.tables.specs.Schema.{bureau_schema}
+use Rattle.tables.proofs.Selecting.{plain_query, ordered_query}
+
+-- the row's customer is the first parameter
+abbrev pub is_customer : List Term
+is_customer = op2 (Compare Eq Binary) (col 1 1) (col 0 0) ∷ []
+
+-- .. and its number the second
+abbrev pub is_key : List Term
+is_key = op2 (Compare Eq Binary) (col 1 1) (col 0 0) ∷ op2 (Compare Eq Binary) (col 1 2) (col 0 1) ∷ []
+
+-- .. and its place the third
+abbrev pub is_place : List Term
+is_place = op2 (Compare Eq Binary) (col 1 1) (col 0 0) ∷ op2 (Compare Eq Binary) (col 1 2) (col 0 1) ∷ op2 (Compare Eq Binary) (col 1 3) (col 0 2) ∷ []
+
+-- ---- jobs
+
+abbrev pub select_job : List ℕ
+select_job = codes "SELECT kind, size, deck, loaded, held, collected FROM jobs WHERE customer = ?1 AND number = ?2"
+
+abbrev pub job_terms : List Term
+job_terms = col 1 3 ∷ col 1 4 ∷ col 1 5 ∷ col 1 6 ∷ col 1 7 ∷ col 1 8 ∷ []
+
+pub select_job_is : command_of (understood bureau_schema select_job) ≡ Select (record { lets = []; body = plain_query 1 is_key job_terms }) (codes "kind" ∷ codes "size" ∷ codes "deck" ∷ codes "loaded" ∷ codes "held" ∷ codes "collected" ∷ [])
+unfolding understood everything
+select_job_is = refl
+
+pub select_job_plain : IsPlain (understood bureau_schema select_job)
+unfolding understood everything
+select_job_plain = (refl, refl)
+
+pub select_job_unlisted : reads_listing bureau_schema select_job ≡ false
+unfolding understood everything
+select_job_unlisted = refl
+
+abbrev pub select_numbers : List ℕ
+select_numbers = codes "SELECT number FROM jobs WHERE customer = ?1"
+
+abbrev pub number_terms : List Term
+number_terms = col 1 2 ∷ []
+
+pub select_numbers_is : command_of (understood bureau_schema select_numbers) ≡ Select (record { lets = []; body = plain_query 1 is_customer number_terms }) (codes "number" ∷ [])
+unfolding understood everything
+select_numbers_is = refl
+
+pub select_numbers_plain : IsPlain (understood bureau_schema select_numbers)
+unfolding understood everything
+select_numbers_plain = (refl, refl)
+
+pub select_numbers_unlisted : reads_listing bureau_schema select_numbers ≡ false
+unfolding understood everything
+select_numbers_unlisted = refl
+
+-- ---- stretches
+
+abbrev pub select_stretches : List ℕ
+select_stretches = codes "SELECT switches, granted FROM stretches WHERE customer = ?1 AND number = ?2 ORDER BY place"
+
+abbrev pub stretch_terms : List Term
+stretch_terms = col 1 4 ∷ col 1 5 ∷ []
+
+pub select_stretches_is : command_of (understood bureau_schema select_stretches) ≡ Select (record { lets = []; body = ordered_query 3 is_key stretch_terms (col 1 3) }) (codes "switches" ∷ codes "granted" ∷ [])
+unfolding understood everything
+select_stretches_is = refl
+
+pub select_stretches_plain : IsPlain (understood bureau_schema select_stretches)
+unfolding understood everything
+select_stretches_plain = (refl, refl)
+
+pub select_stretches_unlisted : reads_listing bureau_schema select_stretches ≡ false
+unfolding understood everything
+select_stretches_unlisted = refl
+
+abbrev pub update_granted : List ℕ
+update_granted = codes "UPDATE stretches SET granted = ?4 WHERE customer = ?1 AND number = ?2 AND place = ?3"
+
+abbrev pub granted_terms : List Term
+granted_terms = col 1 0 ∷ col 1 0 ∷ col 1 1 ∷ col 1 2 ∷ col 1 3 ∷ col 1 4 ∷ col 0 3 ∷ []
+
+pub update_granted_is : command_of (understood bureau_schema update_granted) ≡ Update 2 (record { lets = []; body = plain_query 3 is_place granted_terms })
+unfolding understood everything
+update_granted_is = refl
+
+pub update_granted_plain : IsPlain (understood bureau_schema update_granted)
+unfolding understood everything
+update_granted_plain = (refl, refl)
+
+-- ---- pictures
+
+abbrev pub select_picture : List ℕ
+select_picture = codes "SELECT storage, i, a, b, compare, overflow, channel, waiting, form, line, taken, cards, lines, standing FROM pictures WHERE customer = ?1 AND number = ?2"
+
+abbrev pub picture_terms : List Term
+picture_terms = col 1 3 ∷ col 1 4 ∷ col 1 5 ∷ col 1 6 ∷ col 1 7 ∷ col 1 8 ∷ col 1 9 ∷ col 1 10 ∷ col 1 11 ∷ col 1 12 ∷ col 1 13 ∷ col 1 14 ∷ col 1 15 ∷ col 1 16 ∷ []
+
+pub select_picture_is : command_of (understood bureau_schema select_picture) ≡ Select (record { lets = []; body = plain_query 5 is_key picture_terms })
+    (codes "storage" ∷ codes "i" ∷ codes "a" ∷ codes "b" ∷ codes "compare" ∷ codes "overflow" ∷ codes "channel" ∷ codes "waiting" ∷ codes "form" ∷ codes "line" ∷ codes "taken" ∷ codes "cards" ∷ codes "lines" ∷ codes "standing" ∷ [])
+unfolding understood everything
+select_picture_is = refl
+
+pub select_picture_plain : IsPlain (understood bureau_schema select_picture)
+unfolding understood everything
+select_picture_plain = (refl, refl)
+
+pub select_picture_unlisted : reads_listing bureau_schema select_picture ≡ false
+unfolding understood everything
+select_picture_unlisted = refl
+
+abbrev pub update_picture : List ℕ
+update_picture = codes "UPDATE pictures SET storage = ?3, i = ?4, a = ?5, b = ?6, compare = ?7, overflow = ?8, channel = ?9, waiting = ?10, form = ?11, line = ?12, taken = ?13, cards = ?14, lines = ?15, standing = ?16 WHERE customer = ?1 AND number = ?2"
+
+abbrev pub new_picture_terms : List Term
+new_picture_terms = col 1 0 ∷ col 1 0 ∷ col 1 1 ∷ col 1 2 ∷ col 0 2 ∷ col 0 3 ∷ col 0 4 ∷ col 0 5 ∷ col 0 6 ∷ col 0 7 ∷ col 0 8 ∷ col 0 9 ∷ col 0 10 ∷ col 0 11 ∷ col 0 12 ∷ col 0 13 ∷ col 0 14 ∷ col 0 15 ∷ []
+
+pub update_picture_is : command_of (understood bureau_schema update_picture) ≡ Update 3 (record { lets = []; body = plain_query 5 is_key new_picture_terms })
+unfolding understood everything
+update_picture_is = refl
+
+pub update_picture_plain : IsPlain (understood bureau_schema update_picture)
+unfolding understood everything
+update_picture_plain = (refl, refl)
+
+-- ---- cards
+
+abbrev pub select_cards : List ℕ
+select_cards = codes "SELECT card FROM cards WHERE customer = ?1 AND number = ?2 ORDER BY place"
+
+abbrev pub card_terms : List Term
+card_terms = col 1 4 ∷ []
+
+pub select_cards_is : command_of (understood bureau_schema select_cards) ≡ Select (record { lets = []; body = ordered_query 7 is_key card_terms (col 1 3) }) (codes "card" ∷ [])
+unfolding understood everything
+select_cards_is = refl
+
+pub select_cards_plain : IsPlain (understood bureau_schema select_cards)
+unfolding understood everything
+select_cards_plain = (refl, refl)
+
+pub select_cards_unlisted : reads_listing bureau_schema select_cards ≡ false
+unfolding understood everything
+select_cards_unlisted = refl
+
+-- ---- lines
+
+abbrev pub select_lines : List ℕ
+select_lines = codes "SELECT form, line, image FROM lines WHERE customer = ?1 AND number = ?2 ORDER BY place"
+
+abbrev pub line_terms : List Term
+line_terms = col 1 4 ∷ col 1 5 ∷ col 1 6 ∷ []
+
+pub select_lines_is : command_of (understood bureau_schema select_lines) ≡ Select (record { lets = []; body = ordered_query 9 is_key line_terms (col 1 3) }) (codes "form" ∷ codes "line" ∷ codes "image" ∷ [])
+unfolding understood everything
+select_lines_is = refl
+
+pub select_lines_plain : IsPlain (understood bureau_schema select_lines)
+unfolding understood everything
+select_lines_plain = (refl, refl)
+
+pub select_lines_unlisted : reads_listing bureau_schema select_lines ≡ false
+unfolding understood everything
+select_lines_unlisted = refl

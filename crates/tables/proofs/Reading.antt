@@ -1,0 +1,27 @@
+-- Rows that are read back one after another.
+use Rattle.std.proofs.Common.{◌≡◌, ◌<◌, ◌≤◌, ◌+◌, ℕ, zero, suc, List, [], ◌∷◌, ◌++◌, map, take, length, slice_get, slice_index_or, Option, Some, None, refl, ap, ◌∙◌, arith}
+use Rattle.std.specs.Option.{option_to_list}
+use Rattle.std.proofs.lemmas.List.{length-map, take_all}
+use Rattle.sqlite.specs.Order.{Row}
+
+module _ {X : Type 0} (shown : X → Row) where
+  next : (them : List X) (i : ℕ) (row : Row) → i < length them → row ≡ slice_index_or (map shown them) i row → (x : X) × (row ≡ shown x) × (take (suc i) them ≡ take i them ++ x ∷ [])
+  next [] i row less is = absurd (omega (arith, less))
+  next (x ∷ them) zero row less is = (x, is, refl)
+  next (x ∷ them) (suc i) row less is = let rest = next them i row (omega (arith, less)) is in (rest.0, rest.1, ap (λ xs. x ∷ xs) rest.2)
+
+  -- the row at a place shows the thing at that place
+  pub one_more : (them : List X) (rows : List Row) (i : ℕ) (row : Row) → rows ≡ map shown them → i < length rows → row ≡ slice_index_or rows i row → (x : X) × (row ≡ shown x) × (take (i + 1) them ≡ take i them ++ x ∷ [])
+  one_more them rows i row h less is =
+      let long = ap length h ∙ length-map them shown in
+      let it = next them i row (omega (arith, less, long)) (is ∙ ap (λ rs. slice_index_or rs i row) h) in
+      let on : i + 1 ≡ suc i = omega arith in
+      (it.0, it.1, ap (λ n. take n them) on ∙ it.2)
+
+  pub all_read : (them : List X) (rows : List Row) (i : ℕ) → rows ≡ map shown them → length rows ≤ i → take i them ≡ them
+  all_read them rows i h past = let long = ap length h ∙ length-map them shown in take_all i them (omega (arith, past, long))
+
+-- the first row, if there is one, shows the one thing there is
+pub first_one : {X : Type 0} (shown : X → Row) (o : Option X) (rows : List Row) (row : Row) → rows ≡ map shown (option_to_list o) → Some row ≡ slice_get rows 0 → (x : X) × (o ≡ Some x) × (row ≡ shown x)
+first_one shown None rows row h first = absurd (let e = first ∙ ap (λ rs. slice_get rs 0) h in cc)
+first_one shown (Some x) rows row h first = (x, refl, let e : Some row ≡ Some (shown x) = first ∙ ap (λ rs. slice_get rs 0) h in cc)

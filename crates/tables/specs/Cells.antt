@@ -1,0 +1,31 @@
+-- what the columns of a row hold beside the job that it names and its place
+use Rattle.std.specs.Prelude.{ℕ, List}
+
+pub record JobCells : Type 0 where
+  pub kind : ℕ
+  pub size : ℕ
+  pub deck : List ℕ
+  pub loaded : List ℕ
+  pub held : ℕ
+  pub collected : ℕ
+
+pub record PictureCells : Type 0 where
+  pub storage : List ℕ
+  pub i : ℕ
+  pub a : ℕ
+  pub b : ℕ
+  pub compare : ℕ
+  pub overflow : ℕ
+  pub channel : ℕ
+  pub waiting : ℕ
+  pub form : ℕ
+  pub line : ℕ
+  pub taken : ℕ
+  pub cards : ℕ
+  pub lines : ℕ
+  pub standing : ℕ
+
+pub record LineCells : Type 0 where
+  pub form : ℕ
+  pub line : ℕ
+  pub image : List ℕ
