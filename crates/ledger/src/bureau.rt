@@ -386,6 +386,16 @@ impl<S: Alter + Drop> Bureau<S> {
         }
     }
 
+    /// A bureau over tables that are there.
+    #[cfg(test)]
+    pub(crate) fn over(alloc: Global, conn: Connection<S>) -> Bureau<S> {
+        Bureau {
+            conn,
+            alloc,
+            broken: false,
+        }
+    }
+
     /// The connection, for other uses of the file.
     pub fn into_connection(self) -> Connection<S>
         ensures { result ≡ self.conn }
