@@ -9,7 +9,9 @@ use sqlite::{Alter, Connection, MemStore};
 use std::alloc::Global;
 use std::test::Fail;
 
+mod breaking;
 mod refusals;
+mod reopening;
 
 /// A program that prints each data card until the last one, and two data cards.
 const TWO_LINES: [&str; 6] = [
