@@ -1,0 +1,74 @@
+//! What an address stands for in a storage.
+
+ghost use Rattle.std.specs.Prelude.{◌≡◌, ◌<◌, ◌≤◌, ℕ, length, Some, IfSome, IfOk};
+ghost use Rattle.addresses.specs.Effective.{base_ending, with_index, effective, operand};
+
+use crate::tables::{UNREADABLE, base};
+use crate::tagged::{IndexLocation, Tagged};
+use bcd::{Code, Zone};
+use core_store::{Check, Core, LARGEST_SIZE};
+
+/// The base of the three characters that end at a position, whatever their tag, if they can be
+/// read.
+#[tactic(auto, unfolding(crate::specs::Effective::base_ending))]
+pub fn base_ending<C: Core>(core: &C, position: u16) -> Option<u16>
+    requires within { position < length (C.cells core.now) }
+    requires from { 2 ≤ position }
+    ensures base { result ≡ base_ending (C.cells core.now) position }
+    ensures below { IfSome result (λ base. base < LARGEST_SIZE) }
+{
+    let base = base(
+        core.get(position - 2),
+        core.get(position - 1),
+        core.get(position),
+    );
+    if base < UNREADABLE { Some(base) } else { None }
+}
+
+/// A base with what an index location holds, modulo 16000.
+#[tactic(auto, unfolding(crate::specs::Effective::with_index))]
+fn with_index<C: Core>(core: &C, base: u16, location: IndexLocation) -> Result<u16, Check>
+    ensures { result ≡ with_index (C.cells core.now) base (Some location) }
+{
+    let units = location.units_position();
+    if units >= core.size() {
+        return Err(Check::Address);
+    }
+    let Some(index) = base_ending(core, units) else {
+        return Err(Check::Address);
+    };
+    Ok(((base as u32 + index as u32) % LARGEST_SIZE as u32) as u16)
+}
+
+/// The number that an address stands for: its base, with what the index location holds that it
+/// names. Check ADDRESS where that cannot be read.
+#[tactic(auto, unfolding(crate::specs::Effective::with_index))]
+pub fn indexed<C: Core>(core: &C, tagged: Tagged) -> Result<u16, Check>
+    ensures { result ≡ effective (C.cells core.now) tagged }
+{
+    match tagged.index {
+        None => Ok(tagged.base),
+        Some(location) => with_index(core, tagged.base, location),
+    }
+}
+
+/// The position of a storage that the three characters of an operand stand for. They are read
+/// straight from their tables, and an address without a tag needs no more than that.
+#[inline(always)]
+#[tactic(auto, unfolding(crate::specs::Effective::operand, crate::specs::Effective::with_index, crate::specs::Addresses::tagged))]
+pub fn operand<C: Core>(core: &C, first: Code, second: Code, third: Code) -> Result<u16, Check>
+    ensures position { result ≡ operand (C.cells core.now) first second third }
+    ensures inside { IfOk result (λ position. position < length (C.cells core.now)) }
+{
+    let base = base(first, second, third);
+    let position = match IndexLocation::of_zone(second.zone()) {
+        None => base,
+        Some(_) if base >= UNREADABLE => return Err(Check::Address),
+        Some(location) => with_index(core, base, location)?,
+    };
+    if position < core.size() {
+        Ok(position)
+    } else {
+        Err(Check::Address)
+    }
+}

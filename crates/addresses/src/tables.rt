@@ -1,0 +1,73 @@
+//! The tables that addresses are read by.
+
+ghost use Rattle.std.specs.Prelude.{◌≡◌, ◌<◌, ◌≤◌, ℕ, unwrap_or};
+ghost use Rattle.addresses.specs.Addresses.{weighed, base, Spells};
+
+use bcd::Code;
+
+/// The entry of a character without a value, which no readable address reaches.
+pub const UNREADABLE: u16 = 20000;
+
+/// What each character adds as the first of an address: hundreds, and thousands by its zone.
+const FIRST: [u16; 64] = [
+    0, 100, 200, 300, 400, 500, 600, 700, 800, 900, 0, 20000, 20000, 20000, 20000, 20000, 1000,
+    1100, 1200, 1300, 1400, 1500, 1600, 1700, 1800, 1900, 1000, 20000, 20000, 20000, 20000, 20000,
+    2000, 2100, 2200, 2300, 2400, 2500, 2600, 2700, 2800, 2900, 2000, 20000, 20000, 20000, 20000,
+    20000, 3000, 3100, 3200, 3300, 3400, 3500, 3600, 3700, 3800, 3900, 3000, 20000, 20000, 20000,
+    20000, 20000,
+];
+
+/// What each character adds as the second of an address: tens. Its zone is the tag.
+const SECOND: [u16; 64] = [
+    0, 10, 20, 30, 40, 50, 60, 70, 80, 90, 0, 20000, 20000, 20000, 20000, 20000, 0, 10, 20, 30, 40,
+    50, 60, 70, 80, 90, 0, 20000, 20000, 20000, 20000, 20000, 0, 10, 20, 30, 40, 50, 60, 70, 80,
+    90, 0, 20000, 20000, 20000, 20000, 20000, 0, 10, 20, 30, 40, 50, 60, 70, 80, 90, 0, 20000,
+    20000, 20000, 20000, 20000,
+];
+
+/// What each character adds as the third of an address: units, and four thousands by its zone.
+const THIRD: [u16; 64] = [
+    0, 1, 2, 3, 4, 5, 6, 7, 8, 9, 0, 20000, 20000, 20000, 20000, 20000, 4000, 4001, 4002, 4003,
+    4004, 4005, 4006, 4007, 4008, 4009, 4000, 20000, 20000, 20000, 20000, 20000, 8000, 8001, 8002,
+    8003, 8004, 8005, 8006, 8007, 8008, 8009, 8000, 20000, 20000, 20000, 20000, 20000, 12000,
+    12001, 12002, 12003, 12004, 12005, 12006, 12007, 12008, 12009, 12000, 20000, 20000, 20000,
+    20000, 20000,
+];
+
+/// What a character adds as the first of an address.
+#[inline(always)]
+fn of_first(code: Code) -> u16
+    ensures entry { result ≡ unwrap_or (weighed 100 1000 code) UNREADABLE }
+    ensures most { result ≤ UNREADABLE }
+    ensures below { unwrap_or (weighed 100 1000 code) 0 ≤ 3900 }
+{
+    FIRST[code.number() as usize]
+}
+
+/// What a character adds as the second of an address.
+#[inline(always)]
+fn of_second(code: Code) -> u16
+    ensures entry { result ≡ unwrap_or (weighed 10 0 code) UNREADABLE }
+    ensures most { result ≤ UNREADABLE }
+    ensures below { unwrap_or (weighed 10 0 code) 0 ≤ 90 }
+{
+    SECOND[code.number() as usize]
+}
+
+/// What a character adds as the third of an address.
+#[inline(always)]
+fn of_third(code: Code) -> u16
+    ensures entry { result ≡ unwrap_or (weighed 1 4000 code) UNREADABLE }
+    ensures most { result ≤ UNREADABLE }
+    ensures below { unwrap_or (weighed 1 4000 code) 0 ≤ 12009 }
+{
+    THIRD[code.number() as usize]
+}
+
+/// The number that three characters spell without the tag, or `UNREADABLE` or more.
+#[inline(always)]
+pub fn base(first: Code, second: Code, third: Code) -> u16
+    ensures { Spells (base first second third) result }
+{
+    of_first(first) + of_second(second) + of_third(third)
+}

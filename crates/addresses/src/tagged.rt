@@ -1,0 +1,74 @@
+//! An address as a number and the index location that it names.
+
+ghost use Rattle.std.specs.Prelude.{◌≡◌, ◌<◌, ℕ, IfSome};
+ghost use Rattle.bcd.specs.Table.{zone_of};
+ghost use Rattle.addresses.specs.Addresses.{location_of, tagged, decoded};
+ghost use Rattle.addresses.specs.Effective.{units_position};
+
+use crate::tables::{UNREADABLE, base};
+use bcd::{Code, Zone};
+use core_store::LARGEST_SIZE;
+
+/// The three places in storage that hold what is added to an address that names them.
+#[derive(Clone, Copy, Debug, PartialEq, Eq)]
+pub enum IndexLocation {
+    /// 087-089, named by zone A.
+    First,
+    /// 092-094, named by zone B.
+    Second,
+    /// 097-099, named by zone AB.
+    Third,
+}
+
+/// An address that can be read.
+#[derive(Clone, Copy, Debug, PartialEq, Eq)]
+pub struct Tagged {
+    /// What its digits and the zones of its first and third character spell.
+    pub base: u16,
+    /// The index location that the zone of its second character names.
+    pub index: Option<IndexLocation>,
+}
+
+impl IndexLocation {
+    /// The position of its last character.
+    pub fn units_position(self) -> u16
+        ensures { result ≡ units_position self }
+    {
+        match self {
+            IndexLocation::First => 89,
+            IndexLocation::Second => 94,
+            IndexLocation::Third => 99,
+        }
+    }
+
+    /// The index location that the zone of an address's second character names.
+    #[inline(always)]
+    pub fn of_zone(zone: Zone) -> Option<IndexLocation>
+        ensures { result ≡ location_of zone }
+    {
+        match zone {
+            Zone::Bare => None,
+            Zone::A => Some(IndexLocation::First),
+            Zone::B => Some(IndexLocation::Second),
+            Zone::AB => Some(IndexLocation::Third),
+        }
+    }
+}
+
+/// The address that three characters are. There is none where one of them has no numeric value.
+#[tactic(auto, unfolding(crate::specs::Addresses::tagged))]
+pub fn decode(codes: [Code; 3]) -> Option<Tagged>
+    ensures address { result ≡ decoded codes }
+    ensures below { IfSome result (λ address. address.base < LARGEST_SIZE) }
+{
+    let [first, second, third] = codes;
+    let base = base(first, second, third);
+    if base < UNREADABLE {
+        Some(Tagged {
+            base,
+            index: IndexLocation::of_zone(second.zone()),
+        })
+    } else {
+        None
+    }
+}

@@ -1,0 +1,26 @@
+-- how addresses in storage are modified
+use Rattle.std.specs.Prelude.{ℕ, ◌+◌, ◌-◌, ◌%◌, nat_lt, nat_le, length, Bool, ◌&&◌, Result, Ok}
+use Rattle.bcd.specs.Table.{zone_of}
+use Rattle.core_store.specs.Storage.{Storage, code_at, put_codes}
+use Rattle.core_store.specs.Checked.{require, find_or}
+use Rattle.core_store.specs.declared.registers.Registers.{Registers}
+use Rattle.core_store.specs.declared.registers.Check.{Check}
+use Rattle.core_store.specs.declared.registers.Check.TheVariants.{Address, Data}
+use Rattle.addresses.specs.Addresses.{written}
+use Rattle.addresses.specs.Effective.{base_ending}
+use Rattle.arith.specs.Operands.{lowered}
+
+-- whether three characters can end at a position
+abbrev pub has_three : Storage → ℕ → Bool
+has_three s p = nat_lt p (length s) && nat_le 2 p
+
+-- the base at A added to the base at B, modulo 16000, and written at B, where the tag is kept
+unfoldable pub modified : Storage → Registers → Result (Storage × Registers) Check
+modified s r =
+    require (has_three s r.a && has_three s r.b) Address
+    (find_or (base_ending s r.a) Data (λ a.
+    find_or (base_ending s r.b) Data (λ b.
+    Ok (
+      put_codes s (r.b - 2) (written (zone_of (code_at s (r.b - 1))) ((a + b) % 16000)),
+      record r { a = lowered r.a 3; b = lowered r.b 3 },
+    ))))

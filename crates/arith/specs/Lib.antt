@@ -1,0 +1,6 @@
+pub mod Decimal
+pub mod Operands
+pub mod Sums
+pub mod Order
+pub mod Bases
+pub mod Joining

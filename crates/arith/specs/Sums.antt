@@ -1,0 +1,59 @@
+-- what add and subtract, and zero and add, and zero and subtract, do to whole fields
+use Rattle.std.specs.Prelude.{ℕ, ◌+◌, ◌-◌, ◌^◌, nat_le, List, length, Bool, true, false, not, ◌&&◌, ◌||◌, if◌then◌else◌, Result, Ok}
+use Rattle.bcd.specs.Table.{zone_of}
+use Rattle.core_store.specs.Storage.{Storage, put_codes, codes_ending}
+use Rattle.core_store.specs.Checked.{require, and_then}
+use Rattle.core_store.specs.declared.registers.Registers.{Registers}
+use Rattle.core_store.specs.declared.registers.Check.{Check}
+use Rattle.core_store.specs.declared.registers.Check.TheVariants.{Data}
+use Rattle.arith.specs.Decimal.{value, is_number, units, is_minus, sign_zone, spelled}
+use Rattle.arith.specs.Operands.{lowered, counts_apart}
+
+-- whether two signs are one
+abbrev pub is_same : Bool → Bool → Bool
+is_same true b = b
+is_same false b = not b
+
+-- the sign of the A digits, which a subtraction takes as the opposite one
+abbrev pub sign_taken : Bool → List ℕ → Bool
+sign_taken reversed a = if reversed then not (is_minus a) else is_minus a
+
+-- the characters of the new B field, minus being the sign of the A digits: a sum under the zone of the old field, or the
+-- difference under the sign of the greater, the field's own where they are equal
+unfoldable pub sum_codes : Bool → List ℕ → List ℕ → List ℕ
+sum_codes minus a b =
+    if is_same minus (is_minus b) then spelled (value a + value b) (length b) (zone_of (units b))
+    else (if nat_le (value a) (value b) then spelled (value b - value a) (length b) (sign_zone (is_minus b))
+    else spelled (value a - value b) (length b) (sign_zone minus))
+
+-- a sum of equal signs overflows where it has more digits than the field
+unfoldable pub sum_overflows : Bool → List ℕ → List ℕ → Bool
+sum_overflows minus a b = is_same minus (is_minus b) && nat_le (10 ^ length b) (value a + value b)
+
+-- the A digits added to the B field, or subtracted
+unfoldable pub added : Bool → Storage → Registers → Result (Storage × Registers) Check
+added reversed s r =
+    and_then (counts_apart s r.a r.b) (λ counts.
+    let a = codes_ending s r.a counts.a in
+    let b = codes_ending s r.b counts.b in
+    require (is_number a && is_number b) Data
+    (Ok (
+      put_codes s (r.b + 1 - counts.b) (sum_codes (sign_taken reversed a) a b),
+      record r {
+        a = lowered r.a counts.a;
+        b = lowered r.b counts.b;
+        overflow = r.overflow || sum_overflows (sign_taken reversed a) a b;
+      },
+    )))
+
+-- the B field filled with the A digits and zeros to their left, under their sign or the opposite one; what the field
+-- held is not read
+unfoldable pub zero_added : Bool → Storage → Registers → Result (Storage × Registers) Check
+zero_added reversed s r =
+    and_then (counts_apart s r.a r.b) (λ counts.
+    let a = codes_ending s r.a counts.a in
+    require (is_number a) Data
+    (Ok (
+      put_codes s (r.b + 1 - counts.b) (spelled (value a) counts.b (sign_zone (sign_taken reversed a))),
+      record r { a = lowered r.a counts.a; b = lowered r.b counts.b },
+    )))

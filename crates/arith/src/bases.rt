@@ -1,0 +1,60 @@
+//! Modify address.
+
+ghost use Rattle.std.specs.Prelude.{◌≡◌, ◌+◌, ◌-◌, ◌<◌, ◌≤◌, ◌&&◌, ℕ, length, IsTrue, OnOk, OnErr, IfErr, Ok, Err};
+ghost use Rattle.core_store.specs.Storage.{put_codes};
+ghost use Rattle.arith.specs.Bases.{has_three, modified};
+
+use crate::operands::{Counts, lower_by};
+use addresses::{base_ending, encode_tagged};
+use bcd::Code;
+use core_store::{Check, Core, LARGEST_SIZE, Registers};
+
+/// Whether three characters can end at each of two positions.
+#[inline(always)]
+fn have_three<C: Core>(core: &C, a: u16, b: u16) -> bool
+    ensures three { result ≡ (has_three (C.cells core.now) a && has_three (C.cells core.now) b) }
+    ensures a { IsTrue result → (a < length (C.cells core.now)) × (a < LARGEST_SIZE) × (2 ≤ a) }
+    ensures b { IsTrue result → (b < length (C.cells core.now)) × (b < LARGEST_SIZE) × (2 ≤ b) }
+{
+    a < core.size() && a >= 2 && b < core.size() && b >= 2
+}
+
+/// Writes the three characters that end at a position.
+#[inline(always)]
+fn put_three<C: Core>(core: &mut C, position: u16, codes: [Code; 3])
+    requires within { position < length (C.cells core.old) }
+    requires from { 2 ≤ position }
+    ensures { C.cells core.new ≡ put_codes (C.cells core.old) (position - 2) codes }
+{
+    let [first, second, third] = codes;
+    core.put(position, third);
+    core.put(position - 1, second);
+    core.put(position - 2, first);
+}
+
+/// Adds the address at A to the address at B, whose tag stays.
+#[tactic(auto, unfolding(crate::specs::Bases::modified))]
+pub fn modify<C: Core>(core: &mut C, registers: &mut Registers) -> Result<(), Check>
+    ensures done { OnOk result (modified (C.cells core.old) registers.old ≡ Ok (C.cells core.new, registers.new)) }
+    ensures check { IfErr result (λ check. modified (C.cells core.old) registers.old ≡ Err check) }
+    ensures unchanged { OnErr result ((C.cells core.new ≡ C.cells core.old) × (registers.new ≡ registers.old)) }
+{
+    let Registers { a, b, .. } = *registers;
+    if !have_three(core, a, b) {
+        return Err(Check::Address);
+    }
+    let Some(base_a) = base_ending(core, a) else {
+        return Err(Check::Data);
+    };
+    let Some(base_b) = base_ending(core, b) else {
+        return Err(Check::Data);
+    };
+    let tag = core.get(b - 1).zone();
+    put_three(
+        core,
+        b,
+        encode_tagged((base_a + base_b) % LARGEST_SIZE, tag),
+    );
+    lower_by(registers, Counts { a: 3, b: 3 });
+    Ok(())
+}

@@ -1,0 +1,58 @@
+//! Decimal numbers as characters of storage.
+
+ghost use Rattle.std.specs.Prelude.{◌≡◌, ◌+◌, ◌<◌, ◌≤◌, ℕ, length};
+ghost use Rattle.bcd.specs.declared.Zone.{Zone};
+ghost use Rattle.bcd.specs.Table.{zone_of};
+ghost use Rattle.core_store.specs.Storage.{code_at, codes_ending};
+ghost use Rattle.arith.specs.Decimal.{is_number, spelled, digit_value, is_minus_zone, sign_zone, IsSpelled};
+
+use bcd::Zone;
+use core_store::Core;
+
+/// The zone that a sum or a difference gets for its sign.
+#[inline(always)]
+pub fn sign_zone(minus: bool) -> Zone
+    ensures { result ≡ sign_zone minus }
+{
+    if minus { Zone::B } else { Zone::AB }
+}
+
+/// Whether the field whose units stand at a position is minus.
+#[inline(always)]
+pub fn is_minus<C: Core>(core: &C, position: u16) -> bool
+    requires { position < length (C.cells core.now) }
+    ensures { result ≡ is_minus_zone (zone_of (code_at (C.cells core.now) position)) }
+{
+    core.get(position).zone() == Zone::B
+}
+
+/// Whether each of the characters that end at a position has a numeric value.
+#[inline(always)]
+pub fn is_number<C: Core>(core: &C, position: u16, count: u16) -> bool
+    requires within { position < length (C.cells core.now) }
+    requires from { count ≤ position + 1 }
+    ensures { result ≡ is_number (codes_ending (C.cells core.now) position count) }
+{
+    for i in 0..count {
+        if core.get(position - i).digit().is_none() {
+            return false;
+        }
+    }
+    true
+}
+
+/// The numeric value at a position, 0 where it has none.
+#[inline(always)]
+pub fn digit_at<C: Core>(core: &C, position: u16) -> u8
+    requires { position < length (C.cells core.now) }
+    ensures digit { result ≡ digit_value (code_at (C.cells core.now) position) }
+    ensures below { result < 10 }
+{
+    core.get(position).digit().unwrap_or(0)
+}
+
+/// The law of spelled numbers: read again they are the number, as far as its digits have room,
+/// and no position has a zone but the units position.
+pub fn spelled_is_read()
+    ensures { (t k : ℕ) (zone : Zone) → IsSpelled t k zone (spelled t k zone) }
+{}

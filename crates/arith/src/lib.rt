@@ -1,0 +1,26 @@
+//! Arithmetic on fields of storage: add, subtract, zero and add, zero and subtract, compare and
+//! modify address.
+//!
+//! Each operation works at the registers A and B. The B field is the field at B; the A digits are
+//! the cut at A to its length. The contract that the layers above use: the effect on whole
+//! fields, as numbers of any length (`specs/Sums.antt`), by ranks (`specs/Order.antt`), or as
+//! addresses (`specs/Bases.antt`); or the first check that applies, and then nothing is changed.
+//! All is generic over `Core`, and no call takes memory.
+#![tactic(auto)]
+
+mod bases;
+mod decimal;
+mod joining;
+mod operands;
+mod ranks;
+mod sums;
+#[cfg(test)]
+mod tests;
+mod zeros;
+
+pub use bases::modify;
+pub use decimal::spelled_is_read;
+pub use operands::{Counts, counts_are_of_fields};
+pub use ranks::{compare, order_is_by_the_first_difference};
+pub use sums::{add, subtract};
+pub use zeros::{zero_add, zero_subtract};

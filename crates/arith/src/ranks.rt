@@ -1,0 +1,77 @@
+//! Compare, by the ranks of characters.
+
+ghost use Rattle.std.specs.Prelude.{◌≡◌, ◌+◌, ◌<◌, ◌≤◌, ℕ, List, length, OnOk, OnErr, IfErr, Ok, Err};
+ghost use Rattle.bcd.specs.Table.{rank_of};
+ghost use Rattle.core_store.specs.Storage.{code_at, codes_ending};
+ghost use Rattle.arith.specs.Operands.{AreCounts};
+ghost use Rattle.arith.specs.Order.{order, IsOrder, compared, comparison};
+
+use crate::operands::{Counts, counts_at, lower_by};
+use core_store::{Check, Compared, Core, Registers};
+
+/// The rank of the character at a position.
+#[inline(always)]
+fn rank_at<C: Core>(core: &C, position: u16) -> u8
+    requires { position < length (C.cells core.now) }
+    ensures { result ≡ rank_of (code_at (C.cells core.now) position) }
+{
+    core.get(position).rank()
+}
+
+/// How two runs of so many characters stand to each other that end at A and at B.
+#[inline(always)]
+fn order<C: Core>(core: &C, a: u16, b: u16, count: u16) -> Compared
+    requires a_in { a < length (C.cells core.now) }
+    requires b_in { b < length (C.cells core.now) }
+    requires a_from { count ≤ a + 1 }
+    requires b_from { count ≤ b + 1 }
+    ensures { result ≡ order (codes_ending (C.cells core.now) a count) (codes_ending (C.cells core.now) b count) }
+{
+    for left in (0..count).rev() {
+        let rank_a = rank_at(core, a - left);
+        let rank_b = rank_at(core, b - left);
+        if rank_b < rank_a {
+            return Compared::Low;
+        }
+        if rank_a < rank_b {
+            return Compared::High;
+        }
+    }
+    Compared::Equal
+}
+
+/// How the B field stands to the cut at A.
+#[inline(always)]
+fn comparison<C: Core>(core: &C, a: u16, b: u16, counts: Counts) -> Compared
+    requires { AreCounts (C.cells core.now) a b counts.a counts.b }
+    ensures { result ≡ comparison (codes_ending (C.cells core.now) a counts.a) (codes_ending (C.cells core.now) b counts.b) }
+{
+    if counts.a < counts.b {
+        Compared::High
+    } else {
+        order(core, a, b, counts.b)
+    }
+}
+
+/// Compares the cut at A with the B field. Nothing in storage changes.
+#[tactic(auto, unfolding(crate::specs::Order::compared))]
+pub fn compare<C: Core>(core: &mut C, registers: &mut Registers) -> Result<(), Check>
+    ensures done { OnOk result (compared (C.cells core.old) registers.old ≡ Ok (C.cells core.new, registers.new)) }
+    ensures check { IfErr result (λ check. compared (C.cells core.old) registers.old ≡ Err check) }
+    ensures unchanged { OnErr result ((C.cells core.new ≡ C.cells core.old) × (registers.new ≡ registers.old)) }
+{
+    let Registers { a, b, .. } = *registers;
+    let counts = match counts_at(core, a, b) {
+        Ok(counts) => counts,
+        Err(check) => return Err(check),
+    };
+    registers.compare = comparison(core, a, b, counts);
+    lower_by(registers, counts);
+    Ok(())
+}
+
+/// The law of comparison: the first place from the left where the ranks differ decides, and
+/// where there is none the fields are equal.
+pub fn order_is_by_the_first_difference()
+    ensures { (a b : List ℕ) → length a ≡ length b → IsOrder a b (order a b) }
+{}

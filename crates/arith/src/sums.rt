@@ -1,0 +1,80 @@
+//! Add and subtract.
+
+ghost use Rattle.std.specs.Prelude.{◌≡◌, ◌+◌, ◌-◌, ◌<◌, ◌≤◌, ℕ, false, true, length, OnOk, OnErr, IfErr, Ok, Err};
+ghost use Rattle.core_store.specs.Storage.{codes_ending, put_codes};
+ghost use Rattle.arith.specs.Operands.{AreCounts, is_overlapping};
+ghost use Rattle.arith.specs.Sums.{added, sum_codes, sum_overflows};
+
+use crate::decimal::{is_minus, is_number, sign_zone};
+use crate::joining::{Joined, join};
+use crate::operands::{Counts, counts_apart, lower_by};
+use core_store::{Check, Core, Registers};
+
+/// Adds the A digits to the B field.
+pub fn add<C: Core>(core: &mut C, registers: &mut Registers) -> Result<(), Check>
+    ensures done { OnOk result (added false (C.cells core.old) registers.old ≡ Ok (C.cells core.new, registers.new)) }
+    ensures check { IfErr result (λ check. added false (C.cells core.old) registers.old ≡ Err check) }
+    ensures unchanged { OnErr result ((C.cells core.new ≡ C.cells core.old) × (registers.new ≡ registers.old)) }
+{
+    combine(core, registers, false)
+}
+
+/// Subtracts the A digits from the B field.
+pub fn subtract<C: Core>(core: &mut C, registers: &mut Registers) -> Result<(), Check>
+    ensures done { OnOk result (added true (C.cells core.old) registers.old ≡ Ok (C.cells core.new, registers.new)) }
+    ensures check { IfErr result (λ check. added true (C.cells core.old) registers.old ≡ Err check) }
+    ensures unchanged { OnErr result ((C.cells core.new ≡ C.cells core.old) × (registers.new ≡ registers.old)) }
+{
+    combine(core, registers, true)
+}
+
+/// Adds the A digits to the B field, under the opposite sign for a subtraction.
+#[inline(always)]
+#[tactic(auto, unfolding(crate::specs::Sums::added))]
+fn combine<C: Core>(core: &mut C, registers: &mut Registers, reversed: bool) -> Result<(), Check>
+    ensures done { OnOk result (added reversed (C.cells core.old) registers.old ≡ Ok (C.cells core.new, registers.new)) }
+    ensures check { IfErr result (λ check. added reversed (C.cells core.old) registers.old ≡ Err check) }
+    ensures unchanged { OnErr result ((C.cells core.new ≡ C.cells core.old) × (registers.new ≡ registers.old)) }
+{
+    let Registers { a, b, .. } = *registers;
+    let counts = match counts_apart(core, a, b) {
+        Ok(counts) => counts,
+        Err(check) => return Err(check),
+    };
+    if !is_number(core, a, counts.a) {
+        return Err(Check::Data);
+    }
+    if !is_number(core, b, counts.b) {
+        return Err(Check::Data);
+    }
+    let minus_a = is_minus(core, a) != reversed;
+    let overflows = join_signed(core, a, b, counts, minus_a);
+    lower_by(registers, counts);
+    registers.overflow |= overflows;
+    Ok(())
+}
+
+/// Joins the digits by their signs, and says whether the sum overflows.
+fn join_signed<C: Core>(core: &mut C, a: u16, b: u16, counts: Counts, minus_a: bool) -> bool
+    requires counts { AreCounts (C.cells core.old) a b counts.a counts.b }
+    requires apart { is_overlapping a b counts.a ≡ false }
+    ensures codes { C.cells core.new ≡ put_codes (C.cells core.old) (b + 1 - counts.b) (sum_codes minus_a (codes_ending (C.cells core.old) a counts.a) (codes_ending (C.cells core.old) b counts.b)) }
+    ensures overflows { result ≡ sum_overflows minus_a (codes_ending (C.cells core.old) a counts.a) (codes_ending (C.cells core.old) b counts.b) }
+{
+    let minus_b = is_minus(core, b);
+    if minus_a == minus_b {
+        let zone = core.get(b).zone();
+        return join(core, Joined::Sum, a, b, counts, zone);
+    }
+    if !join(core, Joined::Difference, a, b, counts, sign_zone(minus_b)) {
+        join(
+            core,
+            Joined::Complement,
+            a,
+            b,
+            Counts { a: 0, b: counts.b },
+            sign_zone(minus_a),
+        );
+    }
+    false
+}

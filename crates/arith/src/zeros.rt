@@ -1,0 +1,49 @@
+//! Zero and add, zero and subtract.
+
+ghost use Rattle.std.specs.Prelude.{◌≡◌, ℕ, false, true, OnOk, OnErr, IfErr, Ok, Err};
+ghost use Rattle.arith.specs.Sums.{zero_added};
+
+use crate::decimal::{is_minus, is_number, sign_zone};
+use crate::joining::{Joined, join};
+use crate::operands::{counts_apart, lower_by};
+use core_store::{Check, Core, Registers};
+
+/// Fills the B field with the A digits.
+pub fn zero_add<C: Core>(core: &mut C, registers: &mut Registers) -> Result<(), Check>
+    ensures done { OnOk result (zero_added false (C.cells core.old) registers.old ≡ Ok (C.cells core.new, registers.new)) }
+    ensures check { IfErr result (λ check. zero_added false (C.cells core.old) registers.old ≡ Err check) }
+    ensures unchanged { OnErr result ((C.cells core.new ≡ C.cells core.old) × (registers.new ≡ registers.old)) }
+{
+    replace(core, registers, false)
+}
+
+/// Fills the B field with the A digits under the opposite sign.
+pub fn zero_subtract<C: Core>(core: &mut C, registers: &mut Registers) -> Result<(), Check>
+    ensures done { OnOk result (zero_added true (C.cells core.old) registers.old ≡ Ok (C.cells core.new, registers.new)) }
+    ensures check { IfErr result (λ check. zero_added true (C.cells core.old) registers.old ≡ Err check) }
+    ensures unchanged { OnErr result ((C.cells core.new ≡ C.cells core.old) × (registers.new ≡ registers.old)) }
+{
+    replace(core, registers, true)
+}
+
+/// Fills the B field with the A digits, under the opposite sign for a subtraction.
+#[inline(always)]
+#[tactic(auto, unfolding(crate::specs::Sums::zero_added))]
+fn replace<C: Core>(core: &mut C, registers: &mut Registers, reversed: bool) -> Result<(), Check>
+    ensures done { OnOk result (zero_added reversed (C.cells core.old) registers.old ≡ Ok (C.cells core.new, registers.new)) }
+    ensures check { IfErr result (λ check. zero_added reversed (C.cells core.old) registers.old ≡ Err check) }
+    ensures unchanged { OnErr result ((C.cells core.new ≡ C.cells core.old) × (registers.new ≡ registers.old)) }
+{
+    let Registers { a, b, .. } = *registers;
+    let counts = match counts_apart(core, a, b) {
+        Ok(counts) => counts,
+        Err(check) => return Err(check),
+    };
+    if !is_number(core, a, counts.a) {
+        return Err(Check::Data);
+    }
+    let minus_a = is_minus(core, a) != reversed;
+    join(core, Joined::Copy, a, b, counts, sign_zone(minus_a));
+    lower_by(registers, counts);
+    Ok(())
+}
