@@ -29,12 +29,14 @@ pub fn read_switches(number: u32) -> Option<Switches>
     Some(Switches::from_bits_retain(bits))
 }
 
+/// Whether something holds, as a number: 1 where it does, else 0.
 pub fn truth(value: bool) -> u32
     ensures { result ≡ truth value }
 {
     if value { 1 } else { 0 }
 }
 
+/// What `truth` told by a number.
 pub fn read_truth(number: u32) -> Option<bool>
     ensures all { (value : Bool) → number ≡ truth value → result ≡ Some value }
     ensures only { IfSome result (λ value. truth value ≡ number) }
