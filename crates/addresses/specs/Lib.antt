@@ -1,3 +1,4 @@
 pub mod Digits
 pub mod Addresses
 pub mod Effective
+pub mod Stored

@@ -59,6 +59,7 @@ pub fn indexed<C: Core>(core: &C, tagged: Tagged) -> Result<u16, Check>
 pub fn operand<C: Core>(core: &C, first: Code, second: Code, third: Code) -> Result<u16, Check>
     ensures position { result ≡ operand (C.cells core.now) first second third }
     ensures inside { IfOk result (λ position. position < length (C.cells core.now)) }
+    ensures below { IfOk result (λ position. position < LARGEST_SIZE) }
 {
     let base = base(first, second, third);
     let position = match IndexLocation::of_zone(second.zone()) {

@@ -11,6 +11,7 @@
 
 mod digits;
 mod effective;
+mod stored;
 mod tables;
 mod tagged;
 #[cfg(test)]
@@ -19,5 +20,6 @@ mod written;
 
 pub use digits::digit_under;
 pub use effective::{base_ending, indexed, operand};
+pub use stored::{has_three, put_three, store};
 pub use tagged::{IndexLocation, Tagged, decode};
 pub use written::{encode, encode_tagged, written_is_read};

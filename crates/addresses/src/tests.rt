@@ -1,6 +1,6 @@
 //! Worked addresses.
 
-use crate::{IndexLocation, Tagged, decode, encode, indexed, operand};
+use crate::{IndexLocation, Tagged, decode, encode, indexed, operand, store};
 use bcd::Code;
 use core_store::{Check, Core, FlagCore, Size};
 use std::test::Fail;
@@ -103,5 +103,20 @@ fn operands_lie_in_the_storage(rt: HostRuntime) -> Result<(), Fail> {
         let [first, second, third] = three(glyphs)?;
         assert_eq!(rt; operand(&core, first, second, third), position);
     }
+    Ok(())
+}
+
+#[test]
+fn numbers_stored(rt: HostRuntime) -> Result<(), Fail> {
+    let mut core = FlagCore::blank(rt.alloc(), Size::Positions1400)?;
+    assert_eq!(rt; store(&mut core, 500, 15999), Ok(()));
+    for (position, glyph) in [(497, b' '), (498, b'I'), (499, b'9'), (500, b'I')] {
+        if position < core.size() {
+            assert_eq!(rt; core.get(position).glyph(), glyph);
+        }
+    }
+    assert_eq!(rt; store(&mut core, 2, 200), Ok(()));
+    assert_eq!(rt; store(&mut core, 1, 200), Err(Check::Address));
+    assert_eq!(rt; store(&mut core, 1400, 200), Err(Check::Address));
     Ok(())
 }

@@ -1,5 +1,5 @@
 -- pictures in range
-use Rattle.std.proofs.Common.{get_or, ℕ, zero, suc, ◌+◌, ◌-◌, ◌<◌, ◌≤◌, ◌≡◌, Bool, true, false, List, [], ◌∷◌, ◌++◌, length, length-append, ltb, leb, Option, Some, None, IfSome, Result, Ok, Err, unwrap_or, if◌then◌else◌, refl, ◌∙◌, inl, inr, arith}
+use Rattle.std.proofs.Common.{get_or, ℕ, zero, suc, ◌+◌, ◌-◌, ◌%◌, ◌<◌, ◌≤◌, ◌≡◌, Bool, true, false, List, [], ◌∷◌, ◌++◌, length, length-append, ltb, leb, Option, Some, None, IfSome, Result, Ok, Err, unwrap_or, if◌then◌else◌, refl, ◌∙◌, inl, inr, arith}
 use Rattle.std.specs.Prelude.{slice_get, slice_index}
 use Rattle.std.proofs.lemmas.Bool.{ltb-true, leb-true, leb-false}
 use Rattle.std.proofs.lemmas.Option.{slice_get_within}
@@ -11,10 +11,11 @@ use Rattle.core_store.specs.declared.sizes.Size.{Size}
 use Rattle.core_store.specs.declared.sizes.Size.TheVariants.{Positions1400, Positions2000, Positions4000}
 use Rattle.core_store.specs.declared.registers.Registers.{Registers}
 use Rattle.core_store.specs.declared.registers.Check.{Check}
-use Rattle.core_store.specs.declared.registers.Check.TheVariants.{Address, Instruction, ReaderEmpty, PrinterFull}
-use Rattle.machine.specs.declared.addresses.TheConstants.{UNREADABLE}
+use Rattle.core_store.specs.declared.registers.Check.TheVariants.{Address, Data, Instruction, ReaderEmpty, PrinterFull}
 use Rattle.machine.specs.declared.decode.Operation.{Operation}
-use Rattle.machine.specs.declared.decode.Operation.TheVariants.{ClearStorage, SetMark, ClearMark, NoOperation, Read, Print, Move, Load, Halt, Branch}
+use Rattle.machine.specs.declared.decode.Operation.TheVariants.{Add, Subtract, ZeroAdd, ZeroSubtract, Compare, ModifyAddress, ClearStorage, SetMark, ClearMark, NoOperation, Read, Print, Move, Load, Halt, Branch, BranchOnMarkOrZone}
+use Rattle.machine.specs.declared.decode.Modifier.{Modifier}
+use Rattle.machine.specs.declared.decode.Modifier.TheVariants.{Plain, OnCondition, OnCharacter, OnTest}
 use Rattle.machine.specs.declared.decode.Decoded.{Decoded}
 use Rattle.machine.specs.declared.operations.Course.{Course}
 use Rattle.machine.specs.declared.printer.Line.{Line}
@@ -25,16 +26,24 @@ use Rattle.machine.specs.declared.printer.TheConstants.{MOST_LINES, LINES_OF_FOR
 use Rattle.machine.specs.declared.ranges.Place.{Place}
 use Rattle.machine.specs.declared.switches.Switches.{Switches}
 use Rattle.machine.specs.declared.units.Hopper.{Hopper}
-use Rattle.machine.specs.Addresses.{base, address_in}
+use Rattle.addresses.specs.Addresses.{tagged}
+use Rattle.addresses.specs.Effective.{base_ending, effective, operand}
+use Rattle.arith.specs.Operands.{counts_at, counts_apart}
+use Rattle.arith.specs.Sums.{added, zero_added}
+use Rattle.arith.specs.Order.{compared}
+use Rattle.arith.specs.Bases.{modified}
+use Rattle.machine.specs.declared.branches.Condition.{Condition}
+use Rattle.machine.specs.declared.branches.Condition.TheVariants.{Always, IsUnequal, IsEqual, IsLow, IsHigh, Overflow, LastCard, SwitchOn, Channel12}
+use Rattle.machine.specs.Branches.{once_tested}
 use Rattle.machine.specs.Moves.{marks_put, storage_cleared, moved, move_length, field_loaded, lowered, both_lowered, hundred_of, are_inside, has_room}
 use Rattle.machine.specs.Listing.{IsRising, IsAbove}
 use Rattle.machine.specs.Printed.{Printed}
 use Rattle.machine.specs.Units.{card_read, line_printed, after_line, moved_by, spaced, on_next_form}
-use Rattle.machine.specs.Word.{word, operation_of, has_form, is_listed, addresses_in, decoded_of, decoded, operands_of, address_at}
-use Rattle.machine.specs.Effect.{Works, attempt, effect, goes_on, filled, next_of, after_unit}
+use Rattle.machine.specs.Word.{word, operation_of, has_form, modifier_of, addresses_in, decoded_of, decoded, operands_of, operand_at}
+use Rattle.machine.specs.Effect.{Works, attempt, effect, goes_on, filled, next_of, after_unit, after_branch, is_taken, branched, looked_at, passed, passed_by}
 use Rattle.machine.specs.Run.{lines_of, State, step, after, attempted, started, loaded, is_running}
 use Rattle.machine.specs.Ranges.{AreAddresses, AreRising, HasPrinted, HasRead, IsBelow, IsInRange, IsOnForm, carriage_place, line_place, places_then, the_top}
-use Rattle.machine.proofs.Steps.{Each, each_require, each_find, each_then, length-loaded, step_keeps, step_running, step_stopped}
+use Rattle.machine.proofs.Steps.{Each, each_any, each_require, each_find, each_then, length-loaded, step_keeps, step_running, step_stopped}
 
 -- the rest where the test is known to hold
 each_where : {T : Type 0} (P : T → Type 0) (test : Bool) (check : Check) (rest : Result T Check) → (test ≡ true → Each P rest) → Each P (require test check rest)
@@ -52,15 +61,12 @@ some_where Q false found h = tt
 
 -- ---- addresses
 
-read_below : (spelled : Option ℕ) (size : ℕ) → unwrap_or spelled UNREADABLE < size → IfSome spelled (λ p. p < size)
-read_below (Some p) size h = h
-read_below None size h = tt
-
-address_below : (size first second third : ℕ) → IfSome (address_in size first second third) (λ p. p < size)
-unfolding address_in
-address_below size first second third =
-    some_where (λ p. p < size) _ _ (λ _.
-    some_where (λ p. p < size) _ (base first second third) (λ e. read_below (base first second third) size (ltb-true _ size e)))
+operand_below : (s : Storage) (first second third : ℕ) → Each (λ p. p < length s) (operand s first second third)
+unfolding operand
+operand_below s first second third =
+    each_find (λ p. p < length s) (tagged first second third) Address _ (λ address.
+    each_then (λ _. Unit {0}) (λ p. p < length s) (effective s address) _ (each_any (effective s address)) (λ position _.
+    each_where (λ p. p < length s) (ltb position (length s)) Address (Ok position) (λ e. ltb-true position (length s) e)))
 
 -- two operands that are addresses
 abbrev AreBoth : ℕ × ℕ → Type 0
@@ -70,25 +76,25 @@ each_operands : (test : Bool) (operands : ℕ × ℕ) (rest : Result (ℕ × ℕ
 each_operands true operands rest h k = h
 each_operands false operands rest h k = k
 
-operands_below : (size count : ℕ) (r : Registers) (codes : List ℕ) → size ≤ LARGEST_SIZE → AreAddresses r → Each AreBoth (operands_of size count r codes)
+operands_below : (s : Storage) (count : ℕ) (r : Registers) (codes : List ℕ) → length s ≤ LARGEST_SIZE → AreAddresses r → Each AreBoth (operands_of s count r codes)
 unfolding operands_of
-operands_below size count r codes most h =
+operands_below s count r codes most h =
     each_operands _ (r.a, r.b) _ (h.a, h.b)
-    (each_found (λ p. p < size) AreBoth (address_at size codes 1) Address _ (address_below size _ _ _) (λ first f.
+    (each_then (λ p. p < length s) AreBoth (operand_at s codes 1) _ (operand_below s _ _ _) (λ first f.
     each_operands _ (first, first) _ (omega arith, omega arith)
-    (each_found (λ p. p < size) AreBoth (address_at size codes 4) Address (λ second. Ok (first, second)) (address_below size _ _ _) (λ second s. (omega arith, omega arith)))))
+    (each_then (λ p. p < length s) AreBoth (operand_at s codes 4) (λ second. Ok (first, second)) (operand_below s _ _ _) (λ second h2. (omega arith, omega arith)))))
 
 -- an instruction whose operands are addresses
 abbrev WorksAt : Decoded → Type 0
 WorksAt d = (d.a < LARGEST_SIZE) × (d.b < LARGEST_SIZE)
 
-decoded_below : (size count : ℕ) (r : Registers) (codes : List ℕ) → size ≤ LARGEST_SIZE → AreAddresses r → Each WorksAt (decoded_of size count r codes)
+decoded_below : (s : Storage) (count : ℕ) (r : Registers) (codes : List ℕ) → length s ≤ LARGEST_SIZE → AreAddresses r → Each WorksAt (decoded_of s count r codes)
 unfolding decoded_of
-decoded_below size count r codes most h =
+decoded_below s count r codes most h =
     each_find WorksAt (operation_of (slice_index codes 0)) Instruction _ (λ operation.
     each_require WorksAt (has_form operation count) Instruction _
-    (each_require WorksAt (is_listed operation count (slice_index codes (count - 1))) Instruction _
-    (each_then AreBoth WorksAt (operands_of size (addresses_in operation count) r codes) _ (operands_below size (addresses_in operation count) r codes most h)
+    (each_find WorksAt (modifier_of operation count (slice_index codes (count - 1))) Instruction _ (λ modifier.
+    each_then AreBoth WorksAt (operands_of s (addresses_in operation count) r codes) _ (operands_below s (addresses_in operation count) r codes most h)
     (λ operands both. both))))
 
 -- ---- registers
@@ -123,9 +129,58 @@ field_loaded_below s r =
     each_require LeavesBoth (are_inside s r) Address _
     (each_find LeavesBoth (field_length s r.a) Address _ (λ count. put_below (has_room r.a r.b count) _ (both_lowered r count) (lowered_below r count)))
 
+each_below : (a b a_count b_count : ℕ) → ((a + 16000 - a_count) % 16000 < LARGEST_SIZE) × ((b + 16000 - b_count) % 16000 < LARGEST_SIZE)
+each_below a b a_count b_count = (omega arith, omega arith)
+
+added_below : (reversed : Bool) (s : Storage) (r : Registers) → Each LeavesBoth (added reversed s r)
+unfolding added
+added_below reversed s r =
+    each_then (λ _. Unit {0}) LeavesBoth (counts_apart s r.a r.b) _ (each_any (counts_apart s r.a r.b)) (λ counts _.
+    search (each_require, each_below r.a r.b counts.a counts.b))
+
+zero_added_below : (reversed : Bool) (s : Storage) (r : Registers) → Each LeavesBoth (zero_added reversed s r)
+unfolding zero_added
+zero_added_below reversed s r =
+    each_then (λ _. Unit {0}) LeavesBoth (counts_apart s r.a r.b) _ (each_any (counts_apart s r.a r.b)) (λ counts _.
+    search (each_require, each_below r.a r.b counts.a counts.b))
+
+compared_below : (s : Storage) (r : Registers) → Each LeavesBoth (compared s r)
+unfolding compared
+compared_below s r = each_then (λ _. Unit {0}) LeavesBoth (counts_at s r.a r.b) _ (each_any (counts_at s r.a r.b)) (λ counts _. (omega arith, omega arith))
+
+modified_below : (s : Storage) (r : Registers) → Each LeavesBoth (modified s r)
+unfolding modified
+modified_below s r =
+    each_require LeavesBoth _ Address _
+    (each_find LeavesBoth (base_ending s r.a) Data _ (λ a.
+    each_find LeavesBoth (base_ending s r.b) Data _ (λ b. (omega arith, omega arith))))
+
 choice : (test : Bool) (r q : Registers) → AreAddresses r → AreAddresses q → AreAddresses (if test then r else q)
 choice true r q h k = h
 choice false r q h k = k
+
+once_tested_below : (condition : Condition) (r : Registers) → AreAddresses r → AreAddresses (once_tested condition r)
+once_tested_below Overflow r h = record { i = h.i; a = h.a; b = h.b }
+once_tested_below Always r h = h
+once_tested_below IsUnequal r h = h
+once_tested_below IsEqual r h = h
+once_tested_below IsLow r h = h
+once_tested_below IsHigh r h = h
+once_tested_below LastCard r h = h
+once_tested_below (SwitchOn one) r h = h
+once_tested_below Channel12 r h = h
+
+looked_at_below : (modifier : Modifier) (r : Registers) → AreAddresses r → AreAddresses (looked_at modifier r)
+looked_at_below Plain r h = h
+looked_at_below (OnCondition condition) r h = once_tested_below condition r h
+looked_at_below (OnCharacter code) r h = h
+looked_at_below (OnTest test) r h = h
+
+passed_below : (modifier : Modifier) (b old : ℕ) → old < LARGEST_SIZE → passed modifier b old < LARGEST_SIZE
+passed_below Plain b old h = h
+passed_below (OnCondition condition) b old h = h
+passed_below (OnCharacter code) b old h = omega arith
+passed_below (OnTest test) b old h = omega arith
 
 -- ---- the reader
 
@@ -213,8 +268,17 @@ module _ (d : Decoded) (next : ℕ) (w : Works) (at_d : WorksAt d) (at_next : ne
   unit_in_range : AreAddresses (after_unit d next w.registers)
   unit_in_range = choice _ _ _ at_operands (record { i = at_next; a = h.registers.a; b = h.registers.b })
 
+  branch_in_range : AreAddresses (after_branch d next w)
+  branch_in_range = choice _ _ _ (record { i = at_d.0; a = at_d.0; b = at_next }) (record { i = at_next; a = at_d.0; b = passed_below d.modifier d.b (looked_at d.modifier w.registers).b (looked_at_below d.modifier w.registers h.registers).b })
+
   effect_in_range : (operation : Operation) → Each Leaves (effect operation d next w)
   unfolding effect
+  effect_in_range Add = goes_on_in_range _ (added_below false w.storage (filled d w.registers))
+  effect_in_range Subtract = goes_on_in_range _ (added_below true w.storage (filled d w.registers))
+  effect_in_range ZeroAdd = goes_on_in_range _ (zero_added_below false w.storage (filled d w.registers))
+  effect_in_range ZeroSubtract = goes_on_in_range _ (zero_added_below true w.storage (filled d w.registers))
+  effect_in_range Compare = goes_on_in_range _ (compared_below w.storage (filled d w.registers))
+  effect_in_range ModifyAddress = goes_on_in_range _ (modified_below w.storage (filled d w.registers))
   effect_in_range SetMark = goes_on_in_range _ (marks_put_below true w.storage (filled d w.registers))
   effect_in_range ClearMark = goes_on_in_range _ (marks_put_below false w.storage (filled d w.registers))
   effect_in_range Move = goes_on_in_range _ (moved_below w.storage (filled d w.registers))
@@ -226,7 +290,8 @@ module _ (d : Decoded) (next : ℕ) (w : Works) (at_d : WorksAt d) (at_next : ne
         reader = h.reader;
         printer = h.printer;
       })
-  effect_in_range Branch = record { registers = choice _ _ _ at_operands (record { i = at_next; a = at_d.0; b = h.registers.b }); reader = h.reader; printer = h.printer }
+  effect_in_range Branch = record { registers = branch_in_range; reader = h.reader; printer = h.printer }
+  effect_in_range BranchOnMarkOrZone = record { registers = branch_in_range; reader = h.reader; printer = h.printer }
   effect_in_range Read =
       each_then LeavesRead Leaves _ _ (card_read_read w.storage w.units.hopper h.reader) (λ done read.
       record { registers = unit_in_range; reader = read; printer = h.printer })
@@ -246,7 +311,7 @@ unfolding attempt
 attempt_in_range w most h =
     each_require Leaves _ Address _
     (each_find Leaves (word w.storage w.registers.i) Instruction _ (λ codes.
-    each_then WorksAt Leaves (decoded (length w.storage) w.registers codes) _ (decoded_below (length w.storage) (length codes) w.registers codes most h.registers)
+    each_then WorksAt Leaves (decoded w.storage w.registers codes) _ (decoded_below w.storage (length codes) w.registers codes most h.registers)
     (λ d at_d. effect_in_range d (next_of w.registers.i (length codes)) w at_d (omega arith) h d.operation)))
 
 -- ---- whole machines

@@ -1,4 +1,3 @@
-pub mod Spelling
 pub mod Moving
 pub mod Steps
 pub mod Listings

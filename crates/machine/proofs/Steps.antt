@@ -11,9 +11,9 @@ use Rattle.core_store.specs.Checked.{require, find_or, and_then}
 use Rattle.core_store.proofs.Fields.{length-codes_from, length-put_codes, length-put_cells}
 use Rattle.core_store.specs.declared.registers.Registers.{Registers}
 use Rattle.core_store.specs.declared.registers.Check.{Check}
-use Rattle.core_store.specs.declared.registers.Check.TheVariants.{Address, Instruction, ReaderEmpty, PrinterFull}
+use Rattle.core_store.specs.declared.registers.Check.TheVariants.{Address, Data, Instruction, ReaderEmpty, PrinterFull}
 use Rattle.machine.specs.declared.decode.Operation.{Operation}
-use Rattle.machine.specs.declared.decode.Operation.TheVariants.{ClearStorage, SetMark, ClearMark, NoOperation, Read, Print, Move, Load, Halt, Branch}
+use Rattle.machine.specs.declared.decode.Operation.TheVariants.{Add, Subtract, ZeroAdd, ZeroSubtract, Compare, ModifyAddress, ClearStorage, SetMark, ClearMark, NoOperation, Read, Print, Move, Load, Halt, Branch, BranchOnMarkOrZone}
 use Rattle.machine.specs.declared.decode.Decoded.{Decoded}
 use Rattle.machine.specs.declared.operations.Course.{Course}
 use Rattle.machine.specs.declared.parts.Standing.{Standing}
@@ -22,6 +22,11 @@ use Rattle.machine.specs.declared.printer.Line.{Line}
 use Rattle.machine.specs.declared.printer.TheConstants.{MOST_LINES}
 use Rattle.machine.specs.declared.runs.Checkpoint.{Checkpoint}
 use Rattle.machine.specs.declared.units.Hopper.{Hopper}
+use Rattle.arith.specs.Operands.{counts_at, counts_apart}
+use Rattle.arith.specs.Sums.{added, zero_added}
+use Rattle.arith.specs.Order.{compared}
+use Rattle.arith.specs.Bases.{modified}
+use Rattle.addresses.specs.Effective.{base_ending}
 use Rattle.machine.specs.Moves.{marks_put, storage_cleared, moved, move_length, field_loaded, both_lowered, lowered, hundred_of, are_inside, has_room}
 use Rattle.machine.specs.Printed.{Printed}
 use Rattle.machine.specs.Units.{card_read, line_printed, after_line}
@@ -31,22 +36,22 @@ use Rattle.machine.specs.Run.{State, step, after, attempts, executed, attempted,
 
 -- what an attempt does once the instruction is read
 pub attempt_is : (w : Works) (count : ℕ) (d : Decoded) → w.registers.i < length w.storage → Some count ≡ word_length w.storage w.registers.i → w.registers.i + count ≤ length w.storage →
-    Ok d ≡ decoded_of (length w.storage) count w.registers (codes_from w.storage w.registers.i count) → attempt w ≡ effect d.operation d (next_of w.registers.i count) w
+    Ok d ≡ decoded_of w.storage count w.registers (codes_from w.storage w.registers.i count) → attempt w ≡ effect d.operation d (next_of w.registers.i count) w
 unfolding attempt word
 attempt_is w count d inside found within read =
     let long : length (codes_from w.storage w.registers.i count) ≡ count = length-codes_from w.storage w.registers.i count within in
     rw (lt-ltb w.registers.i (length w.storage) inside, ← found)
-    (ap (λ n. and_then (decoded_of (length w.storage) n w.registers (codes_from w.storage w.registers.i count)) (λ e. effect e.operation e (next_of w.registers.i n) w)) long
+    (ap (λ n. and_then (decoded_of w.storage n w.registers (codes_from w.storage w.registers.i count)) (λ e. effect e.operation e (next_of w.registers.i n) w)) long
     ∙ ap (λ r. and_then r (λ e. effect e.operation e (next_of w.registers.i count) w)) (sym read))
 
 -- the same where the instruction cannot be read
 pub attempt_check : (w : Works) (count : ℕ) (check : Check) → w.registers.i < length w.storage → Some count ≡ word_length w.storage w.registers.i → w.registers.i + count ≤ length w.storage →
-    Err check ≡ decoded_of (length w.storage) count w.registers (codes_from w.storage w.registers.i count) → attempt w ≡ Err check
+    Err check ≡ decoded_of w.storage count w.registers (codes_from w.storage w.registers.i count) → attempt w ≡ Err check
 unfolding attempt word
 attempt_check w count check inside found within read =
     let long : length (codes_from w.storage w.registers.i count) ≡ count = length-codes_from w.storage w.registers.i count within in
     rw (lt-ltb w.registers.i (length w.storage) inside, ← found)
-    (ap (λ n. and_then (decoded_of (length w.storage) n w.registers (codes_from w.storage w.registers.i count)) (λ e. effect e.operation e (next_of w.registers.i n) w)) long
+    (ap (λ n. and_then (decoded_of w.storage n w.registers (codes_from w.storage w.registers.i count)) (λ e. effect e.operation e (next_of w.registers.i n) w)) long
     ∙ ap (λ r. and_then r (λ e. effect e.operation e (next_of w.registers.i count) w)) (sym read))
 
 pub step_stopped : (m : State) → is_running m.standing ≡ false → step m ≡ m
@@ -130,7 +135,7 @@ pub each_then : {S T : Type 0} (Q : S → Type 0) (P : T → Type 0) (first : Re
 each_then Q P (Ok x) rest q h = h x q
 each_then Q P (Err check) rest q h = tt
 
-each_any : {T : Type 0} (r : Result T Check) → Each (λ _. Unit {0}) r
+pub each_any : {T : Type 0} (r : Result T Check) → Each (λ _. Unit {0}) r
 each_any (Ok x) = tt
 each_any (Err check) = tt
 
@@ -178,6 +183,29 @@ field_loaded_keeps s r =
     each_require (KeepsSize s) (has_room r.a r.b count) Address
     (Ok (put_cells s (r.b + 1 - count) (cells_ending s r.a count), both_lowered r count)) (length-put_cells s (r.b + 1 - count) (cells_ending s r.a count))))
 
+added_keeps : (reversed : Bool) (s : Storage) (r : Registers) → Each (KeepsSize s) (added reversed s r)
+unfolding added
+added_keeps reversed s r =
+    each_then (λ _. Unit {0}) (KeepsSize s) (counts_apart s r.a r.b) _ (each_any (counts_apart s r.a r.b)) (λ counts _.
+    search (each_require, length-put_codes))
+
+zero_added_keeps : (reversed : Bool) (s : Storage) (r : Registers) → Each (KeepsSize s) (zero_added reversed s r)
+unfolding zero_added
+zero_added_keeps reversed s r =
+    each_then (λ _. Unit {0}) (KeepsSize s) (counts_apart s r.a r.b) _ (each_any (counts_apart s r.a r.b)) (λ counts _.
+    search (each_require, length-put_codes))
+
+compared_keeps : (s : Storage) (r : Registers) → Each (KeepsSize s) (compared s r)
+unfolding compared
+compared_keeps s r = each_then (λ _. Unit {0}) (KeepsSize s) (counts_at s r.a r.b) _ (each_any (counts_at s r.a r.b)) (λ counts _. refl)
+
+modified_keeps : (s : Storage) (r : Registers) → Each (KeepsSize s) (modified s r)
+unfolding modified
+modified_keeps s r =
+    each_require (KeepsSize s) _ Address _
+    (each_find (KeepsSize s) (base_ending s r.a) Data _ (λ a.
+    each_find (KeepsSize s) (base_ending s r.b) Data _ (λ b. length-put_codes s (r.b - 2) _)))
+
 abbrev KeepsDeck : Storage → Hopper → Storage × Hopper → Type 0
 KeepsDeck s h (after_it, left) = (length after_it ≡ length s) × (left.deck ≡ h.deck)
 
@@ -206,6 +234,12 @@ goes_on_keeps next w (Err check) h = tt
 
 effect_keeps : (operation : Operation) (d : Decoded) (next : ℕ) (w : Works) → Each (KeepsBoth w) (effect operation d next w)
 unfolding effect
+effect_keeps Add d next w = goes_on_keeps next w (added false w.storage (filled d w.registers)) (added_keeps false w.storage (filled d w.registers))
+effect_keeps Subtract d next w = goes_on_keeps next w (added true w.storage (filled d w.registers)) (added_keeps true w.storage (filled d w.registers))
+effect_keeps ZeroAdd d next w = goes_on_keeps next w (zero_added false w.storage (filled d w.registers)) (zero_added_keeps false w.storage (filled d w.registers))
+effect_keeps ZeroSubtract d next w = goes_on_keeps next w (zero_added true w.storage (filled d w.registers)) (zero_added_keeps true w.storage (filled d w.registers))
+effect_keeps Compare d next w = goes_on_keeps next w (compared w.storage (filled d w.registers)) (compared_keeps w.storage (filled d w.registers))
+effect_keeps ModifyAddress d next w = goes_on_keeps next w (modified w.storage (filled d w.registers)) (modified_keeps w.storage (filled d w.registers))
 effect_keeps SetMark d next w = goes_on_keeps next w (marks_put true w.storage (filled d w.registers)) (marks_put_keeps true w.storage (filled d w.registers))
 effect_keeps ClearMark d next w = goes_on_keeps next w (marks_put false w.storage (filled d w.registers)) (marks_put_keeps false w.storage (filled d w.registers))
 effect_keeps Move d next w = goes_on_keeps next w (moved w.storage (filled d w.registers)) (moved_keeps w.storage (filled d w.registers))
@@ -214,6 +248,7 @@ effect_keeps ClearStorage d next w =
     each_then (KeepsSize w.storage) (KeepsBoth w) (storage_cleared w.storage (filled d w.registers)) _ (storage_cleared_keeps w.storage (filled d w.registers))
     (λ done h. keeps_units w done.0 _ h)
 effect_keeps Branch d next w = keeps_units w w.storage _ refl
+effect_keeps BranchOnMarkOrZone d next w = keeps_units w w.storage _ refl
 effect_keeps Read d next w =
     each_then (KeepsDeck w.storage w.units.hopper) (KeepsBoth w) (card_read w.storage w.units.hopper) _ (card_read_keeps w.storage w.units.hopper)
     (λ done h. record { size = h.0; deck = h.1; punch = refl; switches = refl; more = ([], sym (append-nil w.units.printer.lines)) })
@@ -228,7 +263,7 @@ unfolding attempt
 attempt_keeps w =
     each_require (KeepsBoth w) _ Address _
     (each_find (KeepsBoth w) (word w.storage w.registers.i) Instruction _ (λ codes.
-    each_then (λ _. Unit {0}) (KeepsBoth w) (decoded (length w.storage) w.registers codes) _ (each_any (decoded (length w.storage) w.registers codes))
+    each_then (λ _. Unit {0}) (KeepsBoth w) (decoded w.storage w.registers codes) _ (each_any (decoded w.storage w.registers codes))
     (λ d _. effect_keeps d.operation d (next_of w.registers.i (length codes)) w)))
 
 -- the storage keeps its size where an attempt went through

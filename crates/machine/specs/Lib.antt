@@ -1,4 +1,5 @@
-pub mod Addresses
+pub mod Glyphs
+pub mod Branches
 pub mod Word
 pub mod Moves
 pub mod Printed

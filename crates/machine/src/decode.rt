@@ -1,36 +1,51 @@
 //! Reading an instruction.
 
-ghost use Rattle.std.specs.Prelude.{◌≡◌, ◌+◌, ◌-◌, ◌<◌, ◌≤◌, ◌==◌, ℕ, length, slice_index, unwrap_or, IfSome, IfOk};
+ghost use Rattle.std.specs.Prelude.{◌≡◌, ◌+◌, ◌-◌, ◌<◌, ◌≤◌, ℕ, length, slice_index, unwrap_or, true, IfSome, IfOk};
 ghost use Rattle.core_store.specs.Storage.{codes_from, least_mark};
-ghost use Rattle.machine.specs.Word.{word_length, operation_of, has_form, is_listed, addresses_in, address_count, address_at, operands_of, decoded_of};
+ghost use Rattle.machine.specs.Word.{word_length, operation_of, has_form, modifier_of, addresses_in, operand_at, operands_of, decoded_of, WantsTwo, LooksInside};
 
-use crate::addresses::address;
+use crate::branches::{Condition, PositionTest};
+use addresses::operand;
 use bcd::Code;
 use core_store::{Check, Core, LARGEST_SIZE, Registers};
 
-/// What an instruction does.
+/// What an instruction does, by its first character.
 #[derive(Clone, Copy, Debug, PartialEq, Eq)]
 pub enum Operation {
-    /// `/`: clear storage, and branch.
-    ClearStorage,
-    /// `,`: set word mark.
-    SetMark,
-    /// `)`: clear word mark.
-    ClearMark,
-    /// `N`: no operation.
-    NoOperation,
-    /// `1`: read a card.
-    Read,
-    /// `2`: print a line.
-    Print,
+    /// `A`: add.
+    Add,
+    /// `S`: subtract.
+    Subtract,
+    /// `?`: zero and add.
+    ZeroAdd,
+    /// `!`: zero and subtract.
+    ZeroSubtract,
+    /// `C`: compare.
+    Compare,
+    /// `#`: modify address.
+    ModifyAddress,
     /// `M`: move characters.
     Move,
     /// `L`: load characters and a word mark.
     Load,
+    /// `,`: set word mark.
+    SetMark,
+    /// `)`: clear word mark.
+    ClearMark,
+    /// `/`: clear storage, and branch.
+    ClearStorage,
+    /// `B`: branch, on a condition or where a character stands at a position.
+    Branch,
+    /// `V`: branch on word mark or zone.
+    BranchOnMarkOrZone,
+    /// `1`: read a card.
+    Read,
+    /// `2`: print a line.
+    Print,
     /// `.`: halt.
     Halt,
-    /// `B`: branch.
-    Branch,
+    /// `N`: no operation.
+    NoOperation,
 }
 
 /// Where an instruction stands: so many characters from a position on.
@@ -38,6 +53,19 @@ pub enum Operation {
 pub struct Word {
     pub first: u16,
     pub length: u16,
+}
+
+/// What the last character of an instruction says.
+#[derive(Clone, Copy, Debug, PartialEq, Eq)]
+pub enum Modifier {
+    /// Nothing: it is the operation itself or belongs to an address.
+    Plain,
+    /// The condition of a branch of five.
+    OnCondition(Condition),
+    /// The character that a branch of eight looks for at its second address.
+    OnCharacter(Code),
+    /// The test that a branch on word mark or zone makes at its second address.
+    OnTest(PositionTest),
 }
 
 /// An instruction that was read: where it works, with the registers where no address stands.
@@ -48,8 +76,7 @@ pub struct Decoded {
     pub length: u16,
     pub a: u16,
     pub b: u16,
-    /// Its last character, which some forms take as a condition.
-    pub last: Code,
+    pub modifier: Modifier,
 }
 
 /// The operation that a character names.
@@ -59,16 +86,23 @@ fn operation_of(code: Code) -> Option<Operation>
     ensures { result ≡ operation_of code }
 {
     match code.glyph() {
-        b'/' => Some(Operation::ClearStorage),
-        b',' => Some(Operation::SetMark),
-        b')' => Some(Operation::ClearMark),
-        b'N' => Some(Operation::NoOperation),
-        b'1' => Some(Operation::Read),
-        b'2' => Some(Operation::Print),
+        b'A' => Some(Operation::Add),
+        b'S' => Some(Operation::Subtract),
+        b'?' => Some(Operation::ZeroAdd),
+        b'!' => Some(Operation::ZeroSubtract),
+        b'C' => Some(Operation::Compare),
+        b'#' => Some(Operation::ModifyAddress),
         b'M' => Some(Operation::Move),
         b'L' => Some(Operation::Load),
-        b'.' => Some(Operation::Halt),
+        b',' => Some(Operation::SetMark),
+        b')' => Some(Operation::ClearMark),
+        b'/' => Some(Operation::ClearStorage),
         b'B' => Some(Operation::Branch),
+        b'V' => Some(Operation::BranchOnMarkOrZone),
+        b'1' => Some(Operation::Read),
+        b'2' => Some(Operation::Print),
+        b'.' => Some(Operation::Halt),
+        b'N' => Some(Operation::NoOperation),
         _ => None,
     }
 }
@@ -81,26 +115,38 @@ impl Operation {
         ensures { result ≡ has_form self count }
     {
         match self {
-            Operation::ClearStorage => count == 1 || count == 4 || count == 7,
+            Operation::Add
+            | Operation::Subtract
+            | Operation::ZeroAdd
+            | Operation::ZeroSubtract
+            | Operation::ClearStorage => count == 1 || count == 4 || count == 7,
+            Operation::Compare | Operation::Move | Operation::Load => count == 1 || count == 7,
+            Operation::ModifyAddress => count == 7,
             Operation::SetMark | Operation::ClearMark => count == 4 || count == 7,
+            Operation::Branch => count == 4 || count == 5 || count == 8,
+            Operation::BranchOnMarkOrZone => count == 8,
+            Operation::Read | Operation::Print | Operation::Halt => count == 1 || count == 4,
             Operation::NoOperation => {
                 count == 1 || count == 2 || count == 4 || count == 5 || count == 7 || count == 8
             }
-            Operation::Read | Operation::Print | Operation::Halt => count == 1 || count == 4,
-            Operation::Move | Operation::Load => count == 1 || count == 7,
-            Operation::Branch => count == 4 || count == 5,
         }
     }
 
-    /// Whether the form lists its last character: a branch of five names its condition.
+    /// What the last character of a form says, or nothing where the form lists none such.
     #[inline(always)]
-    #[tactic(auto, unfolding(crate::specs::Word::is_listed))]
-    fn is_listed(self, count: u16, last: Code) -> bool
-        ensures { result ≡ is_listed self count last }
+    #[tactic(auto, unfolding(crate::specs::Word::modifier_of, crate::specs::Word::addresses_in, crate::specs::Word::has_form))]
+    fn modifier(self, count: u16, last: Code) -> Option<Modifier>
+        requires { has_form self count ≡ true }
+        ensures modifier { result ≡ modifier_of self count last }
+        ensures two { IfSome result (λ modifier. WantsTwo modifier (addresses_in self count)) }
     {
         match self {
-            Operation::Branch if count == 5 => last.glyph() == b' ' || last.glyph() == b'A',
-            _ => true,
+            Operation::Branch if count == 5 => {
+                Some(Modifier::OnCondition(Condition::of_code(last)?))
+            }
+            Operation::Branch if count == 8 => Some(Modifier::OnCharacter(last)),
+            Operation::BranchOnMarkOrZone => Some(Modifier::OnTest(PositionTest::of_code(last)?)),
+            _ => Some(Modifier::Plain),
         }
     }
 
@@ -174,17 +220,18 @@ fn character<C: Core>(core: &C, word: Word, place: u16) -> Code
     core.get(word.first + place)
 }
 
-/// The address that begins at a place of an instruction.
+/// The position that the address from a place of an instruction on stands for.
 #[inline(always)]
-fn address_at<C: Core>(core: &C, word: Word, place: u16) -> Option<u16>
+fn operand_at<C: Core>(core: &C, word: Word, place: u16) -> Result<u16, Check>
     requires within { word.first + word.length ≤ length (C.cells core.now) }
     requires below { word.first < LARGEST_SIZE }
     requires among { place + 3 ≤ word.length }
     requires most { word.length ≤ 8 }
-    ensures address { result ≡ address_at (length (C.cells core.now)) (codes_from (C.cells core.now) word.first word.length) place }
-    ensures inside { IfSome result (λ position. position < length (C.cells core.now)) }
+    ensures position { result ≡ operand_at (C.cells core.now) (codes_from (C.cells core.now) word.first word.length) place }
+    ensures inside { IfOk result (λ position. position < length (C.cells core.now)) }
+    ensures below { IfOk result (λ position. position < LARGEST_SIZE) }
 {
-    address(
+    operand(
         core,
         character(core, word, place),
         character(core, word, place + 1),
@@ -206,20 +253,18 @@ fn operands_of<C: Core>(
     requires one { 0 < count → 4 ≤ word.length }
     requires two { 1 < count → 7 ≤ word.length }
     requires most { word.length ≤ 8 }
-    ensures { result ≡ operands_of (length (C.cells core.now)) count registers.now (codes_from (C.cells core.now) word.first word.length) }
+    ensures operands { result ≡ operands_of (C.cells core.now) count registers.now (codes_from (C.cells core.now) word.first word.length) }
+    ensures inside { IfOk result (λ operands. 1 < count → operands.1 < length (C.cells core.now)) }
+    ensures below { IfOk result (λ operands. 1 < count → operands.1 < LARGEST_SIZE) }
 {
     if count == 0 {
         return Ok((registers.a, registers.b));
     }
-    let Some(first) = address_at(core, word, 1) else {
-        return Err(Check::Address);
-    };
+    let first = operand_at(core, word, 1)?;
     if count == 1 {
         return Ok((first, first));
     }
-    let Some(second) = address_at(core, word, 4) else {
-        return Err(Check::Address);
-    };
+    let second = operand_at(core, word, 4)?;
     Ok((first, second))
 }
 
@@ -231,7 +276,9 @@ pub fn decode<C: Core>(core: &C, registers: &Registers, word: Word) -> Result<De
     requires most { word.length ≤ 8 }
     requires within { word.first + word.length ≤ length (C.cells core.now) }
     requires below { word.first < LARGEST_SIZE }
-    ensures { result ≡ decoded_of (length (C.cells core.now)) word.length registers.now (codes_from (C.cells core.now) word.first word.length) }
+    ensures decoded { result ≡ decoded_of (C.cells core.now) word.length registers.now (codes_from (C.cells core.now) word.first word.length) }
+    ensures inside { IfOk result (λ decoded. LooksInside decoded.modifier decoded.b (length (C.cells core.now))) }
+    ensures below { IfOk result (λ decoded. LooksInside decoded.modifier decoded.b LARGEST_SIZE) }
 {
     let Some(operation) = operation_of(character(core, word, 0)) else {
         return Err(Check::Instruction);
@@ -240,15 +287,15 @@ pub fn decode<C: Core>(core: &C, registers: &Registers, word: Word) -> Result<De
         return Err(Check::Instruction);
     }
     let last = character(core, word, word.length - 1);
-    if !operation.is_listed(word.length, last) {
+    let Some(modifier) = operation.modifier(word.length, last) else {
         return Err(Check::Instruction);
-    }
+    };
     let (a, b) = operands_of(core, registers, word, operation.addresses_in(word.length))?;
     Ok(Decoded {
         operation,
         length: word.length,
         a,
         b,
-        last,
+        modifier,
     })
 }

@@ -6,10 +6,10 @@
 //! All of it is generic over `Core`. Memory is taken by `load`, `from_parts` and
 //! `render`, and by an instruction that prints.
 //!
-//! `addresses`, `moves` and `units` stand on the storage alone and know nothing of the cycle.
+//! `moves` and `units` stand on the storage alone and know nothing of the cycle.
 #![tactic(auto)]
 
-mod addresses;
+mod branches;
 mod cycle;
 mod decode;
 mod listing;
@@ -20,6 +20,8 @@ mod parts;
 mod printer;
 mod ranges;
 mod runs;
+#[cfg(test)]
+mod step_tests;
 mod switches;
 #[cfg(test)]
 mod tests;

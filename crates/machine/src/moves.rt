@@ -11,7 +11,7 @@ use bcd::Code;
 use core_store::{Check, Core, LARGEST_SIZE, Registers};
 
 /// A register so many positions lower, modulo 16000.
-fn lowered(register: u16, count: u16) -> u16
+pub fn lowered(register: u16, count: u16) -> u16
     requires register { register < LARGEST_SIZE }
     requires count { count ≤ LARGEST_SIZE }
     ensures { result ≡ lowered register count }

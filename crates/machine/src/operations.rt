@@ -1,12 +1,13 @@
 //! What the operations do.
 
 ghost use Rattle.std.specs.Prelude.{◌≡◌, ◌+◌, ◌-◌, ◌<◌, ◌≤◌, ◌%◌, ℕ, length, IfOk, IfErr, OnErr, Ok, Err};
-ghost use Rattle.machine.specs.Effect.{effect, GivesUp, works_of, branched, at, after_unit, after_halt, after_clear, after_branch, is_taken, next_of, filled};
+ghost use Rattle.machine.specs.Effect.{effect, GivesUp, works_of, branched, at, after_unit, after_halt, after_clear, after_branch, is_taken, looked_at, passed, passed_by, filled};
+ghost use Rattle.machine.specs.Word.{LooksInside};
 
-use crate::decode::{Decoded, Operation};
-use crate::moves::{clear_mark, clear_storage, load_field, move_field, set_mark};
+use crate::decode::{Decoded, Modifier, Operation};
+use crate::moves::{clear_mark, clear_storage, load_field, lowered, move_field, set_mark};
 use crate::units::{Fault, Units, print_line, read_card};
-use bcd::Code;
+use arith::{add, compare, modify, subtract, zero_add, zero_subtract};
 use core_store::{Check, Core, LARGEST_SIZE, Registers};
 
 /// How an instruction without a check ended.
@@ -75,29 +76,77 @@ fn after_clear(decoded: Decoded, next: u16, registers: Registers) -> Registers
     }
 }
 
-/// Whether a branch is taken: always, or on the last card.
-fn is_taken(length: u16, last: Code, units: &Units) -> bool
-    ensures { result ≡ is_taken length last units.now }
+/// Whether a branch is taken.
+#[inline(always)]
+fn is_taken<C: Core>(
+    core: &C,
+    registers: &Registers,
+    units: &Units,
+    modifier: Modifier,
+    b: u16,
+) -> bool
+    requires { LooksInside modifier b (length (C.cells core.now)) }
+    ensures { result ≡ is_taken modifier b (works_of (C.cells core.now) registers.now units.now) }
 {
-    if length == 5 && last.glyph() == b'A' {
-        units.is_last_card()
-    } else {
-        true
+    match modifier {
+        Modifier::Plain => true,
+        Modifier::OnCondition(condition) => condition.is_met(registers, units),
+        Modifier::OnCharacter(code) => core.get(b).number() == code.number(),
+        Modifier::OnTest(test) => test.passes(core, b),
+    }
+}
+
+/// The registers once a branch has looked whether it is taken.
+fn looked_at(modifier: Modifier, registers: Registers) -> Registers
+    ensures { result ≡ looked_at modifier registers }
+{
+    match modifier {
+        Modifier::OnCondition(condition) => condition.once_tested(registers),
+        _ => registers,
+    }
+}
+
+/// The register B after a branch that is not taken.
+fn passed(modifier: Modifier, b: u16, old: u16) -> u16
+    requires { LooksInside modifier b LARGEST_SIZE }
+    ensures { result ≡ passed modifier b old }
+{
+    match modifier {
+        Modifier::OnCharacter(_) | Modifier::OnTest(_) => lowered(b, 1),
+        _ => old,
+    }
+}
+
+/// The registers after a branch that is not taken.
+fn passed_by(decoded: Decoded, next: u16, registers: Registers) -> Registers
+    requires { LooksInside decoded.modifier decoded.b LARGEST_SIZE }
+    ensures { result ≡ passed_by decoded next registers }
+{
+    Registers {
+        i: next,
+        a: decoded.a,
+        b: passed(decoded.modifier, decoded.b, registers.b),
+        ..registers
     }
 }
 
 /// The registers after a branch.
-fn after_branch(decoded: Decoded, next: u16, registers: Registers, units: &Units) -> Registers
-    ensures { result ≡ after_branch decoded next registers units.now }
+fn after_branch<C: Core>(
+    core: &C,
+    registers: &Registers,
+    units: &Units,
+    decoded: Decoded,
+    next: u16,
+) -> Registers
+    requires inside { LooksInside decoded.modifier decoded.b (length (C.cells core.now)) }
+    requires below { LooksInside decoded.modifier decoded.b LARGEST_SIZE }
+    ensures { result ≡ after_branch decoded next (works_of (C.cells core.now) registers.now units.now) }
 {
-    if is_taken(decoded.length, decoded.last, units) {
-        branched(decoded, next, registers)
+    let looked_at = looked_at(decoded.modifier, *registers);
+    if is_taken(core, registers, units, decoded.modifier, decoded.b) {
+        branched(decoded, next, looked_at)
     } else {
-        Registers {
-            i: next,
-            a: decoded.a,
-            ..registers
-        }
+        passed_by(decoded, next, looked_at)
     }
 }
 
@@ -110,7 +159,9 @@ pub fn execute<C: Core>(
     decoded: Decoded,
     next: u16,
 ) -> Result<Course, Fault>
-    requires { 333 ≤ length (C.cells core.old) }
+    requires size { 333 ≤ length (C.cells core.old) }
+    requires inside { LooksInside decoded.modifier decoded.b (length (C.cells core.old)) }
+    requires below { LooksInside decoded.modifier decoded.b LARGEST_SIZE }
     ensures done { IfOk result (λ course. effect decoded.operation decoded next (works_of (C.cells core.old) registers.old units.old) ≡ Ok (works_of (C.cells core.new) registers.new units.new, course)) }
     ensures refused { IfErr result (λ fault. GivesUp fault (works_of (C.cells core.old) registers.old units.old) (effect decoded.operation decoded next (works_of (C.cells core.old) registers.old units.old))) }
     ensures unchanged { OnErr result (works_of (C.cells core.new) registers.new units.new ≡ works_of (C.cells core.old) registers.old units.old) }
@@ -121,6 +172,12 @@ pub fn execute<C: Core>(
         ..*registers
     };
     let outcome = match decoded.operation {
+        Operation::Add => add(core, &mut filled),
+        Operation::Subtract => subtract(core, &mut filled),
+        Operation::ZeroAdd => zero_add(core, &mut filled),
+        Operation::ZeroSubtract => zero_subtract(core, &mut filled),
+        Operation::Compare => compare(core, &mut filled),
+        Operation::ModifyAddress => modify(core, &mut filled),
         Operation::SetMark => set_mark(core, &mut filled),
         Operation::ClearMark => clear_mark(core, &mut filled),
         Operation::Move => move_field(core, &mut filled),
@@ -132,8 +189,8 @@ pub fn execute<C: Core>(
             *registers = after_clear(decoded, next, filled);
             return Ok(Course::GoesOn);
         }
-        Operation::Branch => {
-            *registers = after_branch(decoded, next, *registers, units);
+        Operation::Branch | Operation::BranchOnMarkOrZone => {
+            *registers = after_branch(core, registers, units, decoded, next);
             return Ok(Course::GoesOn);
         }
         Operation::Read => {

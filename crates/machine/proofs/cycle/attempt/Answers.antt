@@ -7,16 +7,16 @@ pub returns-in-Err-clause-refused : goal.returns-in-Err-clause-refused
 returns-in-Err-clause-refused g c =
     let w = works_of (g.C.Core.cells c.args.core.now) c.args.registers.now c.args.units.now in
     let inside : w.registers.i < length w.storage = omega arith in
-    attempt_check w c.in-Some.count c.in-Err.check inside c.in-Some.ensures.length c.in-Some.ensures.within.2 c.in-Err.ensures
+    attempt_check w c.in-Some.count c.in-Err.check inside c.in-Some.ensures.length c.in-Some.ensures.within.2 c.in-Err.ensures.decoded
 
 pub returns-clause-done : goal.returns-clause-done
 returns-clause-done g c =
     let w = works_of (g.C.Core.cells c.args.core.now) c.args.registers.now c.args.units.now in
     let inside : w.registers.i < length w.storage = omega arith in
-    rw (attempt_is w c.in-Some.count c.in-Ok.decoded inside c.in-Some.ensures.length c.in-Some.ensures.within.2 c.in-Ok.ensures, ← c.next_of.ensures) c.execute.ensures.done
+    rw (attempt_is w c.in-Some.count c.in-Ok.decoded inside c.in-Some.ensures.length c.in-Some.ensures.within.2 c.in-Ok.ensures.decoded, ← c.next_of.ensures) c.execute.ensures.done
 
 pub returns-clause-refused : goal.returns-clause-refused
 returns-clause-refused g c =
     let w = works_of (g.C.Core.cells c.args.core.now) c.args.registers.now c.args.units.now in
     let inside : w.registers.i < length w.storage = omega arith in
-    rw (attempt_is w c.in-Some.count c.in-Ok.decoded inside c.in-Some.ensures.length c.in-Some.ensures.within.2 c.in-Ok.ensures, ← c.next_of.ensures) c.execute.ensures.refused
+    rw (attempt_is w c.in-Some.count c.in-Ok.decoded inside c.in-Some.ensures.length c.in-Some.ensures.within.2 c.in-Ok.ensures.decoded, ← c.next_of.ensures) c.execute.ensures.refused

@@ -1,8 +1,0 @@
-use Rattle.machine.proofs.Spelling.{first_at, first_most}
-use Rattle.machine.proofs.addresses.of_first.Goals as goal
-
-pub returns-clause-entry : goal.returns-clause-entry
-returns-clause-entry c = rw (c.number.ensures.same) (first_at c.args.code (rw c.number.ensures.same at c.number.ensures.below))
-
-pub returns-clause-most : goal.returns-clause-most
-returns-clause-most c = first_most c.number.result c.number.ensures.below

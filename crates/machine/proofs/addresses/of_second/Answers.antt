@@ -1,8 +1,0 @@
-use Rattle.machine.proofs.Spelling.{second_at, second_most}
-use Rattle.machine.proofs.addresses.of_second.Goals as goal
-
-pub returns-clause-entry : goal.returns-clause-entry
-returns-clause-entry c = rw (c.number.ensures.same) (second_at c.args.code (rw c.number.ensures.same at c.number.ensures.below))
-
-pub returns-clause-most : goal.returns-clause-most
-returns-clause-most c = second_most c.number.result c.number.ensures.below

@@ -1,8 +1,0 @@
-use Rattle.machine.proofs.Spelling.{third_at, third_most}
-use Rattle.machine.proofs.addresses.of_third.Goals as goal
-
-pub returns-clause-entry : goal.returns-clause-entry
-returns-clause-entry c = rw (c.number.ensures.same) (third_at c.args.code (rw c.number.ensures.same at c.number.ensures.below))
-
-pub returns-clause-most : goal.returns-clause-most
-returns-clause-most c = third_most c.number.result c.number.ensures.below

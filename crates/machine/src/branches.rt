@@ -1,0 +1,160 @@
+//! What branches ask: a condition of the machine, or something of a position.
+
+ghost use Rattle.std.specs.Prelude.{◌≡◌, ◌<◌, ◌==◌, length};
+ghost use Rattle.bcd.specs.Table.{zone_number};
+ghost use Rattle.machine.specs.Branches.{condition_of, is_met, once_tested, test_of, passes, has_zone};
+
+use crate::switches::Switches;
+use crate::units::Units;
+use bcd::{Code, Zone};
+use bitflags::Flags;
+use core_store::{Compared, Core, Registers};
+
+/// What a branch of five characters asks, by its last character.
+#[derive(Clone, Copy, Debug, PartialEq, Eq)]
+pub enum Condition {
+    /// Blank: nothing.
+    Always,
+    /// `/`: the comparison was not equal.
+    IsUnequal,
+    /// `S`: the comparison was equal.
+    IsEqual,
+    /// `T`: B was low.
+    IsLow,
+    /// `U`: B was high.
+    IsHigh,
+    /// `Z`: a sum was too long for its field. The test turns the indicator off.
+    Overflow,
+    /// `A`: switch A is on and no card is left to read.
+    LastCard,
+    /// `B` to `G`: this switch is on.
+    SwitchOn(Switches),
+    /// `@`: the carriage has passed the hole of channel 12.
+    Channel12,
+}
+
+/// What a branch on word mark or zone asks of a position, by its last character.
+#[derive(Clone, Copy, Debug, PartialEq, Eq)]
+pub enum PositionTest {
+    /// `1`: a word mark.
+    HasMark,
+    /// `2`, `B`, `K`, `S`: a character without zone, or with the zone AB, B or A.
+    HasZone(Zone),
+    /// `3`, `C`, `L`, `T`: the same zones, or a word mark.
+    HasZoneOrMark(Zone),
+}
+
+impl Condition {
+    /// The condition that a character names.
+    #[inline(always)]
+    #[tactic(auto, unfolding(crate::specs::Branches::condition_of))]
+    pub fn of_code(code: Code) -> Option<Condition>
+        ensures { result ≡ condition_of code }
+    {
+        match code.glyph() {
+            b' ' => Some(Condition::Always),
+            b'/' => Some(Condition::IsUnequal),
+            b'S' => Some(Condition::IsEqual),
+            b'T' => Some(Condition::IsLow),
+            b'U' => Some(Condition::IsHigh),
+            b'Z' => Some(Condition::Overflow),
+            b'A' => Some(Condition::LastCard),
+            b'B' => Some(Condition::SwitchOn(Switches::B)),
+            b'C' => Some(Condition::SwitchOn(Switches::C)),
+            b'D' => Some(Condition::SwitchOn(Switches::D)),
+            b'E' => Some(Condition::SwitchOn(Switches::E)),
+            b'F' => Some(Condition::SwitchOn(Switches::F)),
+            b'G' => Some(Condition::SwitchOn(Switches::G)),
+            b'@' => Some(Condition::Channel12),
+            _ => None,
+        }
+    }
+
+    /// Whether it is met.
+    #[tactic(auto, unfolding(crate::specs::Branches::is_met))]
+    pub fn is_met(self, registers: &Registers, units: &Units) -> bool
+        ensures { result ≡ is_met self registers.now units.now }
+    {
+        match self {
+            Condition::Always => true,
+            Condition::IsUnequal => !matches!(registers.compare, Compared::Equal),
+            Condition::IsEqual => matches!(registers.compare, Compared::Equal),
+            Condition::IsLow => matches!(registers.compare, Compared::Low),
+            Condition::IsHigh => matches!(registers.compare, Compared::High),
+            Condition::Overflow => registers.overflow,
+            Condition::LastCard => units.is_last_card(),
+            Condition::SwitchOn(one) => units.switches.contains(one),
+            Condition::Channel12 => units.printer.carriage.channel_12,
+        }
+    }
+
+    /// The registers once it was looked at.
+    pub fn once_tested(self, registers: Registers) -> Registers
+        ensures { result ≡ once_tested self registers }
+    {
+        match self {
+            Condition::Overflow => Registers {
+                overflow: false,
+                ..registers
+            },
+            _ => registers,
+        }
+    }
+}
+
+/// The bits B and A of a zone as a number.
+fn zone_number(zone: Zone) -> u8
+    ensures { result ≡ zone_number zone }
+{
+    match zone {
+        Zone::Bare => 0,
+        Zone::A => 1,
+        Zone::B => 2,
+        Zone::AB => 3,
+    }
+}
+
+/// Whether the character at a position has a zone.
+fn has_zone<C: Core>(core: &C, position: u16, zone: Zone) -> bool
+    requires { position < length (C.cells core.now) }
+    ensures { result ≡ has_zone (C.cells core.now) position zone }
+{
+    zone_number(core.get(position).zone()) == zone_number(zone)
+}
+
+impl PositionTest {
+    /// The test that a character names.
+    #[inline(always)]
+    #[tactic(auto, unfolding(crate::specs::Branches::test_of))]
+    pub fn of_code(code: Code) -> Option<PositionTest>
+        ensures { result ≡ test_of code }
+    {
+        match code.glyph() {
+            b'1' => Some(PositionTest::HasMark),
+            b'2' => Some(PositionTest::HasZone(Zone::Bare)),
+            b'B' => Some(PositionTest::HasZone(Zone::AB)),
+            b'K' => Some(PositionTest::HasZone(Zone::B)),
+            b'S' => Some(PositionTest::HasZone(Zone::A)),
+            b'3' => Some(PositionTest::HasZoneOrMark(Zone::Bare)),
+            b'C' => Some(PositionTest::HasZoneOrMark(Zone::AB)),
+            b'L' => Some(PositionTest::HasZoneOrMark(Zone::B)),
+            b'T' => Some(PositionTest::HasZoneOrMark(Zone::A)),
+            _ => None,
+        }
+    }
+
+    /// Whether a position passes it.
+    #[tactic(auto, unfolding(crate::specs::Branches::passes))]
+    pub fn passes<C: Core>(self, core: &C, position: u16) -> bool
+        requires { position < length (C.cells core.now) }
+        ensures { result ≡ passes self (C.cells core.now) position }
+    {
+        match self {
+            PositionTest::HasMark => core.is_marked(position),
+            PositionTest::HasZone(zone) => has_zone(core, position, zone),
+            PositionTest::HasZoneOrMark(zone) => {
+                has_zone(core, position, zone) || core.is_marked(position)
+            }
+        }
+    }
+}
