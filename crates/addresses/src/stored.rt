@@ -37,6 +37,7 @@ pub fn store<C: Core>(core: &mut C, position: u16, number: u16) -> Result<(), Ch
     ensures done { OnOk result (address_stored (C.cells core.old) position number ≡ Ok (C.cells core.new)) }
     ensures check { IfErr result (λ check. address_stored (C.cells core.old) position number ≡ Err check) }
     ensures unchanged { OnErr result (C.cells core.new ≡ C.cells core.old) }
+    ensures below { OnOk result (position < LARGEST_SIZE) }
 {
     if !has_three(core, position) {
         return Err(Check::Address);

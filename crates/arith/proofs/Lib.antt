@@ -1,7 +1,7 @@
 pub mod Digits
 pub mod Places
 pub mod Numbers
-pub mod Cuts
+pub mod Counted
 pub mod Signs
 pub mod Orders
 pub mod Wholes

@@ -4,14 +4,14 @@ use Rattle.std.proofs.Math.Nat.{pow-le-pow_right, div-one, div-eq_of_lt}
 use Rattle.std.proofs.Math.Decide.{dec_lt}
 use Rattle.std.proofs.lemmas.Bool.{lt-ltb, le-ltb, lt-leb, le-leb}
 use Rattle.std.proofs.lemmas.Nat.{le-div}
-use Rattle.std.proofs.lemmas.Bool.Decides.{nat_tests}
 use Rattle.addresses.specs.Digits.{digit_under}
 use Rattle.bcd.specs.declared.Zone.{Zone}
 use Rattle.bcd.specs.declared.Zone.TheVariants.{Bare}
 use Rattle.core_store.specs.Storage.{Storage, code_at, codes_ending, put, put_codes}
 use Rattle.core_store.proofs.Fields.{codes_ending-none, length-codes_ending, cell-put_codes_below, cell-put_codes_above}
 use Rattle.arith.specs.Decimal.{digit_value, value, spelled}
-use Rattle.arith.specs.Operands.{is_overlapping}
+use Rattle.core_store.specs.Operands.{is_overlapping}
+use Rattle.core_store.proofs.Cuts.{not_overlapping}
 use Rattle.arith.specs.Joining.{amount_of, total_of, joined_total, digit_from}
 use Rattle.arith.specs.declared.joining.Joined.{Joined}
 use Rattle.arith.proofs.Digits.{ten_pos, digit_value_below, value_below, value-codes_ending_more, spelled_more, carry_more, length-spelled, total_more}
@@ -60,9 +60,6 @@ module _ (s : Storage) (p : ℕ) (within : p < length s) where
 -- what is read at B to the left of what was put
 b_read : (s : Storage) (b i : ℕ) (codes : List ℕ) → i ≤ b → code_at (put_codes s (b + 1 - i) codes) (b - i) ≡ code_at s (b - i)
 b_read s b i codes le = ap (λ c. c.0) (cell-put_codes_below s (b + 1 - i) codes (b - i) (omega arith))
-
-not_overlapping : (a b count : ℕ) → is_overlapping a b count ≡ false → (a ≤ b) ⊎ (count ≤ a - b)
-not_overlapping a b count h = grind (arith, nat_tests)
 
 a_read_inside : (s : Storage) (a count b i : ℕ) (codes : List ℕ) → length codes ≡ i → i ≤ b → i < count → count ≤ a + 1 → (a ≤ b) ⊎ (count ≤ a - b) →
     code_at (put_codes s (b + 1 - i) codes) (a - i) ≡ code_at s (a - i)

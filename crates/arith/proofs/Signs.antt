@@ -7,7 +7,8 @@ use Rattle.bcd.specs.Table.{zone_of}
 use Rattle.bcd.specs.declared.Zone.{Zone}
 use Rattle.core_store.specs.Storage.{Storage, code_at, codes_ending, put_codes}
 use Rattle.core_store.proofs.Fields.{length-codes_ending, last-codes_ending, codes_ending-put_codes, put_codes-put_codes, length-put_codes}
-use Rattle.arith.specs.Decimal.{value, spelled, units, is_minus, is_minus_zone, sign_zone}
+use Rattle.arith.specs.Decimal.{value, spelled, units, is_minus, sign_zone}
+use Rattle.core_store.specs.Operands.{is_minus_zone}
 use Rattle.arith.specs.Operands.{AreCounts}
 use Rattle.arith.specs.Sums.{is_same, sum_codes, sum_overflows}
 use Rattle.arith.specs.Joining.{joined_total}

@@ -1,12 +1,13 @@
 -- the operations as wholes
-use Rattle.std.proofs.Common.{◌≡◌, ℕ, ◌+◌, ◌-◌, ◌≤◌, Bool, true, List, [], ◌∷◌, refl, sym, ◌∙◌, ap, arith, length, get_or, not, ◌||◌, if◌then◌else◌, Ok}
+use Rattle.std.proofs.Common.{◌≡◌, ℕ, ◌+◌, ◌-◌, Bool, true, List, sym, ◌∙◌, ap, not, ◌||◌, if◌then◌else◌, Ok}
 use mathlib.Core.Bool.{beq}
 use Rattle.bcd.specs.Table.{zone_of}
 use Rattle.bcd.specs.declared.Zone.{Zone}
-use Rattle.core_store.specs.Storage.{Storage, code_at, codes_ending, put, put_codes}
+use Rattle.core_store.specs.Storage.{Storage, code_at, codes_ending, put_codes}
 use Rattle.core_store.specs.declared.registers.Registers.{Registers}
-use Rattle.arith.specs.Decimal.{value, is_number, is_minus_zone, sign_zone, spelled}
-use Rattle.arith.specs.Operands.{lowered, counts_apart, AreCounts}
+use Rattle.arith.specs.Decimal.{value, is_number, sign_zone, spelled}
+use Rattle.core_store.specs.Operands.{lowered, is_minus_zone}
+use Rattle.arith.specs.Operands.{counts_apart, AreCounts}
 use Rattle.arith.specs.declared.operands.Counts.{Counts}
 use Rattle.arith.specs.Sums.{added, zero_added, sum_codes, sum_overflows, sign_taken}
 use Rattle.arith.specs.Joining.{joined_total}
@@ -48,29 +49,3 @@ module _ (reversed : Bool) (s : Storage) (r : Registers) (counts : Counts) (foun
           ∙ ap (λ z. Ok (put_codes s (r.b + 1 - counts.b) (spelled (value A) counts.b z), record r { a = lowered r.a counts.a; b = lowered r.b counts.b })) (sym sign_is)
           ∙ ap (λ (t : Storage). Ok (t, record r { a = lowered r.a counts.a; b = lowered r.b counts.b })) (sym written)
           ∙ ap (λ (x : Registers). Ok (new, x)) (sym lower))
-
--- ---- three characters
-
-pub three : (codes : List ℕ) (d e f : ℕ) → length codes ≡ 3 → codes ≡ get_or codes 0 d ∷ get_or codes 1 e ∷ get_or codes 2 f ∷ []
-three [] d e f h = absurd (omega arith)
-three (x ∷ []) d e f h = absurd (omega arith)
-three (x ∷ y ∷ []) d e f h = absurd (omega arith)
-three (x ∷ y ∷ z ∷ []) d e f h = refl
-three (x ∷ y ∷ z ∷ w ∷ rest) d e f h = absurd (omega arith)
-
-module _ (s : Storage) (p : ℕ) (codes : List ℕ) (d e f : ℕ) (from : 2 ≤ p) (long : length codes ≡ 3) where
-  put_in_turn : put (put (put s p (get_or codes 2 f)) (p - 1) (get_or codes 1 e)) (p - 2) (get_or codes 0 d) ≡ put_codes s (p - 2) codes
-  unfolding put_codes
-  put_in_turn =
-      let first = get_or codes 0 d in
-      let second = get_or codes 1 e in
-      let third = get_or codes 2 f in
-      let middle : p - 1 ≡ p - 2 + 1 = omega arith in
-      let last : p ≡ p - 2 + 1 + 1 = omega arith in
-      ap (λ n. put (put (put s n third) (p - 1) second) (p - 2) first) last
-      ∙ ap (λ n. put (put (put s (p - 2 + 1 + 1) third) n second) (p - 2) first) middle
-      ∙ ap (put_codes s (p - 2)) (sym (three codes d e f long))
-
-  pub put_three : (one two all : Storage) → one ≡ put s p (get_or codes 2 f) → two ≡ put one (p - 1) (get_or codes 1 e) → all ≡ put two (p - 2) (get_or codes 0 d) → all ≡ put_codes s (p - 2) codes
-  put_three one two all third second first =
-      first ∙ ap (λ t. put t (p - 2) (get_or codes 0 d)) (second ∙ ap (λ t. put t (p - 1) (get_or codes 1 e)) third) ∙ put_in_turn

@@ -1,5 +1,5 @@
 -- how addresses in storage are modified
-use Rattle.std.specs.Prelude.{ℕ, ◌+◌, ◌-◌, ◌%◌, nat_lt, nat_le, length, Bool, ◌&&◌, Result, Ok}
+use Rattle.std.specs.Prelude.{◌+◌, ◌-◌, ◌%◌, ◌&&◌, Result, Ok}
 use Rattle.bcd.specs.Table.{zone_of}
 use Rattle.core_store.specs.Storage.{Storage, code_at, put_codes}
 use Rattle.core_store.specs.Checked.{require, find_or}
@@ -8,11 +8,8 @@ use Rattle.core_store.specs.declared.registers.Check.{Check}
 use Rattle.core_store.specs.declared.registers.Check.TheVariants.{Address, Data}
 use Rattle.addresses.specs.Addresses.{written}
 use Rattle.addresses.specs.Effective.{base_ending}
-use Rattle.arith.specs.Operands.{lowered}
-
--- whether three characters can end at a position
-abbrev pub has_three : Storage → ℕ → Bool
-has_three s p = nat_lt p (length s) && nat_le 2 p
+use Rattle.addresses.specs.Stored.{has_three}
+use Rattle.core_store.specs.Operands.{lowered}
 
 -- the base at A added to the base at B, modulo 16000, and written at B, where the tag is kept
 unfoldable pub modified : Storage → Registers → Result (Storage × Registers) Check

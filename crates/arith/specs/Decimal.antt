@@ -1,8 +1,9 @@
 -- decimal numbers as lists of characters, the highest digit first
-use Rattle.std.specs.Prelude.{◌≡◌, ◌<◌, ◌≤◌, ℕ, zero, suc, ◌+◌, ◌-◌, ◌*◌, ◌/◌, ◌%◌, ◌^◌, ◌==◌, List, [], ◌∷◌, length, Bool, true, false, ◌&&◌, if◌then◌else◌, unwrap_or, is_some, slice_index}
+use Rattle.std.specs.Prelude.{◌≡◌, ◌<◌, ◌≤◌, ℕ, zero, suc, ◌+◌, ◌-◌, ◌*◌, ◌/◌, ◌%◌, ◌^◌, ◌==◌, List, [], ◌∷◌, length, Bool, true, ◌&&◌, if◌then◌else◌, unwrap_or, is_some, slice_index}
 use Rattle.bcd.specs.Table.{digit_of, zone_of}
 use Rattle.bcd.specs.declared.Zone.{Zone}
-use Rattle.bcd.specs.declared.Zone.TheVariants.{Bare, A, B, AB}
+use Rattle.bcd.specs.declared.Zone.TheVariants.{Bare, B, AB}
+use Rattle.core_store.specs.Operands.{is_minus_zone}
 use Rattle.addresses.specs.Digits.{digit_under}
 
 -- the numeric value of a character, 0 where it has none
@@ -22,13 +23,6 @@ value (code ∷ codes) = digit_value code * 10 ^ length codes + value codes
 -- the last character
 abbrev pub units : List ℕ → ℕ
 units codes = slice_index codes (length codes - 1)
-
--- zone B alone
-abbrev pub is_minus_zone : Zone → Bool
-is_minus_zone Bare = false
-is_minus_zone A = false
-is_minus_zone B = true
-is_minus_zone AB = false
 
 -- a field is minus where the zone of its units position is B alone
 abbrev pub is_minus : List ℕ → Bool

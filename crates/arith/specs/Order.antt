@@ -7,7 +7,8 @@ use Rattle.core_store.specs.declared.registers.Registers.{Registers}
 use Rattle.core_store.specs.declared.registers.Check.{Check}
 use Rattle.core_store.specs.declared.registers.Compared.{Compared}
 use Rattle.core_store.specs.declared.registers.Compared.TheVariants.{Equal, Low, High}
-use Rattle.arith.specs.Operands.{lowered, counts_at}
+use Rattle.core_store.specs.Operands.{lowered}
+use Rattle.arith.specs.Operands.{counts_at}
 
 -- how the second of two lists of one length stands to the first: the first place from the left where the ranks differ
 -- decides

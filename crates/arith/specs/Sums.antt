@@ -7,7 +7,8 @@ use Rattle.core_store.specs.declared.registers.Registers.{Registers}
 use Rattle.core_store.specs.declared.registers.Check.{Check}
 use Rattle.core_store.specs.declared.registers.Check.TheVariants.{Data}
 use Rattle.arith.specs.Decimal.{value, is_number, units, is_minus, sign_zone, spelled}
-use Rattle.arith.specs.Operands.{lowered, counts_apart}
+use Rattle.core_store.specs.Operands.{lowered}
+use Rattle.arith.specs.Operands.{counts_apart}
 
 -- whether two signs are one
 abbrev pub is_same : Bool → Bool → Bool

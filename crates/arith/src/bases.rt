@@ -1,12 +1,10 @@
 //! Modify address.
 
 ghost use Rattle.std.specs.Prelude.{◌≡◌, ◌+◌, ◌-◌, ◌<◌, ◌≤◌, ◌&&◌, ℕ, length, IsTrue, OnOk, OnErr, IfErr, Ok, Err};
-ghost use Rattle.core_store.specs.Storage.{put_codes};
-ghost use Rattle.arith.specs.Bases.{has_three, modified};
+ghost use Rattle.addresses.specs.Stored.{has_three};
+ghost use Rattle.arith.specs.Bases.{modified};
 
-use crate::operands::{Counts, lower_by};
-use addresses::{base_ending, encode_tagged};
-use bcd::Code;
+use addresses::{base_ending, encode_tagged, has_three, put_three};
 use core_store::{Check, Core, LARGEST_SIZE, Registers};
 
 /// Whether three characters can end at each of two positions.
@@ -16,20 +14,7 @@ fn have_three<C: Core>(core: &C, a: u16, b: u16) -> bool
     ensures a { IsTrue result → (a < length (C.cells core.now)) × (a < LARGEST_SIZE) × (2 ≤ a) }
     ensures b { IsTrue result → (b < length (C.cells core.now)) × (b < LARGEST_SIZE) × (2 ≤ b) }
 {
-    a < core.size() && a >= 2 && b < core.size() && b >= 2
-}
-
-/// Writes the three characters that end at a position.
-#[inline(always)]
-fn put_three<C: Core>(core: &mut C, position: u16, codes: [Code; 3])
-    requires within { position < length (C.cells core.old) }
-    requires from { 2 ≤ position }
-    ensures { C.cells core.new ≡ put_codes (C.cells core.old) (position - 2) codes }
-{
-    let [first, second, third] = codes;
-    core.put(position, third);
-    core.put(position - 1, second);
-    core.put(position - 2, first);
+    has_three(core, a) && has_three(core, b)
 }
 
 /// Adds the address at A to the address at B, whose tag stays.
@@ -55,6 +40,6 @@ pub fn modify<C: Core>(core: &mut C, registers: &mut Registers) -> Result<(), Ch
         b,
         encode_tagged((base_a + base_b) % LARGEST_SIZE, tag),
     );
-    lower_by(registers, Counts { a: 3, b: 3 });
+    registers.lower(3, 3);
     Ok(())
 }

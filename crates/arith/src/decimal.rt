@@ -2,9 +2,8 @@
 
 ghost use Rattle.std.specs.Prelude.{◌≡◌, ◌+◌, ◌<◌, ◌≤◌, ℕ, length};
 ghost use Rattle.bcd.specs.declared.Zone.{Zone};
-ghost use Rattle.bcd.specs.Table.{zone_of};
 ghost use Rattle.core_store.specs.Storage.{code_at, codes_ending};
-ghost use Rattle.arith.specs.Decimal.{is_number, spelled, digit_value, is_minus_zone, sign_zone, IsSpelled};
+ghost use Rattle.arith.specs.Decimal.{is_number, spelled, digit_value, sign_zone, IsSpelled};
 
 use bcd::Zone;
 use core_store::Core;
@@ -15,15 +14,6 @@ pub fn sign_zone(minus: bool) -> Zone
     ensures { result ≡ sign_zone minus }
 {
     if minus { Zone::B } else { Zone::AB }
-}
-
-/// Whether the field whose units stand at a position is minus.
-#[inline(always)]
-pub fn is_minus<C: Core>(core: &C, position: u16) -> bool
-    requires { position < length (C.cells core.now) }
-    ensures { result ≡ is_minus_zone (zone_of (code_at (C.cells core.now) position)) }
-{
-    core.get(position).zone() == Zone::B
 }
 
 /// Whether each of the characters that end at a position has a numeric value.

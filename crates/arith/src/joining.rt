@@ -4,7 +4,7 @@ ghost use Rattle.std.specs.Prelude.{◌≡◌, ◌+◌, ◌-◌, ◌^◌, ◌<�
 ghost use Rattle.bcd.specs.declared.Zone.TheVariants.{Bare};
 ghost use Rattle.core_store.specs.Storage.{put_codes};
 ghost use Rattle.arith.specs.Decimal.{spelled};
-ghost use Rattle.arith.specs.Operands.{is_overlapping};
+ghost use Rattle.core_store.specs.Operands.{is_overlapping};
 ghost use Rattle.arith.specs.Joining.{amount_of, total_of, joined_total, digit_from};
 
 use crate::decimal::digit_at;

@@ -6,7 +6,7 @@ ghost use Rattle.core_store.specs.Storage.{code_at, codes_ending};
 ghost use Rattle.arith.specs.Operands.{AreCounts};
 ghost use Rattle.arith.specs.Order.{order, IsOrder, compared, comparison};
 
-use crate::operands::{Counts, counts_at, lower_by};
+use crate::operands::{Counts, counts_at};
 use core_store::{Check, Compared, Core, Registers};
 
 /// The rank of the character at a position.
@@ -66,7 +66,7 @@ pub fn compare<C: Core>(core: &mut C, registers: &mut Registers) -> Result<(), C
         Err(check) => return Err(check),
     };
     registers.compare = comparison(core, a, b, counts);
-    lower_by(registers, counts);
+    registers.lower(counts.a, counts.b);
     Ok(())
 }
 

@@ -2,13 +2,14 @@
 
 ghost use Rattle.std.specs.Prelude.{◌≡◌, ◌+◌, ◌-◌, ◌<◌, ◌≤◌, ℕ, false, true, length, OnOk, OnErr, IfErr, Ok, Err};
 ghost use Rattle.core_store.specs.Storage.{codes_ending, put_codes};
-ghost use Rattle.arith.specs.Operands.{AreCounts, is_overlapping};
+ghost use Rattle.core_store.specs.Operands.{is_overlapping};
+ghost use Rattle.arith.specs.Operands.{AreCounts};
 ghost use Rattle.arith.specs.Sums.{added, sum_codes, sum_overflows};
 
-use crate::decimal::{is_minus, is_number, sign_zone};
+use crate::decimal::{is_number, sign_zone};
 use crate::joining::{Joined, join};
-use crate::operands::{Counts, counts_apart, lower_by};
-use core_store::{Check, Core, Registers};
+use crate::operands::{Counts, counts_apart};
+use core_store::{Check, Core, Registers, is_minus};
 
 /// Adds the A digits to the B field.
 pub fn add<C: Core>(core: &mut C, registers: &mut Registers) -> Result<(), Check>
@@ -49,7 +50,7 @@ fn combine<C: Core>(core: &mut C, registers: &mut Registers, reversed: bool) -> 
     }
     let minus_a = is_minus(core, a) != reversed;
     let overflows = join_signed(core, a, b, counts, minus_a);
-    lower_by(registers, counts);
+    registers.lower(counts.a, counts.b);
     registers.overflow |= overflows;
     Ok(())
 }

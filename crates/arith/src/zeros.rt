@@ -3,10 +3,10 @@
 ghost use Rattle.std.specs.Prelude.{◌≡◌, ℕ, false, true, OnOk, OnErr, IfErr, Ok, Err};
 ghost use Rattle.arith.specs.Sums.{zero_added};
 
-use crate::decimal::{is_minus, is_number, sign_zone};
+use crate::decimal::{is_number, sign_zone};
 use crate::joining::{Joined, join};
-use crate::operands::{counts_apart, lower_by};
-use core_store::{Check, Core, Registers};
+use crate::operands::counts_apart;
+use core_store::{Check, Core, Registers, is_minus};
 
 /// Fills the B field with the A digits.
 pub fn zero_add<C: Core>(core: &mut C, registers: &mut Registers) -> Result<(), Check>
@@ -44,6 +44,6 @@ fn replace<C: Core>(core: &mut C, registers: &mut Registers, reversed: bool) -> 
     }
     let minus_a = is_minus(core, a) != reversed;
     join(core, Joined::Copy, a, b, counts, sign_zone(minus_a));
-    lower_by(registers, counts);
+    registers.lower(counts.a, counts.b);
     Ok(())
 }

@@ -1,6 +1,6 @@
 -- what is read after codes were put
-use Rattle.std.proofs.Common.{zero, ◌≡◌, ◌≢◌, ℕ, suc, ◌+◌, ◌-◌, ◌<◌, ◌≤◌, Bool, false, List, [], ◌∷◌, ◌++◌, refl, sym, ◌∙◌, ap, arith, length, get_or, set, take, drop, map, add-one, length-set, get_or-set_same, get_or-set_other}
-use Rattle.std.proofs.lemmas.List.{drop_more, set_past, set-set, set_comm, length-map, length-take, length-drop, drop-set-lt, take_more, map_push, get_or-drop}
+use Rattle.std.proofs.Common.{◌⊎◌, inl, inr, zero, ◌≡◌, ◌≢◌, ℕ, suc, ◌+◌, ◌-◌, ◌<◌, ◌≤◌, Bool, false, List, [], ◌∷◌, ◌++◌, refl, sym, ◌∙◌, ap, arith, length, get_or, set, take, drop, map, add-one, length-set, get_or-set_same, get_or-set_other}
+use Rattle.std.proofs.lemmas.List.{drop_more, set_past, set-set, set_comm, length-map, length-take, length-drop, drop-set-lt, take_more, map_push, get_or-drop, take-map, drop-map, set-get_or}
 use Rattle.std.proofs.Math.Decide.{dec_lt}
 use Rattle.core_store.specs.Storage.{Storage, code_at, is_marked, put, with_mark, put_codes, put_cells, codes_ending, cells_ending, codes_from}
 
@@ -245,3 +245,120 @@ code-codes_from s first (suc count) (suc place) lt h =
     let next : first + 1 + place ≡ first + suc place = omega arith in
     ap (λ xs. get_or xs (suc place) 0) (codes_from_next s first count (omega arith))
     ∙ code-codes_from s (first + 1) count place (omega arith) (omega arith) ∙ ap (code_at s) next
+
+-- ---- both ways to name the codes in a row
+
+pub codes_ending_is_from : (s : Storage) (p count first : ℕ) → first + count ≡ p + 1 → codes_ending s p count ≡ codes_from s first count
+codes_ending_is_from s p count first e = ending_is_from s p count first e ∙ sym (codes_from_is s first count)
+
+pub codes_from-put_codes : (s : Storage) (first : ℕ) (codes : List ℕ) → first + length codes ≤ length s → codes_from (put_codes s first codes) first (length codes) ≡ codes
+codes_from-put_codes s first codes h = codes_from_is (put_codes s first codes) first (length codes) ∙ from-put_codes s first codes h
+
+-- codes put elsewhere are not among those up to a position
+pub codes_ending-put_apart : (s : Storage) (p count first : ℕ) (codes : List ℕ) → p < length s → count ≤ p + 1 → (p < first) ⊎ (first + length codes + count ≤ p + 1) →
+    codes_ending (put_codes s first codes) p count ≡ codes_ending s p count
+codes_ending-put_apart s p zero first codes h le apart = codes_ending-none (put_codes s first codes) p ∙ sym (codes_ending-none s p)
+codes_ending-put_apart s p (suc count) first codes h le apart =
+    let t = put_codes s first codes in
+    let long : length t ≡ length s = length-put_codes s first codes in
+    ap (codes_ending t p) (sym (add-one count))
+    ∙ codes_ending_more t p count (omega arith) (omega arith)
+    ∙ ap (λ c. c ∷ codes_ending t p count) (same apart)
+    ∙ ap (λ xs. code_at s (p - count) ∷ xs) (codes_ending-put_apart s p count first codes h (omega arith) (fewer apart))
+    ∙ sym (codes_ending_more s p count h (omega arith))
+    ∙ ap (codes_ending s p) (add-one count) where
+      same : (p < first) ⊎ (first + length codes + suc count ≤ p + 1) → code_at (put_codes s first codes) (p - count) ≡ code_at s (p - count)
+      same (inl below) = ap (λ c. c.0) (cell-put_codes_below s first codes (p - count) (omega arith))
+      same (inr above) = ap (λ c. c.0) (cell-put_codes_above s first codes (p - count) (omega arith))
+
+      fewer : (p < first) ⊎ (first + length codes + suc count ≤ p + 1) → (p < first) ⊎ (first + length codes + count ≤ p + 1)
+      fewer (inl below) = inl below
+      fewer (inr above) = inr (omega arith)
+
+-- a mark changes no code
+map-with_mark : (s : Storage) (p : ℕ) (m : Bool) → map (λ (cell : ℕ × Bool). cell.0) (with_mark s p m) ≡ map (λ (cell : ℕ × Bool). cell.0) s
+map-with_mark [] p m = refl
+map-with_mark (cell ∷ s) zero m = refl
+map-with_mark (cell ∷ s) (suc p) m = ap (λ xs. cell.0 ∷ xs) (map-with_mark s p m)
+
+pub codes_ending-with_mark : (s : Storage) (q : ℕ) (m : Bool) (p count : ℕ) → codes_ending (with_mark s q m) p count ≡ codes_ending s p count
+unfolding codes_ending
+codes_ending-with_mark s q m p count =
+    let all = λ (t : Storage). map (λ (cell : ℕ × Bool). cell.0) t in
+    let start = p + 1 - count in
+    let many = p + 1 - start in
+    sym (take-map (λ (cell : ℕ × Bool). cell.0) many (drop start (with_mark s q m)) ∙ refl)
+    ∙ ap (take many) (sym (drop-map (λ (cell : ℕ × Bool). cell.0) start (with_mark s q m)) ∙ ap (drop start) (map-with_mark s q m) ∙ drop-map (λ (cell : ℕ × Bool). cell.0) start s)
+    ∙ take-map (λ (cell : ℕ × Bool). cell.0) many (drop start s)
+
+-- ---- putting again
+
+-- another code at one of the places where codes were put
+pub put-put_codes : (s : Storage) (first : ℕ) (codes : List ℕ) (i code : ℕ) → i < length codes → put (put_codes s first codes) (first + i) code ≡ put_codes s first (set codes i code)
+unfolding put_codes
+put-put_codes s first [] i code h = absurd (omega arith)
+put-put_codes s first (c ∷ codes) zero code h =
+    let here : first + 0 ≡ first = omega arith in
+    ap (λ p. put (put (put_codes s (first + 1) codes) first c) p code) here ∙ put-put_same (put_codes s (first + 1) codes) first c code
+put-put_codes s first (c ∷ codes) (suc i) code h =
+    let next : first + suc i ≡ first + 1 + i = omega arith in
+    let ne : first ≢ first + 1 + i = omega arith in
+    ap (λ p. put (put (put_codes s (first + 1) codes) first c) p code) next
+    ∙ put-put_other (put_codes s (first + 1) codes) first (first + 1 + i) c code ne
+    ∙ ap (λ t. put t first c) (put-put_codes s (first + 1) codes i code (omega arith))
+
+put_same : (s : Storage) (p : ℕ) → put s p (code_at s p) ≡ s
+put_same s p = set-get_or s p (0, false)
+
+-- the codes that stand there already
+pub put_codes-codes_from : (s : Storage) (first count : ℕ) → first + count ≤ length s → put_codes s first (codes_from s first count) ≡ s
+unfolding put_codes
+put_codes-codes_from s first zero h = ap (put_codes s first) (codes_from_none s first)
+put_codes-codes_from s first (suc count) h =
+    ap (put_codes s first) (codes_from_next s first count (omega arith))
+    ∙ ap (λ t. put t first (code_at s first)) (put_codes-codes_from s (first + 1) count (omega arith))
+    ∙ put_same s first
+
+-- ---- marks where characters were put
+
+is_marked-put : (s : Storage) (p code q : ℕ) → is_marked (put s p code) q ≡ is_marked s q
+is_marked-put s p code q =
+    elim (dec_lt p q) [
+      | yes after ↦ let ne : q ≢ p = omega arith in ap (λ c. c.1) (cell-put_other s p q code ne)
+      | no upto ↦ elim (dec_lt q p) [
+        | yes before ↦ let ne : q ≢ p = omega arith in ap (λ c. c.1) (cell-put_other s p q code ne)
+        | no from_here ↦ let same : q ≡ p = omega arith in ap (is_marked (put s p code)) same ∙ is_marked-put_same s p code ∙ ap (is_marked s) (sym same)
+      ]
+    ]
+
+pub is_marked-put_codes : (s : Storage) (first : ℕ) (codes : List ℕ) (q : ℕ) → is_marked (put_codes s first codes) q ≡ is_marked s q
+unfolding put_codes
+is_marked-put_codes s first [] q = refl
+is_marked-put_codes s first (code ∷ codes) q = is_marked-put (put_codes s (first + 1) codes) first code q ∙ is_marked-put_codes s (first + 1) codes q
+
+-- ---- a cell of those that were put
+
+pub cell-put_cells : (s : Storage) (first : ℕ) (cells : Storage) (j : ℕ) → j < length cells → first + length cells ≤ length s → get_or (put_cells s first cells) (first + j) (0, false) ≡ get_or cells j (0, false)
+unfolding put_cells
+cell-put_cells s first [] j h le = absurd (omega arith)
+cell-put_cells s first (cell ∷ cells) zero h le =
+    let rest = put_cells s (first + 1) cells in
+    let here : first + 0 ≡ first = omega arith in
+    ap (λ p. get_or (set rest first cell) p (0, false)) here ∙ get_or-set_same rest first cell (0, false) (omega (arith, length-put_cells s (first + 1) cells))
+cell-put_cells s first (cell ∷ cells) (suc j) h le =
+    let rest = put_cells s (first + 1) cells in
+    let next : first + suc j ≡ first + 1 + j = omega arith in
+    let other : first + 1 + j ≢ first = omega arith in
+    ap (λ p. get_or (set rest first cell) p (0, false)) next ∙ get_or-set_other rest first (first + 1 + j) cell (0, false) other
+    ∙ cell-put_cells s (first + 1) cells j (omega arith) (omega arith)
+
+-- the cell at a place from the right of those up to a position
+pub nth-cells_ending : (s : Storage) (p count place j : ℕ) → p < length s → count ≤ p + 1 → place + j + 1 ≡ count → get_or (cells_ending s p count) place (0, false) ≡ get_or s (p - j) (0, false)
+nth-cells_ending s p zero place j h le e = absurd (omega arith)
+nth-cells_ending s p (suc count) zero j h le e =
+    let same : count ≡ j = omega arith in
+    ap (λ n. get_or (cells_ending s p n) 0 (0, false)) (sym (add-one count))
+    ∙ ap (λ xs. get_or xs 0 (0, false)) (cells_ending_more s p count h (omega arith)) ∙ ap (λ n. get_or s (p - n) (0, false)) same
+nth-cells_ending s p (suc count) (suc place) j h le e =
+    ap (λ n. get_or (cells_ending s p n) (suc place) (0, false)) (sym (add-one count))
+    ∙ ap (λ xs. get_or xs (suc place) (0, false)) (cells_ending_more s p count h (omega arith)) ∙ nth-cells_ending s p count place j h (omega arith) (omega arith)

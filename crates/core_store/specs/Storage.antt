@@ -1,5 +1,5 @@
 -- storage as a list of cells, position 0 first: a character and whether it has a word mark
-use Rattle.std.specs.Prelude.{nat_le, unwrap_or, [], ◌∷◌, ℕ, zero, suc, ◌≡◌, ◌+◌, ◌-◌, ◌<◌, ◌≤◌, List, Bool, true, false, if◌then◌else◌, Option, Some, None, slice_index_or, slice_set, slice_range, map, replicate, MatchOption}
+use Rattle.std.specs.Prelude.{[], ◌∷◌, ℕ, zero, suc, ◌≡◌, ◌+◌, ◌-◌, ◌<◌, ◌≤◌, List, Bool, true, false, if◌then◌else◌, Option, Some, None, slice_index_or, slice_set, slice_range, map, replicate, MatchOption}
 use Rattle.std.specs.Option.{option_map}
 use Rattle.core_store.specs.declared.sizes.Size.{Size}
 use Rattle.core_store.specs.declared.sizes.Size.TheVariants.{Positions1400, Positions2000, Positions4000}

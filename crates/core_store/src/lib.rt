@@ -4,9 +4,13 @@
 //! each call is an equation on that list by the words of `specs/Storage.antt`, so all that is
 //! built over a `Core` is proved once for every way of keeping marks. `FlagCore` keeps the list
 //! as it is. After `blank` no call takes memory.
+//!
+//! What operations share stands here too: how far a field or a cut of characters reaches, whether
+//! operands overlap, and how registers are lowered (`specs/Operands.antt`).
 #![tactic(auto)]
 
 mod flags;
+mod operands;
 mod registers;
 mod sizes;
 
@@ -15,7 +19,8 @@ ghost use Rattle.core_store.specs.Storage.{blank_storage, code_at, is_marked, pu
 
 use bcd::Code;
 pub use flags::FlagCore;
-pub use registers::{Check, Compared, Registers};
+pub use operands::{are_inside, cut_length, field_length, is_minus, overlaps};
+pub use registers::{Check, Compared, Registers, lowered};
 pub use sizes::Size;
 use std::alloc::{AllocError, Global};
 

@@ -1,5 +1,10 @@
 //! The registers, and the checks that stop the machine.
 
+ghost use Rattle.std.specs.Prelude.{◌≡◌, ◌<◌, ◌≤◌};
+ghost use Rattle.core_store.specs.Operands.{lowered, lowered_by};
+
+use crate::LARGEST_SIZE;
+
 /// How the last comparison ended, as the second operand, B, compared with the first, A.
 #[derive(Clone, Copy, Debug, PartialEq, Eq)]
 pub enum Compared {
@@ -23,6 +28,31 @@ pub struct Registers {
     pub overflow: bool,
 }
 
+/// A register so many positions lower, modulo 16000.
+#[inline(always)]
+pub fn lowered(register: u16, count: u16) -> u16
+    requires register { register < LARGEST_SIZE }
+    requires count { count ≤ LARGEST_SIZE }
+    ensures { result ≡ lowered register count }
+{
+    (register + LARGEST_SIZE - count) % LARGEST_SIZE
+}
+
+impl Registers {
+    /// Lowers A and B by what was worked on at each.
+    #[inline(always)]
+    pub fn lower(&mut self, a_count: u16, b_count: u16)
+        requires a { self.old.a < LARGEST_SIZE }
+        requires b { self.old.b < LARGEST_SIZE }
+        requires a_count { a_count ≤ LARGEST_SIZE }
+        requires b_count { b_count ≤ LARGEST_SIZE }
+        ensures { self.new ≡ lowered_by self.old a_count b_count }
+    {
+        self.a = lowered(self.a, a_count);
+        self.b = lowered(self.b, b_count);
+    }
+}
+
 /// What stops the machine within an instruction.
 #[derive(Clone, Copy, Debug, PartialEq, Eq)]
 pub enum Check {
@@ -41,4 +71,34 @@ pub enum Check {
     PunchFull,
     /// The printer has made as many lines or forms as it can.
     PrinterFull,
+}
+
+#[cfg(test)]
+mod tests {
+    use super::*;
+    use std::test::Fail;
+
+    #[test]
+    fn registers_are_numbers_modulo_16000(rt: HostRuntime) -> Result<(), Fail> {
+        let mut registers = Registers {
+            i: 400,
+            a: 105,
+            b: 3,
+            compare: Compared::High,
+            overflow: true,
+        };
+        registers.lower(5, 4);
+        assert_eq!(rt;
+            registers,
+            Registers {
+                i: 400,
+                a: 100,
+                b: 15999,
+                compare: Compared::High,
+                overflow: true,
+            }
+        );
+        assert_eq!(rt; lowered(0, 1), 15999);
+        Ok(())
+    }
 }

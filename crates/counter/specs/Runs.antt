@@ -7,8 +7,8 @@ use Rattle.cards.specs.Decks.{IsDeck}
 use Rattle.cards.specs.Faults.{IsFault, out_of_memory}
 use Rattle.cards.specs.Files.{file_of, text_of}
 use Rattle.core_store.specs.declared.sizes.Size.{Size}
-use Rattle.machine.specs.declared.switches.Switches.{Switches}
-use Rattle.machine.specs.Listing.{rendered}
+use Rattle.units.specs.declared.switches.Switches.{Switches}
+use Rattle.units.specs.Listing.{rendered}
 use Rattle.machine.specs.Run.{State, after, lines_of, loaded}
 use Rattle.counter.specs.declared.faults.RunFault.{RunFault}
 use Rattle.counter.specs.declared.faults.RunFault.TheVariants as fault

@@ -2,7 +2,7 @@
 use Rattle.std.specs.Prelude.{ℕ, ◌+◌, ◌<◌, ◌==◌, nat_le, List, [], ◌∷◌, ◌++◌, Option, Some, None, if◌then◌else◌}
 use Rattle.std.specs.Option.{option_and_then}
 use Rattle.std.specs.Int.RustNames.{bit_and}
-use Rattle.machine.specs.declared.Switches.{Switches}
+use Rattle.units.specs.declared.Switches.{Switches}
 
 -- the letter of the switch with this bit, if it is on
 abbrev pub letter_of : ℕ → ℕ → ℕ → List ℕ

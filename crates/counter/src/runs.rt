@@ -14,10 +14,11 @@ use crate::statuses::Status;
 use crate::telling::{put_out, tell_fault};
 use cards::{CardError, CardFault, Deck, read_text};
 use core_store::{FlagCore, Size};
-use machine::{Machine, Meter, Switches, render};
+use machine::{Machine, Meter};
 use std::alloc::{AllocError, Global};
 use std::io;
 use std::io::{ErrorKind, Read, Write};
+use units::{Switches, render};
 
 /// No more of a reader is read: the text of 2,000 cards, and one byte more, which tells that there
 /// are too many.

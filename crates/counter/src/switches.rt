@@ -1,11 +1,11 @@
 //! Sense switches in words.
 
 ghost use Rattle.std.specs.Prelude.{◌≡◌, ◌≢◌, IfSome, IfNone};
-ghost use Rattle.machine.specs.declared.Switches.{Switches};
+ghost use Rattle.units.specs.declared.Switches.{Switches};
 ghost use Rattle.counter.specs.Switches.{AreSeven, letter_bit, risen, text_of};
 
 use bitflags::Flags;
-use machine::Switches;
+use units::Switches;
 
 /// The bit of a letter from A to G.
 fn bit_of(letter: u8) -> Option<u8>

@@ -11,12 +11,12 @@ ghost use Rattle.counter.specs.declared.tasks.Task.{Task};
 use crate::sizes::size_of;
 use crate::switches::switches_of;
 use core_store::Size;
-use machine::Switches;
 use std::alloc::{AllocError, Global};
 use std::error::Error;
 use std::fmt::{Display, Formatter};
 use std::io::ErrorKind;
 use std::{fmt, io};
+use units::Switches;
 use words::{Words, WordsFault};
 
 /// Where a deck's text comes from.

@@ -3,11 +3,11 @@
 use super::*;
 use bitflags::Flags;
 use core_store::Size;
-use machine::Switches;
 use std::alloc::{AllocError, Global};
 use std::io;
 use std::io::{ErrorKind, Read, Write};
 use std::test::Fail;
+use units::Switches;
 
 /// Reads two cards into the print area and prints each, and halts.
 const TWO_LINES: [&str; 6] = [

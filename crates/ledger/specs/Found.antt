@@ -1,7 +1,7 @@
 -- what is found of a job
 use Rattle.std.specs.Prelude.{◌≡◌, List, [], ◌∷◌, Option, Some, None}
 use Rattle.machine.specs.Run.{State}
-use Rattle.machine.specs.declared.switches.Switches.{Switches}
+use Rattle.units.specs.declared.switches.Switches.{Switches}
 use Rattle.pictures.specs.declared.parts.Media.{Media}
 use Rattle.ledger.specs.declared.office.Stretch.{Stretch}
 use Rattle.ledger.specs.declared.reading.Handed.{Handed}

@@ -9,7 +9,7 @@ use Rattle.core_store.specs.declared.sizes.Size.TheVariants.{Positions1400, Posi
 use Rattle.machine.specs.Run.{State, loaded, started, after, attempts, executed, is_running}
 use Rattle.machine.specs.declared.parts.Standing.{Standing}
 use Rattle.machine.specs.declared.parts.Standing.TheVariants.{Running, Halted, Checked}
-use Rattle.machine.specs.declared.switches.Switches.{Switches}
+use Rattle.units.specs.declared.switches.Switches.{Switches}
 use Rattle.pictures.specs.Columns.{deck_bytes}
 use Rattle.ledger.specs.declared.commands.Command.{Command}
 use Rattle.ledger.specs.declared.commands.Command.TheVariants.{Submit, Slice}

@@ -5,7 +5,7 @@ ghost use Rattle.ledger.specs.Numbers.{refusal_number};
 
 use cards::Deck;
 use core_store::Check;
-use machine::Switches;
+use units::Switches;
 
 /// What kind of deck is handed in.
 #[derive(Clone, Copy, Debug, PartialEq, Eq)]

@@ -13,9 +13,10 @@ ghost use Rattle.ledger.specs.New.{IsWhyNot};
 use crate::commands::{Contents, JobStanding, Refusal, Reply};
 use cards::{Card, Deck};
 use core_store::{Core, Size};
-use machine::{Machine, Meter, Standing, Switches, runs_add};
+use machine::{Machine, Meter, Standing, runs_add};
 use std::alloc::{AllocError, Global};
 use std::marker::Model;
+use units::Switches;
 
 /// A customer has at most so many jobs.
 pub const MOST_JOBS: usize = 200;

@@ -17,7 +17,7 @@ ghost use Rattle.ledger.specs.Standing.{StandsIn, HasSwitches, job_cells, stretc
 
 use crate::office::{KeptJob, Stretch};
 use core_store::Core;
-use machine::{Machine, Switches, runs_only_add};
+use machine::{Machine, runs_only_add};
 use pictures::{Media, read_cards, read_deck, read_lines, read_picture, read_switches, read_truth};
 use sqlite::{Alter, Transaction};
 use std::alloc::{AllocError, Global};
@@ -25,6 +25,7 @@ use tables::{
     CardRow, Fault, JobRow, LineRow, PictureRow, StretchRow, find_cards, find_job, find_lines,
     find_picture,
 };
+use units::Switches;
 
 /// The stretch of a row.
 fn read_stretch(row: &StretchRow) -> Option<Stretch>

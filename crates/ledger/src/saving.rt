@@ -22,7 +22,7 @@ use crate::office::{KeptJob, Made};
 use bitflags::Flags;
 use cards::Card;
 use core_store::{Core, Size};
-use machine::{Line, Switches, Units, runs_add, runs_only_add, stays_in_range};
+use machine::{runs_add, runs_only_add, stays_in_range};
 use pictures::{card_bytes, deck_bytes, line_row, picture_row, switches_number, truth};
 use sqlite::{Alter, Transaction};
 use std::alloc::{AllocError, Global};
@@ -30,6 +30,7 @@ use tables::{
     Fault, JobRow, StretchRow, insert_card, insert_job, insert_line, insert_picture,
     insert_stretch, set_granted, set_picture,
 };
+use units::{Line, Switches, Units};
 
 /// No job has more cards or lines than this.
 const MOST_MADE: usize = 20_000;

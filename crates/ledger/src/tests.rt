@@ -4,10 +4,11 @@ use crate::{Bureau, Command, Contents, Fault, JobStanding, Kind, Refusal, Reply}
 use bitflags::Flags;
 use cards::read_text;
 use core_store::Check;
-use machine::{Meter, Switches};
+use machine::Meter;
 use sqlite::{Alter, Connection, MemStore};
 use std::alloc::Global;
 use std::test::Fail;
+use units::Switches;
 
 mod breaking;
 mod refusals;

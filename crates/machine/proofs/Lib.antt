@@ -1,4 +1,2 @@
-pub mod Moving
 pub mod Steps
-pub mod Listings
 pub mod InRange

@@ -1,37 +1,47 @@
 -- steps and whole runs
-use Rattle.std.proofs.Common.{Option, None, ltb, ◌&&◌, take, length-set, append-nil, ◌≡◌, ℕ, zero, suc, ◌+◌, ◌-◌, replicate, get_or, ◌<◌, ◌≤◌, Bool, true, false, List, ◌++◌, [], ◌∷◌, Result, Ok, Err, Some, refl, sym, ◌∙◌, ap, arith, length, length-append, if◌then◌else◌}
+use Rattle.std.proofs.Common.{Some, take, length-set, append_assoc, append-nil, inl, inr, ◌≡◌, ℕ, zero, suc, ◌+◌, ◌-◌, get_or, ◌<◌, ◌≤◌, Bool, true, false, List, ◌++◌, [], ◌∷◌, Result, Ok, Err, refl, sym, ◌∙◌, ap, arith, length, length-append, if◌then◌else◌, ◌&&◌}
 use Rattle.std.proofs.lemmas.Bool.{lt-ltb}
-use Rattle.std.proofs.lemmas.List.{take-append-le, length-replicate}
+use Rattle.std.proofs.lemmas.List.{length-replicate}
 use Rattle.cards.specs.declared.decks.Card.{Card}
-use Rattle.std.specs.Prelude.{slice_get}
-use Rattle.core_store.specs.Storage.{Storage, code_at, codes_from, with_mark, put_codes, put_cells, cells_ending, field_length, blank_cell, blank_storage, positions_of}
+use Rattle.core_store.specs.Storage.{Storage, code_at, codes_from, field_length, with_mark, put_codes, blank_storage, positions_of}
+use Rattle.core_store.specs.Operands.{are_inside, cut_length}
 use Rattle.core_store.specs.declared.sizes.Size.{Size}
 use Rattle.core_store.specs.declared.sizes.Size.TheVariants.{Positions1400, Positions2000, Positions4000}
-use Rattle.core_store.specs.Checked.{require, find_or, and_then}
-use Rattle.core_store.proofs.Fields.{length-codes_from, length-put_codes, length-put_cells}
+use Rattle.core_store.specs.Checked.{and_then}
+use Rattle.core_store.proofs.Fields.{length-codes_from, length-put, length-put_codes, length-put_cells}
 use Rattle.core_store.specs.declared.registers.Registers.{Registers}
 use Rattle.core_store.specs.declared.registers.Check.{Check}
-use Rattle.core_store.specs.declared.registers.Check.TheVariants.{Address, Data, Instruction, ReaderEmpty, PrinterFull}
-use Rattle.machine.specs.declared.decode.Operation.{Operation}
-use Rattle.machine.specs.declared.decode.Operation.TheVariants.{Add, Subtract, ZeroAdd, ZeroSubtract, Compare, ModifyAddress, ClearStorage, SetMark, ClearMark, NoOperation, Read, Print, Move, Load, Halt, Branch, BranchOnMarkOrZone}
-use Rattle.machine.specs.declared.decode.Decoded.{Decoded}
-use Rattle.machine.specs.declared.operations.Course.{Course}
-use Rattle.machine.specs.declared.parts.Standing.{Standing}
-use Rattle.machine.specs.declared.parts.Standing.TheVariants.{Checked}
-use Rattle.machine.specs.declared.printer.Line.{Line}
-use Rattle.machine.specs.declared.printer.TheConstants.{MOST_LINES}
-use Rattle.machine.specs.declared.runs.Checkpoint.{Checkpoint}
-use Rattle.machine.specs.declared.units.Hopper.{Hopper}
+use Rattle.core_store.specs.declared.registers.Check.TheVariants.{Address, Data, Instruction}
+use Rattle.addresses.specs.Effective.{base_ending}
+use Rattle.addresses.specs.Stored.{address_stored}
 use Rattle.arith.specs.Operands.{counts_at, counts_apart}
 use Rattle.arith.specs.Sums.{added, zero_added}
 use Rattle.arith.specs.Order.{compared}
 use Rattle.arith.specs.Bases.{modified}
-use Rattle.addresses.specs.Effective.{base_ending}
-use Rattle.machine.specs.Moves.{marks_put, storage_cleared, moved, move_length, field_loaded, both_lowered, lowered, hundred_of, are_inside, has_room}
-use Rattle.machine.specs.Printed.{Printed}
-use Rattle.machine.specs.Units.{card_read, line_printed, after_line}
+use Rattle.moves.specs.Marks.{marks_put, storage_cleared}
+use Rattle.moves.specs.Moved.{moved, move_length}
+use Rattle.moves.specs.Loaded.{field_loaded}
+use Rattle.moves.specs.Parts.{digit_moved, zone_moved}
+use Rattle.moves.specs.Suppressed.{zeros_suppressed, unmarked}
+use Rattle.moves.specs.Edited.{field_edited}
+use Rattle.units.specs.declared.units.Units.{Units}
+use Rattle.units.specs.Printed.{Printed}
+use Rattle.units.specs.Units.{operated, Makes}
+use Rattle.units.proofs.Outcomes.{Each, each_require, each_find, each_then}
+use Rattle.units.proofs.InRange.{Begins, begins_same, begins_take, Keeps, operated_keeps, carriage_keeps}
+use Rattle.machine.specs.declared.decode.Operation.{Operation}
+use Rattle.machine.specs.declared.decode.Operation.TheVariants.{OnFields, ClearStorage, Branch, BranchOnMarkOrZone, Operate, MoveCarriage, StoreA, StoreB, Halt, NoOperation}
+use Rattle.machine.specs.declared.decode.FieldOperation.{FieldOperation}
+use Rattle.machine.specs.declared.decode.FieldOperation.TheVariants.{Add, Subtract, ZeroAdd, ZeroSubtract, Compare, ModifyAddress, Move, Load, MoveDigit, MoveZone, Suppress, Edit, SetMark, ClearMark}
+use Rattle.machine.specs.declared.decode.Modifier.{Modifier}
+use Rattle.machine.specs.declared.decode.Modifier.TheVariants.{Plain, OnCondition, OnCharacter, OnTest, ByOrder}
+use Rattle.machine.specs.declared.decode.Decoded.{Decoded}
+use Rattle.machine.specs.declared.operations.Course.{Course}
+use Rattle.machine.specs.declared.parts.Standing.{Standing}
+use Rattle.machine.specs.declared.parts.Standing.TheVariants.{Checked}
+use Rattle.machine.specs.declared.runs.Checkpoint.{Checkpoint}
 use Rattle.machine.specs.Word.{word, word_length, decoded, decoded_of}
-use Rattle.machine.specs.Effect.{Works, attempt, effect, goes_on, filled, next_of, Prints}
+use Rattle.machine.specs.Effect.{Works, attempt, effect, filled, next_of, ordered_by, worked}
 use Rattle.machine.specs.Run.{State, step, after, attempts, executed, attempted, is_running, is_checked, risen, standing_after, lines_of, restored, first_card}
 
 -- what an attempt does once the instruction is read
@@ -107,48 +117,47 @@ step_ok m w after_it course same running done = sym (step_running m running ∙ 
 pub step_check : (m : State) (w : Works) (check : Check) → w ≡ m.works → is_running m.standing ≡ true → attempt w ≡ Err check → record m { standing = Checked check } ≡ step m
 step_check m w check same running done = sym (step_running m running ∙ ap (attempted m) (ap attempt (sym same) ∙ done))
 
-printed : (m : State) (w : Works) (outcome : Result (Works × Course) Check) → w ≡ m.works → Prints w outcome → length (lines_of m) < length (lines_of (attempted m outcome))
-printed m w (Ok (after_it, course)) same longer = let e : length w.units.printer.lines ≡ length m.works.units.printer.lines = ap (λ (x : Works). length x.units.printer.lines) same in omega (arith, longer)
-printed m w (Err check) same longer = absurd longer
+-- an outcome by which a card or a line was made
+abbrev pub MakesBy : Works → Result (Works × Course) Check → Type 0
+MakesBy w (Ok done) = Makes w.units done.0.units
+MakesBy w (Err check) = ⊥
 
-pub step_prints : (m : State) (w : Works) → w ≡ m.works → is_running m.standing ≡ true → Prints w (attempt w) → length (lines_of m) < length (lines_of (step m))
-step_prints m w same running prints =
+made : (m : State) (w : Works) (outcome : Result (Works × Course) Check) → w ≡ m.works → MakesBy w outcome → Makes m.works.units (attempted m outcome).works.units
+made m w (Ok done) same makes = rw (← same) makes
+made m w (Err check) same makes = absurd makes
+
+pub step_makes : (m : State) (w : Works) → w ≡ m.works → is_running m.standing ≡ true → MakesBy w (attempt w) → Makes m.works.units (step m).works.units
+step_makes m w same running makes =
     let e : step m ≡ attempted m (attempt w) = step_running m running ∙ ap (λ x. attempted m (attempt x)) (sym same) in
-    rw e (printed m w (attempt w) same prints)
+    rw e (made m w (attempt w) same makes)
 
 -- ---- what each attempt keeps
-
--- a fact of the value where there is no check
-abbrev pub Each : {T : Type 0} → (T → Type 0) → Result T Check → Type 0
-Each P (Ok x) = P x
-Each P (Err check) = Unit {0}
-
-pub each_require : {T : Type 0} (P : T → Type 0) (test : Bool) (check : Check) (rest : Result T Check) → Each P rest → Each P (require test check rest)
-each_require P true check rest h = h
-each_require P false check rest h = tt
-
-pub each_find : {S T : Type 0} (P : T → Type 0) (found : Option S) (check : Check) (rest : S → Result T Check) → ((x : S) → Each P (rest x)) → Each P (find_or found check rest)
-each_find P (Some x) check rest h = h x
-each_find P None check rest h = tt
-
-pub each_then : {S T : Type 0} (Q : S → Type 0) (P : T → Type 0) (first : Result S Check) (rest : S → Result T Check) → Each Q first → ((x : S) → Q x → Each P (rest x)) → Each P (and_then first rest)
-each_then Q P (Ok x) rest q h = h x q
-each_then Q P (Err check) rest q h = tt
 
 pub each_any : {T : Type 0} (r : Result T Check) → Each (λ _. Unit {0}) r
 each_any (Ok x) = tt
 each_any (Err check) = tt
 
--- the storage keeps its size, the deck, the punched cards and the switches stay, and lines are only added
-pub record Keeps (w after_it : Works) : Type 0 where
-  pub size : length after_it.storage ≡ length w.storage
-  pub deck : after_it.units.hopper.deck ≡ w.units.hopper.deck
-  pub punch : after_it.units.punch ≡ w.units.punch
-  pub switches : after_it.units.switches ≡ w.units.switches
-  pub more : (added_lines : List Line) × (after_it.units.printer.lines ≡ w.units.printer.lines ++ added_lines)
+-- the storage keeps its size, the deck and the switches stay, and cards and lines are only added
+abbrev pub KeepsAll : Works → Works → Type 0
+KeepsAll w after_it = Keeps w.storage after_it.storage w.units after_it.units
 
-keeps_units : (w : Works) (s : Storage) (r : Registers) → length s ≡ length w.storage → Keeps w (record w { storage = s; registers = r })
-keeps_units w s r h = record { size = h; deck = refl; punch = refl; switches = refl; more = ([], sym (append-nil w.units.printer.lines)) }
+begins_then : {T : Type 0} (xs ys zs : List T) → Begins xs ys → Begins ys zs → Begins xs zs
+begins_then xs ys zs (more, e) (rest, f) = (more ++ rest, f ∙ ap (λ l. l ++ rest) e ∙ append_assoc xs more rest)
+
+begins_longer : {T : Type 0} (xs ys : List T) → Begins xs ys → length xs ≤ length ys
+begins_longer xs ys (more, e) = let long : length ys ≡ length xs + length more = ap length e ∙ length-append xs more in omega arith
+
+pub keeps_same : (s t : Storage) (u : Units) → length t ≡ length s → Keeps s t u u
+keeps_same s t u size = record { size = size; deck = refl; switches = refl; cards = begins_same u.punch; lines = begins_same u.printer.lines }
+
+pub keeps_then : (s t r : Storage) (u v x : Units) → Keeps s t u v → Keeps t r v x → Keeps s r u x
+keeps_then s t r u v x one two = record {
+  size = two.size ∙ one.size;
+  deck = two.deck ∙ one.deck;
+  switches = two.switches ∙ one.switches;
+  cards = begins_then u.punch v.punch x.punch one.cards two.cards;
+  lines = begins_then u.printer.lines v.printer.lines x.printer.lines one.lines two.lines;
+}
 
 abbrev KeepsSize : Storage → Storage × Registers → Type 0
 KeepsSize s (after_it, r) = length after_it ≡ length s
@@ -156,32 +165,55 @@ KeepsSize s (after_it, r) = length after_it ≡ length s
 marks_put_keeps : (marked : Bool) (s : Storage) (r : Registers) → Each (KeepsSize s) (marks_put marked s r)
 unfolding marks_put
 marks_put_keeps marked s r =
-    each_require (KeepsSize s) (ltb r.a (length s) && ltb r.b (length s)) Address
-    (Ok (with_mark (with_mark s r.a marked) r.b marked, both_lowered r 1))
-    (length-set (with_mark s r.a marked) r.b (code_at (with_mark s r.a marked) r.b, marked) ∙ length-set s r.a (code_at s r.a, marked))
+    search (each_require, length-set (with_mark s r.a marked) r.b (code_at (with_mark s r.a marked) r.b, marked) ∙ length-set s r.a (code_at s r.a, marked))
 
 storage_cleared_keeps : (s : Storage) (r : Registers) → Each (KeepsSize s) (storage_cleared s r)
 unfolding storage_cleared
-storage_cleared_keeps s r =
-    each_require (KeepsSize s) (ltb r.b (length s)) Address
-    (Ok (put_cells s (hundred_of r.b) (replicate (r.b + 1 - hundred_of r.b) blank_cell), record r { b = lowered (hundred_of r.b) 1 }))
-    (length-put_cells s (hundred_of r.b) (replicate (r.b + 1 - hundred_of r.b) blank_cell))
+storage_cleared_keeps s r = search (each_require, length-put_cells)
 
 moved_keeps : (s : Storage) (r : Registers) → Each (KeepsSize s) (moved s r)
 unfolding moved
-moved_keeps s r = each_require (KeepsSize s) _ Address _ (each_find (KeepsSize s) (move_length s r.a r.b) Address _ (λ count. length-put_codes s (r.b + 1 - count) _))
-
-abbrev laid : Storage → Registers → ℕ → Result (Storage × Registers) Check
-laid s r count = require (has_room r.a r.b count) Address (Ok (put_cells s (r.b + 1 - count) (cells_ending s r.a count), both_lowered r count))
+moved_keeps s r =
+    each_require (KeepsSize s) _ Address _
+    (each_find (KeepsSize s) (move_length s r.a r.b) Address _ (λ count. search (each_require, length-put_codes)))
 
 field_loaded_keeps : (s : Storage) (r : Registers) → Each (KeepsSize s) (field_loaded s r)
 unfolding field_loaded
 field_loaded_keeps s r =
-    each_require (KeepsSize s) (are_inside s r) Address
-    (find_or (field_length s r.a) Address (laid s r))
-    (each_find (KeepsSize s) (field_length s r.a) Address (laid s r) (λ count.
-    each_require (KeepsSize s) (has_room r.a r.b count) Address
-    (Ok (put_cells s (r.b + 1 - count) (cells_ending s r.a count), both_lowered r count)) (length-put_cells s (r.b + 1 - count) (cells_ending s r.a count))))
+    each_require (KeepsSize s) (are_inside s r.a r.b) Address _
+    (each_find (KeepsSize s) (field_length s r.a) Address _ (λ count. search (each_require, length-put_cells)))
+
+digit_moved_keeps : (s : Storage) (r : Registers) → Each (KeepsSize s) (digit_moved s r)
+unfolding digit_moved
+digit_moved_keeps s r = search (each_require, length-put)
+
+zone_moved_keeps : (s : Storage) (r : Registers) → Each (KeepsSize s) (zone_moved s r)
+unfolding zone_moved
+zone_moved_keeps s r = search (each_require, length-put)
+
+length-unmarked : (s : Storage) (first count : ℕ) → length (unmarked s first count) ≡ length s
+unfolding unmarked
+length-unmarked s first zero = refl
+length-unmarked s first (suc count) = length-set (unmarked s (first + 1) count) first _ ∙ length-unmarked s (first + 1) count
+
+suppressed_length : (s : Storage) (first count : ℕ) (codes : List ℕ) → length (put_codes (unmarked s first count) first codes) ≡ length s
+suppressed_length s first count codes = length-put_codes (unmarked s first count) first codes ∙ length-unmarked s first count
+
+zeros_suppressed_keeps : (s : Storage) (r : Registers) → Each (KeepsSize s) (zeros_suppressed s r)
+unfolding zeros_suppressed
+zeros_suppressed_keeps s r =
+    each_require (KeepsSize s) (are_inside s r.a r.b) Address _
+    (each_find (KeepsSize s) (field_length s r.a) Address _ (λ count. search (each_require, suppressed_length)))
+
+edited_length : (s : Storage) (first p : ℕ) (codes : List ℕ) (marked : Bool) → length (with_mark (put_codes s first codes) p marked) ≡ length s
+edited_length s first p codes marked = length-set (put_codes s first codes) p (code_at (put_codes s first codes) p, marked) ∙ length-put_codes s first codes
+
+field_edited_keeps : (s : Storage) (r : Registers) → Each (KeepsSize s) (field_edited s r)
+unfolding field_edited
+field_edited_keeps s r =
+    each_require (KeepsSize s) (are_inside s r.a r.b) Address _
+    (each_find (KeepsSize s) (field_length s r.b) Address _ (λ b_count.
+    each_find (KeepsSize s) (cut_length s r.a _) Address _ (λ a_count. search (each_require, edited_length))))
 
 added_keeps : (reversed : Bool) (s : Storage) (r : Registers) → Each (KeepsSize s) (added reversed s r)
 unfolding added
@@ -206,57 +238,60 @@ modified_keeps s r =
     (each_find (KeepsSize s) (base_ending s r.a) Data _ (λ a.
     each_find (KeepsSize s) (base_ending s r.b) Data _ (λ b. length-put_codes s (r.b - 2) _)))
 
-abbrev KeepsDeck : Storage → Hopper → Storage × Hopper → Type 0
-KeepsDeck s h (after_it, left) = (length after_it ≡ length s) × (left.deck ≡ h.deck)
+address_stored_keeps : (s : Storage) (p n : ℕ) → Each (λ t. length t ≡ length s) (address_stored s p n)
+unfolding address_stored
+address_stored_keeps s p n = search (each_require, length-put_codes)
 
-card_read_keeps : (s : Storage) (h : Hopper) → Each (KeepsDeck s h) (card_read s h)
-unfolding card_read
-card_read_keeps s h =
-    each_find (KeepsDeck s h) (slice_get h.deck h.taken) ReaderEmpty (λ (card : Card). Ok (put_codes s 1 card.0, record h { taken = h.taken + 1 }))
-    (λ card. (length-put_codes s 1 card.0, refl))
+worked_keeps : (operation : FieldOperation) (s : Storage) (r : Registers) → Each (KeepsSize s) (worked operation s r)
+unfolding worked
+worked_keeps Add s r = added_keeps false s r
+worked_keeps Subtract s r = added_keeps true s r
+worked_keeps ZeroAdd s r = zero_added_keeps false s r
+worked_keeps ZeroSubtract s r = zero_added_keeps true s r
+worked_keeps Compare s r = compared_keeps s r
+worked_keeps ModifyAddress s r = modified_keeps s r
+worked_keeps Move s r = moved_keeps s r
+worked_keeps Load s r = field_loaded_keeps s r
+worked_keeps MoveDigit s r = digit_moved_keeps s r
+worked_keeps MoveZone s r = zone_moved_keeps s r
+worked_keeps Suppress s r = zeros_suppressed_keeps s r
+worked_keeps Edit s r = field_edited_keeps s r
+worked_keeps SetMark s r = marks_put_keeps true s r
+worked_keeps ClearMark s r = marks_put_keeps false s r
 
-abbrev AddsLines : Printed → Printed → Type 0
-AddsLines p after_it = (added_lines : List Line) × (after_it.lines ≡ p.lines ++ added_lines)
-
-line_printed_keeps : (s : Storage) (p : Printed) → Each (AddsLines p) (line_printed s p)
-unfolding line_printed
-line_printed_keeps s p =
-    each_require (AddsLines p) (ltb (length p.lines) MOST_LINES) PrinterFull _
-    (each_find (AddsLines p) (after_line p.carriage) PrinterFull _ (λ carriage.
-    (record { form = p.carriage.form; line = p.carriage.line; codes = codes_from s 201 132 } ∷ [], refl)))
+ordered_keeps : (modifier : Modifier) (p : Printed) → Each (λ after_it. after_it.lines ≡ p.lines) (ordered_by modifier p)
+ordered_keeps Plain p = refl
+ordered_keeps (OnCondition condition) p = refl
+ordered_keeps (OnCharacter code) p = refl
+ordered_keeps (OnTest test) p = refl
+ordered_keeps (ByOrder order) p = carriage_keeps order p
 
 abbrev KeepsBoth : Works → Works × Course → Type 0
-KeepsBoth w (after_it, course) = Keeps w after_it
-
-goes_on_keeps : (next : ℕ) (w : Works) (r : Result (Storage × Registers) Check) → Each (KeepsSize w.storage) r → Each (KeepsBoth w) (and_then r (goes_on next w))
-goes_on_keeps next w (Ok (s, r)) h = keeps_units w s (record r { i = next }) h
-goes_on_keeps next w (Err check) h = tt
+KeepsBoth w (after_it, course) = KeepsAll w after_it
 
 effect_keeps : (operation : Operation) (d : Decoded) (next : ℕ) (w : Works) → Each (KeepsBoth w) (effect operation d next w)
 unfolding effect
-effect_keeps Add d next w = goes_on_keeps next w (added false w.storage (filled d w.registers)) (added_keeps false w.storage (filled d w.registers))
-effect_keeps Subtract d next w = goes_on_keeps next w (added true w.storage (filled d w.registers)) (added_keeps true w.storage (filled d w.registers))
-effect_keeps ZeroAdd d next w = goes_on_keeps next w (zero_added false w.storage (filled d w.registers)) (zero_added_keeps false w.storage (filled d w.registers))
-effect_keeps ZeroSubtract d next w = goes_on_keeps next w (zero_added true w.storage (filled d w.registers)) (zero_added_keeps true w.storage (filled d w.registers))
-effect_keeps Compare d next w = goes_on_keeps next w (compared w.storage (filled d w.registers)) (compared_keeps w.storage (filled d w.registers))
-effect_keeps ModifyAddress d next w = goes_on_keeps next w (modified w.storage (filled d w.registers)) (modified_keeps w.storage (filled d w.registers))
-effect_keeps SetMark d next w = goes_on_keeps next w (marks_put true w.storage (filled d w.registers)) (marks_put_keeps true w.storage (filled d w.registers))
-effect_keeps ClearMark d next w = goes_on_keeps next w (marks_put false w.storage (filled d w.registers)) (marks_put_keeps false w.storage (filled d w.registers))
-effect_keeps Move d next w = goes_on_keeps next w (moved w.storage (filled d w.registers)) (moved_keeps w.storage (filled d w.registers))
-effect_keeps Load d next w = goes_on_keeps next w (field_loaded w.storage (filled d w.registers)) (field_loaded_keeps w.storage (filled d w.registers))
+effect_keeps (OnFields operation) d next w =
+    each_then (KeepsSize w.storage) (KeepsBoth w) (worked operation w.storage (filled d w.registers)) _ (worked_keeps operation w.storage (filled d w.registers))
+    (λ done h. keeps_same w.storage done.0 w.units h)
 effect_keeps ClearStorage d next w =
     each_then (KeepsSize w.storage) (KeepsBoth w) (storage_cleared w.storage (filled d w.registers)) _ (storage_cleared_keeps w.storage (filled d w.registers))
-    (λ done h. keeps_units w done.0 _ h)
-effect_keeps Branch d next w = keeps_units w w.storage _ refl
-effect_keeps BranchOnMarkOrZone d next w = keeps_units w w.storage _ refl
-effect_keeps Read d next w =
-    each_then (KeepsDeck w.storage w.units.hopper) (KeepsBoth w) (card_read w.storage w.units.hopper) _ (card_read_keeps w.storage w.units.hopper)
-    (λ done h. record { size = h.0; deck = h.1; punch = refl; switches = refl; more = ([], sym (append-nil w.units.printer.lines)) })
-effect_keeps Print d next w =
-    each_then (AddsLines w.units.printer) (KeepsBoth w) (line_printed w.storage w.units.printer) _ (line_printed_keeps w.storage w.units.printer)
-    (λ printed_lines h. record { size = refl; deck = refl; punch = refl; switches = refl; more = h })
-effect_keeps NoOperation d next w = keeps_units w w.storage _ refl
-effect_keeps Halt d next w = keeps_units w w.storage _ refl
+    (λ done h. keeps_same w.storage done.0 w.units h)
+effect_keeps Branch d next w = keeps_same w.storage w.storage w.units refl
+effect_keeps BranchOnMarkOrZone d next w = keeps_same w.storage w.storage w.units refl
+effect_keeps (Operate devices) d next w =
+    each_then (λ done. Keeps w.storage done.0 w.units done.1) (KeepsBoth w) (operated devices w.storage w.units) _ (operated_keeps devices w.storage w.units) (λ done h. h)
+effect_keeps MoveCarriage d next w =
+    each_then (λ after_it. after_it.lines ≡ w.units.printer.lines) (KeepsBoth w) (ordered_by d.modifier w.units.printer) _ (ordered_keeps d.modifier w.units.printer) (λ p h.
+    record { size = refl; deck = refl; switches = refl; cards = begins_same w.units.punch; lines = ([], h ∙ sym (append-nil w.units.printer.lines)) })
+effect_keeps StoreA d next w =
+    each_then (λ t. length t ≡ length w.storage) (KeepsBoth w) (address_stored w.storage d.a w.registers.a) _ (address_stored_keeps w.storage d.a w.registers.a)
+    (λ t h. keeps_same w.storage t w.units h)
+effect_keeps StoreB d next w =
+    each_then (λ t. length t ≡ length w.storage) (KeepsBoth w) (address_stored w.storage d.a w.registers.b) _ (address_stored_keeps w.storage d.a w.registers.b)
+    (λ t h. keeps_same w.storage t w.units h)
+effect_keeps Halt d next w = keeps_same w.storage w.storage w.units refl
+effect_keeps NoOperation d next w = keeps_same w.storage w.storage w.units refl
 
 attempt_keeps : (w : Works) → Each (KeepsBoth w) (attempt w)
 unfolding attempt
@@ -271,69 +306,45 @@ pub attempt_size : (w after_it : Works) (course : Course) → attempt w ≡ Ok (
 attempt_size w after_it course done =
     let keeps : Each (KeepsBoth w) (Ok (after_it, course)) = rw done at (attempt_keeps w) in keeps.size
 
-keeps_same : (w : Works) → Keeps w w
-keeps_same w = record { size = refl; deck = refl; punch = refl; switches = refl; more = ([], sym (append-nil w.units.printer.lines)) }
-
-attempted_keeps : (m : State) (outcome : Result (Works × Course) Check) → Each (KeepsBoth m.works) outcome → Keeps m.works (attempted m outcome).works
+attempted_keeps : (m : State) (outcome : Result (Works × Course) Check) → Each (KeepsBoth m.works) outcome → KeepsAll m.works (attempted m outcome).works
 attempted_keeps m (Ok (works, course)) h = h
-attempted_keeps m (Err check) h = keeps_same m.works
+attempted_keeps m (Err check) h = keeps_same m.works.storage m.works.storage m.works.units refl
 
-step_keeps_if : (m : State) (running : Bool) → is_running m.standing ≡ running → Keeps m.works (step m).works
+step_keeps_if : (m : State) (running : Bool) → is_running m.standing ≡ running → KeepsAll m.works (step m).works
 step_keeps_if m true h = rw (step_running m h) (attempted_keeps m (attempt m.works) (attempt_keeps m.works))
-step_keeps_if m false h = rw (step_stopped m h) (keeps_same m.works)
-
-pub step_keeps : (m : State) → Keeps m.works (step m).works
-step_keeps m = step_keeps_if m (is_running m.standing) refl
-
-pub step_longer : (m : State) → length (lines_of m) ≤ length (lines_of (step m))
-step_longer m =
-    let keeps = step_keeps m in
-    let e : length (lines_of (step m)) ≡ length (lines_of m) + length keeps.more.0 = ap length keeps.more.1 ∙ length-append (lines_of m) keeps.more.0 in
-    omega arith
-
-pub after_longer : (m : State) (count : ℕ) → length (lines_of m) ≤ length (lines_of (after m count))
-unfolding after
-after_longer m zero = omega arith
-after_longer m (suc count) =
-    let one : length (lines_of m) ≤ length (lines_of (step m)) = step_longer m in
-    let rest : length (lines_of (step m)) ≤ length (lines_of (after (step m) count)) = after_longer (step m) count in
-    omega arith
+step_keeps_if m false h = rw (step_stopped m h) (keeps_same m.works.storage m.works.storage m.works.units refl)
 
 -- what a machine that was run from another has kept of it
-pub record Stems (old now : State) : Type 0 where
-  pub size : length now.works.storage ≡ length old.works.storage
-  pub deck : now.works.units.hopper.deck ≡ old.works.units.hopper.deck
-  pub punch : now.works.units.punch ≡ old.works.units.punch
-  pub switches : now.works.units.switches ≡ old.works.units.switches
-  pub longer : length (lines_of old) ≤ length (lines_of now)
-  pub begins : take (length (lines_of old)) (lines_of now) ≡ lines_of old
+abbrev pub Stems : State → State → Type 0
+Stems old now = KeepsAll old.works now.works
 
-pub take_whole : {X : Type 0} (xs : List X) → take (length xs) xs ≡ xs
-take_whole [] = refl
-take_whole (x ∷ xs) = ap (λ ys. x ∷ ys) (take_whole xs)
+pub step_keeps : (m : State) → Stems m (step m)
+step_keeps m = step_keeps_if m (is_running m.standing) refl
 
 pub stems_same : (m : State) → Stems m m
-stems_same m = record { size = refl; deck = refl; punch = refl; switches = refl; longer = omega arith; begins = take_whole (lines_of m) }
+stems_same m = keeps_same m.works.storage m.works.storage m.works.units refl
+
+stems_then : (old now next : State) → Stems old now → Stems now next → Stems old next
+stems_then old now next one two = keeps_then old.works.storage now.works.storage next.works.storage old.works.units now.works.units next.works.units one two
 
 pub stems_step : (old now next : State) → next ≡ step now → Stems old now → Stems old next
-stems_step old now next e stems =
-    let keeps = step_keeps now in
-    let longer : length (lines_of now) ≤ length (lines_of (step now)) = step_longer now in
-    let before : length (lines_of old) ≤ length (lines_of now) = stems.longer in
-    rw e (record {
-      size = keeps.size ∙ stems.size;
-      deck = keeps.deck ∙ stems.deck;
-      punch = keeps.punch ∙ stems.punch;
-      switches = keeps.switches ∙ stems.switches;
-      longer = omega arith;
-      begins =
-          ap (take (length (lines_of old))) keeps.more.1 ∙ take-append-le (length (lines_of old)) (lines_of now) keeps.more.0 stems.longer ∙ stems.begins;
-    })
+stems_step old now next e stems = rw e (stems_then old now (step now) stems (step_keeps now))
 
 pub stems_after : (old now : State) (count : ℕ) → Stems old now → Stems old (after now count)
 unfolding after
 stems_after old now zero stems = stems
 stems_after old now (suc count) stems = stems_after old (step now) count (stems_step old now (step now) refl stems)
+
+-- where a step in the middle makes a card or a line, the whole does
+pub makes_through : (old now next end : State) → Stems old now → Makes now.works.units next.works.units → Stems next end → Makes old.works.units end.works.units
+makes_through old now next end before (inl cards) behind =
+    let first = begins_longer old.works.units.punch now.works.units.punch before.cards in
+    let last = begins_longer next.works.units.punch end.works.units.punch behind.cards in
+    inl (omega arith)
+makes_through old now next end before (inr lines) behind =
+    let first = begins_longer (lines_of old) (lines_of now) before.lines in
+    let last = begins_longer (lines_of next) (lines_of end) behind.lines in
+    inr (omega arith)
 
 -- ---- a run by what is left of it
 
@@ -372,14 +383,17 @@ executed_is old end limit attempted began all same final =
 pub record IsCheckpointOf (c : Checkpoint) (m : State) : Type 0 where
   pub registers : c.registers ≡ m.works.registers
   pub taken : c.taken ≡ m.works.units.hopper.taken
+  pub cards : c.cards ≡ length m.works.units.punch
   pub lines : c.lines ≡ length (lines_of m)
   pub carriage : c.carriage ≡ m.works.units.printer.carriage
   pub standing : c.standing ≡ m.standing
 
 pub restored_is : (old now : State) (s : Storage) (c : Checkpoint) → s ≡ old.works.storage → IsCheckpointOf c old → Stems old now → restored now s c ≡ old
 restored_is old now s c storage is stems =
-    let begins : take c.lines (lines_of now) ≡ lines_of old = ap (λ n. take n (lines_of now)) is.lines ∙ stems.begins in
-    rw (storage, is.registers, is.taken, begins, is.carriage, is.standing, stems.deck, stems.punch, stems.switches) refl
+    let cards : take c.cards now.works.units.punch ≡ old.works.units.punch =
+    ap (λ n. take n now.works.units.punch) is.cards ∙ begins_take old.works.units.punch now.works.units.punch stems.cards in
+    let lines : take c.lines (lines_of now) ≡ lines_of old = ap (λ n. take n (lines_of now)) is.lines ∙ begins_take (lines_of old) (lines_of now) stems.lines in
+    rw (storage, is.registers, is.taken, cards, lines, is.carriage, is.standing, stems.deck, stems.switches) refl
 
 -- ---- the beginning
 
@@ -445,12 +459,11 @@ module _ (old now : State) (limit attempted old_ticks ticks : ℕ) (left : Left 
         attempts = omega (arith, left.attempts, rest, same);
       }
 
-  pub left_prints : Stems old now → attempted < limit → length (lines_of now) < length (lines_of (step now)) → length (lines_of old) < length (lines_of (after old limit))
-  left_prints stems lt prints =
+  pub left_makes : Stems old now → attempted < limit → Makes now.works.units (step now).works.units → Makes old.works.units (after old limit).works.units
+  left_makes stems lt makes =
       let k : ℕ = limit - (attempted + 1) in
       let more : limit - attempted ≡ suc k = omega arith in
       let whole : after (step now) k ≡ after old limit = after_more now k (limit - attempted) more ∙ left.machine in
-      let rest : length (lines_of (step now)) ≤ length (lines_of (after (step now) k)) = after_longer (step now) k in
-      let same : length (lines_of (after (step now) k)) ≡ length (lines_of (after old limit)) = ap (λ (x : State). length (lines_of x)) whole in
-      let before : length (lines_of old) ≤ length (lines_of now) = stems.longer in
-      omega arith
+      let through : Makes old.works.units (after (step now) k).works.units =
+      makes_through old now (step now) (after (step now) k) stems makes (stems_after (step now) (step now) k (stems_same (step now))) in
+      rw whole at through

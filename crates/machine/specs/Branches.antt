@@ -1,5 +1,5 @@
 -- what branches ask
-use Rattle.std.specs.Prelude.{ℕ, ◌==◌, ◌||◌, not, List, codes, Bool, true, false, if◌then◌else◌, Option, Some, None}
+use Rattle.std.specs.Prelude.{ℕ, ◌==◌, ◌||◌, not, codes, Bool, true, false, if◌then◌else◌, Option, Some, None}
 use Rattle.std.specs.Int.RustNames.{bit_and}
 use Rattle.bcd.specs.Table.{zone_of, zone_number}
 use Rattle.bcd.specs.declared.Zone.{Zone}
@@ -12,10 +12,10 @@ use Rattle.machine.specs.declared.branches.Condition.{Condition}
 use Rattle.machine.specs.declared.branches.Condition.TheVariants.{Always, IsUnequal, IsEqual, IsLow, IsHigh, Overflow, LastCard, SwitchOn, Channel12}
 use Rattle.machine.specs.declared.branches.PositionTest.{PositionTest}
 use Rattle.machine.specs.declared.branches.PositionTest.TheVariants.{HasMark, HasZone, HasZoneOrMark}
-use Rattle.machine.specs.declared.switches.Switches.{Switches}
-use Rattle.machine.specs.declared.units.Units.{Units}
+use Rattle.units.specs.declared.switches.Switches.{Switches}
+use Rattle.units.specs.declared.units.Units.{Units}
 use Rattle.machine.specs.Glyphs.{is_glyph}
-use Rattle.machine.specs.Units.{is_last_card}
+use Rattle.units.specs.Units.{is_last_card}
 
 -- a sense switch by its bit: A is the lowest, G the highest
 abbrev pub switch : ℕ → Switches

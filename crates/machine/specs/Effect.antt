@@ -1,27 +1,37 @@
 -- what an instruction does
-use Rattle.std.specs.Prelude.{ℕ, ◌+◌, ◌%◌, ◌<◌, ◌≡◌, ◌==◌, length, nat_lt, Bool, true, false, if◌then◌else◌, Result, Ok, Err}
+use Rattle.std.specs.Prelude.{ℕ, ◌+◌, ◌%◌, ◌==◌, length, nat_lt, Bool, true, false, if◌then◌else◌, Result, Ok}
 use Rattle.core_store.specs.Storage.{Storage, code_at}
+use Rattle.core_store.specs.Operands.{lowered}
 use Rattle.core_store.specs.Checked.{require, find_or, and_then}
 use Rattle.core_store.specs.declared.registers.Registers.{Registers}
 use Rattle.core_store.specs.declared.registers.Check.{Check}
 use Rattle.core_store.specs.declared.registers.Check.TheVariants.{Address, Instruction}
-use Rattle.machine.specs.declared.decode.Operation.{Operation}
-use Rattle.machine.specs.declared.decode.Operation.TheVariants.{Add, Subtract, ZeroAdd, ZeroSubtract, Compare, ModifyAddress, ClearStorage, SetMark, ClearMark, NoOperation, Read, Print, Move, Load, Halt, Branch, BranchOnMarkOrZone}
-use Rattle.machine.specs.declared.decode.Modifier.{Modifier}
-use Rattle.machine.specs.declared.decode.Modifier.TheVariants.{Plain, OnCondition, OnCharacter, OnTest}
-use Rattle.machine.specs.declared.decode.Decoded.{Decoded}
-use Rattle.machine.specs.declared.operations.Course.{Course}
-use Rattle.machine.specs.declared.operations.Course.TheVariants.{GoesOn, Halts}
-use Rattle.machine.specs.declared.units.Fault.{Fault}
-use Rattle.machine.specs.declared.units.Fault.TheVariants.{Stopped, NoMemory}
-use Rattle.machine.specs.declared.units.Units.{Units}
+use Rattle.addresses.specs.Stored.{address_stored}
 use Rattle.arith.specs.Sums.{added, zero_added}
 use Rattle.arith.specs.Order.{compared}
 use Rattle.arith.specs.Bases.{modified}
+use Rattle.moves.specs.Marks.{marks_put, storage_cleared}
+use Rattle.moves.specs.Moved.{moved}
+use Rattle.moves.specs.Loaded.{field_loaded}
+use Rattle.moves.specs.Parts.{digit_moved, zone_moved}
+use Rattle.moves.specs.Suppressed.{zeros_suppressed}
+use Rattle.moves.specs.Edited.{field_edited}
+use Rattle.units.specs.declared.fault.Fault.{Fault}
+use Rattle.units.specs.declared.units.Units.{Units}
+use Rattle.units.specs.Printed.{Printed}
+use Rattle.units.specs.Carriages.{carriage_moved}
+use Rattle.units.specs.Units.{operated, GivesUp, Makes}
+use Rattle.machine.specs.declared.decode.Operation.{Operation}
+use Rattle.machine.specs.declared.decode.Operation.TheVariants.{OnFields, ClearStorage, Branch, BranchOnMarkOrZone, Operate, MoveCarriage, StoreA, StoreB, Halt, NoOperation}
+use Rattle.machine.specs.declared.decode.FieldOperation.{FieldOperation}
+use Rattle.machine.specs.declared.decode.FieldOperation.TheVariants.{Add, Subtract, ZeroAdd, ZeroSubtract, Compare, ModifyAddress, Move, Load, MoveDigit, MoveZone, Suppress, Edit, SetMark, ClearMark}
+use Rattle.machine.specs.declared.decode.Modifier.{Modifier}
+use Rattle.machine.specs.declared.decode.Modifier.TheVariants.{Plain, OnCondition, OnCharacter, OnTest, ByOrder}
+use Rattle.machine.specs.declared.decode.Decoded.{Decoded}
+use Rattle.machine.specs.declared.operations.Course.{Course}
+use Rattle.machine.specs.declared.operations.Course.TheVariants.{GoesOn, Halts}
 use Rattle.machine.specs.Word.{word, decoded}
 use Rattle.machine.specs.Branches.{is_met, once_tested, passes}
-use Rattle.machine.specs.Moves.{marks_put, storage_cleared, moved, field_loaded, lowered}
-use Rattle.machine.specs.Units.{card_read, line_printed}
 
 -- what an instruction works on
 pub record Works : Type 0 where
@@ -62,6 +72,7 @@ is_taken Plain b w = true
 is_taken (OnCondition condition) b w = is_met condition w.registers w.units
 is_taken (OnCharacter code) b w = code_at w.storage b == code
 is_taken (OnTest test) b w = passes test w.storage b
+is_taken (ByOrder order) b w = true
 
 -- the registers once a branch has looked whether it is taken
 abbrev pub looked_at : Modifier → Registers → Registers
@@ -69,6 +80,7 @@ looked_at Plain r = r
 looked_at (OnCondition condition) r = once_tested condition r
 looked_at (OnCharacter code) r = r
 looked_at (OnTest test) r = r
+looked_at (ByOrder order) r = r
 
 -- the register B after a branch that is not taken: one that has looked at a position leaves the one below it
 abbrev pub passed : Modifier → ℕ → ℕ → ℕ
@@ -76,6 +88,7 @@ passed Plain b old = old
 passed (OnCondition condition) b old = old
 passed (OnCharacter code) b old = lowered b 1
 passed (OnTest test) b old = lowered b 1
+passed (ByOrder order) b old = old
 
 -- the registers after a branch that is not taken
 abbrev pub passed_by : Decoded → ℕ → Registers → Registers
@@ -87,35 +100,62 @@ after_branch d next w =
     if is_taken d.modifier d.b w then branched d next (looked_at d.modifier w.registers)
     else passed_by d next (looked_at d.modifier w.registers)
 
--- an operation's storage and registers, and on at the next instruction
-abbrev pub goes_on : ℕ → Works → Storage × Registers → Result (Works × Course) Check
-goes_on next w (s, r) = Ok (record w { storage = s; registers = at next r }, GoesOn)
+-- the registers after one of them was stored: the other one, or it itself, stands before what was written
+abbrev pub after_store_a : Decoded → ℕ → Registers → Registers
+after_store_a d next r = record r { i = next; b = lowered d.a 3 }
+
+abbrev pub after_store_b : Decoded → ℕ → Registers → Registers
+after_store_b d next r = record r { i = next; a = lowered d.a 3 }
+
+-- what an operation on fields does at the registers A and B
+unfoldable pub worked : FieldOperation → Storage → Registers → Result (Storage × Registers) Check
+worked Add s r = added false s r
+worked Subtract s r = added true s r
+worked ZeroAdd s r = zero_added false s r
+worked ZeroSubtract s r = zero_added true s r
+worked Compare s r = compared s r
+worked ModifyAddress s r = modified s r
+worked Move s r = moved s r
+worked Load s r = field_loaded s r
+worked MoveDigit s r = digit_moved s r
+worked MoveZone s r = zone_moved s r
+worked Suppress s r = zeros_suppressed s r
+worked Edit s r = field_edited s r
+worked SetMark s r = marks_put true s r
+worked ClearMark s r = marks_put false s r
+
+-- the printer after the order of an instruction
+abbrev pub ordered_by : Modifier → Printed → Result Printed Check
+ordered_by Plain p = Ok p
+ordered_by (OnCondition condition) p = Ok p
+ordered_by (OnCharacter code) p = Ok p
+ordered_by (OnTest test) p = Ok p
+ordered_by (ByOrder order) p = carriage_moved order p
 
 -- the effect of each operation, next being the position after the instruction
 unfoldable pub effect : Operation → Decoded → ℕ → Works → Result (Works × Course) Check
-effect Add d next w = and_then (added false w.storage (filled d w.registers)) (goes_on next w)
-effect Subtract d next w = and_then (added true w.storage (filled d w.registers)) (goes_on next w)
-effect ZeroAdd d next w = and_then (zero_added false w.storage (filled d w.registers)) (goes_on next w)
-effect ZeroSubtract d next w = and_then (zero_added true w.storage (filled d w.registers)) (goes_on next w)
-effect Compare d next w = and_then (compared w.storage (filled d w.registers)) (goes_on next w)
-effect ModifyAddress d next w = and_then (modified w.storage (filled d w.registers)) (goes_on next w)
-effect SetMark d next w = and_then (marks_put true w.storage (filled d w.registers)) (goes_on next w)
-effect ClearMark d next w = and_then (marks_put false w.storage (filled d w.registers)) (goes_on next w)
-effect Move d next w = and_then (moved w.storage (filled d w.registers)) (goes_on next w)
-effect Load d next w = and_then (field_loaded w.storage (filled d w.registers)) (goes_on next w)
+effect (OnFields operation) d next w =
+    and_then (worked operation w.storage (filled d w.registers)) (λ done.
+    Ok (record w { storage = done.0; registers = at next done.1 }, GoesOn))
 effect ClearStorage d next w =
     and_then (storage_cleared w.storage (filled d w.registers)) (λ done.
     Ok (record w { storage = done.0; registers = after_clear d next done.1 }, GoesOn))
 effect Branch d next w = Ok (record w { registers = after_branch d next w }, GoesOn)
 effect BranchOnMarkOrZone d next w = Ok (record w { registers = after_branch d next w }, GoesOn)
-effect Read d next w =
-    and_then (card_read w.storage w.units.hopper) (λ done.
-    Ok (record { storage = done.0; registers = after_unit d next w.registers; units = record w.units { hopper = done.1 } }, GoesOn))
-effect Print d next w =
-    and_then (line_printed w.storage w.units.printer) (λ printed.
-    Ok (record w { registers = after_unit d next w.registers; units = record w.units { printer = printed } }, GoesOn))
-effect NoOperation d next w = Ok (record w { registers = at next w.registers }, GoesOn)
+effect (Operate devices) d next w =
+    and_then (operated devices w.storage w.units) (λ done.
+    Ok (record { storage = done.0; registers = after_unit d next w.registers; units = done.1 }, GoesOn))
+effect MoveCarriage d next w =
+    and_then (ordered_by d.modifier w.units.printer) (λ printed.
+    Ok (record w { registers = at next w.registers; units = record w.units { printer = printed } }, GoesOn))
+effect StoreA d next w =
+    and_then (address_stored w.storage d.a w.registers.a) (λ s.
+    Ok (record w { storage = s; registers = after_store_a d next w.registers }, GoesOn))
+effect StoreB d next w =
+    and_then (address_stored w.storage d.a w.registers.b) (λ s.
+    Ok (record w { storage = s; registers = after_store_b d next w.registers }, GoesOn))
 effect Halt d next w = Ok (record w { registers = after_halt d next w.registers }, Halts)
+effect NoOperation d next w = Ok (record w { registers = at next w.registers }, GoesOn)
 
 -- the position after an instruction, modulo 16000
 abbrev pub next_of : ℕ → ℕ → ℕ
@@ -129,12 +169,6 @@ attempt w =
     and_then (decoded w.storage w.registers codes) (λ d.
     effect d.operation d (next_of w.registers.i (length codes)) w)))
 
--- the instruction prints a line
-abbrev pub Prints : Works → Result (Works × Course) Check → Type 0
-Prints w (Ok (after, course)) = length w.units.printer.lines < length after.units.printer.lines
-Prints w (Err check) = ⊥
-
--- why an instruction was given up: its own check, or no memory for a line that it would print
-abbrev pub GivesUp : Fault → Works → Result (Works × Course) Check → Type 0
-GivesUp (Stopped check) w outcome = outcome ≡ Err check
-GivesUp NoMemory w outcome = Prints w outcome
+-- why an instruction was given up: its own check, or no memory for a card or a line that it would make
+abbrev pub Fails : Fault → Works → Result (Works × Course) Check → Type 0
+Fails fault w outcome = GivesUp (λ done. Makes w.units done.0.units) fault outcome

@@ -1,10 +1,6 @@
 pub mod Glyphs
 pub mod Branches
 pub mod Word
-pub mod Moves
-pub mod Printed
-pub mod Units
 pub mod Effect
 pub mod Run
 pub mod Ranges
-pub mod Listing

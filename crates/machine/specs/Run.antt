@@ -11,9 +11,9 @@ use Rattle.machine.specs.declared.parts.Standing.{Standing}
 use Rattle.machine.specs.declared.parts.Standing.TheVariants.{Running, Halted, Checked}
 use Rattle.machine.specs.declared.parts.Event.{Event}
 use Rattle.machine.specs.declared.parts.Event.TheVariants.{Next, Halt, Stop}
-use Rattle.machine.specs.declared.printer.Line.{Line}
+use Rattle.units.specs.declared.printer.Line.{Line}
 use Rattle.machine.specs.declared.runs.Checkpoint.{Checkpoint}
-use Rattle.machine.specs.declared.switches.Switches.{Switches}
+use Rattle.units.specs.declared.switches.Switches.{Switches}
 use Rattle.machine.specs.Effect.{Works, attempt}
 
 -- what a machine works on, and how it stands
@@ -79,6 +79,7 @@ restored m storage c = record {
     registers = c.registers;
     units = record m.works.units {
       hopper = record m.works.units.hopper { taken = c.taken };
+      punch = take c.cards m.works.units.punch;
       printer = record { lines = take c.lines m.works.units.printer.lines; carriage = c.carriage };
     };
   };

@@ -1,17 +1,21 @@
 -- how an instruction is read
-use Rattle.std.specs.Prelude.{ℕ, ◌+◌, ◌-◌, ◌<◌, ◌==◌, ◌||◌, nat_le, nat_lt, min, List, length, Bool, true, if◌then◌else◌, Option, Some, None, Result, Ok, unwrap_or, slice_index, codes}
-use Rattle.std.specs.Option.{option_map}
+use Rattle.std.specs.Prelude.{ℕ, ◌+◌, ◌-◌, ◌<◌, ◌==◌, ◌||◌, nat_le, nat_lt, min, List, length, Bool, if◌then◌else◌, Option, Some, None, Result, Ok, unwrap_or, slice_index, codes}
+use Rattle.std.specs.Option.{option_map, option_or}
 use Rattle.core_store.specs.Storage.{Storage, is_marked, code_at, least_mark, codes_from}
 use Rattle.core_store.specs.Checked.{require, find_or, and_then}
 use Rattle.core_store.specs.declared.registers.Check.{Check}
 use Rattle.core_store.specs.declared.registers.Check.TheVariants.{Instruction}
 use Rattle.core_store.specs.declared.registers.Registers.{Registers}
 use Rattle.machine.specs.declared.decode.Operation.{Operation}
-use Rattle.machine.specs.declared.decode.Operation.TheVariants.{Add, Subtract, ZeroAdd, ZeroSubtract, Compare, ModifyAddress, ClearStorage, SetMark, ClearMark, NoOperation, Read, Print, Move, Load, Halt, Branch, BranchOnMarkOrZone}
+use Rattle.machine.specs.declared.decode.Operation.TheVariants.{OnFields, ClearStorage, Branch, BranchOnMarkOrZone, Operate, MoveCarriage, StoreA, StoreB, Halt, NoOperation}
+use Rattle.machine.specs.declared.decode.FieldOperation.{FieldOperation}
+use Rattle.machine.specs.declared.decode.FieldOperation.TheVariants.{Add, Subtract, ZeroAdd, ZeroSubtract, Compare, ModifyAddress, Move, Load, MoveDigit, MoveZone, Suppress, Edit, SetMark, ClearMark}
 use Rattle.machine.specs.declared.decode.Modifier.{Modifier}
-use Rattle.machine.specs.declared.decode.Modifier.TheVariants.{Plain, OnCondition, OnCharacter, OnTest}
+use Rattle.machine.specs.declared.decode.Modifier.TheVariants.{Plain, OnCondition, OnCharacter, OnTest, ByOrder}
 use Rattle.machine.specs.declared.decode.Decoded.{Decoded}
 use Rattle.addresses.specs.Effective.{operand}
+use Rattle.units.specs.declared.devices.Devices.{Devices}
+use Rattle.units.specs.Carriages.{order_of}
 use Rattle.machine.specs.Glyphs.{is_glyph}
 use Rattle.machine.specs.Branches.{condition_of, test_of}
 
@@ -32,9 +36,9 @@ word_length s i =
 unfoldable pub word : Storage → ℕ → Option (List ℕ)
 word s i = option_map (codes_from s i) (word_length s i)
 
--- the operation that an instruction's first character names
-unfoldable pub operation_of : ℕ → Option Operation
-operation_of code =
+-- the operation on fields that a character names
+unfoldable pub field_operation_of : ℕ → Option FieldOperation
+field_operation_of code =
     if is_glyph code (codes "A") then Some Add
     else (if is_glyph code (codes "S") then Some Subtract
     else (if is_glyph code (codes "?") then Some ZeroAdd
@@ -43,43 +47,78 @@ operation_of code =
     else (if is_glyph code (codes "#") then Some ModifyAddress
     else (if is_glyph code (codes "M") then Some Move
     else (if is_glyph code (codes "L") then Some Load
+    else (if is_glyph code (codes "D") then Some MoveDigit
+    else (if is_glyph code (codes "Y") then Some MoveZone
+    else (if is_glyph code (codes "Z") then Some Suppress
+    else (if is_glyph code (codes "E") then Some Edit
     else (if is_glyph code (codes ",") then Some SetMark
-    else (if is_glyph code (codes ")") then Some ClearMark
-    else (if is_glyph code (codes "/") then Some ClearStorage
+    else (if is_glyph code (codes ")") then Some ClearMark else None)))))))))))))
+
+-- units by the sum of their numbers: the reader is 1, the printer 2, the punch 4
+abbrev pub devices : ℕ → Devices
+devices sum = record { 0 = sum }
+
+-- any other operation that a character names
+unfoldable pub other_operation_of : ℕ → Option Operation
+other_operation_of code =
+    if is_glyph code (codes "/") then Some ClearStorage
     else (if is_glyph code (codes "B") then Some Branch
     else (if is_glyph code (codes "V") then Some BranchOnMarkOrZone
-    else (if is_glyph code (codes "1") then Some Read
-    else (if is_glyph code (codes "2") then Some Print
+    else (if is_glyph code (codes "1") then Some (Operate (devices 1))
+    else (if is_glyph code (codes "2") then Some (Operate (devices 2))
+    else (if is_glyph code (codes "3") then Some (Operate (devices 3))
+    else (if is_glyph code (codes "4") then Some (Operate (devices 4))
+    else (if is_glyph code (codes "5") then Some (Operate (devices 5))
+    else (if is_glyph code (codes "6") then Some (Operate (devices 6))
+    else (if is_glyph code (codes "7") then Some (Operate (devices 7))
+    else (if is_glyph code (codes "F") then Some MoveCarriage
+    else (if is_glyph code (codes "Q") then Some StoreA
+    else (if is_glyph code (codes "H") then Some StoreB
     else (if is_glyph code (codes ".") then Some Halt
-    else (if is_glyph code (codes "N") then Some NoOperation else None))))))))))))))))
+    else (if is_glyph code (codes "N") then Some NoOperation else None))))))))))))))
+
+-- the operation that an instruction's first character names
+unfoldable pub operation_of : ℕ → Option Operation
+operation_of code = option_or (option_map (λ operation. OnFields operation) (field_operation_of code)) (other_operation_of code)
+
+-- whether an operation on fields has a form of so many characters
+unfoldable pub has_field_form : FieldOperation → ℕ → Bool
+has_field_form Add count = count == 1 || (count == 4 || count == 7)
+has_field_form Subtract count = count == 1 || (count == 4 || count == 7)
+has_field_form ZeroAdd count = count == 1 || (count == 4 || count == 7)
+has_field_form ZeroSubtract count = count == 1 || (count == 4 || count == 7)
+has_field_form Compare count = count == 1 || count == 7
+has_field_form ModifyAddress count = count == 7
+has_field_form Move count = count == 1 || count == 7
+has_field_form Load count = count == 1 || count == 7
+has_field_form MoveDigit count = count == 1 || count == 7
+has_field_form MoveZone count = count == 1 || count == 7
+has_field_form Suppress count = count == 1 || count == 7
+has_field_form Edit count = count == 1 || count == 7
+has_field_form SetMark count = count == 4 || count == 7
+has_field_form ClearMark count = count == 4 || count == 7
 
 -- whether an operation has a form of so many characters
 unfoldable pub has_form : Operation → ℕ → Bool
-has_form Add count = count == 1 || (count == 4 || count == 7)
-has_form Subtract count = count == 1 || (count == 4 || count == 7)
-has_form ZeroAdd count = count == 1 || (count == 4 || count == 7)
-has_form ZeroSubtract count = count == 1 || (count == 4 || count == 7)
-has_form Compare count = count == 1 || count == 7
-has_form ModifyAddress count = count == 7
-has_form Move count = count == 1 || count == 7
-has_form Load count = count == 1 || count == 7
-has_form SetMark count = count == 4 || count == 7
-has_form ClearMark count = count == 4 || count == 7
+has_form (OnFields operation) count = has_field_form operation count
 has_form ClearStorage count = count == 1 || (count == 4 || count == 7)
 has_form Branch count = count == 4 || (count == 5 || count == 8)
 has_form BranchOnMarkOrZone count = count == 8
-has_form Read count = count == 1 || count == 4
-has_form Print count = count == 1 || count == 4
+has_form (Operate devices) count = count == 1 || count == 4
+has_form MoveCarriage count = count == 2
+has_form StoreA count = count == 4
+has_form StoreB count = count == 4
 has_form Halt count = count == 1 || count == 4
 has_form NoOperation count = count == 1 || (count == 2 || (count == 4 || (count == 5 || (count == 7 || count == 8))))
 
 -- what the last character of a form says: the condition of a branch of five, the character that one of eight looks for,
--- or the test of a branch on word mark or zone. Nothing where it lists none such
+-- the test of a branch on word mark or zone, or the order to the carriage. Nothing where it lists none such
 unfoldable pub modifier_of : Operation → ℕ → ℕ → Option Modifier
 modifier_of Branch count last =
     if count == 5 then option_map (λ condition. OnCondition condition) (condition_of last)
     else (if count == 8 then Some (OnCharacter last) else Some Plain)
 modifier_of BranchOnMarkOrZone count last = option_map (λ test. OnTest test) (test_of last)
+modifier_of MoveCarriage count last = option_map (λ order. ByOrder order) (order_of last)
 modifier_of _ count last = Some Plain
 
 -- how many addresses a form of so many characters holds
@@ -121,6 +160,7 @@ WantsTwo Plain count = Unit {0}
 WantsTwo (OnCondition condition) count = Unit {0}
 WantsTwo (OnCharacter code) count = 1 < count
 WantsTwo (OnTest test) count = 1 < count
+WantsTwo (ByOrder order) count = Unit {0}
 
 -- where a modifier looks at the position B, that lies below a size
 abbrev pub LooksInside : Modifier → ℕ → ℕ → Type 0
@@ -128,3 +168,4 @@ LooksInside Plain b size = Unit {0}
 LooksInside (OnCondition condition) b size = Unit {0}
 LooksInside (OnCharacter code) b size = b < size
 LooksInside (OnTest test) b size = b < size
+LooksInside (ByOrder order) b size = Unit {0}

@@ -4,11 +4,10 @@ ghost use Rattle.std.specs.Prelude.{◌≡◌, ◌<◌, ◌==◌, length};
 ghost use Rattle.bcd.specs.Table.{zone_number};
 ghost use Rattle.machine.specs.Branches.{condition_of, is_met, once_tested, test_of, passes, has_zone};
 
-use crate::switches::Switches;
-use crate::units::Units;
 use bcd::{Code, Zone};
 use bitflags::Flags;
 use core_store::{Compared, Core, Registers};
+use units::{Switches, Units};
 
 /// What a branch of five characters asks, by its last character.
 #[derive(Clone, Copy, Debug, PartialEq, Eq)]

@@ -1,16 +1,17 @@
 //! The instruction cycle.
 
 ghost use Rattle.std.specs.Prelude.{◌≡◌, ◌+◌, ◌%◌, ◌<◌, ◌≤◌, ℕ, length, Ok, IfOk, IfErr, OnErr, OnOk};
-ghost use Rattle.machine.specs.Effect.{attempt, works_of, GivesUp, next_of};
-ghost use Rattle.machine.specs.Run.{step, attempts, lines_of, risen, is_running, is_checked, is_halted, standing_after, event_of};
+ghost use Rattle.machine.specs.Effect.{attempt, works_of, Fails, next_of};
+ghost use Rattle.units.specs.Units.{Makes};
+ghost use Rattle.machine.specs.Run.{step, attempts, risen, is_running, is_checked, is_halted, standing_after, event_of};
 
 use crate::decode::{Word, decode, word_length};
 use crate::meter::Meter;
 use crate::operations::{Course, execute};
 use crate::parts::{Event, Parts, Standing};
-use crate::units::{Fault, Units};
 use core_store::{Check, Core, LARGEST_SIZE, Registers};
 use std::alloc::AllocError;
+use units::{Fault, Units};
 
 /// The position after an instruction, modulo 16000.
 fn next_of(i: u16, count: u16) -> u16
@@ -30,7 +31,7 @@ fn attempt<C: Core>(
 ) -> Result<Course, Fault>
     requires { 333 ≤ length (C.cells core.old) }
     ensures done { IfOk result (λ course. attempt (works_of (C.cells core.old) registers.old units.old) ≡ Ok (works_of (C.cells core.new) registers.new units.new, course)) }
-    ensures refused { IfErr result (λ fault. GivesUp fault (works_of (C.cells core.old) registers.old units.old) (attempt (works_of (C.cells core.old) registers.old units.old))) }
+    ensures refused { IfErr result (λ fault. Fails fault (works_of (C.cells core.old) registers.old units.old) (attempt (works_of (C.cells core.old) registers.old units.old))) }
     ensures unchanged { OnErr result (works_of (C.cells core.new) registers.new units.new ≡ works_of (C.cells core.old) registers.old units.old) }
 {
     let i = registers.i;
@@ -96,11 +97,12 @@ impl<C: Core> Parts<C> {
         self.standing.is_running()
     }
 
-    /// One step. Only an instruction that prints may fail for memory, and then nothing changes.
+    /// One step. Only an instruction that punches or prints may fail for memory, and then nothing
+    /// changes.
     pub(crate) fn step(&mut self, meter: &mut Meter) -> Result<(), AllocError>
         ensures step { OnOk result (self.new ≡ step self.old) }
         ensures unchanged { OnErr result (self.new ≡ self.old) }
-        ensures memory { OnErr result (length (lines_of self.old) < length (lines_of (step self.old))) }
+        ensures memory { OnErr result (Makes self.old.works.units (step self.old).works.units) }
         ensures meter { OnOk result (meter.new ≡ risen meter.old (attempts self.old 1)) }
     {
         if !self.is_running() {

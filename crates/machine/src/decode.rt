@@ -2,16 +2,17 @@
 
 ghost use Rattle.std.specs.Prelude.{◌≡◌, ◌+◌, ◌-◌, ◌<◌, ◌≤◌, ℕ, length, slice_index, unwrap_or, true, IfSome, IfOk};
 ghost use Rattle.core_store.specs.Storage.{codes_from, least_mark};
-ghost use Rattle.machine.specs.Word.{word_length, operation_of, has_form, modifier_of, addresses_in, operand_at, operands_of, decoded_of, WantsTwo, LooksInside};
+ghost use Rattle.machine.specs.Word.{word_length, field_operation_of, other_operation_of, operation_of, has_field_form, has_form, modifier_of, addresses_in, operand_at, operands_of, decoded_of, WantsTwo, LooksInside};
 
 use crate::branches::{Condition, PositionTest};
 use addresses::operand;
 use bcd::Code;
 use core_store::{Check, Core, LARGEST_SIZE, Registers};
+use units::{CarriageOrder, Devices};
 
-/// What an instruction does, by its first character.
+/// What an instruction does at the fields of its two addresses, by its first character.
 #[derive(Clone, Copy, Debug, PartialEq, Eq)]
-pub enum Operation {
+pub enum FieldOperation {
     /// `A`: add.
     Add,
     /// `S`: subtract.
@@ -24,24 +25,43 @@ pub enum Operation {
     Compare,
     /// `#`: modify address.
     ModifyAddress,
-    /// `M`: move characters.
+    /// `M`: move characters to A or B word mark.
     Move,
-    /// `L`: load characters and a word mark.
+    /// `L`: load characters to A word mark.
     Load,
+    /// `D`: move numeric.
+    MoveDigit,
+    /// `Y`: move zone.
+    MoveZone,
+    /// `Z`: move characters and suppress zeros.
+    Suppress,
+    /// `E`: move characters and edit.
+    Edit,
     /// `,`: set word mark.
     SetMark,
     /// `)`: clear word mark.
     ClearMark,
+}
+
+/// What an instruction does, by its first character.
+#[derive(Clone, Copy, Debug, PartialEq, Eq)]
+pub enum Operation {
+    /// Something at the fields of its two addresses.
+    OnFields(FieldOperation),
     /// `/`: clear storage, and branch.
     ClearStorage,
     /// `B`: branch, on a condition or where a character stands at a position.
     Branch,
     /// `V`: branch on word mark or zone.
     BranchOnMarkOrZone,
-    /// `1`: read a card.
-    Read,
-    /// `2`: print a line.
-    Print,
+    /// `1` to `7`: read a card, print a line, punch a card, or several of these.
+    Operate(Devices),
+    /// `F`: control carriage.
+    MoveCarriage,
+    /// `Q`: store the A register.
+    StoreA,
+    /// `H`: store the B register.
+    StoreB,
     /// `.`: halt.
     Halt,
     /// `N`: no operation.
@@ -66,6 +86,8 @@ pub enum Modifier {
     OnCharacter(Code),
     /// The test that a branch on word mark or zone makes at its second address.
     OnTest(PositionTest),
+    /// The order to the carriage.
+    ByOrder(CarriageOrder),
 }
 
 /// An instruction that was read: where it works, with the registers where no address stands.
@@ -79,31 +101,85 @@ pub struct Decoded {
     pub modifier: Modifier,
 }
 
+/// The operation on fields that a character names.
+#[inline(always)]
+#[tactic(auto, unfolding(crate::specs::Word::field_operation_of))]
+fn field_operation_of(code: Code) -> Option<FieldOperation>
+    ensures { result ≡ field_operation_of code }
+{
+    match code.glyph() {
+        b'A' => Some(FieldOperation::Add),
+        b'S' => Some(FieldOperation::Subtract),
+        b'?' => Some(FieldOperation::ZeroAdd),
+        b'!' => Some(FieldOperation::ZeroSubtract),
+        b'C' => Some(FieldOperation::Compare),
+        b'#' => Some(FieldOperation::ModifyAddress),
+        b'M' => Some(FieldOperation::Move),
+        b'L' => Some(FieldOperation::Load),
+        b'D' => Some(FieldOperation::MoveDigit),
+        b'Y' => Some(FieldOperation::MoveZone),
+        b'Z' => Some(FieldOperation::Suppress),
+        b'E' => Some(FieldOperation::Edit),
+        b',' => Some(FieldOperation::SetMark),
+        b')' => Some(FieldOperation::ClearMark),
+        _ => None,
+    }
+}
+
+/// Any other operation that a character names.
+#[inline(always)]
+#[tactic(auto, unfolding(crate::specs::Word::other_operation_of))]
+fn other_operation_of(code: Code) -> Option<Operation>
+    ensures { result ≡ other_operation_of code }
+{
+    match code.glyph() {
+        b'/' => Some(Operation::ClearStorage),
+        b'B' => Some(Operation::Branch),
+        b'V' => Some(Operation::BranchOnMarkOrZone),
+        b'1' => Some(Operation::Operate(Devices::of_sum(1))),
+        b'2' => Some(Operation::Operate(Devices::of_sum(2))),
+        b'3' => Some(Operation::Operate(Devices::of_sum(3))),
+        b'4' => Some(Operation::Operate(Devices::of_sum(4))),
+        b'5' => Some(Operation::Operate(Devices::of_sum(5))),
+        b'6' => Some(Operation::Operate(Devices::of_sum(6))),
+        b'7' => Some(Operation::Operate(Devices::of_sum(7))),
+        b'F' => Some(Operation::MoveCarriage),
+        b'Q' => Some(Operation::StoreA),
+        b'H' => Some(Operation::StoreB),
+        b'.' => Some(Operation::Halt),
+        b'N' => Some(Operation::NoOperation),
+        _ => None,
+    }
+}
+
 /// The operation that a character names.
 #[inline(always)]
 #[tactic(auto, unfolding(crate::specs::Word::operation_of))]
 fn operation_of(code: Code) -> Option<Operation>
     ensures { result ≡ operation_of code }
 {
-    match code.glyph() {
-        b'A' => Some(Operation::Add),
-        b'S' => Some(Operation::Subtract),
-        b'?' => Some(Operation::ZeroAdd),
-        b'!' => Some(Operation::ZeroSubtract),
-        b'C' => Some(Operation::Compare),
-        b'#' => Some(Operation::ModifyAddress),
-        b'M' => Some(Operation::Move),
-        b'L' => Some(Operation::Load),
-        b',' => Some(Operation::SetMark),
-        b')' => Some(Operation::ClearMark),
-        b'/' => Some(Operation::ClearStorage),
-        b'B' => Some(Operation::Branch),
-        b'V' => Some(Operation::BranchOnMarkOrZone),
-        b'1' => Some(Operation::Read),
-        b'2' => Some(Operation::Print),
-        b'.' => Some(Operation::Halt),
-        b'N' => Some(Operation::NoOperation),
-        _ => None,
+    match field_operation_of(code) {
+        Some(operation) => Some(Operation::OnFields(operation)),
+        None => other_operation_of(code),
+    }
+}
+
+impl FieldOperation {
+    /// Whether there is a form of so many characters.
+    #[inline(always)]
+    #[tactic(auto, unfolding(crate::specs::Word::has_field_form))]
+    fn has_form(self, count: u16) -> bool
+        ensures { result ≡ has_field_form self count }
+    {
+        match self {
+            FieldOperation::Add
+            | FieldOperation::Subtract
+            | FieldOperation::ZeroAdd
+            | FieldOperation::ZeroSubtract => count == 1 || count == 4 || count == 7,
+            FieldOperation::ModifyAddress => count == 7,
+            FieldOperation::SetMark | FieldOperation::ClearMark => count == 4 || count == 7,
+            _ => count == 1 || count == 7,
+        }
     }
 }
 
@@ -115,17 +191,13 @@ impl Operation {
         ensures { result ≡ has_form self count }
     {
         match self {
-            Operation::Add
-            | Operation::Subtract
-            | Operation::ZeroAdd
-            | Operation::ZeroSubtract
-            | Operation::ClearStorage => count == 1 || count == 4 || count == 7,
-            Operation::Compare | Operation::Move | Operation::Load => count == 1 || count == 7,
-            Operation::ModifyAddress => count == 7,
-            Operation::SetMark | Operation::ClearMark => count == 4 || count == 7,
+            Operation::OnFields(operation) => operation.has_form(count),
+            Operation::ClearStorage => count == 1 || count == 4 || count == 7,
             Operation::Branch => count == 4 || count == 5 || count == 8,
             Operation::BranchOnMarkOrZone => count == 8,
-            Operation::Read | Operation::Print | Operation::Halt => count == 1 || count == 4,
+            Operation::Operate(_) | Operation::Halt => count == 1 || count == 4,
+            Operation::MoveCarriage => count == 2,
+            Operation::StoreA | Operation::StoreB => count == 4,
             Operation::NoOperation => {
                 count == 1 || count == 2 || count == 4 || count == 5 || count == 7 || count == 8
             }
@@ -146,6 +218,7 @@ impl Operation {
             }
             Operation::Branch if count == 8 => Some(Modifier::OnCharacter(last)),
             Operation::BranchOnMarkOrZone => Some(Modifier::OnTest(PositionTest::of_code(last)?)),
+            Operation::MoveCarriage => Some(Modifier::ByOrder(CarriageOrder::of_code(last)?)),
             _ => Some(Modifier::Plain),
         }
     }

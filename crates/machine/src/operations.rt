@@ -1,14 +1,19 @@
 //! What the operations do.
 
-ghost use Rattle.std.specs.Prelude.{◌≡◌, ◌+◌, ◌-◌, ◌<◌, ◌≤◌, ◌%◌, ℕ, length, IfOk, IfErr, OnErr, Ok, Err};
-ghost use Rattle.machine.specs.Effect.{effect, GivesUp, works_of, branched, at, after_unit, after_halt, after_clear, after_branch, is_taken, looked_at, passed, passed_by, filled};
+ghost use Rattle.std.specs.Prelude.{◌≡◌, ◌≤◌, ◌<◌, ℕ, length, Ok, Err, IfOk, IfErr, OnErr, OnOk};
+ghost use Rattle.units.specs.declared.units.Units.{Units};
+ghost use Rattle.machine.specs.declared.decode.Operation.TheVariants.{OnFields, ClearStorage, StoreA, StoreB};
+ghost use Rattle.machine.specs.Effect.{effect, worked, ordered_by, Fails, works_of, branched, at, after_unit, after_halt, after_clear, after_branch, is_taken, looked_at, passed, passed_by};
 ghost use Rattle.machine.specs.Word.{LooksInside};
 
-use crate::decode::{Decoded, Modifier, Operation};
-use crate::moves::{clear_mark, clear_storage, load_field, lowered, move_field, set_mark};
-use crate::units::{Fault, Units, print_line, read_card};
+use crate::decode::{Decoded, FieldOperation, Modifier, Operation};
+use addresses::store;
 use arith::{add, compare, modify, subtract, zero_add, zero_subtract};
-use core_store::{Check, Core, LARGEST_SIZE, Registers};
+use core_store::{Check, Core, LARGEST_SIZE, Registers, lowered};
+use moves::{
+    clear_mark, clear_storage, digit, edit, load_field, move_field, set_mark, suppress, zone,
+};
+use units::{Fault, Printer, Units, move_carriage, operate};
 
 /// How an instruction without a check ended.
 #[derive(Clone, Copy, Debug, PartialEq, Eq)]
@@ -89,7 +94,7 @@ fn is_taken<C: Core>(
     ensures { result ≡ is_taken modifier b (works_of (C.cells core.now) registers.now units.now) }
 {
     match modifier {
-        Modifier::Plain => true,
+        Modifier::Plain | Modifier::ByOrder(_) => true,
         Modifier::OnCondition(condition) => condition.is_met(registers, units),
         Modifier::OnCharacter(code) => core.get(b).number() == code.number(),
         Modifier::OnTest(test) => test.passes(core, b),
@@ -150,6 +155,144 @@ fn after_branch<C: Core>(
     }
 }
 
+/// Does an operation on fields at the registers A and B.
+#[inline(always)]
+#[tactic(auto, unfolding(crate::specs::Effect::worked))]
+fn work<C: Core>(
+    core: &mut C,
+    registers: &mut Registers,
+    operation: FieldOperation,
+) -> Result<(), Check>
+    ensures done { OnOk result (worked operation (C.cells core.old) registers.old ≡ Ok (C.cells core.new, registers.new)) }
+    ensures check { IfErr result (λ check. worked operation (C.cells core.old) registers.old ≡ Err check) }
+    ensures unchanged { OnErr result ((C.cells core.new ≡ C.cells core.old) × (registers.new ≡ registers.old)) }
+{
+    match operation {
+        FieldOperation::Add => add(core, registers),
+        FieldOperation::Subtract => subtract(core, registers),
+        FieldOperation::ZeroAdd => zero_add(core, registers),
+        FieldOperation::ZeroSubtract => zero_subtract(core, registers),
+        FieldOperation::Compare => compare(core, registers),
+        FieldOperation::ModifyAddress => modify(core, registers),
+        FieldOperation::Move => move_field(core, registers),
+        FieldOperation::Load => load_field(core, registers),
+        FieldOperation::MoveDigit => digit(core, registers),
+        FieldOperation::MoveZone => zone(core, registers),
+        FieldOperation::Suppress => suppress(core, registers),
+        FieldOperation::Edit => edit(core, registers),
+        FieldOperation::SetMark => set_mark(core, registers),
+        FieldOperation::ClearMark => clear_mark(core, registers),
+    }
+}
+
+/// Gives the carriage the order of an instruction.
+fn give_order(printer: &mut Printer, modifier: Modifier) -> Result<(), Check>
+    ensures done { OnOk result (ordered_by modifier printer.old ≡ Ok printer.new) }
+    ensures check { IfErr result (λ check. ordered_by modifier printer.old ≡ Err check) }
+    ensures unchanged { OnErr result (printer.new ≡ printer.old) }
+{
+    match modifier {
+        Modifier::ByOrder(order) => move_carriage(printer, order),
+        _ => Ok(()),
+    }
+}
+
+/// Does an operation on fields at the addresses of its instruction.
+#[inline(always)]
+#[tactic(auto, unfolding(crate::specs::Effect::effect))]
+fn work_on_fields<C: Core>(
+    core: &mut C,
+    registers: &mut Registers,
+    operation: FieldOperation,
+    decoded: Decoded,
+    next: u16,
+) -> Result<Course, Fault>
+    ensures done { IfOk result (λ course. (units : Units) → effect (OnFields operation) decoded next (works_of (C.cells core.old) registers.old units) ≡ Ok (works_of (C.cells core.new) registers.new units, course)) }
+    ensures refused { IfErr result (λ fault. (units : Units) → Fails fault (works_of (C.cells core.old) registers.old units) (effect (OnFields operation) decoded next (works_of (C.cells core.old) registers.old units))) }
+    ensures unchanged { OnErr result ((C.cells core.new ≡ C.cells core.old) × (registers.new ≡ registers.old)) }
+{
+    let mut filled = Registers {
+        a: decoded.a,
+        b: decoded.b,
+        ..*registers
+    };
+    if let Err(check) = work(core, &mut filled, operation) {
+        return Err(Fault::Stopped(check));
+    }
+    *registers = at(next, filled);
+    Ok(Course::GoesOn)
+}
+
+/// Clears storage from the address of its instruction down.
+#[tactic(auto, unfolding(crate::specs::Effect::effect))]
+fn clear<C: Core>(
+    core: &mut C,
+    registers: &mut Registers,
+    decoded: Decoded,
+    next: u16,
+) -> Result<Course, Fault>
+    ensures done { IfOk result (λ course. (units : Units) → effect ClearStorage decoded next (works_of (C.cells core.old) registers.old units) ≡ Ok (works_of (C.cells core.new) registers.new units, course)) }
+    ensures refused { IfErr result (λ fault. (units : Units) → Fails fault (works_of (C.cells core.old) registers.old units) (effect ClearStorage decoded next (works_of (C.cells core.old) registers.old units))) }
+    ensures unchanged { OnErr result ((C.cells core.new ≡ C.cells core.old) × (registers.new ≡ registers.old)) }
+{
+    let mut filled = Registers {
+        a: decoded.a,
+        b: decoded.b,
+        ..*registers
+    };
+    if let Err(check) = clear_storage(core, &mut filled) {
+        return Err(Fault::Stopped(check));
+    }
+    *registers = after_clear(decoded, next, filled);
+    Ok(Course::GoesOn)
+}
+
+/// Stores the A register.
+#[tactic(auto, unfolding(crate::specs::Effect::effect))]
+fn store_a<C: Core>(
+    core: &mut C,
+    registers: &mut Registers,
+    decoded: Decoded,
+    next: u16,
+) -> Result<Course, Fault>
+    ensures done { IfOk result (λ course. (units : Units) → effect StoreA decoded next (works_of (C.cells core.old) registers.old units) ≡ Ok (works_of (C.cells core.new) registers.new units, course)) }
+    ensures refused { IfErr result (λ fault. (units : Units) → Fails fault (works_of (C.cells core.old) registers.old units) (effect StoreA decoded next (works_of (C.cells core.old) registers.old units))) }
+    ensures unchanged { OnErr result ((C.cells core.new ≡ C.cells core.old) × (registers.new ≡ registers.old)) }
+{
+    if let Err(check) = store(core, decoded.a, registers.a) {
+        return Err(Fault::Stopped(check));
+    }
+    *registers = Registers {
+        i: next,
+        b: lowered(decoded.a, 3),
+        ..*registers
+    };
+    Ok(Course::GoesOn)
+}
+
+/// Stores the B register.
+#[tactic(auto, unfolding(crate::specs::Effect::effect))]
+fn store_b<C: Core>(
+    core: &mut C,
+    registers: &mut Registers,
+    decoded: Decoded,
+    next: u16,
+) -> Result<Course, Fault>
+    ensures done { IfOk result (λ course. (units : Units) → effect StoreB decoded next (works_of (C.cells core.old) registers.old units) ≡ Ok (works_of (C.cells core.new) registers.new units, course)) }
+    ensures refused { IfErr result (λ fault. (units : Units) → Fails fault (works_of (C.cells core.old) registers.old units) (effect StoreB decoded next (works_of (C.cells core.old) registers.old units))) }
+    ensures unchanged { OnErr result ((C.cells core.new ≡ C.cells core.old) × (registers.new ≡ registers.old)) }
+{
+    if let Err(check) = store(core, decoded.a, registers.b) {
+        return Err(Fault::Stopped(check));
+    }
+    *registers = Registers {
+        i: next,
+        a: lowered(decoded.a, 3),
+        ..*registers
+    };
+    Ok(Course::GoesOn)
+}
+
 /// Does one operation, `next` being the position after its instruction.
 #[tactic(auto, unfolding(crate::specs::Effect::effect))]
 pub fn execute<C: Core>(
@@ -163,62 +306,39 @@ pub fn execute<C: Core>(
     requires inside { LooksInside decoded.modifier decoded.b (length (C.cells core.old)) }
     requires below { LooksInside decoded.modifier decoded.b LARGEST_SIZE }
     ensures done { IfOk result (λ course. effect decoded.operation decoded next (works_of (C.cells core.old) registers.old units.old) ≡ Ok (works_of (C.cells core.new) registers.new units.new, course)) }
-    ensures refused { IfErr result (λ fault. GivesUp fault (works_of (C.cells core.old) registers.old units.old) (effect decoded.operation decoded next (works_of (C.cells core.old) registers.old units.old))) }
+    ensures refused { IfErr result (λ fault. Fails fault (works_of (C.cells core.old) registers.old units.old) (effect decoded.operation decoded next (works_of (C.cells core.old) registers.old units.old))) }
     ensures unchanged { OnErr result (works_of (C.cells core.new) registers.new units.new ≡ works_of (C.cells core.old) registers.old units.old) }
 {
-    let mut filled = Registers {
-        a: decoded.a,
-        b: decoded.b,
-        ..*registers
-    };
-    let outcome = match decoded.operation {
-        Operation::Add => add(core, &mut filled),
-        Operation::Subtract => subtract(core, &mut filled),
-        Operation::ZeroAdd => zero_add(core, &mut filled),
-        Operation::ZeroSubtract => zero_subtract(core, &mut filled),
-        Operation::Compare => compare(core, &mut filled),
-        Operation::ModifyAddress => modify(core, &mut filled),
-        Operation::SetMark => set_mark(core, &mut filled),
-        Operation::ClearMark => clear_mark(core, &mut filled),
-        Operation::Move => move_field(core, &mut filled),
-        Operation::Load => load_field(core, &mut filled),
-        Operation::ClearStorage => {
-            if let Err(check) = clear_storage(core, &mut filled) {
-                return Err(Fault::Stopped(check));
-            }
-            *registers = after_clear(decoded, next, filled);
-            return Ok(Course::GoesOn);
+    match decoded.operation {
+        Operation::OnFields(operation) => {
+            work_on_fields(core, registers, operation, decoded, next)
         }
+        Operation::ClearStorage => clear(core, registers, decoded, next),
+        Operation::StoreA => store_a(core, registers, decoded, next),
+        Operation::StoreB => store_b(core, registers, decoded, next),
         Operation::Branch | Operation::BranchOnMarkOrZone => {
             *registers = after_branch(core, registers, units, decoded, next);
-            return Ok(Course::GoesOn);
+            Ok(Course::GoesOn)
         }
-        Operation::Read => {
-            if let Err(check) = read_card(core, &mut units.hopper) {
+        Operation::Operate(devices) => {
+            operate(core, units, devices)?;
+            *registers = after_unit(decoded, next, *registers);
+            Ok(Course::GoesOn)
+        }
+        Operation::MoveCarriage => {
+            if let Err(check) = give_order(&mut units.printer, decoded.modifier) {
                 return Err(Fault::Stopped(check));
             }
-            *registers = after_unit(decoded, next, *registers);
-            return Ok(Course::GoesOn);
-        }
-        Operation::Print => {
-            print_line(core, &mut units.printer)?;
-            *registers = after_unit(decoded, next, *registers);
-            return Ok(Course::GoesOn);
-        }
-        Operation::NoOperation => {
             *registers = at(next, *registers);
-            return Ok(Course::GoesOn);
+            Ok(Course::GoesOn)
         }
         Operation::Halt => {
             *registers = after_halt(decoded, next, *registers);
-            return Ok(Course::Halts);
+            Ok(Course::Halts)
         }
-    };
-    match outcome {
-        Ok(()) => {
-            *registers = at(next, filled);
+        Operation::NoOperation => {
+            *registers = at(next, *registers);
             Ok(Course::GoesOn)
         }
-        Err(check) => Err(Fault::Stopped(check)),
     }
 }

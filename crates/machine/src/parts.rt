@@ -1,8 +1,8 @@
 //! What a machine consists of.
 
-use crate::units::Units;
 use core_store::{Check, Core, Registers};
 use std::marker::Model;
+use units::Units;
 
 /// How a machine stands.
 #[derive(Clone, Copy, Debug, PartialEq, Eq)]

@@ -2,91 +2,11 @@
 //!
 //! Every machine's picture is in range, and every picture in range is some machine's.
 
-ghost use Rattle.std.specs.Prelude.{◌≡◌, ◌↔◌, IsTrue};
-ghost use Rattle.machine.specs.Ranges.{IsInRange, IsOnForm, IsBelow, AreAddresses, HasPrinted, HasRead, HasSize, line_place, carriage_place};
+ghost use Rattle.std.specs.Prelude.{◌↔◌, IsTrue};
+ghost use Rattle.machine.specs.Ranges.{IsInRange, AreAddresses, HasSize};
 
 use crate::parts::Parts;
-use crate::printer::{Carriage, LAST_FORM, LINES_OF_FORM, Line, MOST_LINES, Printer};
-use crate::units::{Hopper, MOST_CARDS};
 use core_store::{Core, LARGEST_SIZE, Registers, Size};
-
-/// A place on the printer's forms.
-#[derive(Clone, Copy)]
-struct Place {
-    form: u32,
-    line: u8,
-}
-
-impl Place {
-    /// Whether it is a line of one of the forms.
-    fn is_on_form(self) -> bool
-        ensures { IsTrue result ↔ IsOnForm self }
-    {
-        1 <= self.form && self.form <= LAST_FORM && 1 <= self.line && self.line <= LINES_OF_FORM
-    }
-
-    /// Whether it is a line of one of the forms, and further down than another place.
-    fn is_below(self, above: Place) -> bool
-        ensures { IsTrue result ↔ IsBelow above self }
-    {
-        self.is_on_form()
-            && (above.form < self.form || above.form == self.form && above.line < self.line)
-    }
-}
-
-impl Line {
-    /// Where it was printed.
-    fn place(&self) -> Place
-        ensures { result ≡ line_place self.now }
-    {
-        Place {
-            form: self.form,
-            line: self.line,
-        }
-    }
-}
-
-impl Carriage {
-    /// Where it stands.
-    fn place(&self) -> Place
-        ensures { result ≡ carriage_place self.now }
-    {
-        Place {
-            form: self.form,
-            line: self.line,
-        }
-    }
-}
-
-impl Printer {
-    /// Whether it has made no more lines than it can, each further down than the one before, and
-    /// the carriage stands further down than they do.
-    fn is_in_range(&self) -> bool
-        ensures { IsTrue result ↔ HasPrinted self.now }
-    {
-        if self.lines.len() > MOST_LINES {
-            return false;
-        }
-        let mut above = Place { form: 0, line: 0 };
-        for line in &self.lines {
-            let place = line.place();
-            if !place.is_below(above) {
-                return false;
-            }
-            above = place;
-        }
-        self.carriage.place().is_below(above)
-    }
-}
-
-impl Hopper {
-    /// Whether it has read a card, and no more than there are.
-    fn is_in_range(&self) -> bool
-        ensures { IsTrue result ↔ HasRead self.now }
-    {
-        1 <= self.taken && self.taken as usize <= self.deck.cards().len()
-    }
-}
 
 /// Whether the registers hold addresses.
 fn are_addresses(registers: &Registers) -> bool
@@ -107,10 +27,6 @@ impl<C: Core> Parts<C> {
     pub fn is_in_range(&self) -> bool
         ensures { IsTrue result ↔ IsInRange self.now }
     {
-        self.has_size()
-            && are_addresses(&self.registers)
-            && self.units.hopper.is_in_range()
-            && self.units.punch.cards.len() <= MOST_CARDS
-            && self.units.printer.is_in_range()
+        self.has_size() && are_addresses(&self.registers) && self.units.is_in_range()
     }
 }

@@ -3,22 +3,21 @@
 ghost use Rattle.std.specs.Prelude.{◌≡◌, ◌+◌, ◌-◌, ◌<◌, ◌≤◌, ◌&&◌, ℕ, List, [], length, true, false, IfOk, IfSome, MatchOption, OnErr, OnOk, if◌then◌else◌, take};
 ghost use Rattle.cards.specs.declared.decks.Card.{Card};
 ghost use Rattle.core_store.specs.declared.sizes.Size.{Size};
-ghost use Rattle.machine.specs.declared.switches.Switches.{Switches};
+ghost use Rattle.units.specs.declared.switches.Switches.{Switches};
 ghost use Rattle.core_store.specs.Storage.{blank_storage, put_codes, with_mark, positions_of};
-ghost use Rattle.machine.specs.Listing.{IsRising};
+ghost use Rattle.units.specs.Listing.{IsRising};
+ghost use Rattle.units.specs.Units.{Makes};
 ghost use Rattle.machine.specs.Run.{first_card, State, step, after, attempts, executed, lines_of, risen, is_running, is_checked, is_halted, event_of, loaded, started, restored};
 ghost use Rattle.machine.specs.Effect.{works_of};
 ghost use Rattle.machine.specs.Ranges.{IsInRange};
 
 use crate::meter::Meter;
 use crate::parts::{Event, Parts, Standing};
-use crate::printer::{Carriage, Printer};
-use crate::switches::Switches;
-use crate::units::{Hopper, Punch, Units, put_card};
 use cards::Deck;
 use core_store::{Compared, Core, Registers, Size};
 use std::alloc::{AllocError, Global};
 use std::marker::Model;
+use units::{Carriage, Hopper, Printer, Punch, Switches, Units, put_card};
 
 /// How a run ended.
 #[derive(Clone, Copy, Debug, PartialEq, Eq)]
@@ -33,6 +32,7 @@ pub struct Ran {
 struct Checkpoint {
     registers: Registers,
     taken: u16,
+    cards: usize,
     lines: usize,
     carriage: Carriage,
     standing: Standing,
@@ -150,20 +150,21 @@ impl<C: Core> Machine<C> {
         self.parts.start(switches);
     }
 
-    /// One instruction. Only one that prints may fail for memory, and then nothing changes.
+    /// One instruction. Only one that punches or prints may fail for memory, and then nothing
+    /// changes.
     pub fn step(&mut self, meter: &mut Meter) -> Result<Event, AllocError>
         ensures machine { OnOk result (self.new ≡ step self.old) }
         ensures event { IfOk result (λ event. event ≡ event_of (step self.old).standing) }
         ensures meter { OnOk result (meter.new ≡ risen meter.old (attempts self.old 1)) }
         ensures unchanged { OnErr result (self.new ≡ self.old) }
-        ensures memory { OnErr result (length (lines_of self.old) < length (lines_of (step self.old))) }
+        ensures memory { OnErr result (Makes self.old.works.units (step self.old).works.units) }
     {
         self.parts.step(meter)?;
         Ok(self.parts.standing.event())
     }
 
     /// Runs until the limit, a halt or a check. Every attempted instruction ticks the meter. Only
-    /// what prints may fail for memory, and then the machine is as before the call.
+    /// what punches or prints may fail for memory, and then the machine is as before the call.
     pub fn run(&mut self, limit: u32, meter: &mut Meter) -> Result<Ran, AllocError>
         ensures machine { OnOk result (self.new ≡ after self.old limit) }
         ensures meter { OnOk result (meter.new ≡ risen meter.old (attempts self.old limit)) }
@@ -171,7 +172,7 @@ impl<C: Core> Machine<C> {
         ensures standing { IfOk result (λ ran. ran.standing ≡ (after self.old limit).standing) }
 
         ensures unchanged { OnErr result (self.new ≡ self.old) }
-        ensures memory { OnErr result (length (lines_of self.old) < length (lines_of (after self.old limit))) }
+        ensures memory { OnErr result (Makes self.old.works.units (after self.old limit).works.units) }
     {
         let checkpoint = self.parts.checkpoint(&mut self.spare);
         for attempted in 0..limit {
@@ -202,6 +203,7 @@ impl<C: Core> Parts<C> {
         ensures storage { C.cells spare.new ≡ self.now.works.storage }
         ensures registers { result.registers ≡ self.now.works.registers }
         ensures taken { result.taken ≡ self.now.works.units.hopper.taken }
+        ensures cards { result.cards ≡ length self.now.works.units.punch }
         ensures lines { result.lines ≡ length (lines_of self.now) }
         ensures carriage { result.carriage ≡ self.now.works.units.printer.carriage }
         ensures standing { result.standing ≡ self.now.standing }
@@ -210,13 +212,14 @@ impl<C: Core> Parts<C> {
         Checkpoint {
             registers: self.registers,
             taken: self.units.hopper.taken,
+            cards: self.units.punch.cards.len(),
             lines: self.units.printer.lines.len(),
             carriage: self.units.printer.carriage,
             standing: self.standing,
         }
     }
 
-    /// Goes back to a storage and a checkpoint: what was printed since is taken away.
+    /// Goes back to a storage and a checkpoint: what was punched and printed since is taken away.
     fn restore(&mut self, storage: &C, checkpoint: Checkpoint)
         requires { length self.old.works.storage ≡ length (C.cells storage.now) }
         ensures { self.new ≡ restored self.old (C.cells storage.now) checkpoint }
@@ -224,6 +227,7 @@ impl<C: Core> Parts<C> {
         self.core.copy_from(storage);
         self.registers = checkpoint.registers;
         self.units.hopper.taken = checkpoint.taken;
+        self.units.punch.cards.truncate(checkpoint.cards);
         self.units.printer.lines.truncate(checkpoint.lines);
         self.units.printer.carriage = checkpoint.carriage;
         self.standing = checkpoint.standing;

@@ -1,14 +1,13 @@
 //! Single steps of machines that are put together by hand.
 
-use crate::{
-    Carriage, Event, Hopper, Machine, Meter, Parts, Printer, Punch, Standing, Switches, Units,
-};
+use crate::{Event, Machine, Meter, Parts, Standing};
 use bcd::Code;
 use bitflags::Flags;
 use cards::{Card, Deck};
 use core_store::{Check, Compared, Core, FlagCore, Registers, Size};
 use std::alloc::Global;
 use std::test::Fail;
+use units::{Carriage, Hopper, Printer, Punch, Switches, Units};
 
 /// Where the instructions of these tests begin.
 const START: u16 = 400;
@@ -126,6 +125,24 @@ fn arithmetic_on_fields(rt: HostRuntime) -> Result<(), Fail> {
 }
 
 #[test]
+fn moves_of_fields(rt: HostRuntime) -> Result<(), Fail> {
+    for (program, first, second, moved) in [
+        ("~M010020~", "~ABC", "~XYZ", "ABC"),
+        ("~L010020~", "A~BC", "~XYZ", "XBC"),
+        ("~D010020~", "~ABJ", "~XYC", "XYA"),
+        ("~Y010020~", "~ABJ", "~XY3", "XYL"),
+        ("~Z010020~", "~0,5", "~XYZ", "  5"),
+        ("~E010020~", "~005", "~ 0-", " 5 "),
+    ] {
+        let mut machine = machine(rt.alloc(), program, first, second)?;
+        let event = machine.step(&mut Meter::new())?;
+        assert_eq!(rt; event, Event::Next);
+        assert!(rt; holds(&machine.parts().core, 18, moved));
+    }
+    Ok(())
+}
+
+#[test]
 fn a_single_address_is_both(rt: HostRuntime) -> Result<(), Fail> {
     let mut machine = machine(rt.alloc(), "~A010~", "~005", "~123")?;
     machine.step(&mut Meter::new())?;
@@ -147,6 +164,33 @@ fn the_test_of_overflow_turns_it_off(rt: HostRuntime) -> Result<(), Fail> {
     assert!(rt; !machine.parts().registers.overflow);
     machine.step(&mut meter)?;
     assert_eq!(rt; addresses(&machine), (412, 407, 412));
+    Ok(())
+}
+
+#[test]
+fn registers_stored(rt: HostRuntime) -> Result<(), Fail> {
+    for (program, stored, a, b) in [
+        ("~M010020~H500~", "017", 497, 17),
+        ("~M010020~Q500~", "007", 7, 497),
+    ] {
+        let mut machine = machine(rt.alloc(), program, "~ABC", "~XYZ")?;
+        let mut meter = Meter::new();
+        machine.step(&mut meter)?;
+        machine.step(&mut meter)?;
+        assert!(rt; holds(&machine.parts().core, 498, stored));
+        assert_eq!(rt; addresses(&machine), (411, a, b));
+    }
+    Ok(())
+}
+
+#[test]
+fn storage_cleared_and_a_branch(rt: HostRuntime) -> Result<(), Fail> {
+    let mut machine = machine(rt.alloc(), "~/360099~", "~ABC", "~XYZ")?;
+    machine.step(&mut Meter::new())?;
+    assert!(rt; holds(&machine.parts().core, 8, "   "));
+    assert!(rt; !machine.parts().core.is_marked(8));
+    assert!(rt; holds(&machine.parts().core, START, "/360099"));
+    assert_eq!(rt; addresses(&machine), (360, 360, 407));
     Ok(())
 }
 

@@ -1,13 +1,12 @@
 //! Whole runs of small decks.
 
-use crate::{
-    Hopper, Machine, Meter, Parts, Printer, Punch, Ran, Standing, Switches, Units, render,
-};
+use crate::{Machine, Meter, Parts, Ran, Standing};
 use bitflags::Flags;
 use cards::{Deck, read_text};
 use core_store::{Check, Core, FlagCore, Size};
 use std::alloc::Global;
 use std::test::Fail;
+use units::{Hopper, Printer, Punch, Switches, Units, render};
 
 /// The loading cards of a program that prints each data card, until the last one.
 const LIST_CARDS: [&str; 4] = [
@@ -125,6 +124,61 @@ fn runs_that_do_not_halt(rt: HostRuntime) -> Result<(), Fail> {
         assert_eq!(rt; machine.parts().registers.i, next);
         assert_eq!(rt; meter.ticks(), ticks);
         assert_eq!(rt; machine.parts().units.printer.lines.len(), 0);
+    }
+    Ok(())
+}
+
+/// The machine of 1400 positions that has run a deck of one card to its halt.
+fn ran_card(alloc: Global, card: &str) -> Result<Machine<FlagCore>, Fail> {
+    let deck = deck_of(alloc, &[card], &[])?;
+    if deck.cards().len() == 0 {
+        return Err("no card".into());
+    }
+    let mut machine = Machine::<FlagCore>::load(
+        alloc,
+        deck,
+        Size::Positions1400,
+        Switches::empty(),
+    )?;
+    machine.run(2000, &mut Meter::new())?;
+    Ok(machine)
+}
+
+#[test]
+fn orders_to_the_carriage(rt: HostRuntime) -> Result<(), Fail> {
+    for (card, listing, line) in [
+        (
+            ",008015,022029,030032,0330342FK2.",
+            b"\n\n\n\n".as_slice(),
+            5,
+        ),
+        (
+            ",008015,022029,030032,0330342F12.",
+            b"\n\x0C\n".as_slice(),
+            2,
+        ),
+        (",008015,022029,030032,0330342FS2.", b"\n\n".as_slice(), 4),
+    ] {
+        let machine = ran_card(rt.alloc(), card)?;
+        assert_eq!(rt; machine.parts().standing, Standing::Halted);
+        assert_eq!(rt; machine.parts().registers.i, 34);
+        let printer = &machine.parts().units.printer;
+        assert_eq!(rt; printer.carriage.line, line);
+        let text = render(rt.alloc(), &printer.lines)?;
+        assert!(rt; text.as_slice() == listing);
+    }
+    Ok(())
+}
+
+#[test]
+fn three_blank_cards_are_punched(rt: HostRuntime) -> Result<(), Fail> {
+    let machine = ran_card(rt.alloc(), ",008015,022029,030031,032033444.")?;
+    assert_eq!(rt; machine.parts().standing, Standing::Halted);
+    assert_eq!(rt; machine.parts().registers.i, 33);
+    let cards = &machine.parts().units.punch.cards;
+    assert_eq!(rt; cards.len(), 3);
+    for card in cards {
+        assert!(rt; card.0.iter().all(|code| code.glyph() == b' '));
     }
     Ok(())
 }

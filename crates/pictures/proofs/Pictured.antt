@@ -1,9 +1,10 @@
 -- pictures and their rows
 use Rattle.std.proofs.Common.{◌≤◌, List, [], ◌∷◌, ap}
-use Rattle.machine.specs.declared.printer.Line.{Line}
-use Rattle.machine.specs.declared.printer.TheConstants.{LINES_OF_FORM}
-use Rattle.machine.specs.declared.printer.Carriage.{Carriage}
-use Rattle.machine.specs.Ranges.{AreRising, IsInRange, carriage_place, line_place, places_then, the_top}
+use Rattle.units.specs.declared.printer.Line.{Line}
+use Rattle.units.specs.declared.carriage.TheConstants.{LINES_OF_FORM}
+use Rattle.units.specs.declared.carriage.Carriage.{Carriage}
+use Rattle.machine.specs.Ranges.{IsInRange}
+use Rattle.units.specs.Ranges.{AreRising, carriage_place, line_place, places_then, the_top}
 use Rattle.machine.specs.Run.{State, lines_of}
 use Rattle.pictures.specs.declared.parts.Media.{Media}
 use Rattle.pictures.specs.Pictures.{IsPictured}
@@ -20,7 +21,7 @@ below_all c (l ∷ lines) rising = below_line c l lines rising.1
 
 -- the carriage stands on a form
 pub carriage_line : (m : State) → IsInRange m → m.works.units.printer.carriage.line ≤ LINES_OF_FORM
-carriage_line m range = below_all m.works.units.printer.carriage (lines_of m) range.printer.places
+carriage_line m range = below_all m.works.units.printer.carriage (lines_of m) range.units.printer.places
 
 pub has_units : (row : PictureCells) (media : Media) (m : State) → IsPictured row media m → HasUnits row media m.works.units
 has_units row media m pictured = record {

@@ -3,7 +3,7 @@ use Rattle.std.proofs.Common.{◌≡◌, ℕ, zero, suc, ◌<◌, List, [], ◌�
 use Rattle.std.proofs.lemmas.List.{length-map}
 use Rattle.std.specs.List.{All}
 use Rattle.std.proofs.lemmas.List.Elements.{All-head, All-tail}
-use Rattle.machine.specs.declared.printer.Line.{Line}
+use Rattle.units.specs.declared.printer.Line.{Line}
 use Rattle.pictures.specs.Columns.{line_cells, IsLine}
 use Rattle.tables.specs.Cells.{LineCells}
 

@@ -9,9 +9,9 @@ use Rattle.core_store.specs.declared.registers.Compared.{Compared}
 use Rattle.core_store.specs.declared.registers.Compared.TheVariants.{Equal, Low, High}
 use Rattle.machine.specs.declared.parts.Standing.{Standing}
 use Rattle.machine.specs.declared.parts.Standing.TheVariants.{Running, Halted, Checked}
-use Rattle.machine.specs.declared.printer.Line.{Line}
-use Rattle.machine.specs.declared.printer.Motion.{Motion}
-use Rattle.machine.specs.declared.printer.Motion.TheVariants.{Space, DoubleSpace, TripleSpace, SkipToChannel1}
+use Rattle.units.specs.declared.printer.Line.{Line}
+use Rattle.units.specs.declared.carriage.Motion.{Motion}
+use Rattle.units.specs.declared.carriage.Motion.TheVariants.{Space, DoubleSpace, TripleSpace, SkipToChannel1}
 use Rattle.machine.specs.Run.{State}
 use Rattle.tables.specs.Cells.{PictureCells, LineCells}
 

@@ -1,8 +1,8 @@
 -- the parts of a machine whose columns a row holds
 use Rattle.std.specs.Prelude.{◌≡◌, length}
 use Rattle.core_store.specs.declared.registers.Registers.{Registers}
-use Rattle.machine.specs.declared.printer.Carriage.{Carriage}
-use Rattle.machine.specs.declared.units.Units.{Units}
+use Rattle.units.specs.declared.carriage.Carriage.{Carriage}
+use Rattle.units.specs.declared.units.Units.{Units}
 use Rattle.pictures.specs.declared.parts.Media.{Media}
 use Rattle.pictures.specs.Columns.{truth, compare_number, waiting_number}
 use Rattle.tables.specs.Cells.{PictureCells}

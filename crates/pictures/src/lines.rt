@@ -1,14 +1,14 @@
 //! Printed lines as rows.
 
 ghost use Rattle.std.specs.Prelude.{◌≡◌, List, All, map, Some, IfOk, IfSome, IsSome};
-ghost use Rattle.machine.specs.declared.printer.Line.{Line};
+ghost use Rattle.units.specs.declared.printer.Line.{Line};
 ghost use Rattle.pictures.specs.Columns.{line_cells, IsLine};
 
 use crate::codes::{read_codes, write_numbers};
 use bcd::Code;
-use machine::Line;
 use std::alloc::{AllocError, Global};
 use tables::LineRow;
+use units::Line;
 
 /// A printed line as a row.
 pub fn line_row(alloc: Global, line: &Line) -> Result<LineRow, AllocError>

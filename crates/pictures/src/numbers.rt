@@ -3,13 +3,14 @@
 ghost use Rattle.std.specs.Prelude.{◌≡◌, ◌<◌, Bool, Option, Some, IfSome};
 ghost use Rattle.core_store.specs.declared.registers.Compared.{Compared};
 ghost use Rattle.machine.specs.declared.parts.Standing.{Standing};
-ghost use Rattle.machine.specs.declared.printer.Motion.{Motion};
-ghost use Rattle.machine.specs.declared.switches.Switches.{Switches};
+ghost use Rattle.units.specs.declared.carriage.Motion.{Motion};
+ghost use Rattle.units.specs.declared.switches.Switches.{Switches};
 ghost use Rattle.pictures.specs.Columns.{truth, compare_number, waiting_number, check_number, standing_number};
 
 use bitflags::Flags;
 use core_store::{Check, Compared};
-use machine::{Motion, Standing, Switches};
+use machine::Standing;
+use units::{Motion, Switches};
 
 /// The switches as a number, A the lowest bit and G the seventh.
 pub fn switches_number(switches: Switches) -> u32

@@ -2,10 +2,11 @@
 
 ghost use Rattle.std.specs.Prelude.{◌≡◌, ◌≤◌, Some, IfOk, IfSome};
 ghost use Rattle.core_store.specs.declared.registers.Registers.{Registers};
-ghost use Rattle.machine.specs.declared.printer.Carriage.{Carriage};
-ghost use Rattle.machine.specs.declared.printer.TheConstants.{LINES_OF_FORM};
-ghost use Rattle.machine.specs.declared.units.Units.{Units};
-ghost use Rattle.machine.specs.Ranges.{IsInRange, AreAddresses, HasRead};
+ghost use Rattle.units.specs.declared.carriage.Carriage.{Carriage};
+ghost use Rattle.units.specs.declared.carriage.TheConstants.{LINES_OF_FORM};
+ghost use Rattle.units.specs.declared.units.Units.{Units};
+ghost use Rattle.machine.specs.Ranges.{IsInRange, AreAddresses};
+ghost use Rattle.units.specs.Ranges.{HasRead};
 ghost use Rattle.machine.specs.Run.{State};
 ghost use Rattle.pictures.specs.Columns.{picture_cells, HoldsCharacters};
 ghost use Rattle.pictures.specs.Pictures.{IsPictured};
@@ -18,9 +19,10 @@ use crate::numbers::{
 use crate::storage::{read_storage, storage_bytes};
 use cards::{Card, Deck};
 use core_store::{Core, Registers};
-use machine::{Carriage, Hopper, Line, Parts, Printer, Punch, Switches, Units};
+use machine::Parts;
 use std::alloc::{AllocError, Global};
 use tables::PictureRow;
+use units::{Carriage, Hopper, Line, Printer, Punch, Switches, Units};
 
 /// What a machine reads and has made: it stands in other tables than its picture.
 #[derive(Drop)]

@@ -6,10 +6,11 @@ use crate::{
 };
 use cards::{Deck, read_text};
 use core_store::{FlagCore, Size};
-use machine::{Machine, Meter, Parts, Switches, render};
+use machine::{Machine, Meter, Parts};
 use std::alloc::Global;
 use std::test::Fail;
 use tables::{LineRow, PictureRow};
+use units::{Switches, render};
 
 /// A program that prints each data card until the last one, and two data cards.
 const CARDS: [&str; 6] = [

@@ -2,11 +2,12 @@
 
 use super::{LOOP, apply, contents, slice, submit};
 use crate::{Bureau, Fault};
-use machine::{Meter, Switches};
+use machine::Meter;
 use sqlite::{Alter, Connection, FileStore, Files, Options};
 use sqlite_disk::{Fuse, Memory};
 use std::alloc::Global;
 use std::test::Fail;
+use units::Switches;
 
 /// A bureau on disks of which that of the log fails after so many calls.
 fn on_failing_disks(alloc: Global, calls: u64) -> Result<Bureau<FileStore<Fuse<Memory>>>, Fail> {

@@ -3,10 +3,11 @@
 use super::{LOOP, TWO_LINES, all_rows, apply, contents, in_memory, number, slice, submit, with_9};
 use crate::{Bureau, Command, Contents, Reply};
 use bitflags::Flags;
-use machine::{Meter, Switches};
+use machine::Meter;
 use sqlite::{Alter, Connection, MemStore};
 use std::alloc::Global;
 use std::test::Fail;
+use units::Switches;
 
 /// The cards of job 9, but for one column.
 const ONE_COLUMN_CHANGED: [&str; 6] = [

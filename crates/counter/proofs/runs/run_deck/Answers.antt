@@ -4,7 +4,7 @@ use Rattle.std.proofs.lemmas.Result.{IfOk-weaker}
 use Rattle.std.specs.Io.KnownBytes.{Appends, Keeps}
 use Rattle.cards.specs.Faults.{out_of_memory}
 use Rattle.core_store.specs.declared.Size.{Size}
-use Rattle.machine.specs.declared.Switches.{Switches}
+use Rattle.units.specs.declared.Switches.{Switches}
 use Rattle.counter.specs.declared.faults.RunFault.{RunFault}
 use Rattle.counter.specs.declared.faults.RunFault.TheVariants as fault
 use Rattle.counter.specs.declared.runs.TheConstants.{MOST_BYTES}

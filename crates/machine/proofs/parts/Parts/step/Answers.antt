@@ -1,7 +1,7 @@
 use Rattle.std.proofs.Common.{length, ◌≤◌, ◌≡◌, ◌∙◌, ap, sym, arith, true, Err}
-use Rattle.machine.specs.Effect.{Works, works_of, attempt, Prints}
+use Rattle.machine.specs.Effect.{Works, works_of, attempt}
 use Rattle.machine.specs.Run.{standing_after, State, risen, is_running}
-use Rattle.machine.proofs.Steps.{step_stopped, step_ok, step_check, step_prints, attempts_stopped, attempts_one, attempt_size}
+use Rattle.machine.proofs.Steps.{step_stopped, step_ok, step_check, step_makes, attempts_stopped, attempts_one, attempt_size, MakesBy}
 use Rattle.machine.specs.declared.parts.Standing.TheVariants.{Checked}
 use Rattle.machine.proofs.parts.Parts.step.Goals as goal
 
@@ -54,8 +54,8 @@ returns-in-NoMemory-clause-memory g c =
     let w = works_of (g.C.Core.cells c.self.inside.core) c.self.inside.registers c.self.inside.units in
     let same : w ≡ m.works = ap (λ (x : State). x.works) c.self.view_is in
     let running : is_running m.standing ≡ true = sym c.is_running.ensures ∙ c.if-not-is_running.false in
-    let prints : Prints w (attempt w) = rw c.in-NoMemory.is at c.in-Err.ensures.refused in
-    step_prints m w same running prints
+    let makes : MakesBy w (attempt w) = rw c.in-NoMemory.is at c.in-Err.ensures.refused in
+    step_makes m w same running makes
 
 pub invariant_of-self : goal.invariant_of-self
 invariant_of-self g c =

@@ -1,7 +1,7 @@
 use Rattle.std.proofs.Common.{◌≡◌, ◌∙◌, ap, sym, arith}
 use Rattle.machine.specs.Run.{State}
 use Rattle.machine.proofs.InRange.{step_in_range}
-use Rattle.machine.proofs.Steps.{over_stopped, over_done, left_step, left_prints, executed_is, stems_step}
+use Rattle.machine.proofs.Steps.{over_stopped, over_done, left_step, left_makes, executed_is, stems_step}
 use Rattle.machine.proofs.runs.Machine.run.Goals as goal
 
 -- the run ended at a halt or check
@@ -47,18 +47,20 @@ returns-clause-standing g c =
 
 pub returns-in-Err-clause-memory : goal.returns-in-Err-clause-memory
 returns-in-Err-clause-memory g c =
-    left_prints _ _ _ _ _ _ c.loop-attempted.invariant.left c.loop-attempted.invariant.stems (omega arith) c.in-Err.ensures.memory
+    left_makes _ _ _ _ _ _ c.loop-attempted.invariant.left c.loop-attempted.invariant.stems (omega arith) c.in-Err.ensures.memory
 
 -- one more step
 
 pub loop-attempted-preserved : goal.loop-attempted-preserved
 loop-attempted-preserved g c =
     let stepped = c.in_default.ensures.step in
+    let old = c.args.self.now in
+    let now = c.loop-attempted.self-inside.parts in
     record {
       left =
           left_step _ _ _ _ _ _ c.loop-attempted.invariant.left _ _ (omega arith) (sym c.is_running.ensures ∙ c.if-not-is_running.false) stepped
           c.in_default.ensures.meter;
-      stems = stems_step _ _ _ stepped c.loop-attempted.invariant.stems;
+      stems = stems_step old now _ stepped c.loop-attempted.invariant.stems;
       in_range = step_in_range _ _ stepped c.loop-attempted.invariant.in_range;
       spare = c.loop-attempted.invariant.spare;
       checkpoint = c.loop-attempted.invariant.checkpoint;

@@ -1,9 +1,0 @@
-use Rattle.std.proofs.Common.{◌≤◌, ◌+◌}
-use Rattle.arith.proofs.Cuts.{Unmarked}
-use Rattle.arith.proofs.operands.cut_length.Given as goal
-
-abbrev pub invariant-loop-count : goal.invariant-loop-count
-invariant-loop-count g l = record {
-  unmarked : Unmarked (g.C.Core.cells l.core) l.position l.limit l.count;
-  most : l.count ≤ l.position + 1;
-}

@@ -1,0 +1,47 @@
+-- where operations find their operands
+use Rattle.std.specs.Prelude.{ℕ, ◌+◌, ◌-◌, ◌%◌, nat_lt, nat_le, List, length, Bool, true, false, ◌&&◌, if◌then◌else◌, Option, Some, None}
+use Rattle.std.specs.Option.{option_map}
+use Rattle.bcd.specs.declared.Zone.{Zone}
+use Rattle.bcd.specs.declared.Zone.TheVariants.{Bare, A, B, AB}
+use Rattle.core_store.specs.Storage.{Storage, field_length, codes_ending}
+use Rattle.core_store.specs.declared.TheConstants.{LARGEST_SIZE}
+use Rattle.core_store.specs.declared.registers.Registers.{Registers}
+
+-- a register so many positions lower, modulo 16000
+abbrev pub lowered : ℕ → ℕ → ℕ
+lowered register count = (register + LARGEST_SIZE - count) % LARGEST_SIZE
+
+-- the registers with A and B so many positions lower
+abbrev pub lowered_by : Registers → ℕ → ℕ → Registers
+lowered_by r a_count b_count = record r { a = lowered r.a a_count; b = lowered r.b b_count }
+
+-- whether both are positions of the storage
+abbrev pub are_inside : Storage → ℕ → ℕ → Bool
+are_inside s a b = nat_lt a (length s) && nat_lt b (length s)
+
+-- whether the characters read at a are written over by those put at b before they are read
+abbrev pub is_overlapping : ℕ → ℕ → ℕ → Bool
+is_overlapping a b count = nat_lt b a && nat_lt (a - b) count
+
+-- whether there is a number and it is at most a limit
+abbrev pub is_within : Option ℕ → ℕ → Bool
+is_within (Some count) limit = nat_le count limit
+is_within None limit = false
+
+-- how many characters are read at p where at most a limit are wanted: the field at p where it is no longer, else as many
+-- as are wanted, which must not pass position 0
+unfoldable pub cut_length : Storage → ℕ → ℕ → Option ℕ
+cut_length s p limit =
+    if is_within (field_length s p) limit then field_length s p
+    else (if nat_le limit (p + 1) then Some limit else None)
+
+-- the characters that are read at p where at most a limit are wanted
+unfoldable pub cut : Storage → ℕ → ℕ → Option (List ℕ)
+cut s p limit = option_map (codes_ending s p) (cut_length s p limit)
+
+-- zone B alone, which makes a field minus at its units position
+abbrev pub is_minus_zone : Zone → Bool
+is_minus_zone Bare = false
+is_minus_zone A = false
+is_minus_zone B = true
+is_minus_zone AB = false

@@ -1,6 +1,0 @@
-use Rattle.std.proofs.Common.{◌≡◌, ◌++◌, map, take}
-use Rattle.machine.specs.Listing.{shown}
-use Rattle.machine.proofs.listing.push_line.Given as goal
-
-abbrev pub invariant-loop-code : goal.invariant-loop-code
-invariant-loop-code l = l.text.items ≡ l.initial.text.items ++ map shown (take l.code-index l.code-items)

@@ -1,7 +1,0 @@
-use Rattle.std.proofs.Common.{take}
-use Rattle.machine.specs.Listing.{IsRising}
-use Rattle.machine.proofs.Listings.{IsShown}
-use Rattle.machine.proofs.listing.render.Given as goal
-
-abbrev pub invariant-loop-line : goal.invariant-loop-line
-invariant-loop-line l = IsRising l.lines → IsShown (take l.line-index l.lines) l.text.items l.form l.done

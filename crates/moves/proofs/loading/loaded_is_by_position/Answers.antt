@@ -1,0 +1,5 @@
+use Rattle.moves.proofs.Positions.{is_loaded}
+use Rattle.moves.proofs.loading.loaded_is_by_position.Goals as goal
+
+pub returns : goal.returns
+returns c = is_loaded

@@ -1,0 +1,12 @@
+use Rattle.std.proofs.Common.{◌≡◌, ◌+◌, ◌-◌, length}
+use Rattle.core_store.specs.Storage.{put_codes, codes_ending}
+use Rattle.moves.specs.Characters.{bare_units}
+use Rattle.moves.proofs.suppressing.copy_bare.Given as goal
+
+abbrev pub invariant-loop-i : goal.invariant-loop-i
+invariant-loop-i g l =
+    let old = g.C.Core.cells l.fn.core in
+    record {
+      codes : g.C.Core.cells l.core ≡ put_codes old (l.b + 1 - l.i) (bare_units (codes_ending old l.a l.i));
+      size : length (g.C.Core.cells l.core) ≡ length old;
+    }

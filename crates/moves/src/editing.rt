@@ -1,0 +1,72 @@
+//! Data edited by a control field.
+
+ghost use Rattle.std.specs.Prelude.{◌≡◌, ◌+◌, ◌-◌, ◌<◌, ◌≤◌, ℕ, List, Bool, true, false, length, slice_index, OnOk, OnErr, IfErr, Ok, Err};
+ghost use Rattle.core_store.specs.Storage.{codes_ending, put_codes};
+ghost use Rattle.moves.specs.Characters.{bare_units};
+ghost use Rattle.moves.specs.Edited.{edited, is_minus, is_place, is_sharing, field_edited, IsShown};
+
+use crate::blanking::{Stop, blank_start};
+use crate::filling::{fill, through_zero, wanted};
+use core_store::{Check, Core, LARGEST_SIZE, Registers, are_inside, cut_length, field_length};
+
+/// Whether two stretches of positions, which end at A and at B, have one in common.
+#[inline(always)]
+fn shares(a: u16, a_count: u16, b: u16, b_count: u16) -> bool
+    requires a { a < LARGEST_SIZE }
+    requires b { b < LARGEST_SIZE }
+    requires a_count { a_count ≤ LARGEST_SIZE }
+    requires b_count { b_count ≤ LARGEST_SIZE }
+    ensures { result ≡ is_sharing a a_count b b_count }
+{
+    a < b + a_count && b < a + b_count
+}
+
+/// Puts the data into the control, and blanks what stands to the left of the number.
+#[tactic(auto, using(crate::proofs::Edits::all_edited))]
+fn fill_blanked<C: Core>(core: &mut C, a: u16, a_count: u16, b: u16, b_count: u16)
+    requires a_in { a < length (C.cells core.old) }
+    requires b_in { b < length (C.cells core.old) }
+    requires a_from { a_count ≤ a + 1 }
+    requires b_from { b_count ≤ b + 1 }
+    requires a_some { 1 ≤ a_count }
+    requires below { b < LARGEST_SIZE }
+    requires apart { is_sharing a a_count b b_count ≡ false }
+    ensures codes { C.cells core.new ≡ put_codes (C.cells core.old) (b + 1 - b_count) (edited (codes_ending (C.cells core.old) b b_count) (bare_units (codes_ending (C.cells core.old) a a_count)) (is_minus (codes_ending (C.cells core.old) a a_count))) }
+    ensures size { length (C.cells core.new) ≡ length (C.cells core.old) }
+{
+    let through = through_zero(core, b, b_count);
+    fill(core, a, a_count, b, b_count);
+    blank_start(core, b + 1 - b_count, b_count, through, Stop::Digit);
+}
+
+/// Edits the data at A by the control field at B.
+#[tactic(auto, unfolding(crate::specs::Edited::field_edited))]
+pub fn edit<C: Core>(core: &mut C, registers: &mut Registers) -> Result<(), Check>
+    ensures done { OnOk result (field_edited (C.cells core.old) registers.old ≡ Ok (C.cells core.new, registers.new)) }
+    ensures check { IfErr result (λ check. field_edited (C.cells core.old) registers.old ≡ Err check) }
+    ensures unchanged { OnErr result ((C.cells core.new ≡ C.cells core.old) × (registers.new ≡ registers.old)) }
+{
+    let Registers { a, b, .. } = *registers;
+    if !are_inside(core, a, b) {
+        return Err(Check::Address);
+    }
+    let Some(b_count) = field_length(core, b) else {
+        return Err(Check::Address);
+    };
+    let Some(a_count) = cut_length(core, a, wanted(core, b, b_count)) else {
+        return Err(Check::Address);
+    };
+    if shares(a, a_count, b, b_count) {
+        return Err(Check::Overlap);
+    }
+    fill_blanked(core, a, a_count, b, b_count);
+    core.clear_mark(b + 1 - b_count);
+    registers.lower(a_count, b_count);
+    Ok(())
+}
+
+/// The law of editing: before zeros and commas become blank, the digit places of the control hold
+/// the data from the right, the units without zone, and blank where there are no more.
+pub fn edited_shows_the_data()
+    ensures { (control amount : List ℕ) (minus : Bool) (place : ℕ) → place < length control → is_place (slice_index control place) ≡ true → IsShown control amount minus place }
+{}

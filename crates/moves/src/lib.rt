@@ -1,0 +1,28 @@
+//! Moves of fields: move, load, the numeric part and the zone alone, suppress, edit, word marks,
+//! and the clearing of storage.
+//!
+//! Each operation works at the registers A and B. The contract that the layers above use: the
+//! effect on whole fields by the definitions of `specs/`, one for each operation; or the first
+//! check that applies, and then nothing is changed. All is generic over `Core`, and no call takes
+//! memory.
+#![tactic(auto)]
+
+mod blanking;
+mod characters;
+mod editing;
+mod filling;
+mod loading;
+mod marks;
+mod moving;
+mod parts;
+mod suppressing;
+#[cfg(test)]
+mod tests;
+
+pub use characters::parts_are_read;
+pub use editing::{edit, edited_shows_the_data};
+pub use loading::{load_field, loaded_is_by_position};
+pub use marks::{clear_mark, clear_storage, set_mark};
+pub use moving::{move_field, moved_is_by_position};
+pub use parts::{digit, zone};
+pub use suppressing::suppress;

@@ -1,0 +1,82 @@
+//! Word marks set and cleared, and storage cleared.
+
+ghost use Rattle.std.specs.Prelude.{◌≡◌, ◌+◌, ◌-◌, ◌<◌, ◌≤◌, ℕ, length, replicate, true, false, slice_set, OnOk, OnErr, IfErr, Ok, Err};
+ghost use Rattle.core_store.specs.Storage.{put_cells, blank_cell};
+ghost use Rattle.moves.specs.Marks.{marks_put, storage_cleared};
+
+use bcd::Code;
+use core_store::{Check, Core, LARGEST_SIZE, Registers, are_inside, lowered};
+
+/// Sets word marks at A and B.
+#[tactic(auto, unfolding(crate::specs::Marks::marks_put))]
+pub fn set_mark<C: Core>(core: &mut C, registers: &mut Registers) -> Result<(), Check>
+    ensures done { OnOk result (marks_put true (C.cells core.old) registers.old ≡ Ok (C.cells core.new, registers.new)) }
+    ensures check { IfErr result (λ check. marks_put true (C.cells core.old) registers.old ≡ Err check) }
+    ensures unchanged { OnErr result ((C.cells core.new ≡ C.cells core.old) × (registers.new ≡ registers.old)) }
+{
+    let Registers { a, b, .. } = *registers;
+    if !are_inside(core, a, b) {
+        return Err(Check::Address);
+    }
+    core.set_mark(a);
+    core.set_mark(b);
+    registers.lower(1, 1);
+    Ok(())
+}
+
+/// Clears the word marks at A and B.
+#[tactic(auto, unfolding(crate::specs::Marks::marks_put))]
+pub fn clear_mark<C: Core>(core: &mut C, registers: &mut Registers) -> Result<(), Check>
+    ensures done { OnOk result (marks_put false (C.cells core.old) registers.old ≡ Ok (C.cells core.new, registers.new)) }
+    ensures check { IfErr result (λ check. marks_put false (C.cells core.old) registers.old ≡ Err check) }
+    ensures unchanged { OnErr result ((C.cells core.new ≡ C.cells core.old) × (registers.new ≡ registers.old)) }
+{
+    let Registers { a, b, .. } = *registers;
+    if !are_inside(core, a, b) {
+        return Err(Check::Address);
+    }
+    core.clear_mark(a);
+    core.clear_mark(b);
+    registers.lower(1, 1);
+    Ok(())
+}
+
+/// Makes a position blank without a mark.
+#[inline(always)]
+#[tactic(auto, using(crate::proofs::Clears::cleared_cell))]
+fn clear_cell<C: Core>(core: &mut C, position: u16)
+    requires { position < length (C.cells core.old) }
+    ensures { C.cells core.new ≡ slice_set (C.cells core.old) position blank_cell }
+{
+    core.put(position, Code::blank());
+    core.clear_mark(position);
+}
+
+/// Makes the positions from one to another blank without marks.
+fn clear_cells<C: Core>(core: &mut C, first: u16, last: u16)
+    requires order { first ≤ last }
+    requires inside { last < length (C.cells core.old) }
+    requires below { last < LARGEST_SIZE }
+    ensures { C.cells core.new ≡ put_cells (C.cells core.old) first (replicate (last + 1 - first) blank_cell) }
+{
+    for position in (first..last + 1).rev() {
+        clear_cell(core, position);
+    }
+}
+
+/// Clears characters and marks from B down to the nearest hundred.
+#[tactic(auto, unfolding(crate::specs::Marks::storage_cleared))]
+pub fn clear_storage<C: Core>(core: &mut C, registers: &mut Registers) -> Result<(), Check>
+    ensures done { OnOk result (storage_cleared (C.cells core.old) registers.old ≡ Ok (C.cells core.new, registers.new)) }
+    ensures check { IfErr result (λ check. storage_cleared (C.cells core.old) registers.old ≡ Err check) }
+    ensures unchanged { OnErr result ((C.cells core.new ≡ C.cells core.old) × (registers.new ≡ registers.old)) }
+{
+    let last = registers.b;
+    if last >= core.size() {
+        return Err(Check::Address);
+    }
+    let first = last / 100 * 100;
+    clear_cells(core, first, last);
+    registers.b = lowered(first, 1);
+    Ok(())
+}

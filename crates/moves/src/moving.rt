@@ -1,0 +1,88 @@
+//! A field moved.
+
+ghost use Rattle.std.specs.Prelude.{◌≡◌, ◌+◌, ◌-◌, ◌<◌, ◌≤◌, ◌&&◌, ℕ, Some, length, nat_le, IsTrue, OnOk, OnErr, IfErr, Ok, Err};
+ghost use Rattle.core_store.specs.Storage.{Storage, put_codes};
+ghost use Rattle.core_store.specs.declared.registers.Registers.{Registers};
+ghost use Rattle.moves.specs.Moved.{least_of, move_length, moved_codes, moved, IsMoved};
+
+use core_store::{Check, Core, LARGEST_SIZE, Registers, are_inside, field_length};
+
+/// The smaller of two counts, where there is one at all.
+#[inline(always)]
+fn least_of(first: Option<u16>, second: Option<u16>) -> Option<u16>
+    ensures { result ≡ least_of first second }
+{
+    match (first, second) {
+        (Some(m), Some(n)) => Some(m.min(n)),
+        (Some(m), None) => Some(m),
+        (None, found) => found,
+    }
+}
+
+/// How many characters a move takes: up to the first mark in either field.
+#[inline(always)]
+#[tactic(auto, unfolding(crate::specs::Moved::move_length))]
+fn move_length<C: Core>(core: &C, a: u16, b: u16) -> Option<u16>
+    requires a_in { a < length (C.cells core.now) }
+    requires b_in { b < length (C.cells core.now) }
+    requires a_below { a < LARGEST_SIZE }
+    requires b_below { b < LARGEST_SIZE }
+    ensures { result ≡ move_length (C.cells core.now) a b }
+{
+    least_of(field_length(core, a), field_length(core, b))
+}
+
+/// Whether so many characters that end at A and at B do not pass position 000.
+#[inline(always)]
+fn have_room(a: u16, b: u16, count: u16) -> bool
+    requires a { a < LARGEST_SIZE }
+    requires b { b < LARGEST_SIZE }
+    ensures room { result ≡ (nat_le count (a + 1) && nat_le count (b + 1)) }
+    ensures within { IsTrue result → (count ≤ a + 1) × (count ≤ b + 1) }
+{
+    count <= a + 1 && count <= b + 1
+}
+
+/// Copies the characters up to A to the positions up to B, from the right.
+#[tactic(auto, using(crate::proofs::Moves::move_none))]
+fn copy_codes<C: Core>(core: &mut C, a: u16, b: u16, count: u16)
+    requires a_in { a < length (C.cells core.old) }
+    requires b_in { b < length (C.cells core.old) }
+    requires a_from { count ≤ a + 1 }
+    requires b_from { count ≤ b + 1 }
+    ensures { C.cells core.new ≡ put_codes (C.cells core.old) (b + 1 - count) (moved_codes (C.cells core.old) a b count) }
+{
+    for i in 0..count {
+        let code = core.get(a - i);
+        core.put(b - i, code);
+    }
+}
+
+/// Moves characters from the field at A to the field at B, as far as the first mark in either.
+/// Marks stay.
+#[tactic(auto, unfolding(crate::specs::Moved::moved))]
+pub fn move_field<C: Core>(core: &mut C, registers: &mut Registers) -> Result<(), Check>
+    ensures done { OnOk result (moved (C.cells core.old) registers.old ≡ Ok (C.cells core.new, registers.new)) }
+    ensures check { IfErr result (λ check. moved (C.cells core.old) registers.old ≡ Err check) }
+    ensures unchanged { OnErr result ((C.cells core.new ≡ C.cells core.old) × (registers.new ≡ registers.old)) }
+{
+    let Registers { a, b, .. } = *registers;
+    if !are_inside(core, a, b) {
+        return Err(Check::Address);
+    }
+    let Some(count) = move_length(core, a, b) else {
+        return Err(Check::Address);
+    };
+    if !have_room(a, b, count) {
+        return Err(Check::Address);
+    }
+    copy_codes(core, a, b, count);
+    registers.lower(count, count);
+    Ok(())
+}
+
+/// The law of a move: each position of the field at B holds the character of its source, and all
+/// other characters and all marks are the old ones.
+pub fn moved_is_by_position()
+    ensures { (s new : Storage) (r after : Registers) (count : ℕ) → move_length s r.a r.b ≡ Some count → moved s r ≡ Ok (new, after) → IsMoved s r.a r.b count new }
+{}

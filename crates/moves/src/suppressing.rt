@@ -1,0 +1,96 @@
+//! A field moved without its leading zeros.
+
+ghost use Rattle.std.specs.Prelude.{◌≡◌, ◌+◌, ◌-◌, ◌<◌, ◌≤◌, ◌==◌, ℕ, false, length, if◌then◌else◌, OnOk, OnErr, IfErr, Ok, Err};
+ghost use Rattle.core_store.specs.Storage.{code_at, codes_ending, put_codes};
+ghost use Rattle.core_store.specs.Operands.{is_overlapping};
+ghost use Rattle.moves.specs.Characters.{bare, bare_units};
+ghost use Rattle.moves.specs.Suppressed.{zeros_suppressed, unmarked, suppressed};
+
+use crate::blanking::{Stop, blank_start};
+use crate::characters::bare;
+use bcd::Code;
+use core_store::{Check, Core, LARGEST_SIZE, Registers, are_inside, field_length, overlaps};
+
+/// The character at a place from the right, which at the units position is without zone.
+#[inline(always)]
+pub fn bare_at<C: Core>(core: &C, position: u16, place: u16) -> Code
+    requires within { position < length (C.cells core.now) }
+    requires from { place ≤ position }
+    ensures { result ≡ (if place == 0 then bare (code_at (C.cells core.now) (position - place)) else code_at (C.cells core.now) (position - place)) }
+{
+    let code = core.get(position - place);
+    if place == 0 { bare(code) } else { code }
+}
+
+/// Clears the marks of the last positions up to one.
+#[tactic(auto, using(crate::proofs::Copying::unmark_step, crate::proofs::Copying::unmark_none, crate::proofs::Copying::length_with_mark))]
+fn clear_marks<C: Core>(core: &mut C, b: u16, count: u16)
+    requires within { b < length (C.cells core.old) }
+    requires from { count ≤ b + 1 }
+    requires below { b < LARGEST_SIZE }
+    ensures marks { C.cells core.new ≡ unmarked (C.cells core.old) (b + 1 - count) count }
+    ensures size { length (C.cells core.new) ≡ length (C.cells core.old) }
+{
+    for i in 0..count {
+        core.clear_mark(b - i);
+    }
+}
+
+/// Copies the characters up to A to those up to B, the units without zone.
+#[tactic(auto, using(crate::proofs::Copying::copy_none, crate::proofs::Copying::copied_on, crate::proofs::Copying::size_on))]
+fn copy_bare<C: Core>(core: &mut C, a: u16, b: u16, count: u16)
+    requires a_in { a < length (C.cells core.old) }
+    requires b_in { b < length (C.cells core.old) }
+    requires a_from { count ≤ a + 1 }
+    requires b_from { count ≤ b + 1 }
+    requires below { b < LARGEST_SIZE }
+    requires apart { is_overlapping a b count ≡ false }
+    ensures codes { C.cells core.new ≡ put_codes (C.cells core.old) (b + 1 - count) (bare_units (codes_ending (C.cells core.old) a count)) }
+    ensures size { length (C.cells core.new) ≡ length (C.cells core.old) }
+{
+    for i in 0..count {
+        let code = bare_at(core, a, i);
+        core.put(b - i, code);
+    }
+}
+
+/// Moves the characters up to A to B, without marks and leading zeros.
+#[tactic(auto, using(crate::proofs::Copying::all_suppressed))]
+fn move_suppressed<C: Core>(core: &mut C, a: u16, b: u16, count: u16)
+    requires a_in { a < length (C.cells core.old) }
+    requires b_in { b < length (C.cells core.old) }
+    requires a_from { count ≤ a + 1 }
+    requires b_from { count ≤ b + 1 }
+    requires below { b < LARGEST_SIZE }
+    requires apart { is_overlapping a b count ≡ false }
+    ensures { C.cells core.new ≡ put_codes (unmarked (C.cells core.old) (b + 1 - count) count) (b + 1 - count) (suppressed (bare_units (codes_ending (C.cells core.old) a count))) }
+{
+    clear_marks(core, b, count);
+    copy_bare(core, a, b, count);
+    blank_start(core, b + 1 - count, count, count, Stop::Other);
+}
+
+/// Moves the field at A to B without its leading zeros and without marks.
+#[tactic(auto, unfolding(crate::specs::Suppressed::zeros_suppressed))]
+pub fn suppress<C: Core>(core: &mut C, registers: &mut Registers) -> Result<(), Check>
+    ensures done { OnOk result (zeros_suppressed (C.cells core.old) registers.old ≡ Ok (C.cells core.new, registers.new)) }
+    ensures check { IfErr result (λ check. zeros_suppressed (C.cells core.old) registers.old ≡ Err check) }
+    ensures unchanged { OnErr result ((C.cells core.new ≡ C.cells core.old) × (registers.new ≡ registers.old)) }
+{
+    let Registers { a, b, .. } = *registers;
+    if !are_inside(core, a, b) {
+        return Err(Check::Address);
+    }
+    let Some(count) = field_length(core, a) else {
+        return Err(Check::Address);
+    };
+    if count > b + 1 {
+        return Err(Check::Address);
+    }
+    if overlaps(a, b, count) {
+        return Err(Check::Overlap);
+    }
+    move_suppressed(core, a, b, count);
+    registers.lower(count, count);
+    Ok(())
+}

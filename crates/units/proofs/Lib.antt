@@ -1,0 +1,5 @@
+pub mod Writing
+pub mod Together
+pub mod Listings
+pub mod Outcomes
+pub mod InRange

@@ -1,0 +1,6 @@
+use Rattle.std.proofs.Common.{◌≡◌, ◌++◌, replicate}
+use Rattle.units.specs.Listing.{line_feed}
+use Rattle.units.proofs.listing.push_empty_lines.Given as goal
+
+abbrev pub invariant-loop : goal.invariant-loop
+invariant-loop l = l.text.items ≡ l.initial.text.items ++ replicate l.counter line_feed

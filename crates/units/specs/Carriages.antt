@@ -1,0 +1,69 @@
+-- the carriage of the printer, and the orders to it
+use Rattle.std.specs.Prelude.{ℕ, ◌+◌, ◌-◌, nat_le, nat_lt, ◌&&◌, ◌||◌, ◌==◌, Bool, false, if◌then◌else◌, List, Option, Some, None, Result, Ok, unwrap_or, codes}
+use Rattle.bcd.specs.Table.{glyph_of, byte}
+use Rattle.core_store.specs.Checked.{find_or}
+use Rattle.core_store.specs.declared.registers.Check.{Check}
+use Rattle.core_store.specs.declared.registers.Check.TheVariants.{PrinterFull}
+use Rattle.units.specs.declared.carriage.Carriage.{Carriage}
+use Rattle.units.specs.declared.carriage.CarriageOrder.{CarriageOrder}
+use Rattle.units.specs.declared.carriage.CarriageOrder.TheVariants.{Now, AfterLine}
+use Rattle.units.specs.declared.carriage.Motion.{Motion}
+use Rattle.units.specs.declared.carriage.Motion.TheVariants.{Space, DoubleSpace, TripleSpace, SkipToChannel1}
+use Rattle.units.specs.declared.carriage.TheConstants.{LINES_OF_FORM, LINE_OF_CHANNEL_12, LAST_FORM}
+use Rattle.units.specs.Printed.{Printed}
+
+-- at a line of the next form; past the last form there is none
+abbrev pub on_next_form : Carriage → ℕ → Option Carriage
+on_next_form c line = if nat_lt c.form LAST_FORM then Some (record c { form = c.form + 1; line = line }) else None
+
+-- channel 12 turns on where spacing goes from before its line to its line or past it
+abbrev pub sensed : Carriage → ℕ → Bool
+sensed c count = c.channel_12 || (nat_lt c.line LINE_OF_CHANNEL_12 && nat_le LINE_OF_CHANNEL_12 (c.line + count))
+
+-- so many lines further down, and on at line 1 of the next form
+abbrev pub spaced : Carriage → ℕ → Option Carriage
+spaced c count =
+    if nat_le (c.line + count) LINES_OF_FORM
+    then Some (record c { line = c.line + count; channel_12 = sensed c count })
+    else on_next_form (record c { channel_12 = sensed c count }) (c.line + count - LINES_OF_FORM)
+
+-- at line 1 of the next form, where channel 12 is off
+abbrev pub skipped : Carriage → Option Carriage
+skipped c = on_next_form (record c { channel_12 = false }) 1
+
+-- the carriage after a move
+unfoldable pub moved_by : Motion → Carriage → Option Carriage
+moved_by Space c = spaced c 1
+moved_by DoubleSpace c = spaced c 2
+moved_by TripleSpace c = spaced c 3
+moved_by SkipToChannel1 c = skipped c
+
+-- the carriage after a line: it does the move that waits, else it spaces once
+unfoldable pub after_line : Carriage → Option Carriage
+after_line c = moved_by (unwrap_or c.waiting Space) (record c { waiting = None })
+
+-- a character by its glyph
+abbrev pub is_glyph : ℕ → List ℕ → Bool
+is_glyph code glyph = glyph_of code == byte glyph
+
+-- the order that a character names
+unfoldable pub order_of : ℕ → Option CarriageOrder
+order_of code =
+    if is_glyph code (codes "J") then Some (Now Space)
+    else (if is_glyph code (codes "K") then Some (Now DoubleSpace)
+    else (if is_glyph code (codes "L") then Some (Now TripleSpace)
+    else (if is_glyph code (codes "1") then Some (Now SkipToChannel1)
+    else (if is_glyph code (codes "/") then Some (AfterLine Space)
+    else (if is_glyph code (codes "S") then Some (AfterLine DoubleSpace)
+    else (if is_glyph code (codes "T") then Some (AfterLine TripleSpace)
+    else (if is_glyph code (codes "A") then Some (AfterLine SkipToChannel1)
+    else None)))))))
+
+-- the carriage after an order: a move after the next line only waits, in place of one that waited before
+unfoldable pub ordered : CarriageOrder → Carriage → Option Carriage
+ordered (Now motion) c = moved_by motion c
+ordered (AfterLine motion) c = Some (record c { waiting = Some motion })
+
+-- the printer after an order to its carriage
+unfoldable pub carriage_moved : CarriageOrder → Printed → Result Printed Check
+carriage_moved order p = find_or (ordered order p.carriage) PrinterFull (λ carriage. Ok (record p { carriage = carriage }))

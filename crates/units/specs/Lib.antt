@@ -1,0 +1,5 @@
+pub mod Printed
+pub mod Carriages
+pub mod Units
+pub mod Ranges
+pub mod Listing

@@ -1,0 +1,113 @@
+-- what the reader, the punch and the printer do with the storage
+use Rattle.std.specs.Prelude.{ℕ, ◌+◌, ◌<◌, ◌≡◌, nat_lt, ◌&&◌, ◌==◌, ◌⊎◌, if◌then◌else◌, ◌++◌, List, [], ◌∷◌, length, Bool, Result, Ok, Err, slice_get}
+use Rattle.std.specs.Int.RustNames.{bit_and}
+use Rattle.cards.specs.declared.decks.Card.{Card}
+use Rattle.cards.specs.declared.decks.TheConstants.{COLUMNS}
+use Rattle.core_store.specs.Storage.{Storage, put_codes, codes_from}
+use Rattle.core_store.specs.Checked.{require, find_or, and_then}
+use Rattle.core_store.specs.declared.registers.Check.{Check}
+use Rattle.core_store.specs.declared.registers.Check.TheVariants.{ReaderEmpty, PunchFull, PrinterFull}
+use Rattle.units.specs.declared.devices.Devices.{Devices}
+use Rattle.units.specs.declared.fault.Fault.{Fault}
+use Rattle.units.specs.declared.fault.Fault.TheVariants.{Stopped, NoMemory}
+use Rattle.units.specs.declared.printer.TheConstants.{MOST_LINES}
+use Rattle.units.specs.declared.punch.TheConstants.{MOST_CARDS}
+use Rattle.units.specs.declared.reader.Hopper.{Hopper}
+use Rattle.units.specs.declared.switches.Switches.{Switches}
+use Rattle.units.specs.declared.units.Units.{Units}
+use Rattle.units.specs.Carriages.{after_line}
+use Rattle.units.specs.Printed.{Printed}
+
+-- where the areas of the storage begin
+abbrev pub read_area : ℕ
+read_area = 1
+
+abbrev pub punch_area : ℕ
+punch_area = 101
+
+abbrev pub print_area : ℕ
+print_area = 201
+
+-- how many characters stand on a line
+abbrev pub characters_of_line : ℕ
+characters_of_line = 132
+
+-- the next card in the read area, 001 to 080, whose marks stay
+unfoldable pub card_read : Storage → Hopper → Result (Storage × Hopper) Check
+card_read s h =
+    find_or (slice_get h.deck h.taken) ReaderEmpty (λ card.
+    Ok (put_codes s read_area card.0, record h { taken = h.taken + 1 }))
+
+-- switch A is on and the last card was read
+abbrev pub is_last_card : Switches → Hopper → Bool
+is_last_card switches h = bit_and switches.0 1 == 1 && h.taken == length h.deck
+
+-- the punch area, 101 to 180, as one more card
+unfoldable pub card_punched : Storage → List Card → Result (List Card) Check
+card_punched s cards =
+    require (nat_lt (length cards) MOST_CARDS) PunchFull
+    (Ok (cards ++ (record { 0 = codes_from s punch_area COLUMNS }) ∷ []))
+
+-- the print area, 201 to 332, printed where the carriage stands
+unfoldable pub line_printed : Storage → Printed → Result Printed Check
+line_printed s p =
+    require (nat_lt (length p.lines) MOST_LINES) PrinterFull
+    (find_or (after_line p.carriage) PrinterFull (λ carriage.
+    Ok (record {
+      lines = p.lines ++ (record { form = p.carriage.form; line = p.carriage.line; codes = codes_from s print_area characters_of_line }) ∷ [];
+      carriage = carriage;
+    })))
+
+-- why work was given up: its own check, or no memory for what it would have made
+abbrev pub GivesUp : {T : Type 0} → (T → Type 0) → Fault → Result T Check → Type 0
+GivesUp Made (Stopped check) outcome = outcome ≡ Err check
+GivesUp Made NoMemory (Ok after) = Made after
+GivesUp Made NoMemory (Err check) = ⊥
+
+-- why no card was punched
+abbrev pub PunchFails : Fault → List Card → Result (List Card) Check → Type 0
+PunchFails fault cards outcome = GivesUp (λ after. length cards < length after) fault outcome
+
+-- why no line was printed
+abbrev pub PrintFails : Fault → Printed → Result Printed Check → Type 0
+PrintFails fault p outcome = GivesUp (λ after. length p.lines < length after.lines) fault outcome
+
+-- which units take part in an operation
+abbrev pub reads : Devices → Bool
+reads devices = bit_and devices.0 1 == 1
+
+abbrev pub prints : Devices → Bool
+prints devices = bit_and devices.0 2 == 2
+
+abbrev pub punches : Devices → Bool
+punches devices = bit_and devices.0 4 == 4
+
+-- what each unit does in an operation: its work, where it takes part
+unfoldable pub reader_works : Devices → Storage → Hopper → Result (Storage × Hopper) Check
+reader_works devices s h = if reads devices then card_read s h else Ok (s, h)
+
+unfoldable pub punch_works : Devices → Storage → List Card → Result (List Card) Check
+punch_works devices s cards = if punches devices then card_punched s cards else Ok cards
+
+unfoldable pub printer_works : Devices → Storage → Printed → Result Printed Check
+printer_works devices s p = if prints devices then line_printed s p else Ok p
+
+-- the three together: the first check, or storage and units after it
+abbrev pub together : Units → Result (Storage × Hopper) Check → Result (List Card) Check → Result Printed Check → Result (Storage × Units) Check
+together u reader punch printer =
+    and_then reader (λ read.
+    and_then punch (λ cards.
+    and_then printer (λ printed.
+    Ok (read.0, record u { hopper = read.1; punch = cards; printer = printed }))))
+
+-- one operation of the units, each of which works from the storage as it was
+unfoldable pub operated : Devices → Storage → Units → Result (Storage × Units) Check
+operated devices s u = together u (reader_works devices s u.hopper) (punch_works devices s u.punch) (printer_works devices s u.printer)
+
+-- one more card or line was made
+abbrev pub Makes : Units → Units → Type 0
+Makes u after = (length u.punch < length after.punch) ⊎ (length u.printer.lines < length after.printer.lines)
+
+-- why nothing was done
+abbrev pub OperationFails : Fault → Units → Result (Storage × Units) Check → Type 0
+OperationFails fault u outcome = GivesUp (λ done. Makes u done.1) fault outcome

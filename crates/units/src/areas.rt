@@ -1,0 +1,41 @@
+//! The areas of storage that the units work on: 001 to 080 is read into, 101 to 180 is punched
+//! and 201 to 332 is printed.
+
+ghost use Rattle.std.specs.Prelude.{◌≡◌, ◌+◌, ◌<◌, ◌≤◌, length};
+ghost use Rattle.core_store.specs.Storage.{codes_from, put_codes};
+
+use bcd::Code;
+use core_store::{Core, LARGEST_SIZE};
+
+/// Where a card is read into.
+pub(crate) const READ_AREA: u16 = 1;
+/// Where a card is punched from.
+pub(crate) const PUNCH_AREA: u16 = 101;
+/// Where a line is printed from.
+pub(crate) const PRINT_AREA: u16 = 201;
+
+/// Writes characters from a position on. Marks stay.
+#[tactic(auto, using(crate::proofs::Writing::write_none, crate::proofs::Writing::write_all))]
+pub(crate) fn put_codes<C: Core>(core: &mut C, first: u16, codes: &[Code])
+    requires within { first + length codes.now ≤ length (C.cells core.old) }
+    requires below { first + length codes.now ≤ LARGEST_SIZE }
+    ensures { C.cells core.new ≡ put_codes (C.cells core.old) first codes.now }
+{
+    for place in (0..codes.len()).rev() {
+        core.put(first + place as u16, codes[place]);
+    }
+}
+
+/// The characters from a position on.
+#[tactic(auto, using(crate::proofs::Writing::read_all))]
+pub(crate) fn codes_at<C: Core, const N: usize>(core: &C, first: u16) -> [Code; N]
+    requires within { first + N ≤ length (C.cells core.now) }
+    requires below { first + N ≤ LARGEST_SIZE }
+    ensures { result ≡ codes_from (C.cells core.now) first N }
+{
+    let mut codes = [Code::blank(); N];
+    for place in 0..N {
+        codes[place] = core.get(first + place as u16);
+    }
+    codes
+}

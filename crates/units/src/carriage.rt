@@ -1,0 +1,196 @@
+//! The carriage of the printer, and the orders to it.
+
+ghost use Rattle.std.specs.Prelude.{◌≡◌, ◌≤◌, false, Ok, Err, OnOk, OnErr, IfErr};
+ghost use Rattle.units.specs.Carriages.{moved_by, after_line, on_next_form, spaced, skipped, sensed, order_of, ordered, carriage_moved};
+
+use crate::printer::Printer;
+use bcd::Code;
+use core_store::Check;
+
+/// A form has so many lines.
+pub const LINES_OF_FORM: u8 = 66;
+/// The line of a form at which the hole of channel 12 stands.
+pub const LINE_OF_CHANNEL_12: u8 = 60;
+/// The printer stops at the end of this form.
+pub const LAST_FORM: u32 = 2_000_000_000;
+
+/// A move of the carriage.
+#[derive(Clone, Copy, Debug, PartialEq, Eq)]
+pub enum Motion {
+    /// One line further down.
+    Space,
+    /// Two lines further down.
+    DoubleSpace,
+    /// Three lines further down.
+    TripleSpace,
+    /// To line 1 of the next form.
+    SkipToChannel1,
+}
+
+/// An order to the carriage.
+#[derive(Clone, Copy, Debug, PartialEq, Eq)]
+pub enum CarriageOrder {
+    /// A move that is made at once.
+    Now(Motion),
+    /// A move that waits until the next line is printed.
+    AfterLine(Motion),
+}
+
+/// Where the carriage stands.
+#[derive(Clone, Copy, Debug, PartialEq, Eq)]
+pub struct Carriage {
+    /// The form, from 1.
+    pub form: u32,
+    /// The line of the form, 1 to 66.
+    pub line: u8,
+    /// The move that waits for the next line.
+    pub waiting: Option<Motion>,
+    /// Whether spacing has come to the hole of channel 12 since the last skip.
+    pub channel_12: bool,
+}
+
+impl CarriageOrder {
+    /// The order that a character names: `J K L` space 1, 2, 3 lines now and `/ S T` after the
+    /// next line; `1` skips to channel 1 now and `A` after the next line.
+    #[tactic(auto, unfolding(crate::specs::Carriages::order_of))]
+    pub fn of_code(code: Code) -> Option<CarriageOrder>
+        ensures { result ≡ order_of code }
+    {
+        match code.glyph() {
+            b'J' => Some(CarriageOrder::Now(Motion::Space)),
+            b'K' => Some(CarriageOrder::Now(Motion::DoubleSpace)),
+            b'L' => Some(CarriageOrder::Now(Motion::TripleSpace)),
+            b'1' => Some(CarriageOrder::Now(Motion::SkipToChannel1)),
+            b'/' => Some(CarriageOrder::AfterLine(Motion::Space)),
+            b'S' => Some(CarriageOrder::AfterLine(Motion::DoubleSpace)),
+            b'T' => Some(CarriageOrder::AfterLine(Motion::TripleSpace)),
+            b'A' => Some(CarriageOrder::AfterLine(Motion::SkipToChannel1)),
+            _ => None,
+        }
+    }
+}
+
+impl Carriage {
+    /// The carriage at the top of a new stack of forms.
+    pub fn at_the_top() -> Carriage
+        ensures { result ≡ record { form = 1; line = 1; waiting = None; channel_12 = false } }
+    {
+        Carriage {
+            form: 1,
+            line: 1,
+            waiting: None,
+            channel_12: false,
+        }
+    }
+
+    /// At a line of the next form, unless this is the last one.
+    fn on_next_form(self, line: u8) -> Option<Carriage>
+        ensures { result ≡ on_next_form self line }
+    {
+        if self.form < LAST_FORM {
+            Some(Carriage {
+                form: self.form + 1,
+                line,
+                ..self
+            })
+        } else {
+            None
+        }
+    }
+
+    /// Whether channel 12 is on once the carriage has spaced so many lines.
+    fn sensed(self, count: u8) -> bool
+        requires { count ≤ 3 }
+        ensures { result ≡ sensed self count }
+    {
+        self.channel_12
+            || self.line < LINE_OF_CHANNEL_12
+                && self.line as u16 + count as u16 >= LINE_OF_CHANNEL_12 as u16
+    }
+
+    /// So many lines further down.
+    fn spaced(self, count: u8) -> Option<Carriage>
+        requires { count ≤ 3 }
+        ensures { result ≡ spaced self count }
+    {
+        let line = self.line as u16 + count as u16;
+        let carriage = Carriage {
+            channel_12: self.sensed(count),
+            ..self
+        };
+        if line <= LINES_OF_FORM as u16 {
+            Some(Carriage {
+                line: line as u8,
+                ..carriage
+            })
+        } else {
+            carriage.on_next_form((line - LINES_OF_FORM as u16) as u8)
+        }
+    }
+
+    /// At line 1 of the next form.
+    fn skipped(self) -> Option<Carriage>
+        ensures { result ≡ skipped self }
+    {
+        let carriage = Carriage {
+            channel_12: false,
+            ..self
+        };
+        carriage.on_next_form(1)
+    }
+
+    /// After a move, unless it would pass the last form.
+    #[tactic(auto, unfolding(crate::specs::Carriages::moved_by))]
+    fn moved_by(self, motion: Motion) -> Option<Carriage>
+        ensures { result ≡ moved_by motion self }
+    {
+        match motion {
+            Motion::Space => self.spaced(1),
+            Motion::DoubleSpace => self.spaced(2),
+            Motion::TripleSpace => self.spaced(3),
+            Motion::SkipToChannel1 => self.skipped(),
+        }
+    }
+
+    /// After a line: the move that waits, else one space.
+    #[tactic(auto, unfolding(crate::specs::Carriages::after_line))]
+    pub fn after_line(self) -> Option<Carriage>
+        ensures { result ≡ after_line self }
+    {
+        let motion = self.waiting.unwrap_or(Motion::Space);
+        let free = Carriage {
+            waiting: None,
+            ..self
+        };
+        free.moved_by(motion)
+    }
+
+    /// After an order, unless a move that is made now would pass the last form.
+    #[tactic(auto, unfolding(crate::specs::Carriages::ordered))]
+    fn ordered(self, order: CarriageOrder) -> Option<Carriage>
+        ensures { result ≡ ordered order self }
+    {
+        match order {
+            CarriageOrder::Now(motion) => self.moved_by(motion),
+            CarriageOrder::AfterLine(motion) => Some(Carriage {
+                waiting: Some(motion),
+                ..self
+            }),
+        }
+    }
+}
+
+/// Gives the carriage an order. A move now is PRINTER FULL where it would pass the last form. A
+/// move after the next line only waits, in place of one that waited before, and is never a check.
+#[tactic(auto, unfolding(crate::specs::Carriages::carriage_moved))]
+pub fn move_carriage(printer: &mut Printer, order: CarriageOrder) -> Result<(), Check>
+    ensures done { OnOk result (carriage_moved order printer.old ≡ Ok printer.new) }
+    ensures check { IfErr result (λ check. carriage_moved order printer.old ≡ Err check) }
+    ensures unchanged { OnErr result (printer.new ≡ printer.old) }
+{
+    let Some(carriage) = printer.carriage.ordered(order) else {
+        return Err(Check::PrinterFull);
+    };
+    printer.carriage = carriage;
+    Ok(())
+}

@@ -1,0 +1,40 @@
+//! The units that are joined to the storage: a card reader, a card punch, a printer with its
+//! carriage, and the sense switches; and the listing of what was printed.
+//!
+//! The layer stands on `bcd`, `cards` and `core_store`, and is generic over `Core`. Its contract
+//! for the layers above: what a unit does is a definition on storage and unit
+//! (`specs/Units.antt`, `specs/Carriages.antt`), or the first check that applies, and then
+//! nothing is changed. `operate` does the work of several units in one operation. Memory is
+//! taken for a punched card, for a printed line and by `render`; for want of it nothing is
+//! changed. Units in range stay in range (`specs/Ranges.antt`).
+#![tactic(auto)]
+
+mod areas;
+mod carriage;
+mod devices;
+mod fault;
+mod laws;
+mod listing;
+mod operation;
+mod printer;
+mod punch;
+mod ranges;
+mod reader;
+mod switches;
+#[cfg(test)]
+mod tests;
+mod units;
+
+pub use carriage::{
+    Carriage, CarriageOrder, LAST_FORM, LINE_OF_CHANNEL_12, LINES_OF_FORM, Motion, move_carriage,
+};
+pub use devices::Devices;
+pub use fault::Fault;
+pub use laws::{lines_in_range_rise, operating_only_adds, operating_stays_in_range};
+pub use listing::render;
+pub use operation::operate;
+pub use printer::{Line, MOST_LINES, Printer, print_line};
+pub use punch::{MOST_CARDS, Punch, punch_card};
+pub use reader::{Hopper, put_card, read_card};
+pub use switches::Switches;
+pub use units::Units;

@@ -1,0 +1,116 @@
+//! Listings: printed lines as a text.
+
+ghost use Rattle.std.specs.Prelude.{◌≡◌, ◌≢◌, ◌≤◌, ◌<◌, ◌-◌, ◌++◌, ◌∷◌, ℕ, [], length, map, take, replicate, slice_index, IfOk, OnOk};
+ghost use Rattle.units.specs.Listing.{shown, blank, text_of, rendered, line_feed, IsRising};
+
+use crate::printer::Line;
+use bcd::Code;
+use std::alloc::{AllocError, Global};
+
+const LINE_FEED: u8 = 10;
+
+const FORM_FEED: u8 = 12;
+
+/// What the printer shows of a character: thirteen of them are not on its chain.
+#[tactic(auto, unfolding(crate::specs::Listing::shown))]
+fn shown(code: Code) -> u8
+    ensures { result ≡ shown code }
+{
+    match code.glyph() {
+        b':' | b'>' | b'"' | b'^' | b'=' | b'\\' | b'+' | b']' | b';' | b'_' | b'[' | b'<' | b'}' =>
+            b' ',
+        glyph => glyph,
+    }
+}
+
+/// How many characters there are without the trailing blanks.
+#[tactic(auto, using(crate::proofs::Listings::text_is))]
+fn length_shown(codes: &[Code]) -> usize
+    ensures within { result ≤ length codes.now }
+    ensures blank_from_there { (k : ℕ) → result ≤ k → k < length codes.now → shown (slice_index codes.now k) ≡ blank }
+    ensures not_before { 0 < result → shown (slice_index codes.now (result - 1)) ≢ blank }
+    ensures text { text_of codes.now ≡ map shown (take result codes.now) }
+{
+    for length in (0..codes.len()).rev() {
+        if shown(codes[length]) != b' ' {
+            return length + 1;
+        }
+    }
+    0
+}
+
+/// Adds what a line shows, without trailing blanks, and its end.
+fn push_line(text: &mut Vec<u8>, codes: &[Code]) -> Result<(), AllocError>
+    ensures { OnOk result (text.new.items ≡ text.old.items ++ (text_of codes.now ++ line_feed ∷ [])) }
+{
+    for code in &codes[..length_shown(codes)] {
+        text.push(shown(*code))?;
+    }
+    text.push(LINE_FEED)?;
+    Ok(())
+}
+
+/// Adds so many lines that show nothing.
+fn push_empty_lines(text: &mut Vec<u8>, count: u8) -> Result<(), AllocError>
+    ensures { OnOk result (text.new.items ≡ text.old.items ++ replicate count line_feed) }
+{
+    for _ in 0..count {
+        text.push(LINE_FEED)?;
+    }
+    Ok(())
+}
+
+/// The listing of printed lines that rise by form and line: each form that holds one, from its
+/// line 1 to its last printed line, each line without trailing blanks and ended by a line feed,
+/// and a form feed between two forms.
+pub fn render(alloc: Global, lines: &[Line]) -> Result<Vec<u8>, AllocError>
+    ensures { IsRising lines.now → IfOk result (λ text. text.items ≡ rendered lines.now) }
+{
+    let mut text = Vec::new(alloc);
+    let mut form = 0u32;
+    let mut done = 0u8;
+    for line in lines {
+        if line.form != form {
+            if form > 0 {
+                text.push(FORM_FEED)?;
+            }
+            form = line.form;
+            done = 0;
+        }
+        push_empty_lines(&mut text, line.line.saturating_sub(done).saturating_sub(1))?;
+        push_line(&mut text, &line.codes)?;
+        done = line.line;
+    }
+    Ok(text)
+}
+
+#[cfg(test)]
+mod tests {
+    use super::*;
+    use std::test::Fail;
+
+    /// A line on which the glyphs stand from the left.
+    fn printed(form: u32, line: u8, glyphs: &[u8]) -> Line {
+        let mut codes = [Code::blank(); 132];
+        for (code, glyph) in codes.iter_mut().zip(glyphs) {
+            *code = Code::from_glyph(*glyph).unwrap_or(Code::blank());
+        }
+        Line { form, line, codes }
+    }
+
+    #[test]
+    fn listings_of_printed_lines(rt: HostRuntime) -> Result<(), Fail> {
+        let alloc = rt.alloc();
+        let none = render(alloc, &[])?;
+        assert!(rt; none.is_empty());
+        let apart = render(alloc, &[printed(1, 1, b"HELLO"), printed(1, 4, b" WORLD")])?;
+        assert!(rt; apart.as_slice() == b"HELLO\n\n\n WORLD\n".as_slice());
+        let blank = render(alloc, &[printed(1, 1, b""), printed(1, 4, b"")])?;
+        assert!(rt; blank.as_slice() == b"\n\n\n\n".as_slice());
+        let forms = render(alloc, &[printed(1, 1, b""), printed(2, 1, b"")])?;
+        assert!(rt; forms.as_slice() == b"\n\x0c\n".as_slice());
+        let off_the_chain = render(alloc, &[printed(1, 1, b"A:B=")])?;
+        assert!(rt; off_the_chain.as_slice() == b"A B\n".as_slice());
+        Ok(())
+    }
+}

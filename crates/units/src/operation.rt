@@ -1,0 +1,148 @@
+//! Operations in which several units work together.
+
+ghost use Rattle.std.specs.Prelude.{◌≡◌, ◌≤◌, ◌⊎◌, true, false, length, Ok, Err, IsOk, OnOk, OnErr, IfErr};
+ghost use Rattle.core_store.specs.Storage.{Storage};
+ghost use Rattle.core_store.specs.declared.registers.Check.TheVariants.{ReaderEmpty, PunchFull, PrinterFull};
+ghost use Rattle.units.specs.Units.{reader_works, punch_works, printer_works, operated, PunchFails, PrintFails, OperationFails};
+
+use crate::devices::Devices;
+use crate::fault::Fault;
+use crate::printer::{Printer, print_line};
+use crate::punch::{Punch, punch_card};
+use crate::reader::{Hopper, take_card};
+use crate::units::Units;
+use bitflags::Flags;
+use core_store::{Check, Core};
+
+impl Units {
+    /// Whether the reader has no card for an operation.
+    #[tactic(auto, unfolding(crate::specs::Units::reader_works))]
+    fn reader_stops(&self, devices: Devices) -> bool
+        ensures check { result ≡ true → (s : Storage) → reader_works devices s self.now.hopper ≡ Err ReaderEmpty }
+        ensures ready { result ≡ false → (s : Storage) → IsOk (reader_works devices s self.now.hopper) }
+    {
+        devices.contains(Devices::READER) && self.hopper.has_no_card()
+    }
+
+    /// Whether the punch has no room for the card of an operation.
+    #[tactic(auto, unfolding(crate::specs::Units::punch_works))]
+    fn punch_stops(&self, devices: Devices) -> bool
+        ensures check { result ≡ true → (s : Storage) → punch_works devices s self.now.punch ≡ Err PunchFull }
+        ensures ready { result ≡ false → (s : Storage) → IsOk (punch_works devices s self.now.punch) }
+    {
+        devices.contains(Devices::PUNCH) && self.punch.is_full()
+    }
+
+    /// Whether the printer has no room for the line of an operation.
+    #[tactic(auto, unfolding(crate::specs::Units::printer_works))]
+    fn printer_stops(&self, devices: Devices) -> bool
+        ensures check { result ≡ true → (s : Storage) → printer_works devices s self.now.printer ≡ Err PrinterFull }
+        ensures ready { result ≡ false → (s : Storage) → IsOk (printer_works devices s self.now.printer) }
+    {
+        devices.contains(Devices::PRINTER) && self.printer.is_full()
+    }
+
+    /// The first check that an operation comes to.
+    #[tactic(auto, using(crate::proofs::Together::operation_ready))]
+    fn look_for_checks(&self, devices: Devices) -> Result<(), Check>
+        ensures ready { OnOk result ((s : Storage) → IsOk (operated devices s self.now)) }
+        ensures check { IfErr result (λ check. (s : Storage) → operated devices s self.now ≡ Err check) }
+    {
+        if self.reader_stops(devices) {
+            return Err(Check::ReaderEmpty);
+        }
+        if self.punch_stops(devices) {
+            return Err(Check::PunchFull);
+        }
+        if self.printer_stops(devices) {
+            return Err(Check::PrinterFull);
+        }
+        Ok(())
+    }
+}
+
+/// What the punch does in an operation.
+#[tactic(auto, unfolding(crate::specs::Units::punch_works))]
+fn work_punch<C: Core>(core: &C, punch: &mut Punch, devices: Devices) -> Result<(), Fault>
+    requires { 181 ≤ length (C.cells core.now) }
+    ensures done { OnOk result (punch_works devices (C.cells core.now) punch.old ≡ Ok punch.new) }
+    ensures refused { IfErr result (λ fault. PunchFails fault punch.old (punch_works devices (C.cells core.now) punch.old)) }
+    ensures unchanged { OnErr result (punch.new ≡ punch.old) }
+{
+    if !devices.contains(Devices::PUNCH) {
+        return Ok(());
+    }
+    punch_card(core, punch)
+}
+
+/// What the printer does in an operation.
+#[tactic(auto, unfolding(crate::specs::Units::printer_works))]
+fn work_printer<C: Core>(core: &C, printer: &mut Printer, devices: Devices) -> Result<(), Fault>
+    requires { 333 ≤ length (C.cells core.now) }
+    ensures done { OnOk result (printer_works devices (C.cells core.now) printer.old ≡ Ok printer.new) }
+    ensures refused { IfErr result (λ fault. PrintFails fault printer.old (printer_works devices (C.cells core.now) printer.old)) }
+    ensures unchanged { OnErr result (printer.new ≡ printer.old) }
+{
+    if !devices.contains(Devices::PRINTER) {
+        return Ok(());
+    }
+    print_line(core, printer)
+}
+
+/// What the reader does in an operation, once it is known to have its card.
+#[tactic(auto, using(crate::proofs::Together::reader_has), unfolding(crate::specs::Units::reader_works))]
+fn work_reader<C: Core>(core: &mut C, hopper: &mut Hopper, devices: Devices)
+    requires size { 81 ≤ length (C.cells core.old) }
+    requires ready { IsOk (reader_works devices (C.cells core.old) hopper.old) }
+    ensures { reader_works devices (C.cells core.old) hopper.old ≡ Ok (C.cells core.new, hopper.new) }
+{
+    if devices.contains(Devices::READER) {
+        take_card(core, hopper);
+    }
+}
+
+/// Punches a card and prints a line, where these units take part. For want of memory both are as
+/// they were.
+#[tactic(auto, using(crate::proofs::Together::taken_back))]
+fn work_makers<C: Core>(
+    core: &C,
+    punch: &mut Punch,
+    printer: &mut Printer,
+    devices: Devices,
+) -> Result<(), Fault>
+    requires { 333 ≤ length (C.cells core.now) }
+    ensures punched { OnOk result (punch_works devices (C.cells core.now) punch.old ≡ Ok punch.new) }
+    ensures printed { OnOk result (printer_works devices (C.cells core.now) printer.old ≡ Ok printer.new) }
+    ensures refused { IfErr result (λ fault. PunchFails fault punch.old (punch_works devices (C.cells core.now) punch.old) ⊎ PrintFails fault printer.old (printer_works devices (C.cells core.now) printer.old)) }
+    ensures unchanged { OnErr result ((punch.new ≡ punch.old) × (printer.new ≡ printer.old)) }
+{
+    let cards = punch.count();
+    if let Err(fault) = work_punch(core, punch, devices) {
+        return Err(fault);
+    }
+    if let Err(fault) = work_printer(core, printer, devices) {
+        punch.take_back(cards);
+        return Err(fault);
+    }
+    Ok(())
+}
+
+/// One operation of the units that take part in it, each from the storage as it was. All checks
+/// come before anything is done, in this order: READER EMPTY, PUNCH FULL, PRINTER FULL. For want
+/// of memory nothing is done either.
+#[tactic(auto, using(crate::proofs::Together::operation_fails, crate::proofs::Together::reader_goes, crate::proofs::Together::operation_is))]
+pub fn operate<C: Core>(core: &mut C, units: &mut Units, devices: Devices) -> Result<(), Fault>
+    requires { 333 ≤ length (C.cells core.old) }
+    ensures done { OnOk result (operated devices (C.cells core.old) units.old ≡ Ok (C.cells core.new, units.new)) }
+    ensures refused { IfErr result (λ fault. OperationFails fault units.old (operated devices (C.cells core.old) units.old)) }
+    ensures unchanged { OnErr result ((C.cells core.new ≡ C.cells core.old) × (units.new ≡ units.old)) }
+{
+    if let Err(check) = units.look_for_checks(devices) {
+        return Err(Fault::Stopped(check));
+    }
+    if let Err(fault) = work_makers(core, &mut units.punch, &mut units.printer, devices) {
+        return Err(fault);
+    }
+    work_reader(core, &mut units.hopper, devices);
+    Ok(())
+}

@@ -1,0 +1,81 @@
+//! The printer, and the lines it has printed.
+
+ghost use Rattle.std.specs.Prelude.{◌≡◌, ◌≤◌, true, false, length, Ok, Err, IsOk, OnOk, OnErr, IfErr};
+ghost use Rattle.core_store.specs.Storage.{Storage};
+ghost use Rattle.core_store.specs.declared.registers.Check.TheVariants.{PrinterFull};
+ghost use Rattle.units.specs.Units.{line_printed, PrintFails};
+
+use crate::areas::{PRINT_AREA, codes_at};
+use crate::carriage::Carriage;
+use crate::fault::Fault;
+use bcd::Code;
+use core_store::{Check, Core};
+use std::marker::Model;
+
+/// The printer makes no more lines.
+pub const MOST_LINES: usize = 20_000;
+
+/// A printed line: where it stands, and the characters of the print area.
+#[derive(Clone, Copy, Debug, PartialEq, Eq)]
+pub struct Line {
+    /// The form, from 1.
+    pub form: u32,
+    /// The line of the form, 1 to 66.
+    pub line: u8,
+    /// What stood in the print area, 201 to 332.
+    pub codes: [Code; 132],
+}
+
+/// The lines printed so far, and the carriage.
+#[derive(Drop)]
+pub struct Printer {
+    /// In the order of printing.
+    pub lines: Vec<Line>,
+    pub carriage: Carriage,
+}
+
+impl Model for Printer {
+    ghost use Rattle.units.specs.Printed.{Printed};
+
+    ghost Value = { Printed };
+
+    ghost view = { λ p. record { lines = p.lines.items; carriage = p.carriage } };
+}
+
+impl Printer {
+    #[tactic(auto, unfolding(crate::specs::Units::line_printed))]
+    /// Whether it has made as many lines as it can, or stands where none can be printed.
+    pub(crate) fn is_full(&self) -> bool
+        ensures check { result ≡ true → (s : Storage) → line_printed s self.now ≡ Err PrinterFull }
+        ensures ready { result ≡ false → (s : Storage) → IsOk (line_printed s self.now) }
+    {
+        self.lines.len() >= MOST_LINES || self.carriage.after_line().is_none()
+    }
+}
+
+/// Prints the print area, 201 to 332, and moves the carriage, or else PRINTER FULL: it has made as
+/// many lines as it can, or the carriage would pass the last form.
+#[tactic(auto, unfolding(crate::specs::Units::line_printed))]
+pub fn print_line<C: Core>(core: &C, printer: &mut Printer) -> Result<(), Fault>
+    requires { 333 ≤ length (C.cells core.now) }
+    ensures done { OnOk result (line_printed (C.cells core.now) printer.old ≡ Ok printer.new) }
+    ensures refused { IfErr result (λ fault. PrintFails fault printer.old (line_printed (C.cells core.now) printer.old)) }
+    ensures unchanged { OnErr result (printer.new ≡ printer.old) }
+{
+    if printer.lines.len() >= MOST_LINES {
+        return Err(Fault::Stopped(Check::PrinterFull));
+    }
+    let Some(carriage) = printer.carriage.after_line() else {
+        return Err(Fault::Stopped(Check::PrinterFull));
+    };
+    let line = Line {
+        form: printer.carriage.form,
+        line: printer.carriage.line,
+        codes: codes_at(core, PRINT_AREA),
+    };
+    if printer.lines.push(line).is_err() {
+        return Err(Fault::NoMemory);
+    }
+    printer.carriage = carriage;
+    Ok(())
+}

@@ -1,0 +1,99 @@
+//! What the units of a picture may hold, and the test of it.
+
+ghost use Rattle.std.specs.Prelude.{◌≡◌, ◌↔◌, IsTrue};
+ghost use Rattle.units.specs.Ranges.{AreUnits, IsOnForm, IsBelow, HasPrinted, HasRead, line_place, carriage_place};
+
+use crate::carriage::{Carriage, LAST_FORM, LINES_OF_FORM};
+use crate::printer::{Line, MOST_LINES, Printer};
+use crate::punch::MOST_CARDS;
+use crate::reader::Hopper;
+use crate::units::Units;
+
+/// A place on the printer's forms.
+#[derive(Clone, Copy)]
+struct Place {
+    form: u32,
+    line: u8,
+}
+
+impl Place {
+    /// Whether it is a line of one of the forms.
+    fn is_on_form(self) -> bool
+        ensures { IsTrue result ↔ IsOnForm self }
+    {
+        1 <= self.form && self.form <= LAST_FORM && 1 <= self.line && self.line <= LINES_OF_FORM
+    }
+
+    /// Whether it is a line of one of the forms, and further down than another place.
+    fn is_below(self, above: Place) -> bool
+        ensures { IsTrue result ↔ IsBelow above self }
+    {
+        self.is_on_form()
+            && (above.form < self.form || above.form == self.form && above.line < self.line)
+    }
+}
+
+impl Line {
+    /// Where it was printed.
+    fn place(&self) -> Place
+        ensures { result ≡ line_place self.now }
+    {
+        Place {
+            form: self.form,
+            line: self.line,
+        }
+    }
+}
+
+impl Carriage {
+    /// Where it stands.
+    fn place(&self) -> Place
+        ensures { result ≡ carriage_place self.now }
+    {
+        Place {
+            form: self.form,
+            line: self.line,
+        }
+    }
+}
+
+impl Printer {
+    /// Whether it has made no more lines than it can, each further down than the one before, and
+    /// the carriage stands further down than they do.
+    fn is_in_range(&self) -> bool
+        ensures { IsTrue result ↔ HasPrinted self.now }
+    {
+        if self.lines.len() > MOST_LINES {
+            return false;
+        }
+        let mut above = Place { form: 0, line: 0 };
+        for line in &self.lines {
+            let place = line.place();
+            if !place.is_below(above) {
+                return false;
+            }
+            above = place;
+        }
+        self.carriage.place().is_below(above)
+    }
+}
+
+impl Hopper {
+    /// Whether it has read a card, and no more than there are.
+    fn is_in_range(&self) -> bool
+        ensures { IsTrue result ↔ HasRead self.now }
+    {
+        1 <= self.taken && self.taken as usize <= self.deck.cards().len()
+    }
+}
+
+impl Units {
+    /// Whether these are units that a machine may have.
+    pub fn is_in_range(&self) -> bool
+        ensures { IsTrue result ↔ AreUnits self.now }
+    {
+        self.hopper.is_in_range()
+            && self.punch.cards.len() <= MOST_CARDS
+            && self.printer.is_in_range()
+    }
+}

@@ -1,0 +1,71 @@
+//! The card reader.
+
+ghost use Rattle.std.specs.Prelude.{◌≡◌, ◌==◌, ◌<◌, ◌≤◌, true, false, length, Ok, Err, IsOk, OnOk, OnErr, IfErr};
+ghost use Rattle.core_store.specs.Storage.{Storage, put_codes};
+ghost use Rattle.core_store.specs.declared.registers.Check.TheVariants.{ReaderEmpty};
+ghost use Rattle.units.specs.Units.{card_read};
+
+use crate::areas::{READ_AREA, put_codes};
+use cards::{Card, Deck};
+use core_store::{Check, Core};
+
+/// The card reader: a deck, of which the first cards have been read.
+#[derive(Drop)]
+pub struct Hopper {
+    pub deck: Deck,
+    /// How many cards have been read.
+    pub taken: u16,
+}
+
+impl Hopper {
+    /// Whether all cards have been read.
+    pub(crate) fn is_empty(&self) -> bool
+        ensures { result ≡ (self.now.taken == length self.now.deck) }
+    {
+        self.taken as usize == self.deck.cards().len()
+    }
+
+    /// Whether no card is left to read.
+    #[tactic(auto, using(crate::proofs::Together::card_there, crate::proofs::Together::no_card))]
+    pub(crate) fn has_no_card(&self) -> bool
+        ensures left { result ≡ false → self.now.taken < length self.now.deck }
+        ensures check { result ≡ true → (s : Storage) → card_read s self.now ≡ Err ReaderEmpty }
+        ensures ready { result ≡ false → (s : Storage) → IsOk (card_read s self.now) }
+    {
+        self.taken as usize >= self.deck.cards().len()
+    }
+}
+
+/// Writes a card into the read area, 001 to 080. Marks stay.
+pub fn put_card<C: Core>(core: &mut C, card: &Card)
+    requires { 81 ≤ length (C.cells core.old) }
+    ensures { C.cells core.new ≡ put_codes (C.cells core.old) 1 card.now.0 }
+{
+    put_codes(core, READ_AREA, &card.0);
+}
+
+/// Reads the next card, where there is one.
+#[tactic(auto, unfolding(crate::specs::Units::card_read))]
+pub(crate) fn take_card<C: Core>(core: &mut C, hopper: &mut Hopper)
+    requires size { 81 ≤ length (C.cells core.old) }
+    requires some { hopper.old.taken < length hopper.old.deck }
+    ensures { card_read (C.cells core.old) hopper.old ≡ Ok (C.cells core.new, hopper.new) }
+{
+    put_card(core, &hopper.deck.cards()[hopper.taken as usize]);
+    hopper.taken += 1;
+}
+
+/// Reads the next card into the read area, or else READER EMPTY: no card is left.
+#[tactic(auto, unfolding(crate::specs::Units::card_read))]
+pub fn read_card<C: Core>(core: &mut C, hopper: &mut Hopper) -> Result<(), Check>
+    requires { 81 ≤ length (C.cells core.old) }
+    ensures done { OnOk result (card_read (C.cells core.old) hopper.old ≡ Ok (C.cells core.new, hopper.new)) }
+    ensures check { IfErr result (λ check. card_read (C.cells core.old) hopper.old ≡ Err check) }
+    ensures unchanged { OnErr result ((C.cells core.new ≡ C.cells core.old) × (hopper.new ≡ hopper.old)) }
+{
+    if hopper.has_no_card() {
+        return Err(Check::ReaderEmpty);
+    }
+    take_card(core, hopper);
+    Ok(())
+}
