@@ -1,6 +1,6 @@
 //! The digits at A joined to those at B, place by place from the right.
 
-ghost use Rattle.std.specs.Prelude.{◌≡◌, ◌+◌, ◌-◌, ◌^◌, ◌<◌, ◌≤◌, ◌==◌, ℕ, false, length, nat_le, if◌then◌else◌};
+ghost use Rattle.std.specs.Prelude.{◌≡◌, ◌+◌, ◌-◌, ◌^◌, ◌<◌, ◌≤◌, ◌==◌, ◌%◌, ◌/◌, ℕ, false, length, nat_le, if◌then◌else◌};
 ghost use Rattle.bcd.specs.declared.Zone.TheVariants.{Bare};
 ghost use Rattle.core_store.specs.Storage.{put_codes};
 ghost use Rattle.arith.specs.Decimal.{spelled};
@@ -48,6 +48,24 @@ fn zone_from(zone: Zone, place: u16) -> Zone
     ensures { result ≡ (if place == 0 then zone else Bare) }
 {
     if place == 0 { zone } else { Zone::Bare }
+}
+
+/// The last digit of what two digits and a carry come to.
+#[inline(always)]
+fn units_of(total: u8) -> u8
+    requires { total ≤ 19 }
+    ensures { result ≡ total % 10 }
+{
+    if total < 10 { total } else { total - 10 }
+}
+
+/// What two digits and a carry give to the next place.
+#[inline(always)]
+fn carry_of(total: u8) -> u8
+    requires { total ≤ 19 }
+    ensures { result ≡ total / 10 }
+{
+    if total < 10 { 0 } else { 1 }
 }
 
 impl Joined {
@@ -103,8 +121,8 @@ pub fn join<C: Core>(
         let digit_a = digit_from(core, a, counts.a, i);
         let digit_b = digit_at(core, b - i);
         let total = joined.amount(digit_a, digit_b) + carry;
-        core.put(b - i, digit_under(zone_from(zone, i), total % 10));
-        carry = total / 10;
+        core.put(b - i, digit_under(zone_from(zone, i), units_of(total)));
+        carry = carry_of(total);
     }
     carry > 0
 }

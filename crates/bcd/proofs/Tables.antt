@@ -3,7 +3,7 @@ use Rattle.std.proofs.Common.{◌≡◌, ℕ, zero, suc, ◌<◌, Bool, true, fa
 use Rattle.std.proofs.Math.Decide.{dec_lt}
 use Rattle.std.proofs.lemmas.Bool.{eqb-true, ltb-true}
 use Rattle.bcd.specs.Table.{IsOneToOne, glyph_of, rank_of, punches_of, zone_of}
-use Rattle.bcd.specs.declared.TheConstants.{GLYPHS, RANKS, PUNCHES}
+use Rattle.bcd.specs.declared.TheConstants.{GLYPHS, NUMBERS, RANKS, PUNCHES}
 
 -- the test holds of each number below n
 abbrev all_below : (ℕ → Bool) → ℕ → Bool
@@ -54,3 +54,10 @@ ranks_differ = one_to_one rank_of (λ x. search_from rank_of x 64) refl
 pub punches_differ : IsOneToOne punches_of
 unfolding punches_of zone_of search_from
 punches_differ = one_to_one punches_of (λ x. search_from punches_of x 64) refl
+
+pub number_below : (byte : ℕ) → byte < 256 → get_or NUMBERS byte 0 < 64
+number_below byte h = ltb-true _ _ (at_each (λ k. ltb (get_or NUMBERS k 0) 64) 256 refl byte h)
+
+pub number_at : (n : ℕ) → n < 64 → get_or NUMBERS (glyph_of n) 0 ≡ n
+unfolding glyph_of
+number_at n h = eqb-true _ _ (at_each (λ k. eqb (get_or NUMBERS (glyph_of k) 0) k) 64 refl n h)

@@ -48,6 +48,19 @@ pub enum Zone {
 /// The glyphs in the order of their numbers.
 const GLYPHS: [u8; 64] = *b" 1234567890#@:>\"^/STUVWXYZ|,%=\\+-JKLMNOPQR!$*];_&ABCDEFGHI?.)[<}";
 
+/// The number of each glyph, and 0 of each byte that is none.
+const NUMBERS: [u8; 256] = [
+    0, 0, 0, 0, 0, 0, 0, 0, 0, 0, 0, 0, 0, 0, 0, 0, 0, 0, 0, 0, 0, 0, 0, 0, 0, 0, 0, 0, 0, 0, 0, 0,
+    0, 42, 15, 11, 43, 28, 48, 0, 0, 60, 44, 31, 27, 32, 59, 17, 10, 1, 2, 3, 4, 5, 6, 7, 8, 9, 13,
+    46, 62, 29, 14, 58, 12, 49, 50, 51, 52, 53, 54, 55, 56, 57, 33, 34, 35, 36, 37, 38, 39, 40, 41,
+    18, 19, 20, 21, 22, 23, 24, 25, 61, 30, 45, 16, 47, 0, 0, 0, 0, 0, 0, 0, 0, 0, 0, 0, 0, 0, 0,
+    0, 0, 0, 0, 0, 0, 0, 0, 0, 0, 0, 0, 0, 0, 26, 63, 0, 0, 0, 0, 0, 0, 0, 0, 0, 0, 0, 0, 0, 0, 0,
+    0, 0, 0, 0, 0, 0, 0, 0, 0, 0, 0, 0, 0, 0, 0, 0, 0, 0, 0, 0, 0, 0, 0, 0, 0, 0, 0, 0, 0, 0, 0, 0,
+    0, 0, 0, 0, 0, 0, 0, 0, 0, 0, 0, 0, 0, 0, 0, 0, 0, 0, 0, 0, 0, 0, 0, 0, 0, 0, 0, 0, 0, 0, 0, 0,
+    0, 0, 0, 0, 0, 0, 0, 0, 0, 0, 0, 0, 0, 0, 0, 0, 0, 0, 0, 0, 0, 0, 0, 0, 0, 0, 0, 0, 0, 0, 0, 0,
+    0, 0, 0, 0, 0, 0, 0, 0, 0, 0, 0, 0, 0, 0, 0, 0, 0, 0, 0,
+];
+
 /// The place of each character in the order of comparison.
 const RANKS: [u8; 64] = [
     0, 55, 56, 57, 58, 59, 60, 61, 62, 63, 54, 20, 21, 22, 23, 24, 19, 13, 46, 47, 48, 49, 50, 51,
@@ -131,13 +144,14 @@ impl Code {
         ensures found { IfSome result (λ code. glyph_of code ≡ glyph) }
         ensures missing { IsNone result → (n : ℕ) → n < 64 → glyph_of n ≢ glyph }
     {
-        for number in 0..64 {
-            let code = Code { number };
-            if code.glyph() == glyph {
-                return Some(code);
-            }
+        let code = Code {
+            number: NUMBERS[glyph as usize],
+        };
+        if code.glyph() == glyph {
+            Some(code)
+        } else {
+            None
         }
-        None
     }
 
     /// The place in the order of comparison: 0 for the blank, the lowest, to 63 for `9`.

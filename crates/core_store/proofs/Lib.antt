@@ -1,3 +1,4 @@
 pub mod Marks
 pub mod Fields
 pub mod Cuts
+mod PlaneLemmas

@@ -1,3 +1,4 @@
 pub mod Storage
 pub mod Checked
 pub mod Operands
+pub mod Planes

@@ -3,7 +3,8 @@
 //! `Core` is what the instructions of the machine stand on. Its contract is the list of cells:
 //! each call is an equation on that list by the words of `specs/Storage.antt`, so all that is
 //! built over a `Core` is proved once for every way of keeping marks. `FlagCore` keeps the list
-//! as it is. After `blank` no call takes memory.
+//! as it is; `PlaneCore` keeps characters and marks apart, and finds marks faster. After `blank`
+//! no call takes memory.
 //!
 //! What operations share stands here too: how far a field or a cut of characters reaches, whether
 //! operands overlap, and how registers are lowered (`specs/Operands.antt`).
@@ -11,6 +12,7 @@
 
 mod flags;
 mod operands;
+mod planes;
 mod registers;
 mod sizes;
 
@@ -20,6 +22,7 @@ ghost use Rattle.core_store.specs.Storage.{blank_storage, code_at, is_marked, pu
 use bcd::Code;
 pub use flags::FlagCore;
 pub use operands::{are_inside, cut_length, field_length, is_minus, overlaps};
+pub use planes::PlaneCore;
 pub use registers::{Check, Compared, Registers, lowered};
 pub use sizes::Size;
 use std::alloc::{AllocError, Global};

@@ -13,7 +13,7 @@ use crate::reports::{Report, Stand};
 use crate::statuses::Status;
 use crate::telling::{put_out, tell_fault};
 use cards::{CardError, CardFault, Deck, read_text};
-use core_store::{FlagCore, Size};
+use core_store::{PlaneCore, Size};
 use machine::{Machine, Meter};
 use std::alloc::{AllocError, Global};
 use std::io;
@@ -57,7 +57,7 @@ fn machine_after(
     deck: Deck,
     size: Size,
     switches: Switches,
-) -> Result<Machine<FlagCore>, AllocError>
+) -> Result<Machine<PlaneCore>, AllocError>
     requires { 0 < length deck }
     ensures { IfOk result (λ machine. machine ≡ after (loaded deck size switches) MOST_INSTRUCTIONS) }
 {
@@ -67,7 +67,7 @@ fn machine_after(
 }
 
 /// What a machine gives.
-fn outcome_in(alloc: Global, machine: &Machine<FlagCore>) -> Result<Outcome, AllocError>
+fn outcome_in(alloc: Global, machine: &Machine<PlaneCore>) -> Result<Outcome, AllocError>
     ensures { IfOk result (λ outcome. shown_of outcome ≡ shown_by machine.now) }
 {
     let parts = machine.parts();

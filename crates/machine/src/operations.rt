@@ -211,15 +211,15 @@ fn work_on_fields<C: Core>(
     ensures refused { IfErr result (λ fault. (units : Units) → Fails fault (works_of (C.cells core.old) registers.old units) (effect (OnFields operation) decoded next (works_of (C.cells core.old) registers.old units))) }
     ensures unchanged { OnErr result ((C.cells core.new ≡ C.cells core.old) × (registers.new ≡ registers.old)) }
 {
-    let mut filled = Registers {
-        a: decoded.a,
-        b: decoded.b,
-        ..*registers
-    };
-    if let Err(check) = work(core, &mut filled, operation) {
+    let Registers { a, b, .. } = *registers;
+    registers.a = decoded.a;
+    registers.b = decoded.b;
+    if let Err(check) = work(core, registers, operation) {
+        registers.a = a;
+        registers.b = b;
         return Err(Fault::Stopped(check));
     }
-    *registers = at(next, filled);
+    registers.i = next;
     Ok(Course::GoesOn)
 }
 

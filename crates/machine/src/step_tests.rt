@@ -282,10 +282,18 @@ fn characters_marks_and_zones(rt: HostRuntime) -> Result<(), Fail> {
 }
 
 #[test]
-fn a_branch_that_looked_in_vain(rt: HostRuntime) -> Result<(), Fail> {
-    let mut machine = machine(rt.alloc(), "~V100020S~", "AB", "  ~K")?;
-    machine.step(&mut Meter::new())?;
-    assert_eq!(rt; addresses(&machine), (408, 100, 19));
+fn branches_on_an_unmarked_j(rt: HostRuntime) -> Result<(), Fail> {
+    for (program, after) in [
+        ("~V100020K~", (100, 100, 408)),
+        ("~V1000202~", (408, 100, 19)),
+        ("~V1000203~", (408, 100, 19)),
+        ("~B100020J~", (100, 100, 408)),
+        ("~B100020K~", (408, 100, 19)),
+    ] {
+        let mut machine = machine(rt.alloc(), program, "AB", "~ZZJ")?;
+        machine.step(&mut Meter::new())?;
+        assert_eq!(rt; addresses(&machine), after);
+    }
     Ok(())
 }
 

@@ -7,3 +7,4 @@ pub mod Loads
 pub mod Positions
 pub mod Shown
 pub mod Read
+pub mod Shared

@@ -1,6 +1,6 @@
 //! A field moved.
 
-ghost use Rattle.std.specs.Prelude.{◌≡◌, ◌+◌, ◌-◌, ◌<◌, ◌≤◌, ◌&&◌, ℕ, Some, length, nat_le, IsTrue, OnOk, OnErr, IfErr, Ok, Err};
+ghost use Rattle.std.specs.Prelude.{◌≡◌, ◌+◌, ◌-◌, ◌<◌, ◌≤◌, ◌&&◌, ℕ, Some, length, nat_le, IfSome, IsTrue, OnOk, OnErr, IfErr, Ok, Err};
 ghost use Rattle.core_store.specs.Storage.{Storage, put_codes};
 ghost use Rattle.core_store.specs.declared.registers.Registers.{Registers};
 ghost use Rattle.moves.specs.Moved.{least_of, move_length, moved_codes, moved, IsMoved};
@@ -19,6 +19,31 @@ fn least_of(first: Option<u16>, second: Option<u16>) -> Option<u16>
     }
 }
 
+/// So many positions of two fields are looked through together, before the mark of each is sought.
+const TOGETHER: u16 = 32;
+
+/// How many characters a move takes, where one of the fields is short and neither passes position
+/// 000 in it. Both are looked through together, so that a far mark of the other is not sought.
+#[inline(always)]
+fn shared_length<C: Core>(core: &C, a: u16, b: u16) -> Option<u16>
+    requires a_in { a < length (C.cells core.now) }
+    requires b_in { b < length (C.cells core.now) }
+    requires a_below { a < LARGEST_SIZE }
+    requires b_below { b < LARGEST_SIZE }
+    ensures length { IfSome result (λ count. move_length (C.cells core.now) a b ≡ Some count) }
+{
+    let room = (a.min(b) + 1).min(TOGETHER);
+    for count in 0..room {
+        if core.is_marked(a - count) {
+            return Some(count + 1);
+        }
+        if core.is_marked(b - count) {
+            return Some(count + 1);
+        }
+    }
+    None
+}
+
 /// How many characters a move takes: up to the first mark in either field.
 #[inline(always)]
 #[tactic(auto, unfolding(crate::specs::Moved::move_length))]
@@ -29,7 +54,10 @@ fn move_length<C: Core>(core: &C, a: u16, b: u16) -> Option<u16>
     requires b_below { b < LARGEST_SIZE }
     ensures { result ≡ move_length (C.cells core.now) a b }
 {
-    least_of(field_length(core, a), field_length(core, b))
+    match shared_length(core, a, b) {
+        Some(count) => Some(count),
+        None => least_of(field_length(core, a), field_length(core, b)),
+    }
 }
 
 /// Whether so many characters that end at A and at B do not pass position 000.

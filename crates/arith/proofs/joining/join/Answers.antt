@@ -1,4 +1,5 @@
 use Rattle.std.proofs.Common.{◌≡◌, ◌+◌, ◌-◌, refl, ◌≤◌, ◌∙◌, ap, arith, length}
+use Rattle.addresses.specs.Digits.{digit_under}
 use Rattle.core_store.proofs.Fields.{length-put}
 use Rattle.arith.proofs.Places.{carry_next, codes_next, total_none, put_codes_none, carry_at_end}
 use Rattle.arith.proofs.joining.join.Goals as goal
@@ -22,9 +23,10 @@ loop-i-preserved g c =
       codes =
           codes_next c.args.joined s c.args.a c.args.counts.a c.args.b i c.requires.a_in c.requires.b_in c.requires.a_from i_from now c.loop-i.carry c.args.zone c.requires.apart c.loop-i.invariant.codes c.loop-i.invariant.carry
           c.digit_from-digit_a.result c.digit_at-digit_b.result c.amount.result c.digit_under.result c.zone_from.result (g.C.Core.cells c.put.new.self)
-          c.digit_from-digit_a.ensures.digit c.digit_at-digit_b.ensures.digit c.amount.ensures.amount c.zone_from.ensures c.digit_under.ensures.character c.put.ensures;
+          c.digit_from-digit_a.ensures.digit c.digit_at-digit_b.ensures.digit c.amount.ensures.amount c.zone_from.ensures (c.digit_under.ensures.character ∙ ap (digit_under c.zone_from.result) c.units_of.ensures) c.put.ensures;
       carry =
-          carry_next c.args.joined s c.args.a c.args.counts.a c.args.b i c.requires.a_in c.requires.b_in c.requires.a_from i_from now c.loop-i.carry c.args.zone c.requires.apart c.loop-i.invariant.codes c.loop-i.invariant.carry
+          c.carry_of-carry.ensures
+          ∙ carry_next c.args.joined s c.args.a c.args.counts.a c.args.b i c.requires.a_in c.requires.b_in c.requires.a_from i_from now c.loop-i.carry c.args.zone c.requires.apart c.loop-i.invariant.codes c.loop-i.invariant.carry
           c.digit_from-digit_a.result c.digit_at-digit_b.result c.amount.result c.digit_under.result c.zone_from.result (g.C.Core.cells c.put.new.self)
           c.digit_from-digit_a.ensures.digit c.digit_at-digit_b.ensures.digit c.amount.ensures.amount;
       small = omega arith;

@@ -1,0 +1,113 @@
+-- planes of codes and marks
+use Rattle.std.proofs.Common.{◌≡◌, ◌≢◌, ℕ, zero, suc, ◌+◌, ◌<◌, ◌≤◌, ◌∙◌, Bool, true, false, not, eqb, ltb, List, [], ◌∷◌, Option, Some, None, get_or, set, length, replicate, map, ap, sym, refl, arith}
+use Rattle.std.proofs.lemmas.Bool.{eqb-true, lt-ltb}
+use Rattle.std.specs.Simd.Lanes.{mask_l, chunk}
+use Rattle.std.proofs.lemmas.Simd.{none_from_empty_mask, length-chunk, trailing_mask_l, run_in_chunk_le, run_in_chunk_fails, run_in_chunk_stops}
+use lib.Count.{count_trailing_zeros}
+use Rattle.std.specs.List.{prefix_len}
+use Rattle.core_store.specs.Storage.{is_marked, put, with_mark, greatest_mark, least_mark}
+use Rattle.core_store.proofs.Marks.{none_below, greatest_is, least_is, none_among}
+use Rattle.core_store.specs.Planes.{joined_planes, IsLastMark}
+
+pub not_other : (b : Bool) → not b ≡ false → b ≡ true
+not_other true h = refl
+not_other false h = absurd (cc)
+
+pub not_zero : (n : ℕ) → not (eqb n 0) ≡ false → n ≡ 0
+not_zero n h = eqb-true n 0 (not_other (eqb n 0) h)
+
+pub length-joined : (codes marks : List ℕ) → length codes ≡ length marks → length (joined_planes codes marks) ≡ length codes
+length-joined [] marks h = refl
+length-joined (code ∷ codes) [] h = absurd (omega arith)
+length-joined (code ∷ codes) (mark ∷ marks) h = ap suc (length-joined codes marks (omega arith))
+
+pub cell-joined : (codes marks : List ℕ) (p : ℕ) → length codes ≡ length marks → get_or (joined_planes codes marks) p (0, false) ≡ (get_or codes p 0, ltb 0 (get_or marks p 0))
+cell-joined [] [] p h = refl
+cell-joined [] (mark ∷ marks) p h = absurd (omega arith)
+cell-joined (code ∷ codes) [] p h = absurd (omega arith)
+cell-joined (code ∷ codes) (mark ∷ marks) zero h = refl
+cell-joined (code ∷ codes) (mark ∷ marks) (suc p) h = cell-joined codes marks p (omega arith)
+
+pub joined-set_code : (codes marks : List ℕ) (p code : ℕ) → length codes ≡ length marks → joined_planes (set codes p code) marks ≡ set (joined_planes codes marks) p (code, ltb 0 (get_or marks p 0))
+joined-set_code [] [] p code h = refl
+joined-set_code [] (mark ∷ marks) p code h = refl
+joined-set_code (c ∷ codes) [] p code h = absurd (omega arith)
+joined-set_code (c ∷ codes) (mark ∷ marks) zero code h = refl
+joined-set_code (c ∷ codes) (mark ∷ marks) (suc p) code h = ap (λ cells. (c, ltb 0 mark) ∷ cells) (joined-set_code codes marks p code (omega arith))
+
+pub joined-set_mark : (codes marks : List ℕ) (p mark : ℕ) → length codes ≡ length marks → joined_planes codes (set marks p mark) ≡ set (joined_planes codes marks) p (get_or codes p 0, ltb 0 mark)
+joined-set_mark [] [] p mark h = refl
+joined-set_mark [] (m ∷ marks) p mark h = absurd (omega arith)
+joined-set_mark (c ∷ codes) [] p mark h = absurd (omega arith)
+joined-set_mark (c ∷ codes) (m ∷ marks) zero mark h = refl
+joined-set_mark (c ∷ codes) (m ∷ marks) (suc p) mark h = ap (λ cells. (c, ltb 0 m) ∷ cells) (joined-set_mark codes marks p mark (omega arith))
+
+pub joined-blank : (size : ℕ) → joined_planes (replicate size 0) (replicate size 0) ≡ replicate size (0, false)
+joined-blank zero = refl
+joined-blank (suc size) = ap (λ cells. (0, false) ∷ cells) (joined-blank size)
+
+pub put-joined : (codes marks : List ℕ) (p code : ℕ) → length codes ≡ length marks → joined_planes (set codes p code) marks ≡ put (joined_planes codes marks) p code
+put-joined codes marks p code h = joined-set_code codes marks p code h ∙ ap (λ (c : ℕ × Bool). set (joined_planes codes marks) p (code, c.1)) (sym (cell-joined codes marks p h))
+
+pub mark-joined : (codes marks : List ℕ) (p mark : ℕ) → length codes ≡ length marks → joined_planes codes (set marks p mark) ≡ with_mark (joined_planes codes marks) p (ltb 0 mark)
+mark-joined codes marks p mark h = joined-set_mark codes marks p mark h ∙ ap (λ (c : ℕ × Bool). set (joined_planes codes marks) p (c.0, ltb 0 mark)) (sym (cell-joined codes marks p h))
+
+pub ruleset planes = (length-joined, cell-joined, joined-blank, put-joined, mark-joined)
+
+mark-joined_at : (codes marks : List ℕ) (k : ℕ) → length codes ≡ length marks → is_marked (joined_planes codes marks) k ≡ ltb 0 (get_or marks k 0)
+mark-joined_at codes marks k h = ap (λ (c : ℕ × Bool). c.1) (cell-joined codes marks k h)
+
+unmarked : (codes marks : List ℕ) (k : ℕ) → length codes ≡ length marks → get_or marks k 0 ≡ 0 → is_marked (joined_planes codes marks) k ≡ false
+unmarked codes marks k h zero_there = mark-joined_at codes marks k h ∙ ap (ltb 0) zero_there
+
+-- the last byte that is not 0 is the greatest mark
+pub last_is_greatest : (codes marks : List ℕ) (p : ℕ) (found : Option ℕ) → length codes ≡ length marks → IsLastMark marks p found → greatest_mark (joined_planes codes marks) p ≡ found
+last_is_greatest codes marks p None h none = none_below (joined_planes codes marks) p (λ k le. unmarked codes marks k h (none k le))
+last_is_greatest codes marks p (Some q) h last =
+    let some : 0 < get_or marks q 0 = omega (arith, last.marked) in
+    greatest_is (joined_planes codes marks) p q (mark-joined_at codes marks q h ∙ lt-ltb 0 (get_or marks q 0) some) last.not_above
+    (λ k lt le. unmarked codes marks k h (last.none_between k lt le))
+
+-- a byte that is not 0
+abbrev pub is_some : ℕ → Bool
+is_some x = not (eqb x 0)
+
+some_is : (n : ℕ) → not (eqb n 0) ≡ true → n ≢ 0
+some_is zero h = absurd (cc)
+some_is (suc n) h = omega arith
+
+-- what the mask of eight bytes tells of them
+module _ (marks : List ℕ) (at mask : ℕ) (room : at + 8 ≤ length marks) (is : mask ≡ mask_l (map is_some (chunk at 8 marks))) where
+  long : length (chunk at 8 marks) ≡ 8
+  long = length-chunk at 8 marks room
+
+  pub none_of_eight : mask ≡ 0 → (k : ℕ) → at ≤ k → k < at + 8 → get_or marks k 0 ≡ 0
+  none_of_eight none k le lt = not_zero (get_or marks k 0) (none_from_empty_mask is_some marks at 8 0 room (sym is ∙ none) k le lt)
+
+  counted : mask ≢ 0 → count_trailing_zeros 64 mask ≡ prefix_len (λ x. not (is_some x)) (chunk at 8 marks)
+  counted some = ap (count_trailing_zeros 64) is ∙ trailing_mask_l is_some 64 (chunk at 8 marks) (omega (arith, long)) (omega (arith, some, is))
+
+  pub run_most : mask ≢ 0 → count_trailing_zeros 64 mask ≤ 8
+  run_most some = run_in_chunk_le is_some marks at 8 (count_trailing_zeros 64 mask) 0 room (counted some)
+
+  pub run_before : mask ≢ 0 → (k : ℕ) → at ≤ k → k < at + count_trailing_zeros 64 mask → get_or marks k 0 ≡ 0
+  run_before some k le lt = not_zero (get_or marks k 0) (run_in_chunk_fails is_some marks at 8 (count_trailing_zeros 64 mask) 0 room (counted some) k le lt)
+
+  pub run_stops : mask ≢ 0 → count_trailing_zeros 64 mask < 8 → get_or marks (at + count_trailing_zeros 64 mask) 0 ≢ 0
+  run_stops some short = some_is _ (run_in_chunk_stops is_some marks at 8 (count_trailing_zeros 64 mask) 0 room (counted some) short)
+
+-- the first of eight bytes that is not 0 is the next mark
+module _ (codes marks slice : List ℕ) (same : slice ≡ marks) (p run : ℕ) (even : length codes ≡ length marks) (before : (k : ℕ) → p + 1 ≤ k → k < p + 1 + run → get_or slice k 0 ≡ 0) where
+  none_before : (k : ℕ) → p + 1 ≤ k → k < p + 1 + run → is_marked (joined_planes codes marks) k ≡ false
+  none_before k le lt = unmarked codes marks k even (ap (λ l. get_or l k 0) (sym same) ∙ before k le lt)
+
+  pub next_mark : run < 8 → get_or slice (p + 1 + run) 0 ≢ 0 → least_mark (joined_planes codes marks) (p + 1) 8 ≡ Some (p + 1 + run)
+  next_mark short stops =
+      let here : get_or slice (p + 1 + run) 0 ≡ get_or marks (p + 1 + run) 0 = ap (λ l. get_or l (p + 1 + run) 0) same in
+      let some : 0 < get_or marks (p + 1 + run) 0 = omega (arith, stops, here) in
+      least_is (joined_planes codes marks) (p + 1) 8 (p + 1 + run) (omega arith) (omega arith)
+      (mark-joined_at codes marks (p + 1 + run) even ∙ lt-ltb 0 (get_or marks (p + 1 + run) 0) some)
+      none_before
+
+  pub no_next_mark : run ≡ 8 → least_mark (joined_planes codes marks) (p + 1) 8 ≡ None
+  no_next_mark all = none_among (joined_planes codes marks) (p + 1) 8 (λ k le lt. none_before k le (omega arith))

@@ -1,0 +1,9 @@
+pub mod Runs
+pub mod Blanks
+pub mod Zones
+pub mod Glyphs
+pub mod Rows
+pub mod Wholes
+pub mod NameLemmas
+pub mod FormLemmas
+pub mod Spelled

@@ -1,0 +1,9 @@
+pub mod Characters
+pub mod Names
+pub mod Ranges
+pub mod Expressions
+pub mod Constants
+pub mod Operands
+pub mod Mnemonics
+pub mod Statements
+pub mod Laws

@@ -1,0 +1,36 @@
+//! The statements of an Autocoder source: what each card says, or its lowest fault.
+//!
+//! A card has a label in columns 6 to 15, an operation in 16 to 20 and an operand field in 21 to
+//! 72; `*` in column 6 makes it a comment. The contract that the layer above uses: `read` is the
+//! one definition of a card's statement (`specs/Statements.antt`), which stands on a definition
+//! for each thing that a field may begin with and on one table of operations
+//! (`specs/Mnemonics.antt`). Its numbers are below 100,000, its texts have 52 characters at most
+//! (`specs/Ranges.antt`). No call takes memory.
+#![tactic(auto)]
+
+mod characters;
+mod columns;
+mod constants;
+mod expressions;
+mod faults;
+mod forms;
+mod laws;
+mod names;
+mod operands;
+mod operations;
+mod reading;
+#[cfg(test)]
+mod tests;
+mod texts;
+
+pub use columns::{is_comment, operation_of};
+pub use constants::Constant;
+pub use expressions::{Address, Adjustment, Base, Expression, NUMBER_LIMIT};
+pub use faults::StatementFault;
+pub use forms::{Form, Kind, Modifiers};
+pub use laws::{a_field_has_one_form, a_number_is_read, a_word_names_one_operation};
+pub use names::{LONGEST_NAME, Name};
+pub use operands::Operand;
+pub use operations::{Forms, Instruction, Mnemonic, Operation};
+pub use reading::{Statement, read};
+pub use texts::{LONGEST_TEXT, Text};
