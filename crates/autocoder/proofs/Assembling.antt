@@ -1,0 +1,45 @@
+-- what the passes give is that of the source
+use Rattle.std.proofs.Common.{◌≡◌, ℕ, Bool, false, List, [], length, sym, ◌∙◌, ap, arith}
+use Rattle.std.specs.Prelude.{Option}
+use Rattle.cards.specs.declared.decks.Card.{Card}
+use Rattle.layout.specs.Source.{has_end, lines_of}
+use Rattle.layout.specs.Slots.{slots_from}
+use Rattle.layout.specs.Layout.{Laid, fills_of, layout_of, slots_of}
+use Rattle.layout.specs.declared.slots.Slot.{Slot}
+use Rattle.layout.specs.declared.cells.Cell.{Cell}
+use Rattle.layout.specs.declared.faults.SourceFault.{SourceFault}
+use Rattle.layout.proofs.Layouts.{length-layout_of, slots_of-layout_of}
+use Rattle.autocoder.specs.Image.{image_of}
+use Rattle.autocoder.specs.Tables.{Stands, cells_in}
+use Rattle.autocoder.specs.Telling.{faults_from, faults_of, told_to_end, last_fault}
+use Rattle.autocoder.specs.Programs.{size_for, layout_for}
+use Rattle.autocoder.specs.declared.faults.CardFault.{CardFault}
+use Rattle.autocoder.proofs.Standing.{cells_in_is}
+use Rattle.autocoder.proofs.Passes.{length-lines_of}
+
+module _ (source : List Card) (size : ℕ) (size_is : size ≡ size_for source) where
+  pub faults_are : (told new : List CardFault) (ended : Bool) (last : Option SourceFault) →
+      told ≡ faults_from 1 (layout_of size (lines_of false source)) → last ≡ last_fault (layout_of size (lines_of false source)) → ended ≡ has_end source →
+      new ≡ told_to_end ended told last (length source) → new ≡ faults_of (has_end source) (layout_for source)
+  unfolding faults_of
+  faults_are told new ended last t l e n =
+      let whole : List Laid = layout_of size (lines_of false source) in
+      let long : length source ≡ length whole = omega (arith, length-layout_of size (lines_of false source), length-lines_of false source) in
+      n
+      ∙ ap (λ b. told_to_end b told last (length source)) e
+      ∙ ap (λ x. told_to_end (has_end source) x last (length source)) t
+      ∙ ap (λ x. told_to_end (has_end source) (faults_from 1 whole) x (length source)) l
+      ∙ ap (λ x. told_to_end (has_end source) (faults_from 1 whole) (last_fault whole) x) long
+      ∙ ap (λ s. faults_of (has_end source) (layout_of s (lines_of false source))) size_is
+
+  pub image_is : (table : List (Option Cell)) (cells : List Cell) → length table ≡ size → Stands size table (fills_of (layout_of size (lines_of false source))) → cells ≡ cells_in table →
+      cells ≡ image_of (size_for source) (layout_for source)
+  unfolding image_of
+  image_is table cells long stands e =
+      e
+      ∙ cells_in_is size table (fills_of (layout_of size (lines_of false source))) size 0 stands long (omega arith)
+      ∙ ap (λ s. image_of s (layout_of s (lines_of false source))) size_is
+
+  pub slots_are : (slots : List Slot) → slots ≡ slots_from size [] (lines_of false source) → slots ≡ slots_of (layout_for source)
+  slots_are slots e =
+      e ∙ sym (slots_of-layout_of size (lines_of false source)) ∙ ap (λ s. slots_of (layout_of s (lines_of false source))) size_is

@@ -1,0 +1,4 @@
+pub mod Standing
+pub mod Passes
+pub mod Assembling
+pub mod Listings

@@ -1,0 +1,132 @@
+-- one card more of the second pass
+use Rattle.std.proofs.Common.{◌≡◌, ℕ, ◌+◌, ◌-◌, ◌<◌, ◌≤◌, Bool, true, false, ◌||◌, List, [], ◌∷◌, ◌++◌, length, take, drop, get_or, Option, Some, None, refl, sym, ◌∙◌, ap, suc, arith, append_assoc, length-append}
+use Rattle.std.specs.Bool.{if◌then◌else◌}
+use Rattle.std.proofs.lemmas.List.{at_drop_more, at_drop_all, take_more, append-nil, get_or_at}
+use Rattle.cards.specs.declared.decks.Card.{Card}
+use Rattle.layout.specs.Source.{Line, silent, is_control, line_on, lines_of}
+use Rattle.layout.specs.Slots.{origin, slots_from}
+use Rattle.layout.specs.Literals.{Characters, literals_of}
+use Rattle.layout.specs.Cells.{cells_of}
+use Rattle.layout.specs.Judging.{fault_by, fault_of, fault_or, names_unknown, names_outside, passes_outside, fills_outside, fills_reserved, is_beyond, is_overlapping}
+use Rattle.layout.specs.Layout.{Laid, fills_of, nothing, laid_by, layout_of}
+use Rattle.layout.specs.declared.slots.Slot.{Slot}
+use Rattle.layout.specs.declared.cells.Cell.{Cell}
+use Rattle.layout.specs.declared.faults.SourceFault.{SourceFault}
+use Rattle.layout.specs.declared.faults.SourceFault.TheVariants.{UnknownName, Outside, Reserved, Filled}
+use Rattle.layout.proofs.Layouts.{layout_of-at, length-layout_of}
+use Rattle.autocoder.specs.declared.faults.CardFault.{CardFault}
+use Rattle.autocoder.specs.Image.{cell_at}
+use Rattle.autocoder.specs.Tables.{Stands, is_taken, filled_table}
+use Rattle.autocoder.specs.Telling.{fault_then, faults_from, last_fault}
+use Rattle.autocoder.proofs.Standing.{is_taken_is, stands_more, or_parts}
+
+-- ---- what the cards say
+
+pub length-lines_of : (told : Bool) (source : List Card) → length (lines_of told source) ≡ length source
+unfolding lines_of
+length-lines_of told [] = refl
+length-lines_of told (card ∷ source) = ap suc (length-lines_of (told || is_control card) source)
+
+module _ (source : List Card) (told : Bool) (i : ℕ) (card : Card) (h : i < length source) (card_is : card ≡ get_or source i card) (left : drop i (lines_of false source) ≡ lines_of told (drop i source)) where
+  split : get_or (lines_of false source) i silent ∷ drop (i + 1) (lines_of false source) ≡ line_on told card ∷ lines_of (told || is_control card) (drop (i + 1) source)
+  unfolding lines_of
+  split =
+      sym (at_drop_more (λ l. l) (lines_of false source) i silent (omega (arith, length-lines_of false source)))
+      ∙ left
+      ∙ at_drop_more (lines_of told) source i card h
+      ∙ ap (λ x. line_on told x ∷ lines_of (told || is_control x) (drop (i + 1) source)) (sym card_is)
+
+  pub line_at : (line : Line) → line ≡ line_on told card → line ≡ get_or (lines_of false source) i silent
+  line_at line e = e ∙ sym (ap (λ l. get_or l 0 silent) split)
+
+  pub lines_left : (more : Bool) → more ≡ (told || is_control card) → drop (i + 1) (lines_of false source) ≡ lines_of more (drop (i + 1) source)
+  lines_left more e = ap (drop 1) split ∙ ap (λ b. lines_of b (drop (i + 1) source)) (sym e)
+
+-- ---- faults
+
+-- a table tells the same fault as what is filled
+fault_by_table : (size : ℕ) (names : List Slot) (table : List (Option Cell)) (filled : List Cell) (slot : Slot) (cells : List Cell) (line : Line) → Stands size table filled →
+    fault_by size names (is_taken table cells) slot cells line ≡ fault_of size names filled slot cells line
+unfolding fault_of fault_by is_beyond
+fault_by_table size names table filled slot cells line stands =
+    let beyond : Bool = names_outside size names line || (passes_outside size slot line || fills_outside size cells) in
+    let choose : Bool → Bool → Option SourceFault = λ b o. fault_or slot.fault (if names_unknown size names line then Some UnknownName else (if b then Some Outside else (if fills_reserved cells then Some Reserved else (if o then Some Filled else None)))) in
+    (elim beyond as (λ b. beyond ≡ b → choose b (is_taken table cells) ≡ choose b (is_overlapping filled cells)) [
+      | true ↦ λ e. refl
+      | false ↦ λ e.
+          ap (choose false) (is_taken_is size table filled cells stands ((or_parts (passes_outside size slot line) (fills_outside size cells) ((or_parts (names_outside size names line) (passes_outside size slot line || fills_outside size cells) e).1)).1))
+    ]) refl
+
+fault_then-append : (card : ℕ) (fault : Option SourceFault) (rest : List CardFault) → fault_then card fault [] ++ rest ≡ fault_then card fault rest
+fault_then-append card None rest = refl
+fault_then-append card (Some fault) rest = refl
+
+fills-append : (one two : List Laid) → fills_of (one ++ two) ≡ fills_of one ++ fills_of two
+fills-append [] two = refl
+fills-append (laid ∷ one) two = ap (λ f. laid.fills ++ f) (fills-append one two) ∙ sym (append_assoc laid.fills (fills_of one) (fills_of two))
+
+faults_from-at : (layout : List Laid) (i : ℕ) → i < length layout → faults_from (i + 1) (drop i layout) ≡ fault_then (i + 1) (get_or layout i nothing).fault (faults_from (i + 1 + 1) (drop (i + 1) layout))
+unfolding faults_from
+faults_from-at layout i h = at_drop_more (faults_from (i + 1)) layout i nothing h
+
+pub faults_from-past : (layout : List Laid) (i : ℕ) → length layout ≤ i → faults_from (i + 1) (drop i layout) ≡ []
+unfolding faults_from
+faults_from-past layout i h = at_drop_all (faults_from (i + 1)) layout i h
+
+last_fault-push : (layout : List Laid) (laid : Laid) → last_fault (layout ++ laid ∷ []) ≡ laid.fault
+unfolding last_fault
+last_fault-push layout laid =
+    let here : length layout ≡ length (layout ++ laid ∷ []) - 1 = omega (arith, length-append layout (laid ∷ [])) in
+    ap (λ (l : Laid). l.fault) (get_or_at layout laid [] nothing (length (layout ++ laid ∷ []) - 1) here)
+
+-- ---- one card more
+
+module _ (size : ℕ) (lines : List Line) (slots : List Slot) (is_slots : slots ≡ slots_from size [] lines) (literals : List Characters) (is_literals : literals ≡ literals_of lines slots)
+    (table : List (Option Cell)) (i : ℕ) (line : Line) (slot : Slot) (later : List Slot) (cells : List Cell) (fault : Option SourceFault)
+    (h : i < length lines) (line_is : line ≡ get_or lines i silent) (slot_is : slot ≡ get_or slots i origin) (later_is : later ≡ drop (i + 1) slots)
+    (cells_is : cells ≡ cells_of size slots literals later slot line) (fault_is : fault ≡ fault_by size slots (is_taken table cells) slot cells line)
+    (stands : Stands size table (fills_of (take i (layout_of size lines)))) where
+  abbrev whole : List Laid
+  whole = layout_of size lines
+
+  within : i < length whole
+  within = omega (arith, length-layout_of size lines)
+
+  laid_at : get_or whole i nothing ≡ laid_by size slots literals (fills_of (take i whole)) later slot line
+  laid_at =
+      layout_of-at size lines i h
+      ∙ ap (λ s. laid_by size s (literals_of lines s) (fills_of (take i whole)) (drop (i + 1) s) (get_or s i origin) (get_or lines i silent)) (sym is_slots)
+      ∙ ap (λ x. laid_by size slots x (fills_of (take i whole)) (drop (i + 1) slots) (get_or slots i origin) (get_or lines i silent)) (sym is_literals)
+      ∙ ap (λ x. laid_by size slots literals (fills_of (take i whole)) x (get_or slots i origin) (get_or lines i silent)) (sym later_is)
+      ∙ ap (λ x. laid_by size slots literals (fills_of (take i whole)) later x (get_or lines i silent)) (sym slot_is)
+      ∙ ap (λ x. laid_by size slots literals (fills_of (take i whole)) later slot x) (sym line_is)
+
+  fills_at : (get_or whole i nothing).fills ≡ cells
+  fills_at = ap (λ (l : Laid). l.fills) laid_at ∙ sym cells_is
+
+  fault_at : fault ≡ (get_or whole i nothing).fault
+  fault_at =
+      fault_is
+      ∙ fault_by_table size slots table (fills_of (take i whole)) slot cells line stands
+      ∙ ap (λ x. fault_of size slots (fills_of (take i whole)) slot x line) cells_is
+      ∙ sym (ap (λ (l : Laid). l.fault) laid_at)
+
+  more : fills_of (take (i + 1) whole) ≡ fills_of (take i whole) ++ cells
+  more =
+      ap fills_of (take_more whole i nothing within)
+      ∙ fills-append (take i whole) (get_or whole i nothing ∷ [])
+      ∙ ap (λ f. fills_of (take i whole) ++ f) (append-nil (get_or whole i nothing).fills ∙ fills_at)
+
+  pub table_step : length table ≡ size → Stands size (filled_table table cells) (fills_of (take (i + 1) (layout_of size lines)))
+  table_step long p below = stands_more size table (fills_of (take i whole)) cells stands long p below ∙ ap (λ f. cell_at f p) (sym more)
+
+  pub faults_step : (old new : List CardFault) → new ≡ old ++ fault_then (i + 1) fault [] →
+      new ++ faults_from (i + 1 + 1) (drop (i + 1) (layout_of size lines)) ≡ old ++ faults_from (i + 1) (drop i (layout_of size lines))
+  faults_step old new n =
+      let rest : List CardFault = faults_from (i + 1 + 1) (drop (i + 1) whole) in
+      ap (λ t. t ++ rest) n
+      ∙ append_assoc old (fault_then (i + 1) fault []) rest
+      ∙ ap (λ f. old ++ f) (fault_then-append (i + 1) fault rest ∙ ap (λ o. fault_then (i + 1) o rest) fault_at ∙ sym (faults_from-at whole i within))
+
+  pub last_step : fault ≡ last_fault (take (i + 1) (layout_of size lines))
+  last_step = fault_at ∙ sym (ap last_fault (take_more whole i nothing within) ∙ last_fault-push (take i whole) (get_or whole i nothing))

@@ -1,0 +1,25 @@
+-- the image of a layout: the filled positions, rising
+use Rattle.std.specs.Prelude.{ℕ, zero, suc, ◌+◌, nat_eq, if◌then◌else◌, List, [], ◌∷◌, Option, Some, None}
+use Rattle.layout.specs.Layout.{Laid, fills_of}
+use Rattle.layout.specs.declared.cells.Cell.{Cell}
+
+abbrev pub cell_or : Cell → ℕ → Option Cell → Option Cell
+cell_or c position rest = if nat_eq c.position position then Some c else rest
+
+-- what fills a position
+unfoldable pub cell_at : List Cell → ℕ → Option Cell
+cell_at [] position = None
+cell_at (c ∷ filled) position = cell_or c position (cell_at filled position)
+
+abbrev pub cons_some : Option Cell → List Cell → List Cell
+cons_some (Some c) rest = c ∷ rest
+cons_some None rest = rest
+
+-- the cells that fill so many positions from the first on
+unfoldable pub cells_from : List Cell → ℕ → ℕ → List Cell
+cells_from filled first zero = []
+cells_from filled first (suc count) = cons_some (cell_at filled first) (cells_from filled (first + 1) count)
+
+-- the filled positions of a storage of this size
+unfoldable pub image_of : ℕ → List Laid → List Cell
+image_of size layout = cells_from (fills_of layout) 0 size

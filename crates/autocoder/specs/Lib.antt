@@ -1,0 +1,5 @@
+pub mod Image
+pub mod Tables
+pub mod Telling
+pub mod Programs
+pub mod Listing

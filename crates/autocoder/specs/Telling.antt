@@ -1,0 +1,32 @@
+-- the faults of a source, in card order
+use Rattle.std.specs.Prelude.{ℕ, ◌+◌, ◌-◌, Bool, if◌then◌else◌, List, [], ◌∷◌, ◌++◌, length, Option, Some, None, slice_index_or}
+use Rattle.layout.specs.Layout.{Laid, nothing}
+use Rattle.layout.specs.declared.faults.SourceFault.{SourceFault}
+use Rattle.layout.specs.declared.faults.SourceFault.TheVariants.{NoEnd}
+use Rattle.autocoder.specs.declared.faults.CardFault.{CardFault}
+
+abbrev pub fault_then : ℕ → Option SourceFault → List CardFault → List CardFault
+fault_then card None rest = rest
+fault_then card (Some fault) rest = record { card = card; fault = fault } ∷ rest
+
+-- the faults of cards that are numbered from this card on
+unfoldable pub faults_from : ℕ → List Laid → List CardFault
+faults_from card [] = []
+faults_from card (laid ∷ layout) = fault_then card laid.fault (faults_from (card + 1) layout)
+
+-- the fault of the last card, if there is a card and it has one
+unfoldable pub last_fault : List Laid → Option SourceFault
+last_fault layout = (slice_index_or layout (length layout - 1) nothing).fault
+
+-- a source without end tells it at its last card, where that has no fault of its own
+abbrev pub no_end_behind : Option SourceFault → ℕ → List CardFault
+no_end_behind None card = record { card = card; fault = NoEnd } ∷ []
+no_end_behind (Some fault) card = []
+
+-- the faults of cards, and that of a source without end
+abbrev pub told_to_end : Bool → List CardFault → Option SourceFault → ℕ → List CardFault
+told_to_end ended faults last card = if ended then faults else faults ++ no_end_behind last card
+
+-- the faults of a source with an end or without
+unfoldable pub faults_of : Bool → List Laid → List CardFault
+faults_of ended layout = told_to_end ended (faults_from 1 layout) (last_fault layout) (length layout)

@@ -1,0 +1,69 @@
+//! The faults of a source.
+
+ghost use Rattle.std.specs.Prelude.{◌≡◌, ◌≢◌, ◌++◌, [], IsTrue, IsFalse, OnOk};
+ghost use Rattle.autocoder.specs.Telling.{fault_then, told_to_end};
+
+use layout::SourceFault;
+use std::alloc::AllocError;
+
+/// The lowest fault of a card.
+#[derive(Clone, Copy, Debug, PartialEq, Eq)]
+pub struct CardFault {
+    /// The card's number, from 1 on; 0 where there is no card.
+    pub card: u32,
+    pub fault: SourceFault,
+}
+
+/// Why a source has no program.
+#[derive(Debug, Drop)]
+pub enum Faults {
+    /// The faults of the source, in card order, one of a card.
+    Source(Vec<CardFault>),
+    /// There was no memory for the work.
+    NoMemory,
+}
+
+/// Tells a fault, where there is one.
+pub(crate) fn tell(
+    faults: &mut Vec<CardFault>,
+    card: u32,
+    fault: Option<SourceFault>,
+) -> Result<(), AllocError>
+    ensures { OnOk result (faults.new.items ≡ faults.old.items ++ fault_then card fault []) }
+{
+    let Some(fault) = fault else {
+        return Ok(());
+    };
+    faults.push(CardFault { card, fault })?;
+    Ok(())
+}
+
+/// Tells where the source has no end, if its last card has no fault of its own.
+pub(crate) fn tell_no_end(
+    faults: &mut Vec<CardFault>,
+    ended: bool,
+    last: Option<SourceFault>,
+    card: u32,
+) -> Result<(), AllocError>
+    ensures { OnOk result (faults.new.items ≡ told_to_end ended faults.old.items last card) }
+{
+    if ended {
+        return Ok(());
+    }
+    if last.is_some() {
+        return Ok(());
+    }
+    faults.push(CardFault {
+        card,
+        fault: SourceFault::NoEnd,
+    })?;
+    Ok(())
+}
+
+/// Whether there are faults.
+pub(crate) fn has_some(faults: &[CardFault]) -> bool
+    ensures some { IsTrue result → faults.now ≢ [] }
+    ensures none { IsFalse result → faults.now ≡ [] }
+{
+    !faults.is_empty()
+}

@@ -1,0 +1,177 @@
+//! The listing of a source: its cards and its literals with their places.
+
+ghost use Rattle.std.specs.Prelude.{◌≡◌, ◌≤◌, ◌++◌, ◌∷◌, [], length, take, replicate, IfOk, OnOk};
+ghost use Rattle.layout.specs.Literals.{texts};
+ghost use Rattle.layout.specs.Slots.{place_after};
+ghost use Rattle.autocoder.specs.Listing.{line_feed, right, fills, place_field, glyphs_of, card_line, literal_line, listed, card_lines, literal_lines, listing_of};
+
+use crate::program::Program;
+use bcd::Code;
+use cards::{Card, Deck, LARGEST_DECK};
+use itoa::Buffer;
+use layout::{FARTHEST, Kind, Literal, MOST_LITERALS, Slot, place_after};
+use std::alloc::{AllocError, Global};
+
+const LINE_FEED: u8 = 10;
+
+/// Adds so many fillers.
+fn push_fillers(line: &mut Vec<u8>, filler: u8, count: usize) -> Result<(), AllocError>
+    ensures { OnOk result (line.new.items ≡ line.old.items ++ replicate count filler) }
+{
+    for _ in 0..count {
+        line.push(filler)?;
+    }
+    Ok(())
+}
+
+/// Adds a number in a field of so many places, with fillers in front.
+fn push_number(line: &mut Vec<u8>, filler: u8, width: usize, number: u32) -> Result<(), AllocError>
+    ensures { OnOk result (line.new.items ≡ line.old.items ++ right filler width number) }
+{
+    let mut buffer = Buffer::new();
+    let printed = buffer.format(number).as_bytes();
+    push_fillers(line, filler, width.saturating_sub(printed.len()))?;
+    line.extend_from_slice(printed)?;
+    Ok(())
+}
+
+/// Adds the glyphs of some characters.
+fn push_glyphs(line: &mut Vec<u8>, codes: &[Code]) -> Result<(), AllocError>
+    ensures { OnOk result (line.new.items ≡ line.old.items ++ glyphs_of codes.now) }
+{
+    for code in codes {
+        line.push(code.glyph())?;
+    }
+    Ok(())
+}
+
+/// Whether a card fills positions.
+fn fills(kind: Kind) -> bool
+    ensures { result ≡ fills kind }
+{
+    match kind {
+        Kind::Instruction => true,
+        Kind::Constant => true,
+        _ => false,
+    }
+}
+
+/// Adds the leftmost position that a card fills, if it is an instruction or a constant.
+#[tactic(auto, unfolding(crate::specs::Listing::place_field))]
+fn push_place(line: &mut Vec<u8>, slot: &Slot) -> Result<(), AllocError>
+    ensures { OnOk result (line.new.items ≡ line.old.items ++ place_field slot.now) }
+{
+    if fills(slot.kind) {
+        push_number(line, b'0', 5, slot.before)
+    } else {
+        push_fillers(line, b' ', 5)
+    }
+}
+
+/// The line of a card.
+#[tactic(auto, unfolding(crate::specs::Listing::card_line))]
+fn card_line(alloc: Global, number: u32, slot: &Slot, card: &Card) -> Result<Vec<u8>, AllocError>
+    ensures { IfOk result (λ line. line.items ≡ card_line number slot.now card.now) }
+{
+    let mut line = Vec::new(alloc);
+    push_number(&mut line, b' ', 4, number)?;
+    line.push(b' ')?;
+    push_place(&mut line, slot)?;
+    line.push(b' ')?;
+    push_glyphs(&mut line, &card.0)?;
+    Ok(line)
+}
+
+/// The line of a literal.
+#[tactic(auto, unfolding(crate::specs::Listing::literal_line))]
+fn literal_line(alloc: Global, place: u32, literal: &[Code]) -> Result<Vec<u8>, AllocError>
+    ensures { IfOk result (λ line. line.items ≡ literal_line place literal.now) }
+{
+    let mut line = Vec::new(alloc);
+    line.extend_from_slice(b"LIT  ")?;
+    push_number(&mut line, b'0', 5, place)?;
+    line.push(b' ')?;
+    push_glyphs(&mut line, literal)?;
+    Ok(line)
+}
+
+/// How many characters a line has without the blanks at its end.
+fn length_listed(line: &[u8]) -> usize
+    ensures within { result ≤ length line.now }
+    ensures text { listed line.now ≡ take result line.now ++ line_feed ∷ [] }
+{
+    for length in (0..line.len()).rev() {
+        if line[length] != b' ' {
+            return length + 1;
+        }
+    }
+    0
+}
+
+/// Adds a line without the blanks at its end, and the end of the line.
+fn push_line(text: &mut Vec<u8>, line: &[u8]) -> Result<(), AllocError>
+    ensures { OnOk result (text.new.items ≡ text.old.items ++ listed line.now) }
+{
+    text.extend_from_slice(&line[..length_listed(line)])?;
+    text.push(LINE_FEED)?;
+    Ok(())
+}
+
+/// Adds the lines of cards.
+fn push_cards(
+    alloc: Global,
+    text: &mut Vec<u8>,
+    cards: &[Card],
+    slots: &[Slot],
+) -> Result<(), AllocError>
+    requires { length cards.now ≤ LARGEST_DECK }
+    ensures { OnOk result (text.new.items ≡ text.old.items ++ card_lines 1 cards.now slots.now) }
+{
+    for i in 0..cards.len() {
+        if i >= slots.len() {
+            return Ok(());
+        }
+        let line = card_line(alloc, i as u32 + 1, &slots[i], &cards[i])?;
+        push_line(text, &line)?;
+    }
+    Ok(())
+}
+
+/// Adds the lines of literals that stand one behind the other from a place on.
+fn push_literals(
+    alloc: Global,
+    text: &mut Vec<u8>,
+    place: u32,
+    literals: &[Literal],
+) -> Result<(), AllocError>
+    requires place { place ≤ FARTHEST }
+    requires count { length literals.now ≤ MOST_LITERALS }
+    ensures { OnOk result (text.new.items ≡ text.old.items ++ literal_lines place (texts literals.now)) }
+{
+    let mut here = place;
+    for literal in literals {
+        let codes = literal.characters();
+        let line = literal_line(alloc, here, codes)?;
+        push_line(text, &line)?;
+        here += codes.len() as u32;
+    }
+    Ok(())
+}
+
+/// The listing of a deck's source and of its program's literals.
+#[tactic(auto, unfolding(crate::specs::Listing::listing_of))]
+pub fn listing_of(alloc: Global, deck: &Deck, program: &Program) -> Result<Vec<u8>, AllocError>
+    requires place { place_after program.now.slots.items ≤ FARTHEST }
+    requires literals { length program.now.literals.items ≤ MOST_LITERALS }
+    ensures { IfOk result (λ text. text.items ≡ listing_of deck.now program.now.slots.items (texts program.now.literals.items)) }
+{
+    let mut text = Vec::new(alloc);
+    push_cards(alloc, &mut text, deck.cards(), &program.slots)?;
+    push_literals(
+        alloc,
+        &mut text,
+        place_after(&program.slots),
+        &program.literals,
+    )?;
+    Ok(text)
+}

@@ -1,0 +1,5 @@
+pub mod Bounds
+pub mod Steps
+pub mod Layouts
+pub mod Firsts
+pub mod Filling

@@ -1,0 +1,9 @@
+pub mod Faults
+pub mod Source
+pub mod Names
+pub mod Slots
+pub mod Bounds
+pub mod Literals
+pub mod Cells
+pub mod Judging
+pub mod Layout
