@@ -1,4 +1,5 @@
 pub mod Standing
 pub mod Passes
 pub mod Assembling
-pub mod Listings
+pub mod Lines
+pub mod Loading

@@ -3,3 +3,4 @@ pub mod Tables
 pub mod Telling
 pub mod Programs
 pub mod Listing
+pub mod Loadable

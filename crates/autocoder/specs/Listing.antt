@@ -3,8 +3,11 @@ use Rattle.std.specs.Prelude.{ℕ, ◌+◌, ◌-◌, ◌==◌, Bool, true, false
 use Rattle.std.specs.List.{suffix_len}
 use Rattle.bcd.specs.Table.{glyph_of, byte}
 use Rattle.cards.specs.declared.decks.Card.{Card}
+use Rattle.layout.specs.Source.{source_of, lines_of}
 use Rattle.layout.specs.Slots.{place_after}
-use Rattle.layout.specs.Literals.{Characters}
+use Rattle.layout.specs.Literals.{Characters, literals_of}
+use Rattle.layout.specs.Layout.{slots_of}
+use Rattle.autocoder.specs.Programs.{layout_for}
 use Rattle.layout.specs.declared.slots.Kind.{Kind}
 use Rattle.layout.specs.declared.slots.Kind.TheVariants.{Instruction, Constant}
 use Rattle.layout.specs.declared.slots.Slot.{Slot}
@@ -64,3 +67,11 @@ literal_lines place (literal ∷ literals) = listed (literal_line place literal)
 -- the listing of cards that have slots, and of literals
 unfoldable pub listing_of : List Card → List Slot → List Characters → List ℕ
 listing_of cards slots literals = card_lines 1 cards slots ++ literal_lines (place_after slots) literals
+
+-- the listing of a source: its cards, and the slots and literals of its one layout
+unfoldable pub listing_of_source : List Card → List ℕ
+listing_of_source source = listing_of source (slots_of (layout_for source)) (literals_of (lines_of false source) (slots_of (layout_for source)))
+
+-- the listing of a deck: that of the source that it begins with
+abbrev pub listing_for : List Card → List ℕ
+listing_for deck = listing_of_source (source_of deck)

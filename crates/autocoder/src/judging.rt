@@ -1,8 +1,8 @@
 //! The second pass: what each card fills, and the faults.
 
-ghost use Rattle.std.specs.Prelude.{◌≡◌, ◌≤◌, [], length, false, IfOk, OnOk};
+ghost use Rattle.std.specs.Prelude.{◌≡◌, ◌≤◌, ◌||◌, [], length, false, IfOk, OnOk};
 ghost use Rattle.layout.specs.Bounds.{IsWithin};
-ghost use Rattle.layout.specs.Source.{lines_of};
+ghost use Rattle.layout.specs.Source.{is_control, lines_of};
 ghost use Rattle.layout.specs.Slots.{place_after, slots_from};
 ghost use Rattle.layout.specs.Literals.{texts, literals_of};
 ghost use Rattle.layout.specs.Layout.{fills_of, layout_of};
@@ -14,10 +14,17 @@ use crate::tables::{fill, is_taken};
 use cards::{Card, LARGEST_DECK};
 use core_store::LARGEST_SIZE;
 use layout::{
-    Cell, FARTHEST, Literal, MOST_LITERALS, Slot, SourceFault, cells_of, either, fault_by,
-    is_control, line_on,
+    Cell, FARTHEST, Literal, MOST_LITERALS, Slot, SourceFault, cells_of, fault_by, is_control,
+    line_on,
 };
 use std::alloc::{AllocError, Global};
+
+/// Whether a card that told the size is behind, where one more card is read.
+fn is_told(told: bool, card: &Card) -> bool
+    ensures { result ≡ (told || is_control card.now) }
+{
+    told || is_control(card)
+}
 
 /// Fills the table with what the cards fill, tells their faults, and answers that of the last card.
 pub(crate) fn judge(
@@ -55,7 +62,7 @@ pub(crate) fn judge(
         fill(table, &cells);
         tell(faults, i as u32 + 1, fault)?;
         last = fault;
-        told = either(told, is_control(card));
+        told = is_told(told, card);
     }
     Ok(last)
 }

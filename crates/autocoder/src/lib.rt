@@ -1,20 +1,20 @@
 //! The Autocoder assembler: from the cards of a source to its program, and its listing.
 //!
 //! It puts together what `layout` gives piece by piece. Its contract for the layers above: a
-//! program is that of its source's one layout (`specs/Programs.antt`), the faults are exactly the
-//! source's, one a card, in card order (`specs/Telling.antt`), and the listing is that of cards,
-//! slots and literals (`specs/Listing.antt`). Memory is taken by both calls; want of it is a fault
-//! of its own.
+//! program is that of its source's one layout (`specs/Programs.antt`), and cards can load it
+//! (`specs/Loadable.antt`); the faults are exactly the source's, one a card, in card order
+//! (`specs/Telling.antt`); the listing is that of the deck (`specs/Listing.antt`). Memory is taken
+//! by both calls; want of it is a fault of its own.
 #![tactic(auto)]
 
 mod faults;
 mod judging;
-mod listing;
+mod listings;
 mod program;
 mod tables;
 #[cfg(test)]
 mod tests;
 
 pub use faults::{CardFault, Faults};
-pub use listing::listing_of;
+pub use listings::listing;
 pub use program::{Program, assemble};

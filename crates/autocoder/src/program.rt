@@ -1,9 +1,9 @@
 //! A program, assembled.
 
-ghost use Rattle.std.specs.Prelude.{◌≡◌, ◌≤◌, length, IfOk, IfErr, OnOk};
+ghost use Rattle.std.specs.Prelude.{◌≡◌, IfOk, IfErr, OnOk};
 ghost use Rattle.layout.specs.Bounds.{IsWithin};
-ghost use Rattle.layout.specs.Slots.{place_after};
 ghost use Rattle.layout.specs.Source.{IsInRange, source_of};
+ghost use Rattle.autocoder.specs.Loadable.{CanBeLoaded, IsRising};
 ghost use Rattle.autocoder.specs.Programs.{start_by, last_line, IsProgramOf, IsFaultless, AreFaults};
 
 use crate::faults::{Faults, has_some, tell_no_end};
@@ -12,8 +12,8 @@ use crate::tables::{cells_in, empty_table};
 use cards::{Card, Deck};
 use core_store::Size;
 use layout::{
-    Cell, FARTHEST, Line, Literal, MOST_LITERALS, Slot, Value, first_instruction, has_end, lay_out,
-    literals_of, size_of, source_of, value_in,
+    Cell, FARTHEST, Line, Literal, Slot, Value, first_instruction, has_end, lay_out, literals_of,
+    size_of, source_of, value_in,
 };
 use statements::{Statement, read};
 use std::alloc::Global;
@@ -66,11 +66,13 @@ fn last_line(source: &[Card]) -> Line
     read(&source[source.len() - 1])
 }
 
-/// Assembles the source that a deck begins with.
+/// Assembles the source that a deck begins with: its cards up to the first END card. Answers the
+/// program, or the lowest fault of each card that has one. The cards behind the source are data and
+/// are not looked at. Memory is taken for the program and on the way.
 pub fn assemble(alloc: Global, deck: &Deck) -> Result<Program, Faults>
     ensures program { IfOk result (IsProgramOf (source_of deck.now)) }
-    ensures places { IfOk result (λ program. place_after program.slots.items ≤ FARTHEST) }
-    ensures literals { IfOk result (λ program. length program.literals.items ≤ MOST_LITERALS) }
+    ensures loadable { IfOk result CanBeLoaded }
+    ensures rising { IfOk result (λ program. IsRising program.image.items) }
     ensures faultless { OnOk result (IsFaultless (source_of deck.now)) }
     ensures faults { IfErr result (AreFaults (source_of deck.now)) }
 {

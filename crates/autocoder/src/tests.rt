@@ -1,6 +1,6 @@
 //! Worked sources: their images, listings and faults.
 
-use crate::{CardFault, Faults, Program, assemble, listing_of};
+use crate::{CardFault, Faults, Program, assemble, listing};
 use cards::{Deck, read_text};
 use layout::Cell;
 use std::alloc::Global;
@@ -122,10 +122,10 @@ fn equal_literals_stand_once(rt: HostRuntime) -> Result<(), Fail> {
         panic!(rt; "no program");
     };
     assert!(rt; fills(&program.image, 333, b"M350280M350290. 1B"));
-    let listing = listing_of(rt.alloc(), &deck, &program)?;
+    let text = listing(rt.alloc(), &deck, &program)?;
     let expected =
         b"   1 00333                MCW  &12,280\n   2 00340                MCW  &12,290\n   3 00347                H\n   4                      END\nLIT  00349 1B\n";
-    assert!(rt; listing.as_slice() == expected.as_slice());
+    assert!(rt; text.as_slice() == expected.as_slice());
     Ok(())
 }
 
@@ -258,5 +258,284 @@ fn one_card_tells_the_size(rt: HostRuntime) -> Result<(), Fail> {
         ("", "END", ""),
     ];
     assert!(rt; tells(rt.alloc(), &rows, &[(1, 42), (2, 42), (3, 40)])?);
+    Ok(())
+}
+
+#[test]
+fn an_end_out_of_order_places_no_blank_and_no_literals(rt: HostRuntime) -> Result<(), Fail> {
+    let alloc = rt.alloc();
+    let broken = [("", "ORG", "3996"), ("", "SW", "@A@"), ("", "END X", "")];
+    assert!(rt; tells(alloc, &broken, &[(3, 40)])?);
+    let misplaced = [("", "ORG", "3996"), ("", "SW", "@A@"), ("", "END", " A")];
+    assert!(rt; tells(alloc, &misplaced, &[(3, 42)])?);
+    let labelled = [("", "ORG", "3996"), ("", "SW", "@A@"), ("A", "END", "")];
+    assert!(rt; tells(alloc, &labelled, &[(3, 43)])?);
+    Ok(())
+}
+
+#[test]
+fn an_end_by_a_bad_address_places_blank_and_literals(rt: HostRuntime) -> Result<(), Fail> {
+    let alloc = rt.alloc();
+    let good = [("", "ORG", "3996"), ("", "SW", "@A@"), ("", "END", "")];
+    assert!(rt; tells(alloc, &good, &[(2, 46), (3, 46)])?);
+    let unknown = [("", "ORG", "3996"), ("", "SW", "@A@"), ("", "END", "LOST")];
+    assert!(rt; tells(alloc, &unknown, &[(2, 46), (3, 45)])?);
+    let outside = [("", "ORG", "3990"), ("", "SW", "@A@"), ("", "END", "4000")];
+    assert!(rt; tells(alloc, &outside, &[(3, 46)])?);
+    let no_end = [("", "ORG", "3996"), ("", "SW", "@A@")];
+    assert!(rt; tells(alloc, &no_end, &[(2, 49)])?);
+    Ok(())
+}
+
+#[test]
+fn literals_at_fault_are_told_by_the_end(rt: HostRuntime) -> Result<(), Fail> {
+    let alloc = rt.alloc();
+    let filled = [
+        ("", "ORG", "500"),
+        ("", "DCW", "5"),
+        ("", "ORG", "495"),
+        ("", "SW", "@A@"),
+        ("", "END", ""),
+    ];
+    assert!(rt; tells(alloc, &filled, &[(5, 48)])?);
+    let reserved = [("", "SW", "@A@"), ("", "ORG", "070"), ("", "END", "")];
+    assert!(rt; tells(alloc, &reserved, &[(3, 47)])?);
+    Ok(())
+}
+
+#[test]
+fn cards_that_use_literals(rt: HostRuntime) -> Result<(), Fail> {
+    let alloc = rt.alloc();
+    let unknown = [
+        ("", "ORG", "3993"),
+        ("", "MCW", "@A@,LOST"),
+        ("", "END", ""),
+    ];
+    assert!(rt; tells(alloc, &unknown, &[(2, 45), (3, 46)])?);
+    let misspelled = [
+        ("", "H", ""),
+        ("", "ORG", "3999"),
+        ("", "DCW", "5"),
+        ("", "MCW", "@A@,X1"),
+        ("", "END", ""),
+    ];
+    assert!(rt; tells(alloc, &misspelled, &[(4, 42)])?);
+    let taken = [
+        ("A", "EQU", "5"),
+        ("", "H", ""),
+        ("", "ORG", "3999"),
+        ("", "DCW", "5"),
+        ("A", "SW", "@A@"),
+        ("", "END", ""),
+    ];
+    assert!(rt; tells(alloc, &taken, &[(5, 44)])?);
+    Ok(())
+}
+
+#[test]
+fn where_a_source_starts(rt: HostRuntime) -> Result<(), Fail> {
+    let alloc = rt.alloc();
+    let outside = [("", "ORG", "3999"), ("", "B", "1"), ("", "END", "")];
+    assert!(rt; tells(alloc, &outside, &[(2, 46)])?);
+    let comments = [
+        ("", "B X", ""),
+        ("", "XYZ", ""),
+        ("", "B", "X1"),
+        ("1", "H", ""),
+        ("A", "EQU", "5"),
+        ("A", "H", ""),
+        ("", "END", ""),
+    ];
+    assert!(rt;
+        tells(
+            alloc,
+            &comments,
+            &[(1, 40), (2, 41), (3, 42), (4, 43), (6, 44), (7, 42)]
+        )?
+    );
+    let unknown = [("", "B", "LOST"), ("", "END", "")];
+    assert!(rt; tells(alloc, &unknown, &[(1, 45)])?);
+    let filled = [
+        ("", "DCW", "5"),
+        ("", "ORG", "333"),
+        ("", "H", ""),
+        ("", "END", ""),
+    ];
+    assert!(rt; tells(alloc, &filled, &[(3, 48)])?);
+    let first = [
+        ("", "ORG", "500"),
+        ("", "H", ""),
+        ("", "ORG", "400"),
+        ("", "H", ""),
+        ("", "END", ""),
+    ];
+    let program = program_of(alloc, &deck_of(alloc, &first)?)?;
+    assert_eq!(rt; program.start, 500);
+    Ok(())
+}
+
+#[test]
+fn broken_cards_keep_their_operation(rt: HostRuntime) -> Result<(), Fail> {
+    let alloc = rt.alloc();
+    let control = [
+        ("", "CTL X", "1"),
+        ("", "CTL", "1"),
+        ("", "B", "3999"),
+        ("", "END", ""),
+    ];
+    assert!(rt; tells(alloc, &control, &[(1, 40), (2, 42)])?);
+    let ended = [("", "H", ""), ("", "END X", ""), ("", "XYZ", "")];
+    assert!(rt; tells(alloc, &ended, &[(2, 40)])?);
+    Ok(())
+}
+
+#[test]
+fn labels_that_stay_free(rt: HostRuntime) -> Result<(), Fail> {
+    let alloc = rt.alloc();
+    let unused = [
+        ("C", "H X", ""),
+        ("D", "B", "X1"),
+        ("E", "EQU", "LOST"),
+        ("", "B", "C"),
+        ("", "B", "D"),
+        ("", "B", "E"),
+        ("", "END", ""),
+    ];
+    assert!(rt;
+        tells(
+            alloc,
+            &unused,
+            &[(1, 40), (2, 42), (3, 45), (4, 45), (5, 45), (6, 45)]
+        )?
+    );
+    let again = [
+        ("A", "XYZ", ""),
+        ("A", "H", ""),
+        ("", "B", "A"),
+        ("", "END", ""),
+    ];
+    assert!(rt; tells(alloc, &again, &[(1, 41)])?);
+    let where_none_stands = [
+        ("A", "EQU", "5"),
+        ("A", "JOB", ""),
+        ("", "H", ""),
+        ("", "END", ""),
+    ];
+    assert!(rt; tells(alloc, &where_none_stands, &[(2, 43)])?);
+    Ok(())
+}
+
+#[test]
+fn areas_are_passed_over(rt: HostRuntime) -> Result<(), Fail> {
+    let alloc = rt.alloc();
+    let filled = [
+        ("", "B", "T"),
+        ("T", "DS", "2"),
+        ("", "ORG", "T-1"),
+        ("", "DCW", "@AB@"),
+        ("", "ORG", "333"),
+        ("", "DS", "7"),
+        ("", "END", ""),
+    ];
+    let program = program_of(alloc, &deck_of(alloc, &filled)?)?;
+    assert!(rt; fills(&program.image, 333, b"B339 AB"));
+    let long = [("", "H", ""), ("", "DS", "99999"), ("", "END", "")];
+    assert!(rt; tells(alloc, &long, &[(2, 46)])?);
+    Ok(())
+}
+
+#[test]
+fn the_marked_blank(rt: HostRuntime) -> Result<(), Fail> {
+    let alloc = rt.alloc();
+    let between = [
+        ("", "H", ""),
+        ("", "DCW", "5"),
+        ("", "H", ""),
+        ("", "H", ""),
+        ("", "END", ""),
+    ];
+    let program = program_of(alloc, &deck_of(alloc, &between)?)?;
+    assert!(rt; fills(&program.image, 333, b".5.. "));
+    let outside = [("", "ORG", "3999"), ("", "H", ""), ("", "END", "")];
+    assert!(rt; tells(alloc, &outside, &[(2, 46)])?);
+    let filled = [
+        ("", "ORG", "501"),
+        ("", "DCW", "5"),
+        ("", "ORG", "500"),
+        ("", "H", ""),
+        ("", "END", ""),
+    ];
+    assert!(rt; tells(alloc, &filled, &[(4, 48)])?);
+    let fills = [
+        ("", "ORG", "500"),
+        ("", "H", ""),
+        ("", "ORG", "501"),
+        ("", "DCW", "5"),
+        ("", "END", ""),
+    ];
+    assert!(rt; tells(alloc, &fills, &[(4, 48)])?);
+    let no_end = [("", "ORG", "3999"), ("", "H", "")];
+    assert!(rt; tells(alloc, &no_end, &[(2, 49)])?);
+    Ok(())
+}
+
+#[test]
+fn an_address_is_judged_by_its_value(rt: HostRuntime) -> Result<(), Fail> {
+    let alloc = rt.alloc();
+    let good = [
+        ("", "B", "4500-501"),
+        ("", "B", "3999&X1"),
+        ("", "H", ""),
+        ("", "END", ""),
+    ];
+    let program = program_of(alloc, &deck_of(alloc, &good)?)?;
+    assert!(rt; fills(&program.image, 333, b"BI99BIZ9. "));
+    let bad = [
+        ("", "B", "4500-500"),
+        ("", "B", "5-6"),
+        ("", "B", "4000&X1"),
+        ("", "B", "5-5"),
+        ("", "END", ""),
+    ];
+    assert!(rt; tells(alloc, &bad, &[(1, 46), (2, 46), (3, 46)])?);
+    Ok(())
+}
+
+#[test]
+fn literals_stand_by_card_and_operand(rt: HostRuntime) -> Result<(), Fail> {
+    let alloc = rt.alloc();
+    let rows = [("", "A", "@B@,@C@"), ("", "A", "@C@,@D@"), ("", "END", "")];
+    let program = program_of(alloc, &deck_of(alloc, &rows)?)?;
+    assert!(rt; fills(&program.image, 333, b"A348349A349350 BCD"));
+    Ok(())
+}
+
+#[test]
+fn a_listing(rt: HostRuntime) -> Result<(), Fail> {
+    let alloc = rt.alloc();
+    let rows = [
+        ("", "CTL", "2"),
+        ("", "JOB", "ANY"),
+        ("*", "", ""),
+        ("A", "EQU", "5"),
+        ("", "ORG", "500"),
+        ("", "DC", "#2"),
+        ("", "DS", "3"),
+        ("", "MCW", "@B  @,A"),
+        (
+            "",
+            "H",
+            "                                                    SEQ00001",
+        ),
+        ("", "END", ""),
+    ];
+    let deck = deck_of(alloc, &rows)?;
+    let Ok(program) = assemble(alloc, &deck) else {
+        panic!(rt; "no program");
+    };
+    let text = listing(alloc, &deck, &program)?;
+    let expected =
+        "   1                      CTL  2\n   2                      JOB  ANY\n   3            *\n   4            A         EQU  5\n   5                      ORG  500\n   6 00500                DC   #2\n   7                      DS   3\n   8 00505                MCW  @B  @,A\n   9 00512                H                                                        SEQ00001\n  10                      END\nLIT  00514 B\n";
+    assert!(rt; text.as_slice() == expected.as_bytes());
     Ok(())
 }

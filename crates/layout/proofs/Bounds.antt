@@ -88,7 +88,7 @@ value_by_within : (size : ℕ) (adjustment : Adjustment) (number : Option ℕ) �
 value_by_within size adjustment None = tt
 value_by_within size adjustment (Some number) = adjusted_within size adjustment number
 
-value_is_within : (size : ℕ) (slots : List Slot) (expression : Expression) → IsValueWithin size (value_in size slots expression)
+pub value_is_within : (size : ℕ) (slots : List Slot) (expression : Expression) → IsValueWithin size (value_in size slots expression)
 unfolding value_in
 value_is_within size slots expression = value_by_within size expression.adjustment (base_number slots expression.base)
 

@@ -17,7 +17,7 @@ is_used_is [] wanted found e = e
 is_used_is (used ∷ uses) wanted found e = e ∙ ap (λ b. bytes_eq (characters used) wanted || b) (is_used_is uses wanted (list_any (λ used. bytes_eq (characters used) wanted) uses) refl)
 
 -- what was used, where a further use is told
-is_used_more : (uses : List Characters) (literal other : Characters) → is_used (uses ++ literal ∷ []) other ≡ (is_used uses other || (bytes_eq literal other || false))
+pub is_used_more : (uses : List Characters) (literal other : Characters) → is_used (uses ++ literal ∷ []) other ≡ (is_used uses other || (bytes_eq literal other || false))
 is_used_more uses literal other = list_any-append (λ u. bytes_eq u other) uses (literal ∷ [])
 
 module _ (uses : List Characters) (i : ℕ) (h : i < length uses) where
@@ -52,7 +52,7 @@ absorbed true b h = refl
 absorbed false true h = h refl
 absorbed false false h = refl
 
-tells_again : (uses literals : List Characters) (literal : Characters) → ((other : Characters) → is_used literals other ≡ is_used uses other) → is_used uses literal ≡ true →
+pub tells_again : (uses literals : List Characters) (literal : Characters) → ((other : Characters) → is_used literals other ≡ is_used uses other) → is_used uses literal ≡ true →
     (other : Characters) → is_used literals other ≡ is_used (uses ++ literal ∷ []) other
 tells_again uses literals literal same again other =
     same other

@@ -3,3 +3,4 @@ pub mod Steps
 pub mod Layouts
 pub mod Firsts
 pub mod Filling
+pub mod Once

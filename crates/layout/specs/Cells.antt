@@ -2,6 +2,7 @@
 use Rattle.std.specs.Prelude.{ℕ, ◌+◌, ◌%◌, Bool, true, false, if◌then◌else◌, List, [], ◌∷◌, ◌++◌, length, replicate, Option, Some, None, Ok, is_some, option_to_list}
 use Rattle.bcd.specs.declared.Zone.{Zone}
 use Rattle.bcd.specs.declared.Zone.TheVariants as zone
+use Rattle.core_store.specs.Storage.{blank_cell}
 use Rattle.core_store.specs.declared.TheConstants.{LARGEST_SIZE}
 use Rattle.addresses.specs.Addresses.{written}
 use Rattle.addresses.specs.declared.tagged.IndexLocation.{IndexLocation}
@@ -24,6 +25,9 @@ use Rattle.layout.specs.declared.slots.Slot.{Slot}
 
 abbrev pub cell : ℕ → ℕ → Bool → Cell
 cell position code marked = record { position = position; code = code; marked = marked }
+
+abbrev pub blank : ℕ
+blank = blank_cell.0
 
 -- characters without marks, from a place on
 unfoldable pub row : ℕ → List ℕ → List Cell
@@ -68,13 +72,13 @@ instruction_codes size slots literals spelled =
 
 -- the marked blank behind an instruction, where the next card that stands at a place ends it
 abbrev pub blank_behind : List Slot → ℕ → List Cell
-blank_behind later place = if is_closed later then cell place 0 true ∷ [] else []
+blank_behind later place = if is_closed later then cell place blank true ∷ [] else []
 
 -- ---- a card
 
 abbrev pub constant_codes : constant.Constant → List ℕ
 constant_codes (text.Characters characters) = characters
-constant_codes (Blanks count) = replicate count 0
+constant_codes (Blanks count) = replicate count blank
 
 -- what a card fills that counts as no comment, with names and literals of the whole source
 abbrev pub filled_by : ℕ → List Slot → List Characters → List Slot → Slot → Line → List Cell

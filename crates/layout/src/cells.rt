@@ -6,7 +6,7 @@ ghost use Rattle.layout.specs.Slots.{place_after};
 ghost use Rattle.layout.specs.Source.{IsInRange};
 ghost use Rattle.layout.specs.Literals.{texts};
 ghost use Rattle.layout.specs.Names.{IsValueWithin};
-ghost use Rattle.layout.specs.Cells.{row, field, literal_cells, tag, position_in, operand_codes, instruction_codes, blank_behind, constant_codes, cells_of};
+ghost use Rattle.layout.specs.Cells.{blank, row, field, literal_cells, tag, position_in, operand_codes, instruction_codes, blank_behind, constant_codes, cells_of};
 ghost use Rattle.statements.specs.Ranges.{IsConstantInRange, IsInstructionInRange, IsOperandInRange};
 
 use crate::literals::{Literal, MOST_LITERALS, literal_end};
@@ -166,7 +166,7 @@ fn push_literals(cells: &mut Vec<Cell>, place: u32, literals: &[Literal]) -> Res
 fn push_blank_row(cells: &mut Vec<Cell>, place: u32, count: u32) -> Result<(), AllocError>
     requires place { place ≤ LAST_CELL }
     requires count { count ≤ NUMBER_LIMIT }
-    ensures { OnOk result (cells.new.items ≡ cells.old.items ++ row place (replicate count 0)) }
+    ensures { OnOk result (cells.new.items ≡ cells.old.items ++ row place (replicate count blank)) }
 {
     for offset in 0..count {
         cells.push(Cell {
@@ -189,7 +189,7 @@ fn push_blanks(
     requires place { place < LAST_CELL }
     requires some { 0 < count }
     requires limit { count ≤ NUMBER_LIMIT }
-    ensures { OnOk result (cells.new.items ≡ cells.old.items ++ field marked place (replicate count 0)) }
+    ensures { OnOk result (cells.new.items ≡ cells.old.items ++ field marked place (replicate count blank)) }
 {
     cells.push(Cell {
         position: place,

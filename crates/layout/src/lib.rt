@@ -4,8 +4,8 @@
 //! The layer stands on `statements`, and so knows what each card says. Its contract for the layer
 //! above: a source has exactly one layout (`layout_is_unique`), and each call gives a piece of it
 //! by the definitions of `specs/`. A rule asks of a card what the cards before it and behind it
-//! give, and the names and literals of the whole source; no rule speaks of passes. Memory is
-//! taken for lists of slots, literals and cells.
+//! give, and the names and literals of the whole source; no rule speaks of passes. No literal
+//! stands twice (`literals_stand_once`). Memory is taken for lists of slots, literals and cells.
 #![tactic(auto)]
 
 mod cells;
@@ -16,14 +16,14 @@ mod literals;
 mod names;
 mod slots;
 mod source;
+#[cfg(test)]
+mod tests;
 
 pub use cells::{Cell, FIRST_FREE, cells_of};
 pub use faults::SourceFault;
 pub use judging::fault_by;
-pub use laws::layout_is_unique;
+pub use laws::{layout_is_unique, literals_stand_once};
 pub use literals::{Literal, MOST_LITERALS, literals_of};
 pub use names::{Value, value_in};
-pub use slots::{
-    Definition, FARTHEST, Kind, Slot, first_instruction, is_closed, lay_out, place_after,
-};
-pub use source::{Line, either, has_end, is_control, line_on, size_of, source_of};
+pub use slots::{Definition, FARTHEST, Kind, Slot, first_instruction, lay_out, place_after};
+pub use source::{Line, has_end, is_control, line_on, size_of, source_of};

@@ -107,7 +107,7 @@ pub fn line_on(told: bool, card: &Card) -> Line
 }
 
 /// One of two.
-pub fn either(one: bool, other: bool) -> bool
+pub(crate) fn either(one: bool, other: bool) -> bool
     ensures { result ≡ (one || other) }
 {
     one || other

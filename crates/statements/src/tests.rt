@@ -558,3 +558,57 @@ fn comments_and_operations(rt: HostRuntime) -> Result<(), Fail> {
     assert!(rt; matches!(operation("", "", "")?, None));
     Ok(())
 }
+
+#[test]
+fn an_operand_begins_in_its_first_column(rt: HostRuntime) -> Result<(), Fail> {
+    let operations = [
+        "CTL", "ORG", "DCW", "DC", "DS", "END", "A", "S", "ZA", "ZS", "MCW", "LCA", "MN", "MZ",
+        "MCS", "MCE", "C", "MA", "SW", "CW", "CS", "B", "BLC", "BCV", "BU", "BE", "BL", "BH",
+        "BAV", "BSS", "BCE", "BWZ", "BW", "R", "W", "WR", "P", "RP", "WP", "WRP", "CC", "H", "SBR",
+        "SAR", "NOP",
+    ];
+    for operation in operations {
+        assert_eq!(rt; fault_of("", operation, " 5")?, 42, "{operation}");
+    }
+    assert_eq!(rt; fault_of("A", "EQU", " 5")?, 42);
+    assert_eq!(rt; fault_of("", "JOB", " 5")?, 0);
+    Ok(())
+}
+
+#[test]
+fn where_literals_may_stand(rt: HostRuntime) -> Result<(), Fail> {
+    let cases = [
+        ("SW", "@A@", 0),
+        ("CW", "&1,@A@", 0),
+        ("SBR", "@A@", 0),
+        ("SAR", "-1", 0),
+        ("BWZ", "A,@A@,1", 0),
+        ("BWZ", "@A@,A,1", 42),
+        ("BW", "A,@A@", 0),
+        ("BCE", "@A@,A,1", 42),
+        ("H", "@A@", 42),
+        ("BSS", "&1,B", 42),
+        ("ORG", "&1", 42),
+        ("END", "-1", 42),
+    ];
+    for (operation, operands, number) in cases {
+        assert_eq!(rt;
+            fault_of("", operation, operands)?,
+            number,
+            "{operation} {operands}"
+        );
+    }
+    assert_eq!(rt; fault_of("A", "EQU", "@A@")?, 42);
+    Ok(())
+}
+
+#[test]
+fn what_is_not_looked_at(rt: HostRuntime) -> Result<(), Fail> {
+    let behind = "A                                                   @X,-";
+    assert_eq!(rt; behind.len(), 56);
+    assert_eq!(rt; fault_of("", "B", behind)?, 0);
+    assert_eq!(rt; fault_of("", "B", "A  AT @ AND @@")?, 0);
+    assert_eq!(rt; fault_of("", "DCW", "@A@  @")?, 0);
+    assert_eq!(rt; fault_of("", "H", "  @")?, 0);
+    Ok(())
+}

@@ -1,4 +1,4 @@
-use Rattle.std.proofs.Common.{◌≡◌, ◌≤◌, ◌+◌, ◌<◌, ◌∙◌, ◌++◌, ◌||◌, length, sym, ap, refl, subst, take, drop, ◌-◌, length-drop, get_or, None, arith, false}
+use Rattle.std.proofs.Common.{◌≡◌, ◌≤◌, ◌+◌, ◌<◌, ◌∙◌, ◌++◌, length, sym, ap, refl, subst, take, drop, ◌-◌, length-drop, get_or, None, arith, false}
 use Rattle.std.proofs.lemmas.List.{get_or_default, take_all, append-nil}
 use Rattle.layout.specs.Source.{lines_of}
 use Rattle.layout.specs.Slots.{origin}
@@ -48,7 +48,6 @@ loop-i-preserved c =
     let later_is = take_all (length slots - (i + 1)) (drop (i + 1) slots) (omega (arith, length-drop (i + 1) slots)) in
     let cells = c.in_ok-cells.cells.items in
     let fault = c.fault_by-fault.result in
-    let told = c.either-told.ensures ∙ ap (λ b. c.loop-i.told || b) c.is_control.ensures in
     let k : i < length lines = omega (arith, c.loop-i-test.true, length-lines_of false source) in
     let h : i < length slots = omega (arith, c.loop-i-test.true, c.requires.one_each) in
     let slot_is : slot ≡ get_or slots i origin = c.index-slots-i.is ∙ get_or_default slots i _ origin h in
@@ -59,7 +58,7 @@ loop-i-preserved c =
     ∙ ap (λ x. fault_by size slots (is_taken table cells) slot x line) c.deref-in-loop-i.ensures.value in
     let filled : c.fill.new.table ≡ filled_table table cells = c.fill.ensures ∙ ap (filled_table table) c.deref-in-loop-i-2.ensures.value in
     record {
-      lines = lines_left source c.loop-i.told i c.index-source-i.result c.loop-i-test.true c.index-source-i.is c.loop-i.invariant.lines c.either-told.result told;
+      lines = lines_left source c.loop-i.told i c.index-source-i.result c.loop-i-test.true c.index-source-i.is c.loop-i.invariant.lines c.is_told-told.result c.is_told-told.ensures;
       faults =
           faults_step size lines slots c.requires.slots literals c.requires.literals table i line slot later cells fault k line_is slot_is later_is c.in_ok-cells.ensures.cells fault_is c.loop-i.invariant.table
           c.loop-i.faults.items c.tell.new.faults.items c.in_ok-tell.ensures

@@ -7,6 +7,7 @@ use Rattle.layout.specs.Layout.{fills_of, layout_of, slots_of}
 use Rattle.autocoder.specs.Tables.{Stands}
 use Rattle.autocoder.specs.Telling.{faults_of}
 use Rattle.autocoder.specs.Programs.{size_for, layout_for, start_by, IsProgramOf}
+use Rattle.autocoder.proofs.Loading.{can_be_loaded, rises}
 use Rattle.autocoder.proofs.Assembling.{faults_are, image_is, slots_are}
 use Rattle.autocoder.proofs.program.assemble.Goals as goal
 
@@ -51,3 +52,9 @@ returns-clause-program c =
       literals = c.in-Ok-literals_of.ensures.literals ∙ ap (literals_of (lines_of false source)) (c.deref.ensures.value ∙ slots_is);
     } in
     subst (λ s. IsProgramOf s (record { size = c.size_of-size.result; image = c.in-Ok-cells_in.image; start = c.start_by.result; last = length source; slots = c.in-Ok.slots; literals = c.in-Ok-literals_of.literals })) source_is whole
+
+pub returns-clause-loadable : goal.returns-clause-loadable
+returns-clause-loadable c = can_be_loaded (source_of c.args.deck.now) _ (returns-clause-program c) (returns-clause-faultless c)
+
+pub returns-clause-rising : goal.returns-clause-rising
+returns-clause-rising c = rises (source_of c.args.deck.now) _ (returns-clause-program c)

@@ -1,7 +1,7 @@
 use Rattle.std.proofs.Common.{◌∙◌, ◌++◌, ◌+◌, ap, arith, drop}
 use Rattle.autocoder.specs.Listing.{listed}
-use Rattle.autocoder.proofs.Listings.{card_lines_step, card_lines_past_cards, card_lines_past_slots}
-use Rattle.autocoder.proofs.listing.push_cards.Goals as goal
+use Rattle.autocoder.proofs.Lines.{card_lines_step, card_lines_past_cards, card_lines_past_slots}
+use Rattle.autocoder.proofs.listings.push_cards.Goals as goal
 
 pub loop-i-preserved : goal.loop-i-preserved
 loop-i-preserved c =

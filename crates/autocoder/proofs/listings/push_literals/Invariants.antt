@@ -1,7 +1,7 @@
 use Rattle.std.proofs.Common.{◌≡◌, ◌+◌, ◌*◌, ◌≤◌, ◌++◌, drop}
 use Rattle.layout.specs.Literals.{texts}
 use Rattle.autocoder.specs.Listing.{literal_lines}
-use Rattle.autocoder.proofs.listing.push_literals.Given as goal
+use Rattle.autocoder.proofs.listings.push_literals.Given as goal
 
 abbrev pub invariant-loop-literal : goal.invariant-loop-literal
 invariant-loop-literal l = record {

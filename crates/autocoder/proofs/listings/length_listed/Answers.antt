@@ -1,7 +1,7 @@
 use Rattle.std.proofs.Common.{◌≡◌, ◌+◌, ◌-◌, ◌∙◌, ◌++◌, ◌∷◌, [], take, sym, ap, arith}
 use Rattle.autocoder.specs.Listing.{line_feed}
-use Rattle.autocoder.proofs.Listings.{listed_is}
-use Rattle.autocoder.proofs.listing.length_listed.Goals as goal
+use Rattle.autocoder.proofs.Lines.{listed_is}
+use Rattle.autocoder.proofs.listings.length_listed.Goals as goal
 
 pub returns-then-line-length-ne32-clause-text : goal.returns-then-line-length-ne32-clause-text
 returns-then-line-length-ne32-clause-text c =

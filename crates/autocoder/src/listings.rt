@@ -2,14 +2,15 @@
 
 ghost use Rattle.std.specs.Prelude.{◌≡◌, ◌≤◌, ◌++◌, ◌∷◌, [], length, take, replicate, IfOk, OnOk};
 ghost use Rattle.layout.specs.Literals.{texts};
-ghost use Rattle.layout.specs.Slots.{place_after};
-ghost use Rattle.autocoder.specs.Listing.{line_feed, right, fills, place_field, glyphs_of, card_line, literal_line, listed, card_lines, literal_lines, listing_of};
+ghost use Rattle.layout.specs.Source.{source_of};
+ghost use Rattle.autocoder.specs.Listing.{line_feed, right, fills, place_field, glyphs_of, card_line, literal_line, listed, card_lines, literal_lines, listing_for};
+ghost use Rattle.autocoder.specs.Programs.{IsProgramOf};
 
 use crate::program::Program;
 use bcd::Code;
 use cards::{Card, Deck, LARGEST_DECK};
 use itoa::Buffer;
-use layout::{FARTHEST, Kind, Literal, MOST_LITERALS, Slot, place_after};
+use layout::{Kind, Literal, MOST_LITERALS, Slot, place_after, source_of};
 use std::alloc::{AllocError, Global};
 
 const LINE_FEED: u8 = 10;
@@ -25,7 +26,7 @@ fn push_fillers(line: &mut Vec<u8>, filler: u8, count: usize) -> Result<(), Allo
 }
 
 /// Adds a number in a field of so many places, with fillers in front.
-fn push_number(line: &mut Vec<u8>, filler: u8, width: usize, number: u32) -> Result<(), AllocError>
+fn push_number(line: &mut Vec<u8>, filler: u8, width: usize, number: u64) -> Result<(), AllocError>
     ensures { OnOk result (line.new.items ≡ line.old.items ++ right filler width number) }
 {
     let mut buffer = Buffer::new();
@@ -62,7 +63,7 @@ fn push_place(line: &mut Vec<u8>, slot: &Slot) -> Result<(), AllocError>
     ensures { OnOk result (line.new.items ≡ line.old.items ++ place_field slot.now) }
 {
     if fills(slot.kind) {
-        push_number(line, b'0', 5, slot.before)
+        push_number(line, b'0', 5, slot.before as u64)
     } else {
         push_fillers(line, b' ', 5)
     }
@@ -70,7 +71,7 @@ fn push_place(line: &mut Vec<u8>, slot: &Slot) -> Result<(), AllocError>
 
 /// The line of a card.
 #[tactic(auto, unfolding(crate::specs::Listing::card_line))]
-fn card_line(alloc: Global, number: u32, slot: &Slot, card: &Card) -> Result<Vec<u8>, AllocError>
+fn card_line(alloc: Global, number: u64, slot: &Slot, card: &Card) -> Result<Vec<u8>, AllocError>
     ensures { IfOk result (λ line. line.items ≡ card_line number slot.now card.now) }
 {
     let mut line = Vec::new(alloc);
@@ -84,7 +85,7 @@ fn card_line(alloc: Global, number: u32, slot: &Slot, card: &Card) -> Result<Vec
 
 /// The line of a literal.
 #[tactic(auto, unfolding(crate::specs::Listing::literal_line))]
-fn literal_line(alloc: Global, place: u32, literal: &[Code]) -> Result<Vec<u8>, AllocError>
+fn literal_line(alloc: Global, place: u64, literal: &[Code]) -> Result<Vec<u8>, AllocError>
     ensures { IfOk result (λ line. line.items ≡ literal_line place literal.now) }
 {
     let mut line = Vec::new(alloc);
@@ -131,7 +132,7 @@ fn push_cards(
         if i >= slots.len() {
             return Ok(());
         }
-        let line = card_line(alloc, i as u32 + 1, &slots[i], &cards[i])?;
+        let line = card_line(alloc, i as u64 + 1, &slots[i], &cards[i])?;
         push_line(text, &line)?;
     }
     Ok(())
@@ -144,29 +145,28 @@ fn push_literals(
     place: u32,
     literals: &[Literal],
 ) -> Result<(), AllocError>
-    requires place { place ≤ FARTHEST }
-    requires count { length literals.now ≤ MOST_LITERALS }
+    requires { length literals.now ≤ MOST_LITERALS }
     ensures { OnOk result (text.new.items ≡ text.old.items ++ literal_lines place (texts literals.now)) }
 {
-    let mut here = place;
+    let mut here = place as u64;
     for literal in literals {
         let codes = literal.characters();
         let line = literal_line(alloc, here, codes)?;
         push_line(text, &line)?;
-        here += codes.len() as u32;
+        here += codes.len() as u64;
     }
     Ok(())
 }
 
-/// The listing of a deck's source and of its program's literals.
-#[tactic(auto, unfolding(crate::specs::Listing::listing_of))]
-pub fn listing_of(alloc: Global, deck: &Deck, program: &Program) -> Result<Vec<u8>, AllocError>
-    requires place { place_after program.now.slots.items ≤ FARTHEST }
-    requires literals { length program.now.literals.items ≤ MOST_LITERALS }
-    ensures { IfOk result (λ text. text.items ≡ listing_of deck.now program.now.slots.items (texts program.now.literals.items)) }
+/// The listing of a deck's source, by the program that it is assembled to: a line for each card of
+/// the source, with its number and the leftmost position that it fills, and behind them a line for
+/// each literal. Each line ends with a line feed. Fails for want of memory alone.
+pub fn listing(alloc: Global, deck: &Deck, program: &Program) -> Result<Vec<u8>, AllocError>
+    requires program { IsProgramOf (source_of deck.now) program.now }
+    ensures { IfOk result (λ text. text.items ≡ listing_for deck.now) }
 {
     let mut text = Vec::new(alloc);
-    push_cards(alloc, &mut text, deck.cards(), &program.slots)?;
+    push_cards(alloc, &mut text, source_of(deck.cards()), &program.slots)?;
     push_literals(
         alloc,
         &mut text,

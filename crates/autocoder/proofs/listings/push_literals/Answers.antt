@@ -1,7 +1,7 @@
 use Rattle.std.proofs.Common.{◌∙◌, ◌++◌, ap, arith}
 use Rattle.autocoder.specs.Listing.{listed}
-use Rattle.autocoder.proofs.Listings.{literal_lines_step, literal_lines_past}
-use Rattle.autocoder.proofs.listing.push_literals.Goals as goal
+use Rattle.autocoder.proofs.Lines.{literal_lines_step, literal_lines_past}
+use Rattle.autocoder.proofs.listings.push_literals.Goals as goal
 
 pub loop-literal-preserved : goal.loop-literal-preserved
 loop-literal-preserved c = record {
