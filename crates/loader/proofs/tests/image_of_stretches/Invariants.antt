@@ -1,0 +1,11 @@
+use Rattle.std.proofs.Common.{◌<◌, ◌≤◌}
+use Rattle.std.specs.List.{All}
+use Rattle.layout.specs.declared.cells.TheConstants.{FIRST_FREE}
+use Rattle.loader.specs.declared.tests.TheConstants.{SIZE}
+use Rattle.loader.proofs.tests.image_of_stretches.Given as goal
+
+abbrev pub invariant-loop : goal.invariant-loop
+invariant-loop l = record {
+  free : All (λ c. FIRST_FREE ≤ c.position) l.image.items;
+  inside : All (λ c. c.position < SIZE) l.image.items;
+}

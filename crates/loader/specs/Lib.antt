@@ -1,0 +1,4 @@
+pub mod Glyphs
+pub mod Stretches
+pub mod Cards
+pub mod Loading

@@ -1,0 +1,45 @@
+-- the positions of an image, in the stretches that a card carries
+use Rattle.std.specs.Prelude.{ℕ, ◌≡◌, ◌≢◌, ◌+◌, ◌<◌, nat_le, ◌==◌, ◌&&◌, Bool, true, false, if◌then◌else◌, List, [], ◌∷◌, ◌++◌, length, map, take, drop, filter, slice_index_or}
+use Rattle.std.specs.List.{flat_map}
+use Rattle.layout.specs.declared.cells.Cell.{Cell}
+use Rattle.loader.specs.declared.stretches.TheConstants.{MOST_CHARACTERS, MOST_MARKS, MOST_MARKS_UNMARKED}
+
+-- each position is the next after the one before it
+unfoldable pub is_contiguous : List Cell → Bool
+is_contiguous [] = true
+is_contiguous (c ∷ []) = true
+is_contiguous (c ∷ d ∷ cells) = d.position == c.position + 1 && is_contiguous (d ∷ cells)
+
+-- the positions of those that are marked
+unfoldable pub marks_of : List Cell → List ℕ
+marks_of cells = map (λ c. c.position) (filter (λ c. c.marked) cells)
+
+-- how many marks behind the first position a card has places for: one place goes to a first position without a mark
+abbrev pub mark_limit : List Cell → ℕ
+mark_limit [] = MOST_MARKS
+mark_limit (first ∷ rest) = if first.marked then MOST_MARKS else MOST_MARKS_UNMARKED
+
+-- whether a card can carry these positions
+unfoldable pub is_lawful : List Cell → Bool
+is_lawful cells =
+    is_contiguous cells
+    && (nat_le (length cells) MOST_CHARACTERS && nat_le (length (marks_of (drop 1 cells))) (mark_limit cells))
+
+-- an image in longest lawful stretches: each can be carried, and none can with one position more
+pub record IsSplit (image : List Cell) (stretches : List (List Cell)) : Type 0 where
+  pub all : flat_map (λ stretch. stretch) stretches ≡ image
+  pub some : (k : ℕ) → k < length stretches → slice_index_or stretches k [] ≢ []
+  pub lawful : (k : ℕ) → k < length stretches → is_lawful (slice_index_or stretches k []) ≡ true
+  pub longest : (k : ℕ) → k + 1 < length stretches →
+      is_lawful (slice_index_or stretches k [] ++ take 1 (slice_index_or stretches (k + 1) [])) ≡ false
+
+-- a stretch that goes on as long as a card can carry it, and those behind it
+unfoldable pub stretches_from : List Cell → List Cell → List (List Cell)
+stretches_from stretch [] = stretch ∷ []
+stretches_from stretch (c ∷ cells) =
+    if is_lawful (stretch ++ c ∷ []) then stretches_from (stretch ++ c ∷ []) cells else stretch ∷ stretches_from (c ∷ []) cells
+
+-- the longest lawful stretches of an image
+unfoldable pub stretches_of : List Cell → List (List Cell)
+stretches_of [] = []
+stretches_of (c ∷ cells) = stretches_from (c ∷ []) cells

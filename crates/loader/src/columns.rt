@@ -1,0 +1,111 @@
+//! The columns of a card, as they are filled from the left.
+
+ghost use Rattle.std.specs.Prelude.{◌≡◌, ◌+◌, ◌<◌, ◌≤◌, [], ◌∷◌, ◌++◌, length, IsTrue};
+ghost use Rattle.addresses.specs.Digits.{code_of};
+ghost use Rattle.loader.specs.Glyphs.{is_glyph, are_glyphs};
+ghost use Rattle.loader.specs.Cards.{text, padded, card_of, instruction};
+
+use addresses::encode;
+use bcd::Code;
+use cards::{COLUMNS, Card};
+use core_store::LARGEST_SIZE;
+use std::marker::Model;
+
+/// How many characters an instruction with two addresses has.
+pub(crate) const INSTRUCTION_LENGTH: usize = 7;
+
+/// The characters of the columns from the first on, at most 80. What is behind them is blank.
+#[derive(Drop)]
+pub(crate) struct Columns {
+    codes: [Code; COLUMNS],
+    count: usize,
+}
+
+impl Model for Columns {
+    ghost use Rattle.std.specs.Prelude.{List, ℕ, ◌≡◌, ◌≤◌, ◌-◌, ◌++◌, length, take, replicate};
+    ghost use Rattle.cards.specs.declared.decks.TheConstants.{COLUMNS};
+
+    ghost Value = { List ℕ };
+
+    ghost view = { λ columns. take columns.count columns.codes };
+
+    ghost invariant = { λ columns. (columns.count ≤ COLUMNS) × (length columns.codes ≡ COLUMNS) × (columns.codes ≡ take columns.count columns.codes ++ replicate (COLUMNS - columns.count) 0) };
+}
+
+/// The character of a glyph.
+fn code_of(glyph: u8) -> Code
+    requires { IsTrue (is_glyph glyph) }
+    ensures { result ≡ code_of glyph }
+{
+    let code = Code::from_glyph(glyph).unwrap();
+    // This shows that it is one of the 64.
+    let _number = code.number();
+    code
+}
+
+impl Columns {
+    /// The columns of a blank card.
+    pub(crate) fn blank() -> Self
+        ensures { result ≡ [] }
+    {
+        Columns {
+            codes: [Code::blank(); COLUMNS],
+            count: 0,
+        }
+    }
+
+    /// Fills the next columns.
+    pub(crate) fn punch(&mut self, codes: &[Code])
+        requires { length self.old + length codes.now ≤ COLUMNS }
+        ensures punched { self.new ≡ self.old ++ codes.now }
+        ensures length { length self.new ≡ length self.old + length codes.now }
+    {
+        let end = self.count + codes.len();
+        let columns = &mut self.codes[..];
+        columns[self.count..end].copy_from_slice(codes);
+        self.count = end;
+    }
+
+    /// Fills the next columns with the characters of these glyphs.
+    pub(crate) fn punch_text(&mut self, glyphs: &[u8])
+        requires room { length self.old + length glyphs.now ≤ COLUMNS }
+        requires glyphs { IsTrue (are_glyphs glyphs.now) }
+        ensures punched { self.new ≡ self.old ++ text glyphs.now }
+        ensures length { length self.new ≡ length self.old + length glyphs.now }
+    {
+        for glyph in glyphs {
+            self.punch(&[code_of(*glyph)]);
+        }
+    }
+
+    /// Fills the next seven columns with an instruction with two addresses.
+    pub(crate) fn punch_instruction(&mut self, operation: u8, a: u16, b: u16)
+        requires room { length self.old + INSTRUCTION_LENGTH ≤ COLUMNS }
+        requires glyph { IsTrue (is_glyph operation) }
+        requires a { a < LARGEST_SIZE }
+        requires b { b < LARGEST_SIZE }
+        ensures punched { self.new ≡ self.old ++ instruction (operation ∷ []) a b }
+        ensures length { length self.new ≡ length self.old + INSTRUCTION_LENGTH }
+    {
+        self.punch(&[code_of(operation)]);
+        self.punch(&encode(a));
+        self.punch(&encode(b));
+    }
+
+    /// Leaves the columns up to so many blank.
+    pub(crate) fn skip_to(&mut self, column: usize)
+        requires reached { length self.old ≤ column }
+        requires within { column ≤ COLUMNS }
+        ensures skipped { self.new ≡ padded column self.old }
+        ensures length { length self.new ≡ column }
+    {
+        self.count = column;
+    }
+
+    /// The card of these columns.
+    pub(crate) fn card(self) -> Card
+        ensures { result ≡ card_of self }
+    {
+        Card(self.codes)
+    }
+}

@@ -1,0 +1,32 @@
+//! The laws of stretches and of loading.
+
+ghost use Rattle.std.specs.Prelude.{◌≡◌, ◌++◌, ◌+◌, ◌*◌, ◌≤◌, ℕ, List, length, take, flat_map};
+ghost use Rattle.cards.specs.declared.decks.Card.{Card};
+ghost use Rattle.core_store.specs.Storage.{positions_of};
+ghost use Rattle.core_store.specs.declared.sizes.Size.{Size};
+ghost use Rattle.layout.specs.declared.cells.Cell.{Cell};
+ghost use Rattle.machine.specs.Run.{after, loaded};
+ghost use Rattle.units.specs.declared.switches.Switches.{Switches};
+ghost use Rattle.autocoder.specs.Loadable.{IsLoadable};
+ghost use Rattle.loader.specs.Stretches.{IsSplit, stretches_of};
+ghost use Rattle.loader.specs.Cards.{loading_cards};
+ghost use Rattle.loader.specs.Loading.{at_the_start, instructions_to_load, IsBetweenCards};
+
+/// The law of stretches: an image is split into longest stretches in one way, and no other.
+pub fn stretches_are_longest()
+    ensures split { (image : List Cell) → IsSplit image (stretches_of image) }
+    ensures no_other { (image : List Cell) (stretches : List (List Cell)) → IsSplit image stretches → stretches ≡ stretches_of image }
+{}
+
+/// The law of loading: the loading cards bring a program into a machine and start it, whatever data
+/// stand behind them (`loads`). It goes by cards: after the boot card's instructions, and after
+/// those of each load card, the machine is ready for the next card, and has filled the positions of
+/// those stretches and no others (`by_cards`).
+#[tactic(auto, using(crate::proofs::Whole::brought, crate::proofs::Whole::by_cards))]
+pub fn cards_load_the_program()
+    ensures loads { (size : Size) (image : List Cell) (start : ℕ) (data_cards : List Card) (switches : Switches) → IsLoadable (positions_of size) image start →
+        after (loaded (loading_cards image start ++ data_cards) size switches) (instructions_to_load image) ≡ at_the_start image start data_cards size switches }
+    ensures by_cards { (size : Size) (image : List Cell) (start : ℕ) (data_cards : List Card) (switches : Switches) → IsLoadable (positions_of size) image start →
+        (k : ℕ) → k ≤ length (stretches_of image) →
+        IsBetweenCards (flat_map (λ stretch. stretch) (take k (stretches_of image))) (2 + k) size (after (loaded (loading_cards image start ++ data_cards) size switches) (11 + 5 * k)) }
+{}

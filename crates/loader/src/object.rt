@@ -1,0 +1,68 @@
+//! The deck of a program.
+
+ghost use Rattle.std.specs.Prelude.{◌≡◌, ◌<◌, ◌++◌, length, map, All, IfOk, OnOk, IsErrOf};
+ghost use Rattle.autocoder.specs.Loadable.{CanBeLoaded};
+ghost use Rattle.loader.specs.Stretches.{stretches_of};
+ghost use Rattle.loader.specs.Cards.{load_card, loading_cards};
+ghost use Rattle.loader.specs.Loading.{Loads};
+
+use crate::pieces::{boot_card, load_card, start_card};
+use crate::stretches::longest;
+use autocoder::Program;
+use cards::{Card, Deck, DeckFault, LARGEST_DECK};
+use core_store::LARGEST_SIZE;
+use layout::Cell;
+use std::alloc::Global;
+
+/// Adds a card for each stretch of some positions.
+fn push_stretches(deck: &mut Deck, cells: &[Cell]) -> Result<(), DeckFault>
+    requires { All (λ c. c.position < LARGEST_SIZE) cells.now }
+    ensures pushed { OnOk result (deck.new ≡ deck.old ++ map load_card (stretches_of cells.now)) }
+    ensures full { IsErrOf result DeckFault.TooManyCards → LARGEST_DECK < length (deck.old ++ map load_card (stretches_of cells.now)) }
+{
+    let mut rest = cells;
+    while !rest.is_empty() {
+        let (stretch, behind) = rest.split_at(longest(rest));
+        deck.push(load_card(stretch))?;
+        rest = behind;
+    }
+    Ok(())
+}
+
+/// Adds some cards.
+fn push_cards(deck: &mut Deck, cards: &[Card]) -> Result<(), DeckFault>
+    ensures pushed { OnOk result (deck.new ≡ deck.old ++ cards.now) }
+    ensures full { IsErrOf result DeckFault.TooManyCards → LARGEST_DECK < length (deck.old ++ cards.now) }
+{
+    for card in cards {
+        deck.push(Card(card.0))?;
+    }
+    Ok(())
+}
+
+/// The deck that loads a program and starts it: a boot card, a card for each stretch of its image,
+/// and a last one. It has 2,000 cards at most.
+#[tactic(auto, unfolding(crate::specs::Cards::loading_cards), using(crate::proofs::Whole::deck_loads))]
+pub fn object_deck(alloc: Global, program: &Program) -> Result<Deck, DeckFault>
+    requires loadable { CanBeLoaded program.now }
+    ensures deck { IfOk result (λ deck. deck ≡ loading_cards program.now.image.items program.now.start) }
+    ensures full { IsErrOf result DeckFault.TooManyCards → LARGEST_DECK < length (loading_cards program.now.image.items program.now.start) }
+    ensures loads { IfOk result (Loads program.now) }
+{
+    let mut deck = Deck::empty(alloc);
+    deck.push(boot_card())?;
+    push_stretches(&mut deck, &program.image)?;
+    deck.push(start_card(program.start as u16))?;
+    Ok(deck)
+}
+
+/// The deck that runs a program over data cards: its loading cards and the data behind them.
+pub fn deck_to_run(alloc: Global, program: &Program, data: &[Card]) -> Result<Deck, DeckFault>
+    requires loadable { CanBeLoaded program.now }
+    ensures deck { IfOk result (λ deck. deck ≡ loading_cards program.now.image.items program.now.start ++ «data».now) }
+    ensures full { IsErrOf result DeckFault.TooManyCards → LARGEST_DECK < length (loading_cards program.now.image.items program.now.start ++ «data».now) }
+{
+    let mut deck = object_deck(alloc, program)?;
+    push_cards(&mut deck, data)?;
+    Ok(deck)
+}

@@ -1,0 +1,87 @@
+//! The cards that load a program, one by one.
+
+ghost use Rattle.std.specs.Prelude.{◌≡◌, ◌+◌, ◌<◌, ◌≤◌, ◌++◌, true, length, map, All};
+ghost use Rattle.loader.specs.Stretches.{is_lawful};
+ghost use Rattle.loader.specs.Cards.{boot_card, moving, load_card, start_card};
+
+use crate::columns::{Columns, INSTRUCTION_LENGTH};
+use crate::places::punch_places;
+use crate::stretches::MOST_CHARACTERS;
+use cards::{COLUMNS, Card};
+use core_store::LARGEST_SIZE;
+use layout::Cell;
+
+/// What the boot card holds: it sets the marks that the cards behind it need, and reads the first
+/// of them.
+const BOOT: &[u8] = b",008015,022029,036040,047054,061068,072)008015)022029)036036N0000001040";
+
+/// Reads the next card, and goes on at its move.
+const READING: &[u8] = b"1040";
+
+/// The last position that the last card clears.
+const LAST_CLEARED: u16 = 80;
+
+/// The card that a machine without a program can begin with.
+#[tactic(auto, unfolding(crate::specs::Cards::boot_card))]
+pub(crate) fn boot_card() -> Card
+    ensures { result ≡ boot_card }
+{
+    let mut columns = Columns::blank();
+    columns.punch_text(BOOT);
+    columns.card()
+}
+
+/// Fills the next columns with the characters of a stretch.
+fn punch_characters(columns: &mut Columns, stretch: &[Cell])
+    requires { length columns.old + length stretch.now ≤ COLUMNS }
+    ensures punched { columns.new ≡ columns.old ++ map (λ c. c.code) stretch.now }
+    ensures length { length columns.new ≡ length columns.old + length stretch.now }
+{
+    for cell in stretch {
+        columns.punch(&[cell.code]);
+    }
+}
+
+/// Moves the characters of a stretch to where they belong, and marks the first of them.
+#[tactic(auto, unfolding(crate::specs::Cards::last_position))]
+fn punch_move(columns: &mut Columns, stretch: &[Cell])
+    requires some { 0 < length stretch.now }
+    requires limit { length stretch.now ≤ MOST_CHARACTERS }
+    requires below { All (λ c. c.position < LARGEST_SIZE) stretch.now }
+    requires room { length columns.old + INSTRUCTION_LENGTH ≤ COLUMNS }
+    ensures punched { columns.new ≡ columns.old ++ moving stretch.now }
+    ensures length { length columns.new ≡ length columns.old + INSTRUCTION_LENGTH }
+{
+    let count = stretch.len();
+    let last = stretch[count - 1].position;
+    columns.punch_instruction(b'L', count as u16, last as u16);
+}
+
+/// The card that loads a stretch.
+#[tactic(auto, unfolding(crate::specs::Cards::load_card))]
+pub(crate) fn load_card(stretch: &[Cell]) -> Card
+    requires some { 0 < length stretch.now }
+    requires lawful { is_lawful stretch.now ≡ true }
+    requires below { All (λ c. c.position < LARGEST_SIZE) stretch.now }
+    ensures { result ≡ load_card stretch.now }
+{
+    let mut columns = Columns::blank();
+    punch_characters(&mut columns, stretch);
+    columns.skip_to(MOST_CHARACTERS);
+    punch_move(&mut columns, stretch);
+    punch_places(&mut columns, stretch);
+    columns.punch_text(READING);
+    columns.card()
+}
+
+/// The card that starts a program.
+#[tactic(auto, unfolding(crate::specs::Cards::start_card))]
+pub(crate) fn start_card(start: u16) -> Card
+    requires { start < LARGEST_SIZE }
+    ensures { result ≡ start_card start }
+{
+    let mut columns = Columns::blank();
+    columns.skip_to(MOST_CHARACTERS);
+    columns.punch_instruction(b'/', start, LAST_CLEARED);
+    columns.card()
+}

@@ -1,0 +1,96 @@
+//! The stretches of an image: what one card carries.
+
+ghost use Rattle.std.specs.Prelude.{◌≡◌, ◌+◌, ◌<◌, ◌≤◌, ◌==◌, ◌∷◌, true, length, count_by, take, drop};
+ghost use Rattle.loader.specs.Stretches.{is_contiguous, mark_limit, is_lawful, stretches_of};
+
+use layout::Cell;
+
+/// How many characters a card carries at most.
+pub const MOST_CHARACTERS: usize = 39;
+
+/// How many marks behind its first position a card sets at most, where that position is marked.
+pub const MOST_MARKS: usize = 6;
+
+/// How many marks behind its first position a card sets at most, where that position is unmarked:
+/// one place goes to clearing its mark.
+pub const MOST_MARKS_UNMARKED: usize = 4;
+
+/// Whether a position is the next after another.
+fn is_next(after: &Cell, before: &Cell) -> bool
+    ensures { result ≡ (after.now.position == before.now.position + 1) }
+{
+    match after.position.checked_sub(1) {
+        Some(previous) => before.position == previous,
+        None => false,
+    }
+}
+
+/// Whether each position is the next after the one before it.
+fn is_contiguous(cells: &[Cell]) -> bool
+    ensures { result ≡ is_contiguous cells.now }
+{
+    for index in 1..cells.len() {
+        if !is_next(&cells[index], &cells[index - 1]) {
+            return false;
+        }
+    }
+    true
+}
+
+/// The positions behind the first.
+pub(crate) fn behind_first(cells: &[Cell]) -> &[Cell]
+    ensures { result.now ≡ drop 1 cells.now }
+{
+    match cells {
+        [] => cells,
+        [_, behind @ ..] => behind,
+    }
+}
+
+/// How many positions are marked.
+fn count_marks(cells: &[Cell]) -> usize
+    ensures { result ≡ count_by (λ c. c.marked) cells.now }
+{
+    cells.iter().filter(|cell| cell.marked).count()
+}
+
+/// How many marks behind the first position a card has places for.
+fn mark_limit(cells: &[Cell]) -> usize
+    ensures { result ≡ mark_limit cells.now }
+{
+    match cells {
+        [] => MOST_MARKS,
+        [first, ..] => {
+            if first.marked {
+                MOST_MARKS
+            } else {
+                MOST_MARKS_UNMARKED
+            }
+        }
+    }
+}
+
+/// Whether a card can carry these positions.
+#[tactic(auto, unfolding(crate::specs::Stretches::is_lawful), using(crate::proofs::Stretching::marks_counted))]
+fn is_lawful(cells: &[Cell]) -> bool
+    ensures { result ≡ is_lawful cells.now }
+{
+    is_contiguous(cells)
+        && (cells.len() <= MOST_CHARACTERS && count_marks(behind_first(cells)) <= mark_limit(cells))
+}
+
+/// How many of these positions, from the first on, one card carries: the most that it can.
+pub(crate) fn longest(cells: &[Cell]) -> usize
+    requires { 0 < length cells.now }
+    ensures some { 0 < result }
+    ensures within { result ≤ length cells.now }
+    ensures lawful { is_lawful (take result cells.now) ≡ true }
+    ensures split { stretches_of cells.now ≡ take result cells.now ∷ stretches_of (drop result cells.now) }
+{
+    for end in 1..cells.len() {
+        if !is_lawful(&cells[..end + 1]) {
+            return end;
+        }
+    }
+    cells.len()
+}
