@@ -2,15 +2,41 @@
 #![tactic(auto)]
 
 use counter::{
-    Misuse, RunFault, Source, Status, Task, run_deck, show_help, task_of, tell_fault, tell_misuse,
+    Assembled, Fault, Misuse, Source, Status, Task, assemble_deck, run_deck, show_help, task_of,
+    tell_fault, tell_misuse,
 };
 use std::fs::File;
+use std::io::Write;
 use std::process::ExitCode;
-use std::{env, io};
+use std::{env, fs, io};
 
 /// The words, with the program's name in front.
 fn words_given(rt: &HostRuntime) -> Result<Vec<String>, Misuse> {
     Ok(env::args(rt)?.collect(rt.alloc())?)
+}
+
+/// Assembles the source in a file, and writes the deck that runs its program. The first file is
+/// read to its end before the second is opened, so both may be one.
+fn assemble<W: Write, E: Write>(
+    rt: &HostRuntime,
+    source: &str,
+    out: &str,
+    output: &mut W,
+    errors: &mut E,
+) -> io::Result<Status> {
+    let Ok(file) = File::open(rt, source) else {
+        return tell_fault(errors, Fault::Device);
+    };
+    match assemble_deck(rt.alloc(), file, output, errors)? {
+        Assembled {
+            status,
+            out: Some(deck),
+        } => match fs::write(rt, out, &deck) {
+            Ok(()) => Ok(status),
+            Err(_) => tell_fault(errors, Fault::Device),
+        },
+        Assembled { status, out: None } => Ok(status),
+    }
 }
 
 /// Does what the words ask for.
@@ -41,8 +67,9 @@ fn done(rt: &HostRuntime) -> io::Result<Status> {
             },
         ) => match File::open(rt, path) {
             Ok(file) => run_deck(alloc, file, &mut output, &mut errors, size, switches),
-            Err(_) => tell_fault(&mut errors, RunFault::Device),
+            Err(_) => tell_fault(&mut errors, Fault::Device),
         },
+        Ok(Task::Assemble { source, out }) => assemble(rt, source, out, &mut output, &mut errors),
         Err(misuse) => tell_misuse(&mut errors, misuse),
     }
 }

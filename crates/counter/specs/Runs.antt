@@ -10,8 +10,8 @@ use Rattle.core_store.specs.declared.sizes.Size.{Size}
 use Rattle.units.specs.declared.switches.Switches.{Switches}
 use Rattle.units.specs.Listing.{rendered}
 use Rattle.machine.specs.Run.{State, after, lines_of, loaded}
-use Rattle.counter.specs.declared.faults.RunFault.{RunFault}
-use Rattle.counter.specs.declared.faults.RunFault.TheVariants as fault
+use Rattle.counter.specs.declared.faults.Fault.{Fault}
+use Rattle.counter.specs.declared.faults.Fault.TheVariants as fault
 use Rattle.counter.specs.declared.reports.Report.{Report}
 use Rattle.counter.specs.declared.runs.Outcome.{Outcome}
 use Rattle.counter.specs.declared.runs.TheConstants.{MOST_BYTES, MOST_INSTRUCTIONS}
@@ -53,9 +53,10 @@ abbrev pub IsTextFault : List ℕ → CardFault → Type 0
 IsTextFault text f = (form : _) × (text_of ≡ file_of form) × IsFault form text f
 
 -- what a fault says of the text; memory and devices may fail at any
-abbrev pub Refuses : List ℕ → RunFault → Type 0
+abbrev pub Refuses : List ℕ → Fault → Type 0
 Refuses text (fault.Card f) = (f ≡ out_of_memory) ⊎ IsTextFault text f
 Refuses text fault.Empty = text ≡ []
+Refuses text fault.TooManyCards = ⊥
 Refuses text fault.Memory = Unit {0}
 Refuses text fault.Device = Unit {0}
 
@@ -63,27 +64,27 @@ abbrev pub shown_of : Outcome → Shown
 shown_of outcome = record { listing = outcome.listing.items; report = outcome.report }
 
 -- what a run comes to
-abbrev pub Ends : List ℕ → Size → Switches → Result Shown RunFault → Type 0
+abbrev pub Ends : List ℕ → Size → Switches → Result Shown Fault → Type 0
 Ends text size switches (Ok shown) = IsRunOf text size switches shown
 Ends text size switches (Err f) = Refuses text f
 
 -- how the program ends after it
-abbrev pub status_of : Result Shown RunFault → Status
+abbrev pub status_of : Result Shown Fault → Status
 status_of (Ok shown) = status_at shown.report.stand.standing
 status_of (Err f) = status.Told
 
 -- what is told of it
-abbrev pub message_of : Result Shown RunFault → List ℕ
+abbrev pub message_of : Result Shown Fault → List ℕ
 message_of (Ok shown) = report_words shown.report ++ 10 ∷ []
 message_of (Err f) = fault_words f ++ 10 ∷ []
 
 -- what goes out: the listing, or nothing beside a fault, but for that of a device, which may be the output
-abbrev pub Outputs : Result Shown RunFault → Option (List ℕ) → Option (List ℕ) → Type 0
+abbrev pub Outputs : Result Shown Fault → Option (List ℕ) → Option (List ℕ) → Type 0
 Outputs (Ok shown) old new = Appends old new shown.listing
 Outputs (Err f) old new = (f ≡ fault.Device) ⊎ Keeps old new
 
 -- the run came to this, and the writers have it
-pub record IsTold (ending : Result Shown RunFault) (ended : Status) (output_old output_new errors_old errors_new : Option (List ℕ)) : Type 0 where
+pub record IsTold (ending : Result Shown Fault) (ended : Status) (output_old output_new errors_old errors_new : Option (List ℕ)) : Type 0 where
   pub status : ended ≡ status_of ending
   pub output : Outputs ending output_old output_new
   pub errors : Appends errors_old errors_new (message_of ending)
@@ -96,5 +97,5 @@ IsShown shown ended output_old output_new errors_old errors_new =
 
 -- the writers have what the text's run came to
 abbrev pub Tells : List ℕ → Size → Switches → Status → Option (List ℕ) → Option (List ℕ) → Option (List ℕ) → Option (List ℕ) → Type 0
-Tells text size switches ended output_old output_new errors_old errors_new = (ending : Result Shown RunFault)
+Tells text size switches ended output_old output_new errors_old errors_new = (ending : Result Shown Fault)
     × Ends text size switches ending × IsTold ending ended output_old output_new errors_old errors_new

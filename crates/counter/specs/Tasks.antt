@@ -6,7 +6,7 @@ use Rattle.words.specs.Asked.{IsHelp}
 use Rattle.counter.specs.Switches.{AreSeven, text_of}
 use Rattle.counter.specs.declared.tasks.Source.TheVariants.{Input, File}
 use Rattle.counter.specs.declared.tasks.Task.{Task}
-use Rattle.counter.specs.declared.tasks.Task.TheVariants.{Help, Run}
+use Rattle.counter.specs.declared.tasks.Task.TheVariants.{Assemble, Help, Run}
 
 -- the task runs the deck at this path, with the size and the switches that these texts spell
 abbrev pub WantsRun : List ℕ → List ℕ → List ℕ → Task → Type 0
@@ -19,3 +19,4 @@ abbrev pub Wants : List (List ℕ) → Task → Type 0
 Wants words Help = IsHelp words
 Wants words (Run Input s w) = (words ≡ []) × (s ≡ Positions4000) × (text_of w ≡ codes "A")
 Wants words (Run (File path) s w) = (words ≡ codes "run" ∷ path.now ∷ decimal (positions_of s) ∷ text_of w ∷ []) × AreSeven w
+Wants words (Assemble source out) = words ≡ codes "assemble" ∷ source.now ∷ out.now ∷ []

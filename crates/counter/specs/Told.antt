@@ -4,6 +4,8 @@ use Rattle.std.specs.Io.KnownBytes.{Appends, Keeps}
 use Rattle.std.specs.declared.io.ErrorKind.{ErrorKind}
 use Rattle.std.specs.declared.io.ErrorKind.TheVariants.{OutOfMemory}
 use Rattle.cards.specs.Numbers.{card_error_number}
+use Rattle.cards.specs.declared.faults.DeckFault.{DeckFault}
+use Rattle.cards.specs.declared.faults.DeckFault.TheVariants as deck
 use Rattle.core_store.specs.declared.registers.Check.{Check}
 use Rattle.core_store.specs.declared.registers.Check.TheVariants as check
 use Rattle.machine.specs.declared.parts.Standing.{Standing}
@@ -12,8 +14,8 @@ use Rattle.words.specs.Asked.{complaint}
 use Rattle.words.specs.declared.WordsFault.TheVariants.{Memory}
 use Rattle.counter.specs.declared.tasks.Misuse.{Misuse}
 use Rattle.counter.specs.declared.tasks.Misuse.TheVariants as misuse
-use Rattle.counter.specs.declared.faults.RunFault.{RunFault}
-use Rattle.counter.specs.declared.faults.RunFault.TheVariants as fault
+use Rattle.counter.specs.declared.faults.Fault.{Fault}
+use Rattle.counter.specs.declared.faults.Fault.TheVariants as fault
 use Rattle.counter.specs.declared.reports.Report.{Report}
 use Rattle.counter.specs.declared.statuses.Status.{Status}
 use Rattle.counter.specs.declared.statuses.Status.TheVariants as status
@@ -48,12 +50,18 @@ abbrev pub report_words : Report → List ℕ
 report_words report = codes "cards " ++ decimal report.cards ++ codes " lines " ++ decimal report.lines ++ codes " "
     ++ standing_words report.stand.standing report.stand.next
 
-abbrev pub fault_words : RunFault → List ℕ
+abbrev pub fault_words : Fault → List ℕ
 fault_words (fault.Card f) = codes "card " ++ decimal f.card ++ codes " column " ++ decimal f.column ++ codes " fault "
     ++ decimal (card_error_number f.error)
 fault_words fault.Empty = codes "refused 13"
+fault_words fault.TooManyCards = codes "fault 33"
 fault_words fault.Memory = codes "fault 1"
 fault_words fault.Device = codes "fault device"
+
+-- what is told where a deck takes no further card
+abbrev pub fault_of_deck : DeckFault → Fault
+fault_of_deck deck.TooManyCards = fault.TooManyCards
+fault_of_deck deck.NoMemory = fault.Memory
 
 -- what is wrong with the words
 abbrev pub misuse_words : Misuse → List ℕ

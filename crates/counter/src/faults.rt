@@ -1,42 +1,71 @@
-//! Why a deck doesn't run.
+//! What is told in place of a deck's work.
 
 ghost use Rattle.std.specs.Prelude.{Some};
 ghost use Rattle.counter.specs.Told.{fault_words};
 
-use cards::CardFault;
+use cards::{CardFault, DeckFault};
+use std::alloc::AllocError;
 use std::error::Error;
 use std::fmt;
 use std::fmt::{Display, Formatter};
 
-/// Why a deck doesn't run. It prints as it is told.
+/// Why a deck isn't run or assembled. It prints as it is told.
 #[derive(Clone, Copy, Debug, PartialEq, Eq)]
-pub enum RunFault {
+pub enum Fault {
     /// The text is no deck's, or there is no memory to read it.
     Card(CardFault),
-    /// The deck has no card.
+    /// The deck that is to be run has no card.
     Empty,
-    /// There is no memory for the machine or for its listing.
+    /// The cards that load a program and the data cards behind them are over 2,000.
+    TooManyCards,
+    /// There is no memory for the machine, for what is assembled, or for a listing.
     Memory,
-    /// The deck can't be read, or the listing not be written.
+    /// A deck can't be read, or a listing or a deck not be written.
     Device,
 }
 
-impl Display for RunFault {
+impl Display for Fault {
     ghost output = { λ fault. Some (fault_words fault) };
 
     fn fmt<W: fmt::Write>(&self, formatter: &mut Formatter<W>) -> fmt::Result {
         match self {
-            RunFault::Card(fault) => {
+            Fault::Card(fault) => {
                 let card = fault.card;
                 let column = fault.column;
                 let number = fault.error.number();
                 write!(formatter, "card {card} column {column} fault {number}")
             }
-            RunFault::Empty => formatter.write_str("refused 13"),
-            RunFault::Memory => formatter.write_str("fault 1"),
-            RunFault::Device => formatter.write_str("fault device"),
+            Fault::Empty => formatter.write_str("refused 13"),
+            Fault::TooManyCards => formatter.write_str("fault 33"),
+            Fault::Memory => formatter.write_str("fault 1"),
+            Fault::Device => formatter.write_str("fault device"),
         }
     }
 }
 
-impl Error for RunFault {}
+impl Error for Fault {}
+
+impl From<DeckFault> for Fault {
+    ghost use Rattle.std.specs.Prelude.{◌≡◌};
+    ghost use Rattle.counter.specs.Told.{fault_of_deck};
+
+    ghost from_gives = { λ deck_fault fault. fault ≡ fault_of_deck deck_fault };
+
+    fn from(fault: DeckFault) -> Fault {
+        match fault {
+            DeckFault::TooManyCards => Fault::TooManyCards,
+            DeckFault::NoMemory => Fault::Memory,
+        }
+    }
+}
+
+impl From<AllocError> for Fault {
+    ghost use Rattle.std.specs.Prelude.{◌≡◌};
+    ghost use Rattle.counter.specs.declared.faults.Fault.TheVariants.{Memory};
+
+    ghost from_gives = { λ _ fault. fault ≡ Memory };
+
+    fn from(_error: AllocError) -> Fault {
+        Fault::Memory
+    }
+}

@@ -8,7 +8,7 @@ ghost use Rattle.cards.specs.Files.{text_of};
 ghost use Rattle.cards.specs.declared.Card.{Card};
 ghost use Rattle.counter.specs.Runs.{IsRunOf, IsShown, Reads, Refuses, Tells, shown_by, shown_of};
 
-use crate::faults::RunFault;
+use crate::faults::Fault;
 use crate::reports::{Report, Stand};
 use crate::statuses::Status;
 use crate::telling::{put_out, tell_fault};
@@ -35,19 +35,19 @@ struct Outcome {
 }
 
 /// What a reader has, as far as a deck's text may go.
-fn text_in<R: Read + Drop>(alloc: Global, reader: R) -> Result<Vec<u8>, RunFault>
+pub(crate) fn text_in<R: Read + Drop>(alloc: Global, reader: R) -> Result<Vec<u8>, Fault>
     ensures text { IfOk result (λ text. Reads (R.remaining reader) text.items) }
-    ensures fault { IfErr result (λ fault. (fault ≡ RunFault.Card out_of_memory) ⊎ (fault ≡ RunFault.Device)) }
+    ensures fault { IfErr result (λ fault. (fault ≡ Fault.Card out_of_memory) ⊎ (fault ≡ Fault.Device)) }
 {
     let mut text = Vec::new(alloc);
     match reader.take(MOST_BYTES).read_to_end(&mut text) {
         Ok(_) => Ok(text),
-        Err(error) if error.kind() == ErrorKind::OutOfMemory => Err(RunFault::Card(CardFault {
+        Err(error) if error.kind() == ErrorKind::OutOfMemory => Err(Fault::Card(CardFault {
             error: CardError::NoMemory,
             card: 0,
             column: 0,
         })),
-        Err(_) => Err(RunFault::Device),
+        Err(_) => Err(Fault::Device),
     }
 }
 
@@ -84,28 +84,23 @@ fn outcome_in(alloc: Global, machine: &Machine<PlaneCore>) -> Result<Outcome, Al
 }
 
 /// What the run of a text's deck gives.
-fn outcome_of(
-    alloc: Global,
-    text: &[u8],
-    size: Size,
-    switches: Switches,
-) -> Result<Outcome, RunFault>
+fn outcome_of(alloc: Global, text: &[u8], size: Size, switches: Switches) -> Result<Outcome, Fault>
     ensures ran { IfOk result (λ outcome. IsRunOf text.now size switches (shown_of outcome)) }
-    ensures fault { IfErr result (λ fault. Refuses text.now fault × (fault ≢ RunFault.Device)) }
+    ensures fault { IfErr result (λ fault. Refuses text.now fault × (fault ≢ Fault.Device)) }
 {
     let deck = match read_text(alloc, text) {
         Ok(deck) => deck,
-        Err(fault) => return Err(RunFault::Card(fault)),
+        Err(fault) => return Err(Fault::Card(fault)),
     };
     if deck.cards().is_empty() {
-        return Err(RunFault::Empty);
+        return Err(Fault::Empty);
     }
     let Ok(machine) = machine_after(alloc, deck, size, switches) else {
-        return Err(RunFault::Memory);
+        return Err(Fault::Memory);
     };
     match outcome_in(alloc, &machine) {
         Ok(outcome) => Ok(outcome),
-        Err(_) => Err(RunFault::Memory),
+        Err(_) => Err(Fault::Memory),
     }
 }
 
@@ -115,7 +110,7 @@ fn show<W: Write, E: Write>(outcome: &Outcome, output: &mut W, errors: &mut E) -
         (W.contents output.old) (W.contents output.new) (E.contents errors.old) (E.contents errors.new)) }
 {
     if put_out(output, &outcome.listing).is_err() {
-        return tell_fault(errors, RunFault::Device);
+        return tell_fault(errors, Fault::Device);
     }
     let report = outcome.report;
     writeln!(errors, "{report}")?;

@@ -39,6 +39,13 @@ pub enum Task<'a> {
         size: Size,
         switches: Switches,
     },
+    /// Assemble a source, and write the deck that runs its program.
+    Assemble {
+        /// The path of the file that the source begins.
+        source: &'a str,
+        /// The path of the file for the deck.
+        out: &'a str,
+    },
 }
 
 /// Why words ask for nothing that the program does. It prints as a complaint to the caller.
@@ -148,6 +155,7 @@ pub fn task_of<'a>(alloc: Global, words: &'a [String]) -> Result<Task<'a>, Misus
                 switches,
             },
         ) => run_task(deck, size, switches),
+        Ok(Words::Assemble { source, out }) => Ok(Task::Assemble { source, out }),
         Err(fault) => Err(Misuse::Words(fault)),
     }
 }

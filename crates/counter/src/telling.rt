@@ -2,11 +2,13 @@
 
 ghost use Rattle.std.specs.Prelude.{◌≡◌, ◌∷◌, [], ◌++◌, IfOk, OnOk};
 ghost use Rattle.std.specs.Io.KnownBytes.{Appends};
+ghost use Rattle.counter.specs.Assembling.{fault_line, fault_lines};
 ghost use Rattle.counter.specs.Told.{IsHelpShown, fault_words, misuse_message, misuse_status};
 
-use crate::faults::RunFault;
+use crate::faults::Fault;
 use crate::statuses::Status;
 use crate::tasks::Misuse;
+use autocoder::CardFault;
 use std::io;
 use std::io::Write;
 use words::{HELP, USAGE};
@@ -19,8 +21,27 @@ pub(crate) fn put_out<W: Write>(output: &mut W, bytes: &[u8]) -> io::Result<()>
     output.flush()
 }
 
+/// Puts the line of a source's fault out.
+fn put_fault_line<W: Write>(output: &mut W, fault: CardFault) -> io::Result<()>
+    ensures { OnOk result (Appends (W.contents output.old) (W.contents output.new) (fault_line fault)) }
+{
+    let card = fault.card;
+    let number = fault.fault.number();
+    writeln!(output, "card {card} fault {number}")
+}
+
+/// Puts the lines of a source's faults out.
+pub(crate) fn put_fault_lines<W: Write>(output: &mut W, faults: &[CardFault]) -> io::Result<()>
+    ensures { OnOk result (Appends (W.contents output.old) (W.contents output.new) (fault_lines faults.now)) }
+{
+    for fault in faults {
+        put_fault_line(output, *fault)?;
+    }
+    output.flush()
+}
+
 /// Tells a fault. An error is the writer's.
-pub fn tell_fault<E: Write>(errors: &mut E, fault: RunFault) -> io::Result<Status>
+pub fn tell_fault<E: Write>(errors: &mut E, fault: Fault) -> io::Result<Status>
     ensures { IfOk result (λ status. (status ≡ Status.Told)
         × Appends (E.contents errors.old) (E.contents errors.new) (fault_words fault ++ 10 ∷ [])) }
 {
@@ -34,7 +55,7 @@ pub fn tell_misuse<E: Write>(errors: &mut E, misuse: Misuse) -> io::Result<Statu
         × Appends (E.contents errors.old) (E.contents errors.new) (misuse_message USAGE.now misuse)) }
 {
     if misuse.is_want_of_memory() {
-        return tell_fault(errors, RunFault::Memory);
+        return tell_fault(errors, Fault::Memory);
     }
     writeln!(errors, "bureau: {misuse}\n{USAGE}")?;
     Ok(Status::Misused)
@@ -46,7 +67,7 @@ pub fn show_help<W: Write, E: Write>(output: &mut W, errors: &mut E) -> io::Resu
         (W.contents output.old) (W.contents output.new) (E.contents errors.old) (E.contents errors.new)) }
 {
     if put_out(output, HELP.as_bytes()).is_err() {
-        return tell_fault(errors, RunFault::Device);
+        return tell_fault(errors, Fault::Device);
     }
     Ok(Status::Done)
 }

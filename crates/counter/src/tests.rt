@@ -1,4 +1,4 @@
-//! Runs, words and faults over readers and writers in memory.
+//! Runs, assemblies, words and faults over readers and writers in memory.
 
 use super::*;
 use bitflags::Flags;
@@ -18,6 +18,35 @@ const TWO_LINES: [&str; 6] = [
     "HELLO",
     "WORLD",
 ];
+
+/// The source of that program, and two data cards behind it.
+const TWO_LINES_SOURCE: [&str; 12] = [
+    "               CS   332",
+    "               CS",
+    "               SW   001",
+    "     READ      R",
+    "               MCW  080,280",
+    "               W",
+    "               BLC  DONE",
+    "               B    READ",
+    "     DONE      H",
+    "               END",
+    "HELLO",
+    "WORLD",
+];
+
+/// The listing of that source.
+const TWO_LINES_LISTING: &str = "   1 00333                CS   332
+   2 00337                CS
+   3 00338                SW   001
+   4 00342      READ      R
+   5 00343                MCW  080,280
+   6 00350                W
+   7 00351                BLC  DONE
+   8 00356                B    READ
+   9 00360      DONE      H
+  10                      END
+";
 
 /// The text of a deck with these columns on its cards, blank behind them.
 fn text_of(alloc: Global, cards: &[&str]) -> Result<Vec<u8>, AllocError> {
@@ -184,6 +213,121 @@ fn a_failing_device_is_told(rt: HostRuntime) -> Result<(), Fail> {
 }
 
 #[test]
+fn a_source_gives_its_listing_and_the_deck_that_runs_it(rt: HostRuntime) -> Result<(), Fail> {
+    let alloc = rt.alloc();
+    let text = text_of(alloc, &TWO_LINES_SOURCE)?;
+    let deck = text_of(alloc, &TWO_LINES)?;
+    let mut out = Vec::new(alloc);
+    let mut told = Vec::new(alloc);
+    let answer = assemble_deck(alloc, text.as_slice(), &mut out, &mut told)?;
+    assert_eq!(rt; answer.status, Status::Done);
+    assert!(rt; out.as_slice() == TWO_LINES_LISTING.as_bytes());
+    assert!(rt; told.is_empty());
+    let written = answer.out.ok_or("a deck")?;
+    assert!(rt; written.as_slice() == deck.as_slice());
+    Ok(())
+}
+
+#[test]
+fn faults_of_a_source_are_told_in_place_of_its_listing(rt: HostRuntime) -> Result<(), Fail> {
+    let alloc = rt.alloc();
+    let three = [
+        "               XYZ",
+        "               B    LOST",
+        "     *A COMMENT",
+    ];
+    let low = [
+        "               ORG  079",
+        "               DCW  @AB@",
+        "               H",
+        "               END",
+        "HELLO",
+    ];
+    for (cards, faults) in [
+        (
+            &three[..],
+            "card 1 fault 41\ncard 2 fault 45\ncard 3 fault 49\n",
+        ),
+        (&low[..], "card 2 fault 47\n"),
+        (&[], "card 0 fault 49\n"),
+    ] {
+        let text = text_of(alloc, cards)?;
+        let mut out = Vec::new(alloc);
+        let mut told = Vec::new(alloc);
+        let answer = assemble_deck(alloc, text.as_slice(), &mut out, &mut told)?;
+        assert_eq!(rt; answer.status, Status::Told, "at {faults}");
+        assert!(rt; answer.out.is_none(), "at {faults}");
+        assert!(rt; out.as_slice() == faults.as_bytes(), "at {faults}");
+        assert!(rt; told.is_empty(), "at {faults}");
+    }
+    Ok(())
+}
+
+#[test]
+fn two_thousand_cards_are_written_and_no_more(rt: HostRuntime) -> Result<(), Fail> {
+    let alloc = rt.alloc();
+    let mut text = text_of(alloc, &["               END  500"])?;
+    for _ in 0..1998u16 {
+        text.extend_from_slice(&text_of(alloc, &[""])?)?;
+    }
+    let mut out = Vec::new(alloc);
+    let mut told = Vec::new(alloc);
+    let answer = assemble_deck(alloc, text.as_slice(), &mut out, &mut told)?;
+    assert_eq!(rt; answer.status, Status::Done);
+    assert_eq!(rt; answer.out.ok_or("a deck")?.len(), 2000 * 81);
+    assert!(rt; told.is_empty());
+
+    text.extend_from_slice(&text_of(alloc, &[""])?)?;
+    let mut out = Vec::new(alloc);
+    let answer = assemble_deck(alloc, text.as_slice(), &mut out, &mut told)?;
+    assert_eq!(rt; answer.status, Status::Told);
+    assert!(rt; answer.out.is_none());
+    assert!(rt; out.is_empty());
+    assert!(rt; told.as_slice() == b"fault 33\n".as_slice());
+    Ok(())
+}
+
+#[test]
+fn a_fault_is_told_in_place_of_a_source(rt: HostRuntime) -> Result<(), Fail> {
+    let alloc = rt.alloc();
+    let lower = text_of(alloc, &["               END  500", "world"])?;
+    let mut out = Vec::new(alloc);
+    let mut told = Vec::new(alloc);
+    let answer = assemble_deck(alloc, lower.as_slice(), &mut out, &mut told)?;
+    assert_eq!(rt; answer.status, Status::Told);
+    assert!(rt; answer.out.is_none());
+    assert!(rt; told.as_slice() == b"card 2 column 1 fault 31\n".as_slice());
+
+    let mut told = Vec::new(alloc);
+    let torn = Torn { is_read: false };
+    let answer = assemble_deck(alloc, torn, &mut out, &mut told)?;
+    assert_eq!(rt; answer.status, Status::Told);
+    assert!(rt; answer.out.is_none());
+    assert!(rt; told.as_slice() == b"fault device\n".as_slice());
+    assert!(rt; out.is_empty());
+    Ok(())
+}
+
+#[test]
+fn a_failing_output_of_an_assembly_is_told(rt: HostRuntime) -> Result<(), Fail> {
+    let alloc = rt.alloc();
+    let good = text_of(alloc, &TWO_LINES_SOURCE)?;
+    let faulty = text_of(alloc, &TWO_LINES_SOURCE[..4])?;
+    for (text, room) in [(&good, 0), (&good, 200), (&faulty, 0), (&faulty, 15)] {
+        let mut told = Vec::new(alloc);
+        let mut full = Full { room };
+        let answer = assemble_deck(alloc, text.as_slice(), &mut full, &mut told)?;
+        assert_eq!(rt; answer.status, Status::Told);
+        assert!(rt; answer.out.is_none());
+        assert!(rt; told.as_slice() == b"fault device\n".as_slice());
+    }
+    let mut none = Full { room: 0 };
+    let mut full = Full { room: 5 };
+    assert!(rt; assemble_deck(alloc, good.as_slice(), &mut none, &mut full).is_err());
+    Ok(())
+}
+
+#[test]
 fn words_ask_for_a_task(rt: HostRuntime) -> Result<(), Fail> {
     let alloc = rt.alloc();
     let standard = Task::Run {
@@ -201,11 +345,17 @@ fn words_ask_for_a_task(rt: HostRuntime) -> Result<(), Fail> {
         size: Size::Positions2000,
         switches: Switches::all(),
     };
+    let assemble = Task::Assemble {
+        source: "S",
+        out: "-",
+    };
+    let no_assemble = words::WordsFault::Values(words::RowName::Assemble);
     for (line, wanted) in [
         ("", Ok(standard)),
         ("--help", Ok(Task::Help)),
         ("run D 1400 -", Ok(none_on)),
         ("run - 2000 ABCDEFG", Ok(all_on)),
+        ("assemble S -", Ok(assemble)),
         ("run D 4001 A", Err(Misuse::Size)),
         ("run D 04000 A", Err(Misuse::Size)),
         ("run D +4000 A", Err(Misuse::Size)),
@@ -215,6 +365,7 @@ fn words_ask_for_a_task(rt: HostRuntime) -> Result<(), Fail> {
         ("run D 4000 H", Err(Misuse::Switches)),
         ("run D 4000 a", Err(Misuse::Switches)),
         ("init F", Err(Misuse::Words(words::WordsFault::Row))),
+        ("assemble S", Err(Misuse::Words(no_assemble))),
     ] {
         let words = words_of(alloc, line)?;
         assert!(rt; task_of(alloc, words.as_slice()) == wanted, "of {line}");
@@ -230,7 +381,7 @@ fn a_misuse_is_told_with_the_usage(rt: HostRuntime) -> Result<(), Fail> {
     assert_eq!(rt; status.code(), 2);
     assert!(rt;
         told.as_slice()
-            == b"bureau: SIZE must be 1400, 2000 or 4000\nusage: bureau [run DECK SIZE SWITCHES], or bureau --help\n".as_slice()
+            == b"bureau: SIZE must be 1400, 2000 or 4000\nusage: bureau [ROW WORDS..]; bureau --help tells the rows and their words\n".as_slice()
     );
 
     let mut told = Vec::new(alloc);

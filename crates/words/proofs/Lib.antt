@@ -1,4 +1,6 @@
 pub mod Values
 pub mod Leaf
+pub mod Two
+pub mod Three
 pub mod Rows
 pub mod Taken

@@ -9,7 +9,9 @@ use Rattle.clap.specs.Kinds.{Kinds, or_else}
 use Rattle.clap.proofs.OnLiterals.{clap_on_literals}
 use Rattle.words.specs.Command.{bureau}
 use Rattle.words.proofs.Values.{at, or_else_none, IsValue}
-use Rattle.words.proofs.Leaf.{leaf_fault, three}
+use Rattle.words.proofs.Leaf.{leaf_fault}
+use Rattle.words.proofs.Two.{two}
+use Rattle.words.proofs.Three.{three}
 
 -- ---- behind a row's name clap's own command only collects the words
 
@@ -32,27 +34,10 @@ unfolding walk_fault walked
 no_fault s names name before [] = refl
 no_fault s names name before (w ∷ ws) = no_fault s names name (before ++ w ∷ []) ws
 
--- ---- the row `run`
+-- ---- a row, entered by its name
 
 abbrev top : App
 top = built bureau
-
-entered_run : walked top.top.rules (names_of top) (walk_from nothing_held) (codes "run") ≡ collecting (codes "run") []
-unfolding clap_on_literals
-entered_run = refl
-
-no_fault_at_run : turn_fault top.top (names_of top) (walk_from nothing_held) (codes "run") ≡ []
-unfolding clap_on_literals
-no_fault_at_run = refl
-
-run_walk : (words : List Text) → walk top.top.rules (names_of top) nothing_held (codes "run" ∷ words) ≡ collecting (codes "run") words
-run_walk words = ap (λ (w : Walk). fold (walked top.top.rules (names_of top)) w words) entered_run
-    ∙ collected top.top.rules (names_of top) (codes "run") [] words
-
-run_walk_fault : (words : List Text) → walk_fault top.top (names_of top) (walk_from nothing_held) (codes "run" ∷ words) ≡ []
-unfolding walk_fault
-run_walk_fault words = ap₂ or_else no_fault_at_run (ap (λ (w : Walk). walk_fault top.top (names_of top) w words) entered_run)
-    ∙ no_fault top.top (names_of top) (codes "run") [] words
 
 -- the faults behind the walk of clap's own command
 abbrev behind : Walk → Kinds
@@ -65,24 +50,48 @@ or_else_nil : (k : Kinds) → or_else k [] ≡ k
 or_else_nil [] = refl
 or_else_nil (x ∷ xs) = refl
 
-behind_run : (words : List Text) → behind (collecting (codes "run") words) ≡ or_else (leaf_fault (three (codes "run")) words) []
+-- the name stops clap's own walk without a fault, and what is behind it goes to the row
+pub record IsEntered (name : Text) (row : Shape) : Type 0 where
+  pub stops : walked top.top.rules (names_of top) (walk_from nothing_held) name ≡ collecting name []
+  pub clean : turn_fault top.top (names_of top) (walk_from nothing_held) name ≡ []
+  pub faults : (words : List Text) → behind (collecting name words) ≡ or_else (leaf_fault row words) []
+  pub found : (words : List Text) → entered top (Some (name, words)) ≡ Some (name, finished row.rules (walk row.rules [] nothing_held words).held)
+
+pub run_entered : IsEntered (codes "run") (three (codes "run"))
 unfolding clap_on_literals
-behind_run words = refl
+run_entered = record { stops = refl; clean = refl; faults = λ words. refl; found = λ words. refl }
 
-pub run_fault : (words : List Text) → fault_of bureau (codes "run" ∷ words) ≡ leaf_fault (three (codes "run")) words
-run_fault words = ap₂ or_else (run_walk_fault words) (ap behind (run_walk words)) ∙ behind_run words ∙ or_else_nil _
+pub assemble_entered : IsEntered (codes "assemble") (two (codes "assemble"))
+unfolding clap_on_literals
+assemble_entered = record { stops = refl; clean = refl; faults = λ words. refl; found = λ words. refl }
 
-pub run_entered : (words : List Text) → subcommand_of bureau (codes "run" ∷ words)
-    ≡ Some (codes "run", finished (three (codes "run")).rules (walk (three (codes "run")).rules [] nothing_held words).held)
-run_entered words = ap (λ (w : Walk). entered top w.stopped) (run_walk words)
+row_walk : (name : Text) (row : Shape) (words : List Text) → IsEntered name row
+    → walk top.top.rules (names_of top) nothing_held (name ∷ words) ≡ collecting name words
+row_walk name row words is = ap (λ (w : Walk). fold (walked top.top.rules (names_of top)) w words) is.stops
+    ∙ collected top.top.rules (names_of top) name [] words
+
+row_walk_fault : (name : Text) (row : Shape) (words : List Text) → IsEntered name row
+    → walk_fault top.top (names_of top) (walk_from nothing_held) (name ∷ words) ≡ []
+unfolding walk_fault
+row_walk_fault name row words is = ap₂ or_else is.clean (ap (λ (w : Walk). walk_fault top.top (names_of top) w words) is.stops)
+    ∙ no_fault top.top (names_of top) name [] words
+
+pub row_fault : (name : Text) (row : Shape) (words : List Text) → IsEntered name row → fault_of bureau (name ∷ words) ≡ leaf_fault row words
+row_fault name row words is =
+    ap₂ or_else (row_walk_fault name row words is) (ap behind (row_walk name row words is)) ∙ is.faults words ∙ or_else_nil _
+
+pub row_found : (name : Text) (row : Shape) (words : List Text) → IsEntered name row
+    → subcommand_of bureau (name ∷ words) ≡ Some (name, finished row.rules (walk row.rules [] nothing_held words).held)
+row_found name row words is = ap (λ (w : Walk). entered top w.stopped) (row_walk name row words is) ∙ is.found words
 
 -- ---- any other first word
 
-stray : (w : Text) → IsValue w → bytes_eq (codes "run") w ≡ false
+stray : (w : Text) → IsValue w → bytes_eq (codes "run") w ≡ false → bytes_eq (codes "assemble") w ≡ false
     → turn_fault top.top (names_of top) (at 1 nothing_held) w ≡ stray_fault top.top
-stray w v other = rw other (rw v.dashes (rw v.long (rw v.short refl)))
+stray w v no_run no_assemble = rw no_run (rw no_assemble (rw v.dashes (rw v.long (rw v.short refl))))
 
-pub no_row : (w : Text) (rest : List Text) → IsValue w → bytes_eq (codes "run") w ≡ false → fault_of bureau (w ∷ rest) ≢ []
+pub no_row : (w : Text) (rest : List Text) → IsValue w → bytes_eq (codes "run") w ≡ false → bytes_eq (codes "assemble") w ≡ false
+    → fault_of bureau (w ∷ rest) ≢ []
 unfolding walk_fault
-no_row w rest v other e =
-    let k = sym (or_else_none _ _ (or_else_none _ _ e)) ∙ stray w v other in cc
+no_row w rest v no_run no_assemble e =
+    let k = sym (or_else_none _ _ (or_else_none _ _ e)) ∙ stray w v no_run no_assemble in cc

@@ -25,9 +25,12 @@ IsLocal c = (out-Command c).has_globals ≡ false
 abbrev pub named : App
 named = on_top (λ s. record s { no_binary_name = true; disable_help_flag = true; disable_help_subcommand = true }) (new_app (codes "bureau"))
 
+abbrev pub two_values : List Text
+two_values = codes "first" ∷ codes "second" ∷ []
+
 abbrev pub three_values : List Text
 three_values = codes "first" ∷ codes "second" ∷ codes "third" ∷ []
 
 -- the program's command
 abbrev pub bureau : App
-bureau = with_row named (codes "run") three_values
+bureau = with_row (with_row named (codes "run") three_values) (codes "assemble") two_values

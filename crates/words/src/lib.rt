@@ -15,14 +15,14 @@ ghost use Rattle.std.specs.Prelude.{◌≡◌, ◌≢◌, ◌↔◌, ◌⊎◌, 
 ghost use Rattle.std.specs.Str.{bytes_eq};
 ghost use Rattle.clap.specs.Words.{app_of, fault_of, first_of, found_of, rows_of, rule_of, subcommand_of, subcommand_rows_of};
 ghost use Rattle.words.specs.declared.asked.Words.{Words};
-ghost use Rattle.words.specs.Asked.{Asks, HasThree, IsHelp, IsRow, misreading};
+ghost use Rattle.words.specs.Asked.{Asks, HasThree, HasTwo, IsHelp, IsRow, misreading};
 ghost use Rattle.words.specs.Command.{bureau, positional, row_app, with_row, IsLocal};
 ghost use Rattle.words.specs.Plain.{ArePlain, texts};
 
 mod asked;
 mod help;
 
-pub use asked::{Words, WordsFault};
+pub use asked::{RowName, Words, WordsFault};
 use clap::error::ErrorKind;
 use clap::{Arg, ArgAction, ArgMatches, Command};
 pub use help::{HELP, USAGE};
@@ -67,16 +67,20 @@ fn bureau_command<'a>(alloc: Global) -> Result<Command<'a>, AllocError>
         .no_binary_name(true)
         .disable_help_flag(true)
         .disable_help_subcommand(true);
-    with_row(alloc, command, "run", &["first", "second", "third"])
+    let command = with_row(alloc, command, "run", &["first", "second", "third"])?;
+    with_row(alloc, command, "assemble", &["first", "second"])
 }
 
 /// What is wrong with words that are no row's.
 fn misread(words: &[String]) -> WordsFault
     ensures { result ≡ misreading (texts words.now) }
 {
-    match words.first() {
-        Some(name) if name.as_str() == "run" => WordsFault::Values,
-        _ => WordsFault::Row,
+    let Some(word) = words.first() else {
+        return WordsFault::Row;
+    };
+    match RowName::of(word.as_str()) {
+        Some(row) => WordsFault::Values(row),
+        None => WordsFault::Row,
     }
 }
 
@@ -121,6 +125,17 @@ fn run_row<'a>(matches: &ArgMatches<'a>) -> Option<Words<'a>>
     })
 }
 
+/// The row `assemble` with its values.
+fn assemble_row<'a>(matches: &ArgMatches<'a>) -> Option<Words<'a>>
+    ensures some { IfSome result (λ asked. IsRow (Some (codes "assemble", rows_of (found_of matches.now))) asked) }
+    ensures none { IfNone result ((a b : List ℕ) → ¬ HasTwo (rows_of (found_of matches.now)) a b) }
+{
+    Some(Words::Assemble {
+        source: value_at(matches, "first")?,
+        out: value_at(matches, "second")?,
+    })
+}
+
 /// The row that clap found.
 fn row_in<'a>(matches: &ArgMatches<'a>) -> Option<Words<'a>>
     ensures some { IfSome result (IsRow (subcommand_rows_of matches.now)) }
@@ -129,7 +144,11 @@ fn row_in<'a>(matches: &ArgMatches<'a>) -> Option<Words<'a>>
     let Some((name, inner)) = matches.subcommand() else {
         return Some(Words::Standard);
     };
-    if name == "run" { run_row(inner) } else { None }
+    match RowName::of(name) {
+        Some(RowName::Run) => run_row(inner),
+        Some(RowName::Assemble) => assemble_row(inner),
+        None => None,
+    }
 }
 
 /// The row that clap reads in the words.
@@ -196,20 +215,32 @@ mod tests {
             size: "4000",
             switches: "-",
         };
+        let assemble = Words::Assemble {
+            source: "S",
+            out: "-",
+        };
+        let no_run = Err(WordsFault::Values(RowName::Run));
+        let no_assemble = Err(WordsFault::Values(RowName::Assemble));
         for (line, wanted) in [
             ("", Ok(Words::Standard)),
             ("run D 4000 -", Ok(run)),
+            ("assemble S -", Ok(assemble)),
             ("--help", Ok(Words::Help)),
             ("-h", Ok(Words::Help)),
             ("help", Err(WordsFault::Row)),
             ("Run D 4000 -", Err(WordsFault::Row)),
             ("--help run", Err(WordsFault::Row)),
             ("init F", Err(WordsFault::Row)),
-            ("run", Err(WordsFault::Values)),
-            ("run D 4000", Err(WordsFault::Values)),
-            ("run D 4000 A B", Err(WordsFault::Values)),
-            ("run D 4000 -1", Err(WordsFault::Values)),
-            ("run --help", Err(WordsFault::Values)),
+            ("run", no_run),
+            ("run D 4000", no_run),
+            ("run D 4000 A B", no_run),
+            ("run D 4000 -1", no_run),
+            ("run --help", no_run),
+            ("assemble", no_assemble),
+            ("assemble S", no_assemble),
+            ("assemble S O T", no_assemble),
+            ("assemble S -1", no_assemble),
+            ("assemble run", no_assemble),
         ] {
             let mut given = Vec::new(rt.alloc());
             for word in line.split_whitespace() {

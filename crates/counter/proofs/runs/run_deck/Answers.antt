@@ -1,37 +1,28 @@
-use Rattle.std.proofs.Common.{◌≡◌, ◌++◌, ◌∷◌, [], List, ℕ, None, Some, Err, refl, inl, inr, take, subst, sym, ◌⊎◌}
+use Rattle.std.proofs.Common.{◌≡◌, ◌++◌, ◌∷◌, [], List, ℕ, Err, refl, inl, inr, subst, sym, ◌⊎◌}
 use Rattle.std.specs.Prelude.{Option}
 use Rattle.std.proofs.lemmas.Result.{IfOk-weaker}
-use Rattle.std.specs.Io.KnownBytes.{Appends, Keeps}
+use Rattle.std.specs.Io.KnownBytes.{Appends}
 use Rattle.cards.specs.Faults.{out_of_memory}
 use Rattle.core_store.specs.declared.Size.{Size}
 use Rattle.units.specs.declared.Switches.{Switches}
-use Rattle.counter.specs.declared.faults.RunFault.{RunFault}
-use Rattle.counter.specs.declared.faults.RunFault.TheVariants as fault
-use Rattle.counter.specs.declared.runs.TheConstants.{MOST_BYTES}
+use Rattle.counter.specs.declared.faults.Fault.{Fault}
+use Rattle.counter.specs.declared.faults.Fault.TheVariants as fault
 use Rattle.counter.specs.declared.statuses.Status.{Status}
 use Rattle.counter.specs.declared.statuses.Status.TheVariants as status
-use Rattle.counter.specs.Runs.{Reads, Refuses, Tells}
+use Rattle.counter.specs.Runs.{Refuses, Tells}
 use Rattle.counter.specs.Told.{fault_words}
+use Rattle.counter.proofs.Unread.{kept, some_text}
 use Rattle.counter.proofs.runs.run_deck.Goals as goal
 
-kept : (o : Option (List ℕ)) → Keeps o o
-kept None = tt
-kept (Some bytes) = refl
-
--- where nothing was read, some text might have been
-some_text : (remaining : Option (List ℕ)) → (text : List ℕ) × Reads remaining text
-some_text None = ([], tt)
-some_text (Some bytes) = (take MOST_BYTES bytes, refl)
-
 -- a fault that was told, with nothing put out
-told : (text : List ℕ) (size : Size) (switches : Switches) (f : RunFault) (ended : Status) (output errors_old errors_new : Option (List ℕ))
+told : (text : List ℕ) (size : Size) (switches : Switches) (f : Fault) (ended : Status) (output errors_old errors_new : Option (List ℕ))
     → Refuses text f → (ended ≡ status.Told) × Appends errors_old errors_new (fault_words f ++ 10 ∷ [])
     → Tells text size switches ended output output errors_old errors_new
 told text size switches f ended output errors_old errors_new refused is =
     (Err f, refused, record { status = is.0; output = inr (kept output); errors = is.1 })
 
 -- a reader's fault says nothing of the text
-unread : (text : List ℕ) (f : RunFault) → (f ≡ fault.Card out_of_memory) ⊎ (f ≡ fault.Device) → Refuses text f
+unread : (text : List ℕ) (f : Fault) → (f ≡ fault.Card out_of_memory) ⊎ (f ≡ fault.Device) → Refuses text f
 unread text f (inl memory) = subst (Refuses text) (sym memory) (inl refl)
 unread text f (inr device) = subst (Refuses text) (sym device) tt
 

@@ -19,12 +19,14 @@ row_of : Task → Words
 row_of task.Help = row.Help
 row_of (task.Run Input s w) = row.Standard
 row_of (task.Run (File path) s w) = row.Run path (record path { now = decimal (positions_of s) }) (record path { now = text_of w })
+row_of (task.Assemble source out) = row.Assemble source out
 
 asks : (words : List (List ℕ)) (t : Task) → Wants words t → Asks words (row_of t)
 unfolding row_of
 asks words task.Help wants = wants
 asks words (task.Run Input s w) wants = wants.0
 asks words (task.Run (File path) s w) wants = wants.0
+asks words (task.Assemble source out) wants = wants
 
 -- the words of a row `run` have the row's task alone
 run_wanted : (words : List (List ℕ)) (deck size switches : List ℕ) (t : Task) → words ≡ codes "run" ∷ deck ∷ size ∷ switches ∷ []
@@ -34,6 +36,7 @@ run_wanted words deck size switches task.Help spelt (inr e) = cc
 run_wanted words deck size switches (task.Run Input s w) spelt wants = let e = wants.0 in cc
 run_wanted words deck size switches (task.Run (File path) s w) spelt wants =
     let e = sym spelt ∙ wants.0 in (cc, cc, wants.1, cc)
+run_wanted words deck size switches (task.Assemble source out) spelt wants = cc
 
 weaker : {X Y : Type 0} (r : Result X Y) (P Q : Y → Type 0) → ((y : Y) → P y → Q y) → IfErr r P → IfErr r Q
 weaker (Ok x) P Q f p = p

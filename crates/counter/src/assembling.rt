@@ -1,0 +1,191 @@
+//! Assembling a deck from a reader.
+
+ghost use Rattle.std.specs.Prelude.{◌≡◌, ◌≤◌, ◌<◌, ◌⊎◌, List, ℕ, length, IfOk, IfErr};
+ghost use Rattle.layout.specs.Source.{source_of};
+ghost use Rattle.autocoder.specs.Loadable.{CanBeLoaded};
+ghost use Rattle.autocoder.specs.Programs.{IsProgramOf};
+ghost use Rattle.counter.specs.Runs.{Reads};
+ghost use Rattle.counter.specs.Assembling.{Assembles, Ends, IsHindrance, IsMadeOf, IsShown, data_of, ending_by, made_by, made_of, object_deck, assembled, faulty, hindered};
+
+use crate::faults::Fault;
+use crate::runs::text_in;
+use crate::statuses::Status;
+use crate::telling::{put_fault_lines, put_out, tell_fault};
+use autocoder::{CardFault, Faults, Program, assemble, listing};
+use cards::{Card, Deck, LARGEST_DECK, read_text, write_text};
+use layout::SourceFault;
+use loader::deck_to_run;
+use std::alloc::Global;
+use std::io;
+use std::io::{Read, Write};
+
+/// What the assembling of a deck answers.
+#[derive(Drop)]
+pub struct Assembled {
+    /// How the program ends.
+    pub status: Status,
+    /// The bytes that are to be written to OUT, or none where OUT is to stay as it is.
+    pub out: Option<Vec<u8>>,
+}
+
+/// What is made of a deck: the listing of its source, and the text of the deck that runs its
+/// program.
+#[derive(Drop)]
+struct Product {
+    listing: Vec<u8>,
+    out: Vec<u8>,
+}
+
+/// Why nothing is made of a deck.
+#[derive(Drop)]
+enum Hindrance {
+    /// Its source has faults, or there was no memory to assemble it.
+    Source(Faults),
+    /// This fault.
+    Fault(Fault),
+}
+
+/// The data cards: those behind the source.
+#[tactic(auto, using(crate::proofs::Behind::source_within))]
+fn data_in<'a>(deck: &'a Deck, program: &Program) -> &'a [Card]
+    requires program { IsProgramOf (source_of deck.now) program.now }
+    ensures { result.now ≡ data_of deck.now }
+{
+    &deck.cards()[program.last as usize..]
+}
+
+/// The deck that runs a program over its data.
+#[tactic(auto, unfolding(crate::specs::Assembling::object_deck))]
+fn object_of(alloc: Global, deck: &Deck, program: &Program) -> Result<Deck, Fault>
+    requires program { IsProgramOf (source_of deck.now) program.now }
+    requires loadable { CanBeLoaded program.now }
+    ensures object { IfOk result (λ object. object ≡ object_deck deck.now) }
+    ensures fault { IfErr result (λ fault. (fault ≡ Fault.Memory)
+        ⊎ ((fault ≡ Fault.TooManyCards) × (LARGEST_DECK < length (object_deck deck.now)))) }
+{
+    Ok(deck_to_run(alloc, program, data_in(deck, program))?)
+}
+
+/// What is made of a deck and its program.
+fn product_of(alloc: Global, deck: &Deck, program: &Program) -> Result<Product, Fault>
+    requires program { IsProgramOf (source_of deck.now) program.now }
+    requires loadable { CanBeLoaded program.now }
+    ensures made { IfOk result (λ product. made_by product ≡ made_of deck.now) }
+    ensures fits { IfOk result (λ _. length (object_deck deck.now) ≤ LARGEST_DECK) }
+    ensures fault { IfErr result (λ fault. (fault ≡ Fault.Memory)
+        ⊎ ((fault ≡ Fault.TooManyCards) × (LARGEST_DECK < length (object_deck deck.now)))) }
+{
+    let object = object_of(alloc, deck, program)?;
+    let out = write_text(alloc, &object)?;
+    let listing = listing(alloc, deck, program)?;
+    Ok(Product { listing, out })
+}
+
+/// What is made of the deck of a text.
+fn assembled_in(alloc: Global, text: &[u8]) -> Result<Product, Hindrance>
+    ensures made { IfOk result (λ product. IsMadeOf text.now (made_by product)) }
+    ensures ends { IfErr result (λ hindrance. Ends text.now (ending_by hindrance)) }
+{
+    let deck = match read_text(alloc, text) {
+        Ok(deck) => deck,
+        Err(fault) => return Err(Hindrance::Fault(Fault::Card(fault))),
+    };
+    let program = match assemble(alloc, &deck) {
+        Ok(program) => program,
+        Err(faults) => return Err(Hindrance::Source(faults)),
+    };
+    match product_of(alloc, &deck, &program) {
+        Ok(product) => Ok(product),
+        Err(fault) => Err(Hindrance::Fault(fault)),
+    }
+}
+
+/// Tells a fault in place of all else.
+fn hinder<E: Write>(errors: &mut E, fault: Fault) -> io::Result<Assembled>
+    ensures { IfOk result (λ answer. IsHindrance fault answer (E.contents errors.old) (E.contents errors.new)) }
+{
+    let status = tell_fault(errors, fault)?;
+    Ok(Assembled { status, out: None })
+}
+
+/// Puts the listing out, and gives the bytes for OUT.
+fn show_product<W: Write, E: Write>(
+    product: Product,
+    output: &mut W,
+    errors: &mut E,
+) -> io::Result<Assembled>
+    ensures { IfOk result (λ answer. IsShown (assembled (made_by product)) answer
+        (W.contents output.old) (W.contents output.new) (E.contents errors.old) (E.contents errors.new)) }
+{
+    if put_out(output, &product.listing).is_err() {
+        return hinder(errors, Fault::Device);
+    }
+    Ok(Assembled {
+        status: Status::Done,
+        out: Some(product.out),
+    })
+}
+
+/// Puts the faults of a source out.
+fn show_faults<W: Write, E: Write>(
+    faults: &[CardFault],
+    output: &mut W,
+    errors: &mut E,
+) -> io::Result<Assembled>
+    ensures { IfOk result (λ answer. IsShown (faulty faults.now) answer
+        (W.contents output.old) (W.contents output.new) (E.contents errors.old) (E.contents errors.new)) }
+{
+    if put_fault_lines(output, faults).is_err() {
+        return hinder(errors, Fault::Device);
+    }
+    Ok(Assembled {
+        status: Status::Told,
+        out: None,
+    })
+}
+
+/// Tells why nothing is made of a deck.
+fn show_hindrance<W: Write, E: Write>(
+    hindrance: Hindrance,
+    output: &mut W,
+    errors: &mut E,
+) -> io::Result<Assembled>
+    ensures { IfOk result (λ answer. IsShown (ending_by hindrance) answer
+        (W.contents output.old) (W.contents output.new) (E.contents errors.old) (E.contents errors.new)) }
+{
+    match hindrance {
+        Hindrance::Source(Faults::Source(faults)) => show_faults(&faults, output, errors),
+        Hindrance::Source(Faults::NoMemory) => {
+            let fault = SourceFault::NoMemory;
+            show_faults(&[CardFault { card: 0, fault }], output, errors)
+        }
+        Hindrance::Fault(fault) => hinder(errors, fault),
+    }
+}
+
+/// Assembles the source that begins the deck whose text a reader has, and answers how the program
+/// ends and what is to be written to OUT: the text of the deck that runs the source's program, its
+/// data cards last.
+///
+/// The listing goes out as a whole once all that is to be written is made. The faults of a source
+/// go out in its place, a line for each, and nothing is told on the second writer. Where a fault
+/// is told there nothing goes out, but for what a failing output took. An error is one of the
+/// second writer, to which nothing can be told.
+pub fn assemble_deck<R: Read + Drop, W: Write, E: Write>(
+    alloc: Global,
+    reader: R,
+    output: &mut W,
+    errors: &mut E,
+) -> io::Result<Assembled>
+    ensures { IfOk result (λ answer. (text : List ℕ) × Reads (R.remaining reader) text × Assembles text answer
+        (W.contents output.old) (W.contents output.new) (E.contents errors.old) (E.contents errors.new)) }
+{
+    let text = match text_in(alloc, reader) {
+        Ok(text) => text,
+        Err(fault) => return hinder(errors, fault),
+    };
+    match assembled_in(alloc, &text) {
+        Ok(product) => show_product(product, output, errors),
+        Err(hindrance) => show_hindrance(hindrance, output, errors),
+    }
+}
