@@ -18,7 +18,7 @@ examples:
   bureau run examples/two_lines.deck 4000 A
   bureau run examples/two_lines.deck 1400 -
   bureau < examples/two_lines.deck
-  bureau assemble crates/bureau/data/two_lines.source two_lines.deck
+  bureau assemble examples/two_lines.source two_lines.deck
 
 A deck runs for at most 1,000,000 instructions. What it prints goes to standard output. One line
 on standard error tells how many cards it punched, how many lines it printed and where it stands:
