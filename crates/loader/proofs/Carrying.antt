@@ -13,7 +13,8 @@ use Rattle.loader.specs.Cards.{load_card, last_position}
 use Rattle.loader.specs.Stretches.{is_lawful, marks_of}
 use Rattle.loader.specs.Loading.{loading_marks, filled_with}
 use Rattle.loader.proofs.Fronts.{Holds, is_stop, least_stop, holds_high, holds_cells}
-use Rattle.loader.proofs.Laying.{Runs, runs, lawful_parts, bare}
+use Rattle.loader.proofs.Laying.{Runs, runs, bare}
+use Rattle.loader.proofs.Lawful.{lawful_contiguous, lawful_length, lawful_marks}
 use Rattle.loader.proofs.Orders.{Order, words_of, clearing_orders, marking_orders, carried, carried_all, IsHigh, AreHigh, orders_of, few_orders, orders_lay, Three, three_of}
 use Rattle.loader.proofs.Attempts.{At, ends_at, by_set, by_clear, by_load, by_nothing, by_reading}
 use Rattle.loader.proofs.Texts.{says_move, says_first, says_second, says_third, says_reading, says_code}
@@ -159,13 +160,13 @@ module _ (deck : List Card) (switches : Switches) (size : ℕ) (small : size ≤
   card = (load_card stretch).0
 
   contiguous : Runs first.position stretch
-  contiguous = runs first others (lawful_parts stretch lawful).0
+  contiguous = runs first others (lawful_contiguous stretch lawful)
 
   few : length stretch ≤ 39
-  few = (lawful_parts stretch lawful).1
+  few = (lawful_length stretch lawful)
 
   places : Three size (orders_of stretch)
-  places = three_of size (orders_of stretch) (few_orders stretch (lawful_parts stretch lawful).2) (orders_high size first others contiguous low high)
+  places = three_of size (orders_of stretch) (few_orders stretch (lawful_marks stretch lawful)) (orders_high size first others contiguous low high)
 
   abbrev laid : Storage
   laid = put_cells rest first.position ((first.code, true) ∷ map bare others)

@@ -10,6 +10,7 @@ use Rattle.layout.specs.declared.cells.Cell.{Cell}
 use Rattle.loader.specs.Stretches.{is_contiguous, is_lawful, marks_of, mark_limit}
 use Rattle.loader.specs.Cards.{instruction, unused, clearing, marking, filled_places}
 use Rattle.loader.specs.Loading.{filled_with}
+use Rattle.loader.proofs.Lawful.{both}
 
 -- ---- contiguous positions
 
@@ -18,10 +19,6 @@ abbrev pub Runs : ℕ → List Cell → Type 0
 Runs p [] = Unit {0}
 Runs p (c ∷ cells) = (c.position ≡ p) × Runs (p + 1) cells
 
-both : (a b : Bool) → (a && b) ≡ true → (a ≡ true) × (b ≡ true)
-both true b e = (refl, e)
-both false b e = absurd (false≢true e)
-
 pub runs : (c : Cell) (cells : List Cell) → is_contiguous (c ∷ cells) ≡ true → Runs c.position (c ∷ cells)
 unfolding is_contiguous
 runs c [] contiguous = (refl, tt)
@@ -29,14 +26,6 @@ runs c (d ∷ cells) contiguous =
     let parts = both (nat_eq d.position (c.position + 1)) (is_contiguous (d ∷ cells)) contiguous in
     let next : d.position ≡ c.position + 1 = eqb-true d.position (c.position + 1) parts.0 in
     (refl, rw (← next) (runs d cells parts.1))
-
--- the same from a lawful stretch
-pub lawful_parts : (cells : List Cell) → is_lawful cells ≡ true → (is_contiguous cells ≡ true) × (length cells ≤ 39) × (length (marks_of (drop 1 cells)) ≤ mark_limit cells)
-unfolding is_lawful
-lawful_parts cells lawful =
-    let parts = both (is_contiguous cells) (nat_le (length cells) 39 && nat_le (length (marks_of (drop 1 cells))) (mark_limit cells)) lawful in
-    let counts = both (nat_le (length cells) 39) (nat_le (length (marks_of (drop 1 cells))) (mark_limit cells)) parts.1 in
-    (parts.0, leb-true (length cells) 39 counts.0, leb-true (length (marks_of (drop 1 cells))) (mark_limit cells) counts.1)
 
 -- ---- cells and marks
 

@@ -9,7 +9,7 @@ use Rattle.layout.specs.declared.cells.Cell.{Cell}
 use Rattle.loader.specs.Stretches.{is_lawful, marks_of, mark_limit}
 use Rattle.loader.specs.Cards.{instruction, unused, clearing, marking, filled_places, three}
 use Rattle.loader.specs.Loading.{filled_with}
-use Rattle.loader.proofs.Laying.{Runs, runs, lawful_parts, bare, full, marked_all, AllAbove, mark_set_same, marked_set, marks_above, marks_laid, filled_is_put}
+use Rattle.loader.proofs.Laying.{Runs, runs, bare, full, marked_all, AllAbove, mark_set_same, marked_set, marks_above, marks_laid, filled_is_put}
 
 -- a mark set or cleared at two positions, or nothing
 abbrev pub Order : Type 0

@@ -21,7 +21,9 @@ use Rattle.loader.specs.Cards.{boot_card, load_card, start_card, loading_cards, 
 use Rattle.loader.specs.Stretches.{is_lawful, is_contiguous, marks_of, stretches_from, stretches_of}
 use Rattle.loader.specs.Loading.{Loads, IsBetweenCards, loading_marks, filled_with, at_the_start, instructions_to_load}
 use Rattle.loader.proofs.Fronts.{Holds}
-use Rattle.loader.proofs.Laying.{Runs, runs, lawful_parts}
+use Rattle.loader.proofs.Laying.{Runs, runs}
+use Rattle.loader.proofs.Lawful.{lawful_contiguous, lawful_length, lawful_marks}
+use Rattle.loader.proofs.Splitting.{is_split}
 use Rattle.loader.proofs.Orders.{orders_of, few_orders, three_of}
 use Rattle.loader.proofs.Attempts.{At, units_with, ends_at, by_start}
 use Rattle.loader.proofs.Boot.{large_enough, repeated, booted}
@@ -71,21 +73,6 @@ unfolding stretches_of
 all_good size [] ranged = tt
 all_good size (c ∷ cells) ranged = split_good size cells c [] (single size c ranged.0) ranged.1
 
-split_whole : (cells stretch : List Cell) → flat (stretches_from stretch cells) ≡ stretch ++ cells
-unfolding stretches_from
-split_whole [] stretch = refl
-split_whole (c ∷ cells) stretch =
-    elim (is_lawful (stretch ++ c ∷ [])) as (λ b.
-    flat (if b then stretches_from (stretch ++ c ∷ []) cells else stretch ∷ stretches_from (c ∷ []) cells) ≡ stretch ++ c ∷ cells) [
-      | true ↦ split_whole cells (stretch ++ c ∷ []) ∙ append_assoc stretch (c ∷ []) cells
-      | false ↦ ap (λ xs. stretch ++ xs) (split_whole cells (c ∷ []))
-    ]
-
-pub whole_image : (image : List Cell) → flat (stretches_of image) ≡ image
-unfolding stretches_of
-whole_image [] = refl
-whole_image (c ∷ cells) = split_whole cells (c ∷ [])
-
 ranged_at : (size : ℕ) (cells : List Cell) (k : ℕ) (d : Cell) → Ranged size cells → k < length cells → (get_or cells k d).position < size
 ranged_at size [] k d ranged lt = absurd (omega arith)
 ranged_at size (c ∷ cells) zero d ranged lt = ranged.0.1
@@ -94,7 +81,7 @@ ranged_at size (c ∷ cells) (suc k) d ranged lt = ranged_at size cells k d rang
 -- a good stretch ends below the size
 ends_inside : (size : ℕ) (first : Cell) (others : List Cell) → Good size (first ∷ others) → first.position + length (first ∷ others) ≤ size
 ends_inside size first others good =
-    let contiguous : Runs first.position (first ∷ others) = runs first others (lawful_parts (first ∷ others) good.0).0 in
+    let contiguous : Runs first.position (first ∷ others) = runs first others (lawful_contiguous (first ∷ others) good.0) in
     omega (arith, position_is (first ∷ others) first.position (length others) first contiguous (omega arith), ranged_at size (first ∷ others) (length others) first good.1 (omega arith))
 
 pub ranged_of : (size : ℕ) (image : List Cell) → All (λ c. 81 ≤ c.position) image → All (λ c. c.position < size) image → Ranged size image
@@ -159,10 +146,9 @@ start_size start = refl
 
 card_long : (size : ℕ) (first : Cell) (others : List Cell) → Good size (first ∷ others) → length (load_card (first ∷ others)).0 ≡ 80
 card_long size first others good =
-    let parts = lawful_parts (first ∷ others) good.0 in
-    card_size size (first ∷ others) parts.1
-    (three_of size (orders_of (first ∷ others)) (few_orders (first ∷ others) parts.2)
-    (orders_high size first others (runs first others parts.0) good.1.0.0 (ends_inside size first others good)))
+    card_size size (first ∷ others) (lawful_length (first ∷ others) good.0)
+    (three_of size (orders_of (first ∷ others)) (few_orders (first ∷ others) (lawful_marks (first ∷ others) good.0))
+    (orders_high size first others (runs first others (lawful_contiguous (first ∷ others) good.0)) good.1.0.0 (ends_inside size first others good)))
 
 before_size : (size : ℕ) (stretches : List (List Cell)) (start : ℕ) → AllGood size stretches → length (card_before stretches start).0 ≡ 80
 before_size size [] start good = start_size start
@@ -249,7 +235,7 @@ module _ (size : Size) (image : List Cell) (start : ℕ) (data_cards : List Card
 
   at_last : At deck_read switches (positions_of size) now 40 (2 + length stretches) loading_marks (start_card start).0 (filled_with (blank_storage (positions_of size)) image)
   at_last =
-      subst (λ cells. At deck_read switches (positions_of size) now 40 (2 + length stretches) loading_marks (start_card start).0 (filled_with (blank_storage (positions_of size)) cells)) (whole_image image)
+      subst (λ cells. At deck_read switches (positions_of size) now 40 (2 + length stretches) loading_marks (start_card start).0 (filled_with (blank_storage (positions_of size)) cells)) ((is_split image).all)
       (subst (λ all. At deck_read switches (positions_of size) now 40 (2 + length stretches) loading_marks (start_card start).0 (filled_with (blank_storage (positions_of size)) (flat all)))
       (take_all (length stretches) stretches (omega arith))
       (subst (λ left. At deck_read switches (positions_of size) now 40 (2 + length stretches) loading_marks (card_before left start).0 (filled_with (blank_storage (positions_of size)) (flat (take (length stretches) stretches))))
