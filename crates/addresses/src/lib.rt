@@ -14,8 +14,6 @@ mod effective;
 mod stored;
 mod tables;
 mod tagged;
-#[cfg(test)]
-mod tests;
 mod written;
 
 pub use digits::digit_under;

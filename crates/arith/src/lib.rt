@@ -14,8 +14,6 @@ mod joining;
 mod operands;
 mod ranks;
 mod sums;
-#[cfg(test)]
-mod tests;
 mod zeros;
 
 pub use bases::modify;

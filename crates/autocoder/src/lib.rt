@@ -12,8 +12,6 @@ mod judging;
 mod listings;
 mod program;
 mod tables;
-#[cfg(test)]
-mod tests;
 
 pub use faults::{CardFault, Faults};
 pub use listings::listing;

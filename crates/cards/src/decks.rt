@@ -68,22 +68,3 @@ impl Deck {
         Ok(())
     }
 }
-
-#[cfg(test)]
-mod tests {
-    use super::*;
-    use std::test::Fail;
-
-    #[test]
-    fn two_thousand_cards_and_no_more(rt: HostRuntime) -> Result<(), Fail> {
-        let blank = || Card([Code::blank(); COLUMNS]);
-        let mut deck = Deck::empty(rt.alloc());
-        for _ in 0..2000 {
-            deck.push(blank())?;
-        }
-        assert_eq!(rt; deck.push(blank()).map_err(|fault| fault.number()), Err(33));
-        assert_eq!(rt; deck.cards().len(), 2000);
-        assert_eq!(rt; DeckFault::NoMemory.number(), 1);
-        Ok(())
-    }
-}

@@ -72,33 +72,3 @@ pub enum Check {
     /// The printer has made as many lines or forms as it can.
     PrinterFull,
 }
-
-#[cfg(test)]
-mod tests {
-    use super::*;
-    use std::test::Fail;
-
-    #[test]
-    fn registers_are_numbers_modulo_16000(rt: HostRuntime) -> Result<(), Fail> {
-        let mut registers = Registers {
-            i: 400,
-            a: 105,
-            b: 3,
-            compare: Compared::High,
-            overflow: true,
-        };
-        registers.lower(5, 4);
-        assert_eq!(rt;
-            registers,
-            Registers {
-                i: 400,
-                a: 100,
-                b: 15999,
-                compare: Compared::High,
-                overflow: true,
-            }
-        );
-        assert_eq!(rt; lowered(0, 1), 15999);
-        Ok(())
-    }
-}

@@ -39,19 +39,3 @@ impl Size {
         }
     }
 }
-
-#[cfg(test)]
-mod tests {
-    use super::*;
-    use std::test::Fail;
-
-    #[test]
-    fn three_sizes(rt: HostRuntime) -> Result<(), Fail> {
-        for positions in [1400, 2000, 4000] {
-            let size = Size::of_positions(positions).ok_or("a size")?;
-            assert_eq!(rt; size.positions(), positions);
-        }
-        assert_eq!(rt; Size::of_positions(1399), None);
-        Ok(())
-    }
-}

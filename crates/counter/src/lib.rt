@@ -30,6 +30,3 @@ pub use statuses::Status;
 pub use switches::switches_of;
 pub use tasks::{Misuse, Source, Task, task_of};
 pub use telling::{show_help, tell_fault, tell_misuse};
-
-#[cfg(test)]
-mod tests;

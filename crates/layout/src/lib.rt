@@ -16,8 +16,6 @@ mod literals;
 mod names;
 mod slots;
 mod source;
-#[cfg(test)]
-mod tests;
 
 pub use cells::{Cell, FIRST_FREE, cells_of};
 pub use faults::SourceFault;

@@ -17,8 +17,6 @@ mod object;
 mod pieces;
 mod places;
 mod stretches;
-#[cfg(test)]
-mod tests;
 
 pub use laws::{cards_load_the_program, stretches_are_longest};
 pub use object::{deck_to_run, object_deck};

@@ -15,10 +15,6 @@ mod operations;
 mod parts;
 mod ranges;
 mod runs;
-#[cfg(test)]
-mod step_tests;
-#[cfg(test)]
-mod tests;
 
 pub use meter::Meter;
 pub use parts::{Event, Parts, Standing};

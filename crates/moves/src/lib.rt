@@ -16,8 +16,6 @@ mod marks;
 mod moving;
 mod parts;
 mod suppressing;
-#[cfg(test)]
-mod tests;
 
 pub use characters::parts_are_read;
 pub use editing::{edit, edited_shows_the_data};

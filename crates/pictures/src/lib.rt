@@ -11,8 +11,6 @@ mod lines;
 mod numbers;
 mod parts;
 mod storage;
-#[cfg(test)]
-mod tests;
 
 pub use decks::{card_bytes, deck_bytes, read_cards, read_deck};
 pub use lines::{line_row, read_lines};

@@ -19,8 +19,6 @@ mod names;
 mod operands;
 mod operations;
 mod reading;
-#[cfg(test)]
-mod tests;
 mod texts;
 
 pub use columns::{is_comment, operation_of};

@@ -12,8 +12,6 @@ mod faults;
 mod inserts;
 mod lookups;
 mod rows;
-#[cfg(test)]
-mod tests;
 mod updates;
 
 pub use creates::make_tables;

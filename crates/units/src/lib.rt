@@ -21,8 +21,6 @@ mod punch;
 mod ranges;
 mod reader;
 mod switches;
-#[cfg(test)]
-mod tests;
 mod units;
 
 pub use carriage::{

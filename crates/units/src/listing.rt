@@ -83,34 +83,3 @@ pub fn render(alloc: Global, lines: &[Line]) -> Result<Vec<u8>, AllocError>
     }
     Ok(text)
 }
-
-#[cfg(test)]
-mod tests {
-    use super::*;
-    use std::test::Fail;
-
-    /// A line on which the glyphs stand from the left.
-    fn printed(form: u32, line: u8, glyphs: &[u8]) -> Line {
-        let mut codes = [Code::blank(); 132];
-        for (code, glyph) in codes.iter_mut().zip(glyphs) {
-            *code = Code::from_glyph(*glyph).unwrap_or(Code::blank());
-        }
-        Line { form, line, codes }
-    }
-
-    #[test]
-    fn listings_of_printed_lines(rt: HostRuntime) -> Result<(), Fail> {
-        let alloc = rt.alloc();
-        let none = render(alloc, &[])?;
-        assert!(rt; none.is_empty());
-        let apart = render(alloc, &[printed(1, 1, b"HELLO"), printed(1, 4, b" WORLD")])?;
-        assert!(rt; apart.as_slice() == b"HELLO\n\n\n WORLD\n".as_slice());
-        let blank = render(alloc, &[printed(1, 1, b""), printed(1, 4, b"")])?;
-        assert!(rt; blank.as_slice() == b"\n\n\n\n".as_slice());
-        let forms = render(alloc, &[printed(1, 1, b""), printed(2, 1, b"")])?;
-        assert!(rt; forms.as_slice() == b"\n\x0c\n".as_slice());
-        let off_the_chain = render(alloc, &[printed(1, 1, b"A:B=")])?;
-        assert!(rt; off_the_chain.as_slice() == b"A B\n".as_slice());
-        Ok(())
-    }
-}

@@ -1,8 +1,8 @@
 use Rattle.std.proofs.Common.{◌<◌, ◌≤◌}
 use Rattle.std.specs.List.{All}
 use Rattle.layout.specs.declared.cells.TheConstants.{FIRST_FREE}
-use Rattle.loader.specs.declared.tests.TheConstants.{SIZE}
-use Rattle.loader.proofs.tests.image_of.Given as goal
+use Rattle.autocoder_tests.specs.declared.loading_cards.TheConstants.{SIZE}
+use Rattle.autocoder_tests.proofs.loading_cards.image_of.Given as goal
 
 abbrev pub invariant-loop-glyph : goal.invariant-loop-glyph
 invariant-loop-glyph l = record {

@@ -1,0 +1,82 @@
+//! Cards and decks as a coding sheet tells them: a line for each card, which has its label, its
+//! operation and its operands, each with a bar behind it.
+
+use bcd::Code;
+use cards::{COLUMNS, Card, Deck};
+use layout::Cell;
+use std::alloc::Global;
+use std::test::Fail;
+
+/// Lays characters down from behind so many columns on.
+fn lay(columns: &mut [Code; COLUMNS], behind: usize, text: &str) -> Result<(), Fail> {
+    let mut next = behind;
+    for glyph in text.bytes() {
+        let code = Code::from_glyph(glyph).ok_or("a glyph")?;
+        if next < COLUMNS {
+            columns[next] = code;
+            next += 1;
+        }
+    }
+    Ok(())
+}
+
+/// The columns of the card of a line.
+pub(crate) fn columns_of(line: &str) -> Result<[Code; COLUMNS], Fail> {
+    let (label, fields) = line.split_once('|').ok_or("a label")?;
+    let (operation, operands) = fields.split_once('|').ok_or("an operation")?;
+    let operands = operands.strip_suffix('|').ok_or("operands")?;
+    let mut columns = [Code::blank(); COLUMNS];
+    lay(&mut columns, 5, label)?;
+    lay(&mut columns, 15, operation)?;
+    lay(&mut columns, 20, operands)?;
+    Ok(columns)
+}
+
+/// The deck of a sheet.
+pub(crate) fn deck_of(alloc: Global, sheet: &str) -> Result<Deck, Fail> {
+    let mut deck = Deck::empty(alloc);
+    for line in sheet.lines() {
+        let columns: [Code; COLUMNS] = columns_of(line)?;
+        deck.push(Card(columns))?;
+    }
+    Ok(deck)
+}
+
+/// Adds the glyphs of some characters.
+pub(crate) fn push_glyphs(text: &mut String, codes: &[Code]) -> Result<(), Fail> {
+    for code in codes {
+        text.push(code.glyph() as char)?;
+    }
+    Ok(())
+}
+
+/// The positions that are filled: where each row of them begins, and their glyphs, each with an
+/// apostrophe in front where it has a word mark.
+pub(crate) fn image_told(alloc: Global, cells: &[Cell]) -> Result<String, Fail> {
+    let mut text = String::new(alloc);
+    let mut next = 0;
+    for cell in cells {
+        let position = cell.position;
+        if position != next {
+            write!(&mut text, " {position} ")?;
+        }
+        if cell.marked {
+            text.push('\'')?;
+        }
+        text.push(cell.code.glyph() as char)?;
+        next = position.saturating_add(1);
+    }
+    Ok(text)
+}
+
+/// The cards of a deck as lines, without the blanks at their ends.
+pub(crate) fn lines_of(alloc: Global, cards: &[Card]) -> Result<String, Fail> {
+    let mut text = String::new(alloc);
+    for card in cards {
+        let mut line = String::new(alloc);
+        push_glyphs(&mut line, &card.0)?;
+        text.push_str(line.trim_end())?;
+        text.push('\n')?;
+    }
+    Ok(text)
+}

@@ -1,0 +1,265 @@
+//! One small source: where its cards stand, what they fill, and their faults.
+
+ghost use Rattle.std.specs.Prelude.{IfSome};
+ghost use Rattle.statements.specs.Ranges.{IsExpressionInRange};
+
+use crate::coding_sheets::{columns_of, deck_of, image_told, push_glyphs};
+use bcd::Code;
+use cards::{COLUMNS, Card};
+use layout::{
+    Cell, FARTHEST, Slot, SourceFault, cells_of, fault_by, first_instruction, has_end, is_control,
+    lay_out, line_on, literals_of, place_after, size_of, source_of, value_in,
+};
+use statements::{Expression, Statement, StatementFault, read};
+use std::alloc::Global;
+use std::test::Fail;
+
+/// A source of five cards, and a card of data behind it.
+const SOURCE: &str = "\
+|CTL|2|
+|ORG|500|
+A|SW|@B@,A&1|
+T|DC|@CD@|
+|END||
+|CTL|1|
+";
+
+/// The first four cards of it, which do not end it.
+const UNENDED: &str = "\
+|CTL|2|
+|ORG|500|
+A|SW|@B@,A&1|
+T|DC|@CD@|
+";
+
+/// How many cards the source of a sheet has, whether it has an end, and its size.
+fn extent(alloc: Global, sheet: &str) -> Result<String, Fail> {
+    let deck = deck_of(alloc, sheet)?;
+    let source = source_of(deck.cards());
+    let count = source.len();
+    let ends = has_end(source);
+    let positions = size_of(source).positions();
+    Ok(format!(in alloc; "{count} cards, {ends}, {positions} positions")?)
+}
+
+/// Whether the card of a line tells the size.
+fn tells_a_size(line: &str) -> Result<bool, Fail> {
+    let columns: [Code; COLUMNS] = columns_of(line)?;
+    let card = Card(columns);
+    Ok(is_control(&card))
+}
+
+/// The size that the card of a line tells behind a card that told one or behind none, or its
+/// fault.
+fn size_on(told: bool, line: &str) -> Result<u16, Fail> {
+    let columns: [Code; COLUMNS] = columns_of(line)?;
+    let card = Card(columns);
+    match line_on(told, &card) {
+        Ok(Statement::Control(size)) => Ok(size.positions()),
+        Ok(_) => Ok(0),
+        Err(fault) => Ok(fault.number() as u16),
+    }
+}
+
+#[test]
+fn ends_and_sizes_of_sources(rt: HostRuntime) -> Result<(), Fail> {
+    let alloc = rt.alloc();
+    for (sheet, wanted) in [
+        (SOURCE, "5 cards, true, 2000 positions"),
+        (UNENDED, "4 cards, false, 2000 positions"),
+        ("|ORG|500|", "1 cards, false, 4000 positions"),
+    ] {
+        assert_eq!(rt; extent(alloc, sheet)?.as_str(), wanted);
+    }
+    assert!(rt; tells_a_size("|CTL|2|")?);
+    assert!(rt; !tells_a_size("|ORG|500|")?);
+    assert_eq!(rt; size_on(false, "|CTL|2|")?, 2000);
+    assert_eq!(rt; size_on(true, "|CTL|2|")?, 42);
+    Ok(())
+}
+
+/// Adds where a card stands, what it does there, whether it ends an instruction, and the number of
+/// its fault.
+fn push_slot(text: &mut String, slot: &Slot) -> Result<(), Fail> {
+    let Slot {
+        before,
+        after,
+        kind,
+        closes,
+        ..
+    } = *slot;
+    let fault = match slot.fault {
+        None => 0,
+        Some(fault) => fault.number(),
+    };
+    Ok(writeln!(text, "{before} {after} {kind:?} {closes} {fault}")?)
+}
+
+/// Where the cards of a source stand, where its literals begin, and its first instruction.
+fn standing(alloc: Global, sheet: &str) -> Result<String, Fail> {
+    let deck = deck_of(alloc, sheet)?;
+    let source = source_of(deck.cards());
+    let slots = lay_out(alloc, size_of(source).positions(), source)?;
+    let mut text = String::new(alloc);
+    for slot in &slots {
+        push_slot(&mut text, slot)?;
+    }
+    writeln!(&mut text, "{} ends", place_after(&slots))?;
+    let first = first_instruction(&slots).ok_or("an instruction")?;
+    write!(
+        &mut text,
+        "{} {}",
+        first.before,
+        first.kind.is_instruction()
+    )?;
+    Ok(text)
+}
+
+#[test]
+fn where_cards_stand(rt: HostRuntime) -> Result<(), Fail> {
+    let wanted = "\
+333 333 Nothing false 0
+333 500 Passing false 0
+500 507 Instruction false 0
+508 510 Constant true 0
+510 510 Passing false 0
+510 ends
+500 true";
+    assert_eq!(rt; standing(rt.alloc(), SOURCE)?.as_str(), wanted);
+    Ok(())
+}
+
+/// The expression that a card sets the place to.
+fn origin_on(card: &Card) -> Option<Expression>
+    ensures { IfSome result IsExpressionInRange }
+{
+    match read(card) {
+        Ok(Statement::Origin(expression)) => Some(expression),
+        _ => None,
+    }
+}
+
+/// The value in the source of the expression on the card of a line.
+fn value_on(alloc: Global, line: &str) -> Result<String, Fail> {
+    let deck = deck_of(alloc, SOURCE)?;
+    let slots = lay_out(alloc, 2000, source_of(deck.cards()))?;
+    let columns: [Code; COLUMNS] = columns_of(line)?;
+    let card = Card(columns);
+    let Some(expression) = origin_on(&card) else {
+        return Err(Fail::from("an expression"));
+    };
+    Ok(format!(in alloc; "{:?}", value_in(2000, &slots, expression))?)
+}
+
+#[test]
+fn values_of_addresses(rt: HostRuntime) -> Result<(), Fail> {
+    for (line, value) in [
+        ("|ORG|A|", "At(500)"),
+        ("|ORG|T-1|", "At(508)"),
+        ("|ORG|T&1490|", "At(1999)"),
+        ("|ORG|T&1491|", "Outside"),
+        ("|ORG|T-510|", "Outside"),
+        ("|ORG|LOST|", "Unknown"),
+    ] {
+        assert_eq!(rt; value_on(rt.alloc(), line)?.as_str(), value, "{line}");
+    }
+    Ok(())
+}
+
+/// The literals of the source, with a bar behind each.
+fn literals(alloc: Global) -> Result<String, Fail> {
+    let deck = deck_of(alloc, SOURCE)?;
+    let source = source_of(deck.cards());
+    let slots = lay_out(alloc, 2000, source)?;
+    let mut text = String::new(alloc);
+    for literal in &literals_of(alloc, source, &slots)? {
+        push_glyphs(&mut text, literal.characters())?;
+        text.push('|')?;
+    }
+    Ok(text)
+}
+
+/// The positions that the card of the source with so many cards before it fills.
+fn filled_by(alloc: Global, index: usize) -> Result<String, Fail> {
+    let deck = deck_of(alloc, SOURCE)?;
+    let source = source_of(deck.cards());
+    let slots = lay_out(alloc, 2000, source)?;
+    let literals = literals_of(alloc, source, &slots)?;
+    let card = source.get(index).ok_or("a card")?;
+    let (_, behind) = slots.split_at(index);
+    let [slot, later @ ..] = behind else {
+        return Err(Fail::from("a slot"));
+    };
+    if slot.before > FARTHEST {
+        return Err(Fail::from("a place"));
+    }
+    let line = line_on(true, card);
+    let cells = cells_of(alloc, 2000, &slots, &literals, later, slot, &line)?;
+    image_told(alloc, &cells)
+}
+
+#[test]
+fn what_cards_fill(rt: HostRuntime) -> Result<(), Fail> {
+    let alloc = rt.alloc();
+    assert_eq!(rt; literals(alloc)?.as_str(), "B|");
+    for (index, wanted) in [(2, " 500 ',510501' "), (3, " 508 CD"), (4, " 510 'B")] {
+        assert_eq!(rt; filled_by(alloc, index)?.as_str(), wanted);
+    }
+    Ok(())
+}
+
+/// The number of the lowest fault, 0 for none, of the card of a line in the place of the source's
+/// instruction: in a storage of so many positions, where the card fills a position, which an
+/// earlier card fills too or none.
+fn judged(alloc: Global, size: u16, overlaps: bool, position: u32, line: &str) -> Result<u8, Fail> {
+    let deck = deck_of(alloc, SOURCE)?;
+    let slots = lay_out(alloc, 2000, source_of(deck.cards()))?;
+    let slot = slots.get(2).ok_or("a slot")?;
+    let cell = Cell {
+        position,
+        code: Code::blank(),
+        marked: false,
+    };
+    let columns: [Code; COLUMNS] = columns_of(line)?;
+    let card = Card(columns);
+    let line = line_on(true, &card);
+    match fault_by(size, &slots, overlaps, slot, &[cell], &line) {
+        None => Ok(0),
+        Some(fault) => Ok(fault.number()),
+    }
+}
+
+#[test]
+fn the_lowest_fault(rt: HostRuntime) -> Result<(), Fail> {
+    let known = "A|SW|@B@,A&1|";
+    for (size, overlaps, position, line, number) in [
+        (2000, false, 500, known, 0),
+        (2000, true, 500, known, 48),
+        (2000, true, 80, known, 47),
+        (2000, true, 2000, known, 46),
+        (501, false, 500, known, 46),
+        (2000, true, 2000, "|B|LOST|", 45),
+    ] {
+        let found = judged(rt.alloc(), size, overlaps, position, line)?;
+        assert_eq!(rt; found, number);
+    }
+    Ok(())
+}
+
+#[test]
+fn numbers_of_faults(rt: HostRuntime) -> Result<(), Fail> {
+    for (fault, number) in [
+        (SourceFault::NoMemory, 1),
+        (SourceFault::Statement(StatementFault::BrokenField), 40),
+        (SourceFault::Statement(StatementFault::Operand), 42),
+        (SourceFault::TakenLabel, 44),
+        (SourceFault::UnknownName, 45),
+        (SourceFault::Outside, 46),
+        (SourceFault::Reserved, 47),
+        (SourceFault::Filled, 48),
+        (SourceFault::NoEnd, 49),
+    ] {
+        assert_eq!(rt; fault.number(), number);
+    }
+    Ok(())
+}

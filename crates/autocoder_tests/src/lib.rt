@@ -1,0 +1,17 @@
+//! Worked examples of the assembler, from the statements of single cards to decks that load
+//! themselves.
+//!
+//! It stands above the crates that it shows, so that these are proved without their tests. Cards
+//! are told as on a coding sheet, a line for each, and helpers answer plain texts and numbers.
+#![tactic(auto)]
+
+#[cfg(test)]
+mod coding_sheets;
+#[cfg(test)]
+mod layouts;
+#[cfg(test)]
+mod loading_cards;
+#[cfg(test)]
+mod sources;
+#[cfg(test)]
+mod statement_cards;

@@ -1,0 +1,150 @@
+//! Assemblies of sources from a reader to two writers.
+
+use crate::devices::{Full, Torn};
+use crate::texts::{TWO_LINES, TWO_LINES_LISTING, TWO_LINES_SOURCE, push_blanks, text_of};
+use counter::{Assembled, Status, assemble_deck};
+use std::alloc::Global;
+use std::test::Fail;
+
+/// What an assembly gave, and what it wrote.
+#[derive(Drop)]
+struct Written {
+    answer: Assembled,
+    output: Vec<u8>,
+    errors: Vec<u8>,
+}
+
+/// What an assembly of the source of this text gives.
+fn assembled(alloc: Global, text: &[u8]) -> Result<Written, Fail> {
+    let mut output = Vec::new(alloc);
+    let mut errors = Vec::new(alloc);
+    let answer = assemble_deck(alloc, text, &mut output, &mut errors)?;
+    Ok(Written {
+        answer,
+        output,
+        errors,
+    })
+}
+
+#[test]
+fn a_source_gives_its_listing_and_the_deck_that_runs_it(rt: HostRuntime) -> Result<(), Fail> {
+    let alloc = rt.alloc();
+    let source = text_of(alloc, TWO_LINES_SOURCE)?;
+    let deck = text_of(alloc, TWO_LINES)?;
+    let Written {
+        answer,
+        output,
+        errors,
+    } = assembled(alloc, &source)?;
+    assert_eq!(rt; answer.status, Status::Done);
+    assert!(rt; output.as_slice() == TWO_LINES_LISTING.as_bytes());
+    assert!(rt; errors.is_empty());
+    let written = answer.out.ok_or("a deck")?;
+    assert!(rt; written.as_slice() == deck.as_slice());
+    Ok(())
+}
+
+/// Whether an assembly of the source of this text gives no deck and writes these two texts.
+fn tells(alloc: Global, text: &[u8], output: &str, errors: &str) -> Result<bool, Fail> {
+    let written = assembled(alloc, text)?;
+    let is_none = written.answer.out.is_none();
+    let is_put = written.output.as_slice() == output.as_bytes();
+    let is_told = written.errors.as_slice() == errors.as_bytes();
+    Ok(written.answer.status == Status::Told && is_none && is_put && is_told)
+}
+
+/// Cards of three faults.
+const THREE_FAULTS: &str = "               XYZ
+               B    LOST
+     *A COMMENT";
+
+/// A constant below the places that a program may fill.
+const TOO_LOW: &str = "               ORG  079
+               DCW  @AB@
+               H
+               END
+HELLO";
+
+#[test]
+fn faults_of_a_source_are_told_in_place_of_its_listing(rt: HostRuntime) -> Result<(), Fail> {
+    let alloc = rt.alloc();
+    for (cards, faults) in [
+        (
+            THREE_FAULTS,
+            "card 1 fault 41\ncard 2 fault 45\ncard 3 fault 49\n",
+        ),
+        (TOO_LOW, "card 2 fault 47\n"),
+        ("", "card 0 fault 49\n"),
+    ] {
+        let text = text_of(alloc, cards)?;
+        assert!(rt; tells(alloc, &text, faults, "")?, "at {faults}");
+    }
+    Ok(())
+}
+
+/// The number of bytes of the deck that an assembly gives, told nothing on the second writer.
+fn bytes_given(alloc: Global, text: &[u8]) -> Result<usize, Fail> {
+    let written = assembled(alloc, text)?;
+    if written.answer.status == Status::Done && written.errors.is_empty() {
+        Ok(written.answer.out.ok_or("a deck")?.len())
+    } else {
+        Err("another status".into())
+    }
+}
+
+#[test]
+fn two_thousand_cards_are_written_and_no_more(rt: HostRuntime) -> Result<(), Fail> {
+    let alloc = rt.alloc();
+    let mut text = text_of(alloc, "               END  500")?;
+    push_blanks(&mut text, 1998)?;
+    assert_eq!(rt; bytes_given(alloc, &text)?, 2000 * 81);
+    push_blanks(&mut text, 1)?;
+    assert!(rt; tells(alloc, &text, "", "fault 33\n")?);
+    Ok(())
+}
+
+/// What an assembly from a reader that fails writes.
+fn written_of_torn(alloc: Global) -> Result<(Vec<u8>, Vec<u8>), Fail> {
+    let mut output = Vec::new(alloc);
+    let mut errors = Vec::new(alloc);
+    let answer = assemble_deck(alloc, Torn::unread(), &mut output, &mut errors)?;
+    if answer.status == Status::Told && answer.out.is_none() {
+        Ok((output, errors))
+    } else {
+        Err("another status, or a deck".into())
+    }
+}
+
+#[test]
+fn a_fault_is_told_in_place_of_a_source(rt: HostRuntime) -> Result<(), Fail> {
+    let alloc = rt.alloc();
+    let lower = text_of(alloc, "               END  500\nworld")?;
+    assert!(rt; tells(alloc, &lower, "", "card 2 column 1 fault 31\n")?);
+    let (output, errors) = written_of_torn(alloc)?;
+    assert!(rt; output.is_empty());
+    assert!(rt; errors.as_slice() == b"fault device\n".as_slice());
+    Ok(())
+}
+
+/// Whether an assembly whose output takes so many bytes tells that a device failed, and gives no
+/// deck.
+fn output_fails(alloc: Global, text: &[u8], room: usize) -> Result<bool, Fail> {
+    let mut errors = Vec::new(alloc);
+    let answer = assemble_deck(alloc, text, &mut Full { room }, &mut errors)?;
+    let is_told = errors.as_slice() == b"fault device\n".as_slice();
+    Ok(answer.status == Status::Told && answer.out.is_none() && is_told)
+}
+
+#[test]
+fn a_failing_output_of_an_assembly_is_told(rt: HostRuntime) -> Result<(), Fail> {
+    let alloc = rt.alloc();
+    let good = text_of(alloc, TWO_LINES_SOURCE)?;
+    let faulty = good.get(..4 * 81).ok_or("four cards")?;
+    assert!(rt; output_fails(alloc, &good, 0)?);
+    assert!(rt; output_fails(alloc, &good, 200)?);
+    assert!(rt; output_fails(alloc, faulty, 0)?);
+    assert!(rt; output_fails(alloc, faulty, 15)?);
+    let (mut output, mut errors) = (Full { room: 0 }, Full { room: 5 });
+    assert!(rt; assemble_deck(alloc, good.as_slice(), &mut output, &mut errors).is_err());
+    Ok(())
+}

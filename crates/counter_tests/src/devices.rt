@@ -1,0 +1,47 @@
+//! Readers and writers that fail.
+
+use std::io;
+use std::io::{ErrorKind, Read, Write};
+
+/// Gives a byte, and then fails.
+#[derive(Drop)]
+pub(crate) struct Torn {
+    is_read: bool,
+}
+
+impl Torn {
+    /// A reader that has not given its byte.
+    pub(crate) fn unread() -> Torn {
+        Torn { is_read: false }
+    }
+}
+
+impl Read for Torn {
+    fn read(&mut self, buf: &mut [u8]) -> io::Result<usize> {
+        if self.is_read || buf.is_empty() {
+            return Err(io::Error::from(ErrorKind::TimedOut));
+        }
+        self.is_read = true;
+        buf[0] = b',';
+        Ok(1)
+    }
+}
+
+/// Takes some bytes, and then none.
+#[derive(Drop)]
+pub(crate) struct Full {
+    /// How many bytes it still takes.
+    pub(crate) room: usize,
+}
+
+impl Write for Full {
+    fn write(&mut self, buf: &[u8]) -> io::Result<usize> {
+        let taken = buf.len().min(self.room);
+        self.room -= taken;
+        Ok(taken)
+    }
+
+    fn flush(&mut self) -> io::Result<()> {
+        Ok(())
+    }
+}

@@ -1,0 +1,220 @@
+//! Storage, indicators, orders, standings and switches as numbers, and read again.
+
+use crate::decks::deck_named;
+use bcd::Code;
+use bitflags::Flags;
+use core_store::{Core, FlagCore, Size};
+use machine::{Machine, Parts};
+use pictures::{
+    Media, picture_row, read_picture, read_switches, read_truth, switches_number, truth,
+};
+use std::alloc::Global;
+use std::test::Fail;
+use tables::PictureRow;
+use units::Switches;
+
+/// A row with these numbers and this storage, of a machine that has read a card and made nothing.
+fn row_with(storage: Vec<u8>, compare: u32, waiting: u32, standing: u32) -> PictureRow {
+    PictureRow {
+        storage,
+        i: 1,
+        a: 0,
+        b: 0,
+        compare,
+        overflow: 0,
+        channel: 0,
+        waiting,
+        form: 1,
+        line: 1,
+        taken: 1,
+        cards: 0,
+        lines: 0,
+        standing,
+    }
+}
+
+/// What a machine reads that has made nothing.
+fn media(alloc: Global) -> Result<Media, Fail> {
+    Ok(Media {
+        deck: deck_named(alloc, "two lines")?,
+        switches: Switches::A,
+        cards: Vec::new(alloc),
+        lines: Vec::new(alloc),
+    })
+}
+
+/// The picture of a row, if it is one.
+fn picture_of(alloc: Global, row: &PictureRow) -> Result<Option<Parts<FlagCore>>, Fail> {
+    Ok(read_picture::<FlagCore>(alloc, row, media(alloc)?)?)
+}
+
+/// The row of a machine with these parts.
+fn row_again(alloc: Global, parts: Parts<FlagCore>) -> Result<PictureRow, Fail> {
+    let machine = Machine::from_parts(alloc, parts)?.ok_or("a picture in range")?;
+    Ok(picture_row(alloc, machine.parts())?)
+}
+
+/// What is told of a picture with these numbers: how it compared, the order that waits and the
+/// standing; and the numbers again.
+fn told(alloc: Global, compare: u32, waiting: u32, standing: u32) -> Result<String, Fail> {
+    let storage = vec![in alloc; 0; 1400]?;
+    let row = row_with(storage, compare, waiting, standing);
+    let Some(parts) = picture_of(alloc, &row)? else {
+        return Ok(String::from_str(alloc, "none")?);
+    };
+    let compared = parts.registers.compare;
+    let order = parts.units.printer.carriage.waiting;
+    let stands = parts.standing;
+    let row = row_again(alloc, parts)?;
+    let (compare, waiting, standing) = (row.compare, row.waiting, row.standing);
+    Ok(format!(in alloc; "{compared:?}, {order:?}, {stands:?}: {compare}|{waiting}|{standing}")?)
+}
+
+/// Numbers of a picture, and what they stand for.
+const NUMBERS: &str = "\
+0|0|0|Equal, None, Running
+1|1|1|Low, Some(Space), Halted
+2|2|2|High, Some(DoubleSpace), Checked(Address)
+0|3|3|Equal, Some(TripleSpace), Checked(Instruction)
+0|4|4|Equal, Some(SkipToChannel1), Checked(Data)
+0|0|5|Equal, None, Checked(Overlap)
+0|0|6|Equal, None, Checked(ReaderEmpty)
+0|0|7|Equal, None, Checked(PunchFull)
+0|0|8|Equal, None, Checked(PrinterFull)
+3|0|0|none
+0|5|0|none
+0|0|9|none
+";
+
+/// The number that a text tells.
+fn number_of(text: &str) -> Result<u32, Fail> {
+    Ok(text.parse::<u32>().ok().ok_or("a number")?)
+}
+
+/// The first line of a sheet whose numbers stand for something else than it tells, or are not the
+/// numbers of that; else nothing.
+fn mistold(alloc: Global, sheet: &'static str) -> Result<&'static str, Fail> {
+    for line in sheet.lines() {
+        let (compare, fields) = line.split_once('|').ok_or("how it compared")?;
+        let (waiting, fields) = fields.split_once('|').ok_or("an order")?;
+        let (standing, meaning) = fields.split_once('|').ok_or("a standing")?;
+        let told = told(
+            alloc,
+            number_of(compare)?,
+            number_of(waiting)?,
+            number_of(standing)?,
+        )?;
+        let whole = format!(in alloc; "{meaning}: {compare}|{waiting}|{standing}")?;
+        let wanted = if meaning == "none" {
+            meaning
+        } else {
+            whole.as_str()
+        };
+        if told.as_str() != wanted {
+            return Ok(line);
+        }
+    }
+    Ok("")
+}
+
+#[test]
+fn numbers_of_pictures(rt: HostRuntime) -> Result<(), Fail> {
+    assert_eq!(rt; mistold(rt.alloc(), NUMBERS)?, "");
+    Ok(())
+}
+
+#[test]
+fn switches_and_truth(rt: HostRuntime) {
+    assert_eq!(rt;
+        (switches_number(Switches::A), switches_number(Switches::G)),
+        (1, 64)
+    );
+    assert_eq!(rt; read_switches(127), Some(Switches::from_bits_retain(127)));
+    assert_eq!(rt; read_switches(256), None);
+    assert_eq!(rt; (truth(false), truth(true)), (0, 1));
+    assert_eq!(rt;
+        (read_truth(0), read_truth(1), read_truth(2)),
+        (Some(false), Some(true), None)
+    );
+}
+
+/// A storage of 1400 positions with two characters, of which the second is marked.
+fn marked_core(alloc: Global, glyph: u8) -> Result<FlagCore, Fail> {
+    let code = Code::from_glyph(glyph).ok_or("a glyph")?;
+    let mut core = FlagCore::blank(alloc, Size::Positions1400)?;
+    if core.size() != 1400 {
+        return Err("another size")?;
+    }
+    core.put(1, code);
+    core.put(1399, code);
+    core.set_mark(1399);
+    Ok(core)
+}
+
+/// The picture of a machine with this storage.
+fn parts_with(alloc: Global, core: FlagCore) -> Result<Parts<FlagCore>, Fail> {
+    let row = row_with(vec![in alloc; 0; 1400]?, 0, 0, 0);
+    let Parts {
+        core: _,
+        registers,
+        units,
+        standing,
+    } = picture_of(alloc, &row)?.ok_or("a picture")?;
+    if core.size() < 1400 {
+        return Err("too few positions")?;
+    }
+    Ok(Parts {
+        core,
+        registers,
+        units,
+        standing,
+    })
+}
+
+/// What is told of a storage with two characters and a mark: how many bytes it is, those of the
+/// positions 0, 1 and 1399, and whether they are the same when they are read and written again.
+fn storage_told(alloc: Global) -> Result<String, Fail> {
+    let parts = parts_with(alloc, marked_core(alloc, b'A')?)?;
+    let row = row_again(alloc, parts)?;
+    let read = picture_of(alloc, &row)?.ok_or("a picture")?;
+    let again = row_again(alloc, read)?;
+    let same = again.storage == row.storage;
+    let bytes = row.storage.as_slice();
+    let (first, second, last) = (bytes.get(0), bytes.get(1), bytes.get(1399));
+    let count = bytes.len();
+    Ok(format!(in alloc; "{count} bytes: {first:?}, {second:?}, {last:?}; again {same}")?)
+}
+
+#[test]
+fn a_marked_character_to_a_byte_and_back(rt: HostRuntime) -> Result<(), Fail> {
+    let told = storage_told(rt.alloc())?;
+    assert_eq!(rt;
+        told.as_str(),
+        "1400 bytes: Some(0), Some(49), Some(113); again true"
+    );
+    Ok(())
+}
+
+/// Whether so many bytes, each the same, are the storage of a picture.
+fn is_storage(alloc: Global, count: usize, byte: u8) -> Result<bool, Fail> {
+    let storage = vec![in alloc; byte; count]?;
+    Ok(picture_of(alloc, &row_with(storage, 0, 0, 0))?.is_some())
+}
+
+#[test]
+fn bytes_that_are_storage_and_others(rt: HostRuntime) -> Result<(), Fail> {
+    for (count, byte, wanted) in [
+        (1400, 127, true),
+        (4000, 0, true),
+        (1400, 128, false),
+        (1399, 0, false),
+        (66_936, 0, false),
+    ] {
+        assert_eq!(rt;
+            is_storage(rt.alloc(), count, byte)?,
+            wanted,
+            "{count} of {byte}"
+        );
+    }
+    Ok(())
+}

@@ -1,0 +1,135 @@
+//! A row of each table.
+
+use sqlite::{Alter, Connection, MemStore, Transaction};
+use std::alloc::Global;
+use std::test::Fail;
+use tables::{
+    Fault, JobRow, LineRow, PictureRow, StretchRow, insert_card, insert_job, insert_line,
+    insert_picture, insert_stretch, make_tables,
+};
+
+fn job(alloc: Global) -> Result<JobRow, Fail> {
+    Ok(JobRow {
+        kind: 2,
+        size: 4000,
+        deck: Vec::from_slice(alloc, &[1, 2, 3])?,
+        loaded: Vec::from_slice(alloc, &[4, 5])?,
+        held: 0,
+        collected: 1,
+    })
+}
+
+fn picture(alloc: Global) -> Result<PictureRow, Fail> {
+    Ok(PictureRow {
+        storage: Vec::from_slice(alloc, &[64, 0])?,
+        i: 333,
+        a: 334,
+        b: 335,
+        compare: 1,
+        overflow: 0,
+        channel: 1,
+        waiting: 4,
+        form: 6,
+        line: 7,
+        taken: 8,
+        cards: 9,
+        lines: 10,
+        standing: 5,
+    })
+}
+
+fn line(alloc: Global) -> Result<LineRow, Fail> {
+    Ok(LineRow {
+        form: 11,
+        line: 12,
+        image: Vec::from_slice(alloc, &[13, 14])?,
+    })
+}
+
+/// Makes the tables, with a job and its stretch.
+fn take_job<S: Alter>(tx: &mut Transaction<'_, S>, job: &JobRow) -> Result<(), Fault> {
+    make_tables(tx)?;
+    insert_job(tx, "ACME", 9, job)?;
+    let stretch = StretchRow {
+        switches: 65,
+        granted: 1000,
+    };
+    insert_stretch(tx, "ACME", 9, 0, stretch)
+}
+
+/// Adds the job's picture, a card and a line.
+fn run_job<S: Alter>(
+    tx: &mut Transaction<'_, S>,
+    picture: &PictureRow,
+    line: &LineRow,
+) -> Result<(), Fault> {
+    insert_picture(tx, "ACME", 9, picture)?;
+    insert_card(tx, "ACME", 9, 1, &[15, 16])?;
+    insert_line(tx, "ACME", 9, 1, line)
+}
+
+fn take_again<S: Alter>(tx: &mut Transaction<'_, S>, job: &JobRow) -> Result<(), Fault> {
+    insert_job(tx, "ACME", 9, job)
+}
+
+/// Adds a row to each table, and the job a second time, which is answered with the fault.
+fn fill<S: Alter>(alloc: Global, tx: &mut Transaction<'_, S>) -> Result<Option<Fault>, Fail> {
+    let job = job(alloc)?;
+    let picture = picture(alloc)?;
+    let line = line(alloc)?;
+    take_job(tx, &job)?;
+    run_job(tx, &picture, &line)?;
+    Ok(take_again(tx, &job).err())
+}
+
+/// A connection to tables with a row each.
+fn filled(alloc: Global) -> Result<Connection<MemStore>, Fail> {
+    let mut conn = Connection::open_in_memory(alloc)?;
+    if !conn.is_autocommit() {
+        return Err("in a transaction")?;
+    }
+    let mut tx = conn.transaction();
+    if fill(alloc, &mut tx)? != Some(Fault::Store) {
+        return Err("a job taken twice")?;
+    }
+    tx.commit()?;
+    Ok(conn)
+}
+
+/// The number that a query answers.
+fn number<S: Alter>(conn: &mut Connection<S>, sql: &str) -> Result<i64, Fail> {
+    Ok(conn.query_row(sql, &[])?.get(0)?)
+}
+
+/// Queries, each with the number that it answers.
+const NUMBERS: &str = "\
+1|SELECT version FROM bureau
+1|SELECT count(*) FROM jobs
+1|SELECT count(*) FROM stretches
+1|SELECT count(*) FROM pictures
+1|SELECT count(*) FROM cards
+1|SELECT count(*) FROM lines
+4000|SELECT size FROM jobs
+1000|SELECT granted FROM stretches
+5|SELECT standing FROM pictures
+2|SELECT length(card) FROM cards
+11|SELECT form FROM lines
+";
+
+/// The first query of a sheet that answers another number than the line tells; else nothing.
+fn misanswered(alloc: Global, sheet: &'static str) -> Result<&'static str, Fail> {
+    let mut conn = filled(alloc)?;
+    for line in sheet.lines() {
+        let (wanted, sql) = line.split_once('|').ok_or("a number")?;
+        if wanted.parse::<i64>() != Ok(number(&mut conn, sql)?) {
+            return Ok(line);
+        }
+    }
+    Ok("")
+}
+
+#[test]
+fn each_table_has_its_row(rt: HostRuntime) -> Result<(), Fail> {
+    assert_eq!(rt; misanswered(rt.alloc(), NUMBERS)?, "");
+    Ok(())
+}
