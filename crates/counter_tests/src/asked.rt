@@ -27,8 +27,8 @@ fn reads(
     Ok(words(alloc, given.as_slice()) == wanted)
 }
 
-/// Lines that are no row, and lines with too few values or too many, each before the row it
-/// begins.
+/// Lines with too few values or too many, each with the row that it begins, and lines that begin
+/// none, with `row`.
 const MISREADINGS: &str = "\
 help|row
 Run D 4000 -|row

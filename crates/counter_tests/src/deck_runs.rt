@@ -85,7 +85,7 @@ fn errors_fail(alloc: Global, text: &[u8], room: usize) -> bool {
     run_deck(alloc, text, &mut out, &mut Full { room }, size, switches).is_err()
 }
 
-/// What a run from a reader that fails writes: nothing, and the fault.
+/// What a run from a reader that fails writes.
 fn written_of_torn(alloc: Global) -> Result<(Vec<u8>, Vec<u8>), Fail> {
     let (size, switches) = (Size::Positions4000, Switches::A);
     let mut out = Vec::new(alloc);

@@ -191,7 +191,7 @@ fn places_of_operands_and_signs(rt: HostRuntime) -> Result<(), Fail> {
     Ok(())
 }
 
-/// Registers whose A and B are lowered by so much.
+/// What is told of registers whose A was lowered by 5 and B by 4.
 fn registers_lowered(alloc: Global) -> Result<String, Fail> {
     let mut registers = Registers {
         i: 400,

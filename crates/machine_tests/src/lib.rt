@@ -2,7 +2,8 @@
 //!
 //! A group of cases is a sheet: a text of rows, each with what is given, an arrow, and what comes
 //! out. A kind of case tells what comes out of what is given, and a test asserts that no row of
-//! its sheet is told otherwise. What comes out was worked out by hand from the profile.
+//! its sheet is told otherwise. What comes out was worked out by hand from the profile;
+//! of the characters, another program lists it.
 #![tactic(auto)]
 
 #[cfg(test)]

@@ -64,7 +64,7 @@ fn told(alloc: Global, answer: Result<(), Check>) -> Result<String, Fail> {
 
 /// An operation. Given are its character, the registers A and B, and the texts of some places. Out
 /// come `done` or the check, the registers I, A and B, the indicators, and the texts then.
-pub struct Operation;
+pub(crate) struct Operation;
 
 impl Case for Operation {
     fn outcome(alloc: Global, given: &str) -> Result<String, Fail> {

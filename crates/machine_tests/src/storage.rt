@@ -11,17 +11,17 @@ use std::alloc::Global;
 use std::test::Fail;
 
 /// The character of a glyph.
-pub fn code(glyph: u8) -> Result<Code, Fail> {
+pub(crate) fn code(glyph: u8) -> Result<Code, Fail> {
     Ok(Code::from_glyph(glyph).ok_or("a glyph")?)
 }
 
 /// A blank storage of 1400 positions.
-pub fn blank(alloc: Global) -> Result<FlagCore, Fail> {
+pub(crate) fn blank(alloc: Global) -> Result<FlagCore, Fail> {
     Ok(FlagCore::blank(alloc, Size::Positions1400)?)
 }
 
 /// Lays a text down from a position on.
-pub fn lay(core: &mut FlagCore, first: u16, text: &str) -> Result<(), Fail> {
+pub(crate) fn lay(core: &mut FlagCore, first: u16, text: &str) -> Result<(), Fail> {
     let mut next = first;
     for glyph in text.bytes() {
         if next >= core.size() {
@@ -38,7 +38,7 @@ pub fn lay(core: &mut FlagCore, first: u16, text: &str) -> Result<(), Fail> {
 }
 
 /// Lays the texts of a list of places down.
-pub fn lay_places(core: &mut FlagCore, places: &str) -> Result<(), Fail> {
+pub(crate) fn lay_places(core: &mut FlagCore, places: &str) -> Result<(), Fail> {
     for place in places.split('|') {
         if let Some((first, text)) = place.split_once(' ') {
             lay(core, number(first)?, text)?;
@@ -70,7 +70,12 @@ fn push_character(text: &mut String, core: &FlagCore, position: u16) -> Result<(
 }
 
 /// The text from a position on.
-pub fn text_at(alloc: Global, core: &FlagCore, first: u16, count: u16) -> Result<String, Fail> {
+pub(crate) fn text_at(
+    alloc: Global,
+    core: &FlagCore,
+    first: u16,
+    count: u16,
+) -> Result<String, Fail> {
     let mut text = String::new(alloc);
     for position in first..first.saturating_add(count) {
         push_character(&mut text, core, position)?;
@@ -79,7 +84,7 @@ pub fn text_at(alloc: Global, core: &FlagCore, first: u16, count: u16) -> Result
 }
 
 /// What stands at the places of a list, between bars.
-pub fn at_places(alloc: Global, core: &FlagCore, places: &str) -> Result<String, Fail> {
+pub(crate) fn at_places(alloc: Global, core: &FlagCore, places: &str) -> Result<String, Fail> {
     let mut shown = String::from_str(alloc, "|")?;
     for place in places.split('|') {
         if let Some((first, text)) = place.split_once(' ') {
@@ -92,7 +97,7 @@ pub fn at_places(alloc: Global, core: &FlagCore, places: &str) -> Result<String,
 }
 
 /// The registers I, A and B, and the two indicators.
-pub fn registers_told(alloc: Global, registers: &Registers) -> Result<String, Fail> {
+pub(crate) fn registers_told(alloc: Global, registers: &Registers) -> Result<String, Fail> {
     let Registers {
         i,
         a,
@@ -104,7 +109,7 @@ pub fn registers_told(alloc: Global, registers: &Registers) -> Result<String, Fa
 }
 
 /// A card on which the text stands from the left.
-pub fn card_of(text: &str) -> Card {
+pub(crate) fn card_of(text: &str) -> Card {
     let mut codes = [Code::blank(); COLUMNS];
     for (code, glyph) in codes.iter_mut().zip(text.as_bytes()) {
         *code = Code::from_glyph(*glyph).unwrap_or(Code::blank());
@@ -113,7 +118,7 @@ pub fn card_of(text: &str) -> Card {
 }
 
 /// The text of some characters, without the blanks at its end.
-pub fn text_of(alloc: Global, codes: &[Code]) -> Result<String, Fail> {
+pub(crate) fn text_of(alloc: Global, codes: &[Code]) -> Result<String, Fail> {
     let mut text = String::new(alloc);
     for code in codes {
         text.push(code.glyph() as char)?;

@@ -38,7 +38,7 @@ fn push_cards(text: &mut Vec<u8>, cards: &str) -> Result<(), Fail> {
 }
 
 /// The deck with a name.
-pub fn deck_named(alloc: Global, name: &str) -> Result<Deck, Fail> {
+pub(crate) fn deck_named(alloc: Global, name: &str) -> Result<Deck, Fail> {
     let (program, data) = cards_named(name).ok_or("a deck")?;
     let mut text = Vec::new(alloc);
     push_cards(&mut text, program)?;
