@@ -1,31 +1,33 @@
 //! Addresses that are read, indexed, looked up and stored.
 
-use crate::sheets::{Case, misread, number};
-use crate::storage::{blank, code, lay, text_at};
-use addresses::{decode, encode, indexed, operand, store};
+use crate::sheets::{Case, check, cut, number};
+use crate::storage::{at_places, blank, code, lay};
+use addresses::{Tagged, decode, encode, indexed, operand, store};
 use bcd::Code;
-use core_store::{Core, FlagCore, LARGEST_SIZE, Size};
+use core_store::{Check, Core, FlagCore, LARGEST_SIZE, Size};
 use std::alloc::Global;
 use std::test::Fail;
 
-/// The characters of three glyphs.
-fn three(glyphs: &str) -> Result<[Code; 3], Fail> {
+/// The characters of three glyphs, and blanks where there are not three.
+fn three(glyphs: &str) -> [Code; 3] {
     let bytes = glyphs.as_bytes();
     let [first, second, third] = bytes else {
-        return Err("three glyphs".into());
+        return [Code::blank(); 3];
     };
-    Ok([code(*first)?, code(*second)?, code(*third)?])
+    [code(*first), code(*second), code(*third)]
 }
 
-/// The glyphs with which a number is written.
-fn written(alloc: Global, number: u16) -> Result<String, Fail> {
-    let mut glyphs = String::new(alloc);
-    if number < LARGEST_SIZE {
-        for code in encode(number) {
-            glyphs.push(code.glyph() as char)?;
-        }
+/// The glyphs with which a number below 16000 is written.
+fn written(number: u16) -> [char; 3] {
+    if number >= LARGEST_SIZE {
+        return [' '; 3];
     }
-    Ok(glyphs)
+    let [first, second, third] = encode(number);
+    [
+        first.glyph() as char,
+        second.glyph() as char,
+        third.glyph() as char,
+    ]
 }
 
 /// Reading. Given is an address. Out come its base, its index location, and the base as it is
@@ -34,13 +36,13 @@ struct Reading;
 
 impl Case for Reading {
     fn outcome(alloc: Global, given: &str) -> Result<String, Fail> {
-        let Some(tagged) = decode(three(given)?) else {
+        let Some(tagged) = decode(three(given)) else {
             return Ok(String::from_str(alloc, "unreadable")?);
         };
         let base = tagged.base;
         let index = tagged.index;
-        let written = written(alloc, base)?;
-        Ok(format!(in alloc; "{base} {index:?} {written}")?)
+        let [first, second, third] = written(base);
+        Ok(format!(in alloc; "{base} {index:?} {first}{second}{third}")?)
     }
 }
 
@@ -62,22 +64,26 @@ I9I -> 15999 None I9I
 
 #[test]
 fn addresses_read_and_written(rt: HostRuntime) -> Result<(), Fail> {
-    let odd = misread::<Reading>(rt.alloc(), READINGS)?;
-    assert_eq!(rt; odd.as_str(), "");
-    Ok(())
+    check::<Reading>(rt.alloc(), READINGS)
+}
+
+/// The number that an address represents with this text in the second index location, or the check.
+fn number_of(core: &mut FlagCore, address: Tagged, index: &str) -> Result<u16, Check> {
+    lay(core, 92, index);
+    indexed(core, address)
 }
 
 /// Indexing. Given are an address, and what stands in the second index location of 1400
-/// positions. Out comes the number that the address stands for, or the check.
+/// positions. Out comes the number that the address represents, or the check.
 struct Indexing;
 
 impl Case for Indexing {
     fn outcome(alloc: Global, given: &str) -> Result<String, Fail> {
-        let (address, index) = given.split_once(' ').ok_or("an index")?;
-        let mut core = blank(alloc)?;
-        lay(&mut core, 92, index)?;
-        let tagged = decode(three(address)?).ok_or("an address")?;
-        let number = indexed(&core, tagged);
+        let (address, index) = cut(given, " ");
+        let Some(tagged) = decode(three(address)) else {
+            return Ok(String::new(alloc));
+        };
+        let number = number_of(&mut blank(alloc)?, tagged, index);
         Ok(format!(in alloc; "{number:?}")?)
     }
 }
@@ -92,16 +98,20 @@ const INDEXED: &str = "\
 315 0#5 -> Ok(315)
 ";
 
-/// Operands. Given is an address in 4000 positions, in whose first index location 91 stands. Out
-/// comes the position, or the check.
+/// The position that an address represents with 91 in the first index location, or the check.
+fn position_of(core: &mut FlagCore, address: &str) -> Result<u16, Check> {
+    lay(core, 87, "091");
+    let [first, second, third] = three(address);
+    operand(core, first, second, third)
+}
+
+/// Operands. Given is an address in 4000 positions with 91 in the first index location. Out comes
+/// the position, or the check.
 struct Operand;
 
 impl Case for Operand {
     fn outcome(alloc: Global, given: &str) -> Result<String, Fail> {
-        let mut core = FlagCore::blank(alloc, Size::Positions4000)?;
-        lay(&mut core, 87, "091")?;
-        let [first, second, third] = three(given)?;
-        let position = operand(&core, first, second, third);
+        let position = position_of(&mut FlagCore::blank(alloc, Size::Positions4000)?, given);
         Ok(format!(in alloc; "{position:?}")?)
     }
 }
@@ -118,43 +128,45 @@ I/9 -> Err(Address)
 
 #[test]
 fn index_locations_and_operands(rt: HostRuntime) -> Result<(), Fail> {
-    let odd = misread::<Indexing>(rt.alloc(), INDEXED)?;
-    assert_eq!(rt; odd.as_str(), "");
-    let odd = misread::<Operand>(rt.alloc(), OPERANDS)?;
-    assert_eq!(rt; odd.as_str(), "");
-    Ok(())
+    check::<Indexing>(rt.alloc(), INDEXED)?;
+    check::<Operand>(rt.alloc(), OPERANDS)
 }
 
-/// Storing. Given are a position of 1400 and a number. Out come the answer, and the characters
-/// from three positions before on.
+/// The answer to the storing of a number, and the text at a place then.
+fn stored(
+    alloc: Global,
+    core: &mut FlagCore,
+    position: u16,
+    number: u16,
+    place: &str,
+) -> Result<String, Fail> {
+    let answer = store(core, position, number);
+    let shown = at_places(alloc, core, place)?;
+    Ok(format!(in alloc; "{answer:?} {shown}")?)
+}
+
+/// Storing. Given are a position of 1400, a number and a place. Out come the answer, and the text
+/// at the place then.
 struct Storing;
 
 impl Case for Storing {
     fn outcome(alloc: Global, given: &str) -> Result<String, Fail> {
-        let (position, stored) = given.split_once(' ').ok_or("a number")?;
-        let position = number(position)?;
-        let stored = number(stored)?;
-        let mut core = blank(alloc)?;
-        if stored >= LARGEST_SIZE {
-            return Err("a number below 16000".into());
-        }
-        let answer = store(&mut core, position, stored);
-        let text = text_at(alloc, &core, position.saturating_sub(3), 4)?;
-        Ok(format!(in alloc; "{answer:?} |{text}|")?)
+        let (position, given) = cut(given, " ");
+        let (stored_number, place) = cut(given, "|");
+        let (position, stored_number) = (number(position), number(stored_number));
+        stored(alloc, &mut blank(alloc)?, position, stored_number, place)
     }
 }
 
 /// Numbers in the middle of the storage, at its beginning, and where there is no room.
 const STORED: &str = "\
-500 15999 -> Ok(()) | I9I|
-2 200 -> Ok(()) |200 |
-1 200 -> Err(Address) |    |
-1400 200 -> Err(Address) |   |
+500 15999|497     | -> Ok(()) | I9I|
+2 200|0     | -> Ok(()) |200 |
+1 200|0     | -> Err(Address) |    |
+1400 200|1397    | -> Err(Address) |   |
 ";
 
 #[test]
 fn numbers_stored(rt: HostRuntime) -> Result<(), Fail> {
-    let odd = misread::<Storing>(rt.alloc(), STORED)?;
-    assert_eq!(rt; odd.as_str(), "");
-    Ok(())
+    check::<Storing>(rt.alloc(), STORED)
 }

@@ -1,7 +1,7 @@
 //! Arithmetic and comparison.
 
 use crate::operating::Operation;
-use crate::sheets::misread;
+use crate::sheets::check;
 use std::test::Fail;
 
 /// Sums, differences and changed addresses.
@@ -21,9 +21,7 @@ A 105 110|101 ~00012~00030| -> done 0 100 105 Equal false |~00012~00042|
 
 #[test]
 fn sums_and_differences(rt: HostRuntime) -> Result<(), Fail> {
-    let odd = misread::<Operation>(rt.alloc(), SUMS)?;
-    assert_eq!(rt; odd.as_str(), "");
-    Ok(())
+    check::<Operation>(rt.alloc(), SUMS)
 }
 
 /// Comparisons of fields of one length, and of a shorter one.
@@ -37,9 +35,7 @@ C 102 202|101 ~1Z|201 ~2A| -> done 0 100 200 High false |~1Z|~2A|
 
 #[test]
 fn comparisons(rt: HostRuntime) -> Result<(), Fail> {
-    let odd = misread::<Operation>(rt.alloc(), COMPARISONS)?;
-    assert_eq!(rt; odd.as_str(), "");
-    Ok(())
+    check::<Operation>(rt.alloc(), COMPARISONS)
 }
 
 /// Characters without a value; fields that overlap, whose characters are not looked at then; and
@@ -65,7 +61,5 @@ C 1400 8|4 ~12345| -> Address 0 1400 8 Equal false |~12345|
 
 #[test]
 fn checks_change_nothing(rt: HostRuntime) -> Result<(), Fail> {
-    let odd = misread::<Operation>(rt.alloc(), CHECKS)?;
-    assert_eq!(rt; odd.as_str(), "");
-    Ok(())
+    check::<Operation>(rt.alloc(), CHECKS)
 }

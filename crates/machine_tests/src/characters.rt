@@ -1,6 +1,6 @@
 //! The characters: their glyphs, zones, values, punches and ranks.
 
-use crate::sheets::{Case, misread};
+use crate::sheets::{Case, check};
 use bcd::Code;
 use std::alloc::Global;
 use std::test::Fail;
@@ -27,8 +27,9 @@ struct Character;
 
 impl Case for Character {
     fn outcome(alloc: Global, given: &str) -> Result<String, Fail> {
-        let number = given.parse::<u8>().ok().ok_or("a number")?;
-        let code = Code::from_number(number).ok_or("a character")?;
+        let Some(code) = given.parse::<u8>().ok().and_then(Code::from_number) else {
+            return Ok(String::new(alloc));
+        };
         let glyph = code.glyph() as char;
         let zone = code.zone();
         let value = value_of(code);
@@ -112,10 +113,8 @@ const CHARACTERS: &str = "\
 
 #[test]
 fn all_as_listed(rt: HostRuntime) -> Result<(), Fail> {
-    let odd = misread::<Character>(rt.alloc(), CHARACTERS)?;
-    assert_eq!(rt; odd.as_str(), "");
-    assert_eq!(rt; CHARACTERS.lines().count(), 64);
-    Ok(())
+    assert!(rt; CHARACTERS.lines().count() == 64);
+    check::<Character>(rt.alloc(), CHARACTERS)
 }
 
 /// How many patterns of punches are read as characters with these punches.
@@ -132,11 +131,10 @@ fn patterns_read() -> u16 {
 }
 
 #[test]
-fn what_is_no_character(rt: HostRuntime) -> Result<(), Fail> {
-    assert_eq!(rt; patterns_read(), 64);
-    assert_eq!(rt; number_of(Code::of_punches(0xFFF)), 99);
-    assert_eq!(rt; number_of(Code::from_glyph(b'a')), 99);
-    assert_eq!(rt; number_of(Code::from_number(64)), 99);
-    assert_eq!(rt; Code::blank().glyph(), b' ');
-    Ok(())
+fn what_is_no_character(rt: HostRuntime) {
+    assert!(rt; patterns_read() == 64);
+    assert!(rt; number_of(Code::of_punches(0xFFF)) == 99);
+    assert!(rt; number_of(Code::from_glyph(b'a')) == 99);
+    assert!(rt; number_of(Code::from_number(64)) == 99);
+    assert!(rt; Code::blank().glyph() == b' ');
 }

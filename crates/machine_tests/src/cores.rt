@@ -1,60 +1,58 @@
 //! Storages with their marks, sizes, and registers.
 
-use crate::sheets::{Case, misread, number};
-use crate::storage::{blank, code, registers_told};
+use crate::sheets::{Case, check, cut, number};
+use crate::storage::{blank, code};
 use core_store::{
     Compared, Core, FlagCore, PlaneCore, Registers, Size, are_inside, cut_length, field_length,
     is_minus, lowered, overlaps,
 };
-use std::alloc::Global;
+use std::alloc::{AllocError, Global};
 use std::test::Fail;
 
 /// Sets a mark, or clears it where the word begins with `-`.
-fn mark<C: Core>(core: &mut C, word: &str) -> Result<(), Fail> {
+fn mark<C: Core>(core: &mut C, word: &str) {
     let cleared = word.strip_prefix('-');
-    let position = number(cleared.unwrap_or(word))?;
+    let position = number(cleared.unwrap_or(word));
     if position >= core.size() {
-        return Err("a position".into());
+        return;
     }
     if cleared.is_some() {
         core.clear_mark(position);
     } else {
         core.set_mark(position);
     }
-    Ok(())
 }
 
-/// The marks that are found from a position on downwards, and in the next eight positions, once
+/// The marks that are found from a position on downwards, and in the next eight positions, after
 /// marks were set and cleared.
 fn found<C: Core>(
     alloc: Global,
     position: u16,
     marks: &str,
-) -> Result<(Option<u16>, Option<u16>), Fail> {
+) -> Result<(Option<u16>, Option<u16>), AllocError> {
     let mut core = C::blank(alloc, Size::Positions1400)?;
     for word in marks.split_whitespace() {
-        mark(&mut core, word)?;
+        mark(&mut core, word);
     }
     if position >= core.size() {
-        return Err("a position".into());
+        return Ok((None, None));
     }
     Ok((core.mark_at_or_below(position), core.mark_after(position)))
 }
 
 /// The search for marks. Given are a position of 1400, and the marks that are set and cleared. Out
-/// come the mark that is found downwards and that among the next eight positions, which are the
-/// same for both ways of keeping them.
+/// come the mark that is found downwards and that among the next eight positions, by both ways of
+/// keeping them.
 struct Search;
 
 impl Case for Search {
     fn outcome(alloc: Global, given: &str) -> Result<String, Fail> {
-        let (position, marks) = given.split_once('|').ok_or("marks")?;
-        let position = number(position)?;
-        let answer = found::<FlagCore>(alloc, position, marks)?;
-        if answer != found::<PlaneCore>(alloc, position, marks)? {
+        let (position, marks) = cut(given, "|");
+        let position = number(position);
+        let (below, after) = found::<FlagCore>(alloc, position, marks)?;
+        if (below, after) != found::<PlaneCore>(alloc, position, marks)? {
             return Err("two answers".into());
         }
-        let (below, after) = answer;
         Ok(format!(in alloc; "{below:?} {after:?}")?)
     }
 }
@@ -78,41 +76,48 @@ const SEARCHES: &str = "\
 
 #[test]
 fn marks_are_found_near_and_far(rt: HostRuntime) -> Result<(), Fail> {
-    let odd = misread::<Search>(rt.alloc(), SEARCHES)?;
-    assert_eq!(rt; odd.as_str(), "");
-    Ok(())
+    check::<Search>(rt.alloc(), SEARCHES)
 }
 
-/// What stands at the last of 2000 positions: its glyph and its mark.
-fn last_of<C: Core>(core: &C) -> (u8, bool) {
-    if core.size() == 2000 {
-        (core.get(1999).glyph(), core.is_marked(1999))
-    } else {
-        (b' ', false)
-    }
+/// Whether an `A` stands at the last of 2000 positions, marked or not.
+fn ends_with_a<C: Core>(core: &C, is_marked: bool) -> bool {
+    core.size() == 2000 && core.get(1999) == code(b'A') && core.is_marked(1999) == is_marked
 }
 
-/// The last of 2000 positions once a letter is put there, and that of a copy of the storage once
-/// it is marked.
-fn kept<C: Core>(alloc: Global) -> Result<(u8, bool, u8, bool), Fail> {
+/// Whether the last of 2000 positions has no mark after a letter was put there, and both in a copy
+/// of the storage after it was marked.
+fn keeps<C: Core>(alloc: Global) -> Result<bool, AllocError> {
     let mut core = C::blank(alloc, Size::Positions2000)?;
     let mut copy = C::blank(alloc, Size::Positions2000)?;
     if core.size() != 2000 || copy.size() != 2000 {
-        return Err("2000 positions".into());
+        return Ok(false);
     }
-    core.put(1999, code(b'A')?);
-    let (letter, marked) = last_of(&core);
+    core.put(1999, code(b'A'));
+    let is_unmarked = ends_with_a(&core, false);
     core.set_mark(1999);
     copy.copy_from(&core);
-    let (copied, copy_marked) = last_of(&copy);
-    Ok((letter, marked, copied, copy_marked))
+    Ok(is_unmarked && ends_with_a(&copy, true))
 }
 
 #[test]
 fn characters_and_marks_are_kept_apart(rt: HostRuntime) -> Result<(), Fail> {
-    assert_eq!(rt; kept::<FlagCore>(rt.alloc())?, (b'A', false, b'A', true));
-    assert_eq!(rt; kept::<PlaneCore>(rt.alloc())?, (b'A', false, b'A', true));
+    assert!(rt; keeps::<FlagCore>(rt.alloc())?);
+    assert!(rt; keeps::<PlaneCore>(rt.alloc())?);
     Ok(())
+}
+
+/// The lengths of the field at a position, and of its cut, with 010 alone marked.
+fn lengths(core: &mut FlagCore, position: u16, limit: u16) -> (Option<u16>, Option<u16>) {
+    if core.size() > 10 {
+        core.set_mark(10);
+    }
+    if position >= core.size() || limit == 0 {
+        return (None, None);
+    }
+    (
+        field_length(core, position),
+        cut_length(core, position, limit),
+    )
 }
 
 /// Fields and cuts. Given are a position and a limit, in a storage that is marked at 010 alone. Out
@@ -121,18 +126,8 @@ struct Cut;
 
 impl Case for Cut {
     fn outcome(alloc: Global, given: &str) -> Result<String, Fail> {
-        let (position, limit) = given.split_once(' ').ok_or("a limit")?;
-        let position = number(position)?;
-        let limit = number(limit)?;
-        let mut core = blank(alloc)?;
-        if core.size() > 10 {
-            core.set_mark(10);
-        }
-        if position >= core.size() || limit == 0 {
-            return Err("a position and a limit".into());
-        }
-        let field = field_length(&core, position);
-        let cut = cut_length(&core, position, limit);
+        let (position, limit) = cut(given, " ");
+        let (field, cut) = lengths(&mut blank(alloc)?, number(position), number(limit));
         Ok(format!(in alloc; "{field:?} {cut:?}")?)
     }
 }
@@ -147,52 +142,47 @@ const CUTS: &str = "\
 
 #[test]
 fn fields_and_cuts(rt: HostRuntime) -> Result<(), Fail> {
-    let odd = misread::<Cut>(rt.alloc(), CUTS)?;
-    assert_eq!(rt; odd.as_str(), "");
-    Ok(())
+    check::<Cut>(rt.alloc(), CUTS)
 }
 
 /// Whether both are positions of a storage of 1400.
-fn both_inside(alloc: Global, a: u16, b: u16) -> Result<bool, Fail> {
-    let core = blank(alloc)?;
-    Ok(are_inside(&core, a, b))
-}
-
-/// Whether a field with this character at its units position is minus.
-fn makes_minus(alloc: Global, glyph: u8) -> Result<bool, Fail> {
-    let mut core = blank(alloc)?;
-    let code = code(glyph)?;
-    if core.size() <= 7 {
-        return Err("a position".into());
-    }
-    core.put(7, code);
-    if core.size() <= 7 {
-        return Err("a position".into());
-    }
-    Ok(is_minus(&core, 7))
+fn both_inside(alloc: Global, a: u16, b: u16) -> Result<bool, AllocError> {
+    Ok(are_inside(&blank(alloc)?, a, b))
 }
 
 #[test]
-fn places_of_operands_and_signs(rt: HostRuntime) -> Result<(), Fail> {
-    for (a, b, inside) in [(0, 1399, true), (1400, 0, false), (0, 1400, false)] {
-        assert_eq!(rt; both_inside(rt.alloc(), a, b)?, inside, "{a} {b}");
-    }
-    for (a, b, count, overlapping) in [
-        (105, 103, 3, true),
-        (105, 103, 2, false),
-        (105, 105, 3, false),
-        (103, 105, 3, false),
-    ] {
-        assert_eq!(rt; overlaps(a, b, count), overlapping, "{a} {b} {count}");
-    }
-    for (glyph, minus) in [(b'5', false), (b'V', false), (b'N', true), (b'E', false)] {
-        assert_eq!(rt; makes_minus(rt.alloc(), glyph)?, minus, "{glyph}");
-    }
+fn places_of_operands(rt: HostRuntime) -> Result<(), Fail> {
+    assert!(rt; both_inside(rt.alloc(), 0, 1399)?);
+    assert!(rt; !both_inside(rt.alloc(), 1400, 0)?);
+    assert!(rt; !both_inside(rt.alloc(), 0, 1400)?);
+    assert!(rt; overlaps(105, 103, 3));
+    assert!(rt; !overlaps(105, 103, 2));
+    assert!(rt; !overlaps(105, 105, 3));
+    assert!(rt; !overlaps(103, 105, 3));
     Ok(())
 }
 
-/// What is told of registers whose A was lowered by 5 and B by 4.
-fn registers_lowered(alloc: Global) -> Result<String, Fail> {
+/// Which of the glyphs `5`, `V`, `N` and `E` at its units position make a field minus.
+fn minus_signs(core: &mut FlagCore) -> [bool; 4] {
+    let mut signs = [false; 4];
+    for (sign, glyph) in signs.iter_mut().zip(b"5VNE") {
+        if core.size() > 7 {
+            core.put(7, code(*glyph));
+        }
+        *sign = core.size() > 7 && is_minus(core, 7);
+    }
+    signs
+}
+
+#[test]
+fn signs_of_fields(rt: HostRuntime) -> Result<(), Fail> {
+    let signs = minus_signs(&mut blank(rt.alloc())?);
+    assert!(rt; signs == [false, false, true, false]);
+    Ok(())
+}
+
+/// Whether the registers A and B, lowered by 5 and by 4, are lowered so, and the others stay.
+fn are_lowered() -> bool {
     let mut registers = Registers {
         i: 400,
         a: 105,
@@ -201,25 +191,28 @@ fn registers_lowered(alloc: Global) -> Result<String, Fail> {
         overflow: true,
     };
     registers.lower(5, 4);
-    registers_told(alloc, &registers)
+    let Registers {
+        i,
+        a,
+        b,
+        compare,
+        overflow,
+    } = registers;
+    (i, a, b) == (400, 100, 15999) && compare == Compared::High && overflow
 }
 
-/// The positions of the size with so many positions.
-fn positions_of(positions: u16) -> Option<u16> {
+/// Whether there is a size of so many positions.
+fn is_size(positions: u16) -> bool {
     match Size::of_positions(positions) {
-        Some(size) => Some(size.positions()),
-        None => None,
+        Some(size) => size.positions() == positions,
+        None => false,
     }
 }
 
 #[test]
-fn registers_and_sizes(rt: HostRuntime) -> Result<(), Fail> {
-    let registers = registers_lowered(rt.alloc())?;
-    assert_eq!(rt; registers.as_str(), "400 100 15999 High true");
-    assert_eq!(rt; lowered(0, 1), 15999);
-    for positions in [1400, 2000, 4000] {
-        assert_eq!(rt; positions_of(positions), Some(positions));
-    }
-    assert_eq!(rt; positions_of(1399), None);
-    Ok(())
+fn registers_and_sizes(rt: HostRuntime) {
+    assert!(rt; are_lowered());
+    assert!(rt; lowered(0, 1) == 15999);
+    assert!(rt; is_size(1400) && is_size(2000) && is_size(4000));
+    assert!(rt; !is_size(1399));
 }

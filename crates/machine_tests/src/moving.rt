@@ -1,7 +1,7 @@
 //! Moves, suppression and edit, word marks, and the clearing of storage.
 
 use crate::operating::Operation;
-use crate::sheets::misread;
+use crate::sheets::check;
 use std::test::Fail;
 
 /// Fields, numeric parts and zones that are moved, and marks that are set and cleared.
@@ -24,9 +24,7 @@ L 107 104|102    ~123| -> done 0 104 101 Equal false |~123~123|
 
 #[test]
 fn fields_moved_and_marks(rt: HostRuntime) -> Result<(), Fail> {
-    let odd = misread::<Operation>(rt.alloc(), MOVES)?;
-    assert_eq!(rt; odd.as_str(), "");
-    Ok(())
+    check::<Operation>(rt.alloc(), MOVES)
 }
 
 /// Zeros that are suppressed, and controls under which data are edited.
@@ -52,9 +50,7 @@ E 104 205|101 ~0,12|201 ~ 00  | -> done 0 100 200 Equal false |~0,12|   12|
 
 #[test]
 fn zeros_suppressed_and_data_edited(rt: HostRuntime) -> Result<(), Fail> {
-    let odd = misread::<Operation>(rt.alloc(), EDITS)?;
-    assert_eq!(rt; odd.as_str(), "");
-    Ok(())
+    check::<Operation>(rt.alloc(), EDITS)
 }
 
 /// Fields that are written over, positions outside the storage, and fields that would pass
@@ -85,7 +81,5 @@ E 8 3|0     ~     | -> Address 0 8 3 Equal false |    ~     |
 
 #[test]
 fn checks_change_nothing(rt: HostRuntime) -> Result<(), Fail> {
-    let odd = misread::<Operation>(rt.alloc(), CHECKS)?;
-    assert_eq!(rt; odd.as_str(), "");
-    Ok(())
+    check::<Operation>(rt.alloc(), CHECKS)
 }

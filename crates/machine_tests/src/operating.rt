@@ -1,13 +1,13 @@
 //! Single operations of arithmetic and of moves.
 
-use crate::sheets::{Case, number};
-use crate::storage::{at_places, blank, lay_places, registers_told};
+use crate::sheets::{Case, cut, number};
+use crate::storage::{at_places, blank, lay_places, registers_shown};
 use arith::{add, compare, modify, subtract, zero_add, zero_subtract};
 use core_store::{Check, Compared, FlagCore, Registers};
 use moves::{
     clear_mark, clear_storage, digit, edit, load_field, move_field, set_mark, suppress, zone,
 };
-use std::alloc::Global;
+use std::alloc::{AllocError, Global};
 use std::test::Fail;
 
 /// Does the operation that a character names.
@@ -42,24 +42,36 @@ fn operate_move(
     }
 }
 
-/// The registers of a case: A and B as told, the others at rest.
-fn registers_at(places: &str) -> Result<Registers, Fail> {
-    let (a, b) = places.split_once(' ').ok_or("two registers")?;
-    Ok(Registers {
+/// The registers of a case: A and B as given, the others at rest.
+fn registers_at(places: &str) -> Registers {
+    let (a, b) = cut(places, " ");
+    Registers {
         i: 0,
-        a: number(a)?,
-        b: number(b)?,
+        a: number(a),
+        b: number(b),
         compare: Compared::Equal,
         overflow: false,
-    })
+    }
 }
 
 /// `done`, or the name of the check.
-fn told(alloc: Global, answer: Result<(), Check>) -> Result<String, Fail> {
+fn answer_shown(alloc: Global, answer: Result<(), Check>) -> Result<String, AllocError> {
     match answer {
-        Ok(()) => Ok(String::from_str(alloc, "done")?),
-        Err(check) => Ok(format!(in alloc; "{check:?}")?),
+        Ok(()) => String::from_str(alloc, "done"),
+        Err(check) => format!(in alloc; "{check:?}"),
     }
+}
+
+/// Lays the places down, does the operation, and shows what is there then.
+fn operated(alloc: Global, core: &mut FlagCore, order: &str, places: &str) -> Result<String, Fail> {
+    lay_places(core, places);
+    let (operation, addresses) = cut(order, " ");
+    let mut registers = registers_at(addresses);
+    let answer = operate(operation, core, &mut registers);
+    let answer = answer_shown(alloc, answer)?;
+    let registers = registers_shown(alloc, &registers)?;
+    let shown = at_places(alloc, core, places)?;
+    Ok(format!(in alloc; "{answer} {registers} {shown}")?)
 }
 
 /// An operation. Given are its character, the registers A and B, and the texts of some places. Out
@@ -68,14 +80,7 @@ pub(crate) struct Operation;
 
 impl Case for Operation {
     fn outcome(alloc: Global, given: &str) -> Result<String, Fail> {
-        let (order, places) = given.split_once('|').ok_or("places")?;
-        let (operation, addresses) = order.split_once(' ').ok_or("registers")?;
-        let mut core = blank(alloc)?;
-        lay_places(&mut core, places)?;
-        let mut registers = registers_at(addresses)?;
-        let answer = told(alloc, operate(operation, &mut core, &mut registers))?;
-        let registers = registers_told(alloc, &registers)?;
-        let shown = at_places(alloc, &core, places)?;
-        Ok(format!(in alloc; "{answer} {registers} {shown}")?)
+        let (order, places) = cut(given, "|");
+        operated(alloc, &mut blank(alloc)?, order, places)
     }
 }

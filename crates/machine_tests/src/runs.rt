@@ -1,57 +1,22 @@
-//! Whole runs of small decks.
+//! Runs of small decks in pieces, and the pictures between them.
+//!
+//! Whole runs with their listings are in `cases/`, by the decks that the program runs.
 
-use crate::sheets::{Case, in_one_line, misread, number};
+use crate::machines::{deck_of, new_units};
+use crate::sheets::{Case, check, cut, number};
 use crate::storage::text_of;
+use bcd::Code;
 use bitflags::Flags;
-use cards::{Deck, read_text};
+use cards::{Deck, DeckFault};
 use core_store::{Core, FlagCore, Size};
 use machine::{Machine, Meter, Parts, Standing};
-use std::alloc::Global;
+use std::alloc::{AllocError, Global};
 use std::test::Fail;
-use units::{Hopper, Printer, Punch, Switches, Units, render};
-
-/// The loading cards of a program that prints each data card, until the last one.
-const LIST_CARDS: [&str; 4] = [
-    ",008015,022029,036040,047054,061068,072)008015)022029)036036N0000001040",
-    "/332/,0011M0802802B360A                L023355,337338,342343,3503511040",
-    "B342.                                  L006361,360361N000000N0000001040",
-    "                                       /333080",
-];
-
-/// Adds a card without its trailing blanks.
-fn push_card(text: &mut Vec<u8>, card: &str) -> Result<(), Fail> {
-    text.extend_from_slice(card.as_bytes())?;
-    for _ in card.len()..80 {
-        text.push(b' ')?;
-    }
-    text.push(b'\n')?;
-    Ok(())
-}
-
-/// Adds cards, between which semicolons stand; the word `list` stands for the loading cards above.
-fn push_cards(text: &mut Vec<u8>, cards: &str) -> Result<(), Fail> {
-    for card in cards.split(';') {
-        if card == "list" {
-            for loading in LIST_CARDS {
-                push_card(text, loading)?;
-            }
-        } else {
-            push_card(text, card)?;
-        }
-    }
-    Ok(())
-}
-
-/// The deck of these cards.
-fn deck_of(alloc: Global, cards: &str) -> Result<Deck, Fail> {
-    let mut text = Vec::new(alloc);
-    push_cards(&mut text, cards)?;
-    Ok(read_text(alloc, &text)?)
-}
+use units::{Switches, Units};
 
 /// A machine after the load button.
 fn load(alloc: Global, size: &str, switch: &str, cards: &str) -> Result<Machine<FlagCore>, Fail> {
-    let size = Size::of_positions(number(size)?).ok_or("a size")?;
+    let size = Size::of_positions(number(size)).ok_or("a size")?;
     let switches = if switch == "A" {
         Switches::A
     } else {
@@ -65,25 +30,16 @@ fn load(alloc: Global, size: &str, switch: &str, cards: &str) -> Result<Machine<
 }
 
 /// Units put together again from those of a picture that has punched nothing.
-fn units_of(alloc: Global, units: &Units) -> Result<Units, Fail> {
+fn units_of(alloc: Global, units: &Units) -> Result<Units, DeckFault> {
     let mut deck = Deck::empty(alloc);
     for card in units.hopper.deck.cards() {
         deck.push(*card)?;
     }
-    Ok(Units {
-        hopper: Hopper {
-            deck,
-            taken: units.hopper.taken,
-        },
-        punch: Punch {
-            cards: Vec::new(alloc),
-        },
-        printer: Printer {
-            lines: units.printer.lines.clone()?,
-            carriage: units.printer.carriage,
-        },
-        switches: units.switches,
-    })
+    let lines = units.printer.lines.clone()?;
+    let mut copied = new_units(alloc, deck, units.hopper.taken, units.switches);
+    copied.printer.lines = lines;
+    copied.printer.carriage = units.printer.carriage;
+    Ok(copied)
 }
 
 /// A picture put together again from its fields.
@@ -116,7 +72,7 @@ fn put_wrong(parts: &mut Parts<FlagCore>, wrong: &str) {
         "register" => parts.registers.b = 16000,
         "carriage" => parts.units.printer.carriage.line = 67,
         "no card read" => parts.units.hopper.taken = 0,
-        "a card behind the deck" => parts.units.hopper.taken = 7,
+        "a card past the deck" => parts.units.hopper.taken = 7,
         "lines backwards" => parts.units.printer.lines.reverse(),
         _ => {}
     }
@@ -131,21 +87,26 @@ fn start(machine: &mut Machine<FlagCore>) -> Result<(), Fail> {
     Ok(())
 }
 
-/// Runs a machine, and tells how many instructions were done and how it stands.
+/// Runs a machine, and shows how many instructions were done and how it stands.
 fn run(
     alloc: Global,
     machine: &mut Machine<FlagCore>,
     meter: &mut Meter,
     limit: u16,
-) -> Result<String, Fail> {
+) -> Result<String, AllocError> {
     let ran = machine.run(limit as u32, meter)?;
     let executed = ran.executed;
     let standing = ran.standing;
-    Ok(format!(in alloc; "{executed} {standing:?} ")?)
+    format!(in alloc; "{executed} {standing:?} ")
 }
 
-/// Does one order: `start`, `copy`, which goes on with the machine of a copy of the picture, or
-/// the limit of a run.
+/// Goes on with the machine of a copy of the picture.
+fn copy(alloc: Global, machine: &mut Machine<FlagCore>) -> Result<(), Fail> {
+    *machine = remade(alloc, machine, "")?.ok_or("a picture in range")?;
+    Ok(())
+}
+
+/// Does one order: `start`, `copy`, or the limit of a run.
 fn follow(
     alloc: Global,
     machine: &mut Machine<FlagCore>,
@@ -154,35 +115,49 @@ fn follow(
 ) -> Result<String, Fail> {
     match order {
         "start" => start(machine)?,
-        "copy" => *machine = remade(alloc, machine, "")?.ok_or("a picture in range")?,
-        limit => return run(alloc, machine, meter, number(limit)?),
+        "copy" => copy(alloc, machine)?,
+        limit => return Ok(run(alloc, machine, meter, number(limit))?),
     }
     Ok(String::new(alloc))
 }
 
-/// What a machine has punched.
-fn punched(alloc: Global, machine: &Machine<FlagCore>) -> Result<String, Fail> {
-    let mut text = String::new(alloc);
-    for card in &machine.parts().units.punch.cards {
-        text.push_str(&text_of(alloc, &card.0)?)?;
-        text.push('n')?;
-    }
-    Ok(text)
+/// Adds a text without the blanks at its end, and a bar.
+fn push_text(made: &mut String, alloc: Global, codes: &[Code]) -> Result<(), AllocError> {
+    made.push_str(&text_of(alloc, codes)?)?;
+    made.push('|')
 }
 
-/// What a machine has printed.
-fn printed(alloc: Global, machine: &Machine<FlagCore>) -> Result<String, Fail> {
-    let listing = render(alloc, &machine.parts().units.printer.lines)?;
-    in_one_line(alloc, &listing)
+/// The cards that a machine has punched, and the lines that it has printed.
+fn made(alloc: Global, machine: &Machine<FlagCore>) -> Result<String, AllocError> {
+    let mut made = String::from_str(alloc, "punched |")?;
+    for card in &machine.parts().units.punch.cards {
+        push_text(&mut made, alloc, &card.0)?;
+    }
+    made.push_str(" printed |")?;
+    for line in &machine.parts().units.printer.lines {
+        push_text(&mut made, alloc, &line.codes)?;
+    }
+    Ok(made)
 }
 
 /// Where a machine stands, and what it has made.
-fn told(alloc: Global, machine: &Machine<FlagCore>) -> Result<String, Fail> {
+fn state(alloc: Global, machine: &Machine<FlagCore>) -> Result<String, AllocError> {
     let next = machine.parts().registers.i;
     let line = machine.parts().units.printer.carriage.line;
-    let punched = punched(alloc, machine)?;
-    let printed = printed(alloc, machine)?;
-    Ok(format!(in alloc; "next {next} line {line} punched |{punched}| printed |{printed}|")?)
+    let made = made(alloc, machine)?;
+    format!(in alloc; "next {next} line {line} {made}")
+}
+
+/// Does the orders, and shows each run, the ticks of the meter, and the machine then.
+fn followed(alloc: Global, machine: &mut Machine<FlagCore>, orders: &str) -> Result<String, Fail> {
+    let mut meter = Meter::new();
+    let mut runs = String::new(alloc);
+    for order in orders.split_whitespace() {
+        runs.push_str(&follow(alloc, machine, &mut meter, order)?)?;
+    }
+    let ticks = meter.ticks();
+    let state = state(alloc, machine)?;
+    Ok(format!(in alloc; "{runs}ticks {ticks} {state}")?)
 }
 
 /// Runs. Given are the size, the switch that is on, the cards, and orders. Out come, for each run,
@@ -192,44 +167,41 @@ struct Runs;
 
 impl Case for Runs {
     fn outcome(alloc: Global, given: &str) -> Result<String, Fail> {
-        let (size, given) = given.split_once('|').ok_or("a switch")?;
-        let (switch, given) = given.split_once('|').ok_or("cards")?;
-        let (cards, orders) = given.split_once('|').ok_or("orders")?;
-        let mut machine = load(alloc, size, switch, cards)?;
-        let mut meter = Meter::new();
-        let mut runs = String::new(alloc);
-        for order in orders.split_whitespace() {
-            let ran = follow(alloc, &mut machine, &mut meter, order)?;
-            runs.push_str(&ran)?;
-        }
-        let ticks = meter.ticks();
-        let told = told(alloc, &machine)?;
-        Ok(format!(in alloc; "{runs}ticks {ticks} {told}")?)
+        let (size, given) = cut(given, "|");
+        let (switch, given) = cut(given, "|");
+        let (cards, orders) = cut(given, "|");
+        followed(alloc, &mut load(alloc, size, switch, cards)?, orders)
     }
 }
 
-/// Cards that are printed as lines; a start behind the halt; runs that do not halt; orders to the
+/// Cards that are printed as lines; a start after the halt; runs that do not halt; orders to the
 /// carriage; cards that are punched; and a machine that goes on from its picture.
 const RUNS: &str = "\
-4000|A|list;HELLO;WORLD|34 -> 34 Running ticks 34 next 360 line 3 punched || printed |HELLOnWORLDn|
-4000|A|list;HELLO;WORLD|34 2000 -> 34 Running 1 Halted ticks 35 next 361 line 3 punched || printed |HELLOnWORLDn|
-1400|A|list;HELLO|2000 -> 30 Halted ticks 30 next 361 line 2 punched || printed |HELLOn|
-1400|A|list;HELLO|2000 start 10 -> 30 Halted 0 Checked(Instruction) ticks 31 next 361 line 2 punched || printed |HELLOn|
-4000|A|list|2000 -> 25 Checked(ReaderEmpty) ticks 26 next 342 line 1 punched || printed ||
-4000|A|,008012B008|2000 -> 2000 Running ticks 2000 next 8 line 1 punched || printed ||
-4000|A|,008015L000200|2000 -> 1 Checked(Address) ticks 2 next 8 line 1 punched || printed ||
-1400||,008015,022029,030032,0330342FK2.|2000 -> 8 Halted ticks 8 next 34 line 5 punched || printed |nnnn|
-1400||,008015,022029,030032,0330342F12.|2000 -> 8 Halted ticks 8 next 34 line 2 punched || printed |nfn|
-1400||,008015,022029,030032,0330342FS2.|2000 -> 8 Halted ticks 8 next 34 line 4 punched || printed |nn|
-1400||,008015,022029,030031,032033444.|2000 -> 8 Halted ticks 8 next 33 line 1 punched |nnn| printed ||
-1400|A|list;HELLO;WORLD|30 copy 2000 -> 30 Running 5 Halted ticks 35 next 361 line 3 punched || printed |HELLOnWORLDn|
+4000|A|list;HELLO;WORLD|34 -> 34 Running ticks 34 next 360 line 3 punched | printed |HELLO|WORLD|
+4000|A|list;HELLO;WORLD|34 2000 -> 34 Running 1 Halted ticks 35 next 361 line 3 punched | printed |HELLO|WORLD|
+1400|A|list;HELLO|2000 -> 30 Halted ticks 30 next 361 line 2 punched | printed |HELLO|
+1400|A|list;HELLO|2000 start 10 -> 30 Halted 0 Checked(Instruction) ticks 31 next 361 line 2 punched | printed |HELLO|
+4000|A|list|2000 -> 25 Checked(ReaderEmpty) ticks 26 next 342 line 1 punched | printed |
+4000|A|,008012B008|2000 -> 2000 Running ticks 2000 next 8 line 1 punched | printed |
+4000|A|,008015L000200|2000 -> 1 Checked(Address) ticks 2 next 8 line 1 punched | printed |
+1400||,008015,022029,030032,0330342FK2.|2000 -> 8 Halted ticks 8 next 34 line 5 punched | printed |||
+1400||,008015,022029,030032,0330342F12.|2000 -> 8 Halted ticks 8 next 34 line 2 punched | printed |||
+1400||,008015,022029,030032,0330342FS2.|2000 -> 8 Halted ticks 8 next 34 line 4 punched | printed |||
+1400||,008015,022029,030031,032033444.|2000 -> 8 Halted ticks 8 next 33 line 1 punched |||| printed |
+1400|A|list;HELLO;WORLD|30 copy 2000 -> 30 Running 5 Halted ticks 35 next 361 line 3 punched | printed |HELLO|WORLD|
+1400||,008015,022029,030031M0361054.-PUNCH|2000 -> 6 Halted ticks 6 next 31 line 1 punched |PUNCH| printed |
 ";
 
 #[test]
 fn runs_of_decks(rt: HostRuntime) -> Result<(), Fail> {
-    let odd = misread::<Runs>(rt.alloc(), RUNS)?;
-    assert_eq!(rt; odd.as_str(), "");
-    Ok(())
+    check::<Runs>(rt.alloc(), RUNS)
+}
+
+/// Whether there is a machine of a picture in which something is wrong, after both lines of a deck
+/// were printed.
+fn is_remade(alloc: Global, machine: &mut Machine<FlagCore>, wrong: &str) -> Result<bool, Fail> {
+    machine.run(34, &mut Meter::new())?;
+    Ok(remade(alloc, machine, wrong)?.is_some())
 }
 
 /// A picture. Given is what is wrong in it. Out comes whether there is a machine of it.
@@ -237,10 +209,12 @@ struct Picture;
 
 impl Case for Picture {
     fn outcome(alloc: Global, given: &str) -> Result<String, Fail> {
-        let mut machine = load(alloc, "1400", "A", "list;HELLO;WORLD")?;
-        run(alloc, &mut machine, &mut Meter::new(), 34)?;
-        let made = remade(alloc, &machine, given)?.is_some();
-        Ok(format!(in alloc; "{made}")?)
+        let is_made = is_remade(
+            alloc,
+            &mut load(alloc, "1400", "A", "list;HELLO;WORLD")?,
+            given,
+        )?;
+        Ok(format!(in alloc; "{is_made}")?)
     }
 }
 
@@ -250,13 +224,11 @@ nothing -> true
 register -> false
 carriage -> false
 no card read -> false
-a card behind the deck -> false
+a card past the deck -> false
 lines backwards -> false
 ";
 
 #[test]
 fn no_machine_has_a_picture_out_of_range(rt: HostRuntime) -> Result<(), Fail> {
-    let odd = misread::<Picture>(rt.alloc(), PICTURES)?;
-    assert_eq!(rt; odd.as_str(), "");
-    Ok(())
+    check::<Picture>(rt.alloc(), PICTURES)
 }

@@ -1,41 +1,20 @@
 //! Single steps of machines that are put together by hand.
 
-use crate::sheets::{Case, misread};
-use crate::storage::{at_places, blank, card_of, lay, lay_places, registers_told};
+use crate::machines::{deck_of, new_units};
+use crate::sheets::{Case, check, cut, number};
+use crate::storage::{at_places, blank, lay, lay_places, registers_shown};
 use bitflags::Flags;
-use cards::Deck;
 use core_store::{Compared, Core, FlagCore, Registers};
 use machine::{Event, Machine, Meter, Parts, Standing};
-use std::alloc::Global;
+use std::alloc::{AllocError, Global};
 use std::test::Fail;
-use units::{Carriage, Hopper, Printer, Punch, Switches, Units};
+use units::Switches;
 
 /// Where the instructions of these cases begin.
 const START: u16 = 400;
 
-/// A reader whose only card has been read.
-fn empty_reader(alloc: Global) -> Result<Hopper, Fail> {
-    let mut deck = Deck::empty(alloc);
-    deck.push(card_of(""))?;
-    Ok(Hopper { deck, taken: 1 })
-}
-
-/// Units that have made nothing, with switches A, B and D on.
-fn units(alloc: Global) -> Result<Units, Fail> {
-    Ok(Units {
-        hopper: empty_reader(alloc)?,
-        punch: Punch {
-            cards: Vec::new(alloc),
-        },
-        printer: Printer {
-            lines: Vec::new(alloc),
-            carriage: Carriage::at_the_top(),
-        },
-        switches: Switches::A | Switches::B | Switches::D,
-    })
-}
-
-/// A running machine of a storage, whose A and B are at 010 and 020.
+/// A running machine of a storage that has read its only card, with A and B at 010 and 020 and the
+/// switches A, B and D on.
 fn running(alloc: Global, core: FlagCore) -> Result<Machine<FlagCore>, Fail> {
     if core.size() < 1400 {
         return Err("a smaller storage".into());
@@ -47,10 +26,11 @@ fn running(alloc: Global, core: FlagCore) -> Result<Machine<FlagCore>, Fail> {
         compare: Compared::Low,
         overflow: false,
     };
+    let switches = Switches::A | Switches::B | Switches::D;
     let parts = Parts {
         core,
         registers,
-        units: units(alloc)?,
+        units: new_units(alloc, deck_of(alloc, "")?, 1, switches),
         standing: Standing::Running,
     };
     Ok(Machine::from_parts(alloc, parts)?.ok_or("a picture in range")?)
@@ -59,13 +39,13 @@ fn running(alloc: Global, core: FlagCore) -> Result<Machine<FlagCore>, Fail> {
 /// A machine of 1400 positions before a program, with texts at some places.
 fn machine(alloc: Global, program: &str, places: &str) -> Result<Machine<FlagCore>, Fail> {
     let mut core = blank(alloc)?;
-    lay(&mut core, START, program)?;
-    lay_places(&mut core, places)?;
+    lay(&mut core, START, program);
+    lay_places(&mut core, places);
     running(alloc, core)
 }
 
 /// The event of the last of so many steps.
-fn stepped(machine: &mut Machine<FlagCore>, steps: u8) -> Result<Event, Fail> {
+fn last_event(machine: &mut Machine<FlagCore>, steps: u16) -> Result<Event, AllocError> {
     let mut meter = Meter::new();
     let mut event = Event::Next;
     for _ in 0..steps {
@@ -74,12 +54,18 @@ fn stepped(machine: &mut Machine<FlagCore>, steps: u8) -> Result<Event, Fail> {
     Ok(event)
 }
 
-/// The registers of a machine, and what stands at some places.
-fn told(alloc: Global, machine: &Machine<FlagCore>, places: &str) -> Result<String, Fail> {
+/// Does so many steps, and shows the last event, the registers, and what stands at some places.
+fn stepped(
+    alloc: Global,
+    machine: &mut Machine<FlagCore>,
+    steps: u16,
+    places: &str,
+) -> Result<String, Fail> {
+    let event = last_event(machine, steps)?;
     let parts = machine.parts();
-    let registers = registers_told(alloc, &parts.registers)?;
+    let registers = registers_shown(alloc, &parts.registers)?;
     let shown = at_places(alloc, &parts.core, places)?;
-    Ok(format!(in alloc; "{registers} {shown}")?)
+    Ok(format!(in alloc; "{event:?} {registers} {shown}")?)
 }
 
 /// Steps. Given are how many, the program, and the texts of some places. Out come the last event,
@@ -88,13 +74,14 @@ struct Steps;
 
 impl Case for Steps {
     fn outcome(alloc: Global, given: &str) -> Result<String, Fail> {
-        let (steps, rest) = given.split_once('|').ok_or("a program")?;
-        let (program, places) = rest.split_once('|').ok_or("places")?;
-        let steps = steps.parse::<u8>().ok().ok_or("steps")?;
-        let mut machine = machine(alloc, program, places)?;
-        let event = stepped(&mut machine, steps)?;
-        let told = told(alloc, &machine, places)?;
-        Ok(format!(in alloc; "{event:?} {told}")?)
+        let (steps, given) = cut(given, "|");
+        let (program, places) = cut(given, "|");
+        stepped(
+            alloc,
+            &mut machine(alloc, program, places)?,
+            number(steps),
+            places,
+        )
     }
 }
 
@@ -126,9 +113,7 @@ const OPERATIONS: &str = "\
 
 #[test]
 fn operations(rt: HostRuntime) -> Result<(), Fail> {
-    let odd = misread::<Steps>(rt.alloc(), OPERATIONS)?;
-    assert_eq!(rt; odd.as_str(), "");
-    Ok(())
+    check::<Steps>(rt.alloc(), OPERATIONS)
 }
 
 /// Branches on each condition, on a character, and on marks and zones.
@@ -167,9 +152,7 @@ const BRANCHES: &str = "\
 
 #[test]
 fn branches(rt: HostRuntime) -> Result<(), Fail> {
-    let odd = misread::<Steps>(rt.alloc(), BRANCHES)?;
-    assert_eq!(rt; odd.as_str(), "");
-    Ok(())
+    check::<Steps>(rt.alloc(), BRANCHES)
 }
 
 /// Instructions to which a check applies, the first of several among them.
@@ -186,7 +169,5 @@ const CHECKS: &str = "\
 
 #[test]
 fn checks_in_their_order(rt: HostRuntime) -> Result<(), Fail> {
-    let odd = misread::<Steps>(rt.alloc(), CHECKS)?;
-    assert_eq!(rt; odd.as_str(), "");
-    Ok(())
+    check::<Steps>(rt.alloc(), CHECKS)
 }
