@@ -14,7 +14,7 @@ use Rattle.tables.specs.declared.rows.StretchRow.{StretchRow}
 use Rattle.tables.specs.Schema.{jobs, stretches, pictures, cards, lines, bureau_schema}
 use Rattle.tables.specs.Tables.{NamedJob, Tables, Holds, job_named, with_job, with_stretches, with_picture, with_cards, with_lines, job_row, stretch_row, picture_row, card_row, line_row, cells}
 use Rattle.tables.proofs.Texts.{insert_jobs, insert_jobs_is, insert_jobs_plain, insert_stretches, insert_stretches_is, insert_stretches_plain, insert_pictures, insert_pictures_is, insert_pictures_plain, insert_cards, insert_cards_is, insert_cards_plain, insert_lines, insert_lines_is, insert_lines_plain}
-use Rattle.tables.proofs.Inserting.{adds, cast_int, cast_null}
+use Rattle.tables.proofs.Inserting.{adds, apart, cast_int, cast_null}
 use Rattle.tables.proofs.Placing.{next_cells, next_shaped}
 use Rattle.tables.proofs.Behind.{still, distinct_with, placed_behind, picture_behind, row_behind}
 
@@ -26,18 +26,18 @@ pub job_added : (old new : State) (customer : List ℕ) (number : ℕ) (job : Jo
 job_added old new customer number job count h t holds free =
     let row : Row = job_row (named customer number job) in
     let did = adds bureau_schema insert_jobs 1 (record jobs { tree = 1 }) (lit Null ∷ col 0 0 ∷ col 0 1 ∷ col 0 2 ∷ col 0 3 ∷ col 0 4 ∷ col 0 5 ∷ col 0 6 ∷ col 0 7 ∷ []) 9 insert_jobs_is insert_jobs_plain refl old new row count holds.schema h.0 in
-    let now : new.now.trees 1 ≡ put_row (Int (next_rowid (old.now.trees 1)) ∷ row) (old.now.trees 1) = did.1 ∙ rw (cast_null, cast_int (pos number), cast_int (pos job.kind), cast_int (pos job.size), cast_int (pos job.held), cast_int (pos job.collected)) in
+    let now : new.now.trees 1 ≡ put_row (Int (next_rowid (old.now.trees 1)) ∷ row) (old.now.trees 1) = did.1 ∙ simp (cast_null, cast_int) in
     record {
       schema = did.0;
       sound = did.3;
-      version = did.2.0 (λ same. cc) ∙ holds.version;
+      version = did.2.0 (apart refl) ∙ holds.version;
       jobs = ap cells now ∙ next_cells row (old.now.trees 1) holds.jobs_rise ∙ ap (λ xs. xs ++ row ∷ []) holds.jobs ∙ sym (map-append job_row t.jobs (named customer number job ∷ []));
       jobs_rise = subst (IsShaped Table) (sym now) (next_shaped row (old.now.trees 1) holds.jobs_rise);
       distinct = distinct_with (named customer number job) t.jobs holds.distinct free;
-      stretches = still (did.2.1.1.0 (λ same. cc)) holds.stretches;
-      pictures = still (did.2.1.1.1.0 (λ same. cc)) holds.pictures;
-      cards = still (did.2.1.1.1.1.0 (λ same. cc)) holds.cards;
-      lines = still (did.2.1.1.1.1.1.0 (λ same. cc)) holds.lines;
+      stretches = still (did.2.1.1.0 (apart refl)) holds.stretches;
+      pictures = still (did.2.1.1.1.0 (apart refl)) holds.pictures;
+      cards = still (did.2.1.1.1.1.0 (apart refl)) holds.cards;
+      lines = still (did.2.1.1.1.1.1.0 (apart refl)) holds.lines;
     }
 
 pub stretch_added : (old new : State) (customer : List ℕ) (number place : ℕ) (stretch : StretchRow) (count : ℕ) → ExecutesInside 0 insert_stretches (stretch_row customer number place stretch) old new (Ok count)
@@ -45,18 +45,18 @@ pub stretch_added : (old new : State) (customer : List ℕ) (number place : ℕ)
 stretch_added old new customer number place stretch count h t holds at =
     let row : Row = stretch_row customer number place stretch in
     let did = adds bureau_schema insert_stretches 2 (record stretches { tree = 3 }) (lit Null ∷ col 0 0 ∷ col 0 1 ∷ col 0 2 ∷ col 0 3 ∷ col 0 4 ∷ []) 6 insert_stretches_is insert_stretches_plain refl old new row count holds.schema h.0 in
-    let now : new.now.trees 3 ≡ put_row (Int (next_rowid (old.now.trees 3)) ∷ row) (old.now.trees 3) = did.1 ∙ rw (cast_null, cast_int (pos number), cast_int (pos place), cast_int (pos stretch.switches), cast_int (pos stretch.granted)) in
+    let now : new.now.trees 3 ≡ put_row (Int (next_rowid (old.now.trees 3)) ∷ row) (old.now.trees 3) = did.1 ∙ simp (cast_null, cast_int) in
     record {
       schema = did.0;
       sound = did.3;
-      version = did.2.0 (λ same. cc) ∙ holds.version;
-      jobs = ap cells (did.2.1.0 (λ same. cc)) ∙ holds.jobs;
-      jobs_rise = subst (IsShaped Table) (sym (did.2.1.0 (λ same. cc))) holds.jobs_rise;
+      version = did.2.0 (apart refl) ∙ holds.version;
+      jobs = ap cells (did.2.1.0 (apart refl)) ∙ holds.jobs;
+      jobs_rise = subst (IsShaped Table) (sym (did.2.1.0 (apart refl))) holds.jobs_rise;
       distinct = holds.distinct;
       stretches = still now (row_behind customer number (Int (pos place) ∷ Int (pos stretch.switches) ∷ Int (pos stretch.granted) ∷ []) (old.now.trees 3) _ _ holds.stretches (placed_behind stretch_row 0 customer number place stretch t.stretches (omega (arith, at))));
-      pictures = still (did.2.1.1.1.0 (λ same. cc)) holds.pictures;
-      cards = still (did.2.1.1.1.1.0 (λ same. cc)) holds.cards;
-      lines = still (did.2.1.1.1.1.1.0 (λ same. cc)) holds.lines;
+      pictures = still (did.2.1.1.1.0 (apart refl)) holds.pictures;
+      cards = still (did.2.1.1.1.1.0 (apart refl)) holds.cards;
+      lines = still (did.2.1.1.1.1.1.0 (apart refl)) holds.lines;
     }
 
 pub picture_added : (old new : State) (customer : List ℕ) (number : ℕ) (picture : PictureCells) (count : ℕ) → ExecutesInside 0 insert_pictures (picture_row customer number picture) old new (Ok count)
@@ -64,18 +64,18 @@ pub picture_added : (old new : State) (customer : List ℕ) (number : ℕ) (pict
 picture_added old new customer number picture count h t holds at =
     let row : Row = picture_row customer number picture in
     let did = adds bureau_schema insert_pictures 3 (record pictures { tree = 5 }) (lit Null ∷ col 0 0 ∷ col 0 1 ∷ col 0 2 ∷ col 0 3 ∷ col 0 4 ∷ col 0 5 ∷ col 0 6 ∷ col 0 7 ∷ col 0 8 ∷ col 0 9 ∷ col 0 10 ∷ col 0 11 ∷ col 0 12 ∷ col 0 13 ∷ col 0 14 ∷ col 0 15 ∷ []) 17 insert_pictures_is insert_pictures_plain refl old new row count holds.schema h.0 in
-    let now : new.now.trees 5 ≡ put_row (Int (next_rowid (old.now.trees 5)) ∷ row) (old.now.trees 5) = did.1 ∙ rw (cast_null, cast_int (pos number), cast_int (pos picture.i), cast_int (pos picture.a), cast_int (pos picture.b), cast_int (pos picture.compare), cast_int (pos picture.overflow), cast_int (pos picture.channel), cast_int (pos picture.waiting), cast_int (pos picture.form), cast_int (pos picture.line), cast_int (pos picture.taken), cast_int (pos picture.cards), cast_int (pos picture.lines), cast_int (pos picture.standing)) in
+    let now : new.now.trees 5 ≡ put_row (Int (next_rowid (old.now.trees 5)) ∷ row) (old.now.trees 5) = did.1 ∙ simp (cast_null, cast_int) in
     record {
       schema = did.0;
       sound = did.3;
-      version = did.2.0 (λ same. cc) ∙ holds.version;
-      jobs = ap cells (did.2.1.0 (λ same. cc)) ∙ holds.jobs;
-      jobs_rise = subst (IsShaped Table) (sym (did.2.1.0 (λ same. cc))) holds.jobs_rise;
+      version = did.2.0 (apart refl) ∙ holds.version;
+      jobs = ap cells (did.2.1.0 (apart refl)) ∙ holds.jobs;
+      jobs_rise = subst (IsShaped Table) (sym (did.2.1.0 (apart refl))) holds.jobs_rise;
       distinct = holds.distinct;
-      stretches = still (did.2.1.1.0 (λ same. cc)) holds.stretches;
+      stretches = still (did.2.1.1.0 (apart refl)) holds.stretches;
       pictures = still now (row_behind customer number (Blob picture.storage ∷ Int (pos picture.i) ∷ Int (pos picture.a) ∷ Int (pos picture.b) ∷ Int (pos picture.compare) ∷ Int (pos picture.overflow) ∷ Int (pos picture.channel) ∷ Int (pos picture.waiting) ∷ Int (pos picture.form) ∷ Int (pos picture.line) ∷ Int (pos picture.taken) ∷ Int (pos picture.cards) ∷ Int (pos picture.lines) ∷ Int (pos picture.standing) ∷ []) (old.now.trees 5) _ _ holds.pictures (picture_behind customer number picture t.pictures at));
-      cards = still (did.2.1.1.1.1.0 (λ same. cc)) holds.cards;
-      lines = still (did.2.1.1.1.1.1.0 (λ same. cc)) holds.lines;
+      cards = still (did.2.1.1.1.1.0 (apart refl)) holds.cards;
+      lines = still (did.2.1.1.1.1.1.0 (apart refl)) holds.lines;
     }
 
 pub card_added : (old new : State) (customer : List ℕ) (number place : ℕ) (card : List ℕ) (count : ℕ) → ExecutesInside 0 insert_cards (card_row customer number place card) old new (Ok count)
@@ -83,18 +83,18 @@ pub card_added : (old new : State) (customer : List ℕ) (number place : ℕ) (c
 card_added old new customer number place card count h t holds at =
     let row : Row = card_row customer number place card in
     let did = adds bureau_schema insert_cards 4 (record cards { tree = 7 }) (lit Null ∷ col 0 0 ∷ col 0 1 ∷ col 0 2 ∷ col 0 3 ∷ []) 5 insert_cards_is insert_cards_plain refl old new row count holds.schema h.0 in
-    let now : new.now.trees 7 ≡ put_row (Int (next_rowid (old.now.trees 7)) ∷ row) (old.now.trees 7) = did.1 ∙ rw (cast_null, cast_int (pos number), cast_int (pos place)) in
+    let now : new.now.trees 7 ≡ put_row (Int (next_rowid (old.now.trees 7)) ∷ row) (old.now.trees 7) = did.1 ∙ simp (cast_null, cast_int) in
     record {
       schema = did.0;
       sound = did.3;
-      version = did.2.0 (λ same. cc) ∙ holds.version;
-      jobs = ap cells (did.2.1.0 (λ same. cc)) ∙ holds.jobs;
-      jobs_rise = subst (IsShaped Table) (sym (did.2.1.0 (λ same. cc))) holds.jobs_rise;
+      version = did.2.0 (apart refl) ∙ holds.version;
+      jobs = ap cells (did.2.1.0 (apart refl)) ∙ holds.jobs;
+      jobs_rise = subst (IsShaped Table) (sym (did.2.1.0 (apart refl))) holds.jobs_rise;
       distinct = holds.distinct;
-      stretches = still (did.2.1.1.0 (λ same. cc)) holds.stretches;
-      pictures = still (did.2.1.1.1.0 (λ same. cc)) holds.pictures;
+      stretches = still (did.2.1.1.0 (apart refl)) holds.stretches;
+      pictures = still (did.2.1.1.1.0 (apart refl)) holds.pictures;
       cards = still now (row_behind customer number (Int (pos place) ∷ Blob card ∷ []) (old.now.trees 7) _ _ holds.cards (placed_behind card_row 1 customer number place card t.cards (omega (arith, at))));
-      lines = still (did.2.1.1.1.1.1.0 (λ same. cc)) holds.lines;
+      lines = still (did.2.1.1.1.1.1.0 (apart refl)) holds.lines;
     }
 
 pub line_added : (old new : State) (customer : List ℕ) (number place : ℕ) (line : LineCells) (count : ℕ) → ExecutesInside 0 insert_lines (line_row customer number place line) old new (Ok count)
@@ -102,16 +102,16 @@ pub line_added : (old new : State) (customer : List ℕ) (number place : ℕ) (l
 line_added old new customer number place line count h t holds at =
     let row : Row = line_row customer number place line in
     let did = adds bureau_schema insert_lines 5 (record lines { tree = 9 }) (lit Null ∷ col 0 0 ∷ col 0 1 ∷ col 0 2 ∷ col 0 3 ∷ col 0 4 ∷ col 0 5 ∷ []) 7 insert_lines_is insert_lines_plain refl old new row count holds.schema h.0 in
-    let now : new.now.trees 9 ≡ put_row (Int (next_rowid (old.now.trees 9)) ∷ row) (old.now.trees 9) = did.1 ∙ rw (cast_null, cast_int (pos number), cast_int (pos place), cast_int (pos line.form), cast_int (pos line.line)) in
+    let now : new.now.trees 9 ≡ put_row (Int (next_rowid (old.now.trees 9)) ∷ row) (old.now.trees 9) = did.1 ∙ simp (cast_null, cast_int) in
     record {
       schema = did.0;
       sound = did.3;
-      version = did.2.0 (λ same. cc) ∙ holds.version;
-      jobs = ap cells (did.2.1.0 (λ same. cc)) ∙ holds.jobs;
-      jobs_rise = subst (IsShaped Table) (sym (did.2.1.0 (λ same. cc))) holds.jobs_rise;
+      version = did.2.0 (apart refl) ∙ holds.version;
+      jobs = ap cells (did.2.1.0 (apart refl)) ∙ holds.jobs;
+      jobs_rise = subst (IsShaped Table) (sym (did.2.1.0 (apart refl))) holds.jobs_rise;
       distinct = holds.distinct;
-      stretches = still (did.2.1.1.0 (λ same. cc)) holds.stretches;
-      pictures = still (did.2.1.1.1.0 (λ same. cc)) holds.pictures;
-      cards = still (did.2.1.1.1.1.0 (λ same. cc)) holds.cards;
+      stretches = still (did.2.1.1.0 (apart refl)) holds.stretches;
+      pictures = still (did.2.1.1.1.0 (apart refl)) holds.pictures;
+      cards = still (did.2.1.1.1.1.0 (apart refl)) holds.cards;
       lines = still now (row_behind customer number (Int (pos place) ∷ Int (pos line.form) ∷ Int (pos line.line) ∷ Blob line.image ∷ []) (old.now.trees 9) _ _ holds.lines (placed_behind line_row 1 customer number place line t.lines (omega (arith, at))));
     }

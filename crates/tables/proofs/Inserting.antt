@@ -1,5 +1,6 @@
 -- What an INSERT of one row does.
-use Rattle.std.proofs.Common.{◌≡◌, ◌≢◌, ◌⊎◌, ◌/◌, length, inl, inr, ℕ, ℤ, List, [], ◌∷◌, slice_get, Bool, true, false, cond, Some, None, Ok, Err, Result, refl, sym, ap, subst, ◌∙◌}
+use Rattle.std.proofs.Common.{◌≡◌, ◌≢◌, ◌⊎◌, ◌/◌, length, inl, inr, ℕ, ℤ, List, [], ◌∷◌, slice_get, Bool, true, false, cond, ◌==◌, Some, None, Ok, Err, Result, refl, sym, ap, subst, ◌∙◌, arith}
+use Rattle.std.proofs.lemmas.Bool.Decides.{nat_tests}
 use Rattle.std.specs.List.{AllByRecursion}
 use Rattle.sqlite.specs.declared.types.Value.{Value}
 use Rattle.sqlite.specs.declared.types.Value.TheVariants.{Null, Int}
@@ -38,6 +39,10 @@ cast_int n = either _ (Int n)
 pub cast_null : cast Integer Null ≡ Null
 unfolding unary
 cast_null = either _ Null
+
+-- two numbers that a test finds different
+pub apart : {m n : ℕ} → (m == n) ≡ false → m ≢ n
+apart {m} {n} other same = absurd (grind (arith, nat_tests))
 
 -- a part that gave a value did not stop on the way
 pub went : {B E R : Type 0} {b : B} {Stops : E → Type 0} → ((stop : E) × Stops stop × (Ok b ≡ Err stop)) ⊎ R → R

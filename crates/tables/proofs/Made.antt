@@ -19,7 +19,7 @@ use Rattle.tables.specs.Making.{AreMade}
 use Rattle.tables.specs.Tables.{Holds, no_rows}
 use Rattle.tables.proofs.Texts.{insert_bureau, insert_bureau_is, insert_bureau_plain}
 use Rattle.tables.proofs.Creating.{creates}
-use Rattle.tables.proofs.Inserting.{adds, cast_int, cast_null}
+use Rattle.tables.proofs.Inserting.{apart, adds, cast_int, cast_null}
 use Rattle.tables.proofs.Behind.{all_push}
 
 still_empty : (tables : List Table) (old new : Trees) → AllByRecursion (λ t. old t.tree ≡ []) tables → KeepsRows tables old new → AllByRecursion (λ t. new t.tree ≡ []) tables
@@ -40,11 +40,11 @@ version_params = Int (pos 1) ∷ Int (pos 1) ∷ []
 pub version_made : (old new : State) (count : ℕ) → ExecutesInside 0 insert_bureau version_params old new (Ok count) → AreMade old.now bureau_schema → Holds new.now no_rows
 version_made old new count h made =
     let did = adds bureau_schema insert_bureau 0 (record bureau { tree = 0 }) (col 0 0 ∷ lit Null ∷ col 0 1 ∷ []) 3 insert_bureau_is insert_bureau_plain refl old new version_params count made.is h.0 in
-    let jobs_none : new.now.trees 1 ≡ [] = did.2.1.0 (λ same. cc) ∙ made.empty.1.0 in
-    let stretches_none : new.now.trees 3 ≡ [] = did.2.1.1.0 (λ same. cc) ∙ made.empty.1.1.0 in
-    let pictures_none : new.now.trees 5 ≡ [] = did.2.1.1.1.0 (λ same. cc) ∙ made.empty.1.1.1.0 in
-    let cards_none : new.now.trees 7 ≡ [] = did.2.1.1.1.1.0 (λ same. cc) ∙ made.empty.1.1.1.1.0 in
-    let lines_none : new.now.trees 9 ≡ [] = did.2.1.1.1.1.1.0 (λ same. cc) ∙ made.empty.1.1.1.1.1.0 in
+    let jobs_none : new.now.trees 1 ≡ [] = did.2.1.0 (apart refl) ∙ made.empty.1.0 in
+    let stretches_none : new.now.trees 3 ≡ [] = did.2.1.1.0 (apart refl) ∙ made.empty.1.1.0 in
+    let pictures_none : new.now.trees 5 ≡ [] = did.2.1.1.1.0 (apart refl) ∙ made.empty.1.1.1.0 in
+    let cards_none : new.now.trees 7 ≡ [] = did.2.1.1.1.1.0 (apart refl) ∙ made.empty.1.1.1.1.0 in
+    let lines_none : new.now.trees 9 ≡ [] = did.2.1.1.1.1.1.0 (apart refl) ∙ made.empty.1.1.1.1.1.0 in
     record {
       schema = did.0;
       sound = did.3;

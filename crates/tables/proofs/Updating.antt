@@ -29,7 +29,7 @@ use Rattle.tables.specs.Cells.{PictureCells}
 use Rattle.tables.specs.Schema.{bureau_schema, to_job, stretches, pictures}
 use Rattle.tables.specs.Tables.{Tables, Holds, IsOf, NamesJob, cells, placed, is_row_of, stretch_row, picture_row, picture_rows, card_row, line_row, with_stretches, with_picture}
 use Rattle.tables.specs.declared.rows.StretchRow.{StretchRow}
-use Rattle.tables.proofs.Inserting.{went, same_value, cast_int}
+use Rattle.tables.proofs.Inserting.{apart, went, same_value, cast_int}
 use Rattle.tables.proofs.Selecting.{passes, show, plain_query, plain_answer}
 use Rattle.tables.proofs.ReadTexts.{is_key, is_place, update_granted, update_granted_is, update_granted_plain, granted_terms, update_picture, update_picture_is, update_picture_plain, new_picture_terms}
 use Rattle.tables.proofs.Keys.{key_passes, key_test, place_passes, place_needs, kept_cells, each_test}
@@ -126,7 +126,7 @@ module _ (customer : List ℕ) (number : ℕ) (p : PictureCells) where
       let one : did.0 ≡ shown ∷ [] = one_permutation shown did.0 (subst (λ rs. IsPermutation (map (show new_picture_terms picture_params) rs) did.0) at.1 some) in
       let new_row : Row = Int at.0 ∷ picture_params in
       let edit : edited db (edit_of db (record pictures { tree = 5 }) (ids_of (shown ∷ [])) Given 1 (shown ∷ [])) ≡ put_row new_row (without_rowid at.0 (db 5)) =
-      rw (cast_int at.0, cast_int (pos number), cast_int (pos p.i), cast_int (pos p.a), cast_int (pos p.b), cast_int (pos p.compare), cast_int (pos p.overflow), cast_int (pos p.channel), cast_int (pos p.waiting), cast_int (pos p.form), cast_int (pos p.line), cast_int (pos p.taken), cast_int (pos p.cards), cast_int (pos p.lines), cast_int (pos p.standing)) in
+      simp cast_int in
       let whole : new.now.trees 5 ≡ put_row new_row (without_rowid at.0 (db 5)) = did.3 ∙ ap (λ rs. edited db (edit_of db (record pictures { tree = 5 }) (ids_of rs) Given 1 rs)) one ∙ edit in
       let are = ap cells whole ∙ in_place (passes is_key picture_params) of_key (blind_key picture_params) picture_params at.0 (picture_row customer number before) (db 5) holds.pictures.rise at.1 in
       let shaped = subst (IsShaped Rising) (sym whole) (IsShaped-put_row new_row (without_rowid at.0 (db 5)) refl (IsShaped-filter Rising _ (db 5) holds.pictures.rise)) in
@@ -136,14 +136,14 @@ module _ (customer : List ℕ) (number : ℕ) (p : PictureCells) where
       record {
         schema = did.2;
         sound = did.5;
-        version = others.0 (λ e. cc) ∙ holds.version;
-        jobs = ap cells (others.1.0 (λ e. cc)) ∙ holds.jobs;
-        jobs_rise = subst (IsShaped Rising) (sym (others.1.0 (λ e. cc))) holds.jobs_rise;
+        version = others.0 (apart refl) ∙ holds.version;
+        jobs = ap cells (others.1.0 (apart refl)) ∙ holds.jobs;
+        jobs_rise = subst (IsShaped Rising) (sym (others.1.0 (apart refl))) holds.jobs_rise;
         distinct = holds.distinct;
-        stretches = subst (λ rows. IsOf rows (λ c n. placed (stretch_row c n) 0 (t.stretches c n))) (sym (others.1.1.0 (λ e. cc))) holds.stretches;
+        stretches = subst (λ rows. IsOf rows (λ c n. placed (stretch_row c n) 0 (t.stretches c n))) (sym (others.1.1.0 (apart refl))) holds.stretches;
         pictures = renews customer number (drop 2 picture_params) of_key keyed (db 5) (new.now.trees 5) (λ c n. picture_rows c n (t.pictures c n)) (λ c n. picture_rows c n ((with_picture customer number p t).pictures c n)) holds.pictures are shaped turned;
-        cards = subst (λ rows. IsOf rows (λ c n. placed (card_row c n) 1 (t.cards c n))) (sym (others.1.1.1.1.0 (λ e. cc))) holds.cards;
-        lines = subst (λ rows. IsOf rows (λ c n. placed (line_row c n) 1 (t.lines c n))) (sym (others.1.1.1.1.1.0 (λ e. cc))) holds.lines;
+        cards = subst (λ rows. IsOf rows (λ c n. placed (card_row c n) 1 (t.cards c n))) (sym (others.1.1.1.1.0 (apart refl))) holds.cards;
+        lines = subst (λ rows. IsOf rows (λ c n. placed (line_row c n) 1 (t.lines c n))) (sym (others.1.1.1.1.1.0 (apart refl))) holds.lines;
       }
 
 -- ---- what is granted in a stretch
@@ -196,7 +196,7 @@ module _ (customer : List ℕ) (number place granted : ℕ) where
       let one : did.0 ≡ shown ∷ [] = one_permutation shown did.0 (subst (λ rs. IsPermutation (map (show granted_terms stretch_params) rs) did.0) at.1 some) in
       let new_row : Row = Int at.0 ∷ fresh in
       let edit : edited db (edit_of db (record stretches { tree = 3 }) (ids_of (shown ∷ [])) Given 1 (shown ∷ [])) ≡ put_row new_row (without_rowid at.0 (db 3)) =
-      rw (cast_int at.0, cast_int (pos number), cast_int (pos place), cast_int (pos last.switches), cast_int (pos granted)) in
+      simp cast_int in
       let whole : new.now.trees 3 ≡ put_row new_row (without_rowid at.0 (db 3)) = did.3 ∙ ap (λ rs. edited db (edit_of db (record stretches { tree = 3 }) (ids_of rs) Given 1 rs)) one ∙ edit in
       let are = ap cells whole ∙ in_place (passes is_place stretch_params) of_place (blind_place stretch_params) fresh at.0 (stretch_row customer number place last) (db 3) holds.stretches.rise at.1 in
       let shaped = subst (IsShaped Rising) (sym whole) (IsShaped-put_row new_row (without_rowid at.0 (db 3)) refl (IsShaped-filter Rising _ (db 3) holds.stretches.rise)) in
@@ -208,12 +208,12 @@ module _ (customer : List ℕ) (number place granted : ℕ) where
       record {
         schema = did.2;
         sound = did.5;
-        version = others.0 (λ e. cc) ∙ holds.version;
-        jobs = ap cells (others.1.0 (λ e. cc)) ∙ holds.jobs;
-        jobs_rise = subst (IsShaped Rising) (sym (others.1.0 (λ e. cc))) holds.jobs_rise;
+        version = others.0 (apart refl) ∙ holds.version;
+        jobs = ap cells (others.1.0 (apart refl)) ∙ holds.jobs;
+        jobs_rise = subst (IsShaped Rising) (sym (others.1.0 (apart refl))) holds.jobs_rise;
         distinct = holds.distinct;
         stretches = renews customer number (drop 2 fresh) of_place keyed_too (db 3) (new.now.trees 3) (λ c n. placed (stretch_row c n) 0 (t.stretches c n)) (λ c n. placed (stretch_row c n) 0 ((with_stretches customer number (before ++ next ∷ []) t).stretches c n)) holds.stretches are shaped turned;
-        pictures = subst (λ rows. IsOf rows (λ c n. picture_rows c n (t.pictures c n))) (sym (others.1.1.1.0 (λ e. cc))) holds.pictures;
-        cards = subst (λ rows. IsOf rows (λ c n. placed (card_row c n) 1 (t.cards c n))) (sym (others.1.1.1.1.0 (λ e. cc))) holds.cards;
-        lines = subst (λ rows. IsOf rows (λ c n. placed (line_row c n) 1 (t.lines c n))) (sym (others.1.1.1.1.1.0 (λ e. cc))) holds.lines;
+        pictures = subst (λ rows. IsOf rows (λ c n. picture_rows c n (t.pictures c n))) (sym (others.1.1.1.0 (apart refl))) holds.pictures;
+        cards = subst (λ rows. IsOf rows (λ c n. placed (card_row c n) 1 (t.cards c n))) (sym (others.1.1.1.1.0 (apart refl))) holds.cards;
+        lines = subst (λ rows. IsOf rows (λ c n. placed (line_row c n) 1 (t.lines c n))) (sym (others.1.1.1.1.1.0 (apart refl))) holds.lines;
       }
