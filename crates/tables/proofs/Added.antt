@@ -13,7 +13,7 @@ use Rattle.tables.specs.Cells.{JobCells, PictureCells, LineCells}
 use Rattle.tables.specs.declared.rows.StretchRow.{StretchRow}
 use Rattle.tables.specs.Schema.{jobs, stretches, pictures, cards, lines, bureau_schema}
 use Rattle.tables.specs.Tables.{NamedJob, Tables, Holds, job_named, with_job, with_stretches, with_picture, with_cards, with_lines, job_row, stretch_row, picture_row, card_row, line_row, cells}
-use Rattle.tables.proofs.Texts.{insert_jobs, insert_jobs_is, insert_jobs_plain, insert_stretches, insert_stretches_is, insert_stretches_plain, insert_pictures, insert_pictures_is, insert_pictures_plain, insert_cards, insert_cards_is, insert_cards_plain, insert_lines, insert_lines_is, insert_lines_plain}
+use Rattle.tables.proofs.Texts.{insert_jobs, insert_jobs_is, insert_stretches, insert_stretches_is, insert_pictures, insert_pictures_is, insert_cards, insert_cards_is, insert_lines, insert_lines_is}
 use Rattle.tables.proofs.Inserting.{adds, apart, cast_int, cast_null}
 use Rattle.tables.proofs.Placing.{next_cells, next_shaped}
 use Rattle.tables.proofs.Behind.{still, distinct_with, placed_behind, picture_behind, row_behind}
@@ -25,7 +25,7 @@ pub job_added : (old new : State) (customer : List ℕ) (number : ℕ) (job : Jo
     → (t : Tables) → Holds old.now t → job_named customer number t.jobs ≡ None → Holds new.now (with_job customer number job t)
 job_added old new customer number job count h t holds free =
     let row : Row = job_row (named customer number job) in
-    let did = adds bureau_schema insert_jobs 1 (record jobs { tree = 1 }) (lit Null ∷ col 0 0 ∷ col 0 1 ∷ col 0 2 ∷ col 0 3 ∷ col 0 4 ∷ col 0 5 ∷ col 0 6 ∷ col 0 7 ∷ []) 9 insert_jobs_is insert_jobs_plain refl old new row count holds.schema h.0 in
+    let did = adds bureau_schema insert_jobs 1 (record jobs { tree = 1 }) (lit Null ∷ col 0 0 ∷ col 0 1 ∷ col 0 2 ∷ col 0 3 ∷ col 0 4 ∷ col 0 5 ∷ col 0 6 ∷ col 0 7 ∷ []) 9 insert_jobs_is refl old new row count holds.schema h.0 in
     let now : new.now.trees 1 ≡ put_row (Int (next_rowid (old.now.trees 1)) ∷ row) (old.now.trees 1) = did.1 ∙ simp (cast_null, cast_int) in
     record {
       schema = did.0;
@@ -44,7 +44,7 @@ pub stretch_added : (old new : State) (customer : List ℕ) (number place : ℕ)
     → (t : Tables) → Holds old.now t → place ≡ length (t.stretches customer number) → Holds new.now (with_stretches customer number (t.stretches customer number ++ stretch ∷ []) t)
 stretch_added old new customer number place stretch count h t holds at =
     let row : Row = stretch_row customer number place stretch in
-    let did = adds bureau_schema insert_stretches 2 (record stretches { tree = 3 }) (lit Null ∷ col 0 0 ∷ col 0 1 ∷ col 0 2 ∷ col 0 3 ∷ col 0 4 ∷ []) 6 insert_stretches_is insert_stretches_plain refl old new row count holds.schema h.0 in
+    let did = adds bureau_schema insert_stretches 2 (record stretches { tree = 3 }) (lit Null ∷ col 0 0 ∷ col 0 1 ∷ col 0 2 ∷ col 0 3 ∷ col 0 4 ∷ []) 6 insert_stretches_is refl old new row count holds.schema h.0 in
     let now : new.now.trees 3 ≡ put_row (Int (next_rowid (old.now.trees 3)) ∷ row) (old.now.trees 3) = did.1 ∙ simp (cast_null, cast_int) in
     record {
       schema = did.0;
@@ -63,7 +63,7 @@ pub picture_added : (old new : State) (customer : List ℕ) (number : ℕ) (pict
     → (t : Tables) → Holds old.now t → t.pictures customer number ≡ None → Holds new.now (with_picture customer number picture t)
 picture_added old new customer number picture count h t holds at =
     let row : Row = picture_row customer number picture in
-    let did = adds bureau_schema insert_pictures 3 (record pictures { tree = 5 }) (lit Null ∷ col 0 0 ∷ col 0 1 ∷ col 0 2 ∷ col 0 3 ∷ col 0 4 ∷ col 0 5 ∷ col 0 6 ∷ col 0 7 ∷ col 0 8 ∷ col 0 9 ∷ col 0 10 ∷ col 0 11 ∷ col 0 12 ∷ col 0 13 ∷ col 0 14 ∷ col 0 15 ∷ []) 17 insert_pictures_is insert_pictures_plain refl old new row count holds.schema h.0 in
+    let did = adds bureau_schema insert_pictures 3 (record pictures { tree = 5 }) (lit Null ∷ col 0 0 ∷ col 0 1 ∷ col 0 2 ∷ col 0 3 ∷ col 0 4 ∷ col 0 5 ∷ col 0 6 ∷ col 0 7 ∷ col 0 8 ∷ col 0 9 ∷ col 0 10 ∷ col 0 11 ∷ col 0 12 ∷ col 0 13 ∷ col 0 14 ∷ col 0 15 ∷ []) 17 insert_pictures_is refl old new row count holds.schema h.0 in
     let now : new.now.trees 5 ≡ put_row (Int (next_rowid (old.now.trees 5)) ∷ row) (old.now.trees 5) = did.1 ∙ simp (cast_null, cast_int) in
     record {
       schema = did.0;
@@ -82,7 +82,7 @@ pub card_added : (old new : State) (customer : List ℕ) (number place : ℕ) (c
     → (t : Tables) → Holds old.now t → place ≡ length (t.cards customer number) + 1 → Holds new.now (with_cards customer number (t.cards customer number ++ card ∷ []) t)
 card_added old new customer number place card count h t holds at =
     let row : Row = card_row customer number place card in
-    let did = adds bureau_schema insert_cards 4 (record cards { tree = 7 }) (lit Null ∷ col 0 0 ∷ col 0 1 ∷ col 0 2 ∷ col 0 3 ∷ []) 5 insert_cards_is insert_cards_plain refl old new row count holds.schema h.0 in
+    let did = adds bureau_schema insert_cards 4 (record cards { tree = 7 }) (lit Null ∷ col 0 0 ∷ col 0 1 ∷ col 0 2 ∷ col 0 3 ∷ []) 5 insert_cards_is refl old new row count holds.schema h.0 in
     let now : new.now.trees 7 ≡ put_row (Int (next_rowid (old.now.trees 7)) ∷ row) (old.now.trees 7) = did.1 ∙ simp (cast_null, cast_int) in
     record {
       schema = did.0;
@@ -101,7 +101,7 @@ pub line_added : (old new : State) (customer : List ℕ) (number place : ℕ) (l
     → (t : Tables) → Holds old.now t → place ≡ length (t.lines customer number) + 1 → Holds new.now (with_lines customer number (t.lines customer number ++ line ∷ []) t)
 line_added old new customer number place line count h t holds at =
     let row : Row = line_row customer number place line in
-    let did = adds bureau_schema insert_lines 5 (record lines { tree = 9 }) (lit Null ∷ col 0 0 ∷ col 0 1 ∷ col 0 2 ∷ col 0 3 ∷ col 0 4 ∷ col 0 5 ∷ []) 7 insert_lines_is insert_lines_plain refl old new row count holds.schema h.0 in
+    let did = adds bureau_schema insert_lines 5 (record lines { tree = 9 }) (lit Null ∷ col 0 0 ∷ col 0 1 ∷ col 0 2 ∷ col 0 3 ∷ col 0 4 ∷ col 0 5 ∷ []) 7 insert_lines_is refl old new row count holds.schema h.0 in
     let now : new.now.trees 9 ≡ put_row (Int (next_rowid (old.now.trees 9)) ∷ row) (old.now.trees 9) = did.1 ∙ simp (cast_null, cast_int) in
     record {
       schema = did.0;

@@ -9,15 +9,19 @@ use Rattle.sqlite.specs.Does.{Tally, lacks_sequence}
 use Rattle.sqlite.specs.Effect.{Database, IsDatabase}
 use Rattle.sqlite.specs.State.{State, Executes, Writes}
 use Rattle.sqlite.specs.Listing.{understood}
-use Rattle.sqlite.proofs.Callers.{IsPlain, command_of, statement_of, runs_as}
-use Rattle.tables.proofs.Inserting.{went, same_value}
+use Rattle.sqlite.proofs.Callers.{statement_of, runs_as}
+use Rattle.tables.proofs.Inserting.{Means, went, same_value}
 
-module _ (schema : Schema) (sql : List ℕ) (table : Table) (is : (command_of (understood schema sql) ≡ CreateTable) × (statement_of sql (understood schema sql) ≡ sql) × (table_defined_by sql ≡ Ok table)) (plain : IsPlain (understood schema sql))
+-- the text creates this table
+abbrev pub Creates : Schema → List ℕ → Table → Type 0
+Creates schema sql table = Means schema sql CreateTable × (statement_of sql (understood schema sql) ≡ sql) × (table_defined_by sql ≡ Ok table)
+
+module _ (schema : Schema) (sql : List ℕ) (table : Table) (is : Creates schema sql table)
     (uncounted : lacks_sequence (created schema table) ≡ false) where
   pub creates : (old new : State) (count : ℕ) → old.now.schema ≡ schema → Executes sql [] old new (Ok count)
       → (new.now.schema ≡ created schema table) × (new.now.trees (next_tree schema) ≡ []) × KeepsRows schema.tables old.now.trees new.now.trees × IsDatabase new.now
   creates old new count has h =
-      let w = subst (λ t. Writes old new None CreateTable t [] count) is.1 (runs_as sql [] old new schema has CreateTable is.0 plain count h) in
+      let w = subst (λ t. Writes old new None CreateTable t [] count) is.1 (runs_as sql [] old new schema has CreateTable is.0.0 is.0.1 count h) in
       let all = went w.changed in
       let first = went all.1 in
       let made = first.1 in

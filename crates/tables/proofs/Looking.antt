@@ -1,5 +1,5 @@
 -- What each SELECT answers.
-use Rattle.std.proofs.Common.{◌≡◌, ℕ, pos, List, [], ◌∷◌, map, filter, length, Bool, false, bytes_eq, None, Some, Option, refl, sym, ap, subst, ◌∙◌}
+use Rattle.std.proofs.Common.{◌≡◌, ℕ, pos, List, [], ◌∷◌, map, filter, length, Bool, bytes_eq, None, Some, Option, refl, sym, ap, subst, ◌∙◌}
 use Rattle.std.specs.List.{AllByRecursion}
 use Rattle.std.specs.Option.{option_to_list}
 use Rattle.std.specs.List.Sorted.{IsPermutation}
@@ -11,26 +11,24 @@ use Rattle.sqlite.specs.Term.{col}
 use Rattle.sqlite.specs.Tree.{Trees}
 use Rattle.sqlite.specs.Query.{Query, IsSureAnswer}
 use Rattle.sqlite.specs.Program.{overlay}
-use Rattle.sqlite.specs.Command.TheVariants.{Select}
 use Rattle.sqlite.specs.State.{State, Shown, IsUnchanged}
-use Rattle.sqlite.specs.Listing.{understood, reads_listing}
-use Rattle.sqlite.proofs.Callers.{IsPlain, command_of, reads_as}
+use Rattle.sqlite.specs.Listing.{understood}
+use Rattle.sqlite.proofs.Callers.{IsPlain, reads_as}
 use Rattle.tables.specs.Schema.{bureau_schema}
 use Rattle.tables.specs.Cells.{PictureCells}
 use Rattle.tables.specs.Tables.{ByJob, Tables, Holds, IsOf, NamesJob, job_named, jobs_of, is_job, job_row, stretch_row, picture_rows, card_row, line_row, placed, cells, is_row_of, has_customer}
 use Rattle.tables.proofs.Frames.{shown_same}
 use Rattle.tables.proofs.Selecting.{passes, plain_answer, ordered_query, ordered_answer}
 use Rattle.tables.specs.Shown.{shown_job, shown_number, shown_stretch, shown_picture, shown_card, shown_line}
-use Rattle.tables.proofs.ReadTexts.{is_customer, is_key, select_job, select_job_is, select_job_plain, select_job_unlisted, select_numbers, select_numbers_is, select_numbers_plain, select_numbers_unlisted, select_stretches, select_stretches_is, select_stretches_plain, select_stretches_unlisted, select_picture, select_picture_is, select_picture_plain, select_picture_unlisted, select_cards, select_cards_is, select_cards_plain, select_cards_unlisted, select_lines, select_lines_is, select_lines_plain, select_lines_unlisted}
+use Rattle.tables.proofs.ReadTexts.{Selects, is_customer, is_key, select_job, select_job_is, select_numbers, select_numbers_is, select_stretches, select_stretches_is, select_picture, select_picture_is, select_cards, select_cards_is, select_lines, select_lines_is}
 use Rattle.tables.proofs.Keys.{columns, view, shown_cells, rows_of_key, kept_cells, each_test, customer_test, rises, placed_shown, jobs_named, rows_of_jobs, jobs_shown, found_once, at_most_one}
 
-module _ (sql : List ℕ) (query : Query) (names : List (List ℕ)) (is : command_of (understood bureau_schema sql) ≡ Select (record { lets = []; body = query }) names) (plain : IsPlain (understood bureau_schema sql))
-    (unlisted : reads_listing bureau_schema sql ≡ false) where
+module _ (sql : List ℕ) (query : Query) (names : List (List ℕ)) (is : Selects sql query names) where
   -- a query leaves the database as it was, and its rows are an answer
   pub looks : (old new : State) (params : Row) (rows : List Row) → old.now.schema ≡ bureau_schema → Shown sql params old new rows → IsUnchanged old new × IsSureAnswer query (overlay old.now.trees []) params rows
   looks old new params rows has h =
-      let read = reads_as sql params old new bureau_schema has _ is plain unlisted rows h in
-      (shown_same old new sql params rows (subst (λ schema. IsPlain (understood schema sql)) (sym has) plain) h, read.answer)
+      let read = reads_as sql params old new bureau_schema has _ is.0.0 is.0.1 is.1 rows h in
+      (shown_same old new sql params rows (subst (λ schema. IsPlain (understood schema sql)) (sym has) is.0.1) h, read.answer)
 
 abbrev key_of : List ℕ → ℕ → Row
 key_of customer number = Text customer ∷ Int (pos number) ∷ []
@@ -52,19 +50,19 @@ module _ {X : Type 0} (tree : ℕ) (ks : List ℕ) (row : List ℕ → ℕ → �
 pub stretches_looked_up : (old new : State) (customer : List ℕ) (number : ℕ) (rows : List Row) → Shown select_stretches (Text customer ∷ Int (pos number) ∷ []) old new rows
     → (t : Tables) → Holds old.now t → IsUnchanged old new × (rows ≡ map shown_stretch (t.stretches customer number))
 stretches_looked_up old new customer number rows h t holds =
-    let did = looks select_stretches _ _ select_stretches_is select_stretches_plain select_stretches_unlisted old new (key_of customer number) rows holds.schema h in
+    let did = looks select_stretches _ _ select_stretches_is old new (key_of customer number) rows holds.schema h in
     (did.0, listed 3 (3 ∷ 4 ∷ []) stretch_row 0 shown_stretch (λ c n k x. refl) (λ c n k x. refl) old.now.trees t.stretches customer number rows holds.stretches refl did.1)
 
 pub cards_looked_up : (old new : State) (customer : List ℕ) (number : ℕ) (rows : List Row) → Shown select_cards (Text customer ∷ Int (pos number) ∷ []) old new rows
     → (t : Tables) → Holds old.now t → IsUnchanged old new × (rows ≡ map shown_card (t.cards customer number))
 cards_looked_up old new customer number rows h t holds =
-    let did = looks select_cards _ _ select_cards_is select_cards_plain select_cards_unlisted old new (key_of customer number) rows holds.schema h in
+    let did = looks select_cards _ _ select_cards_is old new (key_of customer number) rows holds.schema h in
     (did.0, listed 7 (3 ∷ []) card_row 1 shown_card (λ c n k x. refl) (λ c n k x. refl) old.now.trees t.cards customer number rows holds.cards refl did.1)
 
 pub lines_looked_up : (old new : State) (customer : List ℕ) (number : ℕ) (rows : List Row) → Shown select_lines (Text customer ∷ Int (pos number) ∷ []) old new rows
     → (t : Tables) → Holds old.now t → IsUnchanged old new × (rows ≡ map shown_line (t.lines customer number))
 lines_looked_up old new customer number rows h t holds =
-    let did = looks select_lines _ _ select_lines_is select_lines_plain select_lines_unlisted old new (key_of customer number) rows holds.schema h in
+    let did = looks select_lines _ _ select_lines_is old new (key_of customer number) rows holds.schema h in
     (did.0, listed 9 (3 ∷ 4 ∷ 5 ∷ []) line_row 1 shown_line (λ c n k x. refl) (λ c n k x. refl) old.now.trees t.lines customer number rows holds.lines refl did.1)
 
 -- ---- the picture of a job
@@ -79,7 +77,7 @@ picture_shown customer number (Some p) = refl
 pub picture_looked_up : (old new : State) (customer : List ℕ) (number : ℕ) (rows : List Row) → Shown select_picture (Text customer ∷ Int (pos number) ∷ []) old new rows
     → (t : Tables) → Holds old.now t → IsUnchanged old new × (rows ≡ map shown_picture (option_to_list (t.pictures customer number)))
 picture_looked_up old new customer number rows h t holds =
-    let did = looks select_picture _ _ select_picture_is select_picture_plain select_picture_unlisted old new (key_of customer number) rows holds.schema h in
+    let did = looks select_picture _ _ select_picture_is old new (key_of customer number) rows holds.schema h in
     let params = key_of customer number in
     let db = old.now.trees in
     let kept = filter (passes is_key params) (db 5) in
@@ -96,7 +94,7 @@ job_columns = 2 ∷ 3 ∷ 4 ∷ 5 ∷ 6 ∷ 7 ∷ []
 pub job_looked_up : (old new : State) (customer : List ℕ) (number : ℕ) (rows : List Row) → Shown select_job (Text customer ∷ Int (pos number) ∷ []) old new rows
     → (t : Tables) → Holds old.now t → IsUnchanged old new × (rows ≡ map shown_job (option_to_list (job_named customer number t.jobs)))
 job_looked_up old new customer number rows h t holds =
-    let did = looks select_job _ _ select_job_is select_job_plain select_job_unlisted old new (key_of customer number) rows holds.schema h in
+    let did = looks select_job _ _ select_job_is old new (key_of customer number) rows holds.schema h in
     let params = key_of customer number in
     let db = old.now.trees in
     let kept = filter (passes is_key params) (db 1) in
@@ -110,7 +108,7 @@ job_looked_up old new customer number rows h t holds =
 pub numbers_looked_up : (old new : State) (customer : List ℕ) (rows : List Row) → Shown select_numbers (Text customer ∷ []) old new rows
     → (t : Tables) → Holds old.now t → IsUnchanged old new × (length rows ≡ length (jobs_of customer t.jobs))
 numbers_looked_up old new customer rows h t holds =
-    let did = looks select_numbers _ _ select_numbers_is select_numbers_plain select_numbers_unlisted old new (Text customer ∷ []) rows holds.schema h in
+    let did = looks select_numbers _ _ select_numbers_is old new (Text customer ∷ []) rows holds.schema h in
     let params : Row = Text customer ∷ [] in
     let db = old.now.trees in
     let kept = filter (passes is_customer params) (db 1) in

@@ -8,18 +8,14 @@ use Rattle.sqlite.specs.Tree.{Trees}
 use Rattle.sqlite.specs.Table.{Table}
 use Rattle.sqlite.specs.Schema.{Schema}
 use Rattle.sqlite.specs.Change.{created, KeepsRows}
-use Rattle.sqlite.specs.Command.TheVariants.{CreateTable}
-use Rattle.sqlite.specs.Compile.{table_defined_by}
 use Rattle.sqlite.specs.Does.{lacks_sequence}
-use Rattle.sqlite.specs.Listing.{understood}
 use Rattle.sqlite.specs.State.{State, ExecutesInside}
-use Rattle.sqlite.proofs.Callers.{IsPlain, command_of, statement_of}
 use Rattle.tables.specs.Schema.{bureau, bureau_schema}
 use Rattle.tables.specs.Making.{AreMade}
 use Rattle.tables.specs.Tables.{Holds, no_rows}
-use Rattle.tables.proofs.Texts.{insert_bureau, insert_bureau_is, insert_bureau_plain}
-use Rattle.tables.proofs.Creating.{creates}
-use Rattle.tables.proofs.Inserting.{apart, adds, cast_int, cast_null}
+use Rattle.tables.proofs.Texts.{insert_bureau, insert_bureau_is}
+use Rattle.tables.proofs.Creating.{Creates, creates}
+use Rattle.tables.proofs.Inserting.{adds, apart, cast_int, cast_null}
 use Rattle.tables.proofs.Behind.{all_push}
 
 still_empty : (tables : List Table) (old new : Trees) → AllByRecursion (λ t. old t.tree ≡ []) tables → KeepsRows tables old new → AllByRecursion (λ t. new t.tree ≡ []) tables
@@ -27,11 +23,10 @@ still_empty [] old new empty kept = tt
 still_empty (table ∷ tables) old new empty kept = (kept.0 ∙ empty.0, still_empty tables old new empty.1 kept.1)
 
 -- one more table, as empty as the others
-pub table_made : (schema : Schema) (sql : List ℕ) (table : Table) (is : (command_of (understood schema sql) ≡ CreateTable) × (statement_of sql (understood schema sql) ≡ sql) × (table_defined_by sql ≡ Ok table)) (plain : IsPlain (understood schema sql))
-    (uncounted : lacks_sequence (created schema table) ≡ false)
+pub table_made : (schema : Schema) (sql : List ℕ) (table : Table) (is : Creates schema sql table) (uncounted : lacks_sequence (created schema table) ≡ false)
     → (old new : State) (count : ℕ) → ExecutesInside 0 sql [] old new (Ok count) → AreMade old.now schema → AreMade new.now (created schema table)
-table_made schema sql table is plain uncounted old new count h made =
-    let did = creates schema sql table is plain uncounted old new count made.is h.0 in
+table_made schema sql table is uncounted old new count h made =
+    let did = creates schema sql table is uncounted old new count made.is h.0 in
     record { is = did.0; empty = all_push (λ t. new.now.trees t.tree ≡ []) schema.tables _ (still_empty schema.tables old.now.trees new.now.trees made.empty did.2) did.1 }
 
 abbrev pub version_params : Row
@@ -39,7 +34,7 @@ version_params = Int (pos 1) ∷ Int (pos 1) ∷ []
 
 pub version_made : (old new : State) (count : ℕ) → ExecutesInside 0 insert_bureau version_params old new (Ok count) → AreMade old.now bureau_schema → Holds new.now no_rows
 version_made old new count h made =
-    let did = adds bureau_schema insert_bureau 0 (record bureau { tree = 0 }) (col 0 0 ∷ lit Null ∷ col 0 1 ∷ []) 3 insert_bureau_is insert_bureau_plain refl old new version_params count made.is h.0 in
+    let did = adds bureau_schema insert_bureau 0 (record bureau { tree = 0 }) (col 0 0 ∷ lit Null ∷ col 0 1 ∷ []) 3 insert_bureau_is refl old new version_params count made.is h.0 in
     let jobs_none : new.now.trees 1 ≡ [] = did.2.1.0 (apart refl) ∙ made.empty.1.0 in
     let stretches_none : new.now.trees 3 ≡ [] = did.2.1.1.0 (apart refl) ∙ made.empty.1.1.0 in
     let pictures_none : new.now.trees 5 ≡ [] = did.2.1.1.1.0 (apart refl) ∙ made.empty.1.1.1.0 in

@@ -1,5 +1,6 @@
 -- What the texts mean that read the tables or change a row.
 use Rattle.std.proofs.Common.{◌≡◌, ℕ, List, [], ◌∷◌, codes, refl, false}
+use Rattle.sqlite.specs.Query.{Query}
 use Rattle.sqlite.specs.Term.{Term, col, op2}
 use Rattle.sqlite_sql.specs.declared.ops.BinaryOp.TheVariants.{Compare}
 use Rattle.sqlite_sql.specs.declared.ops.CompareOp.TheVariants.{Eq}
@@ -7,9 +8,13 @@ use Rattle.sqlite.specs.Collation.TheVariants.{Binary}
 use Rattle.sqlite.specs.Command.TheVariants.{Update, Select}
 use Rattle.sqlite_tied.specs.Compute.{everything}
 use Rattle.sqlite.specs.Listing.{understood, reads_listing}
-use Rattle.sqlite.proofs.Callers.{IsPlain, command_of}
 use Rattle.tables.specs.Schema.{bureau_schema}
+use Rattle.tables.proofs.Inserting.{Means}
 use Rattle.tables.proofs.Selecting.{plain_query, ordered_query}
+
+-- the text means this query, which does not read the listing of tables
+abbrev pub Selects : List ℕ → Query → List (List ℕ) → Type 0
+Selects sql query names = Means bureau_schema sql (Select (record { lets = []; body = query }) names) × (reads_listing bureau_schema sql ≡ false)
 
 -- the row's customer is the first parameter
 abbrev pub is_customer : List Term
@@ -31,17 +36,9 @@ select_job = codes "SELECT kind, size, deck, loaded, held, collected FROM jobs W
 abbrev pub job_terms : List Term
 job_terms = col 1 3 ∷ col 1 4 ∷ col 1 5 ∷ col 1 6 ∷ col 1 7 ∷ col 1 8 ∷ []
 
-pub select_job_is : command_of (understood bureau_schema select_job) ≡ Select (record { lets = []; body = plain_query 1 is_key job_terms }) (codes "kind" ∷ codes "size" ∷ codes "deck" ∷ codes "loaded" ∷ codes "held" ∷ codes "collected" ∷ [])
+pub select_job_is : Selects select_job (plain_query 1 is_key job_terms) (codes "kind" ∷ codes "size" ∷ codes "deck" ∷ codes "loaded" ∷ codes "held" ∷ codes "collected" ∷ [])
 unfolding understood everything
-select_job_is = refl
-
-pub select_job_plain : IsPlain (understood bureau_schema select_job)
-unfolding understood everything
-select_job_plain = (refl, refl)
-
-pub select_job_unlisted : reads_listing bureau_schema select_job ≡ false
-unfolding understood everything
-select_job_unlisted = refl
+select_job_is = ((refl, (refl, refl)), refl)
 
 abbrev pub select_numbers : List ℕ
 select_numbers = codes "SELECT number FROM jobs WHERE customer = ?1"
@@ -49,17 +46,9 @@ select_numbers = codes "SELECT number FROM jobs WHERE customer = ?1"
 abbrev pub number_terms : List Term
 number_terms = col 1 2 ∷ []
 
-pub select_numbers_is : command_of (understood bureau_schema select_numbers) ≡ Select (record { lets = []; body = plain_query 1 is_customer number_terms }) (codes "number" ∷ [])
+pub select_numbers_is : Selects select_numbers (plain_query 1 is_customer number_terms) (codes "number" ∷ [])
 unfolding understood everything
-select_numbers_is = refl
-
-pub select_numbers_plain : IsPlain (understood bureau_schema select_numbers)
-unfolding understood everything
-select_numbers_plain = (refl, refl)
-
-pub select_numbers_unlisted : reads_listing bureau_schema select_numbers ≡ false
-unfolding understood everything
-select_numbers_unlisted = refl
+select_numbers_is = ((refl, (refl, refl)), refl)
 
 -- ---- stretches
 
@@ -69,17 +58,9 @@ select_stretches = codes "SELECT switches, granted FROM stretches WHERE customer
 abbrev pub stretch_terms : List Term
 stretch_terms = col 1 4 ∷ col 1 5 ∷ []
 
-pub select_stretches_is : command_of (understood bureau_schema select_stretches) ≡ Select (record { lets = []; body = ordered_query 3 is_key stretch_terms (col 1 3) }) (codes "switches" ∷ codes "granted" ∷ [])
+pub select_stretches_is : Selects select_stretches (ordered_query 3 is_key stretch_terms (col 1 3)) (codes "switches" ∷ codes "granted" ∷ [])
 unfolding understood everything
-select_stretches_is = refl
-
-pub select_stretches_plain : IsPlain (understood bureau_schema select_stretches)
-unfolding understood everything
-select_stretches_plain = (refl, refl)
-
-pub select_stretches_unlisted : reads_listing bureau_schema select_stretches ≡ false
-unfolding understood everything
-select_stretches_unlisted = refl
+select_stretches_is = ((refl, (refl, refl)), refl)
 
 abbrev pub update_granted : List ℕ
 update_granted = codes "UPDATE stretches SET granted = ?4 WHERE customer = ?1 AND number = ?2 AND place = ?3"
@@ -87,13 +68,9 @@ update_granted = codes "UPDATE stretches SET granted = ?4 WHERE customer = ?1 AN
 abbrev pub granted_terms : List Term
 granted_terms = col 1 0 ∷ col 1 0 ∷ col 1 1 ∷ col 1 2 ∷ col 1 3 ∷ col 1 4 ∷ col 0 3 ∷ []
 
-pub update_granted_is : command_of (understood bureau_schema update_granted) ≡ Update 2 (record { lets = []; body = plain_query 3 is_place granted_terms })
+pub update_granted_is : Means bureau_schema update_granted (Update 2 (record { lets = []; body = plain_query 3 is_place granted_terms }))
 unfolding understood everything
-update_granted_is = refl
-
-pub update_granted_plain : IsPlain (understood bureau_schema update_granted)
-unfolding understood everything
-update_granted_plain = (refl, refl)
+update_granted_is = (refl, (refl, refl))
 
 -- ---- pictures
 
@@ -103,18 +80,10 @@ select_picture = codes "SELECT storage, i, a, b, compare, overflow, channel, wai
 abbrev pub picture_terms : List Term
 picture_terms = col 1 3 ∷ col 1 4 ∷ col 1 5 ∷ col 1 6 ∷ col 1 7 ∷ col 1 8 ∷ col 1 9 ∷ col 1 10 ∷ col 1 11 ∷ col 1 12 ∷ col 1 13 ∷ col 1 14 ∷ col 1 15 ∷ col 1 16 ∷ []
 
-pub select_picture_is : command_of (understood bureau_schema select_picture) ≡ Select (record { lets = []; body = plain_query 5 is_key picture_terms })
+pub select_picture_is : Selects select_picture (plain_query 5 is_key picture_terms)
     (codes "storage" ∷ codes "i" ∷ codes "a" ∷ codes "b" ∷ codes "compare" ∷ codes "overflow" ∷ codes "channel" ∷ codes "waiting" ∷ codes "form" ∷ codes "line" ∷ codes "taken" ∷ codes "cards" ∷ codes "lines" ∷ codes "standing" ∷ [])
 unfolding understood everything
-select_picture_is = refl
-
-pub select_picture_plain : IsPlain (understood bureau_schema select_picture)
-unfolding understood everything
-select_picture_plain = (refl, refl)
-
-pub select_picture_unlisted : reads_listing bureau_schema select_picture ≡ false
-unfolding understood everything
-select_picture_unlisted = refl
+select_picture_is = ((refl, (refl, refl)), refl)
 
 abbrev pub update_picture : List ℕ
 update_picture = codes "UPDATE pictures SET storage = ?3, i = ?4, a = ?5, b = ?6, compare = ?7, overflow = ?8, channel = ?9, waiting = ?10, form = ?11, line = ?12, taken = ?13, cards = ?14, lines = ?15, standing = ?16 WHERE customer = ?1 AND number = ?2"
@@ -122,13 +91,9 @@ update_picture = codes "UPDATE pictures SET storage = ?3, i = ?4, a = ?5, b = ?6
 abbrev pub new_picture_terms : List Term
 new_picture_terms = col 1 0 ∷ col 1 0 ∷ col 1 1 ∷ col 1 2 ∷ col 0 2 ∷ col 0 3 ∷ col 0 4 ∷ col 0 5 ∷ col 0 6 ∷ col 0 7 ∷ col 0 8 ∷ col 0 9 ∷ col 0 10 ∷ col 0 11 ∷ col 0 12 ∷ col 0 13 ∷ col 0 14 ∷ col 0 15 ∷ []
 
-pub update_picture_is : command_of (understood bureau_schema update_picture) ≡ Update 3 (record { lets = []; body = plain_query 5 is_key new_picture_terms })
+pub update_picture_is : Means bureau_schema update_picture (Update 3 (record { lets = []; body = plain_query 5 is_key new_picture_terms }))
 unfolding understood everything
-update_picture_is = refl
-
-pub update_picture_plain : IsPlain (understood bureau_schema update_picture)
-unfolding understood everything
-update_picture_plain = (refl, refl)
+update_picture_is = (refl, (refl, refl))
 
 -- ---- cards
 
@@ -138,17 +103,9 @@ select_cards = codes "SELECT card FROM cards WHERE customer = ?1 AND number = ?2
 abbrev pub card_terms : List Term
 card_terms = col 1 4 ∷ []
 
-pub select_cards_is : command_of (understood bureau_schema select_cards) ≡ Select (record { lets = []; body = ordered_query 7 is_key card_terms (col 1 3) }) (codes "card" ∷ [])
+pub select_cards_is : Selects select_cards (ordered_query 7 is_key card_terms (col 1 3)) (codes "card" ∷ [])
 unfolding understood everything
-select_cards_is = refl
-
-pub select_cards_plain : IsPlain (understood bureau_schema select_cards)
-unfolding understood everything
-select_cards_plain = (refl, refl)
-
-pub select_cards_unlisted : reads_listing bureau_schema select_cards ≡ false
-unfolding understood everything
-select_cards_unlisted = refl
+select_cards_is = ((refl, (refl, refl)), refl)
 
 -- ---- lines
 
@@ -158,14 +115,6 @@ select_lines = codes "SELECT form, line, image FROM lines WHERE customer = ?1 AN
 abbrev pub line_terms : List Term
 line_terms = col 1 4 ∷ col 1 5 ∷ col 1 6 ∷ []
 
-pub select_lines_is : command_of (understood bureau_schema select_lines) ≡ Select (record { lets = []; body = ordered_query 9 is_key line_terms (col 1 3) }) (codes "form" ∷ codes "line" ∷ codes "image" ∷ [])
+pub select_lines_is : Selects select_lines (ordered_query 9 is_key line_terms (col 1 3)) (codes "form" ∷ codes "line" ∷ codes "image" ∷ [])
 unfolding understood everything
-select_lines_is = refl
-
-pub select_lines_plain : IsPlain (understood bureau_schema select_lines)
-unfolding understood everything
-select_lines_plain = (refl, refl)
-
-pub select_lines_unlisted : reads_listing bureau_schema select_lines ≡ false
-unfolding understood everything
-select_lines_unlisted = refl
+select_lines_is = ((refl, (refl, refl)), refl)

@@ -19,7 +19,7 @@ use Rattle.sqlite.specs.Rows.{Written, Task}
 use Rattle.sqlite.specs.Effect.{Database, IsDatabase, Answers}
 use Rattle.sqlite.specs.State.{State, mode_of, Executes}
 use Rattle.sqlite.specs.Listing.{understood}
-use Rattle.sqlite.proofs.Callers.{IsPlain, command_of, statement_of, runs_as, one_step, one_permutation}
+use Rattle.sqlite.proofs.Callers.{statement_of, runs_as, one_step, one_permutation}
 use Rattle.sqlite_schema.specs.declared.schema.Keys.TheVariants.{Enforced}
 use Rattle.sqlite_rules.specs.Action.{deed_for, works}
 use Rattle.sqlite_rules.specs.Calls.{ids_of}
@@ -29,9 +29,9 @@ use Rattle.tables.specs.Cells.{PictureCells}
 use Rattle.tables.specs.Schema.{bureau_schema, to_job, stretches, pictures}
 use Rattle.tables.specs.Tables.{Tables, Holds, IsOf, NamesJob, cells, placed, is_row_of, stretch_row, picture_row, picture_rows, card_row, line_row, with_stretches, with_picture}
 use Rattle.tables.specs.declared.rows.StretchRow.{StretchRow}
-use Rattle.tables.proofs.Inserting.{apart, went, same_value, cast_int}
+use Rattle.tables.proofs.Inserting.{Means, apart, went, same_value, cast_int}
 use Rattle.tables.proofs.Selecting.{passes, show, plain_query, plain_answer}
-use Rattle.tables.proofs.ReadTexts.{is_key, is_place, update_granted, update_granted_is, update_granted_plain, granted_terms, update_picture, update_picture_is, update_picture_plain, new_picture_terms}
+use Rattle.tables.proofs.ReadTexts.{is_key, is_place, update_granted, update_granted_is, granted_terms, update_picture, update_picture_is, new_picture_terms}
 use Rattle.tables.proofs.Keys.{key_passes, key_test, place_passes, place_needs, kept_cells, each_test}
 use Rattle.tables.proofs.Replacing.{renewed, in_place, only_row, within, all_within, renews, key_yes, by_job, none_placed, last_found, last_renewed}
 
@@ -43,7 +43,7 @@ no_deed false = refl
 idle_here : (tree : ℕ) (olds news : List Row) → works bureau_schema Enforced 0 tree olds news ≡ []
 idle_here tree olds news = rw (no_deed (length news == 0))
 
-module _ (schema : Schema) (sql : List ℕ) (at : ℕ) (table : Table) (tests terms : List Term) (is : command_of (understood schema sql) ≡ Update at (record { lets = []; body = plain_query table.tree tests terms })) (plain : IsPlain (understood schema sql))
+module _ (schema : Schema) (sql : List ℕ) (at : ℕ) (table : Table) (tests terms : List Term) (is : Means schema sql (Update at (record { lets = []; body = plain_query table.tree tests terms })))
     (place : slice_get schema.tables at ≡ Some table) (idle : (olds news : List Row) → works schema Enforced 0 table.tree olds news ≡ []) where
   -- the rows that the statement finds are taken out, and put in as it shows them
   pub updates : (old new : State) (params : Row) (count : ℕ) → old.now.schema ≡ schema → Executes sql params old new (Ok count)
@@ -53,7 +53,7 @@ module _ (schema : Schema) (sql : List ℕ) (at : ℕ) (table : Table) (tests te
   updates old new params count has h =
       let db = old.now.trees in
       let command = Update at (record { lets = []; body = plain_query table.tree tests terms }) in
-      let w = runs_as sql params old new schema has command is plain count h in
+      let w = runs_as sql params old new schema has command is.0 is.1 count h in
       let text = statement_of sql (understood schema sql) in
       let task : Task = record { limit = old.step_limit; keys = (mode_of old).keys; schema = schema; table = table; params = params } in
       let whole = subst (λ s. Does old.step_limit (mode_of old) params (record old.now { schema = s }) text None command (Ok (w.tally, new.now))) has w.changed in
@@ -114,7 +114,7 @@ module _ (customer : List ℕ) (number : ℕ) (p : PictureCells) where
   pub picture_set : (old new : State) (count : ℕ) → Executes update_picture picture_params old new (Ok count) → (t : Tables) → Holds old.now t → (before : PictureCells) → t.pictures customer number ≡ Some before
       → Holds new.now (with_picture customer number p t)
   picture_set old new count h t holds before was =
-      let did = updates bureau_schema update_picture 3 (record pictures { tree = 5 }) is_key new_picture_terms update_picture_is update_picture_plain refl (idle_here 5) old new picture_params count holds.schema h in
+      let did = updates bureau_schema update_picture 3 (record pictures { tree = 5 }) is_key new_picture_terms update_picture_is refl (idle_here 5) old new picture_params count holds.schema h in
       let db = old.now.trees in
       let own : of_key (picture_row customer number before) ≡ true = picture_passes customer number before ∙ own_key customer number in
       let found : filter of_key (cells (db 5)) ≡ picture_row customer number before ∷ [] =
@@ -182,7 +182,7 @@ module _ (customer : List ℕ) (number place granted : ℕ) where
   pub granted_set : (old new : State) (count : ℕ) → Executes update_granted stretch_params old new (Ok count) → (t : Tables) → Holds old.now t → (before : List StretchRow) (last : StretchRow) → t.stretches customer number ≡ before ++ last ∷ [] → place ≡ length before
       → Holds new.now (with_stretches customer number (before ++ (record last { granted = granted }) ∷ []) t)
   granted_set old new count h t holds before last was at_end =
-      let did = updates bureau_schema update_granted 2 (record stretches { tree = 3 }) is_place granted_terms update_granted_is update_granted_plain refl (idle_here 3) old new stretch_params count holds.schema h in
+      let did = updates bureau_schema update_granted 2 (record stretches { tree = 3 }) is_place granted_terms update_granted_is refl (idle_here 3) old new stretch_params count holds.schema h in
       let db = old.now.trees in
       let next = record last { granted = granted } in
       let from_zero : place ≡ 0 + length before = omega (arith, at_end) in
