@@ -10,7 +10,7 @@ use core_store::{Compared, Core, Registers};
 use units::{Switches, Units};
 
 /// What a branch of five characters asks, by its last character.
-#[derive(Clone, Copy, Debug, PartialEq, Eq)]
+#[derive(Clone, Copy)]
 pub enum Condition {
     /// Blank: nothing.
     Always,
@@ -33,7 +33,7 @@ pub enum Condition {
 }
 
 /// What a branch on word mark or zone asks of a position, by its last character.
-#[derive(Clone, Copy, Debug, PartialEq, Eq)]
+#[derive(Clone, Copy)]
 pub enum PositionTest {
     /// `1`: a word mark.
     HasMark,

@@ -11,7 +11,7 @@ use core_store::{Check, Core, LARGEST_SIZE, Registers};
 use units::{CarriageOrder, Devices};
 
 /// What an instruction does at the fields of its two addresses, by its first character.
-#[derive(Clone, Copy, Debug, PartialEq, Eq)]
+#[derive(Clone, Copy)]
 pub enum FieldOperation {
     /// `A`: add.
     Add,
@@ -44,7 +44,7 @@ pub enum FieldOperation {
 }
 
 /// What an instruction does, by its first character.
-#[derive(Clone, Copy, Debug, PartialEq, Eq)]
+#[derive(Clone, Copy)]
 pub enum Operation {
     /// Something at the fields of its two addresses.
     OnFields(FieldOperation),
@@ -69,14 +69,14 @@ pub enum Operation {
 }
 
 /// Where an instruction stands: so many characters from a position on.
-#[derive(Clone, Copy, Debug, PartialEq, Eq)]
+#[derive(Clone, Copy)]
 pub struct Word {
     pub first: u16,
     pub length: u16,
 }
 
 /// What the last character of an instruction says.
-#[derive(Clone, Copy, Debug, PartialEq, Eq)]
+#[derive(Clone, Copy)]
 pub enum Modifier {
     /// Nothing: it is the operation itself or belongs to an address.
     Plain,
@@ -91,7 +91,7 @@ pub enum Modifier {
 }
 
 /// An instruction that was read: where it works, with the registers where no address stands.
-#[derive(Clone, Copy, Debug, PartialEq, Eq)]
+#[derive(Clone, Copy)]
 pub struct Decoded {
     pub operation: Operation,
     /// How many characters it has.

@@ -16,7 +16,7 @@ use moves::{
 use units::{Fault, Printer, Units, move_carriage, operate};
 
 /// How an instruction without a check ended.
-#[derive(Clone, Copy, Debug, PartialEq, Eq)]
+#[derive(Clone, Copy)]
 pub enum Course {
     GoesOn,
     Halts,
