@@ -7,7 +7,7 @@ use crate::expressions::MOST_DIGITS;
 use bcd::Code;
 
 /// Characters that may follow each other in a text.
-#[derive(Clone, Copy, Debug, PartialEq, Eq)]
+#[derive(Clone, Copy)]
 pub enum Class {
     /// The digits 0 to 9.
     Digit,

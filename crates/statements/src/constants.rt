@@ -13,7 +13,7 @@ use addresses::digit_under;
 use bcd::{Code, Zone};
 
 /// What a constant is made of.
-#[derive(Clone, Copy, Debug, PartialEq, Eq)]
+#[derive(Clone, Copy)]
 pub enum Constant {
     /// These characters.
     Characters(Text),

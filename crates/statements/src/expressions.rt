@@ -18,7 +18,7 @@ pub const MOST_DIGITS: usize = 5;
 pub const NUMBER_LIMIT: u32 = 100_000;
 
 /// What an address begins with.
-#[derive(Clone, Copy, Debug, PartialEq, Eq)]
+#[derive(Clone, Copy)]
 pub enum Base {
     /// A number below 100,000.
     Number(u32),
@@ -27,7 +27,7 @@ pub enum Base {
 }
 
 /// What is added to a base or taken away from it.
-#[derive(Clone, Copy, Debug, PartialEq, Eq)]
+#[derive(Clone, Copy)]
 pub enum Adjustment {
     /// Nothing.
     Nothing,
@@ -38,7 +38,7 @@ pub enum Adjustment {
 }
 
 /// A base and its adjustment.
-#[derive(Clone, Copy, Debug, PartialEq, Eq)]
+#[derive(Clone, Copy)]
 pub struct Expression {
     /// What it begins with.
     pub base: Base,
@@ -47,7 +47,7 @@ pub struct Expression {
 }
 
 /// What stands for an address of an instruction.
-#[derive(Clone, Copy, Debug, PartialEq, Eq)]
+#[derive(Clone, Copy)]
 pub struct Address {
     /// The address without its index location.
     pub expression: Expression,

@@ -4,7 +4,7 @@ ghost use Rattle.std.specs.Prelude.{◌≡◌};
 ghost use Rattle.statements.specs.Statements.{fault_number};
 
 /// The lowest fault of a card.
-#[derive(Clone, Copy, Debug, PartialEq, Eq)]
+#[derive(Clone, Copy)]
 pub enum StatementFault {
     /// Something stands behind a blank in the label's columns or in those of the operation.
     BrokenField,

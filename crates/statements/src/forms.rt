@@ -1,7 +1,7 @@
 //! The forms that the operand field of an instruction may have.
 
 /// What an address operand is for.
-#[derive(Clone, Copy, Debug, PartialEq, Eq)]
+#[derive(Clone, Copy, PartialEq, Eq)]
 pub enum Kind {
     /// Where the machine goes on. No literal stands for it.
     Branch,
@@ -10,7 +10,7 @@ pub enum Kind {
 }
 
 /// The characters that may end an operand field.
-#[derive(Clone, Copy, Debug, PartialEq, Eq)]
+#[derive(Clone, Copy)]
 pub enum Modifiers {
     /// Each but the blank.
     Any,
@@ -23,7 +23,7 @@ pub enum Modifiers {
 }
 
 /// What an operand field is made of, with commas between.
-#[derive(Clone, Copy, Debug, PartialEq, Eq)]
+#[derive(Clone, Copy)]
 pub enum Form {
     /// Nothing.
     Empty,

@@ -11,7 +11,7 @@ use bcd::Code;
 pub const LONGEST_NAME: usize = 6;
 
 /// A name, with blanks behind it: one to six letters and digits, a letter first.
-#[derive(Clone, Copy, Debug, PartialEq, Eq)]
+#[derive(Clone, Copy, PartialEq, Eq)]
 pub struct Name {
     /// Its characters, and blanks up to six.
     pub characters: [Code; LONGEST_NAME],

@@ -12,7 +12,7 @@ use crate::texts::{LONGEST_TEXT, Text};
 use bcd::Code;
 
 /// What stands in an operand field for the address of an instruction.
-#[derive(Clone, Copy, Debug, PartialEq, Eq)]
+#[derive(Clone, Copy)]
 pub enum Operand {
     /// An address.
     Address(Address),
@@ -21,7 +21,7 @@ pub enum Operand {
 }
 
 /// What an operand field holds.
-#[derive(Clone, Copy, Debug, PartialEq, Eq)]
+#[derive(Clone, Copy)]
 pub struct Operands {
     /// The first address.
     pub first: Option<Operand>,

@@ -16,7 +16,7 @@ use bcd::Code;
 pub const LONGEST_OPERATION: usize = 5;
 
 /// One to three forms.
-#[derive(Clone, Copy, Debug, PartialEq, Eq)]
+#[derive(Clone, Copy)]
 pub struct Forms {
     /// The form that is tried first.
     pub form: Form,
@@ -27,7 +27,7 @@ pub struct Forms {
 }
 
 /// What a mnemonic stands for.
-#[derive(Clone, Copy, Debug, PartialEq, Eq)]
+#[derive(Clone, Copy)]
 pub struct Mnemonic {
     /// The glyph of the operation.
     pub operation: u8,
@@ -38,7 +38,7 @@ pub struct Mnemonic {
 }
 
 /// What a card is for.
-#[derive(Clone, Copy, Debug, PartialEq, Eq)]
+#[derive(Clone, Copy)]
 pub enum Operation {
     /// A heading.
     Job,
@@ -61,7 +61,7 @@ pub enum Operation {
 }
 
 /// An instruction as its card spells it.
-#[derive(Clone, Copy, Debug, PartialEq, Eq)]
+#[derive(Clone, Copy)]
 pub struct Instruction {
     /// The operation's character.
     pub operation: Code,

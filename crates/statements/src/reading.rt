@@ -21,7 +21,7 @@ use cards::Card;
 use core_store::Size;
 
 /// What a card says.
-#[derive(Clone, Copy, Debug, PartialEq, Eq)]
+#[derive(Clone, Copy)]
 pub enum Statement {
     /// Nothing to the assembler.
     Comment,

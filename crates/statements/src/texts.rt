@@ -10,7 +10,7 @@ use std::marker::Model;
 pub const LONGEST_TEXT: usize = 52;
 
 /// At most 52 characters.
-#[derive(Clone, Copy, Debug, PartialEq, Eq)]
+#[derive(Clone, Copy)]
 pub struct Text {
     /// The characters, and blanks behind them.
     characters: [Code; LONGEST_TEXT],
