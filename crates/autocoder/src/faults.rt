@@ -7,7 +7,7 @@ use layout::SourceFault;
 use std::alloc::AllocError;
 
 /// The lowest fault of a card.
-#[derive(Clone, Copy, Debug, PartialEq, Eq)]
+#[derive(Clone, Copy)]
 pub struct CardFault {
     /// The card's number, from 1 on; 0 where there is no card.
     pub card: u32,
@@ -15,7 +15,7 @@ pub struct CardFault {
 }
 
 /// Why a source has no program.
-#[derive(Debug, Drop)]
+#[derive(Drop)]
 pub enum Faults {
     /// The faults of the source, in card order, one of a card.
     Source(Vec<CardFault>),

@@ -26,7 +26,7 @@ pub const FIRST_FREE: u32 = 81;
 const LAST_CELL: u32 = 400_000_000;
 
 /// A filled position.
-#[derive(Clone, Copy, Debug, PartialEq, Eq)]
+#[derive(Clone, Copy)]
 pub struct Cell {
     pub position: u32,
     pub code: Code,

@@ -6,7 +6,7 @@ ghost use Rattle.layout.specs.Faults.{fault_number};
 use statements::StatementFault;
 
 /// Why a source has no image.
-#[derive(Clone, Copy, Debug, PartialEq, Eq)]
+#[derive(Clone, Copy)]
 pub enum SourceFault {
     /// There was no memory for the work.
     NoMemory,

@@ -16,7 +16,7 @@ use std::alloc::{AllocError, Global};
 pub const MOST_LITERALS: usize = 4000;
 
 /// Characters that are placed behind the source.
-#[derive(Clone, Copy, Debug, PartialEq, Eq)]
+#[derive(Clone, Copy)]
 pub struct Literal {
     codes: [Code; LONGEST_TEXT],
     count: usize,

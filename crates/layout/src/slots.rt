@@ -24,7 +24,7 @@ pub const FARTHEST: u32 = 300_000_000;
 pub const LAST_PLACE: u32 = 299_000_000;
 
 /// A name and its address.
-#[derive(Clone, Copy, Debug, PartialEq, Eq)]
+#[derive(Clone, Copy)]
 pub struct Definition {
     pub name: Name,
     /// The address, which may lie outside the storage.
@@ -45,7 +45,7 @@ pub enum Kind {
 }
 
 /// Where a card stands and what it defines, or the fault for which it does neither.
-#[derive(Clone, Copy, Debug, PartialEq, Eq)]
+#[derive(Clone, Copy)]
 pub struct Slot {
     /// The card's first position.
     pub before: u32,
