@@ -10,7 +10,7 @@ use std::fmt;
 use std::fmt::{Display, Formatter};
 
 /// How a machine stands, and where. It prints as it is told.
-#[derive(Clone, Copy, Debug, PartialEq, Eq)]
+#[derive(Clone, Copy)]
 pub struct Stand {
     /// How it stands.
     pub standing: Standing,
@@ -19,7 +19,7 @@ pub struct Stand {
 }
 
 /// What a machine has made, and how it stands. It prints as it is told.
-#[derive(Clone, Copy, Debug, PartialEq, Eq)]
+#[derive(Clone, Copy)]
 pub struct Report {
     /// How many cards it punched.
     pub cards: usize,
