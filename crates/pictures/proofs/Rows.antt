@@ -1,8 +1,8 @@
 -- rows of a table, each made from one of the things in a list
-use Rattle.std.proofs.Common.{◌≡◌, ℕ, zero, suc, ◌<◌, List, [], ◌∷◌, refl, ◌∙◌, ap, arith, length, get_or, map}
-use Rattle.std.proofs.lemmas.List.{length-map}
+use Rattle.std.proofs.Common.{◌≡◌, ℕ, zero, suc, ◌<◌, List, [], ◌∷◌, ◌++◌, ◌+◌, refl, ◌∙◌, ap, arith, length, get_or, map, take}
+use Rattle.std.proofs.lemmas.List.{length-map, map_push, take_more}
 use Rattle.std.specs.List.{All}
-use Rattle.std.proofs.lemmas.List.Elements.{All-head, All-tail}
+use Rattle.std.proofs.lemmas.List.Elements.{All-head, All-push, All-tail}
 use Rattle.units.specs.declared.printer.Line.{Line}
 use Rattle.pictures.specs.Columns.{line_cells, IsLine}
 use Rattle.tables.specs.Cells.{LineCells}
@@ -38,6 +38,13 @@ pub made_from : {X Y : Type 0} (f : X → Y) (P : X → Type 0) (rows : List Y) 
     (xs : List X) → All P xs → rows ≡ map f xs → MadeFrom f P row
 made_from f P rows i row within is xs each same =
     made_at f P xs i row each (omega (arith, simp length-map at (ap length same))) (is ∙ ap (λ ys. get_or ys i row) same)
+
+-- one row more was read
+pub one_more : {X Y : Type 0} (f : X → Y) (P : X → Type 0) (rows : List Y) (i : ℕ) (row : Y) (x : X) (before after : List X) → i < length rows → row ≡ get_or rows i row →
+    map f before ≡ take i rows → All P before → (f x ≡ row) × P x → after ≡ before ++ x ∷ [] → (map f after ≡ take (i + 1) rows) × All P after
+one_more f P rows i row x before after within is same each made new =
+    let last : map f before ++ f x ∷ [] ≡ take (i + 1) rows = rw (take_more rows i row within, ← is, made.0, same) in
+    (ap (map f) new ∙ map_push f before x ∙ last, rw new (All-push P before x each made.1))
 
 same_line : (l m : Line) → l.form ≡ m.form → l.line ≡ m.line → l.codes ≡ m.codes → l ≡ m
 same_line l m form line codes =
