@@ -3,7 +3,7 @@
 use std::marker::Model;
 
 /// A row of `jobs`.
-#[derive(Debug, Drop)]
+#[derive(Drop)]
 pub struct JobRow {
     /// 0 for a deck that is loaded as it is.
     pub kind: u32,
@@ -28,7 +28,7 @@ impl Model for JobRow {
 }
 
 /// A row of `stretches`.
-#[derive(Clone, Copy, Debug, PartialEq, Eq)]
+#[derive(Clone, Copy, PartialEq, Eq)]
 pub struct StretchRow {
     /// Switch A the lowest bit, G the seventh.
     pub switches: u32,
@@ -73,7 +73,7 @@ impl Model for PictureRow {
 }
 
 /// A row of `cards`: 80 bytes, each the number of a character.
-#[derive(Debug, Drop)]
+#[derive(Drop)]
 pub struct CardRow {
     pub card: Vec<u8>,
 }
@@ -87,7 +87,7 @@ impl Model for CardRow {
 }
 
 /// A row of `lines`.
-#[derive(Debug, Drop)]
+#[derive(Drop)]
 pub struct LineRow {
     pub form: u32,
     pub line: u32,
