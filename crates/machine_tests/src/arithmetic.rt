@@ -1,65 +1,65 @@
 //! Arithmetic and comparison.
 
-use crate::operating::Operation;
 use crate::sheets::check;
+use crate::steps::Steps;
 use std::test::Fail;
 
 /// Sums, differences and changed addresses.
 const SUMS: &str = "\
-A 101 203|101 ~1|201 ~999| -> done 0 100 200 Equal true |~1|~000|
-A 101 201|101 ~5|201 ~L| -> done 0 100 200 Equal false |~5|~B|
-A 101 201|101 ~5|201 ~C| -> done 0 100 200 Equal false |~5|~H|
-A 101 201|101 ~3|201 ~L| -> done 0 100 200 Equal false |~3|~!|
-S 101 201|101 ~5|201 ~3| -> done 0 100 200 Equal false |~5|~K|
-? 101 201|101 ~5|201 ~#| -> done 0 100 200 Equal false |~5|~E|
-! 101 201|101 ~5|201 ~3| -> done 0 100 200 Equal false |~5|~N|
-? 101 201|101 ~L|201 ~3| -> done 0 100 200 Equal false |~L|~L|
-! 101 203|101 ~L|201 ~333| -> done 0 100 200 Equal false |~L|~00C|
-# 103 203|101 ~005|201 ~3J5| -> done 0 100 200 Equal false |~005|~3K0|
-A 105 110|101 ~00012~00030| -> done 0 100 105 Equal false |~00012~00042|
+1 101 203|~A~|101 ~1|201 ~999| -> Next 401 100 200 Low true |~1|~000|
+1 101 201|~A~|101 ~5|201 ~L| -> Next 401 100 200 Low false |~5|~B|
+1 101 201|~A~|101 ~5|201 ~C| -> Next 401 100 200 Low false |~5|~H|
+1 101 201|~A~|101 ~3|201 ~L| -> Next 401 100 200 Low false |~3|~!|
+1 101 201|~S~|101 ~5|201 ~3| -> Next 401 100 200 Low false |~5|~K|
+1 101 201|~?~|101 ~5|201 ~#| -> Next 401 100 200 Low false |~5|~E|
+1 101 201|~!~|101 ~5|201 ~3| -> Next 401 100 200 Low false |~5|~N|
+1 101 201|~?~|101 ~L|201 ~3| -> Next 401 100 200 Low false |~L|~L|
+1 101 203|~!~|101 ~L|201 ~333| -> Next 401 100 200 Low false |~L|~00C|
+1 103 203|~#103203~|101 ~005|201 ~3J5| -> Next 407 100 200 Low false |~005|~3K0|
+1 105 110|~A~|101 ~00012~00030| -> Next 401 100 105 Low false |~00012~00042|
 ";
 
 #[test]
 fn sums_and_differences(rt: HostRuntime) -> Result<(), Fail> {
-    check::<Operation>(rt.alloc(), SUMS)
+    check::<Steps>(rt.alloc(), SUMS)
 }
 
 /// Comparisons of fields of one length, and of a shorter one.
 const COMPARISONS: &str = "\
-C 101 201|101 ~A|201 ~0| -> done 0 100 200 High false |~A|~0|
-C 103 202|101 ~ABC|201 ~BC| -> done 0 101 200 Equal false |~ABC|~BC|
-C 102 203|101 ~BC|201 ~ABC| -> done 0 100 200 High false |~BC|~ABC|
-C 101 201|101 ~0|201 ~A| -> done 0 100 200 Low false |~0|~A|
-C 102 202|101 ~1Z|201 ~2A| -> done 0 100 200 High false |~1Z|~2A|
+1 101 201|~C~|101 ~A|201 ~0| -> Next 401 100 200 High false |~A|~0|
+1 103 202|~C~|101 ~ABC|201 ~BC| -> Next 401 101 200 Equal false |~ABC|~BC|
+1 102 203|~C~|101 ~BC|201 ~ABC| -> Next 401 100 200 High false |~BC|~ABC|
+2 101 201|~C201101~C101201~|101 ~0|201 ~A| -> Next 414 100 200 Low false |~0|~A|
+1 102 202|~C~|101 ~1Z|201 ~2A| -> Next 401 100 200 High false |~1Z|~2A|
 ";
 
 #[test]
 fn comparisons(rt: HostRuntime) -> Result<(), Fail> {
-    check::<Operation>(rt.alloc(), COMPARISONS)
+    check::<Steps>(rt.alloc(), COMPARISONS)
 }
 
 /// Characters without a value; fields that overlap, whose characters are not looked at then; and
 /// fields that would pass position 0.
 const CHECKS: &str = "\
-A 101 201|101 ~#|201 ~3| -> Data 0 101 201 Equal false |~#|~3|
-S 101 201|101 ~3|201 ~#| -> Data 0 101 201 Equal false |~3|~#|
-? 101 201|101 ~#|201 ~3| -> Data 0 101 201 Equal false |~#|~3|
-! 101 201|101 ~#|201 ~3| -> Data 0 101 201 Equal false |~#|~3|
-# 103 203|101 ~0#5|201 ~3J5| -> Data 0 103 203 Equal false |~0#5|~3J5|
-# 103 203|101 ~005|201 ~3$5| -> Data 0 103 203 Equal false |~005|~3$5|
-A 105 103|99 ~123#567| -> Overlap 0 105 103 Equal false |~123#567|
-S 105 103|99 ~123#567| -> Overlap 0 105 103 Equal false |~123#567|
-? 105 103|99 ~123#567| -> Overlap 0 105 103 Equal false |~123#567|
-! 105 103|99 ~123#567| -> Overlap 0 105 103 Equal false |~123#567|
-A 3 2|4 ~12345| -> Address 0 3 2 Equal false |~12345|
-? 8 2|4 ~12345| -> Address 0 8 2 Equal false |~12345|
-C 3 8|4 ~12345| -> Address 0 3 8 Equal false |~12345|
-C 1400 8|4 ~12345| -> Address 0 1400 8 Equal false |~12345|
-# 1 8|4 ~12345| -> Address 0 1 8 Equal false |~12345|
-# 8 1|4 ~12345| -> Address 0 8 1 Equal false |~12345|
+1 101 201|~A~|101 ~#|201 ~3| -> Stop(Data) 400 101 201 Low false |~#|~3|
+1 101 201|~S~|101 ~3|201 ~#| -> Stop(Data) 400 101 201 Low false |~3|~#|
+1 101 201|~?~|101 ~#|201 ~3| -> Stop(Data) 400 101 201 Low false |~#|~3|
+1 101 201|~!~|101 ~#|201 ~3| -> Stop(Data) 400 101 201 Low false |~#|~3|
+1 103 203|~#103203~|101 ~0#5|201 ~3J5| -> Stop(Data) 400 103 203 Low false |~0#5|~3J5|
+1 103 203|~#103203~|101 ~005|201 ~3$5| -> Stop(Data) 400 103 203 Low false |~005|~3$5|
+1 105 103|~A~|99 ~123#567| -> Stop(Overlap) 400 105 103 Low false |~123#567|
+1 105 103|~S~|99 ~123#567| -> Stop(Overlap) 400 105 103 Low false |~123#567|
+1 105 103|~?~|99 ~123#567| -> Stop(Overlap) 400 105 103 Low false |~123#567|
+1 105 103|~!~|99 ~123#567| -> Stop(Overlap) 400 105 103 Low false |~123#567|
+1 3 2|~A~|4 ~12345| -> Stop(Address) 400 3 2 Low false |~12345|
+1 8 2|~?~|4 ~12345| -> Stop(Address) 400 8 2 Low false |~12345|
+1 3 8|~C~|4 ~12345| -> Stop(Address) 400 3 8 Low false |~12345|
+1 1400 8|~C~|4 ~12345| -> Stop(Address) 400 1400 8 Low false |~12345|
+1 1 8|~#001008~|4 ~12345| -> Stop(Address) 400 1 8 Low false |~12345|
+1 8 1|~#008001~|4 ~12345| -> Stop(Address) 400 8 1 Low false |~12345|
 ";
 
 #[test]
 fn checks_change_nothing(rt: HostRuntime) -> Result<(), Fail> {
-    check::<Operation>(rt.alloc(), CHECKS)
+    check::<Steps>(rt.alloc(), CHECKS)
 }

@@ -11,15 +11,13 @@ use std::test::Fail;
 
 /// Sets a mark, or clears it where the word begins with `-`.
 fn mark<C: Core>(core: &mut C, word: &str) {
-    let cleared = word.strip_prefix('-');
-    let position = number(cleared.unwrap_or(word));
-    if position >= core.size() {
-        return;
+    let (set, cleared) = cut(word, "-");
+    let (set, cleared) = (number(set), number(cleared));
+    if set < core.size() {
+        core.set_mark(set);
     }
-    if cleared.is_some() {
-        core.clear_mark(position);
-    } else {
-        core.set_mark(position);
+    if cleared < core.size() {
+        core.clear_mark(cleared);
     }
 }
 
@@ -162,22 +160,21 @@ fn places_of_operands(rt: HostRuntime) -> Result<(), Fail> {
     Ok(())
 }
 
-/// Which of the glyphs `5`, `V`, `N` and `E` at its units position make a field minus.
-fn minus_signs(core: &mut FlagCore) -> [bool; 4] {
-    let mut signs = [false; 4];
-    for (sign, glyph) in signs.iter_mut().zip(b"5VNE") {
-        if core.size() > 7 {
-            core.put(7, code(*glyph));
-        }
-        *sign = core.size() > 7 && is_minus(core, 7);
+/// Whether a field with this character at its units position is minus.
+fn makes_minus(core: &mut FlagCore, glyph: u8) -> bool {
+    if core.size() > 7 {
+        core.put(7, code(glyph));
     }
-    signs
+    core.size() > 7 && is_minus(core, 7)
 }
 
 #[test]
 fn signs_of_fields(rt: HostRuntime) -> Result<(), Fail> {
-    let signs = minus_signs(&mut blank(rt.alloc())?);
-    assert!(rt; signs == [false, false, true, false]);
+    let mut core = blank(rt.alloc())?;
+    assert!(rt; !makes_minus(&mut core, b'5'));
+    assert!(rt; !makes_minus(&mut core, b'V'));
+    assert!(rt; makes_minus(&mut core, b'N'));
+    assert!(rt; !makes_minus(&mut core, b'E'));
     Ok(())
 }
 
@@ -213,6 +210,8 @@ fn is_size(positions: u16) -> bool {
 fn registers_and_sizes(rt: HostRuntime) {
     assert!(rt; are_lowered());
     assert!(rt; lowered(0, 1) == 15999);
-    assert!(rt; is_size(1400) && is_size(2000) && is_size(4000));
+    for positions in [1400, 2000, 4000] {
+        assert!(rt; is_size(positions));
+    }
     assert!(rt; !is_size(1399));
 }

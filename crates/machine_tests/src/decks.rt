@@ -10,7 +10,7 @@ use cards::{
 use std::alloc::{AllocError, Global};
 use std::test::Fail;
 
-/// What a sign of a rest represents: `n` a line feed, `r` a carriage return, and any other itself.
+/// What a sign of a file represents: `n` a line feed, `r` a carriage return, and any other itself.
 fn byte_of(sign: u8) -> u8 {
     match sign {
         b'n' => b'\n',
@@ -19,10 +19,12 @@ fn byte_of(sign: u8) -> u8 {
     }
 }
 
-/// Adds blank columns.
-fn push_blanks(file: &mut Vec<u8>, blank: &str, columns: usize) -> Result<(), AllocError> {
-    for _ in 0..columns {
-        file.extend_from_slice(blank.as_bytes())?;
+/// Adds the bytes of some signs, so many times.
+fn push_signs(file: &mut Vec<u8>, signs: &str, times: usize) -> Result<(), AllocError> {
+    for _ in 0..times {
+        for sign in signs.bytes() {
+            file.push(byte_of(sign))?;
+        }
     }
     Ok(())
 }
@@ -38,14 +40,12 @@ fn file(
 ) -> Result<Vec<u8>, AllocError> {
     let mut file = Vec::new(alloc);
     for _ in 0..cards {
-        push_blanks(&mut file, blank, COLUMNS)?;
-        file.push(b'\n')?;
+        push_signs(&mut file, blank, COLUMNS)?;
+        push_signs(&mut file, "n", 1)?;
     }
-    file.extend_from_slice(first.as_bytes())?;
-    push_blanks(&mut file, blank, columns as usize)?;
-    for sign in rest.bytes() {
-        file.push(byte_of(sign))?;
-    }
+    push_signs(&mut file, first, 1)?;
+    push_signs(&mut file, blank, columns as usize)?;
+    push_signs(&mut file, rest, 1)?;
     Ok(file)
 }
 

@@ -20,13 +20,11 @@ mod cores;
 #[cfg(test)]
 mod decks;
 #[cfg(test)]
+mod forms;
+#[cfg(test)]
 mod machines;
 #[cfg(test)]
 mod moving;
-#[cfg(test)]
-mod operating;
-#[cfg(test)]
-mod peripherals;
 #[cfg(test)]
 mod runs;
 #[cfg(test)]

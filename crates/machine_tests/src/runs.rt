@@ -16,7 +16,10 @@ use units::{Switches, Units};
 
 /// A machine after the load button.
 fn load(alloc: Global, size: &str, switch: &str, cards: &str) -> Result<Machine<FlagCore>, Fail> {
-    let size = Size::of_positions(number(size)).ok_or("a size")?;
+    let size = match size {
+        "4000" => Size::Positions4000,
+        _ => Size::Positions1400,
+    };
     let switches = if switch == "A" {
         Switches::A
     } else {
@@ -55,17 +58,6 @@ fn copy_of(alloc: Global, parts: &Parts<FlagCore>) -> Result<Parts<FlagCore>, Fa
     })
 }
 
-/// The machine of a copy of a machine's picture in which something was put wrong, if there is one.
-fn remade(
-    alloc: Global,
-    machine: &Machine<FlagCore>,
-    wrong: &str,
-) -> Result<Option<Machine<FlagCore>>, Fail> {
-    let mut picture = copy_of(alloc, machine.parts())?;
-    put_wrong(&mut picture, wrong);
-    Ok(Machine::from_parts(alloc, picture)?)
-}
-
 /// Puts something wrong into a picture.
 fn put_wrong(parts: &mut Parts<FlagCore>, wrong: &str) {
     match wrong {
@@ -102,7 +94,8 @@ fn run(
 
 /// Goes on with the machine of a copy of the picture.
 fn copy(alloc: Global, machine: &mut Machine<FlagCore>) -> Result<(), Fail> {
-    *machine = remade(alloc, machine, "")?.ok_or("a picture in range")?;
+    let picture = copy_of(alloc, machine.parts())?;
+    *machine = Machine::from_parts(alloc, picture)?.ok_or("a picture in range")?;
     Ok(())
 }
 
@@ -189,6 +182,7 @@ const RUNS: &str = "\
 1400||,008015,022029,030032,0330342FS2.|2000 -> 8 Halted ticks 8 next 34 line 4 punched | printed |||
 1400||,008015,022029,030031,032033444.|2000 -> 8 Halted ticks 8 next 33 line 1 punched |||| printed |
 1400|A|list;HELLO;WORLD|30 copy 2000 -> 30 Running 5 Halted ticks 35 next 361 line 3 punched | printed |HELLO|WORLD|
+1400|A|,008015,022029,030031M0361057.-PUNCH;NEXT                         .|2000 -> 6 Halted ticks 6 next 31 line 2 punched |PUNCH| printed ||
 1400||,008015,022029,030031M0361054.-PUNCH|2000 -> 6 Halted ticks 6 next 31 line 1 punched |PUNCH| printed |
 ";
 
@@ -197,35 +191,40 @@ fn runs_of_decks(rt: HostRuntime) -> Result<(), Fail> {
     check::<Runs>(rt.alloc(), RUNS)
 }
 
-/// Whether there is a machine of a picture in which something is wrong, after both lines of a deck
-/// were printed.
-fn is_remade(alloc: Global, machine: &mut Machine<FlagCore>, wrong: &str) -> Result<bool, Fail> {
+/// Whether the units of a picture in which something is wrong are in range, and whether there is a
+/// machine of it, after both lines of a deck were printed.
+fn remakes(
+    alloc: Global,
+    machine: &mut Machine<FlagCore>,
+    wrong: &str,
+) -> Result<(bool, bool), Fail> {
     machine.run(34, &mut Meter::new())?;
-    Ok(remade(alloc, machine, wrong)?.is_some())
+    let mut picture = copy_of(alloc, machine.parts())?;
+    put_wrong(&mut picture, wrong);
+    let are_units = picture.units.is_in_range();
+    Ok((are_units, Machine::from_parts(alloc, picture)?.is_some()))
 }
 
-/// A picture. Given is what is wrong in it. Out comes whether there is a machine of it.
+/// A picture. Given is what is wrong in it. Out come whether its units are in range, and whether
+/// there is a machine of it.
 struct Picture;
 
 impl Case for Picture {
     fn outcome(alloc: Global, given: &str) -> Result<String, Fail> {
-        let is_made = is_remade(
-            alloc,
-            &mut load(alloc, "1400", "A", "list;HELLO;WORLD")?,
-            given,
-        )?;
-        Ok(format!(in alloc; "{is_made}")?)
+        let mut machine = load(alloc, "1400", "A", "list;HELLO;WORLD")?;
+        let (are_units, is_made) = remakes(alloc, &mut machine, given)?;
+        Ok(format!(in alloc; "{are_units} {is_made}")?)
     }
 }
 
 /// A picture in range, and what puts it out of its ranges.
 const PICTURES: &str = "\
-nothing -> true
-register -> false
-carriage -> false
-no card read -> false
-a card past the deck -> false
-lines backwards -> false
+nothing -> true true
+register -> true false
+carriage -> false false
+no card read -> false false
+a card past the deck -> false false
+lines backwards -> false false
 ";
 
 #[test]
