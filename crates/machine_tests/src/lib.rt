@@ -14,6 +14,8 @@ mod addressing;
 #[cfg(test)]
 mod arithmetic;
 #[cfg(test)]
+mod calls;
+#[cfg(test)]
 mod characters;
 #[cfg(test)]
 mod cores;
