@@ -1,5 +1,5 @@
-//! Cards and decks as a coding sheet tells them: a line for each card, which has its label, its
-//! operation and its operands, each with a bar behind it.
+//! Cards and decks as on a coding sheet: a line for each card, which has its label, its operation
+//! and its operands, each with a bar after it.
 
 use bcd::Code;
 use cards::{COLUMNS, Card, Deck};
@@ -7,9 +7,9 @@ use layout::Cell;
 use std::alloc::Global;
 use std::test::Fail;
 
-/// Lays characters down from behind so many columns on.
-fn lay(columns: &mut [Code; COLUMNS], behind: usize, text: &str) -> Result<(), Fail> {
-    let mut next = behind;
+/// Lays characters down after so many columns.
+fn lay(columns: &mut [Code; COLUMNS], before: usize, text: &str) -> Result<(), Fail> {
+    let mut next = before;
     for glyph in text.bytes() {
         let code = Code::from_glyph(glyph).ok_or("a glyph")?;
         if next < COLUMNS {
@@ -50,8 +50,8 @@ pub(crate) fn push_glyphs(text: &mut String, codes: &[Code]) -> Result<(), Fail>
     Ok(())
 }
 
-/// The positions that are filled: where each row of them begins, and their glyphs, each with an
-/// apostrophe in front where it has a word mark.
+/// The positions that are filled: where each row of them begins, and their glyphs, each after an
+/// apostrophe where it has a word mark.
 pub(crate) fn image_told(alloc: Global, cells: &[Cell]) -> Result<String, Fail> {
     let mut text = String::new(alloc);
     let mut next = 0;

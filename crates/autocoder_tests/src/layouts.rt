@@ -1,4 +1,4 @@
-//! One small source: where its cards stand, what they fill, and their faults.
+//! One small source: the places of its cards, what they fill, and their faults.
 
 ghost use Rattle.std.specs.Prelude.{IfSome};
 ghost use Rattle.statements.specs.Ranges.{IsExpressionInRange};
@@ -14,7 +14,7 @@ use statements::{Expression, Statement, StatementFault, read};
 use std::alloc::Global;
 use std::test::Fail;
 
-/// A source of five cards, and a card of data behind it.
+/// A source of five cards, and a card of data after it.
 const SOURCE: &str = "\
 |CTL|2|
 |ORG|500|
@@ -42,19 +42,18 @@ fn extent(alloc: Global, sheet: &str) -> Result<String, Fail> {
     Ok(format!(in alloc; "{count} cards, {ends}, {positions} positions")?)
 }
 
-/// Whether the card of a line tells the size.
-fn tells_a_size(line: &str) -> Result<bool, Fail> {
+/// Whether the card of a line gives the size.
+fn gives_a_size(line: &str) -> Result<bool, Fail> {
     let columns: [Code; COLUMNS] = columns_of(line)?;
     let card = Card(columns);
     Ok(is_control(&card))
 }
 
-/// The size that the card of a line tells behind a card that told one or behind none, or its
-/// fault.
-fn size_on(told: bool, line: &str) -> Result<u16, Fail> {
+/// The size that the card of a line gives after a card that gave one or after none, or its fault.
+fn size_on(given: bool, line: &str) -> Result<u16, Fail> {
     let columns: [Code; COLUMNS] = columns_of(line)?;
     let card = Card(columns);
-    match line_on(told, &card) {
+    match line_on(given, &card) {
         Ok(Statement::Control(size)) => Ok(size.positions()),
         Ok(_) => Ok(0),
         Err(fault) => Ok(fault.number() as u16),
@@ -64,15 +63,14 @@ fn size_on(told: bool, line: &str) -> Result<u16, Fail> {
 #[test]
 fn ends_and_sizes_of_sources(rt: HostRuntime) -> Result<(), Fail> {
     let alloc = rt.alloc();
-    for (sheet, wanted) in [
-        (SOURCE, "5 cards, true, 2000 positions"),
-        (UNENDED, "4 cards, false, 2000 positions"),
-        ("|ORG|500|", "1 cards, false, 4000 positions"),
-    ] {
-        assert_eq!(rt; extent(alloc, sheet)?.as_str(), wanted);
-    }
-    assert!(rt; tells_a_size("|CTL|2|")?);
-    assert!(rt; !tells_a_size("|ORG|500|")?);
+    let ended = extent(alloc, SOURCE)?;
+    assert_eq!(rt; ended.as_str(), "5 cards, true, 2000 positions");
+    let unended = extent(alloc, UNENDED)?;
+    assert_eq!(rt; unended.as_str(), "4 cards, false, 2000 positions");
+    let one = extent(alloc, "|ORG|500|")?;
+    assert_eq!(rt; one.as_str(), "1 cards, false, 4000 positions");
+    assert!(rt; gives_a_size("|CTL|2|")?);
+    assert!(rt; !gives_a_size("|ORG|500|")?);
     assert_eq!(rt; size_on(false, "|CTL|2|")?, 2000);
     assert_eq!(rt; size_on(true, "|CTL|2|")?, 42);
     Ok(())
@@ -95,7 +93,7 @@ fn push_slot(text: &mut String, slot: &Slot) -> Result<(), Fail> {
     Ok(writeln!(text, "{before} {after} {kind:?} {closes} {fault}")?)
 }
 
-/// Where the cards of a source stand, where its literals begin, and its first instruction.
+/// The places of the cards of a source, where its literals begin, and its first instruction.
 fn standing(alloc: Global, sheet: &str) -> Result<String, Fail> {
     let deck = deck_of(alloc, sheet)?;
     let source = source_of(deck.cards());
@@ -151,22 +149,35 @@ fn value_on(alloc: Global, line: &str) -> Result<String, Fail> {
     Ok(format!(in alloc; "{:?}", value_in(2000, &slots, expression))?)
 }
 
+/// Cards that set the place, each after the value of its expression.
+const VALUES: &str = "\
+At(500)||ORG|A|
+At(508)||ORG|T-1|
+At(1999)||ORG|T&1490|
+Outside||ORG|T&1491|
+Outside||ORG|T-510|
+Unknown||ORG|LOST|
+";
+
+/// The first line of a sheet whose card has another value than the line says, blank where there
+/// is none.
+fn misvalued(alloc: Global, sheet: &'static str) -> Result<&'static str, Fail> {
+    for line in sheet.lines() {
+        let (value, card) = line.split_once('|').ok_or("a value")?;
+        if value_on(alloc, card)?.as_str() != value {
+            return Ok(line);
+        }
+    }
+    Ok("")
+}
+
 #[test]
 fn values_of_addresses(rt: HostRuntime) -> Result<(), Fail> {
-    for (line, value) in [
-        ("|ORG|A|", "At(500)"),
-        ("|ORG|T-1|", "At(508)"),
-        ("|ORG|T&1490|", "At(1999)"),
-        ("|ORG|T&1491|", "Outside"),
-        ("|ORG|T-510|", "Outside"),
-        ("|ORG|LOST|", "Unknown"),
-    ] {
-        assert_eq!(rt; value_on(rt.alloc(), line)?.as_str(), value, "{line}");
-    }
+    assert_eq!(rt; misvalued(rt.alloc(), VALUES)?, "");
     Ok(())
 }
 
-/// The literals of the source, with a bar behind each.
+/// The literals of the source, with a bar after each.
 fn literals(alloc: Global) -> Result<String, Fail> {
     let deck = deck_of(alloc, SOURCE)?;
     let source = source_of(deck.cards());

@@ -2,7 +2,7 @@
 //! themselves.
 //!
 //! It stands above the crates that it shows, so that these are proved without their tests. Cards
-//! are told as on a coding sheet, a line for each, and helpers answer plain texts and numbers.
+//! are written as on a coding sheet, a line for each, and helpers return plain texts and numbers.
 #![tactic(auto)]
 
 #[cfg(test)]

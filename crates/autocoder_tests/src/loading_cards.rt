@@ -6,7 +6,7 @@ ghost use Rattle.autocoder.specs.Loadable.{CanBeLoaded};
 use crate::coding_sheets::lines_of;
 use autocoder::Program;
 use bcd::Code;
-use cards::{COLUMNS, Card, Deck};
+use cards::{COLUMNS, Card, Deck, DeckFault};
 use core_store::Size;
 use layout::{Cell, FIRST_FREE};
 use loader::{deck_to_run, object_deck};
@@ -41,7 +41,7 @@ fn push_glyph(image: &mut Vec<Cell>, position: u32, glyph: u8, marked: bool) -> 
 }
 
 /// The positions from the first on, filled with these glyphs. An apostrophe marks the position of
-/// the glyph behind it, and a tilde leaves one free.
+/// the glyph after it, and a tilde leaves one free.
 fn image_of(alloc: Global, first: u32, glyphs: &str) -> Result<Vec<Cell>, Fail>
     ensures free { IfOk result (λ image. All (λ c. FIRST_FREE ≤ c.position) image.items) }
     ensures inside { IfOk result (λ image. All (λ c. c.position < SIZE) image.items) }
@@ -99,7 +99,7 @@ fn loading(alloc: Global, start: u32, first: u32, glyphs: &str) -> Result<String
     lines_of(alloc, deck.cards())
 }
 
-/// The cards of a program with headings. Its seventh mark behind the first, at `B342`, begins a
+/// The cards of a program with headings. Its seventh mark after the first, at `B342`, begins a
 /// card.
 const HEADING: &str = "\
 ,008015,022029,036040,047054,061068,072)008015)022029)036036N0000001040
@@ -137,7 +137,7 @@ const FORTY: &str = "\
                                        /I99080
 ";
 
-/// The cards of a program with a gap, behind which a card begins.
+/// The cards of a program with a gap, after which a card begins.
 const GAP: &str = "\
 ,008015,022029,036040,047054,061068,072)008015)022029)036036N0000001040
 ABC                                    L003402N000000N000000N0000001040
@@ -181,7 +181,7 @@ const EMPTY: &str = "\
                                        /090080
 ";
 
-/// The same with two blank cards behind them.
+/// The same with two blank cards after them.
 const EMPTY_OVER_TWO_CARDS: &str = "\
 ,008015,022029,036040,047054,061068,072)008015)022029)036036N0000001040
                                        /090080
@@ -198,36 +198,42 @@ fn running(alloc: Global, count: u32) -> Result<String, Fail> {
 }
 
 #[test]
-fn data_stand_behind_the_last_card(rt: HostRuntime) -> Result<(), Fail> {
+fn data_cards_come_last(rt: HostRuntime) -> Result<(), Fail> {
     assert_eq!(rt; loading(rt.alloc(), 90, 500, "")?.as_str(), EMPTY);
     assert_eq!(rt; running(rt.alloc(), 2)?.as_str(), EMPTY_OVER_TWO_CARDS);
     Ok(())
 }
 
-/// How many cards load a program of so many stretches, or the number of the fault.
-fn count_of_cards(alloc: Global, stretches: u32) -> Result<Result<usize, u8>, Fail> {
-    let program = program_of(alloc, image_of_stretches(alloc, stretches)?, 500)?;
-    match object_deck(alloc, &program) {
-        Ok(deck) => Ok(Ok(deck.cards().len())),
-        Err(fault) => Ok(Err(fault.number())),
+/// How many cards a deck has, or the number of the fault in its place.
+fn count_of(alloc: Global, deck: Result<Deck, DeckFault>) -> Result<String, Fail> {
+    match deck {
+        Ok(deck) => Ok(format!(in alloc; "{} cards", deck.cards().len())?),
+        Err(fault) => Ok(format!(in alloc; "fault {}", fault.number())?),
     }
 }
 
-/// How many cards run a program of so many stretches over one blank card, or the number of the
-/// fault.
-fn count_with_a_card(alloc: Global, stretches: u32) -> Result<Result<usize, u8>, Fail> {
+/// How many cards load a program of so many stretches.
+fn count_of_cards(alloc: Global, stretches: u32) -> Result<String, Fail> {
+    let program = program_of(alloc, image_of_stretches(alloc, stretches)?, 500)?;
+    count_of(alloc, object_deck(alloc, &program))
+}
+
+/// How many cards run a program of so many stretches over one blank card.
+fn count_with_a_card(alloc: Global, stretches: u32) -> Result<String, Fail> {
     let program = program_of(alloc, image_of_stretches(alloc, stretches)?, 500)?;
     let data = blank_cards(alloc, 1)?;
-    match deck_to_run(alloc, &program, data.cards()) {
-        Ok(deck) => Ok(Ok(deck.cards().len())),
-        Err(fault) => Ok(Err(fault.number())),
-    }
+    count_of(alloc, deck_to_run(alloc, &program, data.cards()))
 }
 
 #[test]
 fn two_thousand_cards_and_no_more(rt: HostRuntime) -> Result<(), Fail> {
-    assert_eq!(rt; count_of_cards(rt.alloc(), 1998)?, Ok(2000));
-    assert_eq!(rt; count_with_a_card(rt.alloc(), 1998)?, Err(33));
-    assert_eq!(rt; count_of_cards(rt.alloc(), 1999)?, Err(33));
+    for (stretches, loading, running) in [
+        (1997, "1999 cards", "2000 cards"),
+        (1998, "2000 cards", "fault 33"),
+        (1999, "fault 33", "fault 33"),
+    ] {
+        assert_eq!(rt; count_of_cards(rt.alloc(), stretches)?.as_str(), loading);
+        assert_eq!(rt; count_with_a_card(rt.alloc(), stretches)?.as_str(), running);
+    }
     Ok(())
 }

@@ -31,9 +31,9 @@ fn assembled(alloc: Global, deck: &Deck) -> Result<String, Fail> {
     }
 }
 
-/// The first line of some sheets that tells something else than what the cards above it, up to
-/// the line like it before, are assembled to; blank where there is none. Such a line has `= ` in
-/// front and a bar behind.
+/// The first line of some sheets that gives something else than what the cards above it, up to
+/// the line like it before, are assembled to; blank where there is none. Such a line begins with
+/// `= ` and ends with a bar.
 fn misassembled(alloc: Global, sheets: &'static str) -> Result<&'static str, Fail> {
     let mut deck = Deck::empty(alloc);
     for line in sheets.lines() {
@@ -42,7 +42,8 @@ fn misassembled(alloc: Global, sheets: &'static str) -> Result<&'static str, Fai
             deck.push(Card(columns))?;
             continue;
         };
-        if Some(assembled(alloc, &deck)?.as_str()) != wanted.strip_suffix('|') {
+        let wanted = wanted.strip_suffix('|').ok_or("a bar")?;
+        if assembled(alloc, &deck)?.as_str() != wanted {
             return Ok(line);
         }
         deck = Deck::empty(alloc);
@@ -50,7 +51,7 @@ fn misassembled(alloc: Global, sheets: &'static str) -> Result<&'static str, Fai
     Ok("")
 }
 
-/// Programs: a worked one, marked blanks and literals behind the cards, addresses of high
+/// Programs: a worked one, marked blanks and literals after the cards, addresses of high
 /// positions.
 const PROGRAMS: &str = "\
 |CS|332|
@@ -91,7 +92,7 @@ DONE|H||
 = from 333 by 4: 333 'BI99'BIZ9'.' |
 ";
 
-/// Faults of single cards, also of those that tell the size or end the source.
+/// Faults of single cards, also of those that set the size or end the source.
 const FAULTS_BY_CARD: &str = "\
 |XYZ||
 |B|LOST|
@@ -164,7 +165,7 @@ A|END||
 = faults 2:49|
 ";
 
-/// Literals outside and at fault, which the end tells, and cards that use them.
+/// Literals outside and at fault, which are faults of the end, and cards that use them.
 const LITERALS: &str = "\
 |ORG|1392|
 |MCW|&12,280|

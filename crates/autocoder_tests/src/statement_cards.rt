@@ -12,28 +12,29 @@ use std::alloc::Global;
 use std::test::Fail;
 
 /// The number of the fault of the card of a line, 0 where there is none.
-fn fault_on(line: &str) -> Result<u8, Fail> {
+fn fault_on(alloc: Global, line: &str) -> Result<String, Fail> {
     let columns: [Code; COLUMNS] = columns_of(line)?;
     let card = Card(columns);
     match read(&card) {
-        Ok(_) => Ok(0),
-        Err(fault) => Ok(fault.number()),
+        Ok(_) => Ok(String::from_str(alloc, "0")?),
+        Err(fault) => Ok(format!(in alloc; "{}", fault.number())?),
     }
 }
 
-/// The first line of a sheet whose card has another fault than the line tells, blank where there
-/// is none. In front of a card each line tells the number of its fault, 0 for none.
-fn misread(sheet: &'static str) -> Result<&'static str, Fail> {
+/// The first line of a sheet whose card has another fault than the line says, blank where there
+/// is none. Before its card each line has the number of the fault, 0 for none.
+fn misread(alloc: Global, sheet: &'static str) -> Result<&'static str, Fail> {
     for line in sheet.lines() {
         let (number, card) = line.split_once('|').ok_or("a fault")?;
-        if number.parse::<u8>() != Ok(fault_on(card)?) {
+        if fault_on(alloc, card)?.as_str() != number {
             return Ok(line);
         }
     }
     Ok("")
 }
 
-/// Labels and operations with a blank inside or before them, and words that name no operation.
+/// Labels and operations with a blank inside or before them, words that name no operation, and a
+/// comment.
 const FIELDS_OF_THE_LABEL_AND_THE_OPERATION: &str = "\
 40|AB C|H||
 40| AB|H||
@@ -41,6 +42,7 @@ const FIELDS_OF_THE_LABEL_AND_THE_OPERATION: &str = "\
 40||END X||
 40||CTL X|2|
 40|A B|XYZ|@|
+0|* A B|XYZ|@|
 41||||
 41||XYZ||
 41|1|XYZ|A B|
@@ -97,7 +99,7 @@ const ADDRESSES_OF_A_BRANCH: &str = "\
 42||B|  A|
 ";
 
-/// Texts, numbers and blanks, and what may stand behind them.
+/// Texts, numbers and blanks, and what may be after them.
 const CONSTANTS_AND_WHERE_THEY_END: &str = "\
 0||DC|@AB@|
 0||DC|@A  B@|
@@ -179,7 +181,7 @@ const ORDERS_TO_THE_ASSEMBLER: &str = "\
 42|A|EQU|B&X1|
 ";
 
-/// A blank in the first column of the operands, for each operation that wants some.
+/// A blank in the first column of the operands, for each operation that needs some.
 const AN_OPERAND_BEGINS_IN_ITS_FIRST_COLUMN: &str = "\
 42||CTL| 5|
 42||ORG| 5|
@@ -231,7 +233,7 @@ const AN_OPERAND_BEGINS_IN_ITS_FIRST_COLUMN: &str = "\
 ";
 
 /// Literals in the place of addresses.
-const WHERE_LITERALS_MAY_STAND: &str = "\
+const LITERALS_FOR_ADDRESSES: &str = "\
 0||SW|@A@|
 0||CW|&1,@A@|
 0||SBR|@A@|
@@ -247,7 +249,7 @@ const WHERE_LITERALS_MAY_STAND: &str = "\
 42|A|EQU|@A@|
 ";
 
-/// What stands behind two blanks, and behind an operation without operands.
+/// What is written after two blanks, and after an operation without operands.
 const WHAT_IS_NOT_LOOKED_AT: &str = "\
 0||B|A                                                   @X,-|
 0||B|A  AT @ AND @@|
@@ -266,19 +268,20 @@ fn faults_of_cards(rt: HostRuntime) -> Result<(), Fail> {
         LAST_CHARACTERS_AND_SINGLE_FORMS,
         ORDERS_TO_THE_ASSEMBLER,
         AN_OPERAND_BEGINS_IN_ITS_FIRST_COLUMN,
-        WHERE_LITERALS_MAY_STAND,
+        LITERALS_FOR_ADDRESSES,
         WHAT_IS_NOT_LOOKED_AT,
     ] {
-        assert_eq!(rt; misread(sheet)?, "");
+        assert_eq!(rt; misread(rt.alloc(), sheet)?, "");
     }
     Ok(())
 }
 
 /// Adds the characters of a name.
 fn push_name(text: &mut String, name: &Name) -> Result<(), Fail> {
-    for code in name.characters {
-        if code != Code::blank() {
-            text.push(code.glyph() as char)?;
+    for code in &name.characters {
+        let glyph = code.glyph();
+        if glyph != b' ' {
+            text.push(glyph as char)?;
         }
     }
     Ok(())
@@ -419,8 +422,8 @@ fn told_by(alloc: Global, line: &str) -> Result<String, Fail> {
     Ok(text)
 }
 
-/// The first line of a sheet whose card says something else than the line tells in front of the
-/// card, blank where there is none.
+/// The first line of a sheet whose card says something else than the line has before the card,
+/// blank where there is none.
 fn mistold(alloc: Global, sheet: &'static str) -> Result<&'static str, Fail> {
     for line in sheet.lines() {
         let (wanted, card) = line.split_once('|').ok_or("what it says")?;
@@ -484,25 +487,22 @@ comment|* A B|XYZ|@|
 
 #[test]
 fn what_cards_say(rt: HostRuntime) -> Result<(), Fail> {
+    let alloc = rt.alloc();
     for sheet in [LABELS_THAT_ARE_READ, INSTRUCTIONS, CONSTANTS, ORDERS] {
-        assert_eq!(rt; mistold(rt.alloc(), sheet)?, "");
+        assert_eq!(rt; mistold(alloc, sheet)?, "");
     }
     Ok(())
 }
 
-/// Whether the card of a line is a comment.
-fn comments(line: &str) -> Result<bool, Fail> {
-    let columns: [Code; COLUMNS] = columns_of(line)?;
-    let card = Card(columns);
-    Ok(is_comment(&card))
-}
-
-/// Which operation the card of a line has, as far as a source wants to know it of any card.
+/// The operation of the card of a line, as far as a source needs it of any card, and whether the
+/// card is a comment.
 fn operation_on(line: &str) -> Result<&'static str, Fail> {
     let columns: [Code; COLUMNS] = columns_of(line)?;
     let card = Card(columns);
     match operation_of(&card) {
+        None if is_comment(&card) => Ok("comment"),
         None => Ok("none"),
+        Some(_) if is_comment(&card) => Ok("both"),
         Some(Operation::End) => Ok("end"),
         Some(Operation::Control) => Ok("control"),
         Some(_) => Ok("another"),
@@ -511,17 +511,12 @@ fn operation_on(line: &str) -> Result<&'static str, Fail> {
 
 #[test]
 fn comments_and_operations(rt: HostRuntime) -> Result<(), Fail> {
-    assert!(rt; comments("* A B|XYZ||")?);
-    assert!(rt; !comments("A*|H||")?);
-    assert_eq!(rt; fault_on("* A B|XYZ|@|")?, 0);
-    for (line, operation) in [
-        ("* A B|H||", "none"),
-        ("|END X|@|", "end"),
-        ("1A|CTL|9|", "control"),
-        ("|XYZ||", "none"),
-        ("|||", "none"),
-    ] {
-        assert_eq!(rt; operation_on(line)?, operation, "{line}");
-    }
+    assert_eq!(rt; operation_on("* A B|XYZ||")?, "comment");
+    assert_eq!(rt; operation_on("* A B|H||")?, "comment");
+    assert_eq!(rt; operation_on("A*|H||")?, "another");
+    assert_eq!(rt; operation_on("|END X|@|")?, "end");
+    assert_eq!(rt; operation_on("1A|CTL|9|")?, "control");
+    assert_eq!(rt; operation_on("|XYZ||")?, "none");
+    assert_eq!(rt; operation_on("|||")?, "none");
     Ok(())
 }

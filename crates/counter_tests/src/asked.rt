@@ -1,12 +1,9 @@
 //! What the words of a call ask for.
 
-use bitflags::Flags;
-use core_store::Size;
-use counter::{Misuse, Source, Task, task_of};
+use counter::task_of;
 use std::alloc::{AllocError, Global};
 use std::test::Fail;
-use units::Switches;
-use words::{RowName, Words, WordsFault, words};
+use words::words;
 
 /// The words of a line.
 fn words_of(alloc: Global, line: &str) -> Result<Vec<String>, AllocError> {
@@ -17,116 +14,92 @@ fn words_of(alloc: Global, line: &str) -> Result<Vec<String>, AllocError> {
     Ok(words)
 }
 
-/// Whether the words of a line are read as these.
-fn reads(
-    alloc: Global,
-    line: &str,
-    wanted: Result<Words<'static>, WordsFault>,
-) -> Result<bool, Fail> {
+/// What the words of a line are read as.
+fn read_as(alloc: Global, line: &str) -> Result<String, Fail> {
     let given = words_of(alloc, line)?;
-    Ok(words(alloc, given.as_slice()) == wanted)
+    Ok(format!(in alloc; "{:?}", words(alloc, given.as_slice()))?)
 }
 
-/// Lines with too few values or too many, each with the row that it begins, and lines that begin
-/// none, with `row`.
-const MISREADINGS: &str = "\
-help|row
-Run D 4000 -|row
---help run|row
-init F|row
-run|run
-run D 4000|run
-run D 4000 A B|run
-run D 4000 -1|run
-run --help|run
-assemble|assemble
-assemble S|assemble
-assemble S O T|assemble
-assemble S -1|assemble
-assemble run|assemble";
+/// Lines after what their words are read as: each row, too few values or too many, and lines that
+/// begin no row.
+const READINGS: &str = "\
+Ok(Standard)|
+Ok(Run { deck: \"D\", size: \"4000\", switches: \"-\" })|run D 4000 -
+Ok(Assemble { source: \"S\", out: \"-\" })|assemble S -
+Ok(Help)|--help
+Ok(Help)|-h
+Err(Row)|help
+Err(Row)|Run D 4000 -
+Err(Row)|--help run
+Err(Row)|init F
+Err(Values(Run))|run
+Err(Values(Run))|run D 4000
+Err(Values(Run))|run D 4000 A B
+Err(Values(Run))|run D 4000 -1
+Err(Values(Run))|run --help
+Err(Values(Assemble))|assemble
+Err(Values(Assemble))|assemble S
+Err(Values(Assemble))|assemble S O T
+Err(Values(Assemble))|assemble S -1
+Err(Values(Assemble))|assemble run
+";
 
-/// What a line of the misreadings tells behind its bar.
-fn fault_called(name: &str) -> WordsFault {
-    if name == "run" {
-        WordsFault::Values(RowName::Run)
-    } else if name == "assemble" {
-        WordsFault::Values(RowName::Assemble)
-    } else {
-        WordsFault::Row
+/// The first line of a sheet whose words are read otherwise than it says; else nothing.
+fn misread(alloc: Global, sheet: &'static str) -> Result<&'static str, Fail> {
+    for line in sheet.lines() {
+        let (reading, given) = line.split_once('|').ok_or("a reading")?;
+        if read_as(alloc, given)?.as_str() != reading {
+            return Ok(line);
+        }
     }
+    Ok("")
 }
 
 #[test]
 fn words_are_read_by_rows(rt: HostRuntime) -> Result<(), Fail> {
-    let alloc = rt.alloc();
-    let run = Words::Run {
-        deck: "D",
-        size: "4000",
-        switches: "-",
-    };
-    let assemble = Words::Assemble {
-        source: "S",
-        out: "-",
-    };
-    assert!(rt; reads(alloc, "", Ok(Words::Standard))?);
-    assert!(rt; reads(alloc, "run D 4000 -", Ok(run))?);
-    assert!(rt; reads(alloc, "assemble S -", Ok(assemble))?);
-    assert!(rt; reads(alloc, "--help", Ok(Words::Help))?);
-    assert!(rt; reads(alloc, "-h", Ok(Words::Help))?);
-    for line in MISREADINGS.lines() {
-        let (given, name) = line.split_once('|').ok_or("a name")?;
-        assert!(rt; reads(alloc, given, Err(fault_called(name)))?, "of {line}");
-    }
+    assert_eq!(rt; misread(rt.alloc(), READINGS)?, "");
     Ok(())
 }
 
-/// Whether the words of a line ask for this task.
-fn asks(alloc: Global, line: &str, wanted: Result<Task<'static>, Misuse>) -> Result<bool, Fail> {
+/// What the words of a line ask for.
+fn asked_by(alloc: Global, line: &str) -> Result<String, Fail> {
     let given = words_of(alloc, line)?;
-    Ok(task_of(alloc, given.as_slice()) == wanted)
+    Ok(format!(in alloc; "{:?}", task_of(alloc, given.as_slice()))?)
 }
 
-/// A task of running a deck.
-fn run(deck: Source<'static>, size: Size, switches: Switches) -> Task<'static> {
-    Task::Run {
-        deck,
-        size,
-        switches,
+/// Lines after what their words ask for: tasks, sizes and switches that are none, and words that
+/// are not read.
+const TASKS: &str = "\
+Ok(Run { deck: Input, size: Positions4000, switches: Switches(1) })|
+Ok(Run { deck: File(\"D\"), size: Positions1400, switches: Switches(0) })|run D 1400 -
+Ok(Run { deck: File(\"-\"), size: Positions2000, switches: Switches(127) })|run - 2000 ABCDEFG
+Ok(Assemble { source: \"S\", out: \"-\" })|assemble S -
+Ok(Help)|--help
+Err(Size)|run D 4001 A
+Err(Size)|run D 04000 A
+Err(Size)|run D +4000 A
+Err(Size)|run D 16384 A
+Err(Switches)|run D 4000 BA
+Err(Switches)|run D 4000 AA
+Err(Switches)|run D 4000 H
+Err(Switches)|run D 4000 a
+Err(Words(Row))|init F
+Err(Words(Values(Assemble)))|assemble S
+";
+
+/// The first line of a sheet whose words ask for something else than it says; else nothing.
+fn misasked(alloc: Global, sheet: &'static str) -> Result<&'static str, Fail> {
+    for line in sheet.lines() {
+        let (task, given) = line.split_once('|').ok_or("a task")?;
+        if asked_by(alloc, given)?.as_str() != task {
+            return Ok(line);
+        }
     }
+    Ok("")
 }
 
 #[test]
 fn words_ask_for_a_task(rt: HostRuntime) -> Result<(), Fail> {
-    let alloc = rt.alloc();
-    let standard = run(Source::Input, Size::Positions4000, Switches::A);
-    assert!(rt; asks(alloc, "", Ok(standard))?);
-    let none_on = run(Source::File("D"), Size::Positions1400, Switches::empty());
-    assert!(rt; asks(alloc, "run D 1400 -", Ok(none_on))?);
-    let all_on = run(Source::File("-"), Size::Positions2000, Switches::all());
-    assert!(rt; asks(alloc, "run - 2000 ABCDEFG", Ok(all_on))?);
-    let assemble = Task::Assemble {
-        source: "S",
-        out: "-",
-    };
-    assert!(rt; asks(alloc, "assemble S -", Ok(assemble))?);
-    assert!(rt; asks(alloc, "--help", Ok(Task::Help))?);
-    Ok(())
-}
-
-#[test]
-fn words_that_ask_for_no_task(rt: HostRuntime) -> Result<(), Fail> {
-    let alloc = rt.alloc();
-    for size in ["4001", "04000", "+4000", "16384"] {
-        let line = format!(in alloc; "run D {size} A")?;
-        assert!(rt; asks(alloc, &line, Err(Misuse::Size))?, "of {size}");
-    }
-    for switches in ["BA", "AA", "H", "a"] {
-        let line = format!(in alloc; "run D 4000 {switches}")?;
-        assert!(rt; asks(alloc, &line, Err(Misuse::Switches))?, "of {switches}");
-    }
-    let no_row = Misuse::Words(WordsFault::Row);
-    assert!(rt; asks(alloc, "init F", Err(no_row))?);
-    let no_out = Misuse::Words(WordsFault::Values(RowName::Assemble));
-    assert!(rt; asks(alloc, "assemble S", Err(no_out))?);
+    assert_eq!(rt; misasked(rt.alloc(), TASKS)?, "");
     Ok(())
 }

@@ -26,21 +26,27 @@ fn assembled(alloc: Global, text: &[u8]) -> Result<Written, Fail> {
     })
 }
 
+/// Whether an assembly of the source of this text is done, writes this listing, writes no error,
+/// and gives this deck.
+fn gives(alloc: Global, text: &[u8], listing: &str, deck: &[u8]) -> Result<[bool; 4], Fail> {
+    let written = assembled(alloc, text)?;
+    let is_done = written.answer.status == Status::Done;
+    let is_listed = written.output.as_slice() == listing.as_bytes();
+    let is_quiet = written.errors.is_empty();
+    let given = written.answer.out.ok_or("a deck")?;
+    Ok([is_done, is_listed, is_quiet, given.as_slice() == deck])
+}
+
 #[test]
 fn a_source_gives_its_listing_and_the_deck_that_runs_it(rt: HostRuntime) -> Result<(), Fail> {
     let alloc = rt.alloc();
     let source = text_of(alloc, TWO_LINES_SOURCE)?;
     let deck = text_of(alloc, TWO_LINES)?;
-    let Written {
-        answer,
-        output,
-        errors,
-    } = assembled(alloc, &source)?;
-    assert_eq!(rt; answer.status, Status::Done);
-    assert!(rt; output.as_slice() == TWO_LINES_LISTING.as_bytes());
-    assert!(rt; errors.is_empty());
-    let written = answer.out.ok_or("a deck")?;
-    assert!(rt; written.as_slice() == deck.as_slice());
+    let [is_done, is_listed, is_quiet, is_given] = gives(alloc, &source, TWO_LINES_LISTING, &deck)?;
+    assert!(rt; is_done);
+    assert!(rt; is_listed);
+    assert!(rt; is_quiet);
+    assert!(rt; is_given);
     Ok(())
 }
 
@@ -68,21 +74,17 @@ HELLO";
 #[test]
 fn faults_of_a_source_are_told_in_place_of_its_listing(rt: HostRuntime) -> Result<(), Fail> {
     let alloc = rt.alloc();
-    for (cards, faults) in [
-        (
-            THREE_FAULTS,
-            "card 1 fault 41\ncard 2 fault 45\ncard 3 fault 49\n",
-        ),
-        (TOO_LOW, "card 2 fault 47\n"),
-        ("", "card 0 fault 49\n"),
-    ] {
-        let text = text_of(alloc, cards)?;
-        assert!(rt; tells(alloc, &text, faults, "")?, "at {faults}");
-    }
+    let three = text_of(alloc, THREE_FAULTS)?;
+    let faults = "card 1 fault 41\ncard 2 fault 45\ncard 3 fault 49\n";
+    assert!(rt; tells(alloc, &three, faults, "")?);
+    let too_low = text_of(alloc, TOO_LOW)?;
+    assert!(rt; tells(alloc, &too_low, "card 2 fault 47\n", "")?);
+    assert!(rt; tells(alloc, &[], "card 0 fault 49\n", "")?);
     Ok(())
 }
 
-/// The number of bytes of the deck that an assembly gives, told nothing on the second writer.
+/// The number of bytes of the deck that an assembly gives, if it writes nothing to the second
+/// writer.
 fn bytes_given(alloc: Global, text: &[u8]) -> Result<usize, Fail> {
     let written = assembled(alloc, text)?;
     if written.answer.status == Status::Done && written.errors.is_empty() {
@@ -126,7 +128,7 @@ fn a_fault_is_told_in_place_of_a_source(rt: HostRuntime) -> Result<(), Fail> {
     Ok(())
 }
 
-/// Whether an assembly whose output takes so many bytes tells that a device failed, and gives no
+/// Whether an assembly whose output takes so many bytes writes that a device failed, and gives no
 /// deck.
 fn output_fails(alloc: Global, text: &[u8], room: usize) -> Result<bool, Fail> {
     let mut errors = Vec::new(alloc);

@@ -69,7 +69,7 @@ fn a_fault_is_told_alone(rt: HostRuntime) -> Result<(), Fail> {
     Ok(())
 }
 
-/// Whether a run whose output takes so many bytes tells that a device failed.
+/// Whether a run whose output takes so many bytes writes that a device failed.
 fn output_fails(alloc: Global, text: &[u8], room: usize) -> Result<bool, Fail> {
     let (size, switches) = (Size::Positions4000, Switches::A);
     let mut told = Vec::new(alloc);

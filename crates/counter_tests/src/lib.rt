@@ -1,4 +1,4 @@
-//! Cases of the counter: runs, assemblies, what the words ask for and what is told.
+//! Cases of the counter: runs, assemblies, what the words ask for and what a misuse prints.
 
 #![tactic(auto)]
 

@@ -11,7 +11,7 @@ B342.                                  L006361,360361N000000N0000001040
 HELLO
 WORLD";
 
-/// The source of that program, and two data cards behind it.
+/// The source of that program, and two data cards after it.
 pub(crate) const TWO_LINES_SOURCE: &str = "               CS   332
                CS
                SW   001
@@ -38,7 +38,7 @@ pub(crate) const TWO_LINES_LISTING: &str = "   1 00333                CS   332
   10                      END
 ";
 
-/// Adds a card to the text of a deck, blank behind these columns.
+/// Adds a card to the text of a deck, blank after these columns.
 pub(crate) fn push_card(text: &mut Vec<u8>, card: &str) -> Result<(), AllocError> {
     text.extend_from_slice(card.as_bytes())?;
     for _ in card.len()..80 {

@@ -4,14 +4,14 @@ use counter::{Misuse, show_help, tell_misuse};
 use std::alloc::{AllocError, Global};
 use std::test::Fail;
 
-/// The status that a misuse ends with, and what is told of it.
+/// The status that a misuse ends with, and what it writes.
 fn told_of(alloc: Global, misuse: Misuse) -> Result<(u8, Vec<u8>), Fail> {
     let mut told = Vec::new(alloc);
     let status = tell_misuse(&mut told, misuse)?;
     Ok((status.code(), told))
 }
 
-/// What is told of a size that is none.
+/// What a size that is none writes.
 const NO_SIZE: &str = "bureau: SIZE must be 1400, 2000 or 4000
 usage: bureau [ROW WORDS..]; bureau --help tells the rows and their words
 ";

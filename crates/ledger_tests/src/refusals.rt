@@ -1,0 +1,103 @@
+//! Each refusal, by its number.
+
+use crate::commands::{misanswered, reply_to};
+use crate::sessions::{counts, in_memory, outcome, rows_after};
+use machine::Meter;
+use std::alloc::Global;
+use std::test::Fail;
+
+/// A job that is taken.
+const TAKEN: &str = "\
+taken 6|submit|ACME|9|4000|A|two lines
+";
+
+/// The same, and jobs that are handed in wrongly: a customer, a number, contents or a size.
+const HANDED_IN_WRONGLY: &str = "\
+taken 6|submit|ACME|9|4000|A|two lines
+refused 10|submit|acme|9|4000|A|two lines
+refused 10|submit||9|4000|A|two lines
+refused 10|submit|ABCDEFGHIJKLM|0|4000|A|two lines
+refused 11|submit|ACME|0|4000|A|two lines
+refused 11|submit|ACME|1000000|0|A|two lines
+refused 14|submit|ACME|9|4000|B|two lines
+refused 14|submit|ACME|9|4000|-|two lines
+refused 14|submit|ACME|9|2000|A|two lines
+refused 14|submit|ACME|9|4001|A|two lines
+refused 12|submit|ACME|8|4001|A|two lines
+";
+
+#[test]
+fn what_is_handed_in_wrongly_changes_no_row(rt: HostRuntime) -> Result<(), Fail> {
+    let alloc = rt.alloc();
+    assert_eq!(rt;
+        outcome(alloc, HANDED_IN_WRONGLY)?.as_str(),
+        "0 ticks, 1 jobs, 0 lines"
+    );
+    assert!(rt; rows_after(alloc, HANDED_IN_WRONGLY)? == rows_after(alloc, TAKEN)?);
+    Ok(())
+}
+
+/// Decks without a card, and one with another card.
+const NO_CARDS_AND_OTHER_CARDS: &str = "\
+taken 6|submit|ACME|9|4000|A|two lines
+refused 13|submit|ACME|8|4000|A|no card
+refused 12|submit|ACME|8|0|A|no card
+refused 14|submit|ACME|9|4000|A|no card
+refused 11|submit|ACME|0|4000|A|no card
+refused 14|submit|ACME|9|4000|A|one column changed
+";
+
+/// Slices of no job, and slices beyond the limit.
+const SLICES: &str = "\
+taken 6|submit|ACME|9|4000|A|two lines
+refused 10|slice|acme|0|0
+refused 11|slice|ACME|0|0
+refused 21|slice|ACME|9|0
+refused 21|slice|ACME|8|2001
+refused 20|slice|ACME|8|2000
+refused 20|slice|ACM|9|1
+";
+
+#[test]
+fn refusals_by_their_numbers(rt: HostRuntime) -> Result<(), Fail> {
+    for sheet in [NO_CARDS_AND_OTHER_CARDS, SLICES] {
+        assert_eq!(rt;
+            outcome(rt.alloc(), sheet)?.as_str(),
+            "0 ticks, 1 jobs, 0 lines"
+        );
+    }
+    Ok(())
+}
+
+/// Jobs that are handed in after 200 of ACME.
+const AFTER_TWO_HUNDRED: &str = "\
+refused 15|submit|ACME|201|1400|A|loop
+refused 12|submit|ACME|201|1401|A|loop
+taken 1|submit|ACME|200|1400|A|loop
+taken 1|submit|ABCDEFGHIJKL|999999|1400|A|loop
+";
+
+/// The first line of a sheet that is answered otherwise after 200 jobs of ACME; else how many jobs
+/// and lines there are after its commands.
+fn outcome_after_two_hundred(alloc: Global, sheet: &'static str) -> Result<String, Fail> {
+    let mut bureau = in_memory(alloc)?;
+    let mut meter = Meter::new();
+    for number in 1..=200 {
+        let line = format!(in alloc; "submit|ACME|{number}|1400|A|loop")?;
+        if reply_to(alloc, &mut bureau, &mut meter, line.as_str())?.as_str() != "taken 1" {
+            return Err("not taken")?;
+        }
+    }
+    let line = misanswered(alloc, &mut bureau, &mut meter, sheet)?;
+    if !line.is_empty() {
+        return Ok(String::from_str(alloc, line)?);
+    }
+    counts(alloc, bureau)
+}
+
+#[test]
+fn two_hundred_jobs_and_no_more(rt: HostRuntime) -> Result<(), Fail> {
+    let outcome = outcome_after_two_hundred(rt.alloc(), AFTER_TWO_HUNDRED)?;
+    assert_eq!(rt; outcome.as_str(), "201 jobs, 0 lines");
+    Ok(())
+}

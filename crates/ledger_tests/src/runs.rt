@@ -1,0 +1,74 @@
+//! Jobs that are handed in and run.
+
+use crate::sessions::{outcome, rows_after};
+use std::test::Fail;
+
+/// A job that is granted just less than it needs, then more.
+const TO_ITS_HALT: &str = "\
+taken 6|submit|ACME|9|4000|A|two lines
+ran 34, running|slice|ACME|9|34
+ran 1, halted, next 361|slice|ACME|9|2000
+refused 23|slice|ACME|9|1
+";
+
+/// A job whose program finds no card to read.
+const WITHOUT_DATA: &str = "\
+taken 4|submit|ACME|9|4000|A|no data
+ran 25, ReaderEmpty at 342|slice|ACME|9|2000
+refused 23|slice|ACME|9|1
+refused 23|slice|ACME|9|2000
+";
+
+/// A job that runs for ever.
+const WITHOUT_END: &str = "\
+taken 1|submit|ACME|9|4000|A|loop
+ran 2000, running|slice|ACME|9|2000
+ran 2000, running|slice|ACME|9|2000
+ran 1, running|slice|ACME|9|1
+";
+
+/// A job whose second instruction has an address outside the storage: it is attempted, and not
+/// executed.
+const OUTSIDE: &str = "\
+taken 1|submit|ACME|9|4000|A|outside
+ran 1, Address at 8|slice|ACME|9|2000
+refused 23|slice|ACME|9|1
+refused 23|slice|ACME|9|2000
+";
+
+#[test]
+fn slices_of_jobs(rt: HostRuntime) -> Result<(), Fail> {
+    for (sheet, wanted) in [
+        (TO_ITS_HALT, "35 ticks, 1 jobs, 2 lines"),
+        (WITHOUT_DATA, "26 ticks, 1 jobs, 0 lines"),
+        (WITHOUT_END, "4001 ticks, 1 jobs, 0 lines"),
+        (OUTSIDE, "2 ticks, 1 jobs, 0 lines"),
+    ] {
+        assert_eq!(rt; outcome(rt.alloc(), sheet)?.as_str(), wanted);
+    }
+    Ok(())
+}
+
+/// A job that has run.
+const ONCE: &str = "\
+taken 6|submit|ACME|9|4000|A|two lines
+ran 34, running|slice|ACME|9|34
+";
+
+/// The same, and handed in again.
+const AGAIN: &str = "\
+taken 6|submit|ACME|9|4000|A|two lines
+ran 34, running|slice|ACME|9|34
+taken 6|submit|ACME|9|4000|A|two lines
+";
+
+#[test]
+fn a_job_handed_in_again_changes_no_row(rt: HostRuntime) -> Result<(), Fail> {
+    let alloc = rt.alloc();
+    assert_eq!(rt;
+        outcome(alloc, AGAIN)?.as_str(),
+        "34 ticks, 1 jobs, 2 lines"
+    );
+    assert!(rt; rows_after(alloc, AGAIN)? == rows_after(alloc, ONCE)?);
+    Ok(())
+}
