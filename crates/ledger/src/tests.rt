@@ -1,84 +1,47 @@
-//! Commands to a bureau, and what its tables hold then.
+//! Tests of a bureau over tables that are there already, which no public call makes yet.
 
-use crate::{Bureau, Command, Contents, Fault, JobStanding, Kind, Refusal, Reply};
+ghost use Rattle.std.specs.Prelude.{IsTrue, IfOk};
+ghost use Rattle.sqlite_disk.specs.Memory.{memory_is_usable};
+
+use crate::{Bureau, Command, Contents, Fault, JobStanding, Kind, Reply};
 use bitflags::Flags;
-use cards::read_text;
-use core_store::Check;
+use cards::{COLUMNS, read_text};
 use machine::Meter;
-use sqlite::{Alter, Connection, MemStore};
+use sqlite::{Alter, Connection, FileStore, Files, Options};
+use sqlite_disk::{Disk, Memory};
 use std::alloc::Global;
 use std::test::Fail;
 use units::Switches;
 
-mod breaking;
-mod refusals;
-mod reopening;
-
-/// A program that prints each data card until the last one, and two data cards.
-const TWO_LINES: [&str; 6] = [
-    ",008015,022029,036040,047054,061068,072)008015)022029)036036N0000001040",
-    "/332/,0011M0802802B360A                L023355,337338,342343,3503511040",
-    "B342.                                  L006361,360361N000000N0000001040",
-    "                                       /333080",
-    "HELLO",
-    "WORLD",
-];
-
-/// A program that runs for ever.
-const LOOP: [&str; 1] = [",008012B008"];
-
-/// What is handed in with these cards, each without its trailing blanks.
-fn contents(
-    alloc: Global,
-    size: u32,
-    switches: Switches,
-    cards: &[&str],
-) -> Result<Contents, Fail> {
+/// Job 9 of ACME with these cards, each written without its trailing blanks.
+fn submit_9(alloc: Global, cards: &str) -> Result<Command, Fail> {
     let mut text = Vec::new(alloc);
-    for card in cards {
+    for card in cards.lines() {
         text.extend_from_slice(card.as_bytes())?;
-        for _ in card.len()..80 {
+        for _ in card.len()..COLUMNS {
             text.push(b' ')?;
         }
         text.push(b'\n')?;
     }
-    Ok(Contents {
-        kind: Kind::Object,
-        size,
-        switches,
-        deck: read_text(alloc, &text)?,
-    })
-}
-
-fn submit(alloc: Global, customer: &str, number: u32, contents: Contents) -> Result<Command, Fail> {
     Ok(Command::Submit {
-        customer: String::from_str(alloc, customer)?,
-        number,
-        contents,
+        customer: String::from_str(alloc, "ACME")?,
+        number: 9,
+        contents: Contents {
+            kind: Kind::Object,
+            size: 4000,
+            switches: Switches::A,
+            deck: read_text(alloc, &text)?,
+        },
     })
-}
-
-fn slice(alloc: Global, customer: &str, number: u32, limit: u32) -> Result<Command, Fail> {
-    Ok(Command::Slice {
-        customer: String::from_str(alloc, customer)?,
-        number,
-        limit,
-    })
-}
-
-/// Hands these cards in as job 9 of ACME.
-fn submit_9(alloc: Global, cards: &[&str]) -> Result<Command, Fail> {
-    submit(alloc, "ACME", 9, contents(alloc, 4000, Switches::A, cards)?)
 }
 
 /// Runs job 9 of ACME.
 fn slice_9(alloc: Global, limit: u32) -> Result<Command, Fail> {
-    slice(alloc, "ACME", 9, limit)
-}
-
-fn in_memory(alloc: Global) -> Result<Bureau<MemStore>, Fail> {
-    let conn = Connection::open_in_memory(alloc)?;
-    Ok(Bureau::create(alloc, conn).ok().ok_or("a bureau")?)
+    Ok(Command::Slice {
+        customer: String::from_str(alloc, "ACME")?,
+        number: 9,
+        limit,
+    })
 }
 
 // It has no clause, so that the proof of a test does not carry the state of each call.
@@ -94,118 +57,202 @@ fn ran(executed: u32, standing: JobStanding) -> Result<Reply, Fault> {
     Ok(Reply::Ran { executed, standing })
 }
 
-/// A bureau with job 9 of ACME.
-fn with_9(alloc: Global, cards: &[&str]) -> Result<Bureau<MemStore>, Fail> {
-    let mut bureau = in_memory(alloc)?;
-    match apply(&mut bureau, &submit_9(alloc, cards)?, &mut Meter::new()) {
-        Ok(Reply::Taken { cards: _ }) => Ok(bureau),
-        _ => Err("not taken")?,
+fn copy(alloc: Global, disk: &Memory) -> Result<Memory, Fail>
+    ensures { IfOk result (λ copy. IsTrue (memory_is_usable copy)) }
+{
+    let mut copy = Memory::new(alloc);
+    copy.write_at(0, disk.bytes())?;
+    Ok(copy)
+}
+
+/// A connection to what is on these disks.
+fn open(alloc: Global, disks: &Files<Memory>) -> Result<Connection<FileStore<Memory>>, Fail> {
+    let files = Files {
+        log: copy(alloc, &disks.log)?,
+        db: copy(alloc, &disks.db)?,
+    };
+    Ok(
+        Connection::open_files(alloc, files, Options::new(1))
+            .ok()
+            .ok_or("opened")?,
+    )
+}
+
+/// The connection of a new bureau.
+fn created<S: Alter + Drop>(alloc: Global, conn: Connection<S>) -> Result<Connection<S>, Fail> {
+    match Bureau::create(alloc, conn) {
+        Ok(bureau) => Ok(bureau.into_connection()),
+        Err(_) => Err("not made")?,
     }
 }
 
-fn number<S: Alter>(conn: &mut Connection<S>, sql: &str) -> Result<i64, Fail> {
-    Ok(conn.query_row(sql, &[])?.get(0)?)
+/// The disks of a connection that is closed.
+fn closed(conn: Result<Connection<FileStore<Memory>>, Fail>) -> Result<Files<Memory>, Fail> {
+    match conn {
+        Ok(conn) => Ok(conn.into_store().close()),
+        Err(fail) => Err(fail),
+    }
 }
 
-/// What is replied to slices of job 9 of ACME, how many ticks they take, and how many lines there
-/// are then.
-fn outcome(
+/// The disks of a bureau without jobs.
+fn new_disks(alloc: Global) -> Result<Files<Memory>, Fail> {
+    let empty = Files {
+        log: Memory::new(alloc),
+        db: Memory::new(alloc),
+    };
+    match open(alloc, &empty) {
+        Ok(conn) => closed(created(alloc, conn)),
+        Err(fail) => Err(fail),
+    }
+}
+
+/// The connection of a bureau after a command, to which there is this reply.
+fn applied<S: Alter + Drop>(
     alloc: Global,
-    cards: &[&str],
-    limits: [u32; 3],
-) -> Result<([Result<Reply, Fault>; 3], u64, i64), Fail> {
-    let mut bureau = with_9(alloc, cards)?;
-    let mut meter = Meter::new();
-    let replies = [
-        apply(&mut bureau, &slice_9(alloc, limits[0])?, &mut meter),
-        apply(&mut bureau, &slice_9(alloc, limits[1])?, &mut meter),
-        apply(&mut bureau, &slice_9(alloc, limits[2])?, &mut meter),
-    ];
-    let mut conn = bureau.into_connection();
-    let lines = number(&mut conn, "SELECT count(*) FROM lines")?;
-    Ok((replies, meter.ticks(), lines))
+    conn: Connection<S>,
+    command: &Command,
+    meter: &mut Meter,
+    reply: &mut Result<Reply, Fault>,
+) -> Connection<S> {
+    let mut bureau = Bureau::over(alloc, conn);
+    *reply = apply(&mut bureau, command, meter);
+    bureau.into_connection()
 }
 
-#[test]
-fn a_job_runs_to_its_halt_and_not_on(rt: HostRuntime) -> Result<(), Fail> {
-    let running = ran(34, JobStanding::Running);
-    let halted = ran(1, JobStanding::Halted { next: 361 });
-    let stopped = Ok(Reply::Refused(Refusal::NotRunning));
-    let outcome = outcome(rt.alloc(), &TWO_LINES, [34, 2000, 1])?;
-    assert_eq!(rt; outcome, ([running, halted, stopped], 35, 2));
-    Ok(())
-}
-
-#[test]
-fn a_job_without_data_stops_at_the_reader(rt: HostRuntime) -> Result<(), Fail> {
-    let empty = JobStanding::Checked {
-        check: Check::ReaderEmpty,
-        at: 342,
+/// The reply to a command to the bureau on these disks, and the disks after it.
+fn apply_anew(
+    alloc: Global,
+    disks: &Files<Memory>,
+    command: &Command,
+    meter: &mut Meter,
+) -> Result<(Result<Reply, Fault>, Files<Memory>), Fail> {
+    let mut reply = Err(Fault::Store);
+    let conn = match open(alloc, disks) {
+        Ok(conn) => Ok(applied(alloc, conn, command, meter, &mut reply)),
+        Err(fail) => Err(fail),
     };
-    let stopped = Ok(Reply::Refused(Refusal::NotRunning));
-    let outcome = outcome(rt.alloc(), &TWO_LINES[..4], [2000, 1, 2000])?;
-    assert_eq!(rt; outcome, ([ran(25, empty), stopped, stopped], 26, 0));
-    Ok(())
+    let disks = closed(conn)?;
+    Ok((reply, disks))
 }
 
-#[test]
-fn a_job_without_end_runs_as_it_is_granted(rt: HostRuntime) -> Result<(), Fail> {
-    let all = ran(2000, JobStanding::Running);
-    let one = ran(1, JobStanding::Running);
-    let outcome = outcome(rt.alloc(), &LOOP, [2000, 2000, 1])?;
-    assert_eq!(rt; outcome, ([all, all, one], 4001, 0));
-    Ok(())
-}
-
-#[test]
-fn a_check_is_attempted_and_not_executed(rt: HostRuntime) -> Result<(), Fail> {
-    let outside = JobStanding::Checked {
-        check: Check::Address,
-        at: 8,
-    };
-    let stopped = Ok(Reply::Refused(Refusal::NotRunning));
-    let outcome = outcome(rt.alloc(), &[",008015L000200"], [2000, 1, 2000])?;
-    assert_eq!(rt; outcome, ([ran(1, outside), stopped, stopped], 2, 0));
-    Ok(())
-}
-
-/// Every row of every table, and the bureau again.
-fn all_rows(alloc: Global, bureau: Bureau<MemStore>) -> Result<(String, Bureau<MemStore>), Fail> {
-    let mut conn = bureau.into_connection();
-    let mut text = String::new(alloc);
-    for sql in [
-        "SELECT * FROM bureau",
-        "SELECT * FROM jobs",
-        "SELECT * FROM stretches",
-        "SELECT * FROM pictures",
-        "SELECT * FROM cards",
-        "SELECT * FROM lines",
-    ] {
-        let rows = conn.query_all(sql, &[])?;
-        let shown = format!(in alloc; "{rows:?}\n")?;
-        text.push_str(shown.as_str())?;
+/// The characters of all lines, as numbers in a row.
+fn images<S: Alter + Drop>(alloc: Global, mut conn: Connection<S>) -> Result<Vec<u8>, Fail> {
+    let mut images = Vec::new(alloc);
+    for row in &conn.query_all("SELECT image FROM lines ORDER BY place", &[])? {
+        let image: Vec<u8> = row.get(0)?;
+        images.extend_from_slice(&image)?;
     }
-    Ok((text, Bureau::over(alloc, conn)))
+    Ok(images)
+}
+
+/// A program that prints each data card until the last one, and two data cards.
+const TWO_LINES: &str = "\
+,008015,022029,036040,047054,061068,072)008015)022029)036036N0000001040
+/332/,0011M0802802B360A                L023355,337338,342343,3503511040
+B342.                                  L006361,360361N000000N0000001040
+                                       /333080
+HELLO
+WORLD
+";
+
+/// How many slices of one instruction are answered with a running machine, each over the file
+/// opened anew, the reply to the next slice, and the disks after it.
+fn run_by_ones(
+    alloc: Global,
+    mut disks: Files<Memory>,
+    meter: &mut Meter,
+) -> Result<(u32, Result<Reply, Fault>, Files<Memory>), Fail> {
+    let command = slice_9(alloc, 1)?;
+    for count in 0..100 {
+        let (reply, after) = apply_anew(alloc, &disks, &command, meter)?;
+        if reply != ran(1, JobStanding::Running) {
+            return Ok((count, reply, after));
+        }
+        disks = after;
+    }
+    Err("no end")?
 }
 
 #[test]
-fn a_job_handed_in_again_changes_no_row(rt: HostRuntime) -> Result<(), Fail> {
+fn slices_of_one_instruction(rt: HostRuntime) -> Result<(), Fail> {
     let alloc = rt.alloc();
     let mut meter = Meter::new();
-    let mut bureau = with_9(alloc, &TWO_LINES)?;
-    let slice = slice_9(alloc, 34)?;
-    assert_eq!(rt;
-        apply(&mut bureau, &slice, &mut meter),
-        ran(34, JobStanding::Running)
-    );
-    let (before, mut bureau) = all_rows(alloc, bureau)?;
-    let again = submit_9(alloc, &TWO_LINES)?;
-    assert_eq!(rt;
-        apply(&mut bureau, &again, &mut meter),
-        Ok(Reply::Taken { cards: 6 })
-    );
-    let (after, _) = all_rows(alloc, bureau)?;
-    assert!(rt; before == after);
-    assert_eq!(rt; meter.ticks(), 34);
+    let disks = new_disks(alloc)?;
+    let (taken, disks) = apply_anew(alloc, &disks, &submit_9(alloc, TWO_LINES)?, &mut meter)?;
+    assert_eq!(rt; taken, Ok(Reply::Taken { cards: 6 }));
+    let (count, last, disks) = run_by_ones(alloc, disks, &mut meter)?;
+    assert_eq!(rt; count, 34);
+    assert_eq!(rt; last, ran(1, JobStanding::Halted { next: 361 }));
+    assert_eq!(rt; meter.ticks(), 35);
+    let images = images(alloc, open(alloc, &disks)?)?;
+    assert_eq!(rt; images.len(), 2 * 132);
+    assert!(rt; images.starts_with(&[56, 53, 35, 35, 38, 0]));
+    assert!(rt; images[132..].starts_with(&[22, 38, 41, 35, 52, 0]));
+    Ok(())
+}
+
+/// A connection to the tables of a new bureau with a job that runs for ever, after a statement on
+/// them.
+fn altered<S: Alter + Drop>(
+    alloc: Global,
+    conn: Connection<S>,
+    sql: &str,
+) -> Result<Connection<S>, Fail> {
+    let conn = created(alloc, conn)?;
+    let command = submit_9(alloc, ",008012B008")?;
+    let mut reply = Err(Fault::Store);
+    let mut conn = applied(alloc, conn, &command, &mut Meter::new(), &mut reply);
+    conn.execute(sql, &[])?;
+    Ok(conn)
+}
+
+/// The number of the refusal of a slice, 0 where the machine ran.
+fn refusal<S: Alter>(
+    alloc: Global,
+    bureau: &mut Bureau<S>,
+    meter: &mut Meter,
+    limit: u32,
+) -> Result<u8, Fail> {
+    match apply(bureau, &slice_9(alloc, limit)?, meter) {
+        Ok(Reply::Ran { .. }) => Ok(0),
+        Ok(Reply::Refused(reason)) => Ok(reason.number()),
+        _ => Err("another reply")?,
+    }
+}
+
+/// How much has been granted to the job of a bureau.
+fn sum_granted<S: Alter + Drop>(bureau: Bureau<S>) -> Result<i64, Fail> {
+    let mut conn = bureau.into_connection();
+    Ok(
+        conn.query_row("SELECT granted FROM stretches", &[])?
+            .get(0)?,
+    )
+}
+
+/// The refusals of slices with these limits over a connection, the ticks that they take, and how
+/// much has been granted after them.
+fn refusals<S: Alter + Drop>(
+    alloc: Global,
+    conn: Connection<S>,
+    limits: [u32; 4],
+) -> Result<([u8; 4], u64, i64), Fail> {
+    let mut bureau = Bureau::over(alloc, conn);
+    let mut meter = Meter::new();
+    let refusals = [
+        refusal(alloc, &mut bureau, &mut meter, limits[0])?,
+        refusal(alloc, &mut bureau, &mut meter, limits[1])?,
+        refusal(alloc, &mut bureau, &mut meter, limits[2])?,
+        refusal(alloc, &mut bureau, &mut meter, limits[3])?,
+    ];
+    Ok((refusals, meter.ticks(), sum_granted(bureau)?))
+}
+
+#[test]
+fn a_thousand_million_instructions_and_no_more(rt: HostRuntime) -> Result<(), Fail> {
+    let alloc = rt.alloc();
+    let conn = Connection::open_in_memory(alloc)?;
+    let conn = altered(alloc, conn, "UPDATE stretches SET granted = 999999000")?;
+    let outcome = refusals(alloc, conn, [2000, 1001, 1000, 1])?;
+    assert_eq!(rt; outcome, ([28, 28, 0, 28], 1000, 1_000_000_000));
     Ok(())
 }

@@ -4,26 +4,10 @@ use crate::commands::{misanswered, reply_to};
 use crate::sessions::new_bureau;
 use ledger::Bureau;
 use machine::Meter;
-use sqlite::{Alter, Connection, FileStore, Files, Options};
+use sqlite::{Alter, Connection, Files, Options};
 use sqlite_disk::{Fuse, Memory};
 use std::alloc::Global;
 use std::test::Fail;
-
-/// A connection to empty disks, which fail after so many calls of each.
-fn on_failing_disks(
-    alloc: Global,
-    log_calls: u64,
-    db_calls: u64,
-) -> Result<Connection<FileStore<Fuse<Memory>>>, Fail> {
-    let files = Files {
-        log: Fuse::new(Memory::new(alloc), log_calls),
-        db: Fuse::new(Memory::new(alloc), db_calls),
-    };
-    match Connection::open_files(alloc, files, Options::new(1)) {
-        Ok(conn) => Ok(conn),
-        Err(_) => Err("not opened")?,
-    }
-}
 
 /// The reply to the first job that is not taken, once some have been.
 fn reply_after_taken<S: Alter>(alloc: Global, bureau: &mut Bureau<S>) -> Result<String, Fail> {
@@ -50,30 +34,41 @@ fault Store|slice|acme|0|0
 fault Store|slice|ACME|1|1
 ";
 
-/// The reply to the first job that a bureau does not take, whether the bureau is broken by it, the
-/// first line of a sheet whose command is then answered otherwise, and the ticks.
-fn failure<S: Alter>(
+/// The reply to the first job that a new bureau does not take, whether the bureau is broken by it,
+/// the first line of a sheet whose command is then answered otherwise, and the ticks.
+fn failure<S: Alter + Drop>(
     alloc: Global,
-    bureau: &mut Bureau<S>,
+    conn: Connection<S>,
     sheet: &'static str,
 ) -> Result<String, Fail> {
-    let reply = reply_after_taken(alloc, bureau)?;
+    let mut bureau = new_bureau(alloc, conn)?;
+    let reply = reply_after_taken(alloc, &mut bureau)?;
     let broken = bureau.broken();
     let mut meter = Meter::new();
-    let line = misanswered(alloc, bureau, &mut meter, sheet)?;
+    let line = misanswered(alloc, &mut bureau, &mut meter, sheet)?;
     Ok(format!(in alloc; "{reply}, broken {broken}, {line}{} ticks", meter.ticks())?)
 }
 
-/// The same of a new bureau, the disk of whose log fails.
-fn failure_of_log(alloc: Global, sheet: &'static str) -> Result<String, Fail> {
-    let conn = on_failing_disks(alloc, 60, 1_000_000)?;
-    let mut bureau = new_bureau(alloc, conn)?;
-    failure(alloc, &mut bureau, sheet)
+/// The same over empty disks, which fail after so many calls of each.
+fn failure_on_disks(
+    alloc: Global,
+    log_calls: u64,
+    db_calls: u64,
+    sheet: &'static str,
+) -> Result<String, Fail> {
+    let files = Files {
+        log: Fuse::new(Memory::new(alloc), log_calls),
+        db: Fuse::new(Memory::new(alloc), db_calls),
+    };
+    match Connection::open_files(alloc, files, Options::new(1)) {
+        Ok(conn) => failure(alloc, conn, sheet),
+        Err(_) => Err("not opened")?,
+    }
 }
 
 #[test]
 fn after_a_failure_nothing_is_answered(rt: HostRuntime) -> Result<(), Fail> {
-    let failure = failure_of_log(rt.alloc(), AFTER_A_FAILURE)?;
+    let failure = failure_on_disks(rt.alloc(), 60, 1_000_000, AFTER_A_FAILURE)?;
     assert_eq!(rt; failure.as_str(), "fault Store, broken true, 0 ticks");
     Ok(())
 }

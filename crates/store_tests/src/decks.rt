@@ -1,47 +1,29 @@
-//! Decks of cards, each card written without its trailing blanks.
+//! A deck of cards.
 
 use cards::{COLUMNS, Deck, read_text};
 use std::alloc::Global;
 use std::test::Fail;
 
-/// A program that prints each data card until the last one.
-const PRINTS_EACH_CARD: &str = "\
+/// A program that prints each data card until the last one, and two data cards, each card written
+/// without its trailing blanks.
+const TWO_LINES: &str = "\
 ,008015,022029,036040,047054,061068,072)008015)022029)036036N0000001040
 /332/,0011M0802802B360A                L023355,337338,342343,3503511040
 B342.                                  L006361,360361N000000N0000001040
                                        /333080
+HELLO
+WORLD
 ";
 
-/// The program and the data of the deck with a name.
-fn cards_named(name: &str) -> Option<(&'static str, &'static str)> {
-    match name {
-        "two lines" => Some((PRINTS_EACH_CARD, "HELLO\nWORLD\n")),
-        "one column changed" => Some((PRINTS_EACH_CARD, "HELLO\nWORLX\n")),
-        "no data" => Some((PRINTS_EACH_CARD, "")),
-        "loop" => Some((",008012B008\n", "")),
-        "outside" => Some((",008015L000200\n", "")),
-        "no card" => Some(("", "")),
-        _ => None,
-    }
-}
-
-/// Adds these cards to a text, each with its trailing blanks.
-fn push_cards(text: &mut Vec<u8>, cards: &str) -> Result<(), Fail> {
-    for card in cards.lines() {
+/// The deck of these cards.
+pub(crate) fn two_lines(alloc: Global) -> Result<Deck, Fail> {
+    let mut text = Vec::new(alloc);
+    for card in TWO_LINES.lines() {
         text.extend_from_slice(card.as_bytes())?;
         for _ in card.len()..COLUMNS {
             text.push(b' ')?;
         }
         text.push(b'\n')?;
     }
-    Ok(())
-}
-
-/// The deck with a name.
-pub(crate) fn deck_named(alloc: Global, name: &str) -> Result<Deck, Fail> {
-    let (program, data) = cards_named(name).ok_or("a deck")?;
-    let mut text = Vec::new(alloc);
-    push_cards(&mut text, program)?;
-    push_cards(&mut text, data)?;
     Ok(read_text(alloc, &text)?)
 }

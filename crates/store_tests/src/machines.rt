@@ -1,6 +1,6 @@
 //! A machine kept as rows, and made again from them.
 
-use crate::decks::deck_named;
+use crate::decks::two_lines;
 use core_store::{FlagCore, Size};
 use machine::{Machine, Meter, Parts};
 use pictures::{
@@ -12,14 +12,20 @@ use std::test::Fail;
 use tables::{LineRow, PictureRow};
 use units::{Switches, render};
 
+/// Runs a machine for so many instructions at most.
+fn run_on(machine: &mut Machine<FlagCore>, limit: u32) -> Result<(), Fail> {
+    machine.run(limit, &mut Meter::new())?;
+    Ok(())
+}
+
 /// A machine that prints two lines, once it has run so far.
 fn machine_after(alloc: Global, limit: u32) -> Result<Machine<FlagCore>, Fail> {
-    let deck = deck_named(alloc, "two lines")?;
+    let deck = two_lines(alloc)?;
     if deck.cards().is_empty() {
         return Err("no card")?;
     }
     let mut machine = Machine::<FlagCore>::load(alloc, deck, Size::Positions1400, Switches::A)?;
-    machine.run(limit, &mut Meter::new())?;
+    run_on(&mut machine, limit)?;
     Ok(machine)
 }
 
@@ -49,23 +55,23 @@ fn remade(alloc: Global, row: &PictureRow, media: Media) -> Result<Machine<FlagC
     Ok(Machine::from_parts(alloc, parts)?.ok_or("a picture in range")?)
 }
 
-/// What a machine has printed once it has run on.
-fn listing_of(alloc: Global, mut machine: Machine<FlagCore>) -> Result<Vec<u8>, Fail> {
-    machine.run(2000, &mut Meter::new())?;
+/// What a machine has printed.
+fn listing_of(alloc: Global, machine: &Machine<FlagCore>) -> Result<Vec<u8>, Fail> {
     Ok(render(alloc, &machine.parts().units.printer.lines)?)
 }
 
-/// What is told of a machine that has run so far and is made again from its rows: whether it has
-/// the same row, and what it prints at its end.
+/// A machine that has run so far and is made again from its rows: whether it has the same row, and
+/// what it prints at its end.
 fn told_again(alloc: Global, limit: u32) -> Result<String, Fail> {
     let machine = machine_after(alloc, limit)?;
     let row = row_of(alloc, &machine)?;
     let media = media_of(alloc, machine.parts())?;
-    let again = remade(alloc, &row, media)?;
+    let mut again = remade(alloc, &row, media)?;
     let row_again = row_of(alloc, &again)?;
     let before = format!(in alloc; "{row:?}")?;
     let same = format!(in alloc; "{row_again:?}")? == before;
-    let listing = listing_of(alloc, again)?;
+    run_on(&mut again, 2000)?;
+    let listing = listing_of(alloc, &again)?;
     let text = str::from_utf8(&listing).ok().ok_or("glyphs")?;
     Ok(format!(in alloc; "the same row {same}, {text}")?)
 }
@@ -77,7 +83,7 @@ fn a_machine_goes_on_from_its_rows(rt: HostRuntime) -> Result<(), Fail> {
     Ok(())
 }
 
-/// What is told of the row of a machine at its halt, and of a picture with one line less.
+/// The row of a machine at its halt, and whether it is a picture with one line less.
 fn told_with_a_line_less(alloc: Global) -> Result<String, Fail> {
     let machine = machine_after(alloc, 2000)?;
     let row = row_of(alloc, &machine)?;

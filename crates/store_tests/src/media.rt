@@ -29,7 +29,7 @@ fn bytes_of(alloc: Global, count: usize, each: &[u8]) -> Result<Vec<u8>, Fail> {
     Ok(bytes)
 }
 
-/// What is told of a deck whose bytes are read again.
+/// What the bytes of a deck are read as.
 fn deck_told(alloc: Global, glyphs: &str, numbers: &[u8]) -> Result<&'static str, Fail> {
     let deck = deck_of(alloc, glyphs)?;
     let bytes = deck_bytes(alloc, &deck)?;
@@ -56,7 +56,7 @@ fn rows_of(alloc: Global, deck: &Deck) -> Result<Vec<CardRow>, Fail> {
     Ok(rows)
 }
 
-/// What is told of cards whose rows are read again.
+/// What the rows of cards are read as.
 fn cards_told(alloc: Global, glyphs: &str) -> Result<&'static str, Fail> {
     let deck = deck_of(alloc, glyphs)?;
     let rows = rows_of(alloc, &deck)?;
@@ -70,7 +70,7 @@ fn cards_told(alloc: Global, glyphs: &str) -> Result<&'static str, Fail> {
     })
 }
 
-/// Whether rows of cards are read that have a row of so many bytes behind them.
+/// Whether rows of cards are read that have a row of so many bytes after them.
 fn are_cards(alloc: Global, glyphs: &str, count: usize, byte: u8) -> Result<bool, Fail> {
     let deck = deck_of(alloc, glyphs)?;
     let mut rows = rows_of(alloc, &deck)?;
@@ -79,7 +79,7 @@ fn are_cards(alloc: Global, glyphs: &str, count: usize, byte: u8) -> Result<bool
     Ok(read_cards(alloc, &rows)?.is_some())
 }
 
-/// What is told of a line that has one character in each place and whose row is read again.
+/// The row of a line that has one character in each place, and whether it is read as the line.
 fn line_told(alloc: Global, form: u32, line: u8, glyph: u8) -> Result<String, Fail> {
     let code = Code::from_glyph(glyph).ok_or("a glyph")?;
     let line = Line {
@@ -158,7 +158,7 @@ false|line 1|133|0|
 false|line 1|132|64|
 ";
 
-/// The first line of a sheet whose bytes are read otherwise than it tells; else nothing.
+/// The first line of a sheet whose bytes are read otherwise than it says; else nothing.
 fn misread(alloc: Global, sheet: &'static str) -> Result<&'static str, Fail> {
     for line in sheet.lines() {
         let (wanted, fields) = line.split_once('|').ok_or("an answer")?;

@@ -1,6 +1,6 @@
 //! Storage, indicators, orders, standings and switches as numbers, and read again.
 
-use crate::decks::deck_named;
+use crate::decks::two_lines;
 use bcd::Code;
 use bitflags::Flags;
 use core_store::{Core, FlagCore, Size};
@@ -36,7 +36,7 @@ fn row_with(storage: Vec<u8>, compare: u32, waiting: u32, standing: u32) -> Pict
 /// What a machine reads that has made nothing.
 fn media(alloc: Global) -> Result<Media, Fail> {
     Ok(Media {
-        deck: deck_named(alloc, "two lines")?,
+        deck: two_lines(alloc)?,
         switches: Switches::A,
         cards: Vec::new(alloc),
         lines: Vec::new(alloc),
@@ -54,7 +54,7 @@ fn row_again(alloc: Global, parts: Parts<FlagCore>) -> Result<PictureRow, Fail> 
     Ok(picture_row(alloc, machine.parts())?)
 }
 
-/// What is told of a picture with these numbers: how it compared, the order that waits and the
+/// A picture with these numbers in words: how it compared, the order that waits and the
 /// standing; and the numbers again.
 fn told(alloc: Global, compare: u32, waiting: u32, standing: u32) -> Result<String, Fail> {
     let storage = vec![in alloc; 0; 1400]?;
@@ -70,7 +70,7 @@ fn told(alloc: Global, compare: u32, waiting: u32, standing: u32) -> Result<Stri
     Ok(format!(in alloc; "{compared:?}, {order:?}, {stands:?}: {compare}|{waiting}|{standing}")?)
 }
 
-/// Numbers of a picture, and what they stand for.
+/// Numbers of a picture, and what they represent.
 const NUMBERS: &str = "\
 0|0|0|Equal, None, Running
 1|1|1|Low, Some(Space), Halted
@@ -86,12 +86,12 @@ const NUMBERS: &str = "\
 0|0|9|none
 ";
 
-/// The number that a text tells.
+/// The number in a text.
 fn number_of(text: &str) -> Result<u32, Fail> {
     Ok(text.parse::<u32>().ok().ok_or("a number")?)
 }
 
-/// The first line of a sheet whose numbers stand for something else than it tells, or are not the
+/// The first line of a sheet whose numbers represent something else than it says, or are not the
 /// numbers of that; else nothing.
 fn mistold(alloc: Global, sheet: &'static str) -> Result<&'static str, Fail> {
     for line in sheet.lines() {
@@ -171,7 +171,7 @@ fn parts_with(alloc: Global, core: FlagCore) -> Result<Parts<FlagCore>, Fail> {
     })
 }
 
-/// What is told of a storage with two characters and a mark: how many bytes it is, those of the
+/// A storage with two characters and a mark as bytes: how many they are, those of the
 /// positions 0, 1 and 1399, and whether they are the same when they are read and written again.
 fn storage_told(alloc: Global) -> Result<String, Fail> {
     let parts = parts_with(alloc, marked_core(alloc, b'A')?)?;

@@ -96,12 +96,12 @@ fn filled(alloc: Global) -> Result<Connection<MemStore>, Fail> {
     Ok(conn)
 }
 
-/// The number that a query answers.
+/// The number that a query returns.
 fn number<S: Alter>(conn: &mut Connection<S>, sql: &str) -> Result<i64, Fail> {
     Ok(conn.query_row(sql, &[])?.get(0)?)
 }
 
-/// Queries, each with the number that it answers.
+/// Queries, each after the number that it returns.
 const NUMBERS: &str = "\
 1|SELECT version FROM bureau
 1|SELECT count(*) FROM jobs
@@ -116,7 +116,7 @@ const NUMBERS: &str = "\
 11|SELECT form FROM lines
 ";
 
-/// The first query of a sheet that answers another number than the line tells; else nothing.
+/// The first line of a sheet whose query returns another number than it says; else nothing.
 fn misanswered(alloc: Global, sheet: &'static str) -> Result<&'static str, Fail> {
     let mut conn = filled(alloc)?;
     for line in sheet.lines() {
