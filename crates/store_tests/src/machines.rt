@@ -60,20 +60,43 @@ fn listing_of(alloc: Global, machine: &Machine<FlagCore>) -> Result<Vec<u8>, Fai
     Ok(render(alloc, &machine.parts().units.printer.lines)?)
 }
 
-/// A machine that has run so far and is made again from its rows: whether it has the same row, and
-/// what it prints at its end.
-fn told_again(alloc: Global, limit: u32) -> Result<String, Fail> {
-    let machine = machine_after(alloc, limit)?;
-    let row = row_of(alloc, &machine)?;
+/// A machine made again from its rows.
+fn made_again(alloc: Global, machine: &Machine<FlagCore>) -> Result<Machine<FlagCore>, Fail> {
+    let row = row_of(alloc, machine)?;
     let media = media_of(alloc, machine.parts())?;
-    let mut again = remade(alloc, &row, media)?;
-    let row_again = row_of(alloc, &again)?;
-    let before = format!(in alloc; "{row:?}")?;
-    let same = format!(in alloc; "{row_again:?}")? == before;
-    run_on(&mut again, 2000)?;
-    let listing = listing_of(alloc, &again)?;
+    remade(alloc, &row, media)
+}
+
+/// The row of a machine's picture, as a text.
+fn row_text(alloc: Global, machine: &Machine<FlagCore>) -> Result<String, Fail> {
+    let row = row_of(alloc, machine)?;
+    Ok(format!(in alloc; "{row:?}")?)
+}
+
+/// Whether a machine has this row, and what it has printed once it has run on.
+fn told_at_its_end(
+    alloc: Global,
+    machine: &mut Machine<FlagCore>,
+    row: &str,
+) -> Result<String, Fail> {
+    let same = row_text(alloc, machine)?.as_str() == row;
+    run_on(machine, 2000)?;
+    let listing = listing_of(alloc, machine)?;
     let text = str::from_utf8(&listing).ok().ok_or("glyphs")?;
     Ok(format!(in alloc; "the same row {same}, {text}")?)
+}
+
+/// The same of a machine that is made again from the rows of this one.
+fn told_of_the_next(alloc: Global, machine: &Machine<FlagCore>) -> Result<String, Fail> {
+    let row = row_text(alloc, machine)?;
+    let mut next = made_again(alloc, machine)?;
+    told_at_its_end(alloc, &mut next, row.as_str())
+}
+
+/// The same of a machine that has run so far and is made again.
+fn told_again(alloc: Global, limit: u32) -> Result<String, Fail> {
+    let machine = machine_after(alloc, limit)?;
+    told_of_the_next(alloc, &machine)
 }
 
 #[test]
@@ -83,15 +106,29 @@ fn a_machine_goes_on_from_its_rows(rt: HostRuntime) -> Result<(), Fail> {
     Ok(())
 }
 
-/// The row of a machine at its halt, and whether it is a picture with one line less.
-fn told_with_a_line_less(alloc: Global) -> Result<String, Fail> {
-    let machine = machine_after(alloc, 2000)?;
-    let row = row_of(alloc, &machine)?;
+/// Whether a row is that of a picture whose media have one line less.
+fn is_read_with_a_line_less(
+    alloc: Global,
+    machine: &Machine<FlagCore>,
+    row: &PictureRow,
+) -> Result<bool, Fail> {
     let mut media = media_of(alloc, machine.parts())?;
     media.lines.truncate(1);
-    let found = read_picture::<FlagCore>(alloc, &row, media)?.is_some();
+    Ok(read_picture::<FlagCore>(alloc, row, media)?.is_some())
+}
+
+/// The row of a machine, and whether it is read with one line less.
+fn row_told(alloc: Global, machine: &Machine<FlagCore>) -> Result<String, Fail> {
+    let row = row_of(alloc, machine)?;
+    let found = is_read_with_a_line_less(alloc, machine, &row)?;
     let (lines, taken, standing) = (row.lines, row.taken, row.standing);
     Ok(format!(in alloc; "{lines} lines, {taken} taken, standing {standing}, picture {found}")?)
+}
+
+/// The same of a machine at its halt.
+fn told_with_a_line_less(alloc: Global) -> Result<String, Fail> {
+    let machine = machine_after(alloc, 2000)?;
+    row_told(alloc, &machine)
 }
 
 #[test]
