@@ -20,7 +20,7 @@ use units::Switches;
 use words::{Words, WordsFault};
 
 /// Where a deck's text comes from.
-#[derive(Clone, Copy, PartialEq, Eq)]
+#[derive(Clone, Copy, Debug, PartialEq, Eq)]
 pub enum Source<'a> {
     /// The standard input.
     Input,
@@ -29,7 +29,7 @@ pub enum Source<'a> {
 }
 
 /// What the program is to do.
-#[derive(Clone, Copy, PartialEq, Eq)]
+#[derive(Clone, Copy, Debug, PartialEq, Eq)]
 pub enum Task<'a> {
     /// Print the help.
     Help,

@@ -1,6 +1,7 @@
-//! Tests of the bureau: sheets of commands, what is replied to them, and the rows that are there
-//! then.
-
+//! Tests of the bureau: what is replied to sheets of commands and the rows that are there then;
+//! and, below it, the rows of its tables and the pictures of machines in them.
+//!
+//! They are one crate, since each crate over `sqlite` takes a minute to start.
 #![tactic(auto)]
 
 #[cfg(test)]
@@ -10,7 +11,15 @@ mod decks;
 #[cfg(test)]
 mod failing_disks;
 #[cfg(test)]
+mod machines;
+#[cfg(test)]
+mod media;
+#[cfg(test)]
+mod numbers;
+#[cfg(test)]
 mod refusals;
+#[cfg(test)]
+mod rows;
 #[cfg(test)]
 mod runs;
 #[cfg(test)]

@@ -24,7 +24,7 @@ pub(crate) fn in_memory(alloc: Global) -> Result<Bureau<MemStore>, Fail> {
 }
 
 /// The number that a query returns.
-fn number<S: Alter>(conn: &mut Connection<S>, sql: &str) -> Result<i64, Fail> {
+pub(crate) fn number<S: Alter>(conn: &mut Connection<S>, sql: &str) -> Result<i64, Fail> {
     Ok(conn.query_row(sql, &[])?.get(0)?)
 }
 

@@ -7,7 +7,7 @@ use std::fmt;
 use std::fmt::{Display, Formatter};
 
 /// A row of the program's words. The values are any text: what they say is judged above.
-#[derive(Clone, Copy, PartialEq, Eq)]
+#[derive(Clone, Copy, Debug, PartialEq, Eq)]
 pub enum Words<'a> {
     /// No words: the deck stands on standard input, and runs with the usual size and switches.
     Standard,

@@ -1,6 +1,6 @@
 //! A machine kept as rows, and made again from them.
 
-use crate::decks::two_lines;
+use crate::decks::deck_named;
 use core_store::{FlagCore, Size};
 use machine::{Machine, Meter, Parts};
 use pictures::{
@@ -20,7 +20,7 @@ fn run_on(machine: &mut Machine<FlagCore>, limit: u32) -> Result<(), Fail> {
 
 /// A machine that prints two lines, once it has run so far.
 fn machine_after(alloc: Global, limit: u32) -> Result<Machine<FlagCore>, Fail> {
-    let deck = two_lines(alloc)?;
+    let deck = deck_named(alloc, "two lines")?;
     if deck.cards().is_empty() {
         return Err("no card")?;
     }

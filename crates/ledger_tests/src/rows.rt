@@ -1,5 +1,6 @@
 //! A row of each table.
 
+use crate::sessions::number;
 use sqlite::{Alter, Connection, MemStore, Transaction};
 use std::alloc::Global;
 use std::test::Fail;
@@ -94,11 +95,6 @@ fn filled(alloc: Global) -> Result<Connection<MemStore>, Fail> {
     }
     tx.commit()?;
     Ok(conn)
-}
-
-/// The number that a query returns.
-fn number<S: Alter>(conn: &mut Connection<S>, sql: &str) -> Result<i64, Fail> {
-    Ok(conn.query_row(sql, &[])?.get(0)?)
 }
 
 /// Queries, each after the number that it returns.

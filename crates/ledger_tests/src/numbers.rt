@@ -1,6 +1,6 @@
 //! Storage, indicators, orders, standings and switches as numbers, and read again.
 
-use crate::decks::two_lines;
+use crate::decks::deck_named;
 use bcd::Code;
 use bitflags::Flags;
 use core_store::{Core, FlagCore, Size};
@@ -36,7 +36,7 @@ fn row_with(storage: Vec<u8>, compare: u32, waiting: u32, standing: u32) -> Pict
 /// What a machine reads that has made nothing.
 fn media(alloc: Global) -> Result<Media, Fail> {
     Ok(Media {
-        deck: two_lines(alloc)?,
+        deck: deck_named(alloc, "two lines")?,
         switches: Switches::A,
         cards: Vec::new(alloc),
         lines: Vec::new(alloc),
