@@ -386,9 +386,13 @@ impl<S: Alter + Drop> Bureau<S> {
         }
     }
 
-    /// A bureau over tables that are there.
-    #[cfg(test)]
-    pub(crate) fn over(alloc: Global, conn: Connection<S>) -> Bureau<S> {
+    /// A bureau over a connection to tables that are there. It does not look at them: what `apply`
+    /// promises holds where they are the tables of an office. It serves tests until a bureau can be
+    /// opened, which checks the tables.
+    pub fn over(alloc: Global, conn: Connection<S>) -> Bureau<S>
+        ensures connection { result.conn ≡ conn }
+        ensures whole { result.broken ≡ false }
+    {
         Bureau {
             conn,
             alloc,

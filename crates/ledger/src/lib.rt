@@ -14,8 +14,6 @@ mod commands;
 mod office;
 mod reading;
 mod saving;
-#[cfg(test)]
-mod tests;
 
 pub use bureau::Bureau;
 pub use commands::{Command, Contents, JobStanding, Kind, Refusal, Reply};

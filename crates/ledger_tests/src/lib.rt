@@ -17,6 +17,8 @@ mod media;
 #[cfg(test)]
 mod numbers;
 #[cfg(test)]
+mod opened_anew;
+#[cfg(test)]
 mod refusals;
 #[cfg(test)]
 mod rows;

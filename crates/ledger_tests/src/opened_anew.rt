@@ -1,11 +1,12 @@
-//! Tests of a bureau over tables that are there already, which no public call makes yet.
+//! A bureau over tables that are there: its file opened anew for each command, and a row altered
+//! by hand.
 
 ghost use Rattle.std.specs.Prelude.{IsTrue, IfOk};
 ghost use Rattle.sqlite_disk.specs.Memory.{memory_is_usable};
 
-use crate::{Bureau, Command, Contents, Fault, JobStanding, Kind, Reply};
+use crate::decks::deck_named;
 use bitflags::Flags;
-use cards::{COLUMNS, read_text};
+use ledger::{Bureau, Command, Contents, Fault, JobStanding, Kind, Reply};
 use machine::Meter;
 use sqlite::{Alter, Connection, FileStore, Files, Options};
 use sqlite_disk::{Disk, Memory};
@@ -13,16 +14,8 @@ use std::alloc::Global;
 use std::test::Fail;
 use units::Switches;
 
-/// Job 9 of ACME with these cards, each written without its trailing blanks.
-fn submit_9(alloc: Global, cards: &str) -> Result<Command, Fail> {
-    let mut text = Vec::new(alloc);
-    for card in cards.lines() {
-        text.extend_from_slice(card.as_bytes())?;
-        for _ in card.len()..COLUMNS {
-            text.push(b' ')?;
-        }
-        text.push(b'\n')?;
-    }
+/// Hands the deck with a name in as job 9 of ACME.
+fn submit_9(alloc: Global, deck: &str) -> Result<Command, Fail> {
     Ok(Command::Submit {
         customer: String::from_str(alloc, "ACME")?,
         number: 9,
@@ -30,7 +23,7 @@ fn submit_9(alloc: Global, cards: &str) -> Result<Command, Fail> {
             kind: Kind::Object,
             size: 4000,
             switches: Switches::A,
-            deck: read_text(alloc, &text)?,
+            deck: deck_named(alloc, deck)?,
         },
     })
 }
@@ -145,16 +138,6 @@ fn images<S: Alter + Drop>(alloc: Global, mut conn: Connection<S>) -> Result<Vec
     Ok(images)
 }
 
-/// A program that prints each data card until the last one, and two data cards.
-const TWO_LINES: &str = "\
-,008015,022029,036040,047054,061068,072)008015)022029)036036N0000001040
-/332/,0011M0802802B360A                L023355,337338,342343,3503511040
-B342.                                  L006361,360361N000000N0000001040
-                                       /333080
-HELLO
-WORLD
-";
-
 /// How many slices of one instruction are answered with a running machine, each over the file
 /// opened anew, the reply to the next slice, and the disks after it.
 fn run_by_ones(
@@ -178,7 +161,7 @@ fn slices_of_one_instruction(rt: HostRuntime) -> Result<(), Fail> {
     let alloc = rt.alloc();
     let mut meter = Meter::new();
     let disks = new_disks(alloc)?;
-    let (taken, disks) = apply_anew(alloc, &disks, &submit_9(alloc, TWO_LINES)?, &mut meter)?;
+    let (taken, disks) = apply_anew(alloc, &disks, &submit_9(alloc, "two lines")?, &mut meter)?;
     assert_eq!(rt; taken, Ok(Reply::Taken { cards: 6 }));
     let (count, last, disks) = run_by_ones(alloc, disks, &mut meter)?;
     assert_eq!(rt; count, 34);
@@ -199,7 +182,7 @@ fn altered<S: Alter + Drop>(
     sql: &str,
 ) -> Result<Connection<S>, Fail> {
     let conn = created(alloc, conn)?;
-    let command = submit_9(alloc, ",008012B008")?;
+    let command = submit_9(alloc, "loop")?;
     let mut reply = Err(Fault::Store);
     let mut conn = applied(alloc, conn, &command, &mut Meter::new(), &mut reply);
     conn.execute(sql, &[])?;
