@@ -4,12 +4,15 @@ use Rattle.std.specs.Option.{option_map}
 use Rattle.bcd.specs.Table.{digit_of, zone_of, zone_number}
 use Rattle.bcd.specs.declared.Zone.{Zone}
 use Rattle.bcd.specs.declared.Zone.TheVariants.{Bare, A, B, AB}
-use Rattle.core_store.specs.declared.TheConstants.{LARGEST_SIZE}
+use Rattle.core_store.specs.Storage.{largest_size}
 use Rattle.addresses.specs.Digits.{digit_under}
-use Rattle.addresses.specs.declared.tables.TheConstants.{UNREADABLE}
 use Rattle.addresses.specs.declared.tagged.IndexLocation.{IndexLocation}
 use Rattle.addresses.specs.declared.tagged.IndexLocation.TheVariants.{First, Second, Third}
 use Rattle.addresses.specs.declared.tagged.Tagged.{Tagged}
+
+-- a number that no three characters spell
+abbrev pub unreadable : ℕ
+unreadable = 20000
 
 -- what a character adds to an address: its value and its zone, each by the weight of its place
 unfoldable pub weighed : ℕ → ℕ → ℕ → Option ℕ
@@ -29,7 +32,7 @@ base first second third = sum_of (weighed 100 1000 first) (weighed 10 0 second) 
 
 -- a number that tells what was spelled: it is that, or too great to be an address
 abbrev pub Spells : Option ℕ → ℕ → Type 0
-Spells spelled number = MatchOption spelled (UNREADABLE ≤ number) (λ n. (number ≡ n) × (n < LARGEST_SIZE))
+Spells spelled number = MatchOption spelled (unreadable ≤ number) (λ n. (number ≡ n) × (n < largest_size))
 
 -- the index location that the zone of an address's second character names
 abbrev pub location_of : Zone → Option IndexLocation

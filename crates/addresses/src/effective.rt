@@ -1,6 +1,7 @@
 //! What an address stands for in a storage.
 
 ghost use Rattle.std.specs.Prelude.{◌≡◌, ◌<◌, ◌≤◌, ℕ, length, Some, IfSome, IfOk};
+ghost use Rattle.core_store.specs.Storage.{largest_size};
 ghost use Rattle.addresses.specs.Effective.{base_ending, with_index, effective, operand};
 
 use crate::tables::{UNREADABLE, base};
@@ -15,7 +16,7 @@ pub fn base_ending<C: Core>(core: &C, position: u16) -> Option<u16>
     requires within { position < length (C.cells core.now) }
     requires from { 2 ≤ position }
     ensures base { result ≡ base_ending (C.cells core.now) position }
-    ensures below { IfSome result (λ base. base < LARGEST_SIZE) }
+    ensures below { IfSome result (λ base. base < largest_size) }
 {
     let base = base(
         core.get(position - 2),
@@ -59,7 +60,7 @@ pub fn indexed<C: Core>(core: &C, tagged: Tagged) -> Result<u16, Check>
 pub fn operand<C: Core>(core: &C, first: Code, second: Code, third: Code) -> Result<u16, Check>
     ensures position { result ≡ operand (C.cells core.now) first second third }
     ensures inside { IfOk result (λ position. position < length (C.cells core.now)) }
-    ensures below { IfOk result (λ position. position < LARGEST_SIZE) }
+    ensures below { IfOk result (λ position. position < largest_size) }
 {
     let base = base(first, second, third);
     let position = match IndexLocation::of_zone(second.zone()) {

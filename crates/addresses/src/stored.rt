@@ -1,7 +1,7 @@
 //! Numbers written into storage as addresses.
 
 ghost use Rattle.std.specs.Prelude.{◌≡◌, ◌-◌, ◌<◌, ◌≤◌, ℕ, length, Ok, Err, IfErr, IsTrue, OnErr, OnOk};
-ghost use Rattle.core_store.specs.Storage.{put_codes};
+ghost use Rattle.core_store.specs.Storage.{put_codes, largest_size};
 ghost use Rattle.addresses.specs.Stored.{has_three, address_stored};
 
 use crate::written::encode;
@@ -12,7 +12,7 @@ use core_store::{Check, Core, LARGEST_SIZE};
 #[inline(always)]
 pub fn has_three<C: Core>(core: &C, position: u16) -> bool
     ensures three { result ≡ has_three (C.cells core.now) position }
-    ensures inside { IsTrue result → (2 ≤ position) × (position < length (C.cells core.now)) × (position < LARGEST_SIZE) }
+    ensures inside { IsTrue result → (2 ≤ position) × (position < length (C.cells core.now)) × (position < largest_size) }
 {
     position < core.size() && position >= 2
 }
@@ -37,7 +37,7 @@ pub fn store<C: Core>(core: &mut C, position: u16, number: u16) -> Result<(), Ch
     ensures done { OnOk result (address_stored (C.cells core.old) position number ≡ Ok (C.cells core.new)) }
     ensures check { IfErr result (λ check. address_stored (C.cells core.old) position number ≡ Err check) }
     ensures unchanged { OnErr result (C.cells core.new ≡ C.cells core.old) }
-    ensures below { OnOk result (position < LARGEST_SIZE) }
+    ensures below { OnOk result (position < largest_size) }
 {
     if !has_three(core, position) {
         return Err(Check::Address);

@@ -1,7 +1,7 @@
 //! The tables that addresses are read by.
 
 ghost use Rattle.std.specs.Prelude.{◌≡◌, ◌<◌, ◌≤◌, ℕ, unwrap_or};
-ghost use Rattle.addresses.specs.Addresses.{weighed, base, Spells};
+ghost use Rattle.addresses.specs.Addresses.{weighed, base, Spells, unreadable};
 
 use bcd::Code;
 
@@ -37,8 +37,8 @@ const THIRD: [u16; 64] = [
 /// What a character adds as the first of an address.
 #[inline(always)]
 fn of_first(code: Code) -> u16
-    ensures entry { result ≡ unwrap_or (weighed 100 1000 code) UNREADABLE }
-    ensures most { result ≤ UNREADABLE }
+    ensures entry { result ≡ unwrap_or (weighed 100 1000 code) unreadable }
+    ensures most { result ≤ unreadable }
     ensures below { unwrap_or (weighed 100 1000 code) 0 ≤ 3900 }
 {
     FIRST[code.number() as usize]
@@ -47,8 +47,8 @@ fn of_first(code: Code) -> u16
 /// What a character adds as the second of an address.
 #[inline(always)]
 fn of_second(code: Code) -> u16
-    ensures entry { result ≡ unwrap_or (weighed 10 0 code) UNREADABLE }
-    ensures most { result ≤ UNREADABLE }
+    ensures entry { result ≡ unwrap_or (weighed 10 0 code) unreadable }
+    ensures most { result ≤ unreadable }
     ensures below { unwrap_or (weighed 10 0 code) 0 ≤ 90 }
 {
     SECOND[code.number() as usize]
@@ -57,8 +57,8 @@ fn of_second(code: Code) -> u16
 /// What a character adds as the third of an address.
 #[inline(always)]
 fn of_third(code: Code) -> u16
-    ensures entry { result ≡ unwrap_or (weighed 1 4000 code) UNREADABLE }
-    ensures most { result ≤ UNREADABLE }
+    ensures entry { result ≡ unwrap_or (weighed 1 4000 code) unreadable }
+    ensures most { result ≤ unreadable }
     ensures below { unwrap_or (weighed 1 4000 code) 0 ≤ 12009 }
 {
     THIRD[code.number() as usize]

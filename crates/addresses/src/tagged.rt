@@ -1,13 +1,13 @@
 //! An address as a number and the index location that it names.
 
 ghost use Rattle.std.specs.Prelude.{◌≡◌, ◌<◌, ℕ, IfSome};
+ghost use Rattle.core_store.specs.Storage.{largest_size};
 ghost use Rattle.bcd.specs.Table.{zone_of};
 ghost use Rattle.addresses.specs.Addresses.{location_of, tagged, decoded};
 ghost use Rattle.addresses.specs.Effective.{units_position};
 
 use crate::tables::{UNREADABLE, base};
 use bcd::{Code, Zone};
-use core_store::LARGEST_SIZE;
 
 /// The three places in storage that hold what is added to an address that names them.
 #[derive(Clone, Copy, Debug, PartialEq, Eq)]
@@ -59,7 +59,7 @@ impl IndexLocation {
 #[tactic(auto, unfolding(crate::specs::Addresses::tagged))]
 pub fn decode(codes: [Code; 3]) -> Option<Tagged>
     ensures address { result ≡ decoded codes }
-    ensures below { IfSome result (λ address. address.base < LARGEST_SIZE) }
+    ensures below { IfSome result (λ address. address.base < largest_size) }
 {
     let [first, second, third] = codes;
     let base = base(first, second, third);

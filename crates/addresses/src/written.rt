@@ -1,12 +1,12 @@
 //! Numbers written as addresses.
 
 ghost use Rattle.std.specs.Prelude.{◌≡◌, ◌<◌, ◌≤◌, ◌/◌, ◌%◌, ℕ, Some, None};
+ghost use Rattle.core_store.specs.Storage.{largest_size};
 ghost use Rattle.bcd.specs.declared.Zone.{Zone};
 ghost use Rattle.addresses.specs.Addresses.{zone_numbered, written, encoded, decoded, location_of};
 
 use crate::digits::digit_under;
 use bcd::{Code, Zone};
-use core_store::LARGEST_SIZE;
 
 /// The zone of a number, 0 to 3.
 #[inline(always)]
@@ -24,7 +24,7 @@ fn zone_numbered(number: u16) -> Zone
 /// The address of a number, with a zone as its tag.
 #[tactic(auto, unfolding(crate::specs::Addresses::written))]
 pub fn encode_tagged(number: u16, tag: Zone) -> [Code; 3]
-    requires { number < LARGEST_SIZE }
+    requires { number < largest_size }
     ensures { result ≡ written tag number }
 {
     [
@@ -36,7 +36,7 @@ pub fn encode_tagged(number: u16, tag: Zone) -> [Code; 3]
 
 /// The address of a number, without a tag.
 pub fn encode(number: u16) -> [Code; 3]
-    requires { number < LARGEST_SIZE }
+    requires { number < largest_size }
     ensures { result ≡ encoded number }
 {
     encode_tagged(number, Zone::Bare)
@@ -44,6 +44,6 @@ pub fn encode(number: u16) -> [Code; 3]
 
 /// The law of addresses: a number that is written is read again, and so is its tag.
 pub fn written_is_read()
-    ensures read { (n : ℕ) → n < LARGEST_SIZE → decoded (encoded n) ≡ Some (record { base = n; index = None }) }
-    ensures with_tag { (n : ℕ) → n < LARGEST_SIZE → (tag : Zone) → decoded (written tag n) ≡ Some (record { base = n; index = location_of tag }) }
+    ensures read { (n : ℕ) → n < largest_size → decoded (encoded n) ≡ Some (record { base = n; index = None }) }
+    ensures with_tag { (n : ℕ) → n < largest_size → (tag : Zone) → decoded (written tag n) ≡ Some (record { base = n; index = location_of tag }) }
 {}

@@ -1,11 +1,10 @@
 -- how many characters arithmetic reads
 use Rattle.std.specs.Prelude.{ℕ, ◌+◌, ◌<◌, ◌≤◌, ◌≡◌, length, not, Some, Result, Ok}
-use Rattle.core_store.specs.Storage.{Storage, field_length, field, codes_ending}
+use Rattle.core_store.specs.Storage.{Storage, field_length, field, codes_ending, largest_size}
 use Rattle.core_store.specs.Operands.{are_inside, cut_length, cut, is_overlapping}
 use Rattle.core_store.specs.Checked.{require, find_or, and_then}
 use Rattle.core_store.specs.declared.registers.Check.{Check}
 use Rattle.core_store.specs.declared.registers.Check.TheVariants.{Address, Overlap}
-use Rattle.core_store.specs.declared.TheConstants.{LARGEST_SIZE}
 use Rattle.arith.specs.declared.operands.Counts.{Counts}
 
 -- how many characters are in the cut at a to the length of the field at b, and how many in that field
@@ -31,8 +30,8 @@ pub record AreOfFields (s : Storage) (a b : ℕ) (counts : Counts) : Type 0 wher
 pub record AreCounts (s : Storage) (a b a_count b_count : ℕ) : Type 0 where
   pub a_in : a < length s
   pub b_in : b < length s
-  pub a_below : a < LARGEST_SIZE
-  pub b_below : b < LARGEST_SIZE
+  pub a_below : a < largest_size
+  pub b_below : b < largest_size
   pub a_some : 1 ≤ a_count
   pub b_some : 1 ≤ b_count
   pub a_from : a_count ≤ a + 1

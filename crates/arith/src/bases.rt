@@ -1,6 +1,7 @@
 //! Modify address.
 
 ghost use Rattle.std.specs.Prelude.{◌≡◌, ◌+◌, ◌-◌, ◌<◌, ◌≤◌, ◌&&◌, ℕ, length, IsTrue, OnOk, OnErr, IfErr, Ok, Err};
+ghost use Rattle.core_store.specs.Storage.{largest_size};
 ghost use Rattle.addresses.specs.Stored.{has_three};
 ghost use Rattle.arith.specs.Bases.{modified};
 
@@ -11,8 +12,8 @@ use core_store::{Check, Core, LARGEST_SIZE, Registers};
 #[inline(always)]
 fn have_three<C: Core>(core: &C, a: u16, b: u16) -> bool
     ensures three { result ≡ (has_three (C.cells core.now) a && has_three (C.cells core.now) b) }
-    ensures a { IsTrue result → (a < length (C.cells core.now)) × (a < LARGEST_SIZE) × (2 ≤ a) }
-    ensures b { IsTrue result → (b < length (C.cells core.now)) × (b < LARGEST_SIZE) × (2 ≤ b) }
+    ensures a { IsTrue result → (a < length (C.cells core.now)) × (a < largest_size) × (2 ≤ a) }
+    ensures b { IsTrue result → (b < length (C.cells core.now)) × (b < largest_size) × (2 ≤ b) }
 {
     has_three(core, a) && has_three(core, b)
 }

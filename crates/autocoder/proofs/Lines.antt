@@ -18,7 +18,7 @@ use Rattle.layout.specs.declared.literals.Literal.{Literal}
 use Rattle.layout.specs.declared.slots.Slot.{Slot}
 use Rattle.autocoder.specs.Listing.{blank, line_feed, listed, card_line, card_lines, literal_line, literal_lines, listing_of, listing_of_source, listing_for}
 use Rattle.autocoder.specs.Programs.{layout_for, IsProgramOf}
-use Rattle.autocoder.specs.declared.program.Program.{Program}
+use Rattle.autocoder.specs.Assembly.{Assembly}
 use Rattle.autocoder.proofs.Passes.{length-lines_of}
 
 -- a line by where its trailing blanks begin
@@ -91,7 +91,7 @@ uses_in-two (Ok (statement.Origin expression)) slot = omega arith
 uses_in-two (Ok (statement.Equate label expression)) slot = omega arith
 uses_in-two (Ok (statement.Constant label marked text)) slot = omega arith
 uses_in-two (Ok (statement.Area label positions)) slot = omega arith
-uses_in-two (Ok (statement.End start)) slot = omega arith
+uses_in-two (Ok (statement.End start labelled)) slot = omega arith
 
 uses_of-two_each : (lines : List Line) (slots : List Slot) → length (uses_of lines slots) ≤ 2 * length lines
 unfolding uses_of
@@ -114,22 +114,22 @@ literals_of-two_each lines slots = omega (arith, firsts-fewer [] (uses_of lines 
 
 -- ---- a program's listing
 
-module _ (deck source : List Card) (program : Program) (is_program : IsProgramOf (source_of deck) program) (source_is : source ≡ source_of deck) where
-  pub few_literals : length source ≤ 2000 → length program.literals.items ≤ 4000
+module _ (deck source : List Card) (program : Assembly) (is_program : IsProgramOf (source_of deck) program) (source_is : source ≡ source_of deck) where
+  pub few_literals : length source ≤ 2000 → length program.literals ≤ 4000
   few_literals few =
       let lines : List Line = lines_of false (source_of deck) in
-      omega (arith, length-texts program.literals.items, ap length is_program.literals, literals_of-two_each lines (slots_of (layout_for (source_of deck))), length-lines_of false (source_of deck), ap length source_is)
+      omega (arith, ap length is_program.literals, literals_of-two_each lines (slots_of (layout_for (source_of deck))), length-lines_of false (source_of deck), ap length source_is)
 
-  pub listing_is : (slots others : List Slot) (literals : List Literal) (place : ℕ) (old cards whole : List ℕ) → slots ≡ program.slots.items → others ≡ program.slots.items → literals ≡ program.literals.items → place ≡ place_after others →
+  pub listing_is : (slots : List Slot) (literals : List Literal) (place : ℕ) (old cards whole : List ℕ) → slots ≡ program.slots → texts literals ≡ program.literals → place ≡ place_after slots →
       old ≡ [] → cards ≡ old ++ card_lines 1 source slots → whole ≡ cards ++ literal_lines place (texts literals) → whole ≡ listing_for deck
   unfolding listing_of_source listing_of
-  listing_is slots others literals place old cards whole s t l p o c w =
+  listing_is slots literals place old cards whole s l p o c w =
       let all = slots_of (layout_for (source_of deck)) in
       let wanted = literals_of (lines_of false (source_of deck)) all in
       let cards_are : cards ≡ card_lines 1 (source_of deck) all =
       c ∙ ap (λ x. x ++ card_lines 1 source slots) o ∙ ap (λ x. card_lines 1 x slots) source_is ∙ ap (card_lines 1 (source_of deck)) (s ∙ is_program.slots) in
-      let place_is : place ≡ place_after all = p ∙ ap place_after (t ∙ is_program.slots) in
+      let place_is : place ≡ place_after all = p ∙ ap place_after (s ∙ is_program.slots) in
       w
       ∙ ap (λ x. x ++ literal_lines place (texts literals)) cards_are
       ∙ ap (λ n. card_lines 1 (source_of deck) all ++ literal_lines n (texts literals)) place_is
-      ∙ ap (λ x. card_lines 1 (source_of deck) all ++ literal_lines (place_after all) x) (ap texts l ∙ is_program.literals)
+      ∙ ap (λ x. card_lines 1 (source_of deck) all ++ literal_lines (place_after all) x) (l ∙ is_program.literals)

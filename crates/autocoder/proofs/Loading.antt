@@ -17,11 +17,11 @@ use Rattle.statements.specs.Mnemonics.{instruction_length}
 use Rattle.statements.specs.declared.names.Name.{Name}
 use Rattle.statements.specs.declared.expressions.Expression.{Expression}
 use Rattle.statements.specs.declared.operations.Instruction as instruction
-use Rattle.statements.specs.declared.faults.StatementFault.TheVariants as statement_fault
+use Rattle.statements.specs.declared.faults.StatementFault.{StatementFault}
 use Rattle.statements.specs.declared.reading.Statement.TheVariants as statement
 use Rattle.layout.specs.Source.{Line, silent, has_end, size_of, lines_of}
 use Rattle.layout.specs.Names.{address_of, value_in, IsValueWithin}
-use Rattle.layout.specs.Slots.{is_instruction, is_open, place_after, place_behind, stays, takes, with_label, labelled, moved_to, equal_to, equated, ended, constant, slot_of}
+use Rattle.layout.specs.Slots.{is_instruction, is_open, place_after, place_behind, stays, takes, with_label, labelled, moved_to, equal_to, equated, end_fault, ends, constant, slot_of}
 use Rattle.layout.specs.Literals.{Characters, literals_of}
 use Rattle.layout.specs.Cells.{position_in, instruction_codes, field, row, cells_of}
 use Rattle.layout.specs.Judging.{fault_by, fault_of, fault_or, names_unknown, names_outside, passes_outside, fills_outside, fills_reserved, is_beyond, is_overlapping}
@@ -41,7 +41,7 @@ use Rattle.autocoder.specs.Loadable.{IsLoadable, IsRising, CanBeLoaded}
 use Rattle.autocoder.specs.Telling.{fault_then, faults_from, faults_of, told_to_end, no_end_behind, last_fault}
 use Rattle.autocoder.specs.Programs.{size_for, layout_for, start_by, last_line, IsProgramOf, IsFaultless}
 use Rattle.autocoder.specs.declared.faults.CardFault.{CardFault}
-use Rattle.autocoder.specs.declared.program.Program.{Program}
+use Rattle.autocoder.specs.Assembly.{Assembly}
 
 -- ---- the image
 
@@ -203,13 +203,9 @@ module _ (size : ℕ) (names : List Slot) (literals : List Characters) (later : 
         | false ↦ equal_is_other earlier label (value_in size earlier expression)
       ]
 
-  ended_is_other : (earlier : List Slot) (start : Option Expression) → is_instruction (ended earlier start).kind ≡ false
-  ended_is_other earlier (Some start) = refl
-  ended_is_other earlier None =
-      elim (is_some (find (λ (slot : Slot). is_instruction slot.kind) earlier)) as (λ b. is_instruction (if b then takes Passing (is_open earlier) (place_behind earlier) (place_behind earlier) else stays earlier (Some (fault.Statement statement_fault.Operand))).kind ≡ false) [
-        | true ↦ refl
-        | false ↦ refl
-      ]
+  ends_is_other : (earlier : List Slot) (told : Option StatementFault) → is_instruction (ends earlier told).kind ≡ false
+  ends_is_other earlier (Some told) = refl
+  ends_is_other earlier None = refl
 
   constant_is_other : (earlier : List Slot) (label : Option Name) (marked : Bool) (count : ℕ) → is_instruction (constant earlier label marked count).kind ≡ false
   constant_is_other earlier label true count = labelled_is_other earlier label (place_after earlier + count - 1) Constant false (place_after earlier) (place_after earlier + count) refl
@@ -238,7 +234,7 @@ module _ (size : ℕ) (names : List Slot) (literals : List Characters) (later : 
   begins_inside earlier (Ok (statement.Equate label expression)) is inside = both_ways _ (equated_is_other earlier label expression) is
   begins_inside earlier (Ok (statement.Constant label marked text)) is inside = both_ways _ (constant_is_other earlier label marked (constant_length text)) is
   begins_inside earlier (Ok (statement.Area label positions)) is inside = both_ways _ (labelled_is_other earlier label (place_behind earlier + positions - 1) Passing (is_open earlier) (place_behind earlier) (place_behind earlier + positions) refl) is
-  begins_inside earlier (Ok (statement.End start)) is inside = both_ways _ (ended_is_other earlier start) is
+  begins_inside earlier (Ok (statement.End start labelled)) is inside = both_ways _ (ends_is_other earlier (end_fault earlier start labelled)) is
   begins_inside earlier (Ok (statement.Instruction label spelled)) is inside = instruction_begins earlier label label spelled is inside
 
 -- ---- a source without faults
@@ -280,8 +276,8 @@ position_within size Outside some within = some
 position_within size (At position) some within = within
 
 starts_inside : (size : ℕ) (layout : List Laid) (line : Line) → 0 < size → All (StartsInside size) layout → start_by size (slots_of layout) line < size
-starts_inside size layout (Ok (statement.End (Some expression))) some all = position_within size (value_in size (slots_of layout) expression) some (value_is_within size (slots_of layout) expression)
-starts_inside size layout (Ok (statement.End None)) some all = first_starts size layout some all
+starts_inside size layout (Ok (statement.End (Some expression) labelled)) some all = position_within size (value_in size (slots_of layout) expression) some (value_is_within size (slots_of layout) expression)
+starts_inside size layout (Ok (statement.End None labelled)) some all = first_starts size layout some all
 starts_inside size layout (Err told) some all = some
 starts_inside size layout (Ok statement.Comment) some all = some
 starts_inside size layout (Ok statement.Job) some all = some
@@ -304,7 +300,7 @@ laid_well size lines none =
     (λ k h. by_fault size lines (literals_of lines (slots_of (layout_of size lines))) (layout_of size lines) (take k (layout_of size lines)) (drop (k + 1) (layout_of size lines)) (get_or lines k silent) (get_or (layout_of size lines) k nothing)
     (rules.satisfied k (omega (arith, rules.one_each))) (none k nothing h))
 
-module _ (source : List Card) (program : Program) (is_program : IsProgramOf source program) where
+module _ (source : List Card) (program : Assembly) (is_program : IsProgramOf source program) where
   size_is : size_for source ≡ positions_of program.size
   size_is = ap positions_of (sym is_program.size)
 
@@ -320,10 +316,10 @@ module _ (source : List Card) (program : Program) (is_program : IsProgramOf sour
         inside = image_below (fills_of layout) size 0 size (omega arith);
         start = starts_inside size layout (last_line source) (some_positions (size_of source)) (λ k d h. (well k d h).1);
       } in
-      subst (λ s. IsLoadable s program.image.items program.start) size_is
+      subst (λ s. IsLoadable s program.image program.start) size_is
       (subst (λ i. IsLoadable size i program.start) (sym is_program.image)
       (subst (λ s. IsLoadable size (image_of size layout) s) (sym is_program.start) whole))
 
-  pub rises : IsRising program.image.items
+  pub rises : IsRising program.image
   unfolding image_of
   rises = subst (λ i. IsRising i) (sym is_program.image) (image_rises (fills_of (layout_for source)) 0 (size_for source))

@@ -1,5 +1,5 @@
 -- one card more of the second pass
-use Rattle.std.proofs.Common.{◌≡◌, ℕ, ◌+◌, ◌-◌, ◌<◌, ◌≤◌, Bool, true, false, ◌||◌, List, [], ◌∷◌, ◌++◌, length, take, drop, get_or, Option, Some, None, refl, sym, ◌∙◌, ap, suc, arith, append_assoc, length-append}
+use Rattle.std.proofs.Common.{◌≡◌, ℕ, ◌+◌, ◌-◌, ◌<◌, ◌≤◌, Bool, true, false, ◌||◌, List, [], ◌∷◌, ◌++◌, length, take, drop, get_or, Option, Some, None, refl, sym, ◌∙◌, ap, suc, arith, append_assoc, length-append, inl, inr}
 use Rattle.std.specs.Bool.{if◌then◌else◌}
 use Rattle.std.proofs.lemmas.List.{at_drop_more, at_drop_all, take_more, append-nil, get_or_at}
 use Rattle.cards.specs.declared.decks.Card.{Card}
@@ -7,7 +7,7 @@ use Rattle.layout.specs.Source.{Line, silent, is_control, line_on, lines_of}
 use Rattle.layout.specs.Slots.{origin, slots_from}
 use Rattle.layout.specs.Literals.{Characters, literals_of}
 use Rattle.layout.specs.Cells.{cells_of}
-use Rattle.layout.specs.Judging.{fault_by, fault_of, fault_or, names_unknown, names_outside, passes_outside, fills_outside, fills_reserved, is_beyond, is_overlapping}
+use Rattle.layout.specs.Judging.{fault_by, fault_of, fault_or, names_unknown, names_outside, passes_outside, fills_outside, fills_reserved, is_beyond, is_overlapping, IsCut}
 use Rattle.layout.specs.Layout.{Laid, fills_of, nothing, laid_by, layout_of}
 use Rattle.layout.specs.declared.slots.Slot.{Slot}
 use Rattle.layout.specs.declared.cells.Cell.{Cell}
@@ -18,7 +18,7 @@ use Rattle.autocoder.specs.declared.faults.CardFault.{CardFault}
 use Rattle.autocoder.specs.Image.{cell_at}
 use Rattle.autocoder.specs.Tables.{Stands, is_taken, filled_table}
 use Rattle.autocoder.specs.Telling.{fault_then, faults_from, last_fault}
-use Rattle.autocoder.proofs.Standing.{is_taken_is, stands_more, or_parts}
+use Rattle.autocoder.proofs.Standing.{is_taken_is, stands_cut, or_parts}
 
 -- ---- what the cards say
 
@@ -57,6 +57,44 @@ fault_by_table size names table filled slot cells line stands =
           ap (choose false) (is_taken_is size table filled cells stands ((or_parts (passes_outside size slot line) (fills_outside size cells) ((or_parts (names_outside size names line) (passes_outside size slot line || fills_outside size cells) e).1)).1))
     ]) refl
 
+-- ---- a card of which only the beginning is built
+
+outside_more : (size : ℕ) (built rest : List Cell) → fills_outside size built ≡ true → fills_outside size (built ++ rest) ≡ true
+outside_more size [] rest e = absurd (cc)
+outside_more size (c ∷ built) rest e =
+    (elim (nat_le size c.position) as (λ b. (b || fills_outside size built) ≡ true → (b || fills_outside size (built ++ rest)) ≡ true) [
+      | true ↦ λ h. refl
+      | false ↦ λ h. outside_more size built rest h
+    ]) e
+
+two_or_true : (a b : Bool) → (a || (b || true)) ≡ true
+two_or_true true b = refl
+two_or_true false true = refl
+two_or_true false false = refl
+
+-- a card that fills a position outside has no other fault of its positions
+fault_outside : (size : ℕ) (names : List Slot) (overlaps : Bool) (slot : Slot) (cells : List Cell) (line : Line) → fills_outside size cells ≡ true →
+    fault_by size names overlaps slot cells line ≡ fault_or slot.fault (if names_unknown size names line then Some UnknownName else Some Outside)
+unfolding fault_by is_beyond
+fault_outside size names overlaps slot cells line e =
+    let choose : Bool → Option SourceFault = λ b. fault_or slot.fault (if names_unknown size names line then Some UnknownName else (if b then Some Outside else (if fills_reserved cells then Some Reserved else (if overlaps then Some Filled else None)))) in
+    ap (λ b. choose (names_outside size names line || (passes_outside size slot line || b))) e
+    ∙ ap choose (two_or_true (names_outside size names line) (passes_outside size slot line))
+
+fault_by_cut : (size : ℕ) (names : List Slot) (table : List (Option Cell)) (filled : List Cell) (slot : Slot) (cells built : List Cell) (line : Line) → Stands size table filled → IsCut size cells built →
+    fault_by size names (is_taken table built) slot built line ≡ fault_of size names filled slot cells line
+unfolding fault_of
+fault_by_cut size names table filled slot cells built line stands cut =
+    elim cut.told [
+      | inl none ↦
+          let whole : built ≡ cells = sym (append-nil built) ∙ ap (λ r. built ++ r) (sym none) ∙ sym cut.all in
+          fault_by_table size names table filled slot built line stands ∙ ap (λ x. fault_of size names filled slot x line) whole
+      | inr outside ↦
+          let beyond : fills_outside size cells ≡ true = ap (fills_outside size) cut.all ∙ outside_more size built cut.rest outside in
+          fault_outside size names (is_taken table built) slot built line outside
+          ∙ sym (fault_outside size names (is_overlapping filled cells) slot cells line beyond)
+    ]
+
 fault_then-append : (card : ℕ) (fault : Option SourceFault) (rest : List CardFault) → fault_then card fault [] ++ rest ≡ fault_then card fault rest
 fault_then-append card None rest = refl
 fault_then-append card (Some fault) rest = refl
@@ -82,12 +120,15 @@ last_fault-push layout laid =
 -- ---- one card more
 
 module _ (size : ℕ) (lines : List Line) (slots : List Slot) (is_slots : slots ≡ slots_from size [] lines) (literals : List Characters) (is_literals : literals ≡ literals_of lines slots)
-    (table : List (Option Cell)) (i : ℕ) (line : Line) (slot : Slot) (later : List Slot) (cells : List Cell) (fault : Option SourceFault)
+    (table : List (Option Cell)) (i : ℕ) (line : Line) (slot : Slot) (later : List Slot) (built : List Cell) (fault : Option SourceFault)
     (h : i < length lines) (line_is : line ≡ get_or lines i silent) (slot_is : slot ≡ get_or slots i origin) (later_is : later ≡ drop (i + 1) slots)
-    (cells_is : cells ≡ cells_of size slots literals later slot line) (fault_is : fault ≡ fault_by size slots (is_taken table cells) slot cells line)
+    (cut : IsCut size (cells_of size slots literals later slot line) built) (fault_is : fault ≡ fault_by size slots (is_taken table built) slot built line)
     (stands : Stands size table (fills_of (take i (layout_of size lines)))) where
   abbrev whole : List Laid
   whole = layout_of size lines
+
+  abbrev cells : List Cell
+  cells = cells_of size slots literals later slot line
 
   within : i < length whole
   within = omega (arith, length-layout_of size lines)
@@ -102,13 +143,12 @@ module _ (size : ℕ) (lines : List Line) (slots : List Slot) (is_slots : slots 
       ∙ ap (λ x. laid_by size slots literals (fills_of (take i whole)) later slot x) (sym line_is)
 
   fills_at : (get_or whole i nothing).fills ≡ cells
-  fills_at = ap (λ (l : Laid). l.fills) laid_at ∙ sym cells_is
+  fills_at = ap (λ (l : Laid). l.fills) laid_at
 
   fault_at : fault ≡ (get_or whole i nothing).fault
   fault_at =
       fault_is
-      ∙ fault_by_table size slots table (fills_of (take i whole)) slot cells line stands
-      ∙ ap (λ x. fault_of size slots (fills_of (take i whole)) slot x line) cells_is
+      ∙ fault_by_cut size slots table (fills_of (take i whole)) slot cells built line stands cut
       ∙ sym (ap (λ (l : Laid). l.fault) laid_at)
 
   more : fills_of (take (i + 1) whole) ≡ fills_of (take i whole) ++ cells
@@ -117,8 +157,8 @@ module _ (size : ℕ) (lines : List Line) (slots : List Slot) (is_slots : slots 
       ∙ fills-append (take i whole) (get_or whole i nothing ∷ [])
       ∙ ap (λ f. fills_of (take i whole) ++ f) (append-nil (get_or whole i nothing).fills ∙ fills_at)
 
-  pub table_step : length table ≡ size → Stands size (filled_table table cells) (fills_of (take (i + 1) (layout_of size lines)))
-  table_step long p below = stands_more size table (fills_of (take i whole)) cells stands long p below ∙ ap (λ f. cell_at f p) (sym more)
+  pub table_step : length table ≡ size → Stands size (filled_table table built) (fills_of (take (i + 1) (layout_of size lines)))
+  table_step long p below = stands_cut size table (fills_of (take i whole)) cells built stands long cut p below ∙ ap (λ f. cell_at f p) (sym more)
 
   pub faults_step : (old new : List CardFault) → new ≡ old ++ fault_then (i + 1) fault [] →
       new ++ faults_from (i + 1 + 1) (drop (i + 1) (layout_of size lines)) ≡ old ++ faults_from (i + 1) (drop i (layout_of size lines))

@@ -5,8 +5,9 @@ use Rattle.std.specs.Bool.{if◌then◌else◌}
 use Rattle.std.proofs.lemmas.Bool.{leb-false, ne_eqb}
 use Rattle.std.proofs.lemmas.Bool.Decides.{eqb_tells}
 use Rattle.std.specs.Option.{is_some}
+use Rattle.std.specs.List.{All}
 use Rattle.layout.specs.declared.cells.Cell.{Cell}
-use Rattle.layout.specs.Judging.{is_filled, fills_outside, is_overlapping}
+use Rattle.layout.specs.Judging.{is_filled, fills_outside, is_overlapping, IsCut}
 use Rattle.autocoder.specs.Image.{cell_at, cells_from, cons_some}
 use Rattle.autocoder.specs.Tables.{Stands, filled_with, filled_table, cells_in, is_taken}
 
@@ -106,6 +107,22 @@ stands_more limit table filled [] stands size = λ p h. stands p h ∙ ap (λ f.
 stands_more limit table filled (c ∷ cells) stands size = λ p h.
     stands_more limit (filled_with table c) (filled ++ c ∷ []) cells (stands_with limit table filled c stands size) (length-filled_with table c ∙ size) p h
     ∙ ap (λ f. cell_at f p) (append_assoc filled (c ∷ []) cells)
+
+-- cells that are not in storage fill nothing there
+none_beyond : (limit : ℕ) (rest : List Cell) (p : ℕ) → p < limit → All (λ c. limit ≤ c.position) rest → cell_at rest p ≡ None
+unfolding cell_at
+none_beyond limit [] p h beyond = refl
+none_beyond limit (c ∷ rest) p h beyond =
+    let here : limit ≤ c.position = beyond 0 c (omega arith) in
+    rw (ne_eqb c.position p (λ e. absurd (omega arith))) (none_beyond limit rest p h (λ k d lt. beyond (suc k) d (omega arith)))
+
+pub stands_cut : (limit : ℕ) (table : List (Option Cell)) (filled cells built : List Cell) → Stands limit table filled → length table ≡ limit → IsCut limit cells built → Stands limit (filled_table table built) (filled ++ cells)
+stands_cut limit table filled cells built stands size cut = λ p h.
+    stands_more limit table filled built stands size p h
+    ∙ sym (or_else_none (cell_at (filled ++ built) p))
+    ∙ ap (or_else (cell_at (filled ++ built) p)) (sym (none_beyond limit cut.rest p h cut.beyond))
+    ∙ sym (cell_at-append (filled ++ built) cut.rest p)
+    ∙ ap (λ f. cell_at f p) (append_assoc filled built cut.rest ∙ ap (λ x. filled ++ x) (sym cut.all))
 
 -- ---- what the code tests
 

@@ -1,3 +1,4 @@
+pub mod Assembly
 pub mod Image
 pub mod Tables
 pub mod Telling

@@ -3,12 +3,12 @@ use Rattle.std.specs.Prelude.{ℕ, ◌<◌, ◌≤◌, List, length}
 use Rattle.std.specs.List.{All, AllAdjacentBelow}
 use Rattle.core_store.specs.Storage.{positions_of}
 use Rattle.layout.specs.declared.cells.Cell.{Cell}
-use Rattle.layout.specs.declared.cells.TheConstants.{FIRST_FREE}
-use Rattle.autocoder.specs.declared.program.Program.{Program}
+use Rattle.layout.specs.Judging.{first_free}
+use Rattle.autocoder.specs.Assembly.{Assembly}
 
 -- positions that cards can load: none is among those that hold the card, and all lie below the size, as does the start
 pub record IsLoadable (size : ℕ) (image : List Cell) (entry : ℕ) : Type 0 where
-  pub free : All (λ c. FIRST_FREE ≤ c.position) image
+  pub free : All (λ c. first_free ≤ c.position) image
   pub inside : All (λ c. c.position < size) image
   pub start : entry < size
 
@@ -17,5 +17,5 @@ abbrev pub IsRising : List Cell → Type 0
 IsRising image = AllAdjacentBelow (λ c d. c.position < d.position) image (length image)
 
 -- cards can load the program into a machine of its own size
-abbrev pub CanBeLoaded : Program → Type 0
-CanBeLoaded program = IsLoadable (positions_of program.size) program.image.items program.start
+abbrev pub CanBeLoaded : Assembly → Type 0
+CanBeLoaded program = IsLoadable (positions_of program.size) program.image program.start

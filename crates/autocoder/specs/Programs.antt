@@ -9,14 +9,14 @@ use Rattle.layout.specs.Source.{Line, silent, size_of, has_end, lines_of}
 use Rattle.layout.specs.Names.{value_in}
 use Rattle.layout.specs.Slots.{is_instruction}
 use Rattle.layout.specs.Cells.{position_in}
-use Rattle.layout.specs.Literals.{texts, literals_of}
+use Rattle.layout.specs.Literals.{literals_of}
 use Rattle.layout.specs.Layout.{Laid, slots_of, layout_of}
 use Rattle.layout.specs.declared.slots.Slot.{Slot}
 use Rattle.autocoder.specs.Image.{image_of}
 use Rattle.autocoder.specs.Telling.{faults_of}
 use Rattle.autocoder.specs.declared.faults.Faults.{Faults}
 use Rattle.autocoder.specs.declared.faults.Faults.TheVariants.{Source, NoMemory}
-use Rattle.autocoder.specs.declared.program.Program.{Program}
+use Rattle.autocoder.specs.Assembly.{Assembly}
 
 -- the size of storage for a source, as a number of positions
 abbrev pub size_for : List Card → ℕ
@@ -28,8 +28,8 @@ layout_for source = layout_of (size_for source) (lines_of false source)
 
 -- where a program starts whose source ends with this line: at its address, or else at the first instruction
 abbrev pub start_by : ℕ → List Slot → Line → ℕ
-start_by size slots (Ok (statement.End (Some expression))) = position_in (value_in size slots expression)
-start_by size slots (Ok (statement.End None)) = option_map_or (λ slot. slot.before) (find (λ slot. is_instruction slot.kind) slots) 0
+start_by size slots (Ok (statement.End (Some expression) labelled)) = position_in (value_in size slots expression)
+start_by size slots (Ok (statement.End None labelled)) = option_map_or (λ slot. slot.before) (find (λ slot. is_instruction slot.kind) slots) 0
 start_by size slots line = 0
 
 -- what the last card of a source says
@@ -37,13 +37,13 @@ unfoldable pub last_line : List Card → Line
 last_line source = slice_index_or (map statement_on source) (length source - 1) silent
 
 -- a program is that of a source, by the source's layout
-pub record IsProgramOf (source : List Card) (program : Program) : Type 0 where
+pub record IsProgramOf (source : List Card) (program : Assembly) : Type 0 where
   pub size : program.size ≡ size_of source
-  pub image : program.image.items ≡ image_of (size_for source) (layout_for source)
+  pub image : program.image ≡ image_of (size_for source) (layout_for source)
   pub start : program.start ≡ start_by (size_for source) (slots_of (layout_for source)) (last_line source)
   pub last : program.last ≡ length source
-  pub slots : program.slots.items ≡ slots_of (layout_for source)
-  pub literals : texts program.literals.items ≡ literals_of (lines_of false source) (slots_of (layout_for source))
+  pub slots : program.slots ≡ slots_of (layout_for source)
+  pub literals : program.literals ≡ literals_of (lines_of false source) (slots_of (layout_for source))
 
 -- the source that a deck begins with has no faults
 abbrev pub IsFaultless : List Card → Type 0

@@ -2,7 +2,9 @@
 use Rattle.std.specs.Prelude.{ℕ, ◌+◌, ◌-◌, Bool, if◌then◌else◌, List, [], ◌∷◌, ◌++◌, length, Option, Some, None, slice_index_or}
 use Rattle.layout.specs.Layout.{Laid, nothing}
 use Rattle.layout.specs.declared.faults.SourceFault.{SourceFault}
-use Rattle.layout.specs.declared.faults.SourceFault.TheVariants.{NoEnd}
+use Rattle.layout.specs.declared.faults.SourceFault.TheVariants as source
+use Rattle.autocoder.specs.declared.faults.Faults.{Faults}
+use Rattle.autocoder.specs.declared.faults.Faults.TheVariants as faults
 use Rattle.autocoder.specs.declared.faults.CardFault.{CardFault}
 
 abbrev pub fault_then : ℕ → Option SourceFault → List CardFault → List CardFault
@@ -20,12 +22,21 @@ last_fault layout = (slice_index_or layout (length layout - 1) nothing).fault
 
 -- a source without end tells it at its last card, where that has no fault of its own
 abbrev pub no_end_behind : Option SourceFault → ℕ → List CardFault
-no_end_behind None card = record { card = card; fault = NoEnd } ∷ []
+no_end_behind None card = record { card = card; fault = source.NoEnd } ∷ []
 no_end_behind (Some fault) card = []
 
 -- the faults of cards, and that of a source without end
 abbrev pub told_to_end : Bool → List CardFault → Option SourceFault → ℕ → List CardFault
 told_to_end ended faults last card = if ended then faults else faults ++ no_end_behind last card
+
+-- want of memory as a list of faults: one that is of no card
+abbrev pub no_memory : List CardFault
+no_memory = record { card = 0; fault = source.NoMemory } ∷ []
+
+-- what is wrong, as a list of faults
+abbrev pub fault_list : Faults → List CardFault
+fault_list (faults.Source told) = told.items
+fault_list faults.NoMemory = no_memory
 
 -- the faults of a source with an end or without
 unfoldable pub faults_of : Bool → List Laid → List CardFault

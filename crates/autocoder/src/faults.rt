@@ -1,7 +1,7 @@
 //! The faults of a source.
 
 ghost use Rattle.std.specs.Prelude.{◌≡◌, ◌≢◌, ◌++◌, [], IsTrue, IsFalse, OnOk};
-ghost use Rattle.autocoder.specs.Telling.{fault_then, told_to_end};
+ghost use Rattle.autocoder.specs.Telling.{fault_list, fault_then, told_to_end};
 
 use layout::SourceFault;
 use std::alloc::AllocError;
@@ -21,6 +21,24 @@ pub enum Faults {
     Source(Vec<CardFault>),
     /// There was no memory for the work.
     NoMemory,
+}
+
+/// Want of memory, as a list of faults: it is of no card.
+const NO_MEMORY: [CardFault; 1] = [CardFault {
+    card: 0,
+    fault: SourceFault::NoMemory,
+}];
+
+impl Faults {
+    /// The faults in card order, one of a card. Want of memory is one fault, 1, at card 0.
+    pub fn list(&self) -> &[CardFault]
+        ensures { result.now ≡ fault_list self.now }
+    {
+        match self {
+            Faults::Source(faults) => faults,
+            Faults::NoMemory => &NO_MEMORY,
+        }
+    }
 }
 
 /// Tells a fault, where there is one.

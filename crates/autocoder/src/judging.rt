@@ -1,6 +1,8 @@
 //! The second pass: what each card fills, and the faults.
 
 ghost use Rattle.std.specs.Prelude.{◌≡◌, ◌≤◌, ◌||◌, [], length, false, IfOk, OnOk};
+ghost use Rattle.core_store.specs.Storage.{largest_size};
+ghost use Rattle.cards.specs.Decks.{largest_deck};
 ghost use Rattle.layout.specs.Bounds.{IsWithin};
 ghost use Rattle.layout.specs.Source.{is_control, lines_of};
 ghost use Rattle.layout.specs.Slots.{place_after, slots_from};
@@ -11,8 +13,7 @@ ghost use Rattle.autocoder.specs.Telling.{faults_from, last_fault};
 
 use crate::faults::{CardFault, tell};
 use crate::tables::{fill, is_taken};
-use cards::{Card, LARGEST_DECK};
-use core_store::LARGEST_SIZE;
+use cards::Card;
 use layout::{
     Cell, FARTHEST, Literal, MOST_LITERALS, Slot, SourceFault, cells_of, fault_by, is_control,
     line_on,
@@ -36,8 +37,8 @@ pub(crate) fn judge(
     table: &mut [Option<Cell>],
     faults: &mut Vec<CardFault>,
 ) -> Result<Option<SourceFault>, AllocError>
-    requires limit { size ≤ LARGEST_SIZE }
-    requires deck { length source.now ≤ LARGEST_DECK }
+    requires limit { size ≤ largest_size }
+    requires deck { length source.now ≤ largest_deck }
     requires slots { slots.now ≡ slots_from size [] (lines_of false source.now) }
     requires one_each { length slots.now ≡ length source.now }
     requires within { IsWithin FARTHEST slots.now }

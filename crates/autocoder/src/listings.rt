@@ -1,6 +1,7 @@
 //! The listing of a source: its cards and its literals with their places.
 
 ghost use Rattle.std.specs.Prelude.{◌≡◌, ◌≤◌, ◌++◌, ◌∷◌, [], length, take, replicate, IfOk, OnOk};
+ghost use Rattle.cards.specs.Decks.{largest_deck};
 ghost use Rattle.layout.specs.Literals.{texts};
 ghost use Rattle.layout.specs.Source.{source_of};
 ghost use Rattle.autocoder.specs.Listing.{line_feed, right, fills, place_field, glyphs_of, card_line, literal_line, listed, card_lines, literal_lines, listing_for};
@@ -8,7 +9,7 @@ ghost use Rattle.autocoder.specs.Programs.{IsProgramOf};
 
 use crate::program::Program;
 use bcd::Code;
-use cards::{Card, Deck, LARGEST_DECK};
+use cards::{Card, Deck};
 use itoa::Buffer;
 use layout::{Kind, Literal, MOST_LITERALS, Slot, place_after, source_of};
 use std::alloc::{AllocError, Global};
@@ -125,7 +126,7 @@ fn push_cards(
     cards: &[Card],
     slots: &[Slot],
 ) -> Result<(), AllocError>
-    requires { length cards.now ≤ LARGEST_DECK }
+    requires { length cards.now ≤ largest_deck }
     ensures { OnOk result (text.new.items ≡ text.old.items ++ card_lines 1 cards.now slots.now) }
 {
     for i in 0..cards.len() {
@@ -166,12 +167,8 @@ pub fn listing(alloc: Global, deck: &Deck, program: &Program) -> Result<Vec<u8>,
     ensures { IfOk result (λ text. text.items ≡ listing_for deck.now) }
 {
     let mut text = Vec::new(alloc);
-    push_cards(alloc, &mut text, source_of(deck.cards()), &program.slots)?;
-    push_literals(
-        alloc,
-        &mut text,
-        place_after(&program.slots),
-        &program.literals,
-    )?;
+    let slots = program.slots();
+    push_cards(alloc, &mut text, source_of(deck.cards()), slots)?;
+    push_literals(alloc, &mut text, place_after(slots), program.literals())?;
     Ok(text)
 }

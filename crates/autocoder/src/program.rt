@@ -2,6 +2,7 @@
 
 ghost use Rattle.std.specs.Prelude.{◌≡◌, IfOk, IfErr, OnOk};
 ghost use Rattle.layout.specs.Bounds.{IsWithin};
+ghost use Rattle.layout.specs.Literals.{texts};
 ghost use Rattle.layout.specs.Source.{IsInRange, source_of};
 ghost use Rattle.autocoder.specs.Loadable.{CanBeLoaded, IsRising};
 ghost use Rattle.autocoder.specs.Programs.{start_by, last_line, IsProgramOf, IsFaultless, AreFaults};
@@ -17,22 +18,82 @@ use layout::{
 };
 use statements::{Statement, read};
 use std::alloc::Global;
+use std::marker::Model;
 
-/// What a source without faults is assembled to.
+/// What a source without faults is assembled to. Only `assemble` makes one, so cards can load it.
 #[derive(Drop)]
 pub struct Program {
     /// The size of storage that it is for.
-    pub size: Size,
+    size: Size,
     /// The positions that it fills, rising.
-    pub image: Vec<Cell>,
+    image: Vec<Cell>,
     /// Where it starts.
-    pub start: u32,
+    start: u32,
     /// The number of the card that ends the source.
-    pub last: u32,
+    last: u32,
     /// Where each card of the source stands.
-    pub slots: Vec<Slot>,
+    slots: Vec<Slot>,
     /// The literals, in the order of their places.
-    pub literals: Vec<Literal>,
+    literals: Vec<Literal>,
+}
+
+impl Model for Program {
+    ghost use Rattle.core_store.specs.Storage.{positions_of};
+    ghost use Rattle.layout.specs.Literals.{texts};
+    ghost use Rattle.autocoder.specs.Assembly.{Assembly};
+    ghost use Rattle.autocoder.specs.Loadable.{IsLoadable, IsRising};
+
+    ghost Value = { Assembly };
+
+    ghost view = { λ p. record { size = p.size; image = p.image.items; start = p.start; last = p.last; slots = p.slots.items; literals = texts p.literals.items } };
+
+    ghost invariant = { λ p. IsLoadable (positions_of p.size) p.image.items p.start × IsRising p.image.items };
+}
+
+impl Program {
+    /// The size of storage that it is for.
+    pub fn size(&self) -> Size
+        ensures { result ≡ self.now.size }
+    {
+        self.size
+    }
+
+    /// The positions that it fills, rising: none below 081, and all below its size.
+    pub fn image(&self) -> &[Cell]
+        ensures image { result.now ≡ self.now.image }
+        ensures loadable { CanBeLoaded self.now }
+        ensures rising { IsRising self.now.image }
+    {
+        &self.image
+    }
+
+    /// Where it starts.
+    pub fn start(&self) -> u32
+        ensures { result ≡ self.now.start }
+    {
+        self.start
+    }
+
+    /// The number of the card that ends the source.
+    pub fn last(&self) -> u32
+        ensures { result ≡ self.now.last }
+    {
+        self.last
+    }
+
+    /// Where each card of the source stands.
+    pub fn slots(&self) -> &[Slot]
+        ensures { result.now ≡ self.now.slots }
+    {
+        &self.slots
+    }
+
+    /// The literals, in the order of their places.
+    pub fn literals(&self) -> &[Literal]
+        ensures { texts result.now ≡ self.now.literals }
+    {
+        &self.literals
+    }
 }
 
 /// Where a program starts whose source ends with this line.
@@ -42,11 +103,14 @@ fn start_by(size: u16, slots: &[Slot], line: Line) -> u32
     ensures { result ≡ start_by size slots.now line }
 {
     match line {
-        Ok(Statement::End(Some(expression))) => match value_in(size, slots, expression) {
+        Ok(Statement::End {
+            start: Some(expression),
+            ..
+        }) => match value_in(size, slots, expression) {
             Value::At(position) => position as u32,
             _ => 0,
         },
-        Ok(Statement::End(None)) => match first_instruction(slots) {
+        Ok(Statement::End { start: None, .. }) => match first_instruction(slots) {
             Some(slot) => slot.before,
             None => 0,
         },
@@ -72,7 +136,7 @@ fn last_line(source: &[Card]) -> Line
 pub fn assemble(alloc: Global, deck: &Deck) -> Result<Program, Faults>
     ensures program { IfOk result (IsProgramOf (source_of deck.now)) }
     ensures loadable { IfOk result CanBeLoaded }
-    ensures rising { IfOk result (λ program. IsRising program.image.items) }
+    ensures rising { IfOk result (λ program. IsRising program.image) }
     ensures faultless { OnOk result (IsFaultless (source_of deck.now)) }
     ensures faults { IfErr result (AreFaults (source_of deck.now)) }
 {

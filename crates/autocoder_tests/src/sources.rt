@@ -9,8 +9,8 @@ use std::test::Fail;
 
 /// Where a program starts, the number of the card that ends its source, and its image.
 fn program_told(alloc: Global, program: &Program) -> Result<String, Fail> {
-    let image = image_told(alloc, &program.image)?;
-    Ok(format!(in alloc; "from {} by {}:{image}", program.start, program.last)?)
+    let image = image_told(alloc, program.image())?;
+    Ok(format!(in alloc; "from {} by {}:{image}", program.start(), program.last())?)
 }
 
 /// The faults of a source, each by its card and its number.
@@ -136,6 +136,13 @@ A|END||
 = faults 2:46 3:45|
 |END||
 = faults 1:42|
+A|END||
+= faults 1:42|
+A|END|500|
+= faults 1:43|
+|DCW|5|
+A|END||
+= faults 2:42|
 |ORG|3996|
 |SW|@A@|
 |END X||
@@ -251,6 +258,16 @@ A|JOB||
 
 /// Areas, which are passed over, positions filled twice, and marked blanks.
 const POSITIONS: &str = "\
+|ORG|080|
+|DCW|5|
+|H||
+|END||
+= faults 2:47|
+|ORG|081|
+|DCW|5|
+|H||
+|END||
+= from 82 by 4: 81 '5'.' |
 |H||
 |ORG|050|
 |DS|5|

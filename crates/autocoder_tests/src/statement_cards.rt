@@ -66,7 +66,8 @@ const LABELS: &str = "\
 43|A|JOB||
 43|A|CTL|2|
 43|A|ORG|5|
-43|A|END||
+0|A|END||
+42|A|END|5,|
 42|1A|B|@A@|
 ";
 
@@ -371,6 +372,19 @@ fn push_constant(text: &mut String, marked: bool, constant: &Constant) -> Result
     Ok(write!(text, ", {length} long")?)
 }
 
+/// Adds the end of a source: whether it has a label, and where the program starts.
+fn push_end(text: &mut String, start: Option<Expression>, labelled: bool) -> Result<(), Fail> {
+    if labelled {
+        text.push_str("labelled ")?;
+    }
+    text.push_str("end")?;
+    let Some(start) = start else {
+        return Ok(());
+    };
+    text.push(' ')?;
+    push_expression(text, &start)
+}
+
 /// Adds what a card says.
 fn push_statement(text: &mut String, statement: &Statement) -> Result<(), Fail> {
     match statement {
@@ -398,11 +412,7 @@ fn push_statement(text: &mut String, statement: &Statement) -> Result<(), Fail> 
             push_label(text, *label)?;
             Ok(write!(text, "{positions} positions")?)
         }
-        Statement::End(None) => Ok(text.push_str("end")?),
-        Statement::End(Some(start)) => {
-            text.push_str("end ")?;
-            push_expression(text, start)
-        }
+        Statement::End { start, labelled } => push_end(text, *start, *labelled),
         Statement::Instruction { label, instruction } => {
             push_label(text, *label)?;
             push_instruction(text, instruction)
@@ -474,6 +484,8 @@ ABC, 3 long||DC|@ABC@|
 const ORDERS: &str = "\
 origin 500||ORG|500|
 end 333||END|333|
+labelled end 333|A|END|333|
+labelled end|1A|END||
 TAB: equals B2|TAB|EQU|B2|
 TAB: equals 500-1|TAB|EQU|500-01|
 job||JOB|ANY|

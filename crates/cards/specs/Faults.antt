@@ -2,13 +2,12 @@
 use Rattle.std.specs.Prelude.{ℕ, zero, suc, ◌≡◌, ◌≢◌, ◌<◌, ◌+◌, ◌==◌, ◌⊎◌, Bool, true, false, ◌&&◌, if◌then◌else◌, List, [], ◌∷◌, ◌++◌, length, All, Result, MatchResult}
 use Rattle.std.specs.List.{flat_map, list_any}
 use Rattle.cards.specs.declared.decks.Card.{Card}
-use Rattle.cards.specs.declared.decks.TheConstants.{COLUMNS, LARGEST_DECK}
+use Rattle.cards.specs.Decks.{card_columns, largest_deck, AreCharacters, IsCard}
 use Rattle.cards.specs.declared.faults.CardError.{CardError}
 use Rattle.cards.specs.declared.faults.CardError.TheVariants.{NoMemory, Length, Glyph, Punches, TooManyCards}
 use Rattle.cards.specs.declared.faults.CardFault.{CardFault}
 use Rattle.cards.specs.declared.forms.Form.{Form}
 use Rattle.cards.specs.declared.forms.Form.TheVariants.{Text, Punched}
-use Rattle.cards.specs.Decks.{AreCharacters, IsCard}
 use Rattle.cards.specs.Files.{line_feed, digits, hexadecimal, column_of, file_of}
 
 -- no character's column stands here
@@ -47,8 +46,8 @@ column_error Punched bytes = digits_error 3 bytes
 -- behind so many columns of a card neither a further one stands nor, behind all, the line feed
 abbrev pub IsWrongBehind : Form → ℕ → List ℕ → CardError → Type 0
 IsWrongBehind form columns bytes error =
-    ((columns < COLUMNS) × IsNoColumn form bytes × (error ≡ column_error form bytes))
-    ⊎ ((columns ≡ COLUMNS) × IsNoLineFeed bytes × (error ≡ Length))
+    ((columns < card_columns) × IsNoColumn form bytes × (error ≡ column_error form bytes))
+    ⊎ ((columns ≡ card_columns) × IsNoLineFeed bytes × (error ≡ Length))
 
 -- the columns before this one are characters, and this one is wrong
 pub record IsLineFault (form : Form) (bytes : List ℕ) (column : ℕ) (error : CardError) : Type 0 where
@@ -62,8 +61,8 @@ pub record IsLineFault (form : Form) (bytes : List ℕ) (column : ℕ) (error : 
 -- behind so many cards the next line is at fault, or no further card may come
 abbrev pub IsCardFault : Form → ℕ → List ℕ → CardFault → Type 0
 IsCardFault form cards bytes fault =
-    ((cards < LARGEST_DECK) × IsLineFault form bytes fault.column fault.error)
-    ⊎ ((cards ≡ LARGEST_DECK) × (fault.column ≡ 1) × (fault.error ≡ TooManyCards))
+    ((cards < largest_deck) × IsLineFault form bytes fault.column fault.error)
+    ⊎ ((cards ≡ largest_deck) × (fault.column ≡ 1) × (fault.error ≡ TooManyCards))
 
 -- the lines before this card are cards', something comes behind them, and there is the fault
 pub record IsFirstFault (form : Form) (file : List ℕ) (fault : CardFault) : Type 0 where

@@ -1,6 +1,7 @@
 //! A card, and a deck of them.
 
 ghost use Rattle.std.specs.Prelude.{◌≡◌, ◌≤◌, ◌↔◌, [], ◌∷◌, ◌++◌, length, OnOk, OnErr, IsErrOf};
+ghost use Rattle.cards.specs.Decks.{largest_deck};
 
 use crate::faults::DeckFault;
 use bcd::Code;
@@ -26,13 +27,13 @@ pub struct Deck {
 impl Model for Deck {
     ghost use Rattle.std.specs.Prelude.{List, ◌≤◌, length};
     ghost use Rattle.cards.specs.declared.decks.Card.{Card};
-    ghost use Rattle.cards.specs.declared.decks.TheConstants.{LARGEST_DECK};
+    ghost use Rattle.cards.specs.Decks.{largest_deck};
 
     ghost Value = { List Card };
 
     ghost view = { λ deck. deck.cards.items };
 
-    ghost invariant = { λ deck. length deck.cards.items ≤ LARGEST_DECK };
+    ghost invariant = { λ deck. length deck.cards.items ≤ largest_deck };
 }
 
 impl Deck {
@@ -48,7 +49,7 @@ impl Deck {
     /// The cards in order.
     pub fn cards(&self) -> &[Card]
         ensures cards { result.now ≡ self.now }
-        ensures limit { length result.now ≤ LARGEST_DECK }
+        ensures limit { length result.now ≤ largest_deck }
     {
         &self.cards
     }
@@ -57,7 +58,7 @@ impl Deck {
     /// the deck stays as it was.
     pub fn push(&mut self, card: Card) -> Result<(), DeckFault>
         ensures ok { OnOk result (self.new ≡ self.old ++ card ∷ []) }
-        ensures full { IsErrOf result DeckFault.TooManyCards ↔ (length self.old ≡ LARGEST_DECK) }
+        ensures full { IsErrOf result DeckFault.TooManyCards ↔ (length self.old ≡ largest_deck) }
         ensures err { OnErr result (self.new ≡ self.old) }
     {
         if self.cards.len() == LARGEST_DECK {

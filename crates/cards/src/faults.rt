@@ -1,10 +1,10 @@
 //! Why a deck takes no further card, and where a file isn't one of a deck.
 
 ghost use Rattle.std.specs.Prelude.{◌≡◌, ◌≤◌, ◌+◌};
+ghost use Rattle.cards.specs.Decks.{card_columns};
 ghost use Rattle.cards.specs.declared.faults.DeckFault.TheVariants.{NoMemory};
 ghost use Rattle.cards.specs.Numbers.{deck_fault_number, card_error_number};
 
-use crate::decks::COLUMNS;
 use std::alloc::AllocError;
 use thiserror::Error;
 
@@ -89,7 +89,7 @@ pub struct CardFault {
 impl CardFault {
     /// The fault of a card's column behind so many others.
     pub(crate) fn behind(columns: usize, card: u16, error: CardError) -> Self
-        requires { columns ≤ COLUMNS }
+        requires { columns ≤ card_columns }
         ensures { result ≡ record { error = error; card = card; column = columns + 1 } }
     {
         CardFault {

@@ -21,4 +21,4 @@ pub use decks::{COLUMNS, Card, Deck, LARGEST_DECK};
 pub use faults::{CardError, CardFault, DeckFault};
 pub use laws::one_reading;
 pub use reading::{read_punched, read_text};
-pub use writing::{write_punched, write_text};
+pub use writing::{write_punched, write_punched_cards, write_text};

@@ -22,6 +22,13 @@ pub fn write_punched(alloc: Global, deck: &Deck) -> Result<Vec<u8>, AllocError>
     write(alloc, Form::Punched, deck.cards())
 }
 
+/// The punch file of some cards, which may be more than a deck has, as those that a job has punched.
+pub fn write_punched_cards(alloc: Global, cards: &[Card]) -> Result<Vec<u8>, AllocError>
+    ensures { IfOk result (λ file. file.items ≡ punch_file_of cards.now) }
+{
+    write(alloc, Form::Punched, cards)
+}
+
 /// The lines of the cards, one behind the other.
 fn write(alloc: Global, form: Form, cards: &[Card]) -> Result<Vec<u8>, AllocError>
     ensures { IfOk result (λ file. file.items ≡ file_of form cards.now) }

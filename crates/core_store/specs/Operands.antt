@@ -3,13 +3,12 @@ use Rattle.std.specs.Prelude.{ℕ, ◌+◌, ◌-◌, ◌%◌, nat_lt, nat_le, Li
 use Rattle.std.specs.Option.{option_map}
 use Rattle.bcd.specs.declared.Zone.{Zone}
 use Rattle.bcd.specs.declared.Zone.TheVariants.{Bare, A, B, AB}
-use Rattle.core_store.specs.Storage.{Storage, field_length, codes_ending}
-use Rattle.core_store.specs.declared.TheConstants.{LARGEST_SIZE}
+use Rattle.core_store.specs.Storage.{Storage, field_length, codes_ending, largest_size}
 use Rattle.core_store.specs.declared.registers.Registers.{Registers}
 
 -- a register so many positions lower, modulo 16000
 abbrev pub lowered : ℕ → ℕ → ℕ
-lowered register count = (register + LARGEST_SIZE - count) % LARGEST_SIZE
+lowered register count = (register + largest_size - count) % largest_size
 
 -- the registers with A and B so many positions lower
 abbrev pub lowered_by : Registers → ℕ → ℕ → Registers

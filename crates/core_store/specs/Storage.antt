@@ -4,6 +4,10 @@ use Rattle.std.specs.Option.{option_map}
 use Rattle.core_store.specs.declared.sizes.Size.{Size}
 use Rattle.core_store.specs.declared.sizes.Size.TheVariants.{Positions1400, Positions2000, Positions4000}
 
+-- the positions that an address can name, and so those of the largest storage
+abbrev pub largest_size : ℕ
+largest_size = 16000
+
 abbrev pub Cell : Type 0
 Cell = ℕ × Bool
 

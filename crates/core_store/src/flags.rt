@@ -15,13 +15,13 @@ pub struct FlagCore {
 
 impl Model for FlagCore {
     ghost use Rattle.std.specs.Prelude.{ℕ, ◌≤◌, List, Bool, length};
-    ghost use Rattle.core_store.specs.declared.TheConstants.{LARGEST_SIZE};
+    ghost use Rattle.core_store.specs.Storage.{largest_size};
 
     ghost Value = { List (ℕ × Bool) };
 
     ghost view = { λ a. a.cells.items };
 
-    ghost invariant = { λ a. length a.cells.items ≤ LARGEST_SIZE };
+    ghost invariant = { λ a. length a.cells.items ≤ largest_size };
 }
 
 impl Core for FlagCore {

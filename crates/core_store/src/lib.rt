@@ -17,7 +17,7 @@ mod registers;
 mod sizes;
 
 ghost use Rattle.std.specs.Prelude.{◌≡◌, ◌+◌, ◌<◌, ◌≤◌, ℕ, List, Bool, true, false, length, IfOk, IfSome};
-ghost use Rattle.core_store.specs.Storage.{blank_storage, code_at, is_marked, put, with_mark, greatest_mark, least_mark, GreatestMark, LeastMark, Storage, positions_of};
+ghost use Rattle.core_store.specs.Storage.{blank_storage, code_at, is_marked, put, with_mark, greatest_mark, largest_size, least_mark, GreatestMark, LeastMark, Storage, positions_of};
 
 use bcd::Code;
 pub use flags::FlagCore;
@@ -47,7 +47,7 @@ pub trait Core: Sized + Drop {
     /// How many positions there are.
     fn size(&self) -> u16
         ensures size { result ≡ length (cells self.now) }
-        ensures limit { result ≤ LARGEST_SIZE };
+        ensures limit { result ≤ largest_size };
 
     /// The character at a position.
     fn get(&self, position: u16) -> Code

@@ -2,17 +2,17 @@
 
 ghost use Rattle.std.specs.Prelude.{◌≡◌, ◌+◌, ◌<◌, ◌≤◌, ℕ, length, IsTrue, IfSome};
 ghost use Rattle.bcd.specs.Table.{zone_of};
-ghost use Rattle.core_store.specs.Storage.{code_at, field_length};
+ghost use Rattle.core_store.specs.Storage.{code_at, field_length, largest_size};
 ghost use Rattle.core_store.specs.Operands.{are_inside, is_overlapping, cut_length, is_minus_zone};
 
-use crate::{Core, LARGEST_SIZE};
+use crate::Core;
 use bcd::Zone;
 
 /// Whether both are positions of the storage.
 #[inline(always)]
 pub fn are_inside<C: Core>(core: &C, a: u16, b: u16) -> bool
     ensures inside { result ≡ are_inside (C.cells core.now) a b }
-    ensures below { IsTrue result → (a < length (C.cells core.now)) × (b < length (C.cells core.now)) × (a < LARGEST_SIZE) × (b < LARGEST_SIZE) }
+    ensures below { IsTrue result → (a < length (C.cells core.now)) × (b < length (C.cells core.now)) × (a < largest_size) × (b < largest_size) }
 {
     a < core.size() && b < core.size()
 }
@@ -30,7 +30,7 @@ pub fn overlaps(a: u16, b: u16, count: u16) -> bool
 #[tactic(auto, unfolding(crate::specs::Storage::field_length))]
 pub fn field_length<C: Core>(core: &C, position: u16) -> Option<u16>
     requires within { position < length (C.cells core.now) }
-    requires below { position < LARGEST_SIZE }
+    requires below { position < largest_size }
     ensures length { result ≡ field_length (C.cells core.now) position }
     ensures within { IfSome result (λ count. (1 ≤ count) × (count ≤ position + 1)) }
 {
@@ -45,7 +45,7 @@ pub fn field_length<C: Core>(core: &C, position: u16) -> Option<u16>
 #[inline(always)]
 pub fn cut_length<C: Core>(core: &C, position: u16, limit: u16) -> Option<u16>
     requires within { position < length (C.cells core.now) }
-    requires below { position < LARGEST_SIZE }
+    requires below { position < largest_size }
     requires some { 1 ≤ limit }
     ensures length { result ≡ cut_length (C.cells core.now) position limit }
     ensures within { IfSome result (λ count. (1 ≤ count) × (count ≤ limit) × (count ≤ position + 1)) }

@@ -2,9 +2,9 @@
 
 ghost use Rattle.std.specs.Prelude.{◌≡◌, ◌≢◌, ◌+◌, ◌-◌, ◌<◌, ◌≤◌, ℕ, List, Bool, true, false, length, slice_index, MatchOption, IfOk};
 ghost use Rattle.core_store.specs.Planes.{IsLastMark, joined_planes};
-ghost use Rattle.core_store.specs.declared.TheConstants.{LARGEST_SIZE};
+ghost use Rattle.core_store.specs.Storage.{largest_size};
 
-use crate::{Core, LARGEST_SIZE, Size};
+use crate::{Core, Size};
 use bcd::Code;
 use std::alloc::{AllocError, Global};
 use std::simd::prelude::*;
@@ -15,7 +15,7 @@ pub struct PlaneCore {
     codes: Vec<Code>,
     marks: Vec<u8>,
     ghost even: { length codes.items ≡ length marks.items },
-    ghost limit: { length codes.items ≤ LARGEST_SIZE },
+    ghost limit: { length codes.items ≤ largest_size },
 }
 
 /// Whether one of the 32 bytes from a place on is not 0.

@@ -1,6 +1,7 @@
 //! The registers, and the checks that stop the machine.
 
 ghost use Rattle.std.specs.Prelude.{◌≡◌, ◌<◌, ◌≤◌};
+ghost use Rattle.core_store.specs.Storage.{largest_size};
 ghost use Rattle.core_store.specs.Operands.{lowered, lowered_by};
 
 use crate::LARGEST_SIZE;
@@ -31,8 +32,8 @@ pub struct Registers {
 /// A register so many positions lower, modulo 16000.
 #[inline(always)]
 pub fn lowered(register: u16, count: u16) -> u16
-    requires register { register < LARGEST_SIZE }
-    requires count { count ≤ LARGEST_SIZE }
+    requires register { register < largest_size }
+    requires count { count ≤ largest_size }
     ensures { result ≡ lowered register count }
 {
     (register + LARGEST_SIZE - count) % LARGEST_SIZE
@@ -42,10 +43,10 @@ impl Registers {
     /// Lowers A and B by what was worked on at each.
     #[inline(always)]
     pub fn lower(&mut self, a_count: u16, b_count: u16)
-        requires a { self.old.a < LARGEST_SIZE }
-        requires b { self.old.b < LARGEST_SIZE }
-        requires a_count { a_count ≤ LARGEST_SIZE }
-        requires b_count { b_count ≤ LARGEST_SIZE }
+        requires a { self.old.a < largest_size }
+        requires b { self.old.b < largest_size }
+        requires a_count { a_count ≤ largest_size }
+        requires b_count { b_count ≤ largest_size }
         ensures { self.new ≡ lowered_by self.old a_count b_count }
     {
         self.a = lowered(self.a, a_count);

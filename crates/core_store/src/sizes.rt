@@ -1,9 +1,8 @@
 //! How large a storage is.
 
 ghost use Rattle.std.specs.Prelude.{◌≡◌, ◌≢◌, ◌≤◌, IfSome, IfNone};
-ghost use Rattle.core_store.specs.Storage.{positions_of};
+ghost use Rattle.core_store.specs.Storage.{positions_of, largest_size};
 
-use crate::LARGEST_SIZE;
 
 /// The sizes of storage that a machine may have.
 #[derive(Clone, Copy, Debug, PartialEq, Eq)]
@@ -17,7 +16,7 @@ impl Size {
     /// How many positions the storage has.
     pub fn positions(self) -> u16
         ensures positions { result ≡ positions_of self }
-        ensures limit { result ≤ LARGEST_SIZE }
+        ensures limit { result ≤ largest_size }
     {
         match self {
             Size::Positions1400 => 1400,

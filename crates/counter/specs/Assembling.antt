@@ -3,21 +3,17 @@ use Rattle.std.specs.Prelude.{◌≡◌, ◌≢◌, ◌⊎◌, ◌<◌, ◌≤�
 use Rattle.std.specs.List.{flat_map}
 use Rattle.std.specs.Io.KnownBytes.{Appends, Keeps}
 use Rattle.cards.specs.declared.Card.{Card}
-use Rattle.cards.specs.declared.decks.TheConstants.{LARGEST_DECK}
-use Rattle.cards.specs.Decks.{IsDeck}
+use Rattle.cards.specs.Decks.{largest_deck, IsDeck}
 use Rattle.cards.specs.Faults.{out_of_memory}
 use Rattle.cards.specs.Files.{text_of}
 use Rattle.layout.specs.Faults.{fault_number}
 use Rattle.layout.specs.Layout.{slots_of}
 use Rattle.layout.specs.Source.{has_end, source_of}
-use Rattle.layout.specs.declared.faults.SourceFault.TheVariants as source
 use Rattle.autocoder.specs.Image.{image_of}
 use Rattle.autocoder.specs.Listing.{listing_for}
 use Rattle.autocoder.specs.Programs.{IsFaultless, last_line, layout_for, size_for, start_by}
-use Rattle.autocoder.specs.Telling.{faults_of}
+use Rattle.autocoder.specs.Telling.{faults_of, fault_list, no_memory}
 use Rattle.autocoder.specs.declared.faults.CardFault.{CardFault}
-use Rattle.autocoder.specs.declared.faults.Faults.{Faults}
-use Rattle.autocoder.specs.declared.faults.Faults.TheVariants as faults
 use Rattle.loader.specs.Cards.{loading_cards}
 use Rattle.counter.specs.declared.assembling.Assembled.{Assembled}
 use Rattle.counter.specs.declared.assembling.Hindrance.{Hindrance}
@@ -65,7 +61,7 @@ pub record IsMadeOf (text : List ℕ) (made : Made) : Type 0 where
   pub deck : List Card
   pub is : IsTextOf text deck
   pub faultless : IsFaultless (source_of deck)
-  pub fits : length (object_deck deck) ≤ LARGEST_DECK
+  pub fits : length (object_deck deck) ≤ largest_deck
   pub gives : made ≡ made_of deck
 
 -- the text is a deck's whose source has these faults, and there are some
@@ -80,11 +76,7 @@ pub record IsTooLong (text : List ℕ) : Type 0 where
   pub deck : List Card
   pub is : IsTextOf text deck
   pub faultless : IsFaultless (source_of deck)
-  pub over : LARGEST_DECK < length (object_deck deck)
-
--- a want of memory is told of no card
-abbrev pub no_memory : List CardFault
-no_memory = record { card = 0; fault = source.NoMemory } ∷ []
+  pub over : largest_deck < length (object_deck deck)
 
 -- what a fault says of the text; memory and devices may fail at any
 abbrev pub Hinders : List ℕ → Fault → Type 0
@@ -108,13 +100,8 @@ Ends text (hindered f) = Hinders text f
 abbrev pub made_by : Product → Made
 made_by product = record { listing = product.listing.items; out = product.out.items }
 
--- the faults that are told
-abbrev pub told_of : Faults → List CardFault
-told_of (faults.Source told) = told.items
-told_of faults.NoMemory = no_memory
-
 abbrev pub ending_by : Hindrance → Ending
-ending_by (hindrance.Source told) = faulty (told_of told)
+ending_by (hindrance.Source told) = faulty (fault_list told)
 ending_by (hindrance.Fault f) = hindered f
 
 -- ---- what goes out

@@ -14,14 +14,21 @@ use Rattle.counter.specs.declared.faults.Fault.{Fault}
 use Rattle.counter.specs.declared.faults.Fault.TheVariants as fault
 use Rattle.counter.specs.declared.reports.Report.{Report}
 use Rattle.counter.specs.declared.runs.Outcome.{Outcome}
-use Rattle.counter.specs.declared.runs.TheConstants.{MOST_BYTES, MOST_INSTRUCTIONS}
 use Rattle.counter.specs.declared.statuses.Status.{Status}
 use Rattle.counter.specs.declared.statuses.Status.TheVariants as status
 use Rattle.counter.specs.Told.{fault_words, report_words, status_at}
 
+-- the bytes that are read of a text: one more than those of the largest deck
+abbrev pub most_bytes : ℕ
+most_bytes = 162001
+
+-- the most instructions of a run
+abbrev pub most_instructions : ℕ
+most_instructions = 1000000
+
 -- what is read of a reader's bytes, where these are known
 abbrev pub Reads : Option (List ℕ) → List ℕ → Type 0
-Reads remaining text = IfSome remaining (λ bytes. text ≡ take MOST_BYTES bytes)
+Reads remaining text = IfSome remaining (λ bytes. text ≡ take most_bytes bytes)
 
 -- how a machine stands
 abbrev pub report_of : State → Report
@@ -46,7 +53,7 @@ pub record IsRunOf (text : List ℕ) (size : Size) (switches : Switches) (shown 
   pub is_deck : IsDeck deck
   pub has_card : 0 < length deck
   pub is_text : text ≡ text_of deck
-  pub gives : shown ≡ shown_by (after (loaded deck size switches) MOST_INSTRUCTIONS)
+  pub gives : shown ≡ shown_by (after (loaded deck size switches) most_instructions)
 
 -- the first fault of a text, in the form of decks' texts
 abbrev pub IsTextFault : List ℕ → CardFault → Type 0

@@ -20,10 +20,6 @@ text_of_bits bits = if bits == 0 then 45 ∷ [] else letters_of bits
 abbrev pub text_of : Switches → List ℕ
 text_of switches = text_of_bits switches.0
 
--- none but the seven switches is on
-abbrev pub AreSeven : Switches → Type 0
-AreSeven switches = switches.0 < 128
-
 -- the bit of a letter from A to G
 abbrev pub letter_bit : ℕ → Option ℕ
 letter_bit letter = if letter == 65 then Some 1 else (if letter == 66 then Some 2 else (if letter == 67 then Some 4

@@ -3,7 +3,8 @@ use Rattle.std.specs.Prelude.{◌≡◌, ℕ, List, [], ◌∷◌, codes, decima
 use Rattle.core_store.specs.Storage.{positions_of}
 use Rattle.core_store.specs.declared.Size.TheVariants.{Positions4000}
 use Rattle.words.specs.Asked.{IsHelp}
-use Rattle.counter.specs.Switches.{AreSeven, text_of}
+use Rattle.counter.specs.Switches.{text_of}
+use Rattle.units.specs.Switches.{AreSeven}
 use Rattle.counter.specs.declared.tasks.Source.TheVariants.{Input, File}
 use Rattle.counter.specs.declared.tasks.Task.{Task}
 use Rattle.counter.specs.declared.tasks.Task.TheVariants.{Assemble, Help, Run}

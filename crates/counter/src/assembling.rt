@@ -1,8 +1,8 @@
 //! Assembling a deck from a reader.
 
 ghost use Rattle.std.specs.Prelude.{◌≡◌, ◌≤◌, ◌<◌, ◌⊎◌, List, ℕ, length, IfOk, IfErr};
+ghost use Rattle.cards.specs.Decks.{largest_deck};
 ghost use Rattle.layout.specs.Source.{source_of};
-ghost use Rattle.autocoder.specs.Loadable.{CanBeLoaded};
 ghost use Rattle.autocoder.specs.Programs.{IsProgramOf};
 ghost use Rattle.counter.specs.Runs.{Reads};
 ghost use Rattle.counter.specs.Assembling.{Assembles, Ends, IsHindrance, IsMadeOf, IsShown, data_of, ending_by, made_by, made_of, object_deck, assembled, faulty, hindered};
@@ -12,8 +12,7 @@ use crate::runs::text_in;
 use crate::statuses::Status;
 use crate::telling::{put_fault_lines, put_out, tell_fault};
 use autocoder::{CardFault, Faults, Program, assemble, listing};
-use cards::{Card, Deck, LARGEST_DECK, read_text, write_text};
-use layout::SourceFault;
+use cards::{Card, Deck, read_text, write_text};
 use loader::deck_to_run;
 use std::alloc::Global;
 use std::io;
@@ -51,17 +50,16 @@ fn data_in<'a>(deck: &'a Deck, program: &Program) -> &'a [Card]
     requires program { IsProgramOf (source_of deck.now) program.now }
     ensures { result.now ≡ data_of deck.now }
 {
-    &deck.cards()[program.last as usize..]
+    &deck.cards()[program.last() as usize..]
 }
 
 /// The deck that runs a program over its data.
 #[tactic(auto, unfolding(crate::specs::Assembling::object_deck))]
 fn object_of(alloc: Global, deck: &Deck, program: &Program) -> Result<Deck, Fault>
     requires program { IsProgramOf (source_of deck.now) program.now }
-    requires loadable { CanBeLoaded program.now }
     ensures object { IfOk result (λ object. object ≡ object_deck deck.now) }
     ensures fault { IfErr result (λ fault. (fault ≡ Fault.Memory)
-        ⊎ ((fault ≡ Fault.TooManyCards) × (LARGEST_DECK < length (object_deck deck.now)))) }
+        ⊎ ((fault ≡ Fault.TooManyCards) × (largest_deck < length (object_deck deck.now)))) }
 {
     Ok(deck_to_run(alloc, program, data_in(deck, program))?)
 }
@@ -69,11 +67,10 @@ fn object_of(alloc: Global, deck: &Deck, program: &Program) -> Result<Deck, Faul
 /// What is made of a deck and its program.
 fn product_of(alloc: Global, deck: &Deck, program: &Program) -> Result<Product, Fault>
     requires program { IsProgramOf (source_of deck.now) program.now }
-    requires loadable { CanBeLoaded program.now }
     ensures made { IfOk result (λ product. made_by product ≡ made_of deck.now) }
-    ensures fits { IfOk result (λ _. length (object_deck deck.now) ≤ LARGEST_DECK) }
+    ensures fits { IfOk result (λ _. length (object_deck deck.now) ≤ largest_deck) }
     ensures fault { IfErr result (λ fault. (fault ≡ Fault.Memory)
-        ⊎ ((fault ≡ Fault.TooManyCards) × (LARGEST_DECK < length (object_deck deck.now)))) }
+        ⊎ ((fault ≡ Fault.TooManyCards) × (largest_deck < length (object_deck deck.now)))) }
 {
     let object = object_of(alloc, deck, program)?;
     let out = write_text(alloc, &object)?;
@@ -154,11 +151,7 @@ fn show_hindrance<W: Write, E: Write>(
         (W.contents output.old) (W.contents output.new) (E.contents errors.old) (E.contents errors.new)) }
 {
     match hindrance {
-        Hindrance::Source(Faults::Source(faults)) => show_faults(&faults, output, errors),
-        Hindrance::Source(Faults::NoMemory) => {
-            let fault = SourceFault::NoMemory;
-            show_faults(&[CardFault { card: 0, fault }], output, errors)
-        }
+        Hindrance::Source(faults) => show_faults(faults.list(), output, errors),
         Hindrance::Fault(fault) => hinder(errors, fault),
     }
 }

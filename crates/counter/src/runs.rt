@@ -6,7 +6,7 @@ ghost use Rattle.cards.specs.Decks.{IsDeck};
 ghost use Rattle.cards.specs.Faults.{out_of_memory};
 ghost use Rattle.cards.specs.Files.{text_of};
 ghost use Rattle.cards.specs.declared.Card.{Card};
-ghost use Rattle.counter.specs.Runs.{IsRunOf, IsShown, Reads, Refuses, Tells, shown_by, shown_of};
+ghost use Rattle.counter.specs.Runs.{IsRunOf, IsShown, Reads, Refuses, Tells, shown_by, shown_of, most_bytes, most_instructions};
 
 use crate::faults::Fault;
 use crate::reports::{Report, Stand};
@@ -59,7 +59,7 @@ fn machine_after(
     switches: Switches,
 ) -> Result<Machine<PlaneCore>, AllocError>
     requires { 0 < length deck }
-    ensures { IfOk result (λ machine. machine ≡ after (loaded deck size switches) MOST_INSTRUCTIONS) }
+    ensures { IfOk result (λ machine. machine ≡ after (loaded deck size switches) most_instructions) }
 {
     let mut machine = Machine::load(alloc, deck, size, switches)?;
     machine.run(MOST_INSTRUCTIONS, &mut Meter::new())?;
@@ -147,5 +147,5 @@ pub fn run_deck<R: Read + Drop, W: Write, E: Write>(
 /// a deck's text, they are all that the reader had.
 pub fn no_deck_is_cut_off()
     ensures { (bytes : List ℕ) (deck : List Card) → IsDeck deck →
-        take MOST_BYTES bytes ≡ text_of deck → bytes ≡ text_of deck }
+        take most_bytes bytes ≡ text_of deck → bytes ≡ text_of deck }
 {}

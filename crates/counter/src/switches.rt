@@ -2,7 +2,8 @@
 
 ghost use Rattle.std.specs.Prelude.{◌≡◌, ◌≢◌, IfSome, IfNone};
 ghost use Rattle.units.specs.declared.Switches.{Switches};
-ghost use Rattle.counter.specs.Switches.{AreSeven, letter_bit, risen, text_of};
+ghost use Rattle.counter.specs.Switches.{letter_bit, risen, text_of};
+ghost use Rattle.units.specs.Switches.{AreSeven};
 
 use bitflags::Flags;
 use units::Switches;

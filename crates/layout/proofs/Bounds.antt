@@ -20,7 +20,7 @@ use Rattle.statements.specs.declared.operations.Instruction as instruction
 use Rattle.statements.specs.declared.reading.Statement.TheVariants as statement
 use Rattle.layout.specs.Source.{Line, IsInRange}
 use Rattle.layout.specs.Names.{defines, address_of, within, adjusted, value_by, value_in, base_number, IsValueWithin}
-use Rattle.layout.specs.Slots.{origin, place_after, is_open, is_instruction, place_behind, stays, takes, with_label, labelled, moved_to, equal_to, ended, run, constant, equated, slot_of}
+use Rattle.layout.specs.Slots.{origin, place_after, is_open, is_instruction, place_behind, stays, takes, with_label, labelled, moved_to, equal_to, end_fault, ends, run, constant, equated, slot_of}
 use Rattle.layout.specs.Bounds.{IsSlotWithin, IsWithin}
 use Rattle.layout.specs.declared.faults.SourceFault.{SourceFault}
 use Rattle.layout.specs.declared.names.Value.{Value}
@@ -30,7 +30,7 @@ use Rattle.layout.specs.declared.slots.Definition.{Definition}
 use Rattle.layout.specs.declared.slots.Kind.{Kind}
 use Rattle.layout.specs.declared.slots.Kind.TheVariants.{Instruction, Constant, Passing}
 use Rattle.layout.specs.declared.faults.SourceFault.TheVariants as fault
-use Rattle.statements.specs.declared.faults.StatementFault.TheVariants as statement_fault
+use Rattle.statements.specs.declared.faults.StatementFault.{StatementFault}
 use Rattle.layout.specs.declared.slots.Slot.{Slot}
 
 -- ---- how many positions a card takes
@@ -138,13 +138,9 @@ module _ (limit : ℕ) where
   closing_within : (earlier : List Slot) → place_after earlier ≤ limit → IsSlotWithin (limit + 100100) (takes Passing (is_open earlier) (place_behind earlier) (place_behind earlier))
   closing_within earlier h = record { before = omega (arith, behind_within earlier h); after = omega (arith, behind_within earlier h); address = tt }
 
-  ended_within : (earlier : List Slot) (start : Option Expression) → place_after earlier ≤ limit → IsSlotWithin (limit + 100100) (ended earlier start)
-  ended_within earlier (Some start) h = closing_within earlier h
-  ended_within earlier None h =
-      elim (is_some (find (λ (slot : Slot). is_instruction slot.kind) earlier)) as (λ b. IsSlotWithin (limit + 100100) (if b then takes Passing (is_open earlier) (place_behind earlier) (place_behind earlier) else stays earlier (Some (fault.Statement statement_fault.Operand)))) [
-        | true ↦ closing_within earlier h
-        | false ↦ stays_within earlier (Some (fault.Statement statement_fault.Operand)) h
-      ]
+  ends_within : (earlier : List Slot) (told : Option StatementFault) → place_after earlier ≤ limit → IsSlotWithin (limit + 100100) (ends earlier told)
+  ends_within earlier (Some told) h = stays_within earlier (Some (fault.Statement told)) h
+  ends_within earlier None h = closing_within earlier h
 
   constant_within : (earlier : List Slot) (label : Option Name) (marked : Bool) (count : ℕ) → place_after earlier ≤ limit → count < 100000 → IsSlotWithin (limit + 100100) (constant earlier label marked count)
   constant_within earlier label true count h c = run_within earlier label Constant false (place_after earlier) count h (omega arith) c
@@ -167,7 +163,7 @@ module _ (limit : ℕ) where
   slot_within size earlier (Ok (statement.Equate label expression)) s h r = equated_within size earlier label expression s h
   slot_within size earlier (Ok (statement.Constant label marked text)) s h r = constant_within earlier label marked (constant_length text) h ((constant_length_in_range text r).1)
   slot_within size earlier (Ok (statement.Area label positions)) s h r = run_within earlier label Passing (is_open earlier) (place_behind earlier) positions h (behind_within earlier h) (r.1)
-  slot_within size earlier (Ok (statement.End start)) s h r = ended_within earlier start h
+  slot_within size earlier (Ok (statement.End start labelled)) s h r = ends_within earlier (end_fault earlier start labelled) h
   slot_within size earlier (Ok (statement.Instruction label spelled)) s h r =
       labelled_within earlier label (place_after earlier) Instruction false (place_after earlier) (place_after earlier + instruction_length spelled) h (omega arith) (omega (arith, instruction_length_small spelled)) (omega arith)
 

@@ -3,4 +3,5 @@ pub mod Steps
 pub mod Layouts
 pub mod Firsts
 pub mod Filling
+pub mod Cutting
 pub mod Once

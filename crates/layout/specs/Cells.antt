@@ -1,9 +1,8 @@
 -- what a card fills
-use Rattle.std.specs.Prelude.{ℕ, ◌+◌, ◌%◌, Bool, true, false, if◌then◌else◌, List, [], ◌∷◌, ◌++◌, length, replicate, Option, Some, None, Ok, is_some, option_to_list}
+use Rattle.std.specs.Prelude.{ℕ, ◌+◌, ◌%◌, Bool, true, false, if◌then◌else◌, List, [], ◌∷◌, ◌++◌, length, min, replicate, Option, Some, None, Ok, is_some, option_to_list}
 use Rattle.bcd.specs.declared.Zone.{Zone}
 use Rattle.bcd.specs.declared.Zone.TheVariants as zone
-use Rattle.core_store.specs.Storage.{blank_cell}
-use Rattle.core_store.specs.declared.TheConstants.{LARGEST_SIZE}
+use Rattle.core_store.specs.Storage.{blank_cell, largest_size}
 use Rattle.addresses.specs.Addresses.{written}
 use Rattle.addresses.specs.declared.tagged.IndexLocation.{IndexLocation}
 use Rattle.addresses.specs.declared.tagged.IndexLocation.TheVariants.{First, Second, Third}
@@ -63,7 +62,7 @@ position_in (At position) = position
 abbrev pub operand_codes : ℕ → List Slot → List Characters → Option Operand → List ℕ
 operand_codes size slots literals None = []
 operand_codes size slots literals (Some (Address address)) = written (tag address.index) (position_in (value_in size slots address.expression))
-operand_codes size slots literals (Some (Literal wanted)) = written zone.Bare (literal_end (place_after slots) literals wanted % LARGEST_SIZE)
+operand_codes size slots literals (Some (Literal wanted)) = written zone.Bare (literal_end (place_after slots) literals wanted % largest_size)
 
 -- an instruction: its operation, its addresses, its last character
 unfoldable pub instruction_codes : ℕ → List Slot → List Characters → Instruction → List ℕ
@@ -80,12 +79,17 @@ abbrev pub constant_codes : constant.Constant → List ℕ
 constant_codes (text.Characters characters) = characters
 constant_codes (Blanks count) = replicate count blank
 
+-- a constant with no more blanks than what decides of the card: all positions of the storage and one more
+abbrev pub shortened : ℕ → constant.Constant → constant.Constant
+shortened size (text.Characters characters) = text.Characters characters
+shortened size (Blanks count) = Blanks (min count (size + 1))
+
 -- what a card fills that counts as no comment, with names and literals of the whole source
 abbrev pub filled_by : ℕ → List Slot → List Characters → List Slot → Slot → Line → List Cell
 filled_by size slots literals later slot (Ok (statement.Constant label marked constant)) = field marked slot.before (constant_codes constant)
 filled_by size slots literals later slot (Ok (statement.Instruction label spelled)) =
     field true slot.before (instruction_codes size slots literals spelled) ++ blank_behind later slot.after
-filled_by size slots literals later slot (Ok (statement.End start)) = literal_cells slot.before literals
+filled_by size slots literals later slot (Ok (statement.End start labelled)) = literal_cells slot.before literals
 filled_by size slots literals later slot line = []
 
 -- what a card fills

@@ -1,6 +1,6 @@
 -- the lowest fault of a card
-use Rattle.std.specs.Prelude.{ℕ, nat_lt, nat_le, nat_eq, Bool, true, false, ◌||◌, if◌then◌else◌, List, Option, Some, None, Ok}
-use Rattle.std.specs.List.{list_any}
+use Rattle.std.specs.Prelude.{ℕ, ◌≡◌, ◌≤◌, ◌⊎◌, nat_lt, nat_le, nat_eq, Bool, true, false, ◌||◌, if◌then◌else◌, List, [], ◌++◌, Option, Some, None, Ok}
+use Rattle.std.specs.List.{All, list_any}
 use Rattle.statements.specs.declared.expressions.Expression.{Expression}
 use Rattle.statements.specs.declared.operands.Operand.{Operand}
 use Rattle.statements.specs.declared.operands.Operand.TheVariants.{Address}
@@ -8,12 +8,15 @@ use Rattle.statements.specs.declared.reading.Statement.TheVariants as statement
 use Rattle.layout.specs.Source.{Line}
 use Rattle.layout.specs.Names.{value_in}
 use Rattle.layout.specs.declared.cells.Cell.{Cell}
-use Rattle.layout.specs.declared.cells.TheConstants.{FIRST_FREE}
 use Rattle.layout.specs.declared.faults.SourceFault.{SourceFault}
 use Rattle.layout.specs.declared.faults.SourceFault.TheVariants.{UnknownName, Outside, Reserved, Filled}
 use Rattle.layout.specs.declared.names.Value.{Value}
 use Rattle.layout.specs.declared.names.Value.TheVariants as value
 use Rattle.layout.specs.declared.slots.Slot.{Slot}
+
+-- the first position that a source may fill: a card is read into those below it
+abbrev pub first_free : ℕ
+first_free = 81
 
 -- ---- addresses
 
@@ -24,7 +27,7 @@ expression_in other = None
 -- the expressions on a card whose names any card may define
 unfoldable pub expressions_of : Line → Option Expression × Option Expression
 expressions_of (Ok (statement.Instruction label spelled)) = (expression_in spelled.first, expression_in spelled.second)
-expressions_of (Ok (statement.End start)) = (start, None)
+expressions_of (Ok (statement.End start labelled)) = (start, None)
 expressions_of line = (None, None)
 
 abbrev pub is_unknown : Value → Bool
@@ -62,7 +65,7 @@ abbrev pub fills_outside : ℕ → List Cell → Bool
 fills_outside size cells = list_any (λ c. nat_le size c.position) cells
 
 abbrev pub fills_reserved : List Cell → Bool
-fills_reserved cells = list_any (λ c. nat_lt c.position FIRST_FREE) cells
+fills_reserved cells = list_any (λ c. nat_lt c.position first_free) cells
 
 abbrev pub is_filled : List Cell → ℕ → Bool
 is_filled filled position = list_any (λ c. nat_eq c.position position) filled
@@ -70,6 +73,13 @@ is_filled filled position = list_any (λ c. nat_eq c.position position) filled
 -- a position is filled already
 abbrev pub is_overlapping : List Cell → List Cell → Bool
 is_overlapping filled cells = list_any (λ c. is_filled filled c.position) cells
+
+-- the beginning of what a card fills that decides of it: all, or some of which one isn't in storage and behind which none is
+pub record IsCut (size : ℕ) (cells cut : List Cell) : Type 0 where
+  pub rest : List Cell
+  pub all : cells ≡ cut ++ rest
+  pub beyond : All (λ c. size ≤ c.position) rest
+  pub told : (rest ≡ []) ⊎ (fills_outside size cut ≡ true)
 
 -- ---- the lowest fault
 

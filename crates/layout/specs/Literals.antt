@@ -7,14 +7,14 @@ use Rattle.statements.specs.declared.reading.Statement.TheVariants as statement
 use Rattle.layout.specs.Source.{Line}
 use Rattle.layout.specs.declared.literals.Literal.{Literal}
 use Rattle.layout.specs.declared.slots.Slot.{Slot}
-use Rattle.statements.specs.declared.texts.TheConstants.{LONGEST_TEXT}
+use Rattle.statements.specs.Ranges.{longest_text}
 
 abbrev pub Characters : Type 0
 Characters = List ℕ
 
 -- the characters of a literal that is kept
 abbrev pub characters : Literal → Characters
-characters literal = take (min literal.count LONGEST_TEXT) literal.codes
+characters literal = take (min literal.count longest_text) literal.codes
 
 abbrev pub texts : List Literal → List Characters
 texts literals = map characters literals

@@ -4,6 +4,7 @@ use Rattle.statements.specs.Constants.{constant_length}
 use Rattle.statements.specs.Mnemonics.{instruction_length}
 use Rattle.statements.specs.declared.names.Name.{Name}
 use Rattle.statements.specs.declared.expressions.Expression.{Expression}
+use Rattle.statements.specs.declared.faults.StatementFault.{StatementFault}
 use Rattle.statements.specs.declared.faults.StatementFault.TheVariants as statement_fault
 use Rattle.statements.specs.declared.reading.Statement.TheVariants as statement
 use Rattle.layout.specs.Source.{Line}
@@ -12,16 +13,19 @@ use Rattle.layout.specs.declared.names.Value.{Value}
 use Rattle.layout.specs.declared.names.Value.TheVariants.{Unknown, Outside, At}
 use Rattle.layout.specs.declared.faults.SourceFault.{SourceFault}
 use Rattle.layout.specs.declared.faults.SourceFault.TheVariants as fault
-use Rattle.layout.specs.declared.slots.TheConstants.{FIRST_PLACE}
 use Rattle.layout.specs.declared.slots.Kind.{Kind}
 use Rattle.layout.specs.declared.slots.Kind.TheVariants.{Nothing, Instruction, Constant, Passing}
 use Rattle.layout.specs.declared.slots.Slot.{Slot}
+
+-- where a source begins that has no ORG: after the print area
+abbrev pub first_place : ℕ
+first_place = 333
 
 -- ---- the cards before
 
 -- what stands in front of the first card
 abbrev pub origin : Slot
-origin = record { before = FIRST_PLACE; after = FIRST_PLACE; defines = None; fault = None; kind = Nothing; closes = false }
+origin = record { before = first_place; after = first_place; defines = None; fault = None; kind = Nothing; closes = false }
 
 -- where the cards so far end
 abbrev pub place_after : List Slot → ℕ
@@ -98,13 +102,24 @@ equal_to earlier name Unknown = stays earlier (Some fault.UnknownName)
 equal_to earlier name Outside = stays earlier (Some fault.Outside)
 equal_to earlier name (At position) = with_label (stays earlier None) name position
 
--- a card that ends the source; without an address it wants an instruction to start at
-abbrev pub ended : List Slot → Option Expression → Slot
-ended earlier None =
-    if is_some (find (λ slot. is_instruction slot.kind) earlier)
-    then takes Passing (is_open earlier) (place_behind earlier) (place_behind earlier)
-    else stays earlier (Some (fault.Statement statement_fault.Operand))
-ended earlier (Some start) = takes Passing (is_open earlier) (place_behind earlier) (place_behind earlier)
+-- the program has a start: an address, or else an instruction
+abbrev pub has_start : List Slot → Option Expression → Bool
+has_start earlier (Some start) = true
+has_start earlier None = is_some (find (λ slot. is_instruction slot.kind) earlier)
+
+-- what is wrong with an END, the lowest first: its program has no start, or it has a label
+abbrev pub end_fault : List Slot → Option Expression → Bool → Option StatementFault
+end_fault earlier start labelled =
+    if not (has_start earlier start) then Some statement_fault.Operand
+    else (if labelled then Some statement_fault.Label else None)
+
+-- a card that ends the source; one at fault has no place
+abbrev pub ends : List Slot → Option StatementFault → Slot
+ends earlier (Some told) = stays earlier (Some (fault.Statement told))
+ends earlier None = takes Passing (is_open earlier) (place_behind earlier) (place_behind earlier)
+
+abbrev pub ended : List Slot → Option Expression → Bool → Slot
+ended earlier start labelled = ends earlier (end_fault earlier start labelled)
 
 -- a card that takes so many positions from a place on, its label being the last of them
 abbrev pub run : List Slot → Option Name → Kind → Bool → ℕ → ℕ → Slot
@@ -139,7 +154,7 @@ slot_of size earlier (Ok (statement.Origin expression)) = moved_to earlier (valu
 slot_of size earlier (Ok (statement.Equate label expression)) = equated size earlier label expression
 slot_of size earlier (Ok (statement.Constant label marked text)) = constant earlier label marked (constant_length text)
 slot_of size earlier (Ok (statement.Area label positions)) = area earlier label positions
-slot_of size earlier (Ok (statement.End start)) = ended earlier start
+slot_of size earlier (Ok (statement.End start labelled)) = ended earlier start labelled
 slot_of size earlier (Ok (statement.Instruction label spelled)) = instruction earlier label (instruction_length spelled)
 
 -- the slots of the cards behind those that have theirs

@@ -1,13 +1,15 @@
 //! What a card fills.
 
 ghost use Rattle.std.specs.Prelude.{◌≡◌, ◌+◌, ◌≤◌, ◌<◌, ◌++◌, length, option_to_list, replicate, IfSome, Some, IfOk, OnOk};
+ghost use Rattle.core_store.specs.Storage.{largest_size};
 ghost use Rattle.layout.specs.Bounds.{IsWithin};
 ghost use Rattle.layout.specs.Slots.{place_after};
 ghost use Rattle.layout.specs.Source.{IsInRange};
 ghost use Rattle.layout.specs.Literals.{texts};
 ghost use Rattle.layout.specs.Names.{IsValueWithin};
-ghost use Rattle.layout.specs.Cells.{blank, row, field, literal_cells, tag, position_in, operand_codes, instruction_codes, blank_behind, constant_codes, cells_of};
-ghost use Rattle.statements.specs.Ranges.{IsConstantInRange, IsInstructionInRange, IsOperandInRange};
+ghost use Rattle.layout.specs.Cells.{blank, row, field, literal_cells, tag, position_in, operand_codes, instruction_codes, blank_behind, constant_codes, shortened, cells_of};
+ghost use Rattle.layout.specs.Judging.{IsCut};
+ghost use Rattle.statements.specs.Ranges.{IsConstantInRange, IsInstructionInRange, IsOperandInRange, number_limit};
 
 use crate::literals::{Literal, MOST_LITERALS, literal_end};
 use crate::names::{Value, value_in};
@@ -16,7 +18,7 @@ use crate::source::Line;
 use addresses::{IndexLocation, encode_tagged};
 use bcd::{Code, Zone};
 use core_store::LARGEST_SIZE;
-use statements::{Constant, Instruction, NUMBER_LIMIT, Operand, Statement};
+use statements::{Constant, Instruction, Operand, Statement};
 use std::alloc::{AllocError, Global};
 
 /// The first position that a source may fill: those below hold the card that loads the program.
@@ -36,7 +38,7 @@ pub struct Cell {
 /// Fills positions with characters without marks.
 fn push_row(cells: &mut Vec<Cell>, place: u32, codes: &[Code]) -> Result<(), AllocError>
     requires place { place ≤ LAST_CELL }
-    requires length { length codes.now ≤ NUMBER_LIMIT }
+    requires length { length codes.now ≤ number_limit }
     ensures { OnOk result (cells.new.items ≡ cells.old.items ++ row place codes.now) }
 {
     let mut position = place;
@@ -60,7 +62,7 @@ fn push_field(
     codes: &[Code],
 ) -> Result<(), AllocError>
     requires place { place < LAST_CELL }
-    requires length { length codes.now ≤ NUMBER_LIMIT }
+    requires length { length codes.now ≤ number_limit }
     ensures { OnOk result (cells.new.items ≡ cells.old.items ++ field marked place codes.now) }
 {
     match codes {
@@ -90,9 +92,9 @@ fn tag(index: Option<IndexLocation>) -> Zone
 
 /// The position that a value is. Where there is none the card has a fault.
 fn position_in(value: Value) -> u16
-    requires { IsValueWithin LARGEST_SIZE value }
+    requires { IsValueWithin largest_size value }
     ensures position { result ≡ position_in value }
-    ensures within { result < LARGEST_SIZE }
+    ensures within { result < largest_size }
 {
     match value {
         Value::At(position) => position,
@@ -102,7 +104,7 @@ fn position_in(value: Value) -> u16
 
 /// An operand as an address of three characters.
 fn operand_codes(size: u16, slots: &[Slot], literals: &[Literal], operand: &Operand) -> [Code; 3]
-    requires size { size ≤ LARGEST_SIZE }
+    requires size { size ≤ largest_size }
     requires names { IsWithin FARTHEST slots.now }
     requires count { length literals.now ≤ MOST_LITERALS }
     requires place { place_after slots.now ≤ FARTHEST }
@@ -129,7 +131,7 @@ fn push_operand(
     literals: &[Literal],
     operand: &Option<Operand>,
 ) -> Result<(), AllocError>
-    requires size { size ≤ LARGEST_SIZE }
+    requires size { size ≤ largest_size }
     requires names { IsWithin FARTHEST slots.now }
     requires count { length literals.now ≤ MOST_LITERALS }
     requires place { place_after slots.now ≤ FARTHEST }
@@ -165,7 +167,7 @@ fn push_literals(cells: &mut Vec<Cell>, place: u32, literals: &[Literal]) -> Res
 /// Fills positions with blanks without marks.
 fn push_blank_row(cells: &mut Vec<Cell>, place: u32, count: u32) -> Result<(), AllocError>
     requires place { place ≤ LAST_CELL }
-    requires count { count ≤ NUMBER_LIMIT }
+    requires count { count ≤ number_limit }
     ensures { OnOk result (cells.new.items ≡ cells.old.items ++ row place (replicate count blank)) }
 {
     for offset in 0..count {
@@ -188,7 +190,7 @@ fn push_blanks(
 ) -> Result<(), AllocError>
     requires place { place < LAST_CELL }
     requires some { 0 < count }
-    requires limit { count ≤ NUMBER_LIMIT }
+    requires limit { count ≤ number_limit }
     ensures { OnOk result (cells.new.items ≡ cells.old.items ++ field marked place (replicate count blank)) }
 {
     cells.push(Cell {
@@ -208,13 +210,13 @@ fn instruction_codes(
     literals: &[Literal],
     spelled: &Instruction,
 ) -> Result<Vec<Code>, AllocError>
-    requires size { size ≤ LARGEST_SIZE }
+    requires size { size ≤ largest_size }
     requires names { IsWithin FARTHEST slots.now }
     requires count { length literals.now ≤ MOST_LITERALS }
     requires place { place_after slots.now ≤ FARTHEST }
     requires range { IsInstructionInRange spelled.now }
     ensures codes { IfOk result (λ codes. codes.items ≡ instruction_codes size slots.now (texts literals.now) spelled.now) }
-    ensures length { IfOk result (λ codes. length codes.items ≤ NUMBER_LIMIT) }
+    ensures length { IfOk result (λ codes. length codes.items ≤ number_limit) }
 {
     let mut codes = Vec::new(alloc);
     codes.push(spelled.operation)?;
@@ -251,25 +253,30 @@ fn push_blank_behind(cells: &mut Vec<Cell>, later: &[Slot], place: u32) -> Resul
     Ok(())
 }
 
-/// Fills positions with a constant.
+/// Fills positions with a constant. Of blanks that go on past the end of the storage only the
+/// first are filled: `#99999` is no longer work than the storage is long.
 fn push_constant(
     cells: &mut Vec<Cell>,
+    size: u16,
     marked: bool,
     place: u32,
     constant: &Constant,
 ) -> Result<(), AllocError>
     requires place { place ≤ FARTHEST }
     requires range { IsConstantInRange constant.now }
-    ensures { OnOk result (cells.new.items ≡ cells.old.items ++ field marked place (constant_codes constant.now)) }
+    ensures { OnOk result (cells.new.items ≡ cells.old.items ++ field marked place (constant_codes (shortened size constant.now))) }
 {
     match constant {
         Constant::Characters(text) => push_field(cells, marked, place, text.characters()),
-        Constant::Blanks(count) => push_blanks(cells, marked, place, *count),
+        Constant::Blanks(count) => {
+            push_blanks(cells, marked, place, (*count).min(size as u32 + 1))
+        }
     }
 }
 
-/// What a card fills, with names and literals of the whole source.
-#[tactic(auto, unfolding(crate::specs::Cells::cells_of))]
+/// What a card fills, with names and literals of the whole source: all of it, or the beginning
+/// that shows that it goes on past the end of the storage.
+#[tactic(auto, unfolding(crate::specs::Cells::cells_of), using(crate::proofs::Cutting::uncut, crate::proofs::Cutting::constant_cut))]
 pub fn cells_of(
     alloc: Global,
     size: u16,
@@ -279,13 +286,13 @@ pub fn cells_of(
     slot: &Slot,
     line: &Line,
 ) -> Result<Vec<Cell>, AllocError>
-    requires size { size ≤ LARGEST_SIZE }
+    requires size { size ≤ largest_size }
     requires names { IsWithin FARTHEST slots.now }
     requires count { length literals.now ≤ MOST_LITERALS }
     requires place { place_after slots.now ≤ FARTHEST }
     requires before { slot.now.before ≤ FARTHEST }
     requires range { IsInRange line.now }
-    ensures cells { IfOk result (λ cells. cells.items ≡ cells_of size slots.now (texts literals.now) later.now slot.now line.now) }
+    ensures cells { IfOk result (λ cells. IsCut size (cells_of size slots.now (texts literals.now) later.now slot.now line.now) cells.items) }
 {
     let mut cells = Vec::new(alloc);
     if slot.fault.is_some() {
@@ -299,7 +306,7 @@ pub fn cells_of(
                 ..
             },
         ) => {
-            push_constant(&mut cells, *marked, slot.before, constant)?;
+            push_constant(&mut cells, size, *marked, slot.before, constant)?;
             Ok(cells)
         }
         Ok(Statement::Instruction { instruction, .. }) => {
@@ -308,7 +315,7 @@ pub fn cells_of(
             push_blank_behind(&mut cells, later, slot.after)?;
             Ok(cells)
         }
-        Ok(Statement::End(_)) => {
+        Ok(Statement::End { .. }) => {
             push_literals(&mut cells, slot.before, literals)?;
             Ok(cells)
         }

@@ -38,7 +38,7 @@ fn expressions_of(line: &Line) -> (Option<Expression>, Option<Expression>)
             expression_in(&instruction.first),
             expression_in(&instruction.second),
         ),
-        Ok(Statement::End(start)) => (*start, None),
+        Ok(Statement::End { start, .. }) => (*start, None),
         _ => (None, None),
     }
 }

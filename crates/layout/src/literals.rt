@@ -3,12 +3,14 @@
 ghost use Rattle.std.specs.Prelude.{◌≡◌, ◌+◌, ◌*◌, ◌≤◌, ◌++◌, [], length, false, bytes_eq, IfOk, OnOk};
 ghost use Rattle.layout.specs.Source.{lines_of};
 ghost use Rattle.std.specs.List.{list_any};
+ghost use Rattle.statements.specs.Ranges.{longest_text};
+ghost use Rattle.cards.specs.Decks.{largest_deck};
 ghost use Rattle.layout.specs.Literals.{characters, texts, literal_in, uses_in, uses_of, firsts, literals_of, literal_end};
 
 use crate::slots::{FARTHEST, Slot};
 use crate::source::{Line, either, is_control, line_on};
 use bcd::Code;
-use cards::{Card, LARGEST_DECK};
+use cards::Card;
 use statements::{LONGEST_TEXT, Operand, Statement, Text};
 use std::alloc::{AllocError, Global};
 
@@ -39,7 +41,7 @@ impl Literal {
     /// Its characters.
     pub fn characters(&self) -> &[Code]
         ensures characters { result.now ≡ characters self.now }
-        ensures limit { length result.now ≤ LONGEST_TEXT }
+        ensures limit { length result.now ≤ longest_text }
     {
         &self.codes[..self.count.min(LONGEST_TEXT)]
     }
@@ -75,7 +77,7 @@ fn push_uses(uses: &mut Vec<Literal>, line: &Line, slot: &Slot) -> Result<(), Al
 
 /// The literals that a source uses, by card and operand.
 fn uses(alloc: Global, source: &[Card], slots: &[Slot]) -> Result<Vec<Literal>, AllocError>
-    requires deck { length source.now ≤ LARGEST_DECK }
+    requires deck { length source.now ≤ largest_deck }
     requires slots { length slots.now ≡ length source.now }
     ensures uses { IfOk result (λ uses. texts uses.items ≡ uses_of (lines_of false source.now) slots.now) }
     ensures count { IfOk result (λ uses. length uses.items ≤ MOST_LITERALS) }
@@ -111,7 +113,7 @@ pub fn literals_of(
     source: &[Card],
     slots: &[Slot],
 ) -> Result<Vec<Literal>, AllocError>
-    requires deck { length source.now ≤ LARGEST_DECK }
+    requires deck { length source.now ≤ largest_deck }
     requires slots { length slots.now ≡ length source.now }
     ensures literals { IfOk result (λ literals. texts literals.items ≡ literals_of (lines_of false source.now) slots.now) }
     ensures count { IfOk result (λ literals. length literals.items ≤ MOST_LITERALS) }
@@ -142,7 +144,7 @@ fn firsts(alloc: Global, uses: &[Literal]) -> Result<Vec<Literal>, AllocError>
 pub(crate) fn literal_end(place: u32, literals: &[Literal], wanted: &[Code]) -> u32
     requires place { place ≤ FARTHEST }
     requires count { length literals.now ≤ MOST_LITERALS }
-    requires limit { length wanted.now ≤ LONGEST_TEXT }
+    requires limit { length wanted.now ≤ longest_text }
     ensures { result ≡ literal_end place (texts literals.now) wanted.now }
 {
     let mut here = place;

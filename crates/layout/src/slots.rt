@@ -1,16 +1,17 @@
 //! What a card makes of the place it stands at.
 
 ghost use Rattle.std.specs.Prelude.{◌≡◌, ◌+◌, ◌≤◌, ◌<◌, [], length, false, reverse, find, option_copied, IfOk};
+ghost use Rattle.core_store.specs.Storage.{largest_size};
+ghost use Rattle.cards.specs.Decks.{largest_deck};
 ghost use Rattle.layout.specs.Bounds.{IsWithin};
 ghost use Rattle.layout.specs.Source.{IsInRange, lines_of};
 ghost use Rattle.statements.specs.Ranges.{IsExpressionInRange};
-ghost use Rattle.layout.specs.Slots.{place_after, is_nothing, is_instruction, stands, is_open, is_closed, place_behind, stays, takes, with_label, labelled, moved_to, equal_to, ended, run, constant, area, instruction, equated, slot_of, slots_from};
+ghost use Rattle.layout.specs.Slots.{place_after, is_nothing, is_instruction, stands, is_open, is_closed, place_behind, stays, takes, with_label, labelled, moved_to, equal_to, has_start, end_fault, ended, run, constant, area, instruction, equated, slot_of, slots_from};
 
 use crate::faults::SourceFault;
 use crate::names::{Value, address_of, value_in};
 use crate::source::{Line, either, is_control, line_on};
-use cards::{Card, LARGEST_DECK};
-use core_store::LARGEST_SIZE;
+use cards::Card;
 use statements::{Expression, Name, Statement, StatementFault};
 use std::alloc::{AllocError, Global};
 
@@ -244,18 +245,40 @@ fn equal_to(earlier: &[Slot], name: Name, value: Value) -> Slot
     }
 }
 
-/// A card that ends the source. Without an address it wants an instruction to start at.
-fn ended(earlier: &[Slot], start: Option<Expression>) -> Slot
-    requires { place_after earlier.now < FARTHEST }
-    ensures { result ≡ ended earlier.now start }
+/// Whether the program has a start: an address, or else an instruction.
+fn has_start(earlier: &[Slot], start: Option<Expression>) -> bool
+    ensures { result ≡ has_start earlier.now start }
 {
-    if start.is_none() {
-        if first_instruction(earlier).is_none() {
-            return stays(
-                earlier,
-                Some(SourceFault::Statement(StatementFault::Operand)),
-            );
-        }
+    match start {
+        Some(_) => true,
+        None => first_instruction(earlier).is_some(),
+    }
+}
+
+/// What is wrong with an `END`: its program has no start, or it has a label.
+fn end_fault(
+    earlier: &[Slot],
+    start: Option<Expression>,
+    labelled: bool,
+) -> Option<StatementFault>
+    ensures { result ≡ end_fault earlier.now start labelled }
+{
+    if !has_start(earlier, start) {
+        return Some(StatementFault::Operand);
+    }
+    if labelled {
+        return Some(StatementFault::Label);
+    }
+    None
+}
+
+/// A card that ends the source.
+fn ended(earlier: &[Slot], start: Option<Expression>, labelled: bool) -> Slot
+    requires { place_after earlier.now < FARTHEST }
+    ensures { result ≡ ended earlier.now start labelled }
+{
+    if let Some(fault) = end_fault(earlier, start, labelled) {
+        return stays(earlier, Some(SourceFault::Statement(fault)));
     }
     let place = place_behind(earlier);
     takes(Kind::Passing, is_open(earlier), place, place)
@@ -361,7 +384,7 @@ fn slot_of(size: u16, earlier: &[Slot], line: Line) -> Slot
             constant: text,
         } => constant(earlier, label, marked, text.length()),
         Statement::Area { label, positions } => area(earlier, label, positions),
-        Statement::End(start) => ended(earlier, start),
+        Statement::End { start, labelled } => ended(earlier, start, labelled),
         Statement::Instruction {
             label,
             instruction: spelled,
@@ -371,8 +394,8 @@ fn slot_of(size: u16, earlier: &[Slot], line: Line) -> Slot
 
 /// The slot of each card of a source.
 pub fn lay_out(alloc: Global, size: u16, source: &[Card]) -> Result<Vec<Slot>, AllocError>
-    requires count { length source.now ≤ LARGEST_DECK }
-    requires size { size ≤ LARGEST_SIZE }
+    requires count { length source.now ≤ largest_deck }
+    requires size { size ≤ largest_size }
     ensures slots { IfOk result (λ slots. slots.items ≡ slots_from size [] (lines_of false source.now)) }
     ensures within { IfOk result (λ slots. IsWithin FARTHEST slots.items) }
     ensures count { IfOk result (λ slots. length slots.items ≡ length source.now) }

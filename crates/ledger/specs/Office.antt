@@ -10,6 +10,7 @@ use Rattle.machine.specs.Run.{State, loaded, started, after, attempts, executed,
 use Rattle.machine.specs.declared.parts.Standing.{Standing}
 use Rattle.machine.specs.declared.parts.Standing.TheVariants.{Running, Halted, Checked}
 use Rattle.units.specs.declared.switches.Switches.{Switches}
+use Rattle.units.specs.Switches.{seven}
 use Rattle.pictures.specs.Columns.{deck_bytes}
 use Rattle.ledger.specs.declared.commands.Command.{Command}
 use Rattle.ledger.specs.declared.commands.Command.TheVariants.{Submit, Slice}
@@ -102,13 +103,21 @@ is_number number = nat_le 1 number && nat_le number 999999
 abbrev pub is_limit : ℕ → Bool
 is_limit limit = nat_le 1 limit && nat_le limit 2000
 
+-- the most instructions that are granted to a job
+abbrev pub most_granted : ℕ
+most_granted = 1000000000
+
+-- the most jobs of a customer
+abbrev pub most_jobs : ℕ
+most_jobs = 200
+
 -- the first of these tests that fails
 abbrev pub slice_refusal : ℕ → List Stretch → Bool → Bool → Standing → Option Refusal
 slice_refusal limit stretches held collected standing =
     if collected then Some refusal.Collected else
     if held then Some refusal.Held else
     if not (is_running standing) then Some refusal.NotRunning else
-    if nat_lt 1000000000 (granted stretches + limit) then Some refusal.TooMuch else
+    if nat_lt most_granted (granted stretches + limit) then Some refusal.TooMuch else
     None
 
 -- ---- commands
@@ -141,7 +150,7 @@ new_job size contents = record {
   kind = contents.kind;
   size = size;
   deck = contents.deck;
-  stretches = (record { switches = contents.switches; granted = 0 }) ∷ [];
+  stretches = (record { switches = seven contents.switches; granted = 0 }) ∷ [];
   held = false;
   collected = false;
 }
@@ -153,7 +162,7 @@ is_empty (card ∷ cards) = false
 -- one job more, unless the customer has as many as one may have
 abbrev pub added : List ℕ → ℕ → Contents → Office → Size → Office × Reply
 added customer number contents office size =
-    if nat_le 200 (length (jobs_of customer office)) then (office, Refused refusal.TooManyJobs) else
+    if nat_le most_jobs (length (jobs_of customer office)) then (office, Refused refusal.TooManyJobs) else
     (office ++ (record { customer = customer; number = number; job = new_job size contents }) ∷ [], Taken (length (loaded_of contents.kind contents.deck)))
 
 abbrev pub submitted_new : List ℕ → ℕ → Contents → Office → Option Size → Office × Reply
@@ -169,7 +178,7 @@ is_same_kind Object Object = true
 
 -- the job was submitted with these contents
 abbrev pub is_of : Contents → Job → Bool
-is_of contents job = is_same_kind job.kind contents.kind && positions_of job.size == contents.size && began_with contents.switches job.stretches && bytes_eq (deck_bytes job.deck) (deck_bytes contents.deck)
+is_of contents job = is_same_kind job.kind contents.kind && positions_of job.size == contents.size && began_with (seven contents.switches) job.stretches && bytes_eq (deck_bytes job.deck) (deck_bytes contents.deck)
 
 abbrev pub repeated : Contents → Job → Reply
 repeated contents job = if is_of contents job then Taken (length (loaded_deck job)) else Refused refusal.OtherContents

@@ -6,6 +6,7 @@ use Rattle.cards.specs.Decks.{IsCard, IsDeck}
 use Rattle.core_store.specs.Storage.{positions_of}
 use Rattle.machine.specs.Ranges.{IsInRange}
 use Rattle.machine.specs.Run.{State}
+use Rattle.units.specs.Switches.{AreSeven}
 use Rattle.pictures.specs.Columns.{deck_bytes, truth, picture_cells, line_cells, HoldsCharacters, IsLine}
 use Rattle.sqlite.specs.Effect.{Database}
 use Rattle.sqlite.specs.Tree.{Trees}
@@ -18,7 +19,7 @@ use Rattle.ledger.specs.declared.commands.Kind.{Kind}
 use Rattle.ledger.specs.declared.commands.Kind.TheVariants.{Object}
 use Rattle.ledger.specs.declared.commands.Reply.{Reply}
 use Rattle.ledger.specs.declared.office.Stretch.{Stretch}
-use Rattle.ledger.specs.Office.{Job, Entry, Office, job_of, loaded_deck, picture, granted}
+use Rattle.ledger.specs.Office.{Job, Entry, Office, job_of, loaded_deck, most_granted, picture, granted}
 
 abbrev pub kind_number : Kind → ℕ
 kind_number Object = 0
@@ -58,9 +59,9 @@ tables_of office = record {
   lines = λ customer number. lines_of (job_of customer number office);
 }
 
--- the switches fit a byte
+-- the switches of a stretch are no others than the seven
 abbrev pub HasSwitches : Stretch → Type 0
-HasSwitches s = s.switches.0 < 256
+HasSwitches s = AreSeven s.switches
 
 -- what any job may hold
 pub record IsJob (job : Job) : Type 0 where
@@ -68,7 +69,7 @@ pub record IsJob (job : Job) : Type 0 where
   pub card : 0 < length job.deck
   pub begun : 0 < length job.stretches
   pub switches : AllByRecursion HasSwitches job.stretches
-  pub most : granted job.stretches ≤ 1000000000
+  pub most : granted job.stretches ≤ most_granted
   pub machine : IsInRange (picture job)
   pub storage : HoldsCharacters (picture job).works.storage
   pub cards : All IsCard (picture job).works.units.punch

@@ -95,7 +95,7 @@ fn is_same(alloc: Global, handed: &Handed, contents: &Contents) -> Result<bool, 
 {
     if !is_same_kind(handed.row.kind, contents.kind)
         || handed.row.size != contents.size
-        || handed.switches.bits() != contents.switches.bits()
+        || handed.switches.bits() != contents.switches.seven().bits()
     {
         return Ok(false);
     }
@@ -341,6 +341,7 @@ impl<S: Alter> Bureau<S> {
         ensures crash { HasCleanDisk (state S.Store self.new.conn) → (office : Office) → Stands (state S.Store self.old.conn) office
             → (db : Trees) → (state S.Store self.new.conn).may_leave db → LeftAs db office ⊎ LeftAs db (take command.now office).0 }
         ensures broken { IsErrOf result Fault.Store → IsTrue self.new.broken }
+        ensures kept { (self.new.broken ≡ self.old.broken) ⊎ IsErrOf result Fault.Store }
         ensures ended { IsTrue self.old.broken → (result ≡ Err Fault.Store) × (self.new ≡ self.old) }
         ensures clean { doubt (state S.Store self.old.conn).is_clean ≤ doubt (state S.Store self.new.conn).is_clean }
     {

@@ -152,8 +152,9 @@ fn loaded_job<C: Core>(
     ensures { IfOk result (λ job. job ≡ kept_of (new_job size contents.now)) }
 {
     let deck = copy_of(alloc, &contents.deck)?;
-    let machine = Machine::load(alloc, deck, size, contents.switches)?;
-    let stretches = first_stretch(alloc, contents.switches)?;
+    let switches = contents.switches.seven();
+    let machine = Machine::load(alloc, deck, size, switches)?;
+    let stretches = first_stretch(alloc, switches)?;
     Ok(KeptJob {
         stretches,
         held: false,

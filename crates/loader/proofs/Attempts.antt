@@ -5,6 +5,7 @@ use Rattle.core_store.specs.Storage.{Storage, is_marked, least_mark, field_lengt
 use Rattle.core_store.specs.declared.registers.Compared.TheVariants.{Equal}
 use Rattle.addresses.specs.Addresses.{encoded}
 use Rattle.units.specs.declared.switches.Switches.{Switches}
+use Rattle.units.specs.Switches.{seven}
 use Rattle.units.specs.declared.units.Units.{Units}
 use Rattle.machine.specs.declared.decode.Decoded.{Decoded}
 use Rattle.machine.specs.declared.decode.Operation.TheVariants.{OnFields, ClearStorage, Operate, NoOperation}
@@ -26,7 +27,7 @@ units_with deck taken switches = record {
   hopper = record { deck = deck; taken = taken };
   punch = [];
   printer = record { lines = []; carriage = record { form = 1; line = 1; waiting = None; channel_12 = false } };
-  switches = switches;
+  switches = seven switches;
 }
 
 -- a running machine at an instruction, its storage as it is known

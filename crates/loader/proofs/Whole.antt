@@ -16,7 +16,7 @@ use Rattle.machine.specs.declared.parts.Standing.TheVariants.{Running}
 use Rattle.machine.specs.Run.{State, step, after, loaded}
 use Rattle.machine.proofs.Steps.{after-after}
 use Rattle.autocoder.specs.Loadable.{IsLoadable, CanBeLoaded}
-use Rattle.autocoder.specs.declared.program.Program.{Program}
+use Rattle.autocoder.specs.Assembly.{Assembly}
 use Rattle.loader.specs.Cards.{boot_card, load_card, start_card, loading_cards, instruction}
 use Rattle.loader.specs.Stretches.{is_lawful, is_contiguous, marks_of, stretches_from, stretches_of}
 use Rattle.loader.specs.Loading.{Loads, IsBetweenCards, loading_marks, filled_with, at_the_start, instructions_to_load}
@@ -296,7 +296,7 @@ wider size larger image start fits loadable =
     record { free = loadable.free; inside = λ k d lt. omega (arith, loadable.inside k d lt); start = omega (arith, loadable.start) }
 
 -- the deck of a program loads it
-pub deck_loads : (program : Program) (deck : List Card) → CanBeLoaded program → deck ≡ loading_cards program.image.items program.start → Loads program deck
+pub deck_loads : (program : Assembly) (deck : List Card) → CanBeLoaded program → deck ≡ loading_cards program.image program.start → Loads program deck
 deck_loads program deck loadable is size data_cards switches fits =
-    ap (λ cards. after (loaded (cards ++ data_cards) size switches) (instructions_to_load program.image.items)) is
-    ∙ brought size program.image.items program.start data_cards switches (wider (positions_of program.size) (positions_of size) program.image.items program.start fits loadable)
+    ap (λ cards. after (loaded (cards ++ data_cards) size switches) (instructions_to_load program.image)) is
+    ∙ brought size program.image program.start data_cards switches (wider (positions_of program.size) (positions_of size) program.image program.start fits loadable)

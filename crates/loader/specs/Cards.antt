@@ -5,10 +5,9 @@ use Rattle.core_store.specs.Storage.{blank_cell}
 use Rattle.addresses.specs.Addresses.{encoded}
 use Rattle.addresses.specs.Digits.{code_of}
 use Rattle.cards.specs.declared.decks.Card.{Card}
-use Rattle.cards.specs.declared.decks.TheConstants.{COLUMNS}
+use Rattle.cards.specs.Decks.{card_columns}
 use Rattle.layout.specs.declared.cells.Cell.{Cell}
-use Rattle.loader.specs.declared.stretches.TheConstants.{MOST_CHARACTERS}
-use Rattle.loader.specs.Stretches.{marks_of, stretches_of}
+use Rattle.loader.specs.Stretches.{most_characters, marks_of, stretches_of}
 
 -- the characters of a text
 abbrev pub text : List ℕ → List ℕ
@@ -19,7 +18,7 @@ abbrev pub padded : ℕ → List ℕ → List ℕ
 padded width characters = characters ++ replicate (width - length characters) blank_cell.0
 
 abbrev pub card_of : List ℕ → Card
-card_of characters = record { 0 = padded COLUMNS characters }
+card_of characters = record { 0 = padded card_columns characters }
 
 -- an instruction with two addresses
 abbrev pub instruction : List ℕ → ℕ → ℕ → List ℕ
@@ -67,12 +66,12 @@ abbrev pub reading : List ℕ
 reading = text (codes "1040")
 
 unfoldable pub load_card : List Cell → Card
-load_card stretch = card_of (padded MOST_CHARACTERS (map (λ c. c.code) stretch) ++ (moving stretch ++ (three (filled_places stretch) ++ reading)))
+load_card stretch = card_of (padded most_characters (map (λ c. c.code) stretch) ++ (moving stretch ++ (three (filled_places stretch) ++ reading)))
 
 -- ---- the last card: it clears 000 to 080 and starts the program
 
 unfoldable pub start_card : ℕ → Card
-start_card start = card_of (replicate MOST_CHARACTERS blank_cell.0 ++ instruction (codes "/") start 80)
+start_card start = card_of (replicate most_characters blank_cell.0 ++ instruction (codes "/") start 80)
 
 -- ---- all of them
 

@@ -8,8 +8,9 @@ use Rattle.core_store.specs.declared.registers.Compared.TheVariants.{Equal}
 use Rattle.machine.specs.Run.{State, after, loaded}
 use Rattle.machine.specs.declared.parts.Standing.TheVariants.{Running}
 use Rattle.units.specs.declared.switches.Switches.{Switches}
+use Rattle.units.specs.Switches.{seven}
 use Rattle.layout.specs.declared.cells.Cell.{Cell}
-use Rattle.autocoder.specs.declared.program.Program.{Program}
+use Rattle.autocoder.specs.Assembly.{Assembly}
 use Rattle.loader.specs.Stretches.{stretches_of}
 use Rattle.loader.specs.Cards.{loading_cards}
 
@@ -33,7 +34,7 @@ at_the_start image start data_cards size switches = record {
       hopper = record { deck = loading_cards image start ++ data_cards; taken = length (loading_cards image start) };
       punch = [];
       printer = record { lines = []; carriage = record { form = 1; line = 1; waiting = None; channel_12 = false } };
-      switches = switches;
+      switches = seven switches;
     };
   };
   standing = Running;
@@ -55,6 +56,6 @@ pub record IsBetweenCards (placed : List Cell) (read : ℕ) (size : Size) (m : S
   pub no_line : m.works.units.printer.lines ≡ []
 
 -- the cards of a deck load a program into any machine that is large enough, whatever data stand behind them
-abbrev pub Loads : Program → List Card → Type 0
+abbrev pub Loads : Assembly → List Card → Type 0
 Loads program deck = (size : Size) (data_cards : List Card) (switches : Switches) → positions_of program.size ≤ positions_of size →
-    after (loaded (deck ++ data_cards) size switches) (instructions_to_load program.image.items) ≡ at_the_start program.image.items program.start data_cards size switches
+    after (loaded (deck ++ data_cards) size switches) (instructions_to_load program.image) ≡ at_the_start program.image program.start data_cards size switches

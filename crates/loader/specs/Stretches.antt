@@ -2,7 +2,18 @@
 use Rattle.std.specs.Prelude.{ℕ, ◌≡◌, ◌≢◌, ◌+◌, ◌<◌, nat_le, ◌==◌, ◌&&◌, Bool, true, false, if◌then◌else◌, List, [], ◌∷◌, ◌++◌, length, map, take, drop, filter, slice_index_or}
 use Rattle.std.specs.List.{flat_map}
 use Rattle.layout.specs.declared.cells.Cell.{Cell}
-use Rattle.loader.specs.declared.stretches.TheConstants.{MOST_CHARACTERS, MOST_MARKS, MOST_MARKS_UNMARKED}
+
+-- the most characters that a loading card carries
+abbrev pub most_characters : ℕ
+most_characters = 39
+
+-- the most marks that a loading card sets after the first position
+abbrev pub most_marks : ℕ
+most_marks = 6
+
+-- the most where the first position has no mark, since one place of the card clears it
+abbrev pub most_marks_unmarked : ℕ
+most_marks_unmarked = 4
 
 -- each position is the next after the one before it
 unfoldable pub is_contiguous : List Cell → Bool
@@ -16,14 +27,14 @@ marks_of cells = map (λ c. c.position) (filter (λ c. c.marked) cells)
 
 -- how many marks behind the first position a card has places for: one place goes to a first position without a mark
 abbrev pub mark_limit : List Cell → ℕ
-mark_limit [] = MOST_MARKS
-mark_limit (first ∷ rest) = if first.marked then MOST_MARKS else MOST_MARKS_UNMARKED
+mark_limit [] = most_marks
+mark_limit (first ∷ rest) = if first.marked then most_marks else most_marks_unmarked
 
 -- whether a card can carry these positions
 unfoldable pub is_lawful : List Cell → Bool
 is_lawful cells =
     is_contiguous cells
-    && (nat_le (length cells) MOST_CHARACTERS && nat_le (length (marks_of (drop 1 cells))) (mark_limit cells))
+    && (nat_le (length cells) most_characters && nat_le (length (marks_of (drop 1 cells))) (mark_limit cells))
 
 -- an image in longest lawful stretches: each can be carried, and none can with one position more
 pub record IsSplit (image : List Cell) (stretches : List (List Cell)) : Type 0 where

@@ -1,6 +1,8 @@
 //! The columns of a card, as they are filled from the left.
 
 ghost use Rattle.std.specs.Prelude.{◌≡◌, ◌+◌, ◌<◌, ◌≤◌, [], ◌∷◌, ◌++◌, length, IsTrue};
+ghost use Rattle.core_store.specs.Storage.{largest_size};
+ghost use Rattle.cards.specs.Decks.{card_columns};
 ghost use Rattle.addresses.specs.Digits.{code_of};
 ghost use Rattle.loader.specs.Glyphs.{is_glyph, are_glyphs};
 ghost use Rattle.loader.specs.Cards.{text, padded, card_of, instruction};
@@ -8,7 +10,6 @@ ghost use Rattle.loader.specs.Cards.{text, padded, card_of, instruction};
 use addresses::encode;
 use bcd::Code;
 use cards::{COLUMNS, Card};
-use core_store::LARGEST_SIZE;
 use std::marker::Model;
 
 /// How many characters an instruction with two addresses has.
@@ -23,13 +24,12 @@ pub(crate) struct Columns {
 
 impl Model for Columns {
     ghost use Rattle.std.specs.Prelude.{List, ℕ, ◌≡◌, ◌≤◌, ◌-◌, ◌++◌, length, take, replicate};
-    ghost use Rattle.cards.specs.declared.decks.TheConstants.{COLUMNS};
 
     ghost Value = { List ℕ };
 
     ghost view = { λ columns. take columns.count columns.codes };
 
-    ghost invariant = { λ columns. (columns.count ≤ COLUMNS) × (length columns.codes ≡ COLUMNS) × (columns.codes ≡ take columns.count columns.codes ++ replicate (COLUMNS - columns.count) 0) };
+    ghost invariant = { λ columns. (columns.count ≤ card_columns) × (length columns.codes ≡ card_columns) × (columns.codes ≡ take columns.count columns.codes ++ replicate (card_columns - columns.count) 0) };
 }
 
 /// The character of a glyph.
@@ -56,7 +56,7 @@ impl Columns {
 
     /// Fills the next columns.
     pub(crate) fn punch(&mut self, codes: &[Code])
-        requires { length self.old + length codes.now ≤ COLUMNS }
+        requires { length self.old + length codes.now ≤ card_columns }
         ensures punched { self.new ≡ self.old ++ codes.now }
         ensures length { length self.new ≡ length self.old + length codes.now }
     {
@@ -68,7 +68,7 @@ impl Columns {
 
     /// Fills the next columns with the characters of these glyphs.
     pub(crate) fn punch_text(&mut self, glyphs: &[u8])
-        requires room { length self.old + length glyphs.now ≤ COLUMNS }
+        requires room { length self.old + length glyphs.now ≤ card_columns }
         requires glyphs { IsTrue (are_glyphs glyphs.now) }
         ensures punched { self.new ≡ self.old ++ text glyphs.now }
         ensures length { length self.new ≡ length self.old + length glyphs.now }
@@ -80,10 +80,10 @@ impl Columns {
 
     /// Fills the next seven columns with an instruction with two addresses.
     pub(crate) fn punch_instruction(&mut self, operation: u8, a: u16, b: u16)
-        requires room { length self.old + INSTRUCTION_LENGTH ≤ COLUMNS }
+        requires room { length self.old + INSTRUCTION_LENGTH ≤ card_columns }
         requires glyph { IsTrue (is_glyph operation) }
-        requires a { a < LARGEST_SIZE }
-        requires b { b < LARGEST_SIZE }
+        requires a { a < largest_size }
+        requires b { b < largest_size }
         ensures punched { self.new ≡ self.old ++ instruction (operation ∷ []) a b }
         ensures length { length self.new ≡ length self.old + INSTRUCTION_LENGTH }
     {
@@ -95,7 +95,7 @@ impl Columns {
     /// Leaves the columns up to so many blank.
     pub(crate) fn skip_to(&mut self, column: usize)
         requires reached { length self.old ≤ column }
-        requires within { column ≤ COLUMNS }
+        requires within { column ≤ card_columns }
         ensures skipped { self.new ≡ padded column self.old }
         ensures length { length self.new ≡ column }
     {

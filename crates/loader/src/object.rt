@@ -1,7 +1,8 @@
 //! The deck of a program.
 
 ghost use Rattle.std.specs.Prelude.{◌≡◌, ◌<◌, ◌++◌, length, map, All, IfOk, OnOk, IsErrOf};
-ghost use Rattle.autocoder.specs.Loadable.{CanBeLoaded};
+ghost use Rattle.core_store.specs.Storage.{largest_size};
+ghost use Rattle.cards.specs.Decks.{largest_deck};
 ghost use Rattle.loader.specs.Stretches.{stretches_of};
 ghost use Rattle.loader.specs.Cards.{load_card, loading_cards};
 ghost use Rattle.loader.specs.Loading.{Loads};
@@ -9,16 +10,15 @@ ghost use Rattle.loader.specs.Loading.{Loads};
 use crate::pieces::{boot_card, load_card, start_card};
 use crate::stretches::longest;
 use autocoder::Program;
-use cards::{Card, Deck, DeckFault, LARGEST_DECK};
-use core_store::LARGEST_SIZE;
+use cards::{Card, Deck, DeckFault};
 use layout::Cell;
 use std::alloc::Global;
 
 /// Adds a card for each stretch of some positions.
 fn push_stretches(deck: &mut Deck, cells: &[Cell]) -> Result<(), DeckFault>
-    requires { All (λ c. c.position < LARGEST_SIZE) cells.now }
+    requires { All (λ c. c.position < largest_size) cells.now }
     ensures pushed { OnOk result (deck.new ≡ deck.old ++ map load_card (stretches_of cells.now)) }
-    ensures full { IsErrOf result DeckFault.TooManyCards → LARGEST_DECK < length (deck.old ++ map load_card (stretches_of cells.now)) }
+    ensures full { IsErrOf result DeckFault.TooManyCards → largest_deck < length (deck.old ++ map load_card (stretches_of cells.now)) }
 {
     let mut rest = cells;
     while !rest.is_empty() {
@@ -32,7 +32,7 @@ fn push_stretches(deck: &mut Deck, cells: &[Cell]) -> Result<(), DeckFault>
 /// Adds some cards.
 fn push_cards(deck: &mut Deck, cards: &[Card]) -> Result<(), DeckFault>
     ensures pushed { OnOk result (deck.new ≡ deck.old ++ cards.now) }
-    ensures full { IsErrOf result DeckFault.TooManyCards → LARGEST_DECK < length (deck.old ++ cards.now) }
+    ensures full { IsErrOf result DeckFault.TooManyCards → largest_deck < length (deck.old ++ cards.now) }
 {
     for card in cards {
         deck.push(Card(card.0))?;
@@ -44,23 +44,21 @@ fn push_cards(deck: &mut Deck, cards: &[Card]) -> Result<(), DeckFault>
 /// and a last one. It has 2,000 cards at most.
 #[tactic(auto, unfolding(crate::specs::Cards::loading_cards), using(crate::proofs::Whole::deck_loads))]
 pub fn object_deck(alloc: Global, program: &Program) -> Result<Deck, DeckFault>
-    requires loadable { CanBeLoaded program.now }
-    ensures deck { IfOk result (λ deck. deck ≡ loading_cards program.now.image.items program.now.start) }
-    ensures full { IsErrOf result DeckFault.TooManyCards → LARGEST_DECK < length (loading_cards program.now.image.items program.now.start) }
+    ensures deck { IfOk result (λ deck. deck ≡ loading_cards program.now.image program.now.start) }
+    ensures full { IsErrOf result DeckFault.TooManyCards → largest_deck < length (loading_cards program.now.image program.now.start) }
     ensures loads { IfOk result (Loads program.now) }
 {
     let mut deck = Deck::empty(alloc);
     deck.push(boot_card())?;
-    push_stretches(&mut deck, &program.image)?;
-    deck.push(start_card(program.start as u16))?;
+    push_stretches(&mut deck, program.image())?;
+    deck.push(start_card(program.start() as u16))?;
     Ok(deck)
 }
 
 /// The deck that runs a program over data cards: its loading cards and the data behind them.
 pub fn deck_to_run(alloc: Global, program: &Program, data: &[Card]) -> Result<Deck, DeckFault>
-    requires loadable { CanBeLoaded program.now }
-    ensures deck { IfOk result (λ deck. deck ≡ loading_cards program.now.image.items program.now.start ++ «data».now) }
-    ensures full { IsErrOf result DeckFault.TooManyCards → LARGEST_DECK < length (loading_cards program.now.image.items program.now.start ++ «data».now) }
+    ensures deck { IfOk result (λ deck. deck ≡ loading_cards program.now.image program.now.start ++ «data».now) }
+    ensures full { IsErrOf result DeckFault.TooManyCards → largest_deck < length (loading_cards program.now.image program.now.start ++ «data».now) }
 {
     let mut deck = object_deck(alloc, program)?;
     push_cards(&mut deck, data)?;

@@ -1,14 +1,15 @@
 //! The cards that load a program, one by one.
 
 ghost use Rattle.std.specs.Prelude.{◌≡◌, ◌+◌, ◌<◌, ◌≤◌, ◌++◌, true, length, map, All};
-ghost use Rattle.loader.specs.Stretches.{is_lawful};
+ghost use Rattle.core_store.specs.Storage.{largest_size};
+ghost use Rattle.cards.specs.Decks.{card_columns};
+ghost use Rattle.loader.specs.Stretches.{is_lawful, most_characters};
 ghost use Rattle.loader.specs.Cards.{boot_card, moving, load_card, start_card};
 
 use crate::columns::{Columns, INSTRUCTION_LENGTH};
 use crate::places::punch_places;
 use crate::stretches::MOST_CHARACTERS;
-use cards::{COLUMNS, Card};
-use core_store::LARGEST_SIZE;
+use cards::Card;
 use layout::Cell;
 
 /// What the boot card holds: it sets the marks that the cards behind it need, and reads the first
@@ -33,7 +34,7 @@ pub(crate) fn boot_card() -> Card
 
 /// Fills the next columns with the characters of a stretch.
 fn punch_characters(columns: &mut Columns, stretch: &[Cell])
-    requires { length columns.old + length stretch.now ≤ COLUMNS }
+    requires { length columns.old + length stretch.now ≤ card_columns }
     ensures punched { columns.new ≡ columns.old ++ map (λ c. c.code) stretch.now }
     ensures length { length columns.new ≡ length columns.old + length stretch.now }
 {
@@ -46,9 +47,9 @@ fn punch_characters(columns: &mut Columns, stretch: &[Cell])
 #[tactic(auto, unfolding(crate::specs::Cards::last_position))]
 fn punch_move(columns: &mut Columns, stretch: &[Cell])
     requires some { 0 < length stretch.now }
-    requires limit { length stretch.now ≤ MOST_CHARACTERS }
-    requires below { All (λ c. c.position < LARGEST_SIZE) stretch.now }
-    requires room { length columns.old + INSTRUCTION_LENGTH ≤ COLUMNS }
+    requires limit { length stretch.now ≤ most_characters }
+    requires below { All (λ c. c.position < largest_size) stretch.now }
+    requires room { length columns.old + INSTRUCTION_LENGTH ≤ card_columns }
     ensures punched { columns.new ≡ columns.old ++ moving stretch.now }
     ensures length { length columns.new ≡ length columns.old + INSTRUCTION_LENGTH }
 {
@@ -62,7 +63,7 @@ fn punch_move(columns: &mut Columns, stretch: &[Cell])
 pub(crate) fn load_card(stretch: &[Cell]) -> Card
     requires some { 0 < length stretch.now }
     requires lawful { is_lawful stretch.now ≡ true }
-    requires below { All (λ c. c.position < LARGEST_SIZE) stretch.now }
+    requires below { All (λ c. c.position < largest_size) stretch.now }
     ensures { result ≡ load_card stretch.now }
 {
     let mut columns = Columns::blank();
@@ -77,7 +78,7 @@ pub(crate) fn load_card(stretch: &[Cell]) -> Card
 /// The card that starts a program.
 #[tactic(auto, unfolding(crate::specs::Cards::start_card))]
 pub(crate) fn start_card(start: u16) -> Card
-    requires { start < LARGEST_SIZE }
+    requires { start < largest_size }
     ensures { result ≡ start_card start }
 {
     let mut columns = Columns::blank();

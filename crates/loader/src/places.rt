@@ -2,13 +2,13 @@
 
 ghost use Rattle.std.specs.Prelude.{◌≡◌, ◌+◌, ◌-◌, ◌*◌, ◌<◌, ◌≤◌, ◌∷◌, [], ◌++◌, true, length, position, replicate, codes, All, IfSome, MatchOption};
 ghost use Rattle.std.specs.List.{concat};
+ghost use Rattle.core_store.specs.Storage.{largest_size};
+ghost use Rattle.cards.specs.Decks.{card_columns};
 ghost use Rattle.loader.specs.Stretches.{marks_of, is_lawful};
 ghost use Rattle.loader.specs.Cards.{clearing, marking, filled_places, three, unused, instruction};
 
 use crate::columns::{Columns, INSTRUCTION_LENGTH};
 use crate::stretches::behind_first;
-use cards::COLUMNS;
-use core_store::LARGEST_SIZE;
 use layout::Cell;
 
 /// How many places for them a card has.
@@ -27,10 +27,10 @@ fn first_marked(cells: &[Cell]) -> Option<usize>
 
 /// The first marked position of some, and those behind it.
 fn next_mark(cells: &[Cell]) -> Option<(u16, &[Cell])>
-    requires { All (λ c. c.position < LARGEST_SIZE) cells.now }
+    requires { All (λ c. c.position < largest_size) cells.now }
     ensures mark { MatchOption result (marks_of cells.now ≡ []) (λ next. marks_of cells.now ≡ next.0 ∷ marks_of next.1.now) }
-    ensures below { IfSome result (λ next. next.0 < LARGEST_SIZE) }
-    ensures behind { IfSome result (λ next. All (λ c. c.position < LARGEST_SIZE) next.1.now) }
+    ensures below { IfSome result (λ next. next.0 < largest_size) }
+    ensures behind { IfSome result (λ next. All (λ c. c.position < largest_size) next.1.now) }
     ensures fewer { IfSome result (λ next. length next.1.now < length cells.now) }
 {
     let Some(index) = first_marked(cells) else {
@@ -42,11 +42,11 @@ fn next_mark(cells: &[Cell]) -> Option<(u16, &[Cell])>
 
 /// The first two marked positions of some, a single last one twice, and those behind them.
 fn next_pair(cells: &[Cell]) -> Option<(u16, u16, &[Cell])>
-    requires { All (λ c. c.position < LARGEST_SIZE) cells.now }
+    requires { All (λ c. c.position < largest_size) cells.now }
     ensures pair { MatchOption result (marks_of cells.now ≡ []) (λ next. marking (marks_of cells.now) ≡ instruction (codes ",") next.0 next.1 ∷ marking (marks_of next.2.now)) }
-    ensures first { IfSome result (λ next. next.0 < LARGEST_SIZE) }
-    ensures second { IfSome result (λ next. next.1 < LARGEST_SIZE) }
-    ensures behind { IfSome result (λ next. All (λ c. c.position < LARGEST_SIZE) next.2.now) }
+    ensures first { IfSome result (λ next. next.0 < largest_size) }
+    ensures second { IfSome result (λ next. next.1 < largest_size) }
+    ensures behind { IfSome result (λ next. All (λ c. c.position < largest_size) next.2.now) }
     ensures fewer { IfSome result (λ next. length next.2.now < length cells.now) }
 {
     let Some((first, behind)) = next_mark(cells) else {
@@ -60,8 +60,8 @@ fn next_pair(cells: &[Cell]) -> Option<(u16, u16, &[Cell])>
 
 /// Clears the mark of a first position that has none, and tells how many places that takes.
 fn punch_clearing(columns: &mut Columns, stretch: &[Cell]) -> usize
-    requires below { All (λ c. c.position < LARGEST_SIZE) stretch.now }
-    requires room { length columns.old + INSTRUCTION_LENGTH ≤ COLUMNS }
+    requires below { All (λ c. c.position < largest_size) stretch.now }
+    requires room { length columns.old + INSTRUCTION_LENGTH ≤ card_columns }
     ensures punched { columns.new ≡ columns.old ++ concat (clearing stretch.now) }
     ensures length { length columns.new ≡ length columns.old + INSTRUCTION_LENGTH * length (clearing stretch.now) }
     ensures count { result ≡ length (clearing stretch.now) }
@@ -79,8 +79,8 @@ fn punch_clearing(columns: &mut Columns, stretch: &[Cell]) -> usize
 
 /// Sets the marks of some positions, two in each place, and tells how many places that takes.
 fn punch_marking(columns: &mut Columns, cells: &[Cell]) -> usize
-    requires below { All (λ c. c.position < LARGEST_SIZE) cells.now }
-    requires room { length columns.old + INSTRUCTION_LENGTH * length (marking (marks_of cells.now)) ≤ COLUMNS }
+    requires below { All (λ c. c.position < largest_size) cells.now }
+    requires room { length columns.old + INSTRUCTION_LENGTH * length (marking (marks_of cells.now)) ≤ card_columns }
     ensures punched { columns.new ≡ columns.old ++ concat (marking (marks_of cells.now)) }
     ensures length { length columns.new ≡ length columns.old + INSTRUCTION_LENGTH * length (marking (marks_of cells.now)) }
     ensures count { result ≡ length (marking (marks_of cells.now)) }
@@ -98,7 +98,7 @@ fn punch_marking(columns: &mut Columns, cells: &[Cell]) -> usize
 /// Fills the places behind so many with what stands in an unused one.
 fn punch_unused(columns: &mut Columns, used: usize)
     requires used { used ≤ PLACES }
-    requires room { length columns.old + INSTRUCTION_LENGTH * (PLACES - used) ≤ COLUMNS }
+    requires room { length columns.old + INSTRUCTION_LENGTH * (PLACES - used) ≤ card_columns }
     ensures punched { columns.new ≡ columns.old ++ concat (replicate (PLACES - used) unused) }
     ensures length { length columns.new ≡ length columns.old + INSTRUCTION_LENGTH * (PLACES - used) }
 {
@@ -109,9 +109,9 @@ fn punch_unused(columns: &mut Columns, used: usize)
 
 /// Fills the three places of a stretch.
 pub(crate) fn punch_places(columns: &mut Columns, stretch: &[Cell])
-    requires below { All (λ c. c.position < LARGEST_SIZE) stretch.now }
+    requires below { All (λ c. c.position < largest_size) stretch.now }
     requires lawful { is_lawful stretch.now ≡ true }
-    requires room { length columns.old + INSTRUCTION_LENGTH * PLACES ≤ COLUMNS }
+    requires room { length columns.old + INSTRUCTION_LENGTH * PLACES ≤ card_columns }
     ensures punched { columns.new ≡ columns.old ++ three (filled_places stretch.now) }
     ensures length { length columns.new ≡ length columns.old + INSTRUCTION_LENGTH * PLACES }
 {

@@ -1,5 +1,5 @@
 -- whole runs of the machine
-use Rattle.std.specs.Prelude.{ℕ, zero, suc, ◌+◌, ◌-◌, ◌&&◌, ◌^◌, min, Bool, true, false, if◌then◌else◌, Result, Ok, Err, List, [], ◌∷◌, None, take}
+use Rattle.std.specs.Prelude.{ℕ, zero, suc, ◌≡◌, ◌<◌, ◌+◌, ◌-◌, ◌&&◌, ◌^◌, min, Bool, true, false, if◌then◌else◌, Result, Ok, Err, List, [], ◌∷◌, None, take}
 use Rattle.cards.specs.declared.decks.Card.{Card}
 use Rattle.core_store.specs.Storage.{Storage, blank_storage, put_codes, with_mark, positions_of}
 use Rattle.core_store.specs.declared.sizes.Size.{Size}
@@ -14,6 +14,8 @@ use Rattle.machine.specs.declared.parts.Event.TheVariants.{Next, Halt, Stop}
 use Rattle.units.specs.declared.printer.Line.{Line}
 use Rattle.machine.specs.declared.runs.Checkpoint.{Checkpoint}
 use Rattle.units.specs.declared.switches.Switches.{Switches}
+use Rattle.units.specs.Switches.{seven}
+use Rattle.units.specs.Units.{Makes}
 use Rattle.machine.specs.Effect.{Works, attempt}
 
 -- what a machine works on, and how it stands
@@ -61,7 +63,7 @@ loaded deck size switches = record {
       hopper = record { deck = deck; taken = 1 };
       punch = [];
       printer = record { lines = []; carriage = record { form = 1; line = 1; waiting = None; channel_12 = false } };
-      switches = switches;
+      switches = seven switches;
     };
   };
   standing = Running;
@@ -69,7 +71,7 @@ loaded deck size switches = record {
 
 -- a machine at a halt running again with new switches
 abbrev pub started : State → Switches → State
-started m switches = record m { works = record m.works { units = record m.works.units { switches = switches } }; standing = Running }
+started m switches = record m { works = record m.works { units = record m.works.units { switches = seven switches } }; standing = Running }
 
 -- a machine back at a checkpoint: what it has made since is taken away
 abbrev pub restored : State → Storage → Checkpoint → State
@@ -115,3 +117,12 @@ lines_of m = m.works.units.printer.lines
 -- a count that rises and stays at the greatest that 64 bits hold
 abbrev pub risen : ℕ → ℕ → ℕ
 risen ticks more = ticks + min more (2 ^ 64 - 1 - ticks)
+
+-- a run that was given up for want of memory: some instructions were done before the one that makes a card or a line, and
+-- the meter has ticked once for each of them
+pub record IsGivenUp (m : State) (limit old_ticks ticks : ℕ) : Type 0 where
+  pub done : ℕ
+  pub below : done < limit
+  pub attempted : attempts m done ≡ done
+  pub wanting : Makes (after m done).works.units (after m (done + 1)).works.units
+  pub meter : ticks ≡ risen old_ticks done

@@ -1,7 +1,7 @@
 -- how an instruction is read
-use Rattle.std.specs.Prelude.{ℕ, ◌+◌, ◌-◌, ◌<◌, ◌==◌, ◌||◌, nat_le, nat_lt, min, List, length, Bool, if◌then◌else◌, Option, Some, None, Result, Ok, unwrap_or, slice_index, codes}
+use Rattle.std.specs.Prelude.{ℕ, ◌≡◌, ◌≤◌, ◌⊎◌, ◌+◌, ◌-◌, ◌<◌, ◌==◌, ◌||◌, nat_le, nat_lt, min, List, length, Bool, true, false, if◌then◌else◌, Option, Some, None, Result, Ok, unwrap_or, slice_index, codes}
 use Rattle.std.specs.Option.{option_map, option_or}
-use Rattle.core_store.specs.Storage.{Storage, is_marked, code_at, least_mark, codes_from}
+use Rattle.core_store.specs.Storage.{Storage, IsLeastMark, is_marked, code_at, least_mark, codes_from}
 use Rattle.core_store.specs.Checked.{require, find_or, and_then}
 use Rattle.core_store.specs.declared.registers.Check.{Check}
 use Rattle.core_store.specs.declared.registers.Check.TheVariants.{Instruction}
@@ -31,6 +31,20 @@ word_length s i =
     (if is_glyph (code_at s i) (codes ",") then ending_in s i (min (unwrap_or (least_mark s (i + 1) 8) (i + 8) - i) 7)
     else option_map (λ end. end - i) (least_mark s (i + 1) 8))
     else None
+
+-- where an instruction ends: before the first mark among the eight positions after its own; one with a comma has seven
+-- characters at most, and exactly seven where no mark comes earlier
+abbrev pub EndsAt : Bool → Storage → ℕ → ℕ → Type 0
+EndsAt false s i count = IsLeastMark s (i + 1) 8 (i + count)
+EndsAt true s i count =
+    ((count < 7) × IsLeastMark s (i + 1) 8 (i + count))
+    ⊎ ((count ≡ 7) × ((p : ℕ) → i < p → p < i + 7 → is_marked s p ≡ false))
+
+-- an instruction of so many characters begins at i and ends inside the storage
+pub record IsInstruction (s : Storage) (i count : ℕ) : Type 0 where
+  pub begins : is_marked s i ≡ true
+  pub ends : EndsAt (is_glyph (code_at s i) (codes ",")) s i count
+  pub inside : i + count ≤ length s
 
 -- the characters of the instruction at i
 unfoldable pub word : Storage → ℕ → Option (List ℕ)

@@ -1,6 +1,7 @@
 //! The instruction cycle.
 
 ghost use Rattle.std.specs.Prelude.{◌≡◌, ◌+◌, ◌%◌, ◌<◌, ◌≤◌, ℕ, length, Ok, IfOk, IfErr, OnErr, OnOk};
+ghost use Rattle.core_store.specs.Storage.{largest_size};
 ghost use Rattle.machine.specs.Effect.{attempt, works_of, Fails, next_of};
 ghost use Rattle.units.specs.Units.{Makes};
 ghost use Rattle.machine.specs.Run.{step, attempts, risen, is_running, is_checked, is_halted, standing_after, event_of};
@@ -15,7 +16,7 @@ use units::{Fault, Units};
 
 /// The position after an instruction, modulo 16000.
 fn next_of(i: u16, count: u16) -> u16
-    requires { i + count ≤ LARGEST_SIZE }
+    requires { i + count ≤ largest_size }
     ensures { result ≡ next_of i count }
 {
     let next = i + count;
@@ -104,6 +105,7 @@ impl<C: Core> Parts<C> {
         ensures unchanged { OnErr result (self.new ≡ self.old) }
         ensures memory { OnErr result (Makes self.old.works.units (step self.old).works.units) }
         ensures meter { OnOk result (meter.new ≡ risen meter.old (attempts self.old 1)) }
+        ensures unticked { OnErr result (meter.new ≡ meter.old) }
     {
         if !self.is_running() {
             return Ok(());

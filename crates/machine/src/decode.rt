@@ -1,13 +1,13 @@
 //! Reading an instruction.
 
-ghost use Rattle.std.specs.Prelude.{◌≡◌, ◌+◌, ◌-◌, ◌<◌, ◌≤◌, ℕ, length, slice_index, unwrap_or, true, IfSome, IfOk};
-ghost use Rattle.core_store.specs.Storage.{codes_from, least_mark};
-ghost use Rattle.machine.specs.Word.{word_length, field_operation_of, other_operation_of, operation_of, has_field_form, has_form, modifier_of, addresses_in, operand_at, operands_of, decoded_of, WantsTwo, LooksInside};
+ghost use Rattle.std.specs.Prelude.{◌≡◌, ◌↔◌, ◌+◌, ◌-◌, ◌<◌, ◌≤◌, ℕ, length, slice_index, unwrap_or, true, Some, IfSome, IfOk};
+ghost use Rattle.core_store.specs.Storage.{Storage, codes_from, least_mark, largest_size};
+ghost use Rattle.machine.specs.Word.{word_length, field_operation_of, other_operation_of, operation_of, has_field_form, has_form, modifier_of, addresses_in, operand_at, operands_of, decoded_of, WantsTwo, LooksInside, IsInstruction};
 
 use crate::branches::{Condition, PositionTest};
 use addresses::operand;
 use bcd::Code;
-use core_store::{Check, Core, LARGEST_SIZE, Registers};
+use core_store::{Check, Core, Registers};
 use units::{CarriageOrder, Devices};
 
 /// What an instruction does at the fields of its two addresses, by its first character.
@@ -244,7 +244,7 @@ impl Operation {
 #[inline(always)]
 fn next_mark<C: Core>(core: &C, i: u16) -> u16
     requires within { i < length (C.cells core.now) }
-    requires below { i < LARGEST_SIZE }
+    requires below { i < largest_size }
     ensures mark { result ≡ unwrap_or (least_mark (C.cells core.now) (i + 1) 8) (i + 8) }
     ensures after { (i < result) × (result ≤ i + 8) }
 {
@@ -259,7 +259,7 @@ fn next_mark<C: Core>(core: &C, i: u16) -> u16
 #[tactic(auto, unfolding(crate::specs::Word::word_length))]
 pub fn word_length<C: Core>(core: &C, i: u16) -> Option<u16>
     requires within { i < length (C.cells core.now) }
-    requires below { i < LARGEST_SIZE }
+    requires below { i < largest_size }
     ensures length { result ≡ word_length (C.cells core.now) i }
     ensures within { IfSome result (λ count. (1 ≤ count) × (count ≤ 8) × (i + count ≤ length (C.cells core.now))) }
 {
@@ -285,7 +285,7 @@ pub fn word_length<C: Core>(core: &C, i: u16) -> Option<u16>
 #[inline(always)]
 fn character<C: Core>(core: &C, word: Word, place: u16) -> Code
     requires within { word.first + word.length ≤ length (C.cells core.now) }
-    requires below { word.first < LARGEST_SIZE }
+    requires below { word.first < largest_size }
     requires among { place < word.length }
     requires most { word.length ≤ 8 }
     ensures { result ≡ slice_index (codes_from (C.cells core.now) word.first word.length) place }
@@ -297,12 +297,12 @@ fn character<C: Core>(core: &C, word: Word, place: u16) -> Code
 #[inline(always)]
 fn operand_at<C: Core>(core: &C, word: Word, place: u16) -> Result<u16, Check>
     requires within { word.first + word.length ≤ length (C.cells core.now) }
-    requires below { word.first < LARGEST_SIZE }
+    requires below { word.first < largest_size }
     requires among { place + 3 ≤ word.length }
     requires most { word.length ≤ 8 }
     ensures position { result ≡ operand_at (C.cells core.now) (codes_from (C.cells core.now) word.first word.length) place }
     ensures inside { IfOk result (λ position. position < length (C.cells core.now)) }
-    ensures below { IfOk result (λ position. position < LARGEST_SIZE) }
+    ensures below { IfOk result (λ position. position < largest_size) }
 {
     operand(
         core,
@@ -322,13 +322,13 @@ fn operands_of<C: Core>(
     count: u16,
 ) -> Result<(u16, u16), Check>
     requires within { word.first + word.length ≤ length (C.cells core.now) }
-    requires below { word.first < LARGEST_SIZE }
+    requires below { word.first < largest_size }
     requires one { 0 < count → 4 ≤ word.length }
     requires two { 1 < count → 7 ≤ word.length }
     requires most { word.length ≤ 8 }
     ensures operands { result ≡ operands_of (C.cells core.now) count registers.now (codes_from (C.cells core.now) word.first word.length) }
     ensures inside { IfOk result (λ operands. 1 < count → operands.1 < length (C.cells core.now)) }
-    ensures below { IfOk result (λ operands. 1 < count → operands.1 < LARGEST_SIZE) }
+    ensures below { IfOk result (λ operands. 1 < count → operands.1 < largest_size) }
 {
     if count == 0 {
         return Ok((registers.a, registers.b));
@@ -348,10 +348,10 @@ pub fn decode<C: Core>(core: &C, registers: &Registers, word: Word) -> Result<De
     requires some { 1 ≤ word.length }
     requires most { word.length ≤ 8 }
     requires within { word.first + word.length ≤ length (C.cells core.now) }
-    requires below { word.first < LARGEST_SIZE }
+    requires below { word.first < largest_size }
     ensures decoded { result ≡ decoded_of (C.cells core.now) word.length registers.now (codes_from (C.cells core.now) word.first word.length) }
     ensures inside { IfOk result (λ decoded. LooksInside decoded.modifier decoded.b (length (C.cells core.now))) }
-    ensures below { IfOk result (λ decoded. LooksInside decoded.modifier decoded.b LARGEST_SIZE) }
+    ensures below { IfOk result (λ decoded. LooksInside decoded.modifier decoded.b largest_size) }
 {
     let Some(operation) = operation_of(character(core, word, 0)) else {
         return Err(Check::Instruction);
@@ -372,3 +372,10 @@ pub fn decode<C: Core>(core: &C, registers: &Registers, word: Word) -> Result<De
         modifier,
     })
 }
+
+/// The law of instructions: one that begins at a position goes up to before the first mark among
+/// the eight positions after it. One of a comma has seven characters at most, and needs no mark
+/// after the seventh.
+pub fn instructions_end_at_marks()
+    ensures { (s : Storage) (i count : ℕ) → (word_length s i ≡ Some count) ↔ IsInstruction s i count }
+{}

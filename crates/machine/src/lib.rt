@@ -16,6 +16,7 @@ mod parts;
 mod ranges;
 mod runs;
 
+pub use decode::instructions_end_at_marks;
 pub use meter::Meter;
 pub use parts::{Event, Parts, Standing};
 pub use runs::{Machine, Ran, runs_add, runs_only_add, stays_in_range};

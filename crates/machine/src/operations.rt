@@ -1,6 +1,7 @@
 //! What the operations do.
 
 ghost use Rattle.std.specs.Prelude.{◌≡◌, ◌≤◌, ◌<◌, ℕ, length, Ok, Err, IfOk, IfErr, OnErr, OnOk};
+ghost use Rattle.core_store.specs.Storage.{largest_size};
 ghost use Rattle.units.specs.declared.units.Units.{Units};
 ghost use Rattle.machine.specs.declared.decode.Operation.TheVariants.{OnFields, ClearStorage, StoreA, StoreB};
 ghost use Rattle.machine.specs.Effect.{effect, worked, ordered_by, Fails, works_of, branched, at, after_unit, after_halt, after_clear, after_branch, is_taken, looked_at, passed, passed_by};
@@ -9,7 +10,7 @@ ghost use Rattle.machine.specs.Word.{LooksInside};
 use crate::decode::{Decoded, FieldOperation, Modifier, Operation};
 use addresses::store;
 use arith::{add, compare, modify, subtract, zero_add, zero_subtract};
-use core_store::{Check, Core, LARGEST_SIZE, Registers, lowered};
+use core_store::{Check, Core, Registers, lowered};
 use moves::{
     clear_mark, clear_storage, digit, edit, load_field, move_field, set_mark, suppress, zone,
 };
@@ -113,7 +114,7 @@ fn looked_at(modifier: Modifier, registers: Registers) -> Registers
 
 /// The register B after a branch that is not taken.
 fn passed(modifier: Modifier, b: u16, old: u16) -> u16
-    requires { LooksInside modifier b LARGEST_SIZE }
+    requires { LooksInside modifier b largest_size }
     ensures { result ≡ passed modifier b old }
 {
     match modifier {
@@ -124,7 +125,7 @@ fn passed(modifier: Modifier, b: u16, old: u16) -> u16
 
 /// The registers after a branch that is not taken.
 fn passed_by(decoded: Decoded, next: u16, registers: Registers) -> Registers
-    requires { LooksInside decoded.modifier decoded.b LARGEST_SIZE }
+    requires { LooksInside decoded.modifier decoded.b largest_size }
     ensures { result ≡ passed_by decoded next registers }
 {
     Registers {
@@ -144,7 +145,7 @@ fn after_branch<C: Core>(
     next: u16,
 ) -> Registers
     requires inside { LooksInside decoded.modifier decoded.b (length (C.cells core.now)) }
-    requires below { LooksInside decoded.modifier decoded.b LARGEST_SIZE }
+    requires below { LooksInside decoded.modifier decoded.b largest_size }
     ensures { result ≡ after_branch decoded next (works_of (C.cells core.now) registers.now units.now) }
 {
     let looked_at = looked_at(decoded.modifier, *registers);
@@ -304,7 +305,7 @@ pub fn execute<C: Core>(
 ) -> Result<Course, Fault>
     requires size { 333 ≤ length (C.cells core.old) }
     requires inside { LooksInside decoded.modifier decoded.b (length (C.cells core.old)) }
-    requires below { LooksInside decoded.modifier decoded.b LARGEST_SIZE }
+    requires below { LooksInside decoded.modifier decoded.b largest_size }
     ensures done { IfOk result (λ course. effect decoded.operation decoded next (works_of (C.cells core.old) registers.old units.old) ≡ Ok (works_of (C.cells core.new) registers.new units.new, course)) }
     ensures refused { IfErr result (λ fault. Fails fault (works_of (C.cells core.old) registers.old units.old) (effect decoded.operation decoded next (works_of (C.cells core.old) registers.old units.old))) }
     ensures unchanged { OnErr result (works_of (C.cells core.new) registers.new units.new ≡ works_of (C.cells core.old) registers.old units.old) }

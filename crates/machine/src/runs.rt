@@ -7,7 +7,7 @@ ghost use Rattle.units.specs.declared.switches.Switches.{Switches};
 ghost use Rattle.core_store.specs.Storage.{blank_storage, put_codes, with_mark, positions_of};
 ghost use Rattle.units.specs.Listing.{IsRising};
 ghost use Rattle.units.specs.Units.{Makes};
-ghost use Rattle.machine.specs.Run.{first_card, State, step, after, attempts, executed, lines_of, risen, is_running, is_checked, is_halted, event_of, loaded, started, restored};
+ghost use Rattle.machine.specs.Run.{first_card, State, step, after, attempts, executed, lines_of, risen, is_running, is_checked, is_halted, event_of, loaded, started, restored, IsGivenUp};
 ghost use Rattle.machine.specs.Effect.{works_of};
 ghost use Rattle.machine.specs.Ranges.{IsInRange};
 
@@ -104,7 +104,7 @@ impl<C: Core> Machine<C> {
                 lines: Vec::new(alloc),
                 carriage: Carriage::at_the_top(),
             },
-            switches,
+            switches: switches.seven(),
         };
         let parts = Parts {
             core,
@@ -151,28 +151,30 @@ impl<C: Core> Machine<C> {
     }
 
     /// One instruction. Only one that punches or prints may fail for memory, and then nothing
-    /// changes.
+    /// changes, the meter neither.
     pub fn step(&mut self, meter: &mut Meter) -> Result<Event, AllocError>
         ensures machine { OnOk result (self.new ≡ step self.old) }
         ensures event { IfOk result (λ event. event ≡ event_of (step self.old).standing) }
         ensures meter { OnOk result (meter.new ≡ risen meter.old (attempts self.old 1)) }
         ensures unchanged { OnErr result (self.new ≡ self.old) }
         ensures memory { OnErr result (Makes self.old.works.units (step self.old).works.units) }
+        ensures unticked { OnErr result (meter.new ≡ meter.old) }
     {
         self.parts.step(meter)?;
         Ok(self.parts.standing.event())
     }
 
     /// Runs until the limit, a halt or a check. Every attempted instruction ticks the meter. Only
-    /// what punches or prints may fail for memory, and then the machine is as before the call.
+    /// what punches or prints may fail for memory, and then the machine is as before the call; the
+    /// instructions done until then have ticked.
     pub fn run(&mut self, limit: u32, meter: &mut Meter) -> Result<Ran, AllocError>
         ensures machine { OnOk result (self.new ≡ after self.old limit) }
         ensures meter { OnOk result (meter.new ≡ risen meter.old (attempts self.old limit)) }
         ensures executed { IfOk result (λ ran. ran.executed ≡ executed self.old limit) }
         ensures standing { IfOk result (λ ran. ran.standing ≡ (after self.old limit).standing) }
-
         ensures unchanged { OnErr result (self.new ≡ self.old) }
         ensures memory { OnErr result (Makes self.old.works.units (after self.old limit).works.units) }
+        ensures given_up { OnErr result (IsGivenUp self.old limit meter.old meter.new) }
     {
         let checkpoint = self.parts.checkpoint(&mut self.spare);
         for attempted in 0..limit {
@@ -193,7 +195,7 @@ impl<C: Core> Parts<C> {
     fn start(&mut self, switches: Switches)
         ensures { self.new ≡ started self.old switches }
     {
-        self.units.switches = switches;
+        self.units.switches = switches.seven();
         self.standing = Standing::Running;
     }
 

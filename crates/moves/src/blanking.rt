@@ -1,11 +1,11 @@
 //! Zeros and commas that become blank at the left of a field.
 
 ghost use Rattle.std.specs.Prelude.{◌≡◌, ◌+◌, ◌≤◌, ℕ, length, min};
-ghost use Rattle.core_store.specs.Storage.{codes_from, put_codes};
+ghost use Rattle.core_store.specs.Storage.{codes_from, put_codes, largest_size};
 ghost use Rattle.moves.specs.Blanked.{ends, leading, faded, blanked};
 
 use bcd::Code;
-use core_store::{Core, LARGEST_SIZE};
+use core_store::Core;
 
 /// What ends the blanking of zeros and commas.
 #[derive(Clone, Copy, Debug, PartialEq, Eq)]
@@ -47,7 +47,7 @@ fn faded(code: Code) -> Code
 pub fn blank_start<C: Core>(core: &mut C, first: u16, count: u16, limit: u16, stop: Stop)
     requires within { first + count ≤ length (C.cells core.old) }
     requires limit { limit ≤ count }
-    requires below { first + count ≤ LARGEST_SIZE }
+    requires below { first + count ≤ largest_size }
     ensures codes { C.cells core.new ≡ put_codes (C.cells core.old) first (blanked (min limit (leading (ends stop) (codes_from (C.cells core.old) first count))) (codes_from (C.cells core.old) first count)) }
     ensures size { length (C.cells core.new) ≡ length (C.cells core.old) }
 {

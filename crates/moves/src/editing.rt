@@ -1,21 +1,21 @@
 //! Data edited by a control field.
 
 ghost use Rattle.std.specs.Prelude.{◌≡◌, ◌+◌, ◌-◌, ◌<◌, ◌≤◌, ℕ, List, Bool, true, false, length, slice_index, OnOk, OnErr, IfErr, Ok, Err};
-ghost use Rattle.core_store.specs.Storage.{codes_ending, put_codes};
+ghost use Rattle.core_store.specs.Storage.{codes_ending, put_codes, largest_size};
 ghost use Rattle.moves.specs.Characters.{bare_units};
 ghost use Rattle.moves.specs.Edited.{edited, is_minus, is_place, is_sharing, field_edited, IsShown};
 
 use crate::blanking::{Stop, blank_start};
 use crate::filling::{fill, through_zero, wanted};
-use core_store::{Check, Core, LARGEST_SIZE, Registers, are_inside, cut_length, field_length};
+use core_store::{Check, Core, Registers, are_inside, cut_length, field_length};
 
 /// Whether two stretches of positions, which end at A and at B, have one in common.
 #[inline(always)]
 fn shares(a: u16, a_count: u16, b: u16, b_count: u16) -> bool
-    requires a { a < LARGEST_SIZE }
-    requires b { b < LARGEST_SIZE }
-    requires a_count { a_count ≤ LARGEST_SIZE }
-    requires b_count { b_count ≤ LARGEST_SIZE }
+    requires a { a < largest_size }
+    requires b { b < largest_size }
+    requires a_count { a_count ≤ largest_size }
+    requires b_count { b_count ≤ largest_size }
     ensures { result ≡ is_sharing a a_count b b_count }
 {
     a < b + a_count && b < a + b_count
@@ -29,7 +29,7 @@ fn fill_blanked<C: Core>(core: &mut C, a: u16, a_count: u16, b: u16, b_count: u1
     requires a_from { a_count ≤ a + 1 }
     requires b_from { b_count ≤ b + 1 }
     requires a_some { 1 ≤ a_count }
-    requires below { b < LARGEST_SIZE }
+    requires below { b < largest_size }
     requires apart { is_sharing a a_count b b_count ≡ false }
     ensures codes { C.cells core.new ≡ put_codes (C.cells core.old) (b + 1 - b_count) (edited (codes_ending (C.cells core.old) b b_count) (bare_units (codes_ending (C.cells core.old) a a_count)) (is_minus (codes_ending (C.cells core.old) a a_count))) }
     ensures size { length (C.cells core.new) ≡ length (C.cells core.old) }

@@ -1,13 +1,13 @@
 //! The digit places of a control field, and the data put into them.
 
 ghost use Rattle.std.specs.Prelude.{◌≡◌, ◌+◌, ◌-◌, ◌<◌, ◌≤◌, ℕ, false, length, codes, max, if◌then◌else◌};
-ghost use Rattle.core_store.specs.Storage.{codes_ending, put_codes};
+ghost use Rattle.core_store.specs.Storage.{codes_ending, put_codes, largest_size};
 ghost use Rattle.moves.specs.Characters.{is_any, bare_units, from_right};
 ghost use Rattle.moves.specs.Edited.{is_place, places, filled_code, filled, through_zero, is_minus, is_sharing};
 
 use crate::suppressing::bare_at;
 use bcd::Code;
-use core_store::{Core, LARGEST_SIZE, is_minus};
+use core_store::{Core, is_minus};
 
 /// Whether a character of a control is a digit place.
 #[inline(always)]
@@ -21,7 +21,7 @@ fn is_place(code: Code) -> bool
 /// One more where a character is a digit place.
 #[inline(always)]
 fn counted(places: u16, code: Code) -> u16
-    requires { places < LARGEST_SIZE }
+    requires { places < largest_size }
     ensures count { result ≡ (if is_place code then places + 1 else places) }
     ensures more { result ≤ places + 1 }
 {
@@ -33,10 +33,10 @@ fn counted(places: u16, code: Code) -> u16
 pub fn wanted<C: Core>(core: &C, b: u16, count: u16) -> u16
     requires within { b < length (C.cells core.now) }
     requires from { count ≤ b + 1 }
-    requires below { b < LARGEST_SIZE }
+    requires below { b < largest_size }
     ensures wanted { result ≡ max 1 (places (codes_ending (C.cells core.now) b count)) }
     ensures some { 1 ≤ result }
-    ensures limit { result ≤ LARGEST_SIZE }
+    ensures limit { result ≤ largest_size }
 {
     let mut places = 0;
     for i in 0..count {
@@ -109,7 +109,7 @@ pub fn fill<C: Core>(core: &mut C, a: u16, a_count: u16, b: u16, b_count: u16)
     requires a_from { a_count ≤ a + 1 }
     requires b_from { b_count ≤ b + 1 }
     requires a_some { 1 ≤ a_count }
-    requires below { b < LARGEST_SIZE }
+    requires below { b < largest_size }
     requires apart { is_sharing a a_count b b_count ≡ false }
     ensures codes { C.cells core.new ≡ put_codes (C.cells core.old) (b + 1 - b_count) (filled (codes_ending (C.cells core.old) b b_count) (bare_units (codes_ending (C.cells core.old) a a_count)) (is_minus (codes_ending (C.cells core.old) a a_count))) }
     ensures size { length (C.cells core.new) ≡ length (C.cells core.old) }

@@ -1,11 +1,11 @@
 //! Word marks set and cleared, and storage cleared.
 
 ghost use Rattle.std.specs.Prelude.{◌≡◌, ◌+◌, ◌-◌, ◌<◌, ◌≤◌, ℕ, length, replicate, true, false, slice_set, OnOk, OnErr, IfErr, Ok, Err};
-ghost use Rattle.core_store.specs.Storage.{put_cells, blank_cell};
+ghost use Rattle.core_store.specs.Storage.{put_cells, blank_cell, largest_size};
 ghost use Rattle.moves.specs.Marks.{marks_put, storage_cleared};
 
 use bcd::Code;
-use core_store::{Check, Core, LARGEST_SIZE, Registers, are_inside, lowered};
+use core_store::{Check, Core, Registers, are_inside, lowered};
 
 /// Sets word marks at A and B.
 #[tactic(auto, unfolding(crate::specs::Marks::marks_put))]
@@ -56,7 +56,7 @@ fn clear_cell<C: Core>(core: &mut C, position: u16)
 fn clear_cells<C: Core>(core: &mut C, first: u16, last: u16)
     requires order { first ≤ last }
     requires inside { last < length (C.cells core.old) }
-    requires below { last < LARGEST_SIZE }
+    requires below { last < largest_size }
     ensures { C.cells core.new ≡ put_cells (C.cells core.old) first (replicate (last + 1 - first) blank_cell) }
 {
     for position in (first..last + 1).rev() {

@@ -1,11 +1,11 @@
 //! A field moved.
 
 ghost use Rattle.std.specs.Prelude.{◌≡◌, ◌+◌, ◌-◌, ◌<◌, ◌≤◌, ◌&&◌, ℕ, Some, length, nat_le, IfSome, IsTrue, OnOk, OnErr, IfErr, Ok, Err};
-ghost use Rattle.core_store.specs.Storage.{Storage, put_codes};
+ghost use Rattle.core_store.specs.Storage.{Storage, put_codes, largest_size};
 ghost use Rattle.core_store.specs.declared.registers.Registers.{Registers};
 ghost use Rattle.moves.specs.Moved.{least_of, move_length, moved_codes, moved, IsMoved};
 
-use core_store::{Check, Core, LARGEST_SIZE, Registers, are_inside, field_length};
+use core_store::{Check, Core, Registers, are_inside, field_length};
 
 /// The smaller of two counts, where there is one at all.
 #[inline(always)]
@@ -28,8 +28,8 @@ const TOGETHER: u16 = 32;
 fn shared_length<C: Core>(core: &C, a: u16, b: u16) -> Option<u16>
     requires a_in { a < length (C.cells core.now) }
     requires b_in { b < length (C.cells core.now) }
-    requires a_below { a < LARGEST_SIZE }
-    requires b_below { b < LARGEST_SIZE }
+    requires a_below { a < largest_size }
+    requires b_below { b < largest_size }
     ensures length { IfSome result (λ count. move_length (C.cells core.now) a b ≡ Some count) }
 {
     let room = (a.min(b) + 1).min(TOGETHER);
@@ -50,8 +50,8 @@ fn shared_length<C: Core>(core: &C, a: u16, b: u16) -> Option<u16>
 fn move_length<C: Core>(core: &C, a: u16, b: u16) -> Option<u16>
     requires a_in { a < length (C.cells core.now) }
     requires b_in { b < length (C.cells core.now) }
-    requires a_below { a < LARGEST_SIZE }
-    requires b_below { b < LARGEST_SIZE }
+    requires a_below { a < largest_size }
+    requires b_below { b < largest_size }
     ensures { result ≡ move_length (C.cells core.now) a b }
 {
     match shared_length(core, a, b) {
@@ -63,8 +63,8 @@ fn move_length<C: Core>(core: &C, a: u16, b: u16) -> Option<u16>
 /// Whether so many characters that end at A and at B do not pass position 000.
 #[inline(always)]
 fn have_room(a: u16, b: u16, count: u16) -> bool
-    requires a { a < LARGEST_SIZE }
-    requires b { b < LARGEST_SIZE }
+    requires a { a < largest_size }
+    requires b { b < largest_size }
     ensures room { result ≡ (nat_le count (a + 1) && nat_le count (b + 1)) }
     ensures within { IsTrue result → (count ≤ a + 1) × (count ≤ b + 1) }
 {

@@ -1,7 +1,7 @@
 //! A field moved without its leading zeros.
 
 ghost use Rattle.std.specs.Prelude.{◌≡◌, ◌+◌, ◌-◌, ◌<◌, ◌≤◌, ◌==◌, ℕ, false, length, if◌then◌else◌, OnOk, OnErr, IfErr, Ok, Err};
-ghost use Rattle.core_store.specs.Storage.{code_at, codes_ending, put_codes};
+ghost use Rattle.core_store.specs.Storage.{code_at, codes_ending, put_codes, largest_size};
 ghost use Rattle.core_store.specs.Operands.{is_overlapping};
 ghost use Rattle.moves.specs.Characters.{bare, bare_units};
 ghost use Rattle.moves.specs.Suppressed.{zeros_suppressed, unmarked, suppressed};
@@ -9,7 +9,7 @@ ghost use Rattle.moves.specs.Suppressed.{zeros_suppressed, unmarked, suppressed}
 use crate::blanking::{Stop, blank_start};
 use crate::characters::bare;
 use bcd::Code;
-use core_store::{Check, Core, LARGEST_SIZE, Registers, are_inside, field_length, overlaps};
+use core_store::{Check, Core, Registers, are_inside, field_length, overlaps};
 
 /// The character at a place from the right, which at the units position is without zone.
 #[inline(always)]
@@ -27,7 +27,7 @@ pub fn bare_at<C: Core>(core: &C, position: u16, place: u16) -> Code
 fn clear_marks<C: Core>(core: &mut C, b: u16, count: u16)
     requires within { b < length (C.cells core.old) }
     requires from { count ≤ b + 1 }
-    requires below { b < LARGEST_SIZE }
+    requires below { b < largest_size }
     ensures marks { C.cells core.new ≡ unmarked (C.cells core.old) (b + 1 - count) count }
     ensures size { length (C.cells core.new) ≡ length (C.cells core.old) }
 {
@@ -43,7 +43,7 @@ fn copy_bare<C: Core>(core: &mut C, a: u16, b: u16, count: u16)
     requires b_in { b < length (C.cells core.old) }
     requires a_from { count ≤ a + 1 }
     requires b_from { count ≤ b + 1 }
-    requires below { b < LARGEST_SIZE }
+    requires below { b < largest_size }
     requires apart { is_overlapping a b count ≡ false }
     ensures codes { C.cells core.new ≡ put_codes (C.cells core.old) (b + 1 - count) (bare_units (codes_ending (C.cells core.old) a count)) }
     ensures size { length (C.cells core.new) ≡ length (C.cells core.old) }
@@ -61,7 +61,7 @@ fn move_suppressed<C: Core>(core: &mut C, a: u16, b: u16, count: u16)
     requires b_in { b < length (C.cells core.old) }
     requires a_from { count ≤ a + 1 }
     requires b_from { count ≤ b + 1 }
-    requires below { b < LARGEST_SIZE }
+    requires below { b < largest_size }
     requires apart { is_overlapping a b count ≡ false }
     ensures { C.cells core.new ≡ put_codes (unmarked (C.cells core.old) (b + 1 - count) count) (b + 1 - count) (suppressed (bare_units (codes_ending (C.cells core.old) a count))) }
 {

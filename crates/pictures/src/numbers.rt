@@ -5,6 +5,7 @@ ghost use Rattle.core_store.specs.declared.registers.Compared.{Compared};
 ghost use Rattle.machine.specs.declared.parts.Standing.{Standing};
 ghost use Rattle.units.specs.declared.carriage.Motion.{Motion};
 ghost use Rattle.units.specs.declared.switches.Switches.{Switches};
+ghost use Rattle.units.specs.Switches.{AreSeven};
 ghost use Rattle.pictures.specs.Columns.{truth, compare_number, waiting_number, check_number, standing_number};
 
 use bitflags::Flags;
@@ -19,15 +20,20 @@ pub fn switches_number(switches: Switches) -> u32
     switches.bits() as u32
 }
 
-/// The switches of a number, which fits a byte.
+/// The switches of a number: the sum of their bits, below 128.
 pub fn read_switches(number: u32) -> Option<Switches>
-    ensures all { (switches : Switches) → switches.0 < 256 → number ≡ switches.0 → result ≡ Some switches }
-    ensures only { IfSome result (λ switches. switches.0 ≡ number) }
+    ensures all { (switches : Switches) → AreSeven switches → number ≡ switches.0 → result ≡ Some switches }
+    ensures only { IfSome result (λ switches. (switches.0 ≡ number) × AreSeven switches) }
 {
     let Ok(bits) = u8::try_from(number) else {
         return None;
     };
-    Some(Switches::from_bits_retain(bits))
+    let switches = Switches::from_bits_retain(bits);
+    if switches.are_seven() {
+        Some(switches)
+    } else {
+        None
+    }
 }
 
 /// Whether something holds, as a number: 1 where it does, else 0.

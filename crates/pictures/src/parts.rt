@@ -3,7 +3,7 @@
 ghost use Rattle.std.specs.Prelude.{◌≡◌, ◌≤◌, Some, IfOk, IfSome};
 ghost use Rattle.core_store.specs.declared.registers.Registers.{Registers};
 ghost use Rattle.units.specs.declared.carriage.Carriage.{Carriage};
-ghost use Rattle.units.specs.declared.carriage.TheConstants.{LINES_OF_FORM};
+ghost use Rattle.units.specs.Carriages.{lines_of_form};
 ghost use Rattle.units.specs.declared.units.Units.{Units};
 ghost use Rattle.machine.specs.Ranges.{IsInRange, AreAddresses};
 ghost use Rattle.units.specs.Ranges.{HasRead};
@@ -92,7 +92,7 @@ fn read_registers(row: &PictureRow) -> Option<Registers>
 
 /// The carriage of a row, if there is one.
 fn read_carriage(row: &PictureRow) -> Option<Carriage>
-    ensures all { (c : Carriage) → c.line ≤ LINES_OF_FORM → HasCarriage row.now c → result ≡ Some c }
+    ensures all { (c : Carriage) → c.line ≤ lines_of_form → HasCarriage row.now c → result ≡ Some c }
     ensures only { IfSome result (λ c. HasCarriage row.now c) }
 {
     let Ok(line) = u8::try_from(row.line) else {
@@ -114,7 +114,7 @@ fn read_carriage(row: &PictureRow) -> Option<Carriage>
 
 /// The units of a row, if there are such.
 fn read_units(row: &PictureRow, media: Media) -> Option<Units>
-    ensures all { (u : Units) → HasRead u.hopper → u.printer.carriage.line ≤ LINES_OF_FORM → HasUnits row.now media u → result ≡ Some u }
+    ensures all { (u : Units) → HasRead u.hopper → u.printer.carriage.line ≤ lines_of_form → HasUnits row.now media u → result ≡ Some u }
     ensures only { IfSome result (λ u. HasUnits row.now media u) }
 {
     if row.cards as usize != media.cards.len() || row.lines as usize != media.lines.len() {

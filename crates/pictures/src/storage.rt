@@ -1,15 +1,14 @@
 //! Storage as bytes.
 
 ghost use Rattle.std.specs.Prelude.{◌≡◌, ◌≢◌, ◌+◌, ◌<◌, ℕ, Bool, length, slice_set, if◌then◌else◌, Some, IfOk, IfSome, IsSome, IsNone, IsTrue, ◌≤◌};
-ghost use Rattle.core_store.specs.Storage.{Storage, positions_of};
+ghost use Rattle.core_store.specs.Storage.{Storage, largest_size, positions_of};
 ghost use Rattle.core_store.specs.declared.sizes.Size.{Size};
-ghost use Rattle.core_store.specs.declared.TheConstants.{LARGEST_SIZE};
 ghost use Rattle.machine.specs.Ranges.{HasSize};
 ghost use Rattle.pictures.specs.declared.storage.Cell.{Cell};
 ghost use Rattle.pictures.specs.Columns.{storage_bytes, HoldsCharacters};
 
 use bcd::Code;
-use core_store::{Core, LARGEST_SIZE, Size};
+use core_store::{Core, Size};
 use std::alloc::{AllocError, Global};
 
 /// The byte of a position is this much greater where it is marked.
@@ -87,7 +86,7 @@ fn put_cell<C: Core>(core: &mut C, position: u16, cell: Cell)
 /// Writes the positions of these bytes, if each byte is a position's.
 fn put_cells<C: Core>(core: &mut C, bytes: &[u8]) -> bool
     requires size { length (C.cells core.old) ≡ length bytes.now }
-    requires limit { length bytes.now ≤ LARGEST_SIZE }
+    requires limit { length bytes.now ≤ largest_size }
     ensures all { (s : Storage) → HoldsCharacters s → bytes.now ≡ storage_bytes s → IsTrue result }
     ensures only { IsTrue result → (storage_bytes (C.cells core.new) ≡ bytes.now) × HoldsCharacters (C.cells core.new) }
 {

@@ -5,13 +5,16 @@ use Rattle.addresses.specs.declared.tagged.IndexLocation.TheVariants.{First, Sec
 use Rattle.statements.specs.Characters.{run, begins, begins_with_letter, number_of}
 use Rattle.statements.specs.Names.{name_run, name_of}
 use Rattle.statements.specs.declared.characters.Class.TheVariants.{Digit}
-use Rattle.statements.specs.declared.expressions.TheConstants.{MOST_DIGITS}
 use Rattle.statements.specs.declared.expressions.Base.{Base}
 use Rattle.statements.specs.declared.expressions.Base.TheVariants.{Number, Name}
 use Rattle.statements.specs.declared.expressions.Adjustment.{Adjustment}
 use Rattle.statements.specs.declared.expressions.Adjustment.TheVariants.{Nothing, Plus, Minus}
 use Rattle.statements.specs.declared.expressions.Expression.{Expression}
 use Rattle.statements.specs.declared.expressions.Address.{Address}
+
+-- the most digits of a number
+abbrev pub most_digits : ℕ
+most_digits = 5
 
 infixl 10 ◌>>=◌
 abbrev pub ◌>>=◌ : {A B : Type 0} → Option A → (A → Option B) → Option B
@@ -24,7 +27,7 @@ digit_run text = run Digit text
 unfoldable pub number : List ℕ → Option (ℕ × ℕ)
 number text =
     if digit_run text == 0 then None
-    else (if nat_lt MOST_DIGITS (digit_run text) then None
+    else (if nat_lt most_digits (digit_run text) then None
     else Some (number_of (take (digit_run text) text), digit_run text))
 
 -- one to five digits of a number that isn't 0

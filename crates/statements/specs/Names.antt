@@ -3,7 +3,10 @@ use Rattle.std.specs.Prelude.{ℕ, ◌==◌, nat_le, Bool, not, ◌&&◌, ◌||�
 use Rattle.statements.specs.Characters.{run, begins, begins_with_letter, padded}
 use Rattle.statements.specs.declared.characters.Class.TheVariants.{LetterOrDigit}
 use Rattle.statements.specs.declared.names.Name.{Name}
-use Rattle.statements.specs.declared.names.TheConstants.{LONGEST_NAME}
+
+-- the most letters and digits of a name
+abbrev pub longest_name : ℕ
+longest_name = 6
 
 -- how many letters and digits a text begins with
 abbrev pub name_run : List ℕ → ℕ
@@ -15,8 +18,8 @@ is_index_name word = (length word == 2) && (begins (codes "X1") word || (begins 
 
 -- one to six letters and digits, a letter first
 abbrev pub is_name : List ℕ → Bool
-is_name word = begins_with_letter word && ((name_run word == length word) && (nat_le (length word) LONGEST_NAME && not (is_index_name word)))
+is_name word = begins_with_letter word && ((name_run word == length word) && (nat_le (length word) longest_name && not (is_index_name word)))
 
 -- the name that a word is, if it is one
 unfoldable pub name_of : List ℕ → Option Name
-name_of word = if is_name word then Some (record { characters = padded LONGEST_NAME word }) else None
+name_of word = if is_name word then Some (record { characters = padded longest_name word }) else None

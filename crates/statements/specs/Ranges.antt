@@ -1,6 +1,5 @@
 -- how great the numbers of a statement may be
 use Rattle.std.specs.Prelude.{ℕ, ◌<◌, ◌≤◌, List, length, IfSome}
-use Rattle.statements.specs.declared.expressions.TheConstants.{NUMBER_LIMIT}
 use Rattle.statements.specs.declared.expressions.Base.{Base}
 use Rattle.statements.specs.declared.expressions.Base.TheVariants.{Number, Name}
 use Rattle.statements.specs.declared.expressions.Adjustment.{Adjustment}
@@ -8,7 +7,6 @@ use Rattle.statements.specs.declared.expressions.Adjustment.TheVariants.{Nothing
 use Rattle.statements.specs.declared.expressions.Expression.{Expression}
 use Rattle.statements.specs.declared.constants.Constant.{Constant}
 use Rattle.statements.specs.declared.constants.Constant.TheVariants.{Characters, Blanks}
-use Rattle.statements.specs.declared.texts.TheConstants.{LONGEST_TEXT}
 use Rattle.statements.specs.declared.operands.Operand.{Operand}
 use Rattle.statements.specs.declared.operands.Operand.TheVariants.{Address, Literal}
 use Rattle.statements.specs.declared.operands.Operands.{Operands}
@@ -16,23 +14,31 @@ use Rattle.statements.specs.declared.operations.Instruction.{Instruction}
 use Rattle.statements.specs.declared.reading.Statement.{Statement}
 use Rattle.statements.specs.declared.reading.Statement.TheVariants as statement
 
+-- the longest text: as long as the operand field, columns 21 to 72
+abbrev pub longest_text : ℕ
+longest_text = 52
+
+-- numbers have at most five digits, so each is below this one
+abbrev pub number_limit : ℕ
+number_limit = 100000
+
 abbrev pub IsBaseInRange : Base → Type 0
-IsBaseInRange (Number n) = n < NUMBER_LIMIT
+IsBaseInRange (Number n) = n < number_limit
 IsBaseInRange (Name name) = Unit {0}
 
 abbrev pub IsAdjustmentInRange : Adjustment → Type 0
 IsAdjustmentInRange Nothing = Unit {0}
-IsAdjustmentInRange (Plus n) = n < NUMBER_LIMIT
-IsAdjustmentInRange (Minus n) = n < NUMBER_LIMIT
+IsAdjustmentInRange (Plus n) = n < number_limit
+IsAdjustmentInRange (Minus n) = n < number_limit
 
 abbrev pub IsExpressionInRange : Expression → Type 0
 IsExpressionInRange expression = IsBaseInRange expression.base × IsAdjustmentInRange expression.adjustment
 
 abbrev pub IsTextInRange : List ℕ → Type 0
-IsTextInRange text = (0 < length text) × (length text ≤ LONGEST_TEXT)
+IsTextInRange text = (0 < length text) × (length text ≤ longest_text)
 
 abbrev pub IsPositiveInRange : ℕ → Type 0
-IsPositiveInRange n = (0 < n) × (n < NUMBER_LIMIT)
+IsPositiveInRange n = (0 < n) × (n < number_limit)
 
 abbrev pub IsConstantInRange : Constant → Type 0
 IsConstantInRange (Characters text) = IsTextInRange text
@@ -56,5 +62,5 @@ IsStatementInRange (statement.Origin expression) = IsExpressionInRange expressio
 IsStatementInRange (statement.Equate label expression) = IsExpressionInRange expression
 IsStatementInRange (statement.Constant label marked constant) = IsConstantInRange constant
 IsStatementInRange (statement.Area label positions) = IsPositiveInRange positions
-IsStatementInRange (statement.End start) = IfSome start IsExpressionInRange
+IsStatementInRange (statement.End start labelled) = IfSome start IsExpressionInRange
 IsStatementInRange (statement.Instruction label instruction) = IsInstructionInRange instruction

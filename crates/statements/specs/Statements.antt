@@ -16,9 +16,12 @@ use Rattle.statements.specs.declared.faults.StatementFault.{StatementFault}
 use Rattle.statements.specs.declared.faults.StatementFault.TheVariants as fault
 use Rattle.statements.specs.declared.operations.Operation.{Operation}
 use Rattle.statements.specs.declared.operations.Operation.TheVariants as operation
-use Rattle.statements.specs.declared.operations.TheConstants.{LONGEST_OPERATION}
 use Rattle.statements.specs.declared.reading.Statement.{Statement}
 use Rattle.statements.specs.declared.reading.Statement.TheVariants as statement
+
+-- the columns of the operation field, 16 to 20
+abbrev pub operation_columns : ℕ
+operation_columns = 5
 
 -- ---- the fields of a card
 
@@ -51,7 +54,7 @@ is_broken field = not (list_all is_blank (drop (word_run field) field))
 
 -- the operation that the word in an operation field names
 unfoldable pub operation_in : List ℕ → Option Operation
-operation_in field = operation_named (padded LONGEST_OPERATION (word field))
+operation_in field = operation_named (padded operation_columns (word field))
 
 -- the operation of a card, also of one with another fault than an unknown operation
 unfoldable pub operation_of : Card → Option Operation
@@ -79,6 +82,10 @@ may_label field = if word_run field == 0 then Ok None else (do
   name ← must_label field
   Ok (Some name))
 
+-- whether a card has a label
+abbrev pub is_labelled : List ℕ → Bool
+is_labelled field = not (word_run field == 0)
+
 -- a statement of a card that must not have a label
 unfoldable pub unlabelled : List ℕ → Statement → Result Statement StatementFault
 unlabelled field statement = if word_run field == 0 then Ok statement else Err fault.Label
@@ -104,7 +111,8 @@ start field = if is_ended field then Some None else option_map Some (whole field
 
 -- ---- statements
 
--- an operand field of another form is told before a wrong label
+-- an operand field of another form is told before a wrong label; whether an END may have its label is judged with the
+-- whole source
 unfoldable pub statement_of : Operation → List ℕ → List ℕ → Result Statement StatementFault
 statement_of operation.Job label field = unlabelled label statement.Job
 statement_of operation.Control label field = do
@@ -131,7 +139,7 @@ statement_of operation.Area label field = do
   Ok (statement.Area name positions)
 statement_of operation.End label field = do
   start ← or_fault fault.Operand (start field)
-  unlabelled label (statement.End start)
+  Ok (statement.End start (is_labelled label))
 statement_of (operation.Instruction mnemonic) label field = do
   instruction ← or_fault fault.Operand (instruction mnemonic field)
   name ← may_label label

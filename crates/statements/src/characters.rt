@@ -1,9 +1,9 @@
 //! The characters of a field, and what a field begins with.
 
 ghost use Rattle.std.specs.Prelude.{◌≡◌, ◌<◌, ◌≤◌, ◌^◌, length, IsTrue};
+ghost use Rattle.statements.specs.Expressions.{most_digits};
 ghost use Rattle.statements.specs.Characters.{is_of, run, begins, begins_with_letter, is_between, is_blank, is_ended, number_of, digit_value, padded};
 
-use crate::expressions::MOST_DIGITS;
 use bcd::Code;
 
 /// Characters that may follow each other in a text.
@@ -110,7 +110,7 @@ pub fn digit_value(code: Code) -> u8
 
 /// The number that some digits spell, the highest first.
 pub fn number_of(digits: &[Code]) -> u32
-    requires { length digits.now ≤ MOST_DIGITS }
+    requires { length digits.now ≤ most_digits }
     ensures number { result ≡ number_of digits.now }
     ensures below { result < 10 ^ length digits.now }
 {

@@ -2,12 +2,12 @@
 
 ghost use Rattle.std.specs.Prelude.{◌≡◌, length};
 ghost use Rattle.std.specs.List.{list_all};
+ghost use Rattle.statements.specs.Ranges.{longest_text};
 ghost use Rattle.statements.specs.Characters.{is_blank};
-ghost use Rattle.statements.specs.Statements.{label_field, operation_field, operand_field, is_comment, is_broken, operation_in, operation_of};
+ghost use Rattle.statements.specs.Statements.{label_field, operation_field, operand_field, is_comment, is_broken, operation_in, operation_of, operation_columns};
 
 use crate::characters::{Class, begins, is_blank, padded};
 use crate::operations::{LONGEST_OPERATION, Operation, operation_named};
-use crate::texts::LONGEST_TEXT;
 use bcd::Code;
 use cards::Card;
 
@@ -22,7 +22,7 @@ pub fn label_field(card: &Card) -> &[Code]
 /// The columns of the operation, 16 to 20.
 pub fn operation_field(card: &Card) -> &[Code]
     ensures field { result.now ≡ operation_field card.now }
-    ensures length { length result.now ≡ LONGEST_OPERATION }
+    ensures length { length result.now ≡ operation_columns }
 {
     let columns = &card.0[..];
     &columns[15..20]
@@ -31,7 +31,7 @@ pub fn operation_field(card: &Card) -> &[Code]
 /// The columns of the operands, 21 to 72.
 pub fn operand_field(card: &Card) -> &[Code]
     ensures field { result.now ≡ operand_field card.now }
-    ensures length { length result.now ≡ LONGEST_TEXT }
+    ensures length { length result.now ≡ longest_text }
 {
     let columns = &card.0[..];
     &columns[20..72]
@@ -63,7 +63,7 @@ pub fn is_broken(field: &[Code]) -> bool
 /// The operation that the word in an operation field names.
 #[tactic(auto, unfolding(crate::specs::Statements::operation_in))]
 pub fn operation_in(field: &[Code]) -> Option<Operation>
-    requires { length field.now ≡ LONGEST_OPERATION }
+    requires { length field.now ≡ operation_columns }
     ensures { result ≡ operation_in field.now }
 {
     let word: [Code; LONGEST_OPERATION] = padded(&field[..Class::Filled.run(field)]);

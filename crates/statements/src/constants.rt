@@ -4,10 +4,10 @@
 
 ghost use Rattle.std.specs.Prelude.{◌≡◌, ◌<◌, ◌≤◌, length, IfSome};
 ghost use Rattle.statements.specs.Constants.{quoted_run, quoted, sign_zone, zoned, signed, literal, constant, constant_length};
-ghost use Rattle.statements.specs.Ranges.{IsTextInRange, IsConstantInRange};
+ghost use Rattle.statements.specs.Ranges.{IsTextInRange, IsConstantInRange, longest_text};
 
 use crate::characters::{Class, begins, digit_value};
-use crate::expressions::{NUMBER_LIMIT, read_positive, signed_run};
+use crate::expressions::{read_positive, signed_run};
 use crate::texts::{LONGEST_TEXT, Text};
 use addresses::digit_under;
 use bcd::{Code, Zone};
@@ -49,7 +49,7 @@ fn quoted_run(text: &[Code]) -> usize
 /// One or more characters between two `@`.
 #[tactic(auto, unfolding(crate::specs::Constants::quoted))]
 fn read_quoted(text: &[Code]) -> Option<(Text, usize)>
-    requires { length text.now ≤ LONGEST_TEXT }
+    requires { length text.now ≤ longest_text }
     ensures text { result ≡ quoted text.now }
     ensures range { IfSome result (λ found. IsTextInRange found.0) }
     ensures within { IfSome result (λ found. found.1 ≤ length text.now) }
@@ -81,7 +81,7 @@ fn sign_zone(text: &[Code]) -> Zone
 /// Digits, the last of them under a zone.
 fn zoned(zone: Zone, digits: &[Code]) -> Text
     requires some { 0 < length digits.now }
-    requires limit { length digits.now ≤ LONGEST_TEXT }
+    requires limit { length digits.now ≤ longest_text }
     ensures text { result ≡ zoned zone digits.now }
     ensures length { length result ≡ length digits.now }
 {
@@ -96,7 +96,7 @@ fn zoned(zone: Zone, digits: &[Code]) -> Text
 /// A sign and one or more digits.
 #[tactic(auto, unfolding(crate::specs::Constants::signed))]
 fn read_signed(text: &[Code]) -> Option<(Text, usize)>
-    requires { length text.now ≤ LONGEST_TEXT }
+    requires { length text.now ≤ longest_text }
     ensures text { result ≡ signed text.now }
     ensures range { IfSome result (λ found. IsTextInRange found.0) }
     ensures within { IfSome result (λ found. found.1 ≤ length text.now) }
@@ -112,7 +112,7 @@ fn read_signed(text: &[Code]) -> Option<(Text, usize)>
 /// What stands for the address of a field: its characters.
 #[tactic(auto, unfolding(crate::specs::Constants::literal))]
 pub fn read_literal(text: &[Code]) -> Option<(Text, usize)>
-    requires { length text.now ≤ LONGEST_TEXT }
+    requires { length text.now ≤ longest_text }
     ensures text { result ≡ literal text.now }
     ensures range { IfSome result (λ found. IsTextInRange found.0) }
     ensures within { IfSome result (λ found. found.1 ≤ length text.now) }
@@ -127,7 +127,7 @@ pub fn read_literal(text: &[Code]) -> Option<(Text, usize)>
 /// between two `@`.
 #[tactic(auto, unfolding(crate::specs::Constants::constant))]
 pub fn read_constant(text: &[Code]) -> Option<(Constant, usize)>
-    requires { length text.now ≤ LONGEST_TEXT }
+    requires { length text.now ≤ longest_text }
     ensures constant { result ≡ constant text.now }
     ensures range { IfSome result (λ found. IsConstantInRange found.0) }
     ensures within { IfSome result (λ found. found.1 ≤ length text.now) }

@@ -3,7 +3,7 @@
 //! Each reader answers what it read and how many characters that takes.
 
 ghost use Rattle.std.specs.Prelude.{◌≡◌, ◌<◌, ◌≤◌, length, IfSome};
-ghost use Rattle.statements.specs.Ranges.{IsBaseInRange, IsAdjustmentInRange, IsExpressionInRange, IsPositiveInRange};
+ghost use Rattle.statements.specs.Ranges.{IsBaseInRange, IsAdjustmentInRange, IsExpressionInRange, IsPositiveInRange, number_limit};
 ghost use Rattle.statements.specs.Expressions.{number, adjusted, positive, signed_run, base, adjustment, index, expression, address};
 
 use crate::characters::{Class, begins, begins_with_letter, number_of};
@@ -59,7 +59,7 @@ pub struct Address {
 #[tactic(auto, unfolding(crate::specs::Expressions::number))]
 pub fn read_number(text: &[Code]) -> Option<(u32, usize)>
     ensures number { result ≡ number text.now }
-    ensures below { IfSome result (λ found. found.0 < NUMBER_LIMIT) }
+    ensures below { IfSome result (λ found. found.0 < number_limit) }
     ensures within { IfSome result (λ found. found.1 ≤ length text.now) }
 {
     let count = Class::Digit.run(text);
@@ -120,7 +120,7 @@ fn read_base(text: &[Code]) -> Option<(Base, usize)>
 
 /// A number as it is added or taken away.
 fn adjusted(plus: bool, number: u32) -> Adjustment
-    requires { number < NUMBER_LIMIT }
+    requires { number < number_limit }
     ensures adjustment { result ≡ adjusted plus number }
     ensures range { IsAdjustmentInRange result }
 {

@@ -1,15 +1,14 @@
 //! Laws of numbers, of the tables and of the forms.
 
 ghost use Rattle.std.specs.Prelude.{◌≡◌, ◌<◌, ◌≤◌, ◌^◌, ◌++◌, ℕ, List, Some, true, false};
-ghost use Rattle.statements.specs.Expressions.{digit_run, number};
-ghost use Rattle.statements.specs.declared.expressions.TheConstants.{MOST_DIGITS};
+ghost use Rattle.statements.specs.Expressions.{digit_run, most_digits, number};
 ghost use Rattle.statements.specs.Laws.{IsOneOperation, digits_of, fits};
 ghost use Rattle.statements.specs.declared.forms.Form.TheVariants.{Empty, One, Two};
 ghost use Rattle.statements.specs.declared.forms.Kind.{Kind};
 
 /// The law of numbers: what is spelled in one to five digits is read, where no digit follows.
 pub fn a_number_is_read()
-    ensures { (count n : ℕ) (rest : List ℕ) → 0 < count → count ≤ MOST_DIGITS → n < 10 ^ count →
+    ensures { (count n : ℕ) (rest : List ℕ) → 0 < count → count ≤ most_digits → n < 10 ^ count →
         digit_run rest ≡ 0 → number (digits_of count n ++ rest) ≡ Some (n, count) }
 {}
 

@@ -2,13 +2,13 @@
 
 ghost use Rattle.std.specs.Prelude.{◌≡◌, ◌≤◌, length, IfSome};
 ghost use Rattle.statements.specs.Operands.{begins_literal, operand, next_operand, is_among, is_modifier, modifier, next_modifier, ended, with_modifier, operands};
-ghost use Rattle.statements.specs.Ranges.{IsOperandInRange, AreOperandsInRange};
+ghost use Rattle.statements.specs.Ranges.{IsOperandInRange, AreOperandsInRange, longest_text};
 
 use crate::characters::{begins, is_blank, is_ended};
 use crate::constants::read_literal;
 use crate::expressions::{Address, read_address};
 use crate::forms::{Form, Kind, Modifiers};
-use crate::texts::{LONGEST_TEXT, Text};
+use crate::texts::Text;
 use bcd::Code;
 
 /// What stands in an operand field for the address of an instruction.
@@ -41,7 +41,7 @@ fn begins_literal(text: &[Code]) -> bool
 /// An operand of a kind, and how many characters it takes.
 #[tactic(auto, unfolding(crate::specs::Operands::operand))]
 fn read_operand(kind: Kind, text: &[Code]) -> Option<(Operand, usize)>
-    requires { length text.now ≤ LONGEST_TEXT }
+    requires { length text.now ≤ longest_text }
     ensures operand { result ≡ operand kind text.now }
     ensures range { IfSome result (λ found. IsOperandInRange found.0) }
     ensures within { IfSome result (λ found. found.1 ≤ length text.now) }
@@ -57,7 +57,7 @@ fn read_operand(kind: Kind, text: &[Code]) -> Option<(Operand, usize)>
 /// The same behind a comma.
 #[tactic(auto, unfolding(crate::specs::Operands::next_operand))]
 fn read_next_operand(kind: Kind, text: &[Code]) -> Option<(Operand, usize)>
-    requires { length text.now ≤ LONGEST_TEXT }
+    requires { length text.now ≤ longest_text }
     ensures operand { result ≡ next_operand kind text.now }
     ensures range { IfSome result (λ found. IsOperandInRange found.0) }
     ensures within { IfSome result (λ found. found.1 ≤ length text.now) }
@@ -150,7 +150,7 @@ impl Form {
     /// The whole field in this form.
     #[tactic(auto, unfolding(crate::specs::Operands::operands))]
     pub fn read(self, text: &[Code]) -> Option<Operands>
-        requires { length text.now ≤ LONGEST_TEXT }
+        requires { length text.now ≤ longest_text }
         ensures operands { result ≡ operands self text.now }
         ensures range { IfSome result (λ found. AreOperandsInRange found) }
     {

@@ -4,12 +4,11 @@
 ghost use Rattle.std.specs.Prelude.{◌≡◌, ◌≤◌, length, IfSome, option_map};
 ghost use Rattle.statements.specs.Characters.{begins};
 ghost use Rattle.statements.specs.Mnemonics.{orders, mnemonics, entry, operation_named, code_of, operands_if, operands_in, instruction, or_else, present, instruction_length};
-ghost use Rattle.statements.specs.Ranges.{AreOperandsInRange, IsInstructionInRange};
+ghost use Rattle.statements.specs.Ranges.{AreOperandsInRange, IsInstructionInRange, longest_text};
 
 use crate::characters::begins;
 use crate::forms::{Form, Kind, Modifiers};
 use crate::operands::{Operand, Operands};
-use crate::texts::LONGEST_TEXT;
 use bcd::Code;
 
 /// How many columns the operation field has.
@@ -311,7 +310,7 @@ fn last(read: Option<Code>, fixed: Option<u8>) -> Option<Code>
 
 /// What an operand field holds in a form, where there is one.
 fn operands_if(form: Option<Form>, text: &[Code]) -> Option<Operands>
-    requires { length text.now ≤ LONGEST_TEXT }
+    requires { length text.now ≤ longest_text }
     ensures operands { result ≡ operands_if form text.now }
     ensures range { IfSome result (λ found. AreOperandsInRange found) }
 {
@@ -322,7 +321,7 @@ impl Forms {
     /// What an operand field holds, in the first form that it has.
     #[tactic(auto, unfolding(crate::specs::Mnemonics::operands_in))]
     fn read(&self, text: &[Code]) -> Option<Operands>
-        requires { length text.now ≤ LONGEST_TEXT }
+        requires { length text.now ≤ longest_text }
         ensures operands { result ≡ operands_in self.now text.now }
         ensures range { IfSome result (λ found. AreOperandsInRange found) }
     {
@@ -340,7 +339,7 @@ impl Mnemonic {
     /// The instruction with a whole operand field.
     #[tactic(auto, unfolding(crate::specs::Mnemonics::instruction))]
     pub fn instruction(&self, text: &[Code]) -> Option<Instruction>
-        requires { length text.now ≤ LONGEST_TEXT }
+        requires { length text.now ≤ longest_text }
         ensures instruction { result ≡ instruction self.now text.now }
         ensures range { IfSome result (λ found. IsInstructionInRange found) }
     {

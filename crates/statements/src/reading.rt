@@ -4,7 +4,7 @@ ghost use Rattle.std.specs.Prelude.{◌≡◌, ◌≤◌, length, IfSome, IfOk, 
 ghost use Rattle.statements.specs.Expressions.{positive, expression};
 ghost use Rattle.statements.specs.Constants.{constant};
 ghost use Rattle.statements.specs.Statements.{must_label, may_label, is_broken, label_field, operation_field, unlabelled, whole, size, start, statement_of, statement_on};
-ghost use Rattle.statements.specs.Ranges.{IsExpressionInRange, IsConstantInRange, IsPositiveInRange, IsStatementInRange};
+ghost use Rattle.statements.specs.Ranges.{IsExpressionInRange, IsConstantInRange, IsPositiveInRange, IsStatementInRange, longest_text};
 
 use crate::characters::{Class, begins, is_ended};
 use crate::columns::{
@@ -15,7 +15,6 @@ use crate::expressions::{Expression, read_expression, read_positive};
 use crate::faults::StatementFault;
 use crate::names::{Name, name_of};
 use crate::operations::{Instruction, Mnemonic, Operation};
-use crate::texts::LONGEST_TEXT;
 use bcd::Code;
 use cards::Card;
 use core_store::Size;
@@ -47,8 +46,12 @@ pub enum Statement {
         label: Option<Name>,
         positions: u32,
     },
-    /// The end of the source, and where its program starts.
-    End(Option<Expression>),
+    /// The end of the source, and where its program starts. It must not be labelled, but an `END`
+    /// without a start is a fault of its operands first, and only the whole source shows that.
+    End {
+        start: Option<Expression>,
+        labelled: bool,
+    },
     /// An instruction.
     Instruction {
         label: Option<Name>,
@@ -115,7 +118,7 @@ fn whole_expression(field: &[Code]) -> Option<Expression>
 
 /// The constant that is a whole field.
 fn whole_constant(field: &[Code]) -> Option<Constant>
-    requires { length field.now ≤ LONGEST_TEXT }
+    requires { length field.now ≤ longest_text }
     ensures constant { result ≡ whole field.now (constant field.now) }
     ensures range { IfSome result IsConstantInRange }
 {
@@ -205,7 +208,7 @@ fn constant_statement(
     label: &[Code],
     field: &[Code],
 ) -> Result<Statement, StatementFault>
-    requires { length field.now ≤ LONGEST_TEXT }
+    requires { length field.now ≤ longest_text }
     ensures statement { result ≡ statement_of (if marked then Operation.MarkedConstant else Operation.Constant) label.now field.now }
     ensures range { IfOk result IsStatementInRange }
 {
@@ -242,7 +245,10 @@ fn end_statement(label: &[Code], field: &[Code]) -> Result<Statement, StatementF
     let Some(start) = read_start(field) else {
         return Err(StatementFault::Operand);
     };
-    unlabelled(label, Statement::End(start))
+    Ok(Statement::End {
+        start,
+        labelled: Class::Filled.run(label) != 0,
+    })
 }
 
 /// The statement of a mnemonic.
@@ -252,7 +258,7 @@ fn instruction_statement(
     label: &[Code],
     field: &[Code],
 ) -> Result<Statement, StatementFault>
-    requires { length field.now ≤ LONGEST_TEXT }
+    requires { length field.now ≤ longest_text }
     ensures statement { result ≡ statement_of (Operation.Instruction mnemonic) label.now field.now }
     ensures range { IfOk result IsStatementInRange }
 {
@@ -270,7 +276,7 @@ fn statement_of(
     label: &[Code],
     field: &[Code],
 ) -> Result<Statement, StatementFault>
-    requires { length field.now ≤ LONGEST_TEXT }
+    requires { length field.now ≤ longest_text }
     ensures statement { result ≡ statement_of operation label.now field.now }
     ensures range { IfOk result IsStatementInRange }
 {

@@ -1,6 +1,7 @@
 //! A text of characters, as a constant or a literal holds it.
 
 ghost use Rattle.std.specs.Prelude.{◌≡◌, ◌≤◌, length};
+ghost use Rattle.statements.specs.Ranges.{longest_text};
 
 use crate::characters::padded;
 use bcd::Code;
@@ -20,21 +21,21 @@ pub struct Text {
 
 impl Model for Text {
     ghost use Rattle.std.specs.Prelude.{List, ℕ, ◌≡◌, ◌≤◌, ◌-◌, ◌++◌, length, take, replicate};
-    ghost use Rattle.statements.specs.declared.texts.TheConstants.{LONGEST_TEXT};
+    ghost use Rattle.statements.specs.Ranges.{longest_text};
 
     ghost Value = { List ℕ };
 
     ghost view = { λ text. take text.count text.characters };
 
-    ghost invariant = { λ text. (text.count ≤ LONGEST_TEXT) × (length text.characters ≡ LONGEST_TEXT) × (text.characters ≡ take text.count text.characters ++ replicate (LONGEST_TEXT - text.count) 0) };
+    ghost invariant = { λ text. (text.count ≤ longest_text) × (length text.characters ≡ longest_text) × (text.characters ≡ take text.count text.characters ++ replicate (longest_text - text.count) 0) };
 
-    ghost inverse = { λ text. record { characters = text ++ replicate (LONGEST_TEXT - length text) 0; count = length text } };
+    ghost inverse = { λ text. record { characters = text ++ replicate (longest_text - length text) 0; count = length text } };
 }
 
 impl Text {
     /// The text of some characters.
     pub fn of(characters: &[Code]) -> Self
-        requires { length characters.now ≤ LONGEST_TEXT }
+        requires { length characters.now ≤ longest_text }
         ensures { result ≡ characters.now }
     {
         Text {
@@ -46,7 +47,7 @@ impl Text {
     /// Its characters.
     pub fn characters(&self) -> &[Code]
         ensures characters { result.now ≡ self.now }
-        ensures limit { length result.now ≤ LONGEST_TEXT }
+        ensures limit { length result.now ≤ longest_text }
     {
         &self.characters[..self.count]
     }

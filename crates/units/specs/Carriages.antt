@@ -9,23 +9,34 @@ use Rattle.units.specs.declared.carriage.CarriageOrder.{CarriageOrder}
 use Rattle.units.specs.declared.carriage.CarriageOrder.TheVariants.{Now, AfterLine}
 use Rattle.units.specs.declared.carriage.Motion.{Motion}
 use Rattle.units.specs.declared.carriage.Motion.TheVariants.{Space, DoubleSpace, TripleSpace, SkipToChannel1}
-use Rattle.units.specs.declared.carriage.TheConstants.{LINES_OF_FORM, LINE_OF_CHANNEL_12, LAST_FORM}
 use Rattle.units.specs.Printed.{Printed}
+
+-- the lines of a form
+abbrev pub lines_of_form : ℕ
+lines_of_form = 66
+
+-- the line of a form that has the hole of channel 12
+abbrev pub line_of_channel_12 : ℕ
+line_of_channel_12 = 60
+
+-- the last form that the printer prints on
+abbrev pub last_form : ℕ
+last_form = 2000000000
 
 -- at a line of the next form; past the last form there is none
 abbrev pub on_next_form : Carriage → ℕ → Option Carriage
-on_next_form c line = if nat_lt c.form LAST_FORM then Some (record c { form = c.form + 1; line = line }) else None
+on_next_form c line = if nat_lt c.form last_form then Some (record c { form = c.form + 1; line = line }) else None
 
 -- channel 12 turns on where spacing goes from before its line to its line or past it
 abbrev pub sensed : Carriage → ℕ → Bool
-sensed c count = c.channel_12 || (nat_lt c.line LINE_OF_CHANNEL_12 && nat_le LINE_OF_CHANNEL_12 (c.line + count))
+sensed c count = c.channel_12 || (nat_lt c.line line_of_channel_12 && nat_le line_of_channel_12 (c.line + count))
 
 -- so many lines further down, and on at line 1 of the next form
 abbrev pub spaced : Carriage → ℕ → Option Carriage
 spaced c count =
-    if nat_le (c.line + count) LINES_OF_FORM
+    if nat_le (c.line + count) lines_of_form
     then Some (record c { line = c.line + count; channel_12 = sensed c count })
-    else on_next_form (record c { channel_12 = sensed c count }) (c.line + count - LINES_OF_FORM)
+    else on_next_form (record c { channel_12 = sensed c count }) (c.line + count - lines_of_form)
 
 -- at line 1 of the next form, where channel 12 is off
 abbrev pub skipped : Carriage → Option Carriage

@@ -1,3 +1,4 @@
+pub mod Switches
 pub mod Printed
 pub mod Carriages
 pub mod Units

@@ -1,14 +1,14 @@
 -- what the units of a picture may hold, and what they keep of it
 use Rattle.std.specs.Prelude.{◌<◌, ◌≤◌, ◌≡◌, ◌⊎◌, List, [], ◌∷◌, ◌++◌, length, map, take}
 use Rattle.units.specs.declared.carriage.Carriage.{Carriage}
-use Rattle.units.specs.declared.carriage.TheConstants.{LINES_OF_FORM, LAST_FORM}
+use Rattle.units.specs.Carriages.{lines_of_form, last_form}
 use Rattle.units.specs.declared.printer.Line.{Line}
-use Rattle.units.specs.declared.printer.TheConstants.{MOST_LINES}
-use Rattle.units.specs.declared.punch.TheConstants.{MOST_CARDS}
+use Rattle.units.specs.Units.{most_lines, most_cards}
 use Rattle.units.specs.declared.ranges.Place.{Place}
 use Rattle.units.specs.declared.reader.Hopper.{Hopper}
 use Rattle.units.specs.declared.units.Units.{Units}
 use Rattle.units.specs.Printed.{Printed}
+use Rattle.units.specs.Switches.{AreSeven}
 
 -- where a line was printed
 abbrev pub line_place : Line → Place
@@ -20,7 +20,7 @@ carriage_place c = record { form = c.form; line = c.line }
 
 -- a line of one of the forms
 abbrev pub IsOnForm : Place → Type 0
-IsOnForm p = (1 ≤ p.form) × (p.form ≤ LAST_FORM) × (1 ≤ p.line) × (p.line ≤ LINES_OF_FORM)
+IsOnForm p = (1 ≤ p.form) × (p.form ≤ last_form) × (1 ≤ p.line) × (p.line ≤ lines_of_form)
 
 -- a line of one of the forms, on a later form than the place above it or further down on the same one
 abbrev pub IsBelow : Place → Place → Type 0
@@ -41,7 +41,7 @@ the_top = record { form = 0; line = 0 }
 
 -- what the printer may have made
 pub record HasPrinted (p : Printed) : Type 0 where
-  pub most : length p.lines ≤ MOST_LINES
+  pub most : length p.lines ≤ most_lines
   pub places : AreRising the_top (places_then (carriage_place p.carriage) p.lines)
 
 -- how many cards may have been read: the first one at least, which the load button reads
@@ -49,11 +49,12 @@ pub record HasRead (h : Hopper) : Type 0 where
   pub some : 1 ≤ h.taken
   pub most : h.taken ≤ length h.deck
 
--- what the units may hold: the switches may be any
+-- what the units may hold
 pub record AreUnits (u : Units) : Type 0 where
   pub reader : HasRead u.hopper
-  pub punch : length u.punch ≤ MOST_CARDS
+  pub punch : length u.punch ≤ most_cards
   pub printer : HasPrinted u.printer
+  pub switches : AreSeven u.switches
 
 -- the deck and the switches stay, and the cards and lines that were there are the first of those that are there after it
 pub record OnlyAdds (u after : Units) : Type 0 where

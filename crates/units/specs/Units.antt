@@ -2,7 +2,7 @@
 use Rattle.std.specs.Prelude.{ℕ, ◌+◌, ◌<◌, ◌≡◌, nat_lt, ◌&&◌, ◌==◌, ◌⊎◌, if◌then◌else◌, ◌++◌, List, [], ◌∷◌, length, Bool, Result, Ok, Err, slice_get}
 use Rattle.std.specs.Int.RustNames.{bit_and}
 use Rattle.cards.specs.declared.decks.Card.{Card}
-use Rattle.cards.specs.declared.decks.TheConstants.{COLUMNS}
+use Rattle.cards.specs.Decks.{card_columns}
 use Rattle.core_store.specs.Storage.{Storage, put_codes, codes_from}
 use Rattle.core_store.specs.Checked.{require, find_or, and_then}
 use Rattle.core_store.specs.declared.registers.Check.{Check}
@@ -10,13 +10,19 @@ use Rattle.core_store.specs.declared.registers.Check.TheVariants.{ReaderEmpty, P
 use Rattle.units.specs.declared.devices.Devices.{Devices}
 use Rattle.units.specs.declared.fault.Fault.{Fault}
 use Rattle.units.specs.declared.fault.Fault.TheVariants.{Stopped, NoMemory}
-use Rattle.units.specs.declared.printer.TheConstants.{MOST_LINES}
-use Rattle.units.specs.declared.punch.TheConstants.{MOST_CARDS}
 use Rattle.units.specs.declared.reader.Hopper.{Hopper}
 use Rattle.units.specs.declared.switches.Switches.{Switches}
 use Rattle.units.specs.declared.units.Units.{Units}
 use Rattle.units.specs.Carriages.{after_line}
 use Rattle.units.specs.Printed.{Printed}
+
+-- the most lines that the printer prints
+abbrev pub most_lines : ℕ
+most_lines = 20000
+
+-- the most cards that the punch punches
+abbrev pub most_cards : ℕ
+most_cards = 10000
 
 -- where the areas of the storage begin
 abbrev pub read_area : ℕ
@@ -45,13 +51,13 @@ is_last_card switches h = bit_and switches.0 1 == 1 && h.taken == length h.deck
 -- the punch area, 101 to 180, as one more card
 unfoldable pub card_punched : Storage → List Card → Result (List Card) Check
 card_punched s cards =
-    require (nat_lt (length cards) MOST_CARDS) PunchFull
-    (Ok (cards ++ (record { 0 = codes_from s punch_area COLUMNS }) ∷ []))
+    require (nat_lt (length cards) most_cards) PunchFull
+    (Ok (cards ++ (record { 0 = codes_from s punch_area card_columns }) ∷ []))
 
 -- the print area, 201 to 332, printed where the carriage stands
 unfoldable pub line_printed : Storage → Printed → Result Printed Check
 line_printed s p =
-    require (nat_lt (length p.lines) MOST_LINES) PrinterFull
+    require (nat_lt (length p.lines) most_lines) PrinterFull
     (find_or (after_line p.carriage) PrinterFull (λ carriage.
     Ok (record {
       lines = p.lines ++ (record { form = p.carriage.form; line = p.carriage.line; codes = codes_from s print_area characters_of_line }) ∷ [];

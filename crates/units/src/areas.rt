@@ -2,10 +2,10 @@
 //! and 201 to 332 is printed.
 
 ghost use Rattle.std.specs.Prelude.{◌≡◌, ◌+◌, ◌<◌, ◌≤◌, length};
-ghost use Rattle.core_store.specs.Storage.{codes_from, put_codes};
+ghost use Rattle.core_store.specs.Storage.{codes_from, put_codes, largest_size};
 
 use bcd::Code;
-use core_store::{Core, LARGEST_SIZE};
+use core_store::Core;
 
 /// Where a card is read into.
 pub(crate) const READ_AREA: u16 = 1;
@@ -18,7 +18,7 @@ pub(crate) const PRINT_AREA: u16 = 201;
 #[tactic(auto, using(crate::proofs::Writing::write_none, crate::proofs::Writing::write_all))]
 pub(crate) fn put_codes<C: Core>(core: &mut C, first: u16, codes: &[Code])
     requires within { first + length codes.now ≤ length (C.cells core.old) }
-    requires below { first + length codes.now ≤ LARGEST_SIZE }
+    requires below { first + length codes.now ≤ largest_size }
     ensures { C.cells core.new ≡ put_codes (C.cells core.old) first codes.now }
 {
     for place in (0..codes.len()).rev() {
@@ -30,7 +30,7 @@ pub(crate) fn put_codes<C: Core>(core: &mut C, first: u16, codes: &[Code])
 #[tactic(auto, using(crate::proofs::Writing::read_all))]
 pub(crate) fn codes_at<C: Core, const N: usize>(core: &C, first: u16) -> [Code; N]
     requires within { first + N ≤ length (C.cells core.now) }
-    requires below { first + N ≤ LARGEST_SIZE }
+    requires below { first + N ≤ largest_size }
     ensures { result ≡ codes_from (C.cells core.now) first N }
 {
     let mut codes = [Code::blank(); N];

@@ -95,5 +95,6 @@ impl Units {
         self.hopper.is_in_range()
             && self.punch.cards.len() <= MOST_CARDS
             && self.printer.is_in_range()
+            && self.switches.are_seven()
     }
 }

@@ -1,6 +1,7 @@
 //! The sense switches.
 
-ghost use Rattle.std.specs.Prelude.{⊤, [], ◌∷◌, codes};
+ghost use Rattle.std.specs.Prelude.{⊤, [], ◌∷◌, ◌≡◌, ◌↔◌, codes, IsTrue};
+ghost use Rattle.units.specs.Switches.{AreSeven, seven};
 
 use bitflags::{Flag, Flags, bitflag_items};
 
@@ -39,5 +40,22 @@ impl Flags for Switches {
 
     fn from_bits_retain(bits: u8) -> Switches {
         Switches(bits)
+    }
+}
+
+impl Switches {
+    /// The same switches, without the eighth bit of the byte, which is no switch.
+    pub fn seven(self) -> Switches
+        ensures set { result ≡ seven self }
+        ensures are { AreSeven result }
+    {
+        Switches(self.0 % 128)
+    }
+
+    /// Whether no bit is on that is no switch.
+    pub fn are_seven(self) -> bool
+        ensures { IsTrue result ↔ AreSeven self }
+    {
+        self.0 < 128
     }
 }
