@@ -14,6 +14,7 @@ use Rattle.machine.specs.declared.parts.Event.TheVariants.{Next, Halt, Stop}
 use Rattle.units.specs.declared.printer.Line.{Line}
 use Rattle.machine.specs.declared.runs.Checkpoint.{Checkpoint}
 use Rattle.units.specs.declared.switches.Switches.{Switches}
+use Rattle.units.specs.declared.units.Units.{Units}
 use Rattle.units.specs.Switches.{seven}
 use Rattle.units.specs.Units.{Makes}
 use Rattle.machine.specs.Effect.{Works, attempt}
@@ -53,18 +54,22 @@ abbrev pub first_card : List Card → List ℕ
 first_card [] = []
 first_card (card ∷ cards) = card.0
 
+-- units that have read the first card of a deck and have made nothing
+abbrev pub first_units : List Card → Switches → Units
+first_units deck switches = record {
+  hopper = record { deck = deck; taken = 1 };
+  punch = [];
+  printer = record { lines = []; carriage = record { form = 1; line = 1; waiting = None; channel_12 = false } };
+  switches = seven switches;
+}
+
 -- a machine after the load button: the first card is in the read area, marked at its left, and the machine begins there
 abbrev pub loaded : List Card → Size → Switches → State
 loaded deck size switches = record {
   works = record {
     storage = with_mark (put_codes (blank_storage (positions_of size)) 1 (first_card deck)) 1 true;
     registers = record { i = 1; a = 0; b = 0; compare = Equal; overflow = false };
-    units = record {
-      hopper = record { deck = deck; taken = 1 };
-      punch = [];
-      printer = record { lines = []; carriage = record { form = 1; line = 1; waiting = None; channel_12 = false } };
-      switches = seven switches;
-    };
+    units = first_units deck switches;
   };
   standing = Running;
 }

@@ -7,7 +7,7 @@ ghost use Rattle.units.specs.declared.switches.Switches.{Switches};
 ghost use Rattle.core_store.specs.Storage.{blank_storage, put_codes, with_mark, positions_of};
 ghost use Rattle.units.specs.Listing.{IsRising};
 ghost use Rattle.units.specs.Units.{Makes};
-ghost use Rattle.machine.specs.Run.{first_card, State, step, after, attempts, executed, lines_of, risen, is_running, is_checked, is_halted, event_of, loaded, started, restored, IsGivenUp};
+ghost use Rattle.machine.specs.Run.{first_card, first_units, State, step, after, attempts, executed, lines_of, risen, is_running, is_checked, is_halted, event_of, loaded, started, restored, IsGivenUp};
 ghost use Rattle.machine.specs.Effect.{works_of};
 ghost use Rattle.machine.specs.Ranges.{IsInRange};
 
@@ -81,6 +81,24 @@ fn loaded_core<C: Core>(alloc: Global, deck: &Deck, size: Size) -> Result<C, All
     Ok(core)
 }
 
+/// Units that have read the first card of a deck and have made nothing.
+fn first_units(alloc: Global, deck: Deck, switches: Switches) -> Units
+    requires { 0 < length deck }
+    ensures { result ≡ first_units deck switches }
+{
+    Units {
+        hopper: Hopper { deck, taken: 1 },
+        punch: Punch {
+            cards: Vec::new(alloc),
+        },
+        printer: Printer {
+            lines: Vec::new(alloc),
+            carriage: Carriage::at_the_top(),
+        },
+        switches: switches.seven(),
+    }
+}
+
 impl<C: Core> Machine<C> {
     /// A machine after the load button, with a deck in its reader and the switches set. Memory is
     /// taken for its two storages.
@@ -95,21 +113,10 @@ impl<C: Core> Machine<C> {
     {
         let core = loaded_core(alloc, &deck, size)?;
         let spare = C::blank(alloc, size)?;
-        let units = Units {
-            hopper: Hopper { deck, taken: 1 },
-            punch: Punch {
-                cards: Vec::new(alloc),
-            },
-            printer: Printer {
-                lines: Vec::new(alloc),
-                carriage: Carriage::at_the_top(),
-            },
-            switches: switches.seven(),
-        };
         let parts = Parts {
             core,
             registers: first_registers(),
-            units,
+            units: first_units(alloc, deck, switches),
             standing: Standing::Running,
         };
         Ok(Machine { parts, spare })
