@@ -1,5 +1,5 @@
 -- The words of a slice, where its length is known.
-use Rattle.std.proofs.Common.{◌≡◌, ◌≤◌, ◌<◌, ◌∙◌, List, [], ◌∷◌, length, map, slice_index_or, arith, ap, ap₂, sym}
+use Rattle.std.proofs.Common.{◌≡◌, ◌≤◌, ◌<◌, List, [], ◌∷◌, length, map, slice_index_or, arith, ap, ap₂, sym}
 
 pub one_item : {X Y : Type 0} (f : X → Y) (xs : List X) (x : X) → 1 ≤ length xs → length xs < 2
     → x ≡ slice_index_or xs 0 x → map f xs ≡ f x ∷ []

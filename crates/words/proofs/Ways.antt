@@ -1,9 +1,9 @@
 -- The ways in which words ask for something.
-use Rattle.std.proofs.Common.{◌≡◌, ◌∙◌, Bool, List, [], ◌∷◌, true, false, codes, refl, Some, None, sym, subst, inl, inr}
+use Rattle.std.proofs.Common.{◌≡◌, Bool, List, [], ◌∷◌, true, false, codes, refl, Some, None, sym, subst, inl, inr}
 use Rattle.std.specs.Prelude.{Option, find, is_some, option_map}
 use Rattle.std.proofs.lemmas.List.Elements.{All-cons, All-head, All-nil, All-tail}
 use Rattle.clap.specs.Words.{Text}
-use Rattle.words.specs.Asked.{AreValues, Asks, IsOption, Spells, name_of}
+use Rattle.words.specs.Asked.{AreValues, Asks, HasValues, IsHelp, IsOption, IsVersion, Spells, name_of}
 use Rattle.words.specs.Plain.{ArePlain, is_odd, is_plain}
 use Rattle.words.specs.declared.asked.RowName.{RowName}
 use Rattle.words.specs.declared.asked.RowName.TheVariants as name
@@ -81,3 +81,42 @@ some_none f (Some x) e g = cc
 pub none_none : {X Y : Type 0} (f : X → Y) (o : Option X) → is_some o ≡ false → option_map f o ≡ None
 none_none f None e = refl
 none_none f (Some x) e = cc
+
+-- ---- words ask for one thing
+
+plain_or_dashes : (row other : RowName) (xs ys words : List Text) → (words ≡ name_of row ∷ xs) × ArePlain words
+    → words ≡ name_of other ∷ codes "--" ∷ ys → ⊥
+plain_or_dashes row other xs ys words is e = dashes_odd _ _ (subst ArePlain e is.1)
+
+-- of one row they are the same values
+pub same_values : (xs ys words : List Text) → HasValues name.Run xs words → HasValues name.Run ys words → xs ≡ ys
+same_values xs ys words (inl is) (inl e) = let x = is.0 in let y = e.0 in cc
+same_values xs ys words (inl is) (inr e) = absurd (plain_or_dashes name.Run name.Run xs ys words is e)
+same_values xs ys words (inr is) (inl e) = absurd (plain_or_dashes name.Run name.Run ys xs words e is)
+same_values xs ys words (inr is) (inr e) = cc
+
+-- and of one row alone
+pub one_row : (xs ys words : List Text) → HasValues name.Run xs words → HasValues name.Assemble ys words → ⊥
+one_row xs ys words (inl is) (inl e) = let x = is.0 in let y = e.0 in cc
+one_row xs ys words (inl is) (inr e) = let x = is.0 in cc
+one_row xs ys words (inr is) (inl e) = let y = e.0 in cc
+one_row xs ys words (inr is) (inr e) = cc
+
+pub some_word : (row : RowName) (xs words : List Text) → HasValues row xs words → words ≡ [] → ⊥
+some_word row xs words (inl is) e = let x = is.0 in cc
+some_word row xs words (inr is) e = cc
+
+-- words of a row with two values or more are no option
+pub no_help : (row : RowName) (page : Option RowName) (a b : Text) (xs words : List Text) → HasValues row (a ∷ b ∷ xs) words → IsHelp page words → ⊥
+no_help row None a b xs words (inl is) (inl e) = let x = is.0 in cc
+no_help row None a b xs words (inl is) (inr e) = let x = is.0 in cc
+no_help row None a b xs words (inr is) (inl e) = cc
+no_help row None a b xs words (inr is) (inr e) = cc
+no_help row (Some other) a b xs words (inl is) (inl e) = let x = is.0 in cc
+no_help row (Some other) a b xs words (inl is) (inr e) = let x = is.0 in cc
+no_help row (Some other) a b xs words (inr is) (inl e) = cc
+no_help row (Some other) a b xs words (inr is) (inr e) = cc
+
+pub no_version : (row : RowName) (a : Text) (xs words : List Text) → HasValues row (a ∷ xs) words → IsVersion words → ⊥
+no_version row a xs words (inl is) e = let x = is.0 in cc
+no_version row a xs words (inr is) e = cc

@@ -1,11 +1,6 @@
-use Rattle.std.proofs.Common.{◌≡◌, ◌≢◌, ◌∙◌, ◌∷◌, List, None, Ok, codes, refl, sym, subst}
-use Rattle.std.specs.Prelude.{find}
+use Rattle.std.proofs.Common.{◌∙◌, sym, subst}
 use Rattle.std.proofs.lemmas.Result.{IfOk-at_ok, IfOk-weaker, IfErr-weaker}
-use Rattle.clap.specs.Words.{Text}
-use Rattle.words.specs.Asked.{Spells, name_of}
-use Rattle.words.specs.Plain.{ArePlain, is_odd, texts}
-use Rattle.words.specs.declared.asked.RowName.{RowName}
-use Rattle.words.specs.declared.asked.Words.{Words}
+use Rattle.words.specs.Plain.{ArePlain, texts}
 use Rattle.words.specs.declared.asked.Words.TheVariants as row
 use Rattle.words.proofs.Ways.{all_plain, dashes_odd, none_none, none_odd, option, dashes, plain, same_dashes, some_none, spelt, way_of}
 use Rattle.words.proofs.words.Goals as goal
