@@ -3,7 +3,6 @@
 ghost use Rattle.std.specs.Prelude.{◌≡◌, ◌≢◌, ◌≤◌, IfSome, IfNone};
 ghost use Rattle.core_store.specs.Storage.{positions_of, largest_size};
 
-
 /// The sizes of storage that a machine may have.
 #[derive(Clone, Copy, Debug, PartialEq, Eq)]
 pub enum Size {

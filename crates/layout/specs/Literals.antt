@@ -7,7 +7,7 @@ use Rattle.statements.specs.declared.reading.Statement.TheVariants as statement
 use Rattle.layout.specs.Source.{Line}
 use Rattle.layout.specs.declared.literals.Literal.{Literal}
 use Rattle.layout.specs.declared.slots.Slot.{Slot}
-use Rattle.statements.specs.Ranges.{longest_text}
+use Rattle.statements.specs.Limits.{longest_text}
 
 abbrev pub Characters : Type 0
 Characters = List ℕ

@@ -9,7 +9,8 @@ ghost use Rattle.layout.specs.Literals.{texts};
 ghost use Rattle.layout.specs.Names.{IsValueWithin};
 ghost use Rattle.layout.specs.Cells.{blank, row, field, literal_cells, tag, position_in, operand_codes, instruction_codes, blank_behind, constant_codes, shortened, cells_of};
 ghost use Rattle.layout.specs.Judging.{IsCut};
-ghost use Rattle.statements.specs.Ranges.{IsConstantInRange, IsInstructionInRange, IsOperandInRange, number_limit};
+ghost use Rattle.statements.specs.Ranges.{IsConstantInRange, IsInstructionInRange, IsOperandInRange};
+ghost use Rattle.statements.specs.Limits.{number_limit};
 
 use crate::literals::{Literal, MOST_LITERALS, literal_end};
 use crate::names::{Value, value_in};

@@ -3,7 +3,7 @@
 ghost use Rattle.std.specs.Prelude.{◌≡◌, ◌+◌, ◌*◌, ◌≤◌, ◌++◌, [], length, false, bytes_eq, IfOk, OnOk};
 ghost use Rattle.layout.specs.Source.{lines_of};
 ghost use Rattle.std.specs.List.{list_any};
-ghost use Rattle.statements.specs.Ranges.{longest_text};
+ghost use Rattle.statements.specs.Limits.{longest_text};
 ghost use Rattle.cards.specs.Decks.{largest_deck};
 ghost use Rattle.layout.specs.Literals.{characters, texts, literal_in, uses_in, uses_of, firsts, literals_of, literal_end};
 

@@ -1,3 +1,4 @@
+pub mod Limits
 pub mod Characters
 pub mod Names
 pub mod Ranges

@@ -13,14 +13,7 @@ use Rattle.statements.specs.declared.operands.Operands.{Operands}
 use Rattle.statements.specs.declared.operations.Instruction.{Instruction}
 use Rattle.statements.specs.declared.reading.Statement.{Statement}
 use Rattle.statements.specs.declared.reading.Statement.TheVariants as statement
-
--- the longest text: as long as the operand field, columns 21 to 72
-abbrev pub longest_text : ℕ
-longest_text = 52
-
--- numbers have at most five digits, so each is below this one
-abbrev pub number_limit : ℕ
-number_limit = 100000
+use Rattle.statements.specs.Limits.{longest_text, number_limit}
 
 abbrev pub IsBaseInRange : Base → Type 0
 IsBaseInRange (Number n) = n < number_limit

@@ -2,7 +2,7 @@
 
 ghost use Rattle.std.specs.Prelude.{◌≡◌, length};
 ghost use Rattle.std.specs.List.{list_all};
-ghost use Rattle.statements.specs.Ranges.{longest_text};
+ghost use Rattle.statements.specs.Limits.{longest_text};
 ghost use Rattle.statements.specs.Characters.{is_blank};
 ghost use Rattle.statements.specs.Statements.{label_field, operation_field, operand_field, is_comment, is_broken, operation_in, operation_of, operation_columns};
 

@@ -4,7 +4,8 @@
 
 ghost use Rattle.std.specs.Prelude.{◌≡◌, ◌<◌, ◌≤◌, length, IfSome};
 ghost use Rattle.statements.specs.Constants.{quoted_run, quoted, sign_zone, zoned, signed, literal, constant, constant_length};
-ghost use Rattle.statements.specs.Ranges.{IsTextInRange, IsConstantInRange, longest_text};
+ghost use Rattle.statements.specs.Ranges.{IsTextInRange, IsConstantInRange};
+ghost use Rattle.statements.specs.Limits.{longest_text};
 
 use crate::characters::{Class, begins, digit_value};
 use crate::expressions::{read_positive, signed_run};

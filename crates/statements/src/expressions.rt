@@ -3,7 +3,8 @@
 //! Each reader answers what it read and how many characters that takes.
 
 ghost use Rattle.std.specs.Prelude.{◌≡◌, ◌<◌, ◌≤◌, length, IfSome};
-ghost use Rattle.statements.specs.Ranges.{IsBaseInRange, IsAdjustmentInRange, IsExpressionInRange, IsPositiveInRange, number_limit};
+ghost use Rattle.statements.specs.Ranges.{IsBaseInRange, IsAdjustmentInRange, IsExpressionInRange, IsPositiveInRange};
+ghost use Rattle.statements.specs.Limits.{number_limit};
 ghost use Rattle.statements.specs.Expressions.{number, adjusted, positive, signed_run, base, adjustment, index, expression, address};
 
 use crate::characters::{Class, begins, begins_with_letter, number_of};

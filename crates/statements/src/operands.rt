@@ -2,7 +2,8 @@
 
 ghost use Rattle.std.specs.Prelude.{◌≡◌, ◌≤◌, length, IfSome};
 ghost use Rattle.statements.specs.Operands.{begins_literal, operand, next_operand, is_among, is_modifier, modifier, next_modifier, ended, with_modifier, operands};
-ghost use Rattle.statements.specs.Ranges.{IsOperandInRange, AreOperandsInRange, longest_text};
+ghost use Rattle.statements.specs.Ranges.{IsOperandInRange, AreOperandsInRange};
+ghost use Rattle.statements.specs.Limits.{longest_text};
 
 use crate::characters::{begins, is_blank, is_ended};
 use crate::constants::read_literal;

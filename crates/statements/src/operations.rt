@@ -4,7 +4,8 @@
 ghost use Rattle.std.specs.Prelude.{◌≡◌, ◌≤◌, length, IfSome, option_map};
 ghost use Rattle.statements.specs.Characters.{begins};
 ghost use Rattle.statements.specs.Mnemonics.{orders, mnemonics, entry, operation_named, code_of, operands_if, operands_in, instruction, or_else, present, instruction_length};
-ghost use Rattle.statements.specs.Ranges.{AreOperandsInRange, IsInstructionInRange, longest_text};
+ghost use Rattle.statements.specs.Ranges.{AreOperandsInRange, IsInstructionInRange};
+ghost use Rattle.statements.specs.Limits.{longest_text};
 
 use crate::characters::begins;
 use crate::forms::{Form, Kind, Modifiers};

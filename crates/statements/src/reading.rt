@@ -4,7 +4,8 @@ ghost use Rattle.std.specs.Prelude.{◌≡◌, ◌≤◌, length, IfSome, IfOk, 
 ghost use Rattle.statements.specs.Expressions.{positive, expression};
 ghost use Rattle.statements.specs.Constants.{constant};
 ghost use Rattle.statements.specs.Statements.{must_label, may_label, is_broken, label_field, operation_field, unlabelled, whole, size, start, statement_of, statement_on};
-ghost use Rattle.statements.specs.Ranges.{IsExpressionInRange, IsConstantInRange, IsPositiveInRange, IsStatementInRange, longest_text};
+ghost use Rattle.statements.specs.Ranges.{IsExpressionInRange, IsConstantInRange, IsPositiveInRange, IsStatementInRange};
+ghost use Rattle.statements.specs.Limits.{longest_text};
 
 use crate::characters::{Class, begins, is_ended};
 use crate::columns::{

@@ -1,7 +1,7 @@
 //! A text of characters, as a constant or a literal holds it.
 
 ghost use Rattle.std.specs.Prelude.{◌≡◌, ◌≤◌, length};
-ghost use Rattle.statements.specs.Ranges.{longest_text};
+ghost use Rattle.statements.specs.Limits.{longest_text};
 
 use crate::characters::padded;
 use bcd::Code;
@@ -21,7 +21,7 @@ pub struct Text {
 
 impl Model for Text {
     ghost use Rattle.std.specs.Prelude.{List, ℕ, ◌≡◌, ◌≤◌, ◌-◌, ◌++◌, length, take, replicate};
-    ghost use Rattle.statements.specs.Ranges.{longest_text};
+    ghost use Rattle.statements.specs.Limits.{longest_text};
 
     ghost Value = { List ℕ };
 

@@ -1,6 +1,7 @@
 use Rattle.std.proofs.Common.{◌∙◌, length, ap, arith}
 use Rattle.layout.specs.Source.{source_of}
-use Rattle.autocoder.proofs.Lines.{few_literals, length-texts, listing_is}
+use Rattle.layout.proofs.Firsts.{length-texts}
+use Rattle.autocoder.proofs.Lines.{few_literals, listing_is}
 use Rattle.autocoder.proofs.listings.listing.Goals as goal
 
 pub push_literals-requires : goal.push_literals-requires
