@@ -2,7 +2,7 @@
 use Rattle.std.proofs.Common.{◌≡◌, ◌≢◌, ℕ, zero, suc, ◌+◌, ◌<◌, ◌≤◌, ◌∙◌, Bool, true, false, not, eqb, ltb, List, [], ◌∷◌, Option, Some, None, get_or, set, length, replicate, map, ap, sym, refl, arith}
 use Rattle.std.proofs.lemmas.Bool.{eqb-true, lt-ltb}
 use Rattle.std.specs.Simd.Lanes.{mask_l, chunk}
-use Rattle.std.proofs.lemmas.Simd.{none_from_empty_mask, length-chunk, trailing_mask_l, run_in_chunk_le, run_in_chunk_fails, run_in_chunk_stops}
+use Rattle.std.proofs.lemmas.Simd.{none_from_empty_mask, length-chunk, get_or-chunk, trailing_mask_l, run_in_chunk_le, run_in_chunk_fails, run_in_chunk_stops}
 use lib.Count.{count_trailing_zeros}
 use Rattle.std.specs.List.{prefix_len}
 use Rattle.core_store.specs.Storage.{is_marked, put, with_mark, greatest_mark, least_mark}
@@ -72,9 +72,32 @@ last_is_greatest codes marks p (Some q) h last =
 abbrev pub is_some : ℕ → Bool
 is_some x = not (eqb x 0)
 
-some_is : (n : ℕ) → not (eqb n 0) ≡ true → n ≢ 0
+pub some_is : (n : ℕ) → not (eqb n 0) ≡ true → n ≢ 0
 some_is zero h = absurd (cc)
 some_is (suc n) h = omega arith
+
+-- where the mask of some bytes is not 0, one of them passes
+abbrev SomePasses : (ℕ → Bool) → List ℕ → Type 0
+SomePasses p xs = (k : ℕ) × (k < length xs) × (p (get_or xs k 0) ≡ true)
+
+passes_by_first : (p : ℕ → Bool) (x : ℕ) (xs : List ℕ) (first : Bool) → p x ≡ first → mask_l (map p (x ∷ xs)) ≢ 0 → (mask_l (map p xs) ≢ 0 → SomePasses p xs) → SomePasses p (x ∷ xs)
+passes_by_first p x xs true here some rest = (0, omega arith, here)
+passes_by_first p x xs false here some rest =
+    let (k, within, passes) = rest (λ none. some (rw (here, none) refl)) in
+    (suc k, omega arith, passes)
+
+some_passes : (p : ℕ → Bool) (xs : List ℕ) → mask_l (map p xs) ≢ 0 → SomePasses p xs
+some_passes p [] some = absurd (some refl)
+some_passes p (x ∷ xs) some = passes_by_first p x xs (p x) refl some (some_passes p xs)
+
+-- the same of the mask of a load
+pub some_of_chunk : (marks : List ℕ) (at count : ℕ) → at + count ≤ length marks → mask_l (map is_some (chunk at count marks)) ≢ 0 →
+    (k : ℕ) × (at ≤ k) × (k < at + count) × (get_or marks k 0 ≢ 0)
+some_of_chunk marks at count room some =
+    let (k, within, passes) = some_passes is_some (chunk at count marks) some in
+    let long : length (chunk at count marks) ≡ count = length-chunk at count marks room in
+    let here : get_or (chunk at count marks) k 0 ≡ get_or marks (at + k) 0 = get_or-chunk at count marks k 0 (omega arith) in
+    (at + k, omega arith, omega arith, some_is (get_or marks (at + k) 0) (ap is_some (sym here) ∙ passes))
 
 -- what the mask of eight bytes tells of them
 module _ (marks : List ℕ) (at mask : ℕ) (room : at + 8 ≤ length marks) (is : mask ≡ mask_l (map is_some (chunk at 8 marks))) where

@@ -1,6 +1,6 @@
 //! Storage as a plane of codes and a plane of marks.
 
-ghost use Rattle.std.specs.Prelude.{◌≡◌, ◌≢◌, ◌+◌, ◌-◌, ◌<◌, ◌≤◌, ℕ, List, Bool, true, false, length, slice_index, MatchOption, IfOk};
+ghost use Rattle.std.specs.Prelude.{◌≡◌, ◌≢◌, ◌+◌, ◌-◌, ◌<◌, ◌≤◌, ℕ, All, List, Bool, true, false, length, slice_index, MatchOption, IfOk};
 ghost use Rattle.core_store.specs.Planes.{IsLastMark, joined_planes};
 ghost use Rattle.core_store.specs.Storage.{largest_size};
 
@@ -9,19 +9,21 @@ use bcd::Code;
 use std::alloc::{AllocError, Global};
 use std::simd::prelude::*;
 
-/// A byte of each position for its code, and a byte that is not 0 where it is marked.
+/// A byte of each position for its code, and a byte that is 1 where it is marked and else 0.
 #[derive(Drop)]
 pub struct PlaneCore {
     codes: Vec<Code>,
     marks: Vec<u8>,
     ghost even: { length codes.items ≡ length marks.items },
     ghost limit: { length codes.items ≤ largest_size },
+    ghost bits: { All (λ mark. mark ≤ 1) marks.items },
 }
 
 /// Whether one of the 32 bytes from a place on is not 0.
 fn has_mark(marks: &[u8], at: usize) -> bool
     requires { at + 32 ≤ length marks.now }
-    ensures { result ≡ false → (k : ℕ) → at ≤ k → k < at + 32 → slice_index marks.now k ≡ 0 }
+    ensures unmarked { result ≡ false → (k : ℕ) → at ≤ k → k < at + 32 → slice_index marks.now k ≡ 0 }
+    ensures marked { result ≡ true → (k : ℕ) × (at ≤ k) × (k < at + 32) × (slice_index marks.now k ≢ 0) }
 {
     let lanes = u8x32::from_slice(&marks[at..]);
     lanes.simd_ne(u8x32::splat(0)).to_bitmask() != 0

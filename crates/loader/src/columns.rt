@@ -24,6 +24,7 @@ pub(crate) struct Columns {
 
 impl Model for Columns {
     ghost use Rattle.std.specs.Prelude.{List, ℕ, ◌≡◌, ◌≤◌, ◌-◌, ◌++◌, length, take, replicate};
+    ghost use Rattle.cards.specs.Decks.{card_columns};
 
     ghost Value = { List ℕ };
 

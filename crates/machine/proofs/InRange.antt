@@ -3,9 +3,8 @@ use Rattle.std.proofs.Common.{ℕ, zero, suc, ◌+◌, ◌-◌, ◌%◌, ◌<◌
 use Rattle.std.specs.Prelude.{slice_index}
 use Rattle.std.proofs.lemmas.Bool.{ltb-true}
 use Rattle.cards.specs.declared.decks.Card.{Card}
-use Rattle.core_store.specs.Storage.{Storage, field_length, positions_of}
+use Rattle.core_store.specs.Storage.{Storage, field_length, positions_of, largest_size}
 use Rattle.core_store.specs.Operands.{are_inside, cut_length}
-use Rattle.core_store.specs.declared.TheConstants.{LARGEST_SIZE}
 use Rattle.core_store.specs.declared.sizes.Size.{Size}
 use Rattle.core_store.specs.declared.sizes.Size.TheVariants.{Positions1400, Positions2000, Positions4000}
 use Rattle.core_store.specs.declared.registers.Registers.{Registers}
@@ -57,13 +56,13 @@ operand_below s first second third =
 
 -- two operands that are addresses
 abbrev AreBoth : ℕ × ℕ → Type 0
-AreBoth operands = (operands.0 < LARGEST_SIZE) × (operands.1 < LARGEST_SIZE)
+AreBoth operands = (operands.0 < largest_size) × (operands.1 < largest_size)
 
 each_operands : (test : Bool) (operands : ℕ × ℕ) (rest : Result (ℕ × ℕ) Check) → AreBoth operands → Each AreBoth rest → Each AreBoth (if test then Ok operands else rest)
 each_operands true operands rest h k = h
 each_operands false operands rest h k = k
 
-operands_below : (s : Storage) (count : ℕ) (r : Registers) (codes : List ℕ) → length s ≤ LARGEST_SIZE → AreAddresses r → Each AreBoth (operands_of s count r codes)
+operands_below : (s : Storage) (count : ℕ) (r : Registers) (codes : List ℕ) → length s ≤ largest_size → AreAddresses r → Each AreBoth (operands_of s count r codes)
 unfolding operands_of
 operands_below s count r codes most h =
     each_operands _ (r.a, r.b) _ (h.a, h.b)
@@ -73,9 +72,9 @@ operands_below s count r codes most h =
 
 -- an instruction whose operands are addresses
 abbrev WorksAt : Decoded → Type 0
-WorksAt d = (d.a < LARGEST_SIZE) × (d.b < LARGEST_SIZE)
+WorksAt d = (d.a < largest_size) × (d.b < largest_size)
 
-decoded_below : (s : Storage) (count : ℕ) (r : Registers) (codes : List ℕ) → length s ≤ LARGEST_SIZE → AreAddresses r → Each WorksAt (decoded_of s count r codes)
+decoded_below : (s : Storage) (count : ℕ) (r : Registers) (codes : List ℕ) → length s ≤ largest_size → AreAddresses r → Each WorksAt (decoded_of s count r codes)
 unfolding decoded_of
 decoded_below s count r codes most h =
     each_find WorksAt (operation_of (slice_index codes 0)) Instruction _ (λ operation.
@@ -88,9 +87,9 @@ decoded_below s count r codes most h =
 
 -- A and B hold addresses behind an operation
 abbrev LeavesBoth : Storage × Registers → Type 0
-LeavesBoth (s, r) = (r.a < LARGEST_SIZE) × (r.b < LARGEST_SIZE)
+LeavesBoth (s, r) = (r.a < largest_size) × (r.b < largest_size)
 
-lowered_below : (a b a_count b_count : ℕ) → ((a + LARGEST_SIZE - a_count) % LARGEST_SIZE < LARGEST_SIZE) × ((b + LARGEST_SIZE - b_count) % LARGEST_SIZE < LARGEST_SIZE)
+lowered_below : (a b a_count b_count : ℕ) → ((a + largest_size - a_count) % largest_size < largest_size) × ((b + largest_size - b_count) % largest_size < largest_size)
 lowered_below a b a_count b_count = (omega arith, omega arith)
 
 added_below : (reversed : Bool) (s : Storage) (r : Registers) → Each LeavesBoth (added reversed s r)
@@ -121,10 +120,10 @@ marks_put_below : (marked : Bool) (s : Storage) (r : Registers) → Each LeavesB
 unfolding marks_put
 marks_put_below marked s r = search (each_require, lowered_below r.a r.b 1 1)
 
-storage_cleared_below : (s : Storage) (r : Registers) → r.a < LARGEST_SIZE → Each LeavesBoth (storage_cleared s r)
+storage_cleared_below : (s : Storage) (r : Registers) → r.a < largest_size → Each LeavesBoth (storage_cleared s r)
 unfolding storage_cleared
 storage_cleared_below s r h =
-    let both : (p : ℕ) → (r.a < LARGEST_SIZE) × ((p + LARGEST_SIZE - 1) % LARGEST_SIZE < LARGEST_SIZE) = λ p. (h, omega arith) in
+    let both : (p : ℕ) → (r.a < largest_size) × ((p + largest_size - 1) % largest_size < largest_size) = λ p. (h, omega arith) in
     search (each_require, both)
 
 moved_below : (s : Storage) (r : Registers) → Each LeavesBoth (moved s r)
@@ -199,7 +198,7 @@ looked_at_below (OnCharacter code) r h = h
 looked_at_below (OnTest test) r h = h
 looked_at_below (ByOrder order) r h = h
 
-passed_below : (modifier : Modifier) (b old : ℕ) → old < LARGEST_SIZE → passed modifier b old < LARGEST_SIZE
+passed_below : (modifier : Modifier) (b old : ℕ) → old < largest_size → passed modifier b old < largest_size
 passed_below Plain b old h = h
 passed_below (OnCondition condition) b old h = h
 passed_below (OnCharacter code) b old h = omega arith
@@ -225,7 +224,7 @@ pub record AreInRange (w : Works) : Type 0 where
 abbrev Leaves : Works × Course → Type 0
 Leaves (w, course) = AreInRange w
 
-module _ (d : Decoded) (next : ℕ) (w : Works) (at_d : WorksAt d) (at_next : next < LARGEST_SIZE) (h : AreInRange w) where
+module _ (d : Decoded) (next : ℕ) (w : Works) (at_d : WorksAt d) (at_next : next < largest_size) (h : AreInRange w) where
   unit_in_range : AreAddresses (after_unit d next w.registers)
   unit_in_range = choice _ _ _ (record { i = at_d.0; a = at_d.0; b = at_next }) (record { i = at_next; a = h.registers.a; b = h.registers.b })
 
@@ -246,7 +245,7 @@ module _ (d : Decoded) (next : ℕ) (w : Works) (at_d : WorksAt d) (at_next : ne
       each_then (λ done. AreUnits done.1) Leaves _ _ (operated_in_range devices w.storage w.units h.units) (λ done units. record { registers = unit_in_range; units = units })
   effect_in_range MoveCarriage =
       each_then HasPrinted Leaves _ _ (ordered_printed d.modifier w.units.printer h.units.printer) (λ p printed.
-      record { registers = record { i = at_next; a = h.registers.a; b = h.registers.b }; units = record { reader = h.units.reader; punch = h.units.punch; printer = printed } })
+      record { registers = record { i = at_next; a = h.registers.a; b = h.registers.b }; units = record { reader = h.units.reader; punch = h.units.punch; printer = printed; switches = h.units.switches } })
   effect_in_range StoreA =
       each_then (λ _. Unit {0}) Leaves _ _ (each_any (address_stored w.storage d.a w.registers.a)) (λ s _.
       record { registers = record { i = at_next; a = h.registers.a; b = (lowered_below d.a d.a 3 3).0 }; units = h.units })
@@ -257,7 +256,7 @@ module _ (d : Decoded) (next : ℕ) (w : Works) (at_d : WorksAt d) (at_next : ne
       record { registers = choice _ _ _ (record { i = at_d.0; a = at_d.0; b = h.registers.b }) (record { i = at_next; a = h.registers.a; b = h.registers.b }); units = h.units }
   effect_in_range NoOperation = record { registers = record { i = at_next; a = h.registers.a; b = h.registers.b }; units = h.units }
 
-attempt_in_range : (w : Works) → length w.storage ≤ LARGEST_SIZE → AreInRange w → Each Leaves (attempt w)
+attempt_in_range : (w : Works) → length w.storage ≤ largest_size → AreInRange w → Each Leaves (attempt w)
 unfolding attempt
 attempt_in_range w most h =
     each_require Leaves _ Address _
@@ -267,7 +266,7 @@ attempt_in_range w most h =
 
 -- ---- whole machines
 
-at_most_largest : (size : Size) → positions_of size ≤ LARGEST_SIZE
+at_most_largest : (size : Size) → positions_of size ≤ largest_size
 at_most_largest Positions1400 = omega arith
 at_most_largest Positions2000 = omega arith
 at_most_largest Positions4000 = omega arith
@@ -276,7 +275,7 @@ attempted_in_range : (m : State) (outcome : Result (Works × Course) Check) → 
 attempted_in_range m (Ok (works, course)) h leaves = leaves
 attempted_in_range m (Err check) h leaves = h
 
-step_in_range_if : (m : State) (running : Bool) → is_running m.standing ≡ running → length m.works.storage ≤ LARGEST_SIZE → AreInRange m.works → AreInRange (step m).works
+step_in_range_if : (m : State) (running : Bool) → is_running m.standing ≡ running → length m.works.storage ≤ largest_size → AreInRange m.works → AreInRange (step m).works
 step_in_range_if m true e most h = rw (step_running m e) (attempted_in_range m (attempt m.works) h (attempt_in_range m.works most h))
 step_in_range_if m false e most h = rw (step_stopped m e) h
 
@@ -284,7 +283,7 @@ pub step_in_range : (m next : State) → next ≡ step m → IsInRange m → IsI
 step_in_range m next e h =
     let keeps = step_keeps m in
     let size : length m.works.storage ≡ positions_of h.size.0 = h.size.1 in
-    let most : positions_of h.size.0 ≤ LARGEST_SIZE = at_most_largest h.size.0 in
+    let most : positions_of h.size.0 ≤ largest_size = at_most_largest h.size.0 in
     let now = step_in_range_if m (is_running m.standing) refl (omega arith) (record { registers = h.registers; units = h.units }) in
     rw e
     (record {
@@ -299,7 +298,7 @@ after_in_range m zero h = h
 after_in_range m (suc count) h = after_in_range (step m) count (step_in_range m (step m) refl h)
 
 pub started_in_range : (m : State) (switches : Switches) → IsInRange m → IsInRange (started m switches)
-started_in_range m switches h = record { size = h.size; registers = h.registers; units = record { reader = h.units.reader; punch = h.units.punch; printer = h.units.printer } }
+started_in_range m switches h = record { size = h.size; registers = h.registers; units = record { reader = h.units.reader; punch = h.units.punch; printer = h.units.printer; switches = omega arith } }
 
 pub loaded_in_range : (deck : List Card) (size : Size) (switches : Switches) → 0 < length deck → IsInRange (loaded deck size switches)
 loaded_in_range deck size switches some =
@@ -310,5 +309,6 @@ loaded_in_range deck size switches some =
         reader = record { some = omega arith; most = omega arith };
         punch = omega arith;
         printer = record { most = omega arith; places = (((omega arith, omega arith, omega arith, omega arith), inl (omega arith)), tt) };
+        switches = omega arith;
       };
     }

@@ -42,7 +42,7 @@ use Rattle.machine.specs.declared.parts.Standing.TheVariants.{Checked}
 use Rattle.machine.specs.declared.runs.Checkpoint.{Checkpoint}
 use Rattle.machine.specs.Word.{word, word_length, decoded, decoded_of}
 use Rattle.machine.specs.Effect.{Works, attempt, effect, filled, next_of, ordered_by, worked}
-use Rattle.machine.specs.Run.{State, step, after, attempts, executed, attempted, is_running, is_checked, risen, standing_after, lines_of, restored, first_card}
+use Rattle.machine.specs.Run.{State, IsGivenUp, step, after, attempts, executed, attempted, is_running, is_checked, risen, standing_after, lines_of, restored, first_card}
 
 -- what an attempt does once the instruction is read
 pub attempt_is : (w : Works) (count : ℕ) (d : Decoded) → w.registers.i < length w.storage → Some count ≡ word_length w.storage w.registers.i → w.registers.i + count ≤ length w.storage →
@@ -324,6 +324,9 @@ step_keeps m = step_keeps_if m (is_running m.standing) refl
 pub stems_same : (m : State) → Stems m m
 stems_same m = keeps_same m.works.storage m.works.storage m.works.units refl
 
+pub stems_none : (old now : State) → now ≡ old → Stems old now
+stems_none old now same = rw same (stems_same old)
+
 stems_then : (old now next : State) → Stems old now → Stems now next → Stems old next
 stems_then old now next one two = keeps_then old.works.storage now.works.storage next.works.storage old.works.units now.works.units next.works.units one two
 
@@ -418,6 +421,16 @@ pub record Left (old now : State) (limit attempted old_ticks ticks : ℕ) : Type
   pub meter : risen ticks (attempts now (limit - attempted)) ≡ risen old_ticks (attempts old limit)
   pub attempts : attempted + attempts now (limit - attempted) ≡ attempts old limit
 
+pub left_none : (old now : State) (limit ticks : ℕ) → now ≡ old → Left old now limit 0 ticks ticks
+left_none old now limit ticks same =
+    let whole : limit - 0 ≡ limit = omega arith in
+    let all : attempts now (limit - 0) ≡ attempts old limit = ap (λ (m : State). attempts m (limit - 0)) same ∙ ap (attempts old) whole in
+    record {
+      machine = ap (λ (m : State). after m (limit - 0)) same ∙ ap (after old) whole;
+      meter = ap (risen ticks) all;
+      attempts = omega (arith, all);
+    }
+
 -- a run that is over
 pub record Over (old now : State) (limit attempted old_ticks ticks : ℕ) : Type 0 where
   pub machine : now ≡ after old limit
@@ -467,3 +480,41 @@ module _ (old now : State) (limit attempted old_ticks ticks : ℕ) (left : Left 
       let through : Makes old.works.units (after (step now) k).works.units =
       makes_through old now (step now) (after (step now) k) stems makes (stems_after (step now) (step now) k (stems_same (step now))) in
       rw whole at through
+
+-- ---- a run in its middle: how far it has come
+
+pub record Reached (old now : State) (attempted old_ticks ticks : ℕ) : Type 0 where
+  pub machine : after old attempted ≡ now
+  pub attempts : attempts old attempted ≡ attempted
+  pub meter : ticks ≡ risen old_ticks attempted
+
+after_one : (m : State) → after m 1 ≡ step m
+unfolding after
+after_one m = refl
+
+pub reached_none : (old now : State) (ticks : ℕ) → now ≡ old → Reached old now 0 ticks ticks
+unfolding after attempts
+reached_none old now ticks same = record { machine = sym same; attempts = refl; meter = risen_none ticks }
+
+module _ (old now : State) (attempted old_ticks ticks : ℕ) (reached : Reached old now attempted old_ticks ticks) where
+  one_further : after old (attempted + 1) ≡ step now
+  one_further = sym (after-after old attempted 1) ∙ ap (λ (m : State). after m 1) reached.machine ∙ after_one now
+
+  pub reached_step : (next : State) (next_ticks : ℕ) → is_running now.standing ≡ true → next ≡ step now → next_ticks ≡ risen ticks (attempts now 1) → Reached old next (attempted + 1) old_ticks next_ticks
+  reached_step next next_ticks running stepped ticked =
+      let one : attempts (after old attempted) 1 ≡ 1 = ap (λ (m : State). attempts m 1) reached.machine ∙ attempts_one now running in
+      record {
+        machine = one_further ∙ sym stepped;
+        attempts = omega (arith, attempts-add old attempted 1, reached.attempts, one);
+        meter = ticked ∙ ap (risen ticks) (attempts_one now running) ∙ ap (λ t. risen t 1) reached.meter ∙ risen-risen old_ticks attempted 1;
+      }
+
+  pub reached_given_up : (limit left_ticks : ℕ) → attempted < limit → Makes now.works.units (step now).works.units → left_ticks ≡ ticks → IsGivenUp old limit old_ticks left_ticks
+  reached_given_up limit left_ticks below makes same =
+      record {
+        done = attempted;
+        below = below;
+        attempted = reached.attempts;
+        wanting = rw (reached.machine, one_further) makes;
+        meter = same ∙ reached.meter;
+      }

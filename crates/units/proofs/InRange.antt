@@ -14,19 +14,16 @@ use Rattle.units.specs.declared.carriage.CarriageOrder.{CarriageOrder}
 use Rattle.units.specs.declared.carriage.CarriageOrder.TheVariants.{Now, AfterLine}
 use Rattle.units.specs.declared.carriage.Motion.{Motion}
 use Rattle.units.specs.declared.carriage.Motion.TheVariants.{Space, DoubleSpace, TripleSpace, SkipToChannel1}
-use Rattle.units.specs.declared.carriage.TheConstants.{LINES_OF_FORM, LAST_FORM}
 use Rattle.units.specs.declared.devices.Devices.{Devices}
 use Rattle.units.specs.declared.printer.Line.{Line}
-use Rattle.units.specs.declared.printer.TheConstants.{MOST_LINES}
-use Rattle.units.specs.declared.punch.TheConstants.{MOST_CARDS}
 use Rattle.units.specs.declared.ranges.Place.{Place}
 use Rattle.units.specs.declared.reader.Hopper.{Hopper}
 use Rattle.units.specs.declared.units.Units.{Units}
-use Rattle.units.specs.Carriages.{after_line, moved_by, spaced, sensed, on_next_form, ordered, carriage_moved}
+use Rattle.units.specs.Carriages.{after_line, moved_by, spaced, sensed, on_next_form, ordered, carriage_moved, lines_of_form, last_form}
 use Rattle.units.specs.Listing.{IsRising, IsAbove}
 use Rattle.units.specs.Printed.{Printed}
 use Rattle.units.specs.Ranges.{AreRising, AreUnits, HasPrinted, HasRead, IsBelow, IsOnForm, OnlyAdds, carriage_place, line_place, places_then, the_top}
-use Rattle.units.specs.Units.{card_read, card_punched, line_printed, reads, punches, prints, reader_works, punch_works, printer_works, operated}
+use Rattle.units.specs.Units.{most_cards, most_lines, card_read, card_punched, line_printed, reads, punches, prints, reader_works, punch_works, printer_works, operated}
 use Rattle.units.proofs.Outcomes.{Each, each_require, each_where, each_find, each_found, each_then, each_if, some_where, some_choice, of_ok}
 
 -- ---- the reader
@@ -49,17 +46,17 @@ card_read_read s h read =
 abbrev GoesBelow : Carriage → Carriage → Type 0
 GoesBelow c next = IsBelow (carriage_place c) (carriage_place next)
 
-next_form_below : (c : Carriage) (line : ℕ) → 1 ≤ line → line ≤ LINES_OF_FORM → IfSome (on_next_form c line) (GoesBelow c)
+next_form_below : (c : Carriage) (line : ℕ) → 1 ≤ line → line ≤ lines_of_form → IfSome (on_next_form c line) (GoesBelow c)
 next_form_below c line some most =
-    some_where (GoesBelow c) (ltb c.form LAST_FORM) (Some (record c { form = c.form + 1; line = line })) (λ e.
-    let below : c.form < LAST_FORM = ltb-true c.form LAST_FORM e in
+    some_where (GoesBelow c) (ltb c.form last_form) (Some (record c { form = c.form + 1; line = line })) (λ e.
+    let below : c.form < last_form = ltb-true c.form last_form e in
     ((omega arith, omega arith, some, most), inl (omega arith)))
 
 spaced_below : (c : Carriage) (count : ℕ) → 1 ≤ count → count ≤ 3 → IsOnForm (carriage_place c) → IfSome (spaced c count) (GoesBelow c)
 spaced_below c count some most (form_some, form_most, line_some, line_most) =
-    some_choice (GoesBelow c) (leb (c.line + count) LINES_OF_FORM) (Some (record c { line = c.line + count; channel_12 = sensed c count })) (on_next_form (record c { channel_12 = sensed c count }) (c.line + count - LINES_OF_FORM))
-    (λ e. let within : c.line + count ≤ LINES_OF_FORM = leb-true (c.line + count) LINES_OF_FORM e in ((form_some, form_most, omega arith, within), inr (refl, omega arith)))
-    (λ e. let beyond : LINES_OF_FORM < c.line + count = leb-false (c.line + count) LINES_OF_FORM e in next_form_below (record c { channel_12 = sensed c count }) (c.line + count - LINES_OF_FORM) (omega arith) (omega arith))
+    some_choice (GoesBelow c) (leb (c.line + count) lines_of_form) (Some (record c { line = c.line + count; channel_12 = sensed c count })) (on_next_form (record c { channel_12 = sensed c count }) (c.line + count - lines_of_form))
+    (λ e. let within : c.line + count ≤ lines_of_form = leb-true (c.line + count) lines_of_form e in ((form_some, form_most, omega arith, within), inr (refl, omega arith)))
+    (λ e. let beyond : lines_of_form < c.line + count = leb-false (c.line + count) lines_of_form e in next_form_below (record c { channel_12 = sensed c count }) (c.line + count - lines_of_form) (omega arith) (omega arith))
 
 moved_by_below : (motion : Motion) (c : Carriage) → IsOnForm (carriage_place c) → IfSome (moved_by motion c) (GoesBelow c)
 unfolding moved_by
@@ -86,7 +83,7 @@ unfolding line_printed
 line_printed_printed s p h =
     each_where HasPrinted _ PrinterFull _ (λ e.
     each_found (GoesBelow p.carriage) HasPrinted (after_line p.carriage) PrinterFull _ (after_line_below p.carriage (last_on_form _ p.lines _ h.places)) (λ carriage below.
-    let room : length p.lines < MOST_LINES = ltb-true (length p.lines) MOST_LINES e in
+    let room : length p.lines < most_lines = ltb-true (length p.lines) most_lines e in
     record { most = omega (arith, length-append {A = Line}); places = rising_more _ p.lines _ (carriage_place carriage) h.places below }))
 
 abbrev IsAfter : Place → Place → Type 0
@@ -114,11 +111,11 @@ carriage_printed (AfterLine motion) p h = record { most = h.most; places = h.pla
 
 -- ---- one operation
 
-card_punched_most : (s : Storage) (cards : List Card) → length cards ≤ MOST_CARDS → Each (λ after_it. length after_it ≤ MOST_CARDS) (card_punched s cards)
+card_punched_most : (s : Storage) (cards : List Card) → length cards ≤ most_cards → Each (λ after_it. length after_it ≤ most_cards) (card_punched s cards)
 unfolding card_punched
 card_punched_most s cards most =
-    each_where (λ after_it. length after_it ≤ MOST_CARDS) _ PunchFull _ (λ e.
-    let room : length cards < MOST_CARDS = ltb-true (length cards) MOST_CARDS e in omega (arith, length-append {A = Card}))
+    each_where (λ after_it. length after_it ≤ most_cards) _ PunchFull _ (λ e.
+    let room : length cards < most_cards = ltb-true (length cards) most_cards e in omega (arith, length-append {A = Card}))
 
 abbrev Leaves : Storage × Units → Type 0
 Leaves (s, u) = AreUnits u
@@ -128,9 +125,9 @@ pub operated_in_range : (devices : Devices) (s : Storage) (u : Units) → AreUni
 unfolding operated reader_works punch_works printer_works
 operated_in_range devices s u h =
     each_then LeavesRead Leaves (reader_works devices s u.hopper) _ (each_if LeavesRead (reads devices) (card_read s u.hopper) (s, u.hopper) (card_read_read s u.hopper h.reader) h.reader) (λ read has_read.
-    each_then (λ cards. length cards ≤ MOST_CARDS) Leaves (punch_works devices s u.punch) _ (each_if (λ cards. length cards ≤ MOST_CARDS) (punches devices) (card_punched s u.punch) u.punch (card_punched_most s u.punch h.punch) h.punch) (λ cards most.
+    each_then (λ cards. length cards ≤ most_cards) Leaves (punch_works devices s u.punch) _ (each_if (λ cards. length cards ≤ most_cards) (punches devices) (card_punched s u.punch) u.punch (card_punched_most s u.punch h.punch) h.punch) (λ cards most.
     each_then HasPrinted Leaves (printer_works devices s u.printer) _ (each_if HasPrinted (prints devices) (line_printed s u.printer) u.printer (line_printed_printed s u.printer h.printer) h.printer) (λ printed has_printed.
-    record { reader = has_read; punch = most; printer = has_printed })))
+    record { reader = has_read; punch = most; printer = has_printed; switches = h.switches })))
 
 -- ---- what an operation keeps
 
@@ -157,7 +154,7 @@ card_punched_keeps : (s : Storage) (cards : List Card) → Each (Begins cards) (
 unfolding card_punched
 card_punched_keeps s cards =
     let card : Card = record { 0 = codes_from s 101 80 } in
-    each_require (Begins cards) (ltb (length cards) MOST_CARDS) PunchFull (Ok (cards ++ card ∷ [])) (card ∷ [], refl)
+    each_require (Begins cards) (ltb (length cards) most_cards) PunchFull (Ok (cards ++ card ∷ [])) (card ∷ [], refl)
 
 line_printed_keeps : (s : Storage) (p : Printed) → Each (λ after_it. Begins p.lines after_it.lines) (line_printed s p)
 unfolding line_printed

@@ -1,5 +1,5 @@
 -- the sense switches of the console
-use Rattle.std.specs.Prelude.{ℕ, ◌%◌, ◌<◌}
+use Rattle.std.specs.Prelude.{◌%◌, ◌<◌}
 use Rattle.units.specs.declared.switches.Switches.{Switches}
 
 -- the set that a byte represents: A is the lowest bit and G the seventh; the eighth is no switch

@@ -16,11 +16,11 @@ invariant_of-parts g c =
 pub invariant_of-result : goal.invariant_of-result
 invariant_of-result g c =
     let s = g.C.Core.cells c.in_ok-core.core in (
-      rw (c.in_ok-core.ensures, c.first_registers.ensures, c.new.ensures.items, c.new-2.ensures.items, c.at_the_top.ensures)
+      rw (c.in_ok-core.ensures, c.first_registers.ensures, c.new.ensures.items, c.new-2.ensures.items, c.at_the_top.ensures, c.seven.ensures.set)
           (loaded_in_range c.args.deck c.args.size c.args.switches c.requires),
       length-loaded s c.args.size (first_card c.args.deck) c.in_ok-core.ensures ∙ sym (ap length c.in_ok-spare.ensures ∙ length-replicate (positions_of c.args.size) _),
     )
 
 pub returns : goal.returns
 returns g c =
-    rw (c.in_ok-core.ensures, c.first_registers.ensures, c.new.ensures.items, c.new-2.ensures.items, c.at_the_top.ensures) refl
+    rw (c.in_ok-core.ensures, c.first_registers.ensures, c.new.ensures.items, c.new-2.ensures.items, c.at_the_top.ensures, c.seven.ensures.set) refl
