@@ -32,7 +32,7 @@ Wants words (Assemble source out) = HasValues name.Assemble (source.now ∷ out.
 -- what is wrong with the texts of a size and of switches: the size where it is none, and else the switches
 abbrev pub IsValueMisuse : List ℕ → List ℕ → Misuse → Type 0
 IsValueMisuse size switches misuse.Size = (s : Size) → size ≢ decimal (positions_of s)
-IsValueMisuse size switches misuse.Switches = (w : Switches) → AreSeven w → switches ≢ text_of w
+IsValueMisuse size switches misuse.Switches = ((s : Size) × (size ≡ decimal (positions_of s))) × ((w : Switches) → AreSeven w → switches ≢ text_of w)
 IsValueMisuse size switches _ = ⊥
 
 -- words of a row `run` with values that are wrong

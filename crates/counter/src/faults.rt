@@ -18,7 +18,7 @@ pub enum Fault {
     Card(CardFault),
     /// The deck that is to be run has no card.
     Empty,
-    /// The cards that load a program and the data cards behind them are over 2,000.
+    /// The cards that load a program and the data cards after them are over 2,000.
     TooManyCards,
     /// There is no memory for the machine, for what is assembled, or for a listing.
     Memory,

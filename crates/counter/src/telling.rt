@@ -53,8 +53,8 @@ pub fn tell_fault<E: Write>(errors: &mut E, fault: Fault) -> io::Result<Status>
 /// Tells what is wrong with the words, and how the program is called; or, where they ask for help
 /// without hyphens, this help alone. An error is the writer's.
 pub fn tell_misuse<E: Write>(errors: &mut E, misuse: Misuse<'_>) -> io::Result<Status>
-    ensures { IfOk result (λ status. (status ≡ misuse_status misuse)
-        × Appends (E.contents errors.old) (E.contents errors.new) (misuse_message USAGE.now misuse)) }
+    ensures { IfOk result (λ status. (status ≡ misuse_status misuse.entry)
+        × Appends (E.contents errors.old) (E.contents errors.new) (misuse_message USAGE.now misuse.entry)) }
 {
     if misuse.is_want_of_memory() {
         return tell_fault(errors, Fault::Memory);
