@@ -1,22 +1,32 @@
 //! The program: joins the counter to the process's words, files and streams.
+//!
+//! What the words ask for, what is printed and how it ends is proved in the counter. The clauses of
+//! the kit say nothing of what a file holds, so that the right files are read and written, and that
+//! OUT is written only where a deck was made, is shown by `cases/check` and `examples/check`.
 #![tactic(auto)]
 
+ghost use Rattle.std.specs.Prelude.{◌<◌};
+ghost use Rattle.std.specs.Process.{exit_status};
+
+mod out;
+
 use counter::{
-    Assembled, Fault, Misuse, Source, Status, Task, assemble_deck, run_deck, show_help, task_of,
-    tell_fault, tell_misuse,
+    Assembled, Fault, Misuse, Source, Status, Task, assemble_deck, run_deck, show_help,
+    show_version, task_of, tell_fault, tell_misuse,
 };
+use out::put_file;
 use std::fs::File;
 use std::io::Write;
 use std::process::ExitCode;
-use std::{env, fs, io};
+use std::{env, io};
 
 /// The words, with the program's name in front.
-fn words_given(rt: &HostRuntime) -> Result<Vec<String>, Misuse> {
+fn words_given(rt: &HostRuntime) -> Result<Vec<String>, Misuse<'static>> {
     Ok(env::args(rt)?.collect(rt.alloc())?)
 }
 
 /// Assembles the source in a file, and writes the deck that runs its program. The first file is
-/// read to its end before the second is opened, so both may be one.
+/// read to its end before the second is looked at, so both may be one.
 fn assemble<W: Write, E: Write>(
     rt: &HostRuntime,
     source: &str,
@@ -31,7 +41,7 @@ fn assemble<W: Write, E: Write>(
         Assembled {
             status,
             out: Some(deck),
-        } => match fs::write(rt, out, &deck) {
+        } => match put_file(rt, out, &deck) {
             Ok(()) => Ok(status),
             Err(_) => tell_fault(errors, Fault::Device),
         },
@@ -49,9 +59,10 @@ fn done(rt: &HostRuntime) -> io::Result<Status> {
         Err(misuse) => return tell_misuse(&mut errors, misuse),
     };
     let words = words.as_slice();
-    let behind_name = if words.is_empty() { words } else { &words[1..] };
-    match task_of(alloc, behind_name) {
-        Ok(Task::Help) => show_help(&mut output, &mut errors),
+    let after_name = if words.is_empty() { words } else { &words[1..] };
+    match task_of(alloc, after_name) {
+        Ok(Task::Help(row)) => show_help(&mut output, &mut errors, row),
+        Ok(Task::Version) => show_version(&mut output, &mut errors),
         Ok(
             Task::Run {
                 deck: Source::Input,
@@ -74,8 +85,11 @@ fn done(rt: &HostRuntime) -> io::Result<Status> {
     }
 }
 
-/// An error here is one of the standard error, on which nothing can be told: status 1.
-fn main(rt: HostRuntime) -> ExitCode {
+/// The exit status is 0, 1 or 2. An error here is one of the standard error, to which nothing can
+/// be written: status 1.
+fn main(rt: HostRuntime) -> ExitCode
+    ensures { exit_status result < 3 }
+{
     match done(&rt) {
         Ok(status) => ExitCode::from(status.code()),
         Err(_) => ExitCode::from(Status::Told.code()),

@@ -33,7 +33,7 @@ abbrev pub loading_cards_of : List Card → List Card
 loading_cards_of source = loading_cards (image_of (size_for source) (layout_for source))
     (start_by (size_for source) (slots_of (layout_for source)) (last_line source))
 
--- the cards behind the source of a deck
+-- the cards after the source of a deck
 abbrev pub data_of : List Card → List Card
 data_of deck = drop (length (source_of deck)) deck
 

@@ -3,6 +3,7 @@ use Rattle.std.specs.Prelude.{◌≡◌, ◌⊎◌, ℕ, List, [], ◌∷◌, �
 use Rattle.std.specs.Io.KnownBytes.{Appends, Keeps}
 use Rattle.std.specs.declared.io.ErrorKind.{ErrorKind}
 use Rattle.std.specs.declared.io.ErrorKind.TheVariants.{OutOfMemory}
+use Rattle.cards.specs.Faults.{out_of_memory}
 use Rattle.cards.specs.Numbers.{card_error_number}
 use Rattle.cards.specs.declared.faults.DeckFault.{DeckFault}
 use Rattle.cards.specs.declared.faults.DeckFault.TheVariants as deck
@@ -10,7 +11,7 @@ use Rattle.core_store.specs.declared.registers.Check.{Check}
 use Rattle.core_store.specs.declared.registers.Check.TheVariants as check
 use Rattle.machine.specs.declared.parts.Standing.{Standing}
 use Rattle.machine.specs.declared.parts.Standing.TheVariants as standing
-use Rattle.words.specs.Asked.{complaint}
+use Rattle.words.specs.Asked.{complaint, is_help_fault}
 use Rattle.words.specs.declared.WordsFault.TheVariants.{Memory}
 use Rattle.counter.specs.declared.tasks.Misuse.{Misuse}
 use Rattle.counter.specs.declared.tasks.Misuse.TheVariants as misuse
@@ -58,6 +59,11 @@ fault_words fault.TooManyCards = codes "fault 33"
 fault_words fault.Memory = codes "fault 1"
 fault_words fault.Device = codes "fault device"
 
+-- the text of a deck can't be read for want of memory, or because its reader failed
+abbrev pub reading_fault : ErrorKind → Fault
+reading_fault OutOfMemory = fault.Card out_of_memory
+reading_fault _ = fault.Device
+
 -- what is told where a deck takes no further card
 abbrev pub fault_of_deck : DeckFault → Fault
 fault_of_deck deck.TooManyCards = fault.TooManyCards
@@ -83,16 +89,23 @@ abbrev pub is_want_of_memory : Misuse → Bool
 is_want_of_memory (misuse.Words Memory) = true
 is_want_of_memory _ = false
 
--- a complaint and the line on how the program is called; want of memory is a fault, and no misuse
+-- the words ask for help, without hyphens
+abbrev pub asks_for_help : Misuse → Bool
+asks_for_help (misuse.Words f) = is_help_fault f
+asks_for_help _ = false
+
+-- a complaint and the line on how the program is called; want of memory is a fault, and no misuse;
+-- and in place of a complaint the help that the words ask for
 abbrev pub misuse_message : List ℕ → Misuse → List ℕ
 misuse_message usage m = if is_want_of_memory m then fault_words fault.Memory ++ 10 ∷ []
-    else codes "bureau: " ++ misuse_words m ++ 10 ∷ usage ++ 10 ∷ []
+    else (if asks_for_help m then misuse_words m
+    else codes "bureau: " ++ misuse_words m ++ 10 ∷ usage ++ 10 ∷ [])
 
 abbrev pub misuse_status : Misuse → Status
 misuse_status m = if is_want_of_memory m then status.Told else status.Misused
 
--- the help went out, or the output failed
-abbrev pub IsHelpShown : List ℕ → Status → Option (List ℕ) → Option (List ℕ) → Option (List ℕ) → Option (List ℕ) → Type 0
-IsHelpShown help ended output_old output_new errors_old errors_new =
-    ((ended ≡ status.Done) × Appends output_old output_new help × Keeps errors_old errors_new)
+-- the text went out, or the output failed
+abbrev pub IsTextShown : List ℕ → Status → Option (List ℕ) → Option (List ℕ) → Option (List ℕ) → Option (List ℕ) → Type 0
+IsTextShown text ended output_old output_new errors_old errors_new =
+    ((ended ≡ status.Done) × Appends output_old output_new text × Keeps errors_old errors_new)
     ⊎ ((ended ≡ status.Told) × Appends errors_old errors_new (fault_words fault.Device ++ 10 ∷ []))

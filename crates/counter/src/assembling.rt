@@ -1,6 +1,6 @@
 //! Assembling a deck from a reader.
 
-ghost use Rattle.std.specs.Prelude.{◌≡◌, ◌≤◌, ◌<◌, ◌⊎◌, List, ℕ, length, IfOk, IfErr};
+ghost use Rattle.std.specs.Prelude.{◌≡◌, ◌≢◌, ◌≤◌, ◌<◌, ◌⊎◌, List, ℕ, length, IfOk, IfErr};
 ghost use Rattle.cards.specs.Decks.{largest_deck};
 ghost use Rattle.layout.specs.Source.{source_of};
 ghost use Rattle.autocoder.specs.Programs.{IsProgramOf};
@@ -44,7 +44,7 @@ enum Hindrance {
     Fault(Fault),
 }
 
-/// The data cards: those behind the source.
+/// The data cards: those after the source.
 #[tactic(auto, using(crate::proofs::Behind::source_within))]
 fn data_in<'a>(deck: &'a Deck, program: &Program) -> &'a [Card]
     requires program { IsProgramOf (source_of deck.now) program.now }
@@ -82,6 +82,7 @@ fn product_of(alloc: Global, deck: &Deck, program: &Program) -> Result<Product, 
 fn assembled_in(alloc: Global, text: &[u8]) -> Result<Product, Hindrance>
     ensures made { IfOk result (λ product. IsMadeOf text.now (made_by product)) }
     ensures ends { IfErr result (λ hindrance. Ends text.now (ending_by hindrance)) }
+    ensures no_device { IfErr result (λ hindrance. hindrance ≢ Hindrance.Fault Fault.Device) }
 {
     let deck = match read_text(alloc, text) {
         Ok(deck) => deck,

@@ -1,13 +1,15 @@
 //! What is told in place of a deck's work.
 
-ghost use Rattle.std.specs.Prelude.{Some};
-ghost use Rattle.counter.specs.Told.{fault_words};
+ghost use Rattle.std.specs.Prelude.{◌≡◌, Some};
+ghost use Rattle.std.specs.IoError.{error_kind};
+ghost use Rattle.counter.specs.Told.{fault_words, reading_fault};
 
-use cards::{CardFault, DeckFault};
+use cards::{CardError, CardFault, DeckFault};
 use std::alloc::AllocError;
 use std::error::Error;
-use std::fmt;
 use std::fmt::{Display, Formatter};
+use std::io::ErrorKind;
+use std::{fmt, io};
 
 /// Why a deck isn't run or assembled. It prints as it is told.
 #[derive(Clone, Copy, Debug, PartialEq, Eq)]
@@ -16,12 +18,28 @@ pub enum Fault {
     Card(CardFault),
     /// The deck that is to be run has no card.
     Empty,
-    /// The cards that load a program and the data cards behind them are over 2,000.
+    /// The cards that load a program and the data cards after them are over 2,000.
     TooManyCards,
     /// There is no memory for the machine, for what is assembled, or for a listing.
     Memory,
     /// A deck can't be read, or a listing or a deck not be written.
     Device,
+}
+
+impl Fault {
+    /// The fault of a reader that gives this error.
+    pub(crate) fn of_reading(error: &io::Error) -> Fault
+        ensures { result ≡ reading_fault (error_kind error.now) }
+    {
+        match error.kind() {
+            ErrorKind::OutOfMemory => Fault::Card(CardFault {
+                error: CardError::NoMemory,
+                card: 0,
+                column: 0,
+            }),
+            _ => Fault::Device,
+        }
+    }
 }
 
 impl Display for Fault {

@@ -29,4 +29,4 @@ pub use sizes::size_of;
 pub use statuses::Status;
 pub use switches::switches_of;
 pub use tasks::{Misuse, Source, Task, task_of};
-pub use telling::{show_help, tell_fault, tell_misuse};
+pub use telling::{show_help, show_version, tell_fault, tell_misuse};

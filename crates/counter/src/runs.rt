@@ -12,15 +12,15 @@ use crate::faults::Fault;
 use crate::reports::{Report, Stand};
 use crate::statuses::Status;
 use crate::telling::{put_out, tell_fault};
-use cards::{CardError, CardFault, Deck, read_text};
+use cards::{Deck, read_text};
 use core_store::{PlaneCore, Size};
 use machine::{Machine, Meter};
 use std::alloc::{AllocError, Global};
 use std::io;
-use std::io::{ErrorKind, Read, Write};
+use std::io::{Read, Write};
 use units::{Switches, render};
 
-/// No more of a reader is read: the text of 2,000 cards, and one byte more, which tells that there
+/// No more of a reader is read: the text of 2,000 cards, and one byte more, which shows that there
 /// are too many.
 pub const MOST_BYTES: u64 = 162_001;
 
@@ -42,12 +42,7 @@ pub(crate) fn text_in<R: Read + Drop>(alloc: Global, reader: R) -> Result<Vec<u8
     let mut text = Vec::new(alloc);
     match reader.take(MOST_BYTES).read_to_end(&mut text) {
         Ok(_) => Ok(text),
-        Err(error) if error.kind() == ErrorKind::OutOfMemory => Err(Fault::Card(CardFault {
-            error: CardError::NoMemory,
-            card: 0,
-            column: 0,
-        })),
-        Err(_) => Err(Fault::Device),
+        Err(error) => Err(Fault::of_reading(&error)),
     }
 }
 

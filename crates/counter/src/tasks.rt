@@ -1,11 +1,12 @@
 //! What the program's words ask for, with their values read.
 
-ghost use Rattle.std.specs.Prelude.{◌≡◌, ◌↔◌, IfOk, IfErr, Ok};
-ghost use Rattle.words.specs.Asked.{IsHelp};
-ghost use Rattle.words.specs.Plain.{ArePlain, texts};
+ghost use Rattle.std.specs.Prelude.{◌≡◌, ◌↔◌, Option, IfOk, IfErr, Ok};
+ghost use Rattle.words.specs.Asked.{IsHelp, IsVersion};
+ghost use Rattle.words.specs.Plain.{texts};
+ghost use Rattle.words.specs.declared.RowName.{RowName};
 ghost use Rattle.words.specs.declared.WordsFault.TheVariants.{Memory};
-ghost use Rattle.counter.specs.Told.{is_want_of_memory};
-ghost use Rattle.counter.specs.Tasks.{Wants, WantsRun};
+ghost use Rattle.counter.specs.Told.{asks_for_help, is_want_of_memory};
+ghost use Rattle.counter.specs.Tasks.{IsMisuse, IsValueMisuse, Wants, WantsRun};
 ghost use Rattle.counter.specs.declared.tasks.Task.{Task};
 
 use crate::sizes::size_of;
@@ -17,7 +18,7 @@ use std::fmt::{Display, Formatter};
 use std::io::ErrorKind;
 use std::{fmt, io};
 use units::Switches;
-use words::{Words, WordsFault};
+use words::{RowName, Words, WordsFault};
 
 /// Where a deck's text comes from.
 #[derive(Clone, Copy, Debug, PartialEq, Eq)]
@@ -31,8 +32,10 @@ pub enum Source<'a> {
 /// What the program is to do.
 #[derive(Clone, Copy, Debug, PartialEq, Eq)]
 pub enum Task<'a> {
-    /// Print the help.
-    Help,
+    /// Print the help of a row, or the whole help.
+    Help(Option<RowName>),
+    /// Print the version.
+    Version,
     /// Run a deck without a bureau.
     Run {
         deck: Source<'a>,
@@ -50,9 +53,9 @@ pub enum Task<'a> {
 
 /// Why words ask for nothing that the program does. It prints as a complaint to the caller.
 #[derive(Clone, Copy, Debug, PartialEq, Eq)]
-pub enum Misuse {
+pub enum Misuse<'a> {
     /// They are no row's, or there was no memory to read them.
-    Words(WordsFault),
+    Words(WordsFault<'a>),
     /// A word is no text.
     NoText,
     /// SIZE is no size of storage.
@@ -61,16 +64,26 @@ pub enum Misuse {
     Switches,
 }
 
-impl Misuse {
+impl<'a> Misuse<'a> {
     /// Whether there was no memory to read the words, which is a fault and no misuse.
     pub(crate) fn is_want_of_memory(&self) -> bool
         ensures { result ≡ is_want_of_memory self.now }
     {
         matches!(self, Misuse::Words(WordsFault::Memory))
     }
+
+    /// Whether the words ask for help, without hyphens.
+    pub(crate) fn asks_for_help(&self) -> bool
+        ensures { result ≡ asks_for_help self.now }
+    {
+        match self {
+            Misuse::Words(fault) => fault.is_help(),
+            _ => false,
+        }
+    }
 }
 
-impl Display for Misuse {
+impl<'a> Display for Misuse<'a> {
     ghost use Rattle.std.specs.Prelude.{Some};
     ghost use Rattle.counter.specs.Told.{misuse_words};
 
@@ -88,26 +101,26 @@ impl Display for Misuse {
     }
 }
 
-impl Error for Misuse {}
+impl<'a> Error for Misuse<'a> {}
 
-impl From<AllocError> for Misuse {
+impl<'a> From<AllocError> for Misuse<'a> {
     ghost use Rattle.counter.specs.Told.{want_of_memory};
 
     ghost from_gives = { λ _ misuse. misuse ≡ want_of_memory };
 
-    fn from(_error: AllocError) -> Misuse {
+    fn from(_error: AllocError) -> Misuse<'a> {
         Misuse::Words(WordsFault::Memory)
     }
 }
 
 /// Why the process has no words to give.
-impl From<io::Error> for Misuse {
+impl<'a> From<io::Error> for Misuse<'a> {
     ghost use Rattle.std.specs.IoError.{error_kind};
     ghost use Rattle.counter.specs.Told.{misuse_of};
 
     ghost from_gives = { λ error misuse. misuse ≡ misuse_of (error_kind error) };
 
-    fn from(error: io::Error) -> Misuse {
+    fn from(error: io::Error) -> Misuse<'a> {
         match error.kind() {
             ErrorKind::OutOfMemory => Misuse::Words(WordsFault::Memory),
             _ => Misuse::NoText,
@@ -116,9 +129,10 @@ impl From<io::Error> for Misuse {
 }
 
 /// The task of a row `run`.
-fn run_task<'a>(deck: &'a str, size: &str, switches: &str) -> Result<Task<'a>, Misuse>
+fn run_task<'a>(deck: &'a str, size: &str, switches: &str) -> Result<Task<'a>, Misuse<'a>>
     ensures ok { IfOk result (WantsRun deck.entry.now size.now switches.now) }
     ensures err { IfErr result (λ _. (task : Task) → ¬ WantsRun deck.entry.now size.now switches.now task) }
+    ensures misuse { IfErr result (IsValueMisuse size.now switches.now) }
 {
     let Some(size) = size_of(size) else {
         return Err(Misuse::Size);
@@ -135,14 +149,17 @@ fn run_task<'a>(deck: &'a str, size: &str, switches: &str) -> Result<Task<'a>, M
 
 /// The task that the words ask for.
 #[tactic(auto, unfolding(crate::specs::Switches::letters_of))]
-pub fn task_of<'a>(alloc: Global, words: &'a [String]) -> Result<Task<'a>, Misuse>
-    ensures ok { IfOk result (λ task. ArePlain (texts words.entry.now) → Wants (texts words.entry.now) task) }
-    ensures err { IfErr result (λ misuse. ArePlain (texts words.entry.now)
-        → (task : Task) → Wants (texts words.entry.now) task → misuse ≡ Misuse.Words Memory) }
-    ensures help { (result ≡ Ok Task.Help) ↔ IsHelp (texts words.entry.now) }
+pub fn task_of<'a>(alloc: Global, words: &'a [String]) -> Result<Task<'a>, Misuse<'a>>
+    ensures ok { IfOk result (Wants (texts words.entry.now)) }
+    ensures err { IfErr result (λ misuse. (task : Task) → Wants (texts words.entry.now) task
+        → misuse ≡ Misuse.Words Memory) }
+    ensures help { (row : Option RowName) → (result ≡ Ok (Task.Help row)) ↔ IsHelp row (texts words.entry.now) }
+    ensures version { (result ≡ Ok Task.Version) ↔ IsVersion (texts words.entry.now) }
+    ensures misuse { IfErr result (IsMisuse (texts words.entry.now)) }
 {
     match words::words(alloc, words) {
-        Ok(Words::Help) => Ok(Task::Help),
+        Ok(Words::Help(row)) => Ok(Task::Help(row)),
+        Ok(Words::Version) => Ok(Task::Version),
         Ok(Words::Standard) => Ok(Task::Run {
             deck: Source::Input,
             size: Size::Positions4000,

@@ -4,3 +4,5 @@ pub mod Two
 pub mod Three
 pub mod Rows
 pub mod Taken
+pub mod Items
+pub mod Ways

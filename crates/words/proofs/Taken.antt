@@ -1,5 +1,5 @@
 -- Of plain words clap takes those of the rows and no others, and finds their values.
-use Rattle.std.proofs.Common.{◌≡◌, ◌∙◌, Bool, List, [], ◌∷◌, true, false, codes, refl, Some, None, ap, sym, subst, inl, inr}
+use Rattle.std.proofs.Common.{◌≡◌, ◌∙◌, Bool, List, [], ◌∷◌, true, false, codes, refl, Some, None, ap, sym, subst}
 use Rattle.std.specs.Prelude.{Option}
 use Rattle.std.specs.Str.{bytes_eq}
 use Rattle.std.proofs.lemmas.List.Elements.{All-head, All-tail}
@@ -9,7 +9,7 @@ use Rattle.clap.specs.Simple.{Shape, subcommand_of}
 use Rattle.clap.specs.Faults.{fault_of}
 use Rattle.clap.proofs.OnLiterals.{clap_on_literals}
 use Rattle.words.specs.Command.{bureau}
-use Rattle.words.specs.Asked.{Asks, HasThree, HasTwo, IsHelp, IsRow}
+use Rattle.words.specs.Asked.{HasThree, HasTwo, IsRow, Spells}
 use Rattle.words.specs.declared.asked.Words.{Words}
 use Rattle.words.specs.declared.asked.Words.TheVariants as row
 use Rattle.words.specs.Plain.{ArePlain, is_plain}
@@ -45,7 +45,7 @@ two_found_with : (name a b : Text) → IsEntered name (two.two name) → IsValue
 two_found_with name a b is u v = row_found name (two.two name) (a ∷ b ∷ []) is
     ∙ ap (λ (rows : List Row). Some (name, rows)) (two.two_rows name a b u v)
 
--- the words behind the name of a row of three values are three
+-- the words after the name of a row of three values are three
 record AreThree (name : Text) (words : List Text) : Type 0 where
   a : Text
   b : Text
@@ -76,7 +76,7 @@ three_values name (a ∷ b ∷ c ∷ d ∷ more) is plain e =
     let x = plain_head d more (plain_tail c (d ∷ more) behind_b) in
     absurd (three.more_given name a b c d more u v w x e)
 
--- the words behind the name of a row of two values are two
+-- the words after the name of a row of two values are two
 record AreTwo (name : Text) (words : List Text) : Type 0 where
   a : Text
   b : Text
@@ -128,13 +128,6 @@ taken (w ∷ ws) plain e = go_run (bytes_eq (codes "run") w) refl
         let clean = faults_behind (codes "run") w ws (three.three (codes "run")) run_entered is e in
         subst (λ (x : Text). IsTaken (x ∷ ws)) is (run_taken ws (three_values (codes "run") ws run_entered (plain_tail w ws plain) clean))
 
--- a help word is not plain
-no_help : (words : List Text) → ArePlain words → ¬ IsHelp words
-no_help words plain (inl e) =
-    let k : is_plain (codes "--help") ≡ true = All-head (λ x. is_plain x ≡ true) (codes "--help") [] (subst ArePlain e plain) in cc
-no_help words plain (inr e) =
-    let k : is_plain (codes "-h") ≡ true = All-head (λ x. is_plain x ≡ true) (codes "-h") [] (subst ArePlain e plain) in cc
-
 no_words : (fault_of bureau [] ≡ []) × (subcommand_of bureau [] ≡ None)
 unfolding clap_on_literals
 no_words = (refl, refl)
@@ -150,17 +143,18 @@ two_at name a b = (two.first_found name a b, two.second_found name a b)
 same_text : {a b : Text} {o : Option Text} → o ≡ Some a → o ≡ Some b → b ≡ a
 same_text e f = cc
 
-no_asked : (words : List Text) (asked : Words) → words ≡ [] → IsRow None asked → Asks words asked
+no_asked : (words : List Text) (asked : Words) → words ≡ [] → IsRow None asked → Spells words asked
 no_asked words row.Standard empty r = empty
 no_asked words (row.Run deck size switches) empty r = absurd r
 no_asked words (row.Assemble source out) empty r = absurd r
-no_asked words row.Help empty r = absurd r
+no_asked words (row.Help page) empty r = absurd r
+no_asked words row.Version empty r = absurd r
 
 other_name : codes "assemble" ≡ codes "run" → ⊥
 other_name e = cc
 
 run_asked : (words : List Text) (asked : Words) (a b c : Text) → words ≡ codes "run" ∷ a ∷ b ∷ c ∷ []
-    → IsRow (Some (codes "run", three.three_found (codes "run") a b c)) asked → Asks words asked
+    → IsRow (Some (codes "run", three.three_found (codes "run") a b c)) asked → Spells words asked
 run_asked words row.Standard a b c spelt r = absurd r
 run_asked words (row.Run deck size switches) a b c spelt r =
     let found = three_at (codes "run") a b c in
@@ -168,21 +162,23 @@ run_asked words (row.Run deck size switches) a b c spelt r =
     let second : size.now ≡ b = same_text found.1 r.1.1 in
     let third : switches.now ≡ c = same_text found.2 r.1.2 in cc
 run_asked words (row.Assemble source out) a b c spelt r = absurd (other_name (sym r.0))
-run_asked words row.Help a b c spelt r = absurd r
+run_asked words (row.Help page) a b c spelt r = absurd r
+run_asked words row.Version a b c spelt r = absurd r
 
 assemble_asked : (words : List Text) (asked : Words) (a b : Text) → words ≡ codes "assemble" ∷ a ∷ b ∷ []
-    → IsRow (Some (codes "assemble", two.two_found (codes "assemble") a b)) asked → Asks words asked
+    → IsRow (Some (codes "assemble", two.two_found (codes "assemble") a b)) asked → Spells words asked
 assemble_asked words row.Standard a b spelt r = absurd r
 assemble_asked words (row.Run deck size switches) a b spelt r = absurd (other_name r.0)
 assemble_asked words (row.Assemble source out) a b spelt r =
     let found = two_at (codes "assemble") a b in
     let first : source.now ≡ a = same_text found.0 r.1.0 in
     let second : out.now ≡ b = same_text found.1 r.1.1 in cc
-assemble_asked words row.Help a b spelt r = absurd r
+assemble_asked words (row.Help page) a b spelt r = absurd r
+assemble_asked words row.Version a b spelt r = absurd r
 
 -- the row that clap finds in plain words is the row that they spell
 pub row_asked : (words : List Text) (asked : Words) → ArePlain words → fault_of bureau words ≡ []
-    → IsRow (subcommand_of bureau words) asked → Asks words asked
+    → IsRow (subcommand_of bureau words) asked → Spells words asked
 row_asked words asked plain e is = elim (taken words plain e) [
   | none empty ↦ no_asked words asked empty (subst (λ (o : Option (Text × List Row)). IsRow o asked) (ap (subcommand_of bureau) empty ∙ no_words.1) is)
   | run a b c spelt found ↦ run_asked words asked a b c spelt (subst (λ (o : Option (Text × List Row)). IsRow o asked) found is)
@@ -215,7 +211,7 @@ two_row name a b is plain =
     let behind = plain_tail name (a ∷ b ∷ []) plain in
     two_found_with name a b is (plain_head a (b ∷ []) behind) (plain_head b [] (plain_tail a (b ∷ []) behind))
 
-pub asked_fault : (words : List Text) (asked : Words) → ArePlain words → Asks words asked → fault_of bureau words ≡ []
+pub asked_fault : (words : List Text) (asked : Words) → ArePlain words → Spells words asked → fault_of bureau words ≡ []
 asked_fault words row.Standard plain e = ap (fault_of bureau) e ∙ no_words.0
 asked_fault words (row.Run deck size switches) plain e = ap (fault_of bureau) e
     ∙ (row_fault (codes "run") _ (deck.now ∷ size.now ∷ switches.now ∷ []) run_entered
@@ -223,9 +219,10 @@ asked_fault words (row.Run deck size switches) plain e = ap (fault_of bureau) e
 asked_fault words (row.Assemble source out) plain e = ap (fault_of bureau) e
     ∙ (row_fault (codes "assemble") _ (source.now ∷ out.now ∷ []) assemble_entered
     ∙ two_clean (codes "assemble") source.now out.now (subst ArePlain e plain))
-asked_fault words row.Help plain e = absurd (no_help words plain e)
+asked_fault words (row.Help page) plain e = absurd e
+asked_fault words row.Version plain e = absurd e
 
-pub asked_row : (words : List Text) (asked : Words) → ArePlain words → Asks words asked → IsRow (subcommand_of bureau words) asked
+pub asked_row : (words : List Text) (asked : Words) → ArePlain words → Spells words asked → IsRow (subcommand_of bureau words) asked
 asked_row words row.Standard plain e =
     subst (λ (o : Option (Text × List Row)). IsRow o row.Standard) (sym (ap (subcommand_of bureau) e ∙ no_words.1)) tt
 asked_row words (row.Run deck size switches) plain e =
@@ -236,4 +233,5 @@ asked_row words (row.Assemble source out) plain e =
     subst (λ (o : Option (Text × List Row)). IsRow o (row.Assemble source out))
     (sym (ap (subcommand_of bureau) e ∙ two_row (codes "assemble") source.now out.now assemble_entered (subst ArePlain e plain)))
     (refl, two_at (codes "assemble") source.now out.now)
-asked_row words row.Help plain e = absurd (no_help words plain e)
+asked_row words (row.Help page) plain e = absurd e
+asked_row words row.Version plain e = absurd e

@@ -15,3 +15,7 @@ is_plain (x ∷ y ∷ ys) = not (x == 45)
 
 abbrev pub ArePlain : List (List ℕ) → Type 0
 ArePlain words = AllPass is_plain words
+
+-- the word begins with a hyphen, and is longer
+abbrev pub is_odd : List ℕ → Bool
+is_odd word = not (is_plain word)

@@ -1,7 +1,8 @@
 //! What the words ask for, and what can be wrong with them.
 ghost use Rattle.std.specs.Prelude.{◌≡◌, Some};
-ghost use Rattle.words.specs.Asked.{complaint, row_named, wish_of};
+ghost use Rattle.words.specs.Asked.{complaint, is_help_fault, name_of, row_named, wish_of};
 
+use crate::help::page;
 use std::error::Error;
 use std::fmt;
 use std::fmt::{Display, Formatter};
@@ -27,11 +28,13 @@ pub enum Words<'a> {
         /// The path of the file for the deck.
         out: &'a str,
     },
-    /// `--help` or `-h`, alone.
-    Help,
+    /// `--help` or `-h`: alone the whole help, after a row's name the help of that row.
+    Help(Option<RowName>),
+    /// `--version`, alone.
+    Version,
 }
 
-/// The name of a row that has words behind it.
+/// The name of a row that has values.
 #[derive(Clone, Copy, Debug, PartialEq, Eq)]
 pub enum RowName {
     /// `run`.
@@ -54,38 +57,69 @@ impl RowName {
         None
     }
 
-    /// What the row wants behind its name.
+    /// The word that is the row's name.
+    pub(crate) fn word(self) -> &'static str
+        ensures { result.now ≡ name_of self }
+    {
+        match self {
+            RowName::Run => "run",
+            RowName::Assemble => "assemble",
+        }
+    }
+
+    /// What the row wants after its name.
     fn wish(self) -> &'static str
         ensures { result.now ≡ wish_of self }
     {
         match self {
-            RowName::Run => "`run` wants three words behind it: DECK SIZE SWITCHES",
-            RowName::Assemble => "`assemble` wants two words behind it: IN OUT",
+            RowName::Run => "`run` wants three words after it: DECK SIZE SWITCHES",
+            RowName::Assemble => "`assemble` wants two words after it: IN OUT",
         }
     }
 }
 
 /// Why words are not taken. Nothing was done then. It prints as a complaint to the caller.
 #[derive(Clone, Copy, Debug, PartialEq, Eq)]
-pub enum WordsFault {
+pub enum WordsFault<'a> {
     /// There was no memory to read the words.
     Memory,
     /// The first word is the name of no row.
     Row,
-    /// The name of this row, and behind it other words than the row has.
+    /// The name of this row, and after it other words than the row has.
     Values(RowName),
+    /// The name of a row, and after it this word, which begins with a hyphen.
+    Hyphen(&'a str),
+    /// `help`, without hyphens: alone, or before the name of this row. It prints as that help.
+    Help(Option<RowName>),
 }
 
-impl Display for WordsFault {
-    ghost output = { λ fault. Some (complaint fault) };
-
-    fn fmt<W: fmt::Write>(&self, formatter: &mut Formatter<W>) -> fmt::Result {
-        formatter.write_str(match self {
-            WordsFault::Memory => "no memory to read the words",
-            WordsFault::Row => "the first word names nothing that the bureau does",
-            WordsFault::Values(row) => row.wish(),
-        })
+impl<'a> WordsFault<'a> {
+    /// Whether the words ask for help, without hyphens.
+    pub fn is_help(&self) -> bool
+        ensures { result ≡ is_help_fault self.now }
+    {
+        matches!(self, WordsFault::Help(_))
     }
 }
 
-impl Error for WordsFault {}
+impl<'a> Display for WordsFault<'a> {
+    ghost output = { λ fault. Some (complaint fault) };
+
+    fn fmt<W: fmt::Write>(&self, formatter: &mut Formatter<W>) -> fmt::Result {
+        match self {
+            WordsFault::Memory => formatter.write_str("no memory to read the words"),
+            WordsFault::Row => {
+                formatter.write_str("the first word names nothing that the bureau does")
+            }
+            WordsFault::Values(row) => formatter.write_str(row.wish()),
+            WordsFault::Hyphen(word) => write!(
+                formatter,
+                "`{word}` begins with a hyphen; put `--` after the row's name, \
+                 as in `bureau run -- -odd.deck 4000 A`"
+            ),
+            WordsFault::Help(row) => formatter.write_str(page(*row)),
+        }
+    }
+}
+
+impl<'a> Error for WordsFault<'a> {}

@@ -24,7 +24,8 @@ no_run : (o : Option (Text × List Row)) (word : Text) (rows : List Row)
     → ((a b c : Text) → ¬ HasThree rows a b c) → (asked : Words) → ¬ IsRow o asked
 no_run None word rows d e named none asked is = cc
 no_run (Some p) word rows d e named none row.Standard is = is
-no_run (Some p) word rows d e named none row.Help is = is
+no_run (Some p) word rows d e named none (row.Help page) is = is
+no_run (Some p) word rows d e named none row.Version is = is
 no_run (Some p) word rows d e named none (row.Run deck size switches) is =
     none deck.now size.now switches.now (subst (λ (r : List Row). HasThree r deck.now size.now switches.now) (sym (some_is e)) is.1)
 no_run (Some p) word rows d e named none (row.Assemble source out) is = apart (other d is.0 named refl)
@@ -34,7 +35,8 @@ no_assemble : (o : Option (Text × List Row)) (word : Text) (rows : List Row)
     → ((a b : Text) → ¬ HasTwo rows a b) → (asked : Words) → ¬ IsRow o asked
 no_assemble None word rows d e named none asked is = cc
 no_assemble (Some p) word rows d e named none row.Standard is = is
-no_assemble (Some p) word rows d e named none row.Help is = is
+no_assemble (Some p) word rows d e named none (row.Help page) is = is
+no_assemble (Some p) word rows d e named none row.Version is = is
 no_assemble (Some p) word rows d e named none (row.Run deck size switches) is = apart (sym (other d is.0 named refl))
 no_assemble (Some p) word rows d e named none (row.Assemble source out) is =
     none source.now out.now (subst (λ (r : List Row). HasTwo r source.now out.now) (sym (some_is e)) is.1)

@@ -1,0 +1,70 @@
+//! Writing the deck of an assembly to OUT.
+
+use std::fs::{File, OpenFile, OpenOptions, Permissions};
+use std::io::{ErrorKind, Write};
+use std::{fs, io};
+
+/// How many names are tried for the other file.
+const MOST_NAMES: u16 = 1000;
+
+/// Makes a file beside the one at a path, under a name that no file has.
+fn made_beside(rt: &HostRuntime, path: &str) -> io::Result<(String, File)> {
+    for number in 1..=MOST_NAMES {
+        let name = format!(in rt.alloc(); "{path}.{number}.part")?;
+        let made = OpenOptions::new()
+            .write(true)
+            .create_new(true)
+            .open(rt, &name);
+        match made {
+            Ok(file) => return Ok((name, file)),
+            Err(error) if error.kind() == ErrorKind::AlreadyExists => {}
+            Err(error) => return Err(error),
+        }
+    }
+    Err(io::Error::from(ErrorKind::AlreadyExists))
+}
+
+/// Writes all bytes to a new file, and gives it the permissions of the one that it replaces.
+fn fill(mut file: File, bytes: &[u8], permissions: Option<Permissions>) -> io::Result<()> {
+    if let Some(permissions) = permissions {
+        file.set_permissions(permissions)?;
+    }
+    file.write_all(bytes)?;
+    file.sync_all()
+}
+
+/// Writes bytes to a file beside a path, and then gives it the name at the path. Where that fails,
+/// what is at the path stays as it was, and the other file is removed.
+fn put_by_name(
+    rt: &HostRuntime,
+    path: &str,
+    bytes: &[u8],
+    permissions: Option<Permissions>,
+) -> io::Result<()> {
+    let (name, file) = made_beside(rt, path)?;
+    let mut put = fill(file, bytes, permissions);
+    if put.is_ok() {
+        put = fs::rename(rt, &name, path);
+    }
+    if put.is_err() {
+        let _ = fs::remove_file(rt, &name);
+    }
+    put
+}
+
+/// Writes bytes to the file at a path, in the place of what is there.
+///
+/// Where a file that can be written is at the path, or none, it has all the bytes in the end, or it
+/// stays as it was. What is no regular file (a device, a pipe, a link to a file) is written
+/// straight, and may be left with a part of the bytes where that fails.
+pub(crate) fn put_file(rt: &HostRuntime, path: &str, bytes: &[u8]) -> io::Result<()> {
+    match fs::symlink_metadata(rt, path) {
+        Ok(found) if found.is_file() => {
+            OpenOptions::new().write(true).open(rt, path)?;
+            put_by_name(rt, path, bytes, Some(found.permissions()))
+        }
+        Ok(_) => fs::write(rt, path, bytes),
+        Err(error) if error.kind() == ErrorKind::NotFound => put_by_name(rt, path, bytes, None),
+        Err(error) => Err(error),
+    }
+}

@@ -1,0 +1,15 @@
+-- The words of a slice, where its length is known.
+use Rattle.std.proofs.Common.{◌≡◌, ◌≤◌, ◌<◌, List, [], ◌∷◌, length, map, slice_index_or, arith, ap, ap₂, sym}
+
+pub one_item : {X Y : Type 0} (f : X → Y) (xs : List X) (x : X) → 1 ≤ length xs → length xs < 2
+    → x ≡ slice_index_or xs 0 x → map f xs ≡ f x ∷ []
+one_item f [] x some few e = absurd (omega arith)
+one_item f (y ∷ []) x some few e = ap (λ z. f z ∷ []) (sym e)
+one_item f (y ∷ z ∷ zs) x some few e = absurd (omega arith)
+
+pub two_items : {X Y : Type 0} (f : X → Y) (xs : List X) (x y : X) → 2 ≤ length xs → length xs < 3
+    → x ≡ slice_index_or xs 0 x → y ≡ slice_index_or xs 1 y → map f xs ≡ f x ∷ f y ∷ []
+two_items f [] x y some few e g = absurd (omega arith)
+two_items f (a ∷ []) x y some few e g = absurd (omega arith)
+two_items f (a ∷ b ∷ []) x y some few e g = ap₂ (λ u v. f u ∷ f v ∷ []) (sym e) (sym g)
+two_items f (a ∷ b ∷ c ∷ more) x y some few e g = absurd (omega arith)
