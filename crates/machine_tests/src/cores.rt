@@ -77,6 +77,93 @@ fn marks_are_found_near_and_far(rt: HostRuntime) -> Result<(), Fail> {
     check::<Search>(rt.alloc(), SEARCHES)
 }
 
+/// Marks a position, or clears its mark.
+fn put_mark<C: Core>(core: &mut C, position: u16, marked: bool) {
+    if position >= core.size() {
+        return;
+    }
+    if marked {
+        core.set_mark(position);
+    } else {
+        core.clear_mark(position);
+    }
+}
+
+/// Whether a storage with one mark finds it from a position, downwards and among the next eight.
+fn finds<C: Core>(core: &C, marked: u16, position: u16) -> bool {
+    if position >= core.size() {
+        return false;
+    }
+    let is_below = marked <= position;
+    let is_after = position < marked && marked - position <= 8;
+    core.mark_at_or_below(position) == (if is_below { Some(marked) } else { None })
+        && core.mark_after(position) == (if is_after { Some(marked) } else { None })
+}
+
+/// The first position of 1400 from which a storage with one mark does not find it.
+fn first_missed<C: Core>(core: &C, marked: u16) -> Option<u16> {
+    for position in 0..1400 {
+        if !finds(core, marked, position) {
+            return Some(position);
+        }
+    }
+    None
+}
+
+/// Whether a storage in which each of so many positions is marked in turn, so far apart and alone,
+/// finds the mark from everywhere.
+fn finds_each<C: Core>(core: &mut C, count: u16, apart: u16) -> bool {
+    for turn in 0..count {
+        let marked = turn.saturating_mul(apart);
+        put_mark(core, marked, true);
+        if first_missed(core, marked).is_some() {
+            return false;
+        }
+        put_mark(core, marked, false);
+    }
+    true
+}
+
+/// Whether two storages find the same marks from a position.
+fn agree(flags: &FlagCore, planes: &PlaneCore, position: u16) -> bool {
+    position < flags.size()
+        && position < planes.size()
+        && flags.mark_at_or_below(position) == planes.mark_at_or_below(position)
+        && flags.mark_after(position) == planes.mark_after(position)
+}
+
+/// The first position of 1400 from which two storages find other marks.
+fn difference(flags: &FlagCore, planes: &PlaneCore) -> Option<u16> {
+    for position in 0..1400 {
+        if !agree(flags, planes, position) {
+            return Some(position);
+        }
+    }
+    None
+}
+
+/// Whether two storages, in which every 37th position is marked in turn, find the same marks.
+fn agree_throughout(flags: &mut FlagCore, planes: &mut PlaneCore) -> bool {
+    for turn in 0..38 {
+        put_mark(flags, turn * 37, true);
+        put_mark(planes, turn * 37, true);
+        if difference(flags, planes).is_some() {
+            return false;
+        }
+    }
+    true
+}
+
+#[test]
+fn both_storages_find_every_mark(rt: HostRuntime) -> Result<(), Fail> {
+    let mut flags = blank(rt.alloc())?;
+    let mut planes = PlaneCore::blank(rt.alloc(), Size::Positions1400)?;
+    assert!(rt; finds_each(&mut flags, 38, 37));
+    assert!(rt; finds_each(&mut planes, 1400, 1));
+    assert!(rt; agree_throughout(&mut flags, &mut planes));
+    Ok(())
+}
+
 /// Whether an `A` stands at the last of 2000 positions, marked or not.
 fn ends_with_a<C: Core>(core: &C, is_marked: bool) -> bool {
     core.size() == 2000 && core.get(1999) == code(b'A') && core.is_marked(1999) == is_marked

@@ -65,6 +65,7 @@ fn put_wrong(parts: &mut Parts<FlagCore>, wrong: &str) {
         "carriage" => parts.units.printer.carriage.line = 67,
         "no card read" => parts.units.hopper.taken = 0,
         "a card past the deck" => parts.units.hopper.taken = 7,
+        "eighth switch" => parts.units.switches = Switches::from_bits_retain(128),
         "lines backwards" => parts.units.printer.lines.reverse(),
         _ => {}
     }
@@ -224,6 +225,7 @@ register -> true false
 carriage -> false false
 no card read -> false false
 a card past the deck -> false false
+eighth switch -> false false
 lines backwards -> false false
 ";
 
