@@ -7,6 +7,8 @@ use Rattle.machine.specs.Run.{State, started, after}
 use Rattle.ledger.specs.declared.commands.Kind.{Kind}
 use Rattle.ledger.specs.declared.commands.Kind.TheVariants.{Object}
 use Rattle.ledger.specs.declared.office.Stretch.{Stretch}
+use Rattle.ledger.specs.Standing.{HasSwitches}
+use Rattle.ledger.proofs.Stretches.{seven_same}
 use Rattle.ledger.specs.Office.{Job, resumed, picture, loaded_deck, loaded_of}
 
 module _ {X Y : Type 0} (shown : X → Y) (P : X → Type 0) where
@@ -39,16 +41,16 @@ module _ (law : (m : State) (count : ℕ) → (after m count).works.units.hopper
 
 -- and its switches are those of the last one
 module _ (law : (m : State) (count : ℕ) → (after m count).works.units.switches ≡ m.works.units.switches) where
-  resumed_switches : (m : State) (stretches : List Stretch) (n : ℕ) (last : Stretch) → suc n ≡ length stretches → last ≡ get_or stretches n last → (resumed m stretches).works.units.switches ≡ last.switches
+  resumed_switches : (m : State) (stretches : List Stretch) (n : ℕ) (last : Stretch) → AllByRecursion HasSwitches stretches → suc n ≡ length stretches → last ≡ get_or stretches n last → (resumed m stretches).works.units.switches ≡ last.switches
   unfolding resumed
-  resumed_switches m [] n last some is = absurd (omega (arith, some))
-  resumed_switches m (s ∷ []) zero last some is = law (started m s.switches) s.granted ∙ ap (λ (x : Stretch). x.switches) (sym is)
-  resumed_switches m (s ∷ []) (suc n) last some is = absurd (omega (arith, some))
-  resumed_switches m (s ∷ t ∷ rest) zero last some is = absurd (omega (arith, some))
-  resumed_switches m (s ∷ t ∷ rest) (suc n) last some is = resumed_switches (after (started m s.switches) s.granted) (t ∷ rest) n last (omega (arith, some)) is
+  resumed_switches m [] n last all some is = absurd (omega (arith, some))
+  resumed_switches m (s ∷ []) zero last all some is = law (started m s.switches) s.granted ∙ seven_same s.switches all.0 ∙ ap (λ (x : Stretch). x.switches) (sym is)
+  resumed_switches m (s ∷ []) (suc n) last all some is = absurd (omega (arith, some))
+  resumed_switches m (s ∷ t ∷ rest) zero last all some is = absurd (omega (arith, some))
+  resumed_switches m (s ∷ t ∷ rest) (suc n) last all some is = resumed_switches (after (started m s.switches) s.granted) (t ∷ rest) n last all.1 (omega (arith, some)) is
 
-  pub picture_switches : (job : Job) (last : Stretch) → 0 < length job.stretches → last ≡ get_or job.stretches (length job.stretches - 1) last → (picture job).works.units.switches ≡ last.switches
-  picture_switches job last some is = resumed_switches _ job.stretches (length job.stretches - 1) last (omega (arith, some)) is
+  pub picture_switches : (job : Job) (last : Stretch) → AllByRecursion HasSwitches job.stretches → 0 < length job.stretches → last ≡ get_or job.stretches (length job.stretches - 1) last → (picture job).works.units.switches ≡ last.switches
+  picture_switches job last all some is = resumed_switches _ job.stretches (length job.stretches - 1) last all (omega (arith, some)) is
 
 pub some_is : {X : Type 0} {x y : X} → ◌≡◌ {A = Option X} (Some x) (Some y) → x ≡ y
 some_is e = cc
