@@ -18,6 +18,8 @@ use Rattle.ledger.specs.Kept.{Kept, kept_of}
 use Rattle.ledger.specs.Office.{Job, Entry, Office, job_of, is_entry, picture, resumed, all_off, loaded_of, new_job, is_empty}
 use Rattle.ledger.specs.Standing.{named, job_cells, stretch_row, stretches_of, picture_of, cards_of, tables_of, IsJob, Rows}
 use Rattle.ledger.specs.Standing as standing
+use Rattle.units.specs.Switches.{seven}
+use Rattle.ledger.proofs.Stretches.{seven_are}
 use Rattle.tables.proofs.Behind.{name_is, name_yes, all_push}
 use Rattle.ledger.proofs.Saved.{at_job_same, told_of, same_tables}
 
@@ -80,13 +82,13 @@ some_card [] full = absurd (let e = full in cc)
 some_card (card ∷ deck) full = omega arith
 
 -- a job that was handed in has made nothing
-picture_of_new : (size : Size) (contents : Contents) → picture (new_job size contents) ≡ started (loaded (loaded_of contents.kind contents.deck) size all_off) contents.switches
+picture_of_new : (size : Size) (contents : Contents) → picture (new_job size contents) ≡ started (loaded (loaded_of contents.kind contents.deck) size all_off) (seven contents.switches)
 unfolding resumed after
 picture_of_new size contents = refl
 
-new_is : (size : Size) (contents : Contents) (k : Kept) → is_empty contents.deck ≡ false → k ≡ kept_of (new_job size contents) → IsDeck contents.deck → contents.switches.0 < 256 → IsInRange k.machine → HoldsCharacters k.machine.works.storage
+new_is : (size : Size) (contents : Contents) (k : Kept) → is_empty contents.deck ≡ false → k ≡ kept_of (new_job size contents) → IsDeck contents.deck → IsInRange k.machine → HoldsCharacters k.machine.works.storage
     → IsJob (new_job size contents)
-new_is size contents k full is deck switches machine storage =
+new_is size contents k full is deck machine storage =
     let at : k.machine ≡ picture (new_job size contents) = ap (λ (x : Kept). x.machine) is in
     let none : (picture (new_job size contents)).works.units.punch ≡ [] = ap (λ (m : State). m.works.units.punch) (picture_of_new size contents) in
     let no_lines : lines_of (picture (new_job size contents)) ≡ [] = ap (λ (m : State). lines_of m) (picture_of_new size contents) in
@@ -94,7 +96,7 @@ new_is size contents k full is deck switches machine storage =
       deck = deck;
       card = some_card contents.deck full;
       begun = omega arith;
-      switches = (switches, tt);
+      switches = (seven_are contents.switches, tt);
       most = omega arith;
       machine = subst IsInRange at machine;
       storage = subst (λ m. HoldsCharacters m.works.storage) at storage;
@@ -103,10 +105,10 @@ new_is size contents k full is deck switches machine storage =
     }
 
 pub new_saved : (db : Database) (office : Office) (customer : List ℕ) (number : ℕ) (size : Size) (contents : Contents) (k : Kept) → AllByRecursion (λ (e : Entry). IsJob e.job) office
-    → job_of customer number office ≡ None → is_empty contents.deck ≡ false → k ≡ kept_of (new_job size contents) → IsDeck contents.deck → contents.switches.0 < 256 → IsInRange k.machine → HoldsCharacters k.machine.works.storage
-    → Holds db (with_picture customer number (picture_cells k.machine) (with_stretches customer number ((record { switches = contents.switches.0; granted = 0 }) ∷ []) (tables.with_job customer number (job_cells (new_job size contents)) (tables_of office))))
+    → job_of customer number office ≡ None → is_empty contents.deck ≡ false → k ≡ kept_of (new_job size contents) → IsDeck contents.deck → IsInRange k.machine → HoldsCharacters k.machine.works.storage
+    → Holds db (with_picture customer number (picture_cells k.machine) (with_stretches customer number ((record { switches = (seven contents.switches).0; granted = 0 }) ∷ []) (tables.with_job customer number (job_cells (new_job size contents)) (tables_of office))))
     → Rows db (office ++ (record { customer = customer; number = number; job = new_job size contents }) ∷ [])
-new_saved db office customer number size contents k jobs none full is deck switches machine storage holds =
+new_saved db office customer number size contents k jobs none full is deck machine storage holds =
     let job = new_job size contents in
     let e : Entry = record { customer = customer; number = number; job = job } in
     let at : k.machine ≡ picture job = ap (λ (x : Kept). x.machine) is in
@@ -115,5 +117,5 @@ new_saved db office customer number size contents k jobs none full is deck switc
     record {
       tables = subst (Holds db) (sym (tables_behind e office none no_cards no_lines))
           (subst (λ m. Holds db (with_picture customer number (picture_cells m) (with_stretches customer number (map stretch_row job.stretches) (tables.with_job customer number (job_cells job) (tables_of office))))) at holds);
-      jobs = all_push (λ (e : Entry). IsJob e.job) office e jobs (new_is size contents k full is deck switches machine storage);
+      jobs = all_push (λ (e : Entry). IsJob e.job) office e jobs (new_is size contents k full is deck machine storage);
     }

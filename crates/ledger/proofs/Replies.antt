@@ -7,6 +7,7 @@ use Rattle.cards.specs.declared.decks.Card.{Card}
 use Rattle.cards.specs.Decks.{IsCard, IsDeck}
 use Rattle.core_store.specs.Storage.{positions_of}
 use Rattle.core_store.specs.declared.sizes.Size.{Size}
+use Rattle.units.specs.Switches.{seven}
 use Rattle.sqlite.specs.State.{State}
 use Rattle.tables.specs.Tables as tables
 use Rattle.pictures.specs.Columns.{deck_bytes}
@@ -76,7 +77,7 @@ bytes_of (card ∷ deck) all = length-append card.0 (deck_bytes deck) ∙ omega 
 last_part : (contents : Contents) (job : Job) → is_of contents job ≡ true → bytes_eq (deck_bytes job.deck) (deck_bytes contents.deck) ≡ true
 last_part contents job h =
     let d = bytes_eq (deck_bytes job.deck) (deck_bytes contents.deck) in
-    let c = began_with contents.switches job.stretches in
+    let c = began_with (seven contents.switches) job.stretches in
     let b = positions_of job.size == contents.size in
     let a = is_same_kind job.kind contents.kind in
     (and_parts ((a && b) && c) d h).1

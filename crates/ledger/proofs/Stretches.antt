@@ -1,11 +1,13 @@
 -- jobs and their stretches
-use Rattle.std.proofs.Common.{◌≡◌, ℕ, true, ltb, zero, suc, ◌+◌, ◌-◌, ◌<◌, ◌≤◌, List, [], ◌∷◌, length, get_or, set, take, drop, refl, sym, ap, subst, ◌∙◌, arith}
+use Rattle.std.proofs.Common.{◌≡◌, ℕ, true, ltb, zero, suc, ◌+◌, ◌-◌, ◌%◌, ◌<◌, ◌≤◌, List, [], ◌∷◌, length, get_or, set, take, drop, refl, sym, ap, subst, ◌∙◌, arith}
 use Rattle.std.specs.List.{sum_by}
 use Rattle.std.proofs.lemmas.List.Sums.{sum_by-drop_more, sum_by-take-drop}
 use Rattle.ledger.specs.declared.office.Stretch.{Stretch}
 use Rattle.cards.specs.declared.decks.Card.{Card}
 use Rattle.core_store.specs.declared.sizes.Size.{Size}
 use Rattle.machine.specs.Run.{loaded, after}
+use Rattle.units.specs.declared.switches.Switches.{Switches}
+use Rattle.units.specs.Switches.{seven, AreSeven}
 use Rattle.ledger.specs.Office.{granted, granted_more, resumed, all_off}
 
 granted_at : (stretches : List Stretch) (n : ℕ) (last : Stretch) → suc n ≡ length stretches → last ≡ get_or stretches n last → last.granted ≤ granted stretches
@@ -42,3 +44,13 @@ more_in_last stretches last limit some is = more_at stretches (length stretches 
 pub one_stretch : (deck : List Card) (size : Size) (s : Stretch) → resumed (loaded deck size all_off) (s ∷ []) ≡ after (loaded deck size s.switches) s.granted
 unfolding resumed
 one_stretch deck size s = refl
+
+-- the seven switches of a set are no others
+pub seven_are : (s : Switches) → AreSeven (seven s)
+seven_are s = omega arith
+
+-- a set of the seven is as it is
+pub seven_same : (s : Switches) → AreSeven s → seven s ≡ s
+seven_same s are =
+    let same : s.0 % 128 ≡ s.0 = omega arith in
+    ap (λ n. let t : Switches = record { 0 = n } in t) same

@@ -98,3 +98,9 @@ pub record Stands (s : store.State) (office : Office) : Type 0 where
   pub outside : s.in_transaction ≡ false
   pub now : IsTrue s.is_open → StandsIn s office
   pub left : (db : Trees) → s.may_leave db → LeftAs db office
+
+-- a call that changed nothing: a crash leaves no more than before the call, and an open connection sees what it saw
+pub record IsAsBefore (old new : store.State) : Type 0 where
+  pub outside : new.in_transaction ≡ false
+  pub now : IsTrue new.is_open → new.now ≡ old.now
+  pub left : (db : Trees) → new.may_leave db → old.may_leave db

@@ -1,6 +1,6 @@
 //! The bureau: each command in one transaction, whose commit is the last call of the store.
 
-ghost use Rattle.std.specs.Prelude.{◌≡◌, ◌⊎◌, ◌≤◌, List, [], false, None, Some, Err, IsTrue, IfOk, IfErr, OnOk, IsErrOf, length};
+ghost use Rattle.std.specs.Prelude.{◌≡◌, ◌⊎◌, ◌≤◌, List, [], false, None, Some, Err, IsTrue, IfOk, IfErr, OnOk, OnErr, IsErrOf, length};
 ghost use Rattle.cards.specs.Decks.{IsDeck};
 ghost use Rattle.machine.specs.Run.{risen};
 ghost use Rattle.sqlite.specs.Held.{state};
@@ -13,7 +13,8 @@ ghost use Rattle.ledger.specs.Found.{IsFirst};
 ghost use Rattle.ledger.specs.Kept.{kept_of};
 ghost use Rattle.ledger.specs.declared.commands.Kind.{Kind};
 ghost use Rattle.ledger.specs.Office.{Job, Office, job_of, name_refusal, early_refusal, is_same_kind, is_of, is_empty, new_job, loaded_deck, repeated, added, submitted_new, size_numbered, submitted, sliced, served, take, attempted_of, attempted_by, attempted};
-ghost use Rattle.ledger.specs.Standing.{StandsIn, Served, Stands, LeftAs, IsJob, job_cells, kind_number};
+ghost use Rattle.ledger.specs.Meters.{RisenAtMost, limit_of};
+ghost use Rattle.ledger.specs.Standing.{StandsIn, Served, Stands, LeftAs, IsAsBefore, IsJob, job_cells, kind_number};
 
 use crate::commands::{Command, Contents, Kind, Refusal, Reply};
 use crate::office::{KeptJob, MOST_JOBS, NewFault, is_customer, is_limit, is_number, new_job};
@@ -205,6 +206,8 @@ fn run_job<S: Alter>(
         → IfOk result (λ reply. (office : Office) → (old : Job) → job_of customer.now number office ≡ Some old → job ≡ kept_of old → StandsIn (state S.Store tx.old.conn.now) office
         → Served (state S.Store tx.new.conn.now) (λ office. sliced customer.now number limit office (job_of customer.now number office)) office reply) }
     ensures meter { OnOk result ((old : Job) → job ≡ kept_of old → meter.new ≡ risen meter.old (attempted_of limit (Some old))) }
+    ensures given_up { OnErr result ((old : Job) → job ≡ kept_of old → RisenAtMost (attempted_of limit (Some old)) meter.old meter.new) }
+    ensures most { RisenAtMost limit meter.old meter.new }
     ensures frame { HasCleanDisk (state S.Store tx.new.conn.now) → IsTrue (state S.Store tx.old.conn.now).in_transaction → Frames (state S.Store tx.old.conn.now) (state S.Store tx.new.conn.now) result }
     ensures survives { Survives (state S.Store tx.old.conn.now) (state S.Store tx.new.conn.now) (λ _. ⊥) }
 {
@@ -233,6 +236,10 @@ fn slice<S: Alter>(
         → Served (state S.Store tx.new.conn.now) (λ office. sliced customer.now number limit office (job_of customer.now number office)) office reply) }
     ensures meter { HasCleanDisk (state S.Store tx.new.conn.now) → IsTrue (state S.Store tx.old.conn.now).in_transaction
         → OnOk result ((office : Office) → StandsIn (state S.Store tx.old.conn.now) office → meter.new ≡ risen meter.old (attempted_of limit (job_of customer.now number office))) }
+    ensures given_up { HasCleanDisk (state S.Store tx.new.conn.now) → IsTrue (state S.Store tx.old.conn.now).in_transaction
+        → OnErr result ((office : Office) → (IsTrue (state S.Store tx.old.conn.now).is_open → StandsIn (state S.Store tx.old.conn.now) office)
+        → RisenAtMost (attempted_of limit (job_of customer.now number office)) meter.old meter.new) }
+    ensures most { RisenAtMost limit meter.old meter.new }
     ensures opened { HasCleanDisk (state S.Store tx.new.conn.now) → OnOk result (IsTrue (state S.Store tx.old.conn.now).is_open) }
     ensures frame { HasCleanDisk (state S.Store tx.new.conn.now) → IsTrue (state S.Store tx.old.conn.now).in_transaction → Frames (state S.Store tx.old.conn.now) (state S.Store tx.new.conn.now) result }
     ensures survives { Survives (state S.Store tx.old.conn.now) (state S.Store tx.new.conn.now) (λ _. ⊥) }
@@ -256,6 +263,10 @@ fn serve<S: Alter>(
         → Served (state S.Store tx.new.conn.now) (λ office. served command.now office) office reply) }
     ensures meter { HasCleanDisk (state S.Store tx.new.conn.now) → IsTrue (state S.Store tx.old.conn.now).in_transaction
         → OnOk result ((office : Office) → StandsIn (state S.Store tx.old.conn.now) office → meter.new ≡ risen meter.old (attempted_by command.now office)) }
+    ensures given_up { HasCleanDisk (state S.Store tx.new.conn.now) → IsTrue (state S.Store tx.old.conn.now).in_transaction
+        → OnErr result ((office : Office) → (IsTrue (state S.Store tx.old.conn.now).is_open → StandsIn (state S.Store tx.old.conn.now) office)
+        → RisenAtMost (attempted_by command.now office) meter.old meter.new) }
+    ensures most { RisenAtMost (limit_of command.now) meter.old meter.new }
     ensures opened { HasCleanDisk (state S.Store tx.new.conn.now) → OnOk result (IsTrue (state S.Store tx.old.conn.now).is_open) }
     ensures frame { HasCleanDisk (state S.Store tx.new.conn.now) → IsTrue (state S.Store tx.old.conn.now).in_transaction → Frames (state S.Store tx.old.conn.now) (state S.Store tx.new.conn.now) result }
     ensures survives { Survives (state S.Store tx.old.conn.now) (state S.Store tx.new.conn.now) (λ _. ⊥) }
@@ -285,6 +296,9 @@ fn transact<S: Alter>(
         → (reply ≡ (served command.now office).1) × Stands (state S.Store conn.new) (served command.now office).0) }
     ensures meter { HasCleanDisk (state S.Store conn.new) → OnOk result ((office : Office) → Stands (state S.Store conn.old) office
         → meter.new ≡ risen meter.old (attempted_by command.now office)) }
+    ensures given_up { HasCleanDisk (state S.Store conn.new) → OnErr result ((office : Office) → Stands (state S.Store conn.old) office
+        → RisenAtMost (attempted_by command.now office) meter.old meter.new) }
+    ensures most { RisenAtMost (limit_of command.now) meter.old meter.new }
     ensures no_memory { HasCleanDisk (state S.Store conn.new) → IsErrOf result Fault.NoMemory → (office : Office) → Stands (state S.Store conn.old) office → Stands (state S.Store conn.new) office }
     ensures crash { HasCleanDisk (state S.Store conn.new) → (office : Office) → Stands (state S.Store conn.old) office
         → (db : Trees) → (state S.Store conn.new).may_leave db → LeftAs db office ⊎ LeftAs db (served command.now office).0 }
@@ -309,6 +323,7 @@ fn transact<S: Alter>(
 
 /// Makes the tables in one transaction.
 fn make<S: Alter>(conn: &mut Connection<S>) -> Result<(), Fault>
+    ensures no_memory { HasCleanDisk (state S.Store conn.new) → IsErrOf result Fault.NoMemory → IsAsBefore (state S.Store conn.old) (state S.Store conn.new) }
     ensures made { HasCleanDisk (state S.Store conn.new) → OnOk result ((state S.Store conn.old).now.schema ≡ no_schema → Stands (state S.Store conn.new) []) }
     ensures crash { HasCleanDisk (state S.Store conn.new) → (state S.Store conn.old).now.schema ≡ no_schema
         → (db : Trees) → (state S.Store conn.new).may_leave db → (state S.Store conn.old).may_leave db ⊎ LeftAs db [] }
@@ -331,18 +346,21 @@ fn make<S: Alter>(conn: &mut Connection<S>) -> Result<(), Fault>
 
 impl<S: Alter> Bureau<S> {
     /// Applies a command. After fault 2 every later command is answered so, until the file is
-    /// opened again.
+    /// opened again. A fault leaves the meter risen by the instructions that were attempted.
     pub fn apply(&mut self, command: &Command, meter: &mut Meter) -> Result<Reply, Fault>
         ensures reply { HasCleanDisk (state S.Store self.new.conn) → IfOk result (λ reply. (office : Office) → Stands (state S.Store self.old.conn) office
             → (reply ≡ (take command.now office).1) × Stands (state S.Store self.new.conn) (take command.now office).0) }
         ensures meter { HasCleanDisk (state S.Store self.new.conn) → OnOk result ((office : Office) → Stands (state S.Store self.old.conn) office
             → meter.new ≡ risen meter.old (attempted command.now office)) }
+        ensures given_up { HasCleanDisk (state S.Store self.new.conn) → OnErr result ((office : Office) → Stands (state S.Store self.old.conn) office
+            → RisenAtMost (attempted command.now office) meter.old meter.new) }
+        ensures most { RisenAtMost (limit_of command.now) meter.old meter.new }
         ensures no_memory { HasCleanDisk (state S.Store self.new.conn) → IsErrOf result Fault.NoMemory → (office : Office) → Stands (state S.Store self.old.conn) office → Stands (state S.Store self.new.conn) office }
         ensures crash { HasCleanDisk (state S.Store self.new.conn) → (office : Office) → Stands (state S.Store self.old.conn) office
             → (db : Trees) → (state S.Store self.new.conn).may_leave db → LeftAs db office ⊎ LeftAs db (take command.now office).0 }
         ensures broken { IsErrOf result Fault.Store → IsTrue self.new.broken }
         ensures kept { (self.new.broken ≡ self.old.broken) ⊎ IsErrOf result Fault.Store }
-        ensures ended { IsTrue self.old.broken → (result ≡ Err Fault.Store) × (self.new ≡ self.old) }
+        ensures ended { IsTrue self.old.broken → (result ≡ Err Fault.Store) × (self.new ≡ self.old) × (meter.new ≡ meter.old) }
         ensures clean { doubt (state S.Store self.old.conn).is_clean ≤ doubt (state S.Store self.new.conn).is_clean }
     {
         if self.broken {
@@ -367,13 +385,15 @@ impl<S: Alter> Bureau<S> {
 }
 
 impl<S: Alter + Drop> Bureau<S> {
-    /// Makes a bureau without jobs, in a store without tables.
+    /// Makes a bureau without jobs, in a store without tables. After fault 1 nothing was made;
+    /// after fault 2 the tables are there or not, and the file has to be opened again.
     pub fn create(
         alloc: Global,
         mut conn: Connection<S>,
     ) -> Result<Bureau<S>, (Fault, Connection<S>)>
         ensures made { IfOk result (λ bureau. HasCleanDisk (state S.Store bureau.conn) → (state S.Store conn).now.schema ≡ no_schema → Stands (state S.Store bureau.conn) []) }
         ensures whole { IfOk result (λ bureau. bureau.broken ≡ false) }
+        ensures no_memory { IfErr result (λ e. HasCleanDisk (state S.Store e.1) → e.0 ≡ Fault.NoMemory → IsAsBefore (state S.Store conn) (state S.Store e.1)) }
         ensures crash { IfErr result (λ e. HasCleanDisk (state S.Store e.1) → (state S.Store conn).now.schema ≡ no_schema
             → (db : Trees) → (state S.Store e.1).may_leave db → (state S.Store conn).may_leave db ⊎ LeftAs db []) }
     {

@@ -8,6 +8,7 @@ ghost use Rattle.machine.specs.Run.{risen, lines_of, after, loaded};
 ghost use Rattle.ledger.specs.Kept.{kept_of, refusal_at, slice_reply, sliced_kept};
 ghost use Rattle.std.specs.List.{list_all};
 ghost use Rattle.ledger.specs.Office.{is_letter_or_digit, is_name_length, is_customer, is_number, is_limit, size_numbered, is_empty, new_job, granted, granted_more, told, attempted_if, Job, picture, loaded_deck};
+ghost use Rattle.ledger.specs.Meters.{RisenAtMost};
 ghost use Rattle.ledger.specs.New.{IsWhyNot};
 
 use crate::commands::{Contents, JobStanding, Refusal, Reply};
@@ -249,12 +250,14 @@ impl<C: Core> KeptJob<C> {
     }
 
     /// Runs for at most so many instructions, unless that is refused. On want of memory the job
-    /// is as before.
+    /// is as before; the instructions done until then have ticked.
     pub fn slice(&mut self, limit: u32, meter: &mut Meter) -> Result<Reply, AllocError>
         ensures reply { IfOk result (λ reply. reply ≡ slice_reply limit self.old (refusal_at limit self.old)) }
         ensures job { OnOk result (self.new ≡ sliced_kept limit self.old (refusal_at limit self.old)) }
         ensures meter { OnOk result (meter.new ≡ risen meter.old (attempted_if self.old.machine limit (refusal_at limit self.old))) }
         ensures unchanged { OnErr result (self.new ≡ self.old) }
+        ensures given_up { OnErr result (RisenAtMost (attempted_if self.old.machine limit (refusal_at limit self.old)) meter.old meter.new) }
+        ensures most { RisenAtMost limit meter.old meter.new }
     {
         if let Some(reason) = self.refusal(limit) {
             return Ok(Reply::Refused(reason));

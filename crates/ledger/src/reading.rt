@@ -1,6 +1,6 @@
 //! What the tables tell of a job.
 
-ghost use Rattle.std.specs.Prelude.{◌≡◌, List, All, map, Some, IsTrue, IfOk, IfSome, OnOk};
+ghost use Rattle.std.specs.Prelude.{◌≡◌, ◌≢◌, List, All, map, Some, IsTrue, IsErrOf, IsSome, IfOk, IfSome, OnOk};
 ghost use Rattle.std.specs.List.{AllByRecursion};
 ghost use Rattle.cards.specs.Decks.{IsCard, IsDeck};
 ghost use Rattle.machine.specs.Ranges.{IsInRange};
@@ -29,7 +29,8 @@ use units::Switches;
 
 /// The stretch of a row.
 fn read_stretch(row: &StretchRow) -> Option<Stretch>
-    ensures { (stretch : Stretch) → HasSwitches stretch → row.now ≡ stretch_row stretch → result ≡ Some stretch }
+    ensures all { (stretch : Stretch) → HasSwitches stretch → row.now ≡ stretch_row stretch → result ≡ Some stretch }
+    ensures only { IfSome result (λ stretch. (stretch_row stretch ≡ row.now) × HasSwitches stretch) }
 {
     let switches = read_switches(row.switches)?;
     Some(Stretch {
@@ -40,7 +41,8 @@ fn read_stretch(row: &StretchRow) -> Option<Stretch>
 
 /// The stretches of these rows, if each is one.
 fn read_stretches(alloc: Global, rows: &[StretchRow]) -> Result<Option<Vec<Stretch>>, AllocError>
-    ensures { IfOk result (λ read. (stretches : List Stretch) → AllByRecursion HasSwitches stretches → rows.now ≡ map stretch_row stretches → IfSome read (λ made. made.items ≡ stretches)) }
+    ensures all { IfOk result (λ read. (stretches : List Stretch) → AllByRecursion HasSwitches stretches → rows.now ≡ map stretch_row stretches → IfSome read (λ made. made.items ≡ stretches) × IsSome read) }
+    ensures only { IfOk result (λ read. IfSome read (λ made. (map stretch_row made.items ≡ rows.now) × AllByRecursion HasSwitches made.items)) }
 {
     let mut stretches = Vec::new(alloc);
     for row in rows {
@@ -84,18 +86,26 @@ fn read_media(
     cards: &[CardRow],
     lines: &[LineRow],
 ) -> Result<Media, Fault>
-    ensures { IfOk result (λ media. (m : State) → IsDeck m.works.units.hopper.deck → All IsCard m.works.units.punch → All IsLine m.works.units.printer.lines
+    ensures read { IfOk result (λ media. (m : State) → IsDeck m.works.units.hopper.deck → All IsCard m.works.units.punch → All IsLine m.works.units.printer.lines
         → loaded.now ≡ deck_bytes m.works.units.hopper.deck → switches ≡ m.works.units.switches → cards.now ≡ map (λ card. card.0) m.works.units.punch → lines.now ≡ map line_cells m.works.units.printer.lines
         → IsMediaOf media m) }
+    ensures store { IsErrOf result Fault.Store → (m : State) → IsDeck m.works.units.hopper.deck → All IsCard m.works.units.punch → All IsLine m.works.units.printer.lines
+        → loaded.now ≡ deck_bytes m.works.units.hopper.deck → cards.now ≡ map (λ card. card.0) m.works.units.punch → lines.now ≢ map line_cells m.works.units.printer.lines }
 {
-    let Some(deck) = read_deck(alloc, loaded)? else {
-        return Err(Fault::Store);
+    let deck = match read_deck(alloc, loaded) {
+        Ok(Some(deck)) => deck,
+        Ok(None) => return Err(Fault::Store),
+        Err(_) => return Err(Fault::NoMemory),
     };
-    let Some(cards) = read_cards(alloc, cards)? else {
-        return Err(Fault::Store);
+    let cards = match read_cards(alloc, cards) {
+        Ok(Some(cards)) => cards,
+        Ok(None) => return Err(Fault::Store),
+        Err(_) => return Err(Fault::NoMemory),
     };
-    let Some(lines) = read_lines(alloc, lines)? else {
-        return Err(Fault::Store);
+    let lines = match read_lines(alloc, lines) {
+        Ok(Some(lines)) => lines,
+        Ok(None) => return Err(Fault::Store),
+        Err(_) => return Err(Fault::NoMemory),
     };
     Ok(Media {
         deck,
@@ -130,14 +140,18 @@ fn find_media<S: Alter>(
 
 /// The machine of a picture.
 fn machine_of<C: Core>(alloc: Global, row: &PictureRow, media: Media) -> Result<Machine<C>, Fault>
-    ensures { IfOk result (λ machine. (m : State) → IsInRange m → HoldsCharacters m.works.storage → row.now ≡ picture_cells m → IsMediaOf media m → machine ≡ m) }
+    ensures machine { IfOk result (λ machine. (m : State) → IsInRange m → HoldsCharacters m.works.storage → row.now ≡ picture_cells m → IsMediaOf media m → machine ≡ m) }
+    ensures store { IsErrOf result Fault.Store → (m : State) → IsInRange m → HoldsCharacters m.works.storage → IsMediaOf media m → row.now ≢ picture_cells m }
 {
-    let Some(parts) = read_picture(alloc, row, media)? else {
-        return Err(Fault::Store);
+    let parts = match read_picture(alloc, row, media) {
+        Ok(Some(parts)) => parts,
+        Ok(None) => return Err(Fault::Store),
+        Err(_) => return Err(Fault::NoMemory),
     };
-    match Machine::from_parts(alloc, parts)? {
-        Some(machine) => Ok(machine),
-        None => Err(Fault::Store),
+    match Machine::from_parts(alloc, parts) {
+        Ok(Some(machine)) => Ok(machine),
+        Ok(None) => Err(Fault::Store),
+        Err(_) => Err(Fault::NoMemory),
     }
 }
 

@@ -19,7 +19,6 @@ ghost use Rattle.ledger.specs.Standing.{StandsIn, kind_number, job_cells, stretc
 
 use crate::commands::{Contents, Kind};
 use crate::office::{KeptJob, Made};
-use bitflags::Flags;
 use cards::Card;
 use core_store::{Core, Size};
 use machine::{runs_add, runs_only_add, stays_in_range};
@@ -339,8 +338,7 @@ pub fn save_new<S: Alter, C: Core>(
     ensures frame { HasCleanDisk (state S.Store tx.new.conn.now) → IsTrue (state S.Store tx.old.conn.now).in_transaction → Frames (state S.Store tx.old.conn.now) (state S.Store tx.new.conn.now) result }
     ensures survives { Survives (state S.Store tx.old.conn.now) (state S.Store tx.new.conn.now) (λ _. ⊥) }
 {
-    // The switches fit a byte, so the tables give back those that were handed in.
-    let _bits = contents.switches.bits();
+    let switches = contents.switches.seven();
     insert_handed(alloc, tx, customer, number, contents, size)?;
-    insert_start(alloc, tx, customer, number, contents.switches, job)
+    insert_start(alloc, tx, customer, number, switches, job)
 }

@@ -20,6 +20,8 @@ fn switches_of(field: &str) -> Result<Switches, Fail> {
         "A" => Ok(Switches::A),
         "B" => Ok(Switches::B),
         "-" => Ok(Switches::empty()),
+        "127" => Ok(Switches::from_bits_retain(127)),
+        "255" => Ok(Switches::from_bits_retain(255)),
         _ => Err("switches")?,
     }
 }

@@ -130,7 +130,7 @@ fn switches_and_truth(rt: HostRuntime) {
         (1, 64)
     );
     assert_eq!(rt; read_switches(127), Some(Switches::from_bits_retain(127)));
-    assert_eq!(rt; read_switches(256), None);
+    assert_eq!(rt; (read_switches(128), read_switches(256)), (None, None));
     assert_eq!(rt; (truth(false), truth(true)), (0, 1));
     assert_eq!(rt;
         (read_truth(0), read_truth(1), read_truth(2)),

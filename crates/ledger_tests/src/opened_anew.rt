@@ -239,3 +239,56 @@ fn a_thousand_million_instructions_and_no_more(rt: HostRuntime) -> Result<(), Fa
     assert_eq!(rt; outcome, ([28, 28, 0, 28], 1000, 1_000_000_000));
     Ok(())
 }
+
+/// Statements, each after the number of the fault that a slice is then answered with, 0 for none:
+/// 2 where a row is none of a bureau's, and where a row is gone.
+const ALTERED_ROWS: &str = "\
+0|UPDATE stretches SET switches = 127
+2|UPDATE stretches SET switches = 128
+2|UPDATE stretches SET switches = 256
+2|DELETE FROM stretches
+2|UPDATE jobs SET held = 2
+2|UPDATE jobs SET collected = 2
+2|UPDATE jobs SET loaded = x'40'
+2|UPDATE pictures SET storage = x'00'
+2|UPDATE pictures SET compare = 3
+2|UPDATE pictures SET waiting = 5
+2|UPDATE pictures SET standing = 9
+2|UPDATE pictures SET line = 67
+2|UPDATE pictures SET cards = 1
+2|DELETE FROM pictures
+2|INSERT INTO cards VALUES ('ACME', 9, 1, x'40')
+2|INSERT INTO lines VALUES ('ACME', 9, 1, 1, 1, x'00')
+";
+
+/// The number of the fault that a slice of one instruction is answered with after a statement, 0
+/// for none, and the ticks that it takes.
+fn fault_after(alloc: Global, sql: &str) -> Result<(u8, u64), Fail> {
+    let conn = altered(alloc, Connection::open_in_memory(alloc)?, sql)?;
+    let mut bureau = Bureau::over(alloc, conn);
+    let mut meter = Meter::new();
+    let fault = match apply(&mut bureau, &slice_9(alloc, 1)?, &mut meter) {
+        Ok(_) => 0,
+        Err(fault) => fault.number(),
+    };
+    Ok((fault, meter.ticks()))
+}
+
+/// The first line of a sheet after whose statement a slice is answered with another fault, or
+/// ticks where it fails; else nothing.
+fn misread(alloc: Global, sheet: &'static str) -> Result<&'static str, Fail> {
+    for line in sheet.lines() {
+        let (wanted, sql) = line.split_once('|').ok_or("a fault")?;
+        let wanted = if wanted == "0" { (0, 1) } else { (2, 0) };
+        if fault_after(alloc, sql)? != wanted {
+            return Ok(line);
+        }
+    }
+    Ok("")
+}
+
+#[test]
+fn rows_that_are_none_of_a_bureau(rt: HostRuntime) -> Result<(), Fail> {
+    assert_eq!(rt; misread(rt.alloc(), ALTERED_ROWS)?, "");
+    Ok(())
+}

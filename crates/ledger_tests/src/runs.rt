@@ -72,3 +72,27 @@ fn a_job_handed_in_again_changes_no_row(rt: HostRuntime) -> Result<(), Fail> {
     assert!(rt; rows_after(alloc, AGAIN)? == rows_after(alloc, ONCE)?);
     Ok(())
 }
+
+/// A job with all switches on.
+const SEVEN_SWITCHES: &str = "\
+taken 6|submit|ACME|9|4000|127|two lines
+";
+
+/// The same with the eighth bit on, which is no switch, and handed in again with and without it.
+const EIGHT_BITS: &str = "\
+taken 6|submit|ACME|9|4000|255|two lines
+taken 6|submit|ACME|9|4000|127|two lines
+taken 6|submit|ACME|9|4000|255|two lines
+refused 14|submit|ACME|9|4000|A|two lines
+";
+
+#[test]
+fn the_eighth_bit_is_no_switch(rt: HostRuntime) -> Result<(), Fail> {
+    let alloc = rt.alloc();
+    assert_eq!(rt;
+        outcome(alloc, EIGHT_BITS)?.as_str(),
+        "0 ticks, 1 jobs, 0 lines"
+    );
+    assert!(rt; rows_after(alloc, EIGHT_BITS)? == rows_after(alloc, SEVEN_SWITCHES)?);
+    Ok(())
+}

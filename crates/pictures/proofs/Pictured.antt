@@ -1,7 +1,7 @@
 -- pictures and their rows
 use Rattle.std.proofs.Common.{◌≤◌, List, [], ◌∷◌, ap}
 use Rattle.units.specs.declared.printer.Line.{Line}
-use Rattle.units.specs.declared.carriage.TheConstants.{LINES_OF_FORM}
+use Rattle.units.specs.Carriages.{lines_of_form}
 use Rattle.units.specs.declared.carriage.Carriage.{Carriage}
 use Rattle.machine.specs.Ranges.{IsInRange}
 use Rattle.units.specs.Ranges.{AreRising, carriage_place, line_place, places_then, the_top}
@@ -11,16 +11,16 @@ use Rattle.pictures.specs.Pictures.{IsPictured}
 use Rattle.pictures.specs.Rows.{HasUnits}
 use Rattle.tables.specs.Cells.{PictureCells}
 
-below_line : (c : Carriage) (l : Line) (lines : List Line) → AreRising (line_place l) (places_then (carriage_place c) lines) → c.line ≤ LINES_OF_FORM
+below_line : (c : Carriage) (l : Line) (lines : List Line) → AreRising (line_place l) (places_then (carriage_place c) lines) → c.line ≤ lines_of_form
 below_line c l [] rising = rising.0.0.3
 below_line c l (m ∷ lines) rising = below_line c m lines rising.1
 
-below_all : (c : Carriage) (lines : List Line) → AreRising the_top (places_then (carriage_place c) lines) → c.line ≤ LINES_OF_FORM
+below_all : (c : Carriage) (lines : List Line) → AreRising the_top (places_then (carriage_place c) lines) → c.line ≤ lines_of_form
 below_all c [] rising = rising.0.0.3
 below_all c (l ∷ lines) rising = below_line c l lines rising.1
 
 -- the carriage stands on a form
-pub carriage_line : (m : State) → IsInRange m → m.works.units.printer.carriage.line ≤ LINES_OF_FORM
+pub carriage_line : (m : State) → IsInRange m → m.works.units.printer.carriage.line ≤ lines_of_form
 carriage_line m range = below_all m.works.units.printer.carriage (lines_of m) range.units.printer.places
 
 pub has_units : (row : PictureCells) (media : Media) (m : State) → IsPictured row media m → HasUnits row media m.works.units

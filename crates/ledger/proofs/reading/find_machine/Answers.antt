@@ -16,4 +16,4 @@ returns-in-Some-clause-found g c clean inside = if_ok_then _ _ c.machine_of.resu
       λ job is media.
           let kept = job_is c.args.customer.now c.args.number office job s.jobs is in
           made (picture job) kept.machine kept.storage (some_is (sym c.in-Some.is ∙ found.1 ∙ ap picture_of is)) media,
-    )) c.machine_of.ensures
+    )) c.machine_of.ensures.machine

@@ -26,4 +26,4 @@ returns-clause-found g c clean inside = if_ok_then _ _ c.read_media.result (λ m
           let same = loaded_is_deck job.kind job.deck in
           read (picture job) (subst IsDeck (sym (deck ∙ same)) kept.deck) kept.cards kept.lines (loaded ∙ ap deck_bytes (sym deck)) switches
           (c.as_slice.ensures.value ∙ cards.1 ∙ ap cards_of is) (c.as_slice-2.ensures.value ∙ lines.1 ∙ ap lines_of is),
-    )) c.read_media.ensures
+    )) c.read_media.ensures.read

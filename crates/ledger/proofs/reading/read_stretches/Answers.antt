@@ -1,14 +1,35 @@
-use Rattle.std.proofs.Common.{◌∷◌, [], ◌++◌, take, sym, ap, ◌∙◌, arith, Some}
-use Rattle.std.proofs.lemmas.List.{get_or_default}
+use Rattle.std.proofs.Common.{◌∷◌, [], ◌++◌, ap, ◌∙◌, refl, arith}
+use Rattle.std.proofs.lemmas.List.{get_or_default, take_all}
+use Rattle.std.proofs.lemmas.List.Elements.{All-from_recursion, recursion_from_All}
+use Rattle.pictures.proofs.Rows.{made_from, one_more, same_things}
 use Rattle.ledger.specs.Standing.{HasSwitches, stretch_row}
-use Rattle.ledger.proofs.ReadBack.{one_more, all_read, some_is}
+use Rattle.ledger.proofs.ReadBack.{stretches_told}
 use Rattle.ledger.proofs.reading.read_stretches.Goals as goal
 
-pub loop-row-preserved : goal.loop-row-preserved
-loop-row-preserved c = λ them all h.
-    let it = one_more stretch_row HasSwitches them c.args.rows.now c.loop-row.row-index _ all h c.loop-row-test.true (get_or_default c.args.rows.now c.loop-row.row-index _ _ c.loop-row-test.true) in
-    let same = some_is (sym c.in-Some.is ∙ c.read_stretch.ensures it.0 it.1 it.2) in
-    c.push_reserved.ensures.items ∙ ap (λ made. made ++ c.in-Some.stretch ∷ []) (c.in_ok-try_reserve.ensures.items ∙ c.loop-row.invariant them all h) ∙ ap (λ x. take c.loop-row.row-index them ++ x ∷ []) same ∙ sym it.3
+pub returns-in_default-clause-all : goal.returns-in_default-clause-all
+returns-in_default-clause-all c = λ them all same.
+    let rows = c.args.rows.now in
+    let i = c.loop-row.row-index in
+    let made = made_from stretch_row HasSwitches rows i _ c.loop-row-test.true (get_or_default rows i _ _ c.loop-row-test.true) them (All-from_recursion HasSwitches them all) same in
+    absurd (c.in_default.not-Some _ (c.read_stretch.ensures.all made.thing made.is made.row_is))
 
-pub returns : goal.returns
-returns c them all h = c.loop-row.invariant them all h ∙ all_read stretch_row HasSwitches them c.args.rows.now c.loop-row.row-index h (omega (arith, c.loop-row-test.false))
+pub loop-row-preserved : goal.loop-row-preserved
+loop-row-preserved c =
+    let rows = c.args.rows.now in
+    let i = c.loop-row.row-index in
+    let found = c.loop-row.invariant in
+    let pushed = c.push_reserved.ensures.items ∙ ap (λ made. made ++ c.in-Some.stretch ∷ []) c.in_ok-try_reserve.ensures.items in
+    let more = one_more stretch_row HasSwitches rows i _ c.in-Some.stretch c.loop-row.stretches.items c.push_reserved.new.self.items c.loop-row-test.true (get_or_default rows i _ _ c.loop-row-test.true) found.rows found.switches c.in-Some.ensures.only pushed in
+    record { rows = more.0; switches = more.1 }
+
+pub returns-clause-all : goal.returns-clause-all
+returns-clause-all c = λ them all same.
+    let found = c.loop-row.invariant in (
+      same_things stretch_row HasSwitches stretches_told c.loop-row.stretches.items them found.switches (All-from_recursion HasSwitches them all) (found.rows ∙ take_all _ _ (omega arith) ∙ same),
+      refl,
+    )
+
+pub returns-clause-only : goal.returns-clause-only
+returns-clause-only c =
+    let found = c.loop-row.invariant in
+    (found.rows ∙ take_all _ _ (omega arith), recursion_from_All HasSwitches c.loop-row.stretches.items found.switches)
