@@ -5,8 +5,12 @@
 //! OUT is written only where a deck was made, is shown by `cases/check` and `examples/check`.
 #![tactic(auto)]
 
-ghost use Rattle.std.specs.Prelude.{◌<◌};
+ghost use Rattle.std.specs.Prelude.{◌≡◌, Option, IfOk, IfErr};
 ghost use Rattle.std.specs.Process.{exit_status};
+ghost use Rattle.counter.specs.Told.{IsTextShown, status_code};
+ghost use Rattle.words.specs.Asked.{IsHelp, IsVersion, page_of};
+ghost use Rattle.words.specs.Plain.{texts};
+ghost use Rattle.words.specs.declared.RowName.{RowName};
 
 mod out;
 
@@ -19,6 +23,7 @@ use std::fs::File;
 use std::io::Write;
 use std::process::ExitCode;
 use std::{env, io};
+use words::VERSION;
 
 /// The words, with the program's name in front.
 fn words_given(rt: &HostRuntime) -> Result<Vec<String>, Misuse<'static>> {
@@ -49,9 +54,48 @@ fn assemble<W: Write, E: Write>(
     }
 }
 
-/// Does what the words ask for.
-fn done(rt: &HostRuntime) -> io::Result<Status> {
+/// Does what the words after the program's name ask for.
+fn answer<W: Write, E: Write>(
+    rt: &HostRuntime,
+    words: &[String],
+    output: &mut W,
+    errors: &mut E,
+) -> io::Result<Status>
+    ensures help { (row : Option RowName) → IsHelp row (texts words.now)
+        → IfOk result (λ status. IsTextShown (page_of row) status
+        (W.contents output.old) (W.contents output.new) (E.contents errors.old) (E.contents errors.new)) }
+    ensures version { IsVersion (texts words.now)
+        → IfOk result (λ status. IsTextShown VERSION.now status
+        (W.contents output.old) (W.contents output.new) (E.contents errors.old) (E.contents errors.new)) }
+{
     let alloc = rt.alloc();
+    match task_of(alloc, words) {
+        Ok(Task::Help(row)) => show_help(output, errors, row),
+        Ok(Task::Version) => show_version(output, errors),
+        Ok(
+            Task::Run {
+                deck: Source::Input,
+                size,
+                switches,
+            },
+        ) => run_deck(alloc, rt.stdin(), output, errors, size, switches),
+        Ok(
+            Task::Run {
+                deck: Source::File(path),
+                size,
+                switches,
+            },
+        ) => match File::open(rt, path) {
+            Ok(file) => run_deck(alloc, file, output, errors, size, switches),
+            Err(_) => tell_fault(errors, Fault::Device),
+        },
+        Ok(Task::Assemble { source, out }) => assemble(rt, source, out, output, errors),
+        Err(misuse) => tell_misuse(errors, misuse),
+    }
+}
+
+/// Does what the process's words ask for.
+fn done(rt: &HostRuntime) -> io::Result<Status> {
     let mut output = rt.stdout();
     let mut errors = rt.stderr();
     let words = match words_given(rt) {
@@ -60,38 +104,21 @@ fn done(rt: &HostRuntime) -> io::Result<Status> {
     };
     let words = words.as_slice();
     let after_name = if words.is_empty() { words } else { &words[1..] };
-    match task_of(alloc, after_name) {
-        Ok(Task::Help(row)) => show_help(&mut output, &mut errors, row),
-        Ok(Task::Version) => show_version(&mut output, &mut errors),
-        Ok(
-            Task::Run {
-                deck: Source::Input,
-                size,
-                switches,
-            },
-        ) => run_deck(alloc, rt.stdin(), &mut output, &mut errors, size, switches),
-        Ok(
-            Task::Run {
-                deck: Source::File(path),
-                size,
-                switches,
-            },
-        ) => match File::open(rt, path) {
-            Ok(file) => run_deck(alloc, file, &mut output, &mut errors, size, switches),
-            Err(_) => tell_fault(&mut errors, Fault::Device),
-        },
-        Ok(Task::Assemble { source, out }) => assemble(rt, source, out, &mut output, &mut errors),
-        Err(misuse) => tell_misuse(&mut errors, misuse),
-    }
+    answer(rt, after_name, &mut output, &mut errors)
 }
 
-/// The exit status is 0, 1 or 2. An error here is one of the standard error, to which nothing can
-/// be written: status 1.
-fn main(rt: HostRuntime) -> ExitCode
-    ensures { exit_status result < 3 }
+/// The exit status of an outcome. An error is one of the standard error, to which nothing can be
+/// written: status 1.
+fn exit_code(outcome: io::Result<Status>) -> ExitCode
+    ensures ok { IfOk outcome (λ status. exit_status result ≡ status_code status) }
+    ensures err { IfErr outcome (λ _. exit_status result ≡ status_code Status.Told) }
 {
-    match done(&rt) {
+    match outcome {
         Ok(status) => ExitCode::from(status.code()),
         Err(_) => ExitCode::from(Status::Told.code()),
     }
+}
+
+fn main(rt: HostRuntime) -> ExitCode {
+    exit_code(done(&rt))
 }

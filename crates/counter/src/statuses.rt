@@ -1,6 +1,6 @@
 //! How the program ends.
 
-ghost use Rattle.std.specs.Prelude.{◌≡◌, ◌<◌};
+ghost use Rattle.std.specs.Prelude.{◌≡◌};
 ghost use Rattle.counter.specs.Told.{status_code};
 
 /// How the program ends. Its code is the exit status.
@@ -17,8 +17,7 @@ pub enum Status {
 impl Status {
     /// The exit status.
     pub fn code(self) -> u8
-        ensures code { result ≡ status_code self }
-        ensures below { result < 3 }
+        ensures { result ≡ status_code self }
     {
         match self {
             Status::Done => 0,

@@ -26,21 +26,42 @@ const READINGS: &str = "\
 Ok(Standard)|
 Ok(Run { deck: \"D\", size: \"4000\", switches: \"-\" })|run D 4000 -
 Ok(Assemble { source: \"S\", out: \"-\" })|assemble S -
-Ok(Help)|--help
-Ok(Help)|-h
-Err(Row)|help
+Ok(Run { deck: \"-odd\", size: \"4000\", switches: \"--help\" })|run -- -odd 4000 --help
+Ok(Run { deck: \"--\", size: \"-\", switches: \"-1\" })|run -- -- - -1
+Ok(Assemble { source: \"-s\", out: \"-o\" })|assemble -- -s -o
+Ok(Help(None))|--help
+Ok(Help(None))|-h
+Ok(Help(Some(Run)))|run --help
+Ok(Help(Some(Run)))|run -h
+Ok(Help(Some(Assemble)))|assemble --help
+Ok(Help(Some(Assemble)))|assemble -h
+Ok(Version)|--version
+Err(Help(None))|help
+Err(Help(Some(Run)))|help run
+Err(Help(Some(Assemble)))|help assemble
+Err(Row)|help init
+Err(Row)|help run run
 Err(Row)|Run D 4000 -
 Err(Row)|--help run
+Err(Row)|--version run
+Err(Row)|-v
 Err(Row)|init F
+Err(Row)|-- run D 4000 -
 Err(Values(Run))|run
 Err(Values(Run))|run D 4000
 Err(Values(Run))|run D 4000 A B
-Err(Values(Run))|run D 4000 -1
-Err(Values(Run))|run --help
+Err(Hyphen(\"-1\"))|run D 4000 -1
+Err(Hyphen(\"-odd\"))|run -odd 4000 --help
+Err(Hyphen(\"--help\"))|run D --help
+Err(Hyphen(\"--\"))|run D -- 4000 A
+Err(Values(Run))|run --
+Err(Values(Run))|run -- D 4000
+Err(Values(Run))|run -- --help
 Err(Values(Assemble))|assemble
 Err(Values(Assemble))|assemble S
 Err(Values(Assemble))|assemble S O T
-Err(Values(Assemble))|assemble S -1
+Err(Hyphen(\"-1\"))|assemble S -1
+Err(Values(Assemble))|assemble -- S O T
 Err(Values(Assemble))|assemble run
 ";
 
@@ -74,8 +95,12 @@ Ok(Run { deck: Input, size: Positions4000, switches: Switches(1) })|
 Ok(Run { deck: File(\"D\"), size: Positions1400, switches: Switches(0) })|run D 1400 -
 Ok(Run { deck: File(\"-\"), size: Positions2000, switches: Switches(127) })|run - 2000 ABCDEFG
 Ok(Assemble { source: \"S\", out: \"-\" })|assemble S -
-Ok(Help)|--help
+Ok(Run { deck: File(\"-D\"), size: Positions4000, switches: Switches(0) })|run -- -D 4000 -
+Ok(Help(None))|--help
+Ok(Help(Some(Run)))|run -h
+Ok(Version)|--version
 Err(Size)|run D 4001 A
+Err(Size)|run D 4001 H
 Err(Size)|run D 04000 A
 Err(Size)|run D +4000 A
 Err(Size)|run D 16384 A
@@ -84,6 +109,8 @@ Err(Switches)|run D 4000 AA
 Err(Switches)|run D 4000 H
 Err(Switches)|run D 4000 a
 Err(Words(Row))|init F
+Err(Words(Help(None)))|help
+Err(Words(Hyphen(\"-A\")))|run D 4000 -A
 Err(Words(Values(Assemble)))|assemble S
 ";
 

@@ -1,6 +1,6 @@
 //! Assemblies of sources from a reader to two writers.
 
-use crate::devices::{Full, Torn};
+use crate::devices::{Full, Torn, Unflushed};
 use crate::texts::{TWO_LINES, TWO_LINES_LISTING, TWO_LINES_SOURCE, push_blanks, text_of};
 use counter::{Assembled, Status, assemble_deck};
 use std::alloc::Global;
@@ -148,5 +148,24 @@ fn a_failing_output_of_an_assembly_is_told(rt: HostRuntime) -> Result<(), Fail> 
     assert!(rt; output_fails(alloc, faulty, 15)?);
     let (mut output, mut errors) = (Full { room: 0 }, Full { room: 5 });
     assert!(rt; assemble_deck(alloc, good.as_slice(), &mut output, &mut errors).is_err());
+    Ok(())
+}
+
+/// Whether an assembly whose output is never flushed writes that a device failed, and gives no
+/// deck.
+fn flush_fails(alloc: Global, text: &[u8]) -> Result<bool, Fail> {
+    let mut errors = Vec::new(alloc);
+    let answer = assemble_deck(alloc, text, &mut Unflushed::empty(), &mut errors)?;
+    let is_told = errors.as_slice() == b"fault device\n".as_slice();
+    Ok(answer.status == Status::Told && answer.out.is_none() && is_told)
+}
+
+#[test]
+fn an_output_that_is_not_flushed_is_a_fault(rt: HostRuntime) -> Result<(), Fail> {
+    let alloc = rt.alloc();
+    let good = text_of(alloc, TWO_LINES_SOURCE)?;
+    assert!(rt; flush_fails(alloc, &good)?);
+    let faulty = good.get(..4 * 81).ok_or("four cards")?;
+    assert!(rt; flush_fails(alloc, faulty)?);
     Ok(())
 }

@@ -1,6 +1,6 @@
 //! Runs of decks from a reader to two writers.
 
-use crate::devices::{Full, Torn};
+use crate::devices::{Full, Torn, Unflushed};
 use crate::texts::{TWO_LINES, push_blanks, text_of};
 use core_store::Size;
 use counter::{Status, run_deck};
@@ -107,5 +107,18 @@ fn a_failing_device_is_told(rt: HostRuntime) -> Result<(), Fail> {
         assert!(rt; output_fails(alloc, &text, room)?, "at {room}");
     }
     assert!(rt; errors_fail(alloc, &text, 5));
+    Ok(())
+}
+
+#[test]
+fn a_listing_that_is_not_flushed_is_a_fault(rt: HostRuntime) -> Result<(), Fail> {
+    let alloc = rt.alloc();
+    let (size, switches) = (Size::Positions4000, Switches::A);
+    let text = text_of(alloc, TWO_LINES)?;
+    let mut out = Unflushed::empty();
+    let mut told = Vec::new(alloc);
+    let status = run_deck(alloc, text.as_slice(), &mut out, &mut told, size, switches)?;
+    assert!(rt; status == Status::Told);
+    assert!(rt; told.as_slice() == b"fault device\n".as_slice());
     Ok(())
 }

@@ -45,3 +45,28 @@ impl Write for Full {
         Ok(())
     }
 }
+
+/// Takes all bytes, and fails where it is flushed.
+#[derive(Drop)]
+pub(crate) struct Unflushed {
+    /// How many bytes it has taken.
+    taken: usize,
+}
+
+impl Unflushed {
+    /// A writer that has taken nothing.
+    pub(crate) fn empty() -> Unflushed {
+        Unflushed { taken: 0 }
+    }
+}
+
+impl Write for Unflushed {
+    fn write(&mut self, buf: &[u8]) -> io::Result<usize> {
+        self.taken = self.taken.saturating_add(buf.len());
+        Ok(buf.len())
+    }
+
+    fn flush(&mut self) -> io::Result<()> {
+        Err(io::Error::from(ErrorKind::StorageFull))
+    }
+}
