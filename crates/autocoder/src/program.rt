@@ -103,10 +103,12 @@ fn start_by(size: u16, slots: &[Slot], line: Line) -> u32
     ensures { result ≡ start_by size slots.now line }
 {
     match line {
-        Ok(Statement::End {
-            start: Some(expression),
-            ..
-        }) => match value_in(size, slots, expression) {
+        Ok(
+            Statement::End {
+                start: Some(expression),
+                ..
+            },
+        ) => match value_in(size, slots, expression) {
             Value::At(position) => position as u32,
             _ => 0,
         },

@@ -179,7 +179,10 @@ fn running(alloc: Global, sheet: &str, count: u32) -> Result<Deck, Fail> {
 fn data_cards_come_last(rt: HostRuntime) -> Result<(), Fail> {
     assert_eq!(rt; loading(rt.alloc(), EMPTY_SOURCE)?.as_str(), EMPTY);
     let deck = running(rt.alloc(), EMPTY_SOURCE, 2)?;
-    assert_eq!(rt; lines_of(rt.alloc(), deck.cards())?.as_str(), EMPTY_OVER_TWO_CARDS);
+    assert_eq!(rt;
+        lines_of(rt.alloc(), deck.cards())?.as_str(),
+        EMPTY_OVER_TWO_CARDS
+    );
     Ok(())
 }
 
@@ -210,7 +213,10 @@ fn two_thousand_cards_and_no_more(rt: HostRuntime) -> Result<(), Fail> {
         (1899, "fault 33"),
         (2000, "fault 33"),
     ] {
-        assert_eq!(rt; count_with(rt.alloc(), HUNDRED_STRETCHES, data)?.as_str(), wanted);
+        assert_eq!(rt;
+            count_with(rt.alloc(), HUNDRED_STRETCHES, data)?.as_str(),
+            wanted
+        );
     }
     Ok(())
 }

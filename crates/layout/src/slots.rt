@@ -256,11 +256,7 @@ fn has_start(earlier: &[Slot], start: Option<Expression>) -> bool
 }
 
 /// What is wrong with an `END`: its program has no start, or it has a label.
-fn end_fault(
-    earlier: &[Slot],
-    start: Option<Expression>,
-    labelled: bool,
-) -> Option<StatementFault>
+fn end_fault(earlier: &[Slot], start: Option<Expression>, labelled: bool) -> Option<StatementFault>
     ensures { result ≡ end_fault earlier.now start labelled }
 {
     if !has_start(earlier, start) {
