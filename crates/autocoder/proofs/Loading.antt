@@ -39,7 +39,7 @@ use Rattle.autocoder.proofs.Standing.{or_parts}
 use Rattle.autocoder.specs.Image.{cell_at, cons_some, cells_from, image_of}
 use Rattle.autocoder.specs.Loadable.{IsLoadable, IsRising, CanBeLoaded}
 use Rattle.autocoder.specs.Telling.{fault_then, faults_from, faults_of, told_to_end, no_end_behind, last_fault}
-use Rattle.autocoder.specs.Programs.{size_for, layout_for, start_by, last_line, IsProgramOf, IsFaultless}
+use Rattle.autocoder.specs.Programs.{size_for, layout_for, image_for, start_for, start_by, last_line, IsProgramOf, IsFaultless}
 use Rattle.autocoder.specs.declared.faults.CardFault.{CardFault}
 use Rattle.autocoder.specs.Assembly.{Assembly}
 
@@ -300,25 +300,28 @@ laid_well size lines none =
     (λ k h. by_fault size lines (literals_of lines (slots_of (layout_of size lines))) (layout_of size lines) (take k (layout_of size lines)) (drop (k + 1) (layout_of size lines)) (get_or lines k silent) (get_or (layout_of size lines) k nothing)
     (rules.satisfied k (omega (arith, rules.one_each))) (none k nothing h))
 
+-- cards can load the program of a source without faults
+pub faultless_loads : (source : List Card) → IsFaultless source → IsLoadable (size_for source) (image_for source) (start_for source)
+unfolding image_of
+faultless_loads source faultless =
+    let size = size_for source in
+    let layout : List Laid = layout_for source in
+    let well = laid_well size (lines_of false source) (no_faults_of (has_end source) layout faultless) in
+    record {
+      free = image_of_cells (λ c. FIRST_FREE ≤ c.position) (fills_of layout) 0 size (all_free layout (λ k d h. (well k d h).0));
+      inside = image_below (fills_of layout) size 0 size (omega arith);
+      start = starts_inside size layout (last_line source) (some_positions (size_of source)) (λ k d h. (well k d h).1);
+    }
+
 module _ (source : List Card) (program : Assembly) (is_program : IsProgramOf source program) where
   size_is : size_for source ≡ positions_of program.size
   size_is = ap positions_of (sym is_program.size)
 
   pub can_be_loaded : IsFaultless source → CanBeLoaded program
-  unfolding image_of
   can_be_loaded faultless =
-      let size = size_for source in
-      let layout : List Laid = layout_for source in
-      let well = laid_well size (lines_of false source) (no_faults_of (has_end source) layout faultless) in
-      let free = all_free layout (λ k d h. (well k d h).0) in
-      let whole : IsLoadable size (image_of size layout) (start_by size (slots_of layout) (last_line source)) = record {
-        free = image_of_cells (λ c. FIRST_FREE ≤ c.position) (fills_of layout) 0 size free;
-        inside = image_below (fills_of layout) size 0 size (omega arith);
-        start = starts_inside size layout (last_line source) (some_positions (size_of source)) (λ k d h. (well k d h).1);
-      } in
       subst (λ s. IsLoadable s program.image program.start) size_is
-      (subst (λ i. IsLoadable size i program.start) (sym is_program.image)
-      (subst (λ s. IsLoadable size (image_of size layout) s) (sym is_program.start) whole))
+      (subst (λ i. IsLoadable (size_for source) i program.start) (sym is_program.image)
+      (subst (λ s. IsLoadable (size_for source) (image_for source) s) (sym is_program.start) (faultless_loads source faultless)))
 
   pub rises : IsRising program.image
   unfolding image_of

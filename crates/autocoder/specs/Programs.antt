@@ -11,6 +11,7 @@ use Rattle.layout.specs.Slots.{is_instruction}
 use Rattle.layout.specs.Cells.{position_in}
 use Rattle.layout.specs.Literals.{literals_of}
 use Rattle.layout.specs.Layout.{Laid, slots_of, layout_of}
+use Rattle.layout.specs.declared.cells.Cell.{Cell}
 use Rattle.layout.specs.declared.slots.Slot.{Slot}
 use Rattle.autocoder.specs.Image.{image_of}
 use Rattle.autocoder.specs.Telling.{faults_of}
@@ -36,11 +37,19 @@ start_by size slots line = 0
 unfoldable pub last_line : List Card → Line
 last_line source = slice_index_or (map statement_on source) (length source - 1) silent
 
+-- the positions that the program of a source fills, by its one layout
+abbrev pub image_for : List Card → List Cell
+image_for source = image_of (size_for source) (layout_for source)
+
+-- where the program of a source starts
+abbrev pub start_for : List Card → ℕ
+start_for source = start_by (size_for source) (slots_of (layout_for source)) (last_line source)
+
 -- a program is that of a source, by the source's layout
 pub record IsProgramOf (source : List Card) (program : Assembly) : Type 0 where
   pub size : program.size ≡ size_of source
-  pub image : program.image ≡ image_of (size_for source) (layout_for source)
-  pub start : program.start ≡ start_by (size_for source) (slots_of (layout_for source)) (last_line source)
+  pub image : program.image ≡ image_for source
+  pub start : program.start ≡ start_for source
   pub last : program.last ≡ length source
   pub slots : program.slots ≡ slots_of (layout_for source)
   pub literals : program.literals ≡ literals_of (lines_of false source) (slots_of (layout_for source))

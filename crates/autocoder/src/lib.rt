@@ -9,10 +9,12 @@
 
 mod faults;
 mod judging;
+mod laws;
 mod listings;
 mod program;
 mod tables;
 
 pub use faults::{CardFault, Faults};
+pub use laws::faultless_sources_can_be_loaded;
 pub use listings::listing;
 pub use program::{Program, assemble};

@@ -1,5 +1,5 @@
 -- what is a deck, among the lists of cards
-use Rattle.std.specs.Prelude.{ℕ, ◌≡◌, ◌<◌, ◌≤◌, List, length, All}
+use Rattle.std.specs.Prelude.{ℕ, ◌≡◌, ◌<◌, ◌≤◌, List, length, flat_map, All}
 use Rattle.cards.specs.declared.decks.Card.{Card}
 
 -- the columns of a card
@@ -19,3 +19,7 @@ IsCard card = (length card.0 ≡ card_columns) × AreCharacters card.0
 
 abbrev pub IsDeck : List Card → Type 0
 IsDeck deck = (length deck ≤ largest_deck) × All IsCard deck
+
+-- the bytes of cards: their columns joined, a byte a column
+abbrev pub deck_bytes : List Card → List ℕ
+deck_bytes = flat_map (λ card. card.0)

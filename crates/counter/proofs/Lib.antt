@@ -1,3 +1,0 @@
-pub mod Letters
-pub mod Behind
-pub mod Unread

@@ -1,5 +1,5 @@
 -- What a deck is assembled to, and what of it goes out.
-use Rattle.std.specs.Prelude.{◌≡◌, ◌≢◌, ◌⊎◌, ◌<◌, ◌≤◌, ◌++◌, ◌∷◌, [], ℕ, List, length, drop, Option, Some, None, option_map, codes, decimal}
+use Rattle.std.specs.Prelude.{◌≡◌, ◌≢◌, ◌⊎◌, ◌<◌, ◌≤◌, ◌++◌, ◌∷◌, [], ℕ, List, length, Option, Some, None, option_map, codes, decimal}
 use Rattle.std.specs.List.{flat_map}
 use Rattle.std.specs.Io.KnownBytes.{Appends, Keeps}
 use Rattle.cards.specs.declared.Card.{Card}
@@ -7,47 +7,33 @@ use Rattle.cards.specs.Decks.{largest_deck, IsDeck}
 use Rattle.cards.specs.Faults.{out_of_memory}
 use Rattle.cards.specs.Files.{text_of}
 use Rattle.layout.specs.Faults.{fault_number}
-use Rattle.layout.specs.Layout.{slots_of}
 use Rattle.layout.specs.Source.{has_end, source_of}
-use Rattle.autocoder.specs.Image.{image_of}
 use Rattle.autocoder.specs.Listing.{listing_for}
-use Rattle.autocoder.specs.Programs.{IsFaultless, last_line, layout_for, size_for, start_by}
+use Rattle.autocoder.specs.Programs.{IsFaultless, layout_for}
 use Rattle.autocoder.specs.Telling.{faults_of, fault_list, no_memory}
 use Rattle.autocoder.specs.declared.faults.CardFault.{CardFault}
-use Rattle.loader.specs.Cards.{loading_cards}
+use Rattle.loader.specs.Decks.{runnable_deck}
 use Rattle.counter.specs.declared.assembling.Assembled.{Assembled}
 use Rattle.counter.specs.declared.assembling.Hindrance.{Hindrance}
 use Rattle.counter.specs.declared.assembling.Hindrance.TheVariants as hindrance
 use Rattle.counter.specs.declared.assembling.Product.{Product}
-use Rattle.counter.specs.declared.faults.Fault.{Fault}
-use Rattle.counter.specs.declared.faults.Fault.TheVariants as fault
-use Rattle.counter.specs.declared.statuses.Status.{Status}
-use Rattle.counter.specs.declared.statuses.Status.TheVariants as status
-use Rattle.counter.specs.Runs.{IsTextFault}
-use Rattle.counter.specs.Told.{fault_words}
+use Rattle.command_line.specs.declared.faults.Fault.{Fault}
+use Rattle.command_line.specs.declared.faults.Fault.TheVariants as fault
+use Rattle.command_line.specs.declared.statuses.Status.{Status}
+use Rattle.command_line.specs.declared.statuses.Status.TheVariants as status
+use Rattle.runs.specs.Runs.{IsTextFault}
+use Rattle.command_line.specs.Told.{fault_words}
 
 -- ---- what is made of a deck
-
--- the cards that load the program of a source
-abbrev pub loading_cards_of : List Card → List Card
-loading_cards_of source = loading_cards (image_of (size_for source) (layout_for source))
-    (start_by (size_for source) (slots_of (layout_for source)) (last_line source))
-
--- the cards after the source of a deck
-abbrev pub data_of : List Card → List Card
-data_of deck = drop (length (source_of deck)) deck
-
--- the deck that runs the program of a deck's source over its data
-unfoldable pub object_deck : List Card → List Card
-object_deck deck = loading_cards_of (source_of deck) ++ data_of deck
 
 -- a listing, and what is written to OUT
 pub record Made : Type 0 where
   pub listing : List ℕ
   pub out : List ℕ
 
+-- what is made of a deck: the listing of its source, and the text of the deck that runs its program
 abbrev pub made_of : List Card → Made
-made_of deck = record { listing = listing_for deck; out = text_of (object_deck deck) }
+made_of deck = record { listing = listing_for deck; out = text_of (runnable_deck deck) }
 
 -- ---- what the assembling of a text comes to
 
@@ -61,7 +47,7 @@ pub record IsMadeOf (text : List ℕ) (made : Made) : Type 0 where
   pub deck : List Card
   pub is : IsTextOf text deck
   pub faultless : IsFaultless (source_of deck)
-  pub fits : length (object_deck deck) ≤ largest_deck
+  pub fits : length (runnable_deck deck) ≤ largest_deck
   pub gives : made ≡ made_of deck
 
 -- the text is a deck's whose source has these faults, and there are some
@@ -76,7 +62,7 @@ pub record IsTooLong (text : List ℕ) : Type 0 where
   pub deck : List Card
   pub is : IsTextOf text deck
   pub faultless : IsFaultless (source_of deck)
-  pub over : largest_deck < length (object_deck deck)
+  pub over : largest_deck < length (runnable_deck deck)
 
 -- what a fault says of the text; memory and devices may fail at any
 abbrev pub Hinders : List ℕ → Fault → Type 0
@@ -92,14 +78,17 @@ pub data Ending : Type 0 where
   faulty : List CardFault → Ending
   hindered : Fault → Ending
 
+-- whether the assembling of a text can come to this
 abbrev pub Ends : List ℕ → Ending → Type 0
 Ends text (assembled made) = IsMadeOf text made
 Ends text (faulty told) = (told ≡ no_memory) ⊎ AreFaultsOf text told
 Ends text (hindered f) = Hinders text f
 
+-- what a product holds
 abbrev pub made_by : Product → Made
 made_by product = record { listing = product.listing.items; out = product.out.items }
 
+-- what a hindrance comes to
 abbrev pub ending_by : Hindrance → Ending
 ending_by (hindrance.Source told) = faulty (fault_list told)
 ending_by (hindrance.Fault f) = hindered f
@@ -110,6 +99,7 @@ ending_by (hindrance.Fault f) = hindered f
 abbrev pub fault_line : CardFault → List ℕ
 fault_line f = codes "card " ++ decimal f.card ++ codes " fault " ++ decimal (fault_number f.fault) ++ 10 ∷ []
 
+-- the lines of some faults
 abbrev pub fault_lines : List CardFault → List ℕ
 fault_lines told = flat_map fault_line told
 
@@ -137,6 +127,7 @@ Complains (assembled made) old new = Keeps old new
 Complains (faulty told) old new = Keeps old new
 Complains (hindered f) old new = Appends old new (fault_words f ++ 10 ∷ [])
 
+-- the bytes that an answer gives for OUT
 abbrev pub out_in : Assembled → Option (List ℕ)
 out_in answer = option_map (λ bytes. bytes.items) answer.out
 

@@ -1,5 +1,6 @@
-pub mod Switches
-pub mod Told
-pub mod Runs
+pub use Rattle.values.specs.Switches
+pub use Rattle.command_line.specs.Told
+pub use Rattle.command_line.specs.Tasks
+pub use Rattle.runs.specs.Reports
+pub use Rattle.runs.specs.Runs
 pub mod Assembling
-pub mod Tasks

@@ -4,16 +4,16 @@ ghost use Rattle.std.specs.Prelude.{◌≡◌, ◌≢◌, ◌≤◌, ◌<◌, �
 ghost use Rattle.cards.specs.Decks.{largest_deck};
 ghost use Rattle.layout.specs.Source.{source_of};
 ghost use Rattle.autocoder.specs.Programs.{IsProgramOf};
-ghost use Rattle.counter.specs.Runs.{Reads};
-ghost use Rattle.counter.specs.Assembling.{Assembles, Ends, IsHindrance, IsMadeOf, IsShown, data_of, ending_by, made_by, made_of, object_deck, assembled, faulty, hindered};
+ghost use Rattle.loader.specs.Decks.{runnable_deck};
+ghost use Rattle.runs.specs.Runs.{Reads};
+ghost use Rattle.counter.specs.Assembling.{Assembles, Ends, IsHindrance, IsMadeOf, IsShown, ending_by, made_by, made_of, assembled, faulty, hindered};
 
-use crate::faults::Fault;
-use crate::runs::text_in;
-use crate::statuses::Status;
-use crate::telling::{put_fault_lines, put_out, tell_fault};
+use crate::source_faults::put_fault_lines;
 use autocoder::{CardFault, Faults, Program, assemble, listing};
-use cards::{Card, Deck, read_text, write_text};
-use loader::deck_to_run;
+use cards::{Deck, read_text, write_text};
+use command_line::{Fault, Status, put_out, tell_fault};
+use loader::runnable_deck;
+use runs::text_in;
 use std::alloc::Global;
 use std::io;
 use std::io::{Read, Write};
@@ -44,36 +44,16 @@ enum Hindrance {
     Fault(Fault),
 }
 
-/// The data cards: those after the source.
-#[tactic(auto, using(crate::proofs::Behind::source_within))]
-fn data_in<'a>(deck: &'a Deck, program: &Program) -> &'a [Card]
-    requires program { IsProgramOf (source_of deck.now) program.now }
-    ensures { result.now ≡ data_of deck.now }
-{
-    &deck.cards()[program.last() as usize..]
-}
-
-/// The deck that runs a program over its data.
-#[tactic(auto, unfolding(crate::specs::Assembling::object_deck))]
-fn object_of(alloc: Global, deck: &Deck, program: &Program) -> Result<Deck, Fault>
-    requires program { IsProgramOf (source_of deck.now) program.now }
-    ensures object { IfOk result (λ object. object ≡ object_deck deck.now) }
-    ensures fault { IfErr result (λ fault. (fault ≡ Fault.Memory)
-        ⊎ ((fault ≡ Fault.TooManyCards) × (largest_deck < length (object_deck deck.now)))) }
-{
-    Ok(deck_to_run(alloc, program, data_in(deck, program))?)
-}
-
 /// What is made of a deck and its program.
 fn product_of(alloc: Global, deck: &Deck, program: &Program) -> Result<Product, Fault>
     requires program { IsProgramOf (source_of deck.now) program.now }
     ensures made { IfOk result (λ product. made_by product ≡ made_of deck.now) }
-    ensures fits { IfOk result (λ _. length (object_deck deck.now) ≤ largest_deck) }
+    ensures fits { IfOk result (λ _. length (runnable_deck deck.now) ≤ largest_deck) }
     ensures fault { IfErr result (λ fault. (fault ≡ Fault.Memory)
-        ⊎ ((fault ≡ Fault.TooManyCards) × (largest_deck < length (object_deck deck.now)))) }
+        ⊎ ((fault ≡ Fault.TooManyCards) × (largest_deck < length (runnable_deck deck.now)))) }
 {
-    let object = object_of(alloc, deck, program)?;
-    let out = write_text(alloc, &object)?;
+    let runnable = runnable_deck(alloc, deck, program)?;
+    let out = write_text(alloc, &runnable)?;
     let listing = listing(alloc, deck, program)?;
     Ok(Product { listing, out })
 }

@@ -17,3 +17,4 @@ pub mod Orders
 pub mod Texts
 pub mod Carrying
 pub mod Whole
+pub mod Behind

@@ -291,7 +291,7 @@ module _ (size : Size) (image : List Cell) (start : ℕ) (data_cards : List Card
       })
 
 -- what a machine of the program's size can take a larger one can
-wider : (size larger : ℕ) (image : List Cell) (start : ℕ) → size ≤ larger → IsLoadable size image start → IsLoadable larger image start
+pub wider : (size larger : ℕ) (image : List Cell) (start : ℕ) → size ≤ larger → IsLoadable size image start → IsLoadable larger image start
 wider size larger image start fits loadable =
     record { free = loadable.free; inside = λ k d lt. omega (arith, loadable.inside k d lt); start = omega (arith, loadable.start) }
 

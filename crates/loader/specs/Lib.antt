@@ -1,4 +1,5 @@
 pub mod Glyphs
 pub mod Stretches
 pub mod Cards
+pub mod Decks
 pub mod Loading

@@ -8,9 +8,13 @@ ghost use Rattle.layout.specs.declared.cells.Cell.{Cell};
 ghost use Rattle.machine.specs.Run.{after, loaded};
 ghost use Rattle.units.specs.declared.switches.Switches.{Switches};
 ghost use Rattle.autocoder.specs.Loadable.{IsLoadable};
+ghost use Rattle.autocoder.specs.Programs.{IsFaultless, image_for, size_for, start_for};
 ghost use Rattle.loader.specs.Stretches.{IsSplit, stretches_of};
 ghost use Rattle.loader.specs.Cards.{loading_cards};
+ghost use Rattle.loader.specs.Decks.{loading_cards_of};
 ghost use Rattle.loader.specs.Loading.{at_the_start, instructions_to_load, IsBetweenCards};
+
+use autocoder::faultless_sources_can_be_loaded;
 
 /// The law of stretches: an image is split into longest stretches in one way, and no other.
 pub fn stretches_are_longest()
@@ -30,3 +34,23 @@ pub fn cards_load_the_program()
         (k : ℕ) → k ≤ length (stretches_of image) →
         IsBetweenCards (flat_map (λ stretch. stretch) (take k (stretches_of image))) (2 + k) size (after (loaded (loading_cards image start ++ data_cards) size switches) (11 + 5 * k)) }
 {}
+
+/// The law of larger storages: what cards can load into a storage they can load into a larger one.
+#[tactic(auto, using(crate::proofs::Whole::wider))]
+pub fn larger_storages_can_be_loaded()
+    ensures { (size larger : ℕ) (image : List Cell) (start : ℕ) → size ≤ larger → IsLoadable size image start → IsLoadable larger image start }
+{}
+
+/// The law of faultless sources: cards can load the program of a source that has no fault into any
+/// machine of at least the source's size (`loadable`), and its loading cards bring it there and
+/// start it, whatever data stand after them (`loads`).
+pub fn faultless_sources_load()
+    ensures loadable { (source : List Card) (size : Size) → IsFaultless source → size_for source ≤ positions_of size →
+        IsLoadable (positions_of size) (image_for source) (start_for source) }
+    ensures loads { (source data_cards : List Card) (size : Size) (switches : Switches) → IsFaultless source → size_for source ≤ positions_of size →
+        after (loaded (loading_cards_of source ++ data_cards) size switches) (instructions_to_load (image_for source)) ≡ at_the_start (image_for source) (start_for source) data_cards size switches }
+{
+    faultless_sources_can_be_loaded();
+    larger_storages_can_be_loaded();
+    cards_load_the_program();
+}

@@ -18,5 +18,8 @@ mod pieces;
 mod places;
 mod stretches;
 
-pub use laws::{cards_load_the_program, stretches_are_longest};
-pub use object::{deck_to_run, object_deck};
+pub use laws::{
+    cards_load_the_program, faultless_sources_load, larger_storages_can_be_loaded,
+    stretches_are_longest,
+};
+pub use object::{deck_to_run, object_deck, runnable_deck};

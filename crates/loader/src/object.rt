@@ -1,10 +1,13 @@
 //! The deck of a program.
 
-ghost use Rattle.std.specs.Prelude.{◌≡◌, ◌<◌, ◌++◌, length, map, All, IfOk, OnOk, IsErrOf};
+ghost use Rattle.std.specs.Prelude.{◌≡◌, ◌<◌, ◌≤◌, ◌++◌, length, map, All, IfOk, OnOk, IsErrOf};
 ghost use Rattle.core_store.specs.Storage.{largest_size};
 ghost use Rattle.cards.specs.Decks.{largest_deck};
+ghost use Rattle.layout.specs.Source.{source_of};
+ghost use Rattle.autocoder.specs.Programs.{IsProgramOf};
 ghost use Rattle.loader.specs.Stretches.{stretches_of};
 ghost use Rattle.loader.specs.Cards.{load_card, loading_cards};
+ghost use Rattle.loader.specs.Decks.{data_of, runnable_deck};
 ghost use Rattle.loader.specs.Loading.{Loads};
 
 use crate::pieces::{boot_card, load_card, start_card};
@@ -63,4 +66,26 @@ pub fn deck_to_run(alloc: Global, program: &Program, data: &[Card]) -> Result<De
     let mut deck = object_deck(alloc, program)?;
     push_cards(&mut deck, data)?;
     Ok(deck)
+}
+
+/// The data of a deck: its cards after the source.
+#[tactic(auto, using(crate::proofs::Behind::source_within))]
+fn data_of<'a>(deck: &'a Deck, program: &Program) -> &'a [Card]
+    requires program { IsProgramOf (source_of deck.now) program.now }
+    ensures { result.now ≡ data_of deck.now }
+{
+    &deck.cards()[program.last() as usize..]
+}
+
+/// The deck that runs the program of a deck's source over the deck's data: the cards that load the
+/// program, and the data after them. Where they are over 2,000 it answers `TooManyCards`; memory may
+/// be wanted for any.
+#[tactic(auto, unfolding(crate::specs::Decks::runnable_deck))]
+pub fn runnable_deck(alloc: Global, deck: &Deck, program: &Program) -> Result<Deck, DeckFault>
+    requires program { IsProgramOf (source_of deck.now) program.now }
+    ensures deck { IfOk result (λ runnable. runnable ≡ runnable_deck deck.now) }
+    ensures fits { IfOk result (λ _. length (runnable_deck deck.now) ≤ largest_deck) }
+    ensures full { IsErrOf result DeckFault.TooManyCards → largest_deck < length (runnable_deck deck.now) }
+{
+    deck_to_run(alloc, program, data_of(deck, program))
 }

@@ -3,10 +3,10 @@ use Rattle.std.specs.Prelude.{Option}
 use Rattle.std.proofs.lemmas.Result.{IfOk-weaker}
 use Rattle.cards.specs.Faults.{out_of_memory}
 use Rattle.counter.specs.declared.assembling.Assembled.{Assembled}
-use Rattle.counter.specs.declared.faults.Fault.{Fault}
-use Rattle.counter.specs.declared.faults.Fault.TheVariants as fault
+use Rattle.command_line.specs.declared.faults.Fault.{Fault}
+use Rattle.command_line.specs.declared.faults.Fault.TheVariants as fault
 use Rattle.counter.specs.Assembling.{Assembles, Hinders, IsHindrance, hindered}
-use Rattle.counter.proofs.Unread.{kept, some_text}
+use Rattle.runs.proofs.Unread.{kept, some_text}
 use Rattle.counter.proofs.assembling.assemble_deck.Goals as goal
 
 -- a fault that was told, with nothing put out

@@ -1,0 +1,18 @@
+//! The command line: the task that the program's words ask for, and what the program tells there.
+//!
+//! It stands on `words`, which finds the row that words spell, and on `values`, which reads the
+//! values in them. Its contracts for the layers above: the task of words is the one that they ask
+//! for, or else the misuse is what is wrong with them (`specs/Tasks.antt`); and what is told, of a
+//! fault, of a misuse or as help, is exactly the words of `specs/Told.antt`, or their writer
+//! failed.
+#![tactic(auto)]
+
+mod faults;
+mod statuses;
+mod tasks;
+mod telling;
+
+pub use faults::Fault;
+pub use statuses::Status;
+pub use tasks::{Misuse, Source, Task, task_of};
+pub use telling::{put_out, show_help, show_version, tell_fault, tell_misuse};
