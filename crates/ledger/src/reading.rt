@@ -16,7 +16,7 @@ ghost use Rattle.ledger.specs.Steps.{FindsIn};
 use crate::office::{KeptJob, Stretch};
 use core_store::Core;
 use machine::{Machine, runs_only_add};
-use pictures::{Media, read_cards, read_deck, read_lines, read_picture, read_switches, read_truth};
+use pictures::{Media, read_deck, read_picture, read_rows, read_switches, read_truth};
 use sqlite::Alter;
 use std::alloc::{AllocError, Global};
 use tables::{CardRow, Fault, JobName, JobRow, LineRow, OpenTables, PictureRow, StretchRow};
@@ -92,12 +92,12 @@ fn read_media(
         Ok(None) => return Err(Fault::Store),
         Err(_) => return Err(Fault::NoMemory),
     };
-    let cards = match read_cards(alloc, cards) {
+    let cards = match read_rows(alloc, cards) {
         Ok(Some(cards)) => cards,
         Ok(None) => return Err(Fault::Store),
         Err(_) => return Err(Fault::NoMemory),
     };
-    let lines = match read_lines(alloc, lines) {
+    let lines = match read_rows(alloc, lines) {
         Ok(Some(lines)) => lines,
         Ok(None) => return Err(Fault::Store),
         Err(_) => return Err(Fault::NoMemory),
