@@ -26,11 +26,15 @@ IsFoundAs (Some kept) job = (it : Job) × (job ≡ Some it) × (kept ≡ kept_of
 
 -- the switches of the first stretch
 abbrev pub IsFirst : Switches → List Stretch → Type 0
-IsFirst switches stretches = (first : Stretch) × (more : List Stretch) × (stretches ≡ first ∷ more) × (switches ≡ first.switches)
+IsFirst switches stretches =
+    (first : Stretch) × (more : List Stretch) × (stretches ≡ first ∷ more)
+    × (switches ≡ first.switches)
 
+-- this is what the job was handed in with, or there is none
 abbrev pub IsHandedAs : Option Handed → Option Job → Type 0
 IsHandedAs None job = job ≡ None
-IsHandedAs (Some handed) job = (it : Job) × (job ≡ Some it) × (handed.row ≡ job_cells it) × IsFirst handed.switches it.stretches
+IsHandedAs (Some handed) job = (it : Job) × (job ≡ Some it) × (handed.row ≡ job_cells it)
+    × IsFirst handed.switches it.stretches
 
 -- ---- what is found of the job, if there is one
 
@@ -45,16 +49,19 @@ BeganWith here found = (job : Job) → here ≡ Some job → IsFirst found job.s
 -- this is what its machine reads and has made, if these are its deck and switches
 abbrev pub HasMedia : Option Job → List ℕ → Switches → Media → Type 0
 HasMedia here loaded switches found =
-    (job : Job) → here ≡ Some job → loaded ≡ deck_bytes (loaded_deck job) → switches ≡ (picture job).works.units.switches → IsMediaOf found (picture job)
+    (job : Job) → here ≡ Some job → loaded ≡ deck_bytes (loaded_deck job)
+    → switches ≡ (picture job).works.units.switches → IsMediaOf found (picture job)
 
 -- this is its machine, if that reads and has made this
 abbrev pub HasMachineWith : Option Job → Media → State → Type 0
-HasMachineWith here media found = (job : Job) → here ≡ Some job → IsMediaOf media (picture job) → found ≡ picture job
+HasMachineWith here media found =
+    (job : Job) → here ≡ Some job → IsMediaOf media (picture job) → found ≡ picture job
 
 -- this is its machine, if these are its deck and switches
 abbrev pub HasMachine : Option Job → List ℕ → Switches → State → Type 0
 HasMachine here loaded switches found =
-    (job : Job) → here ≡ Some job → loaded ≡ deck_bytes (loaded_deck job) → switches ≡ (picture job).works.units.switches → found ≡ picture job
+    (job : Job) → here ≡ Some job → loaded ≡ deck_bytes (loaded_deck job)
+    → switches ≡ (picture job).works.units.switches → found ≡ picture job
 
 -- this is the job, if this is its row
 abbrev pub HasKept : Option Job → JobCells → Kept → Type 0

@@ -46,12 +46,14 @@ with_made name units t = with_all_lines name units.printer.lines (with_all_cards
 
 -- these are the job's stretches
 abbrev pub with_all_stretches : JobName → List Stretch → Tables → Tables
-with_all_stretches name stretches = with_stretches name.customer.now name.number (map stretch_row stretches)
+with_all_stretches name stretches =
+    with_stretches name.customer.now name.number (map stretch_row stretches)
 
 -- the tables have these stretches for the job, but for what was granted since in the last
 abbrev pub HasFewerGranted : JobName → List Stretch → Tables → Type 0
 HasFewerGranted name stretches t =
-    (before : List Stretch) × (limit : ℕ) × (stretches ≡ granted_more limit before) × (of_job name t.stretches ≡ map stretch_row before)
+    (before : List Stretch) × (limit : ℕ) × (stretches ≡ granted_more limit before)
+    × (of_job name t.stretches ≡ map stretch_row before)
 
 -- the job's machine is this one
 abbrev pub with_machine : JobName → State → Tables → Tables
@@ -59,12 +61,14 @@ with_machine name m = with_picture_of name (picture_cells m)
 
 -- the job has made this progress
 abbrev pub with_progress : JobName → Kept → Tables → Tables
-with_progress name kept t = with_all_stretches name kept.stretches (with_machine name kept.machine t)
+with_progress name kept t =
+    with_all_stretches name kept.stretches (with_machine name kept.machine t)
 
 -- the job has this one stretch, in which nothing is granted yet
 abbrev pub with_first_stretch : JobName → Switches → Tables → Tables
 with_first_stretch name switches =
-    with_stretches name.customer.now name.number ((record { switches = switches.0; granted = 0 }) ∷ [])
+    with_stretches name.customer.now name.number
+    ((record { switches = switches.0; granted = 0 }) ∷ [])
 
 -- the job starts with these switches and this machine
 abbrev pub with_start : JobName → Switches → State → Tables → Tables
@@ -85,8 +89,10 @@ with_handed name contents size = with_new_job name (job_cells (new_job size cont
 abbrev pub job_in : JobName → Office → Option Job
 job_in name = job_of name.customer.now name.number
 
--- The slice is allowed, and this is what it makes of the job; before, the job had made so many cards and lines.
-pub record IsSliced (name : JobName) (kept : Kept) (made : Made) (limit : ℕ) (old : Job) (office : Office) : Type 0 where
+-- The slice is allowed, and this is what it makes of the job; before, the job had made so many
+-- cards and lines.
+pub record IsSliced (name : JobName) (kept : Kept) (made : Made) (limit : ℕ) (old : Job)
+    (office : Office) : Type 0 where
   pub found : job_in name office ≡ Some old
   pub allowed : refusal_of limit old ≡ None
   pub is : kept ≡ sliced_kept limit (kept_of old) None
@@ -96,10 +102,12 @@ pub record IsSliced (name : JobName) (kept : Kept) (made : Made) (limit : ℕ) (
 -- so much more is granted to the job
 abbrev pub with_more : JobName → ℕ → Job → Office → Office
 with_more name limit old =
-    with_job name.customer.now name.number (record old { stretches = granted_more limit old.stretches })
+    with_job name.customer.now name.number
+    (record old { stretches = granted_more limit old.stretches })
 
 -- The name is free, the contents have a card, and this is what becomes of them.
-pub record IsNew (name : JobName) (contents : Contents) (size : Size) (kept : Kept) (office : Office) : Type 0 where
+pub record IsNew (name : JobName) (contents : Contents) (size : Size) (kept : Kept)
+    (office : Office) : Type 0 where
   pub free : job_in name office ≡ None
   pub card : is_empty contents.deck ≡ false
   pub is : kept ≡ kept_of (new_job size contents)
@@ -107,4 +115,8 @@ pub record IsNew (name : JobName) (contents : Contents) (size : Size) (kept : Ke
 -- the job of these contents is the last that was taken
 abbrev pub with_new : JobName → Contents → Size → Office → Office
 with_new name contents size office =
-    office ++ (record { customer = name.customer.now; number = name.number; job = new_job size contents }) ∷ []
+    office ++ (record {
+      customer = name.customer.now;
+      number = name.number;
+      job = new_job size contents;
+    }) ∷ []

@@ -82,7 +82,8 @@ fn read_media(
 ) -> Result<Media, Fault>
     ensures read { IfOk result (λ media. (m : State)
         → ShowsMedia m loaded.now cards.now
-        → lines.now ≡ map line_cells m.works.units.printer.lines → switches ≡ m.works.units.switches → IsMediaOf media m) }
+        → lines.now ≡ map line_cells m.works.units.printer.lines
+        → switches ≡ m.works.units.switches → IsMediaOf media m) }
     ensures store { IsErrOf result Fault.Store → (m : State)
         → ShowsMedia m loaded.now cards.now
         → lines.now ≢ map line_cells m.works.units.printer.lines }

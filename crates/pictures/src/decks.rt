@@ -39,7 +39,8 @@ fn read_card(bytes: &[u8]) -> Option<Card>
 
 /// The card that the bytes begin with, and the bytes behind it.
 fn split_card(bytes: &[u8]) -> Option<(Card, &[u8])>
-    ensures found { IfSome result (λ found. IsCard found.0 × (bytes.now ≡ found.0.0 ++ found.1.now)) }
+    ensures found { IfSome result (λ found. IsCard found.0
+        × (bytes.now ≡ found.0.0 ++ found.1.now)) }
     ensures missing { IsNone result → (card : Card) (behind : List ℕ) → IsCard card
         → bytes.now ≢ card.0 ++ behind }
 {

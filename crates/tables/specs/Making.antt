@@ -18,4 +18,4 @@ abbrev pub Makes : {S X : Type 0} → Ghosts S → OpenTables S → OpenTables S
     → Schema → Schema → Type 0
 Makes g old new result first others =
     Inside g old new (λ before after. OnOk result
-        (AreMade before.now first → AreMade after.now others))
+    (AreMade before.now first → AreMade after.now others))

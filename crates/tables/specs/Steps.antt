@@ -52,11 +52,11 @@ module _ {S : Type 0} (g : Ghosts S) where
       → (Tables → Type 0) → (Tables → Tables) → Type 0
   Changes old new result Premise change =
       Inside old new (λ before after. OnOk result ((t : Tables) → Holds before.now t
-          → Premise t → Holds after.now (change t)))
+      → Premise t → Holds after.now (change t)))
 
   -- on Ok this was found of what the tables hold, and nothing was changed
   abbrev pub Finds : {X : Type 0} → OpenTables S → OpenTables S → Result X Fault
       → (Tables → X → Type 0) → Type 0
   Finds old new result Is =
       Inside old new (λ before after. IfOk result (λ found. (t : Tables) → Holds before.now t
-          → IsUnchanged before after × Is t found))
+      → IsUnchanged before after × Is t found))
