@@ -1,10 +1,9 @@
 -- Offices and the tables that stand for them.
-use Rattle.std.proofs.Common.{◌≡◌, ◌<◌, ℕ, List, [], ◌∷◌, map, find, All, Option, Some, None, Result, Ok, Err, IfOk, Bool, true, false, ◌&&◌, ◌==◌, bytes_eq, if◌then◌else◌, refl, sym, ap, subst, ◌∙◌}
+use Rattle.std.proofs.Common.{◌≡◌, ℕ, List, [], ◌∷◌, map, Option, Some, None, Result, Ok, Err, IfOk, Bool, true, false, refl, sym, ap, subst, ◌∙◌}
 use Rattle.std.specs.List.{AllByRecursion}
 use Rattle.std.specs.Option.{option_map}
-use Rattle.sqlite.specs.Effect.{Database}
 use Rattle.sqlite.specs.State.{State, IsUnchanged}
-use Rattle.tables.specs.Tables.{NamedJob, is_job, job_named}
+use Rattle.tables.specs.Tables.{NamedJob, job_named}
 use Rattle.ledger.specs.Office.{Job, Entry, Office, is_entry, entry_of, job_of, picture}
 use Rattle.ledger.specs.Standing.{IsJob, Rows, StandsIn, named, job_cells}
 use Rattle.machine.specs.Run as run

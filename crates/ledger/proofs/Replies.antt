@@ -1,5 +1,5 @@
 -- Replies and the offices that they leave.
-use Rattle.std.proofs.Common.{◌≡◌, ℕ, suc, ◌+◌, ◌*◌, ◌/◌, ◌<◌, ◌≤◌, nat_le, List, [], ◌∷◌, ◌++◌, map, flat_map, filter, length, length-append, All, Option, Some, None, Result, Ok, Err, Bool, true, false, ◌&&◌, ◌==◌, bytes_eq, if◌then◌else◌, refl, sym, ap, subst, ◌∙◌, arith}
+use Rattle.std.proofs.Common.{◌≡◌, ℕ, suc, ◌*◌, ◌≤◌, nat_le, List, [], ◌∷◌, ◌++◌, map, length, length-append, All, Option, Some, None, Bool, true, false, ◌&&◌, ◌==◌, bytes_eq, refl, sym, ap, subst, ◌∙◌, arith}
 use Rattle.std.proofs.lemmas.Bool.{and_parts, le-leb, leb-true}
 use Rattle.std.proofs.lemmas.List.Elements.{All-head, All-tail}
 use Rattle.std.proofs.lemmas.Slice.Eq.{bytes_eq-Decides}
@@ -15,11 +15,11 @@ use Rattle.ledger.specs.declared.commands.Contents.{Contents}
 use Rattle.ledger.specs.declared.commands.Refusal.{Refusal}
 use Rattle.ledger.specs.declared.commands.Refusal.TheVariants as refusal
 use Rattle.ledger.specs.declared.commands.Reply.{Reply}
-use Rattle.ledger.specs.declared.commands.Reply.TheVariants.{Taken, Ran, Refused}
-use Rattle.ledger.specs.Kept.{Kept, kept_of, refusal_at, slice_reply}
+use Rattle.ledger.specs.declared.commands.Reply.TheVariants.{Taken, Refused}
+use Rattle.ledger.specs.Kept.{kept_of, refusal_at, slice_reply}
 use Rattle.ledger.specs.New.{new_refusal}
-use Rattle.ledger.specs.Office.{Job, Entry, Office, job_of, jobs_of, added, submitted, submitted_new, sliced, sliced_job, refusal_of, repeated, is_of, began_with, is_same_kind, is_empty, loaded_deck, loaded_of, new_job, size_numbered}
-use Rattle.ledger.specs.Standing.{IsJob, StandsIn, Served, named}
+use Rattle.ledger.specs.Office.{Job, Office, job_of, jobs_of, added, submitted, submitted_new, sliced, refusal_of, repeated, is_of, began_with, is_same_kind, is_empty, loaded_deck, new_job, size_numbered}
+use Rattle.ledger.specs.Standing.{StandsIn, Served, named}
 use Rattle.ledger.proofs.ReadBack.{loaded_is_deck}
 
 -- a customer has as many rows as jobs

@@ -6,6 +6,7 @@ use Rattle.std.specs.List.{All}
 use Rattle.std.proofs.lemmas.List.Elements.{All-more}
 use Rattle.sqlite.specs.Effect.{Database}
 use Rattle.tables.specs.Cells.{LineCells, PictureCells}
+use Rattle.tables.specs.Named.{granted_last}
 use Rattle.tables.specs.Tables.{NamedJob, ByJob, Tables, Holds, at_job, with_cards, with_lines, with_stretches}
 use Rattle.tables.specs.declared.rows.StretchRow.{StretchRow}
 use Rattle.ledger.specs.declared.office.Stretch.{Stretch}
@@ -14,10 +15,6 @@ use Rattle.ledger.specs.Standing.{stretch_row}
 use Rattle.tables.proofs.Behind.{name_is, name_yes}
 
 -- ---- what holds where nothing failed
-
-pub on_any : {X E : Type 0} (r : Result X E) (Q : Type 0) → Q → OnOk r Q
-on_any (Ok x) Q q = q
-on_any (Err e) Q q = tt
 
 pub on_ok_both : {X E : Type 0} (r : Result X E) (P Q : Type 0) → OnOk r P → OnOk r Q → OnOk r (P × Q)
 on_ok_both (Ok x) P Q p q = (p, q)
@@ -95,47 +92,24 @@ length-granted_more limit [] = refl
 length-granted_more limit (s ∷ []) = refl
 length-granted_more limit (s ∷ t ∷ stretches) = ap (λ n. suc n) (length-granted_more limit (t ∷ stretches))
 
--- the rows of stretches, of which the last has another grant from now on
-pub record Regranted (before now : List StretchRow) (place granted : ℕ) : Type 0 where
-  pub first : List StretchRow
-  pub last : StretchRow
-  pub is : before ≡ first ++ last ∷ []
-  pub place_is : place ≡ length first
-  pub now_is : first ++ (record last { granted = granted }) ∷ [] ≡ now
+-- the last row of a job's stretches, with what is granted in the last of them now
+granted_again : (limit : ℕ) (before : List Stretch) (n : ℕ) (last : Stretch) → suc n ≡ length (granted_more limit before) → last ≡ get_or (granted_more limit before) n last
+    → granted_last last.granted (map stretch_row before) ≡ map stretch_row (granted_more limit before)
+granted_again limit [] n last some is = absurd (omega (arith, some))
+granted_again limit (s ∷ []) zero last some is = ap (λ (x : Stretch). let y : List StretchRow = (record { switches = s.switches.0; granted = x.granted }) ∷ [] in y) is
+granted_again limit (s ∷ []) (suc n) last some is = absurd (omega (arith, some))
+granted_again limit (s ∷ t ∷ rest) zero last some is = absurd (omega (arith, some, length-granted_more limit (t ∷ rest)))
+granted_again limit (s ∷ t ∷ rest) (suc n) last some is = ap (λ xs. stretch_row s ∷ xs) (granted_again limit (t ∷ rest) n last (omega (arith, some)) is)
 
-regranted_at : (limit : ℕ) (before : List Stretch) (n : ℕ) (last : Stretch) → suc n ≡ length (granted_more limit before) → last ≡ get_or (granted_more limit before) n last
-    → Regranted (map stretch_row before) (map stretch_row (granted_more limit before)) n last.granted
-regranted_at limit [] n last some is = absurd (omega (arith, some))
-regranted_at limit (s ∷ []) zero last some is = record {
-  first = [];
-  last = stretch_row s;
-  is = refl;
-  place_is = refl;
-  now_is = ap (λ (x : Stretch). let y : List StretchRow = (record { switches = s.switches.0; granted = x.granted }) ∷ [] in y) is;
-}
-regranted_at limit (s ∷ []) (suc n) last some is = absurd (omega (arith, some))
-regranted_at limit (s ∷ t ∷ rest) zero last some is = absurd (omega (arith, some, length-granted_more limit (t ∷ rest)))
-regranted_at limit (s ∷ t ∷ rest) (suc n) last some is =
-    let behind = regranted_at limit (t ∷ rest) n last (omega (arith, some)) is in
-    record {
-      first = stretch_row s ∷ behind.first;
-      last = behind.last;
-      is = ap (λ xs. stretch_row s ∷ xs) behind.is;
-      place_is = ap (λ n. suc n) behind.place_is;
-      now_is = ap (λ xs. stretch_row s ∷ xs) behind.now_is;
-    }
-
-pub regranted : (limit : ℕ) (before now : List Stretch) (place : ℕ) (last : Stretch) → now ≡ granted_more limit before → 0 < length now → place ≡ length now - 1 → last ≡ get_or now (length now - 1) last
-    → Regranted (map stretch_row before) (map stretch_row now) place last.granted
-regranted limit before now place last more some at is =
+pub last_granted : (db : Database) (t : Tables) (customer : List ℕ) (number limit place : ℕ) (before now : List Stretch) (last : Stretch) → now ≡ granted_more limit before → t.stretches customer number ≡ map stretch_row before
+    → 0 < length now → place ≡ length now - 1 → last ≡ get_or now (length now - 1) last
+    → (length (t.stretches customer number) ≡ place + 1 → Holds db (with_stretches customer number (granted_last last.granted (t.stretches customer number)) t)) → Holds db (with_stretches customer number (map stretch_row now) t)
+last_granted db t customer number limit place before now last more is some at is_last did =
     let here : suc place ≡ length now = omega (arith, some, at) in
-    subst (λ xs. Regranted (map stretch_row before) (map stretch_row xs) place last.granted) (sym more)
-    (regranted_at limit before place last (here ∙ ap length more) (is ∙ ap (λ n. get_or now n last) (sym at) ∙ ap (λ xs. get_or xs place last) more))
-
-pub last_granted : (db : Database) (t : Tables) (customer : List ℕ) (number : ℕ) (before now : List StretchRow) (place granted : ℕ) → Regranted before now place granted → t.stretches customer number ≡ before
-    → ((first : List StretchRow) → (last : StretchRow) → t.stretches customer number ≡ first ++ last ∷ [] → place ≡ length first → Holds db (with_stretches customer number (first ++ (record last { granted = granted }) ∷ []) t))
-    → Holds db (with_stretches customer number now t)
-last_granted db t customer number before now place granted r is did = subst (λ all. Holds db (with_stretches customer number all t)) r.now_is (did r.first r.last (is ∙ r.is) r.place_is)
+    let again = granted_again limit before place last (here ∙ ap length more) (is_last ∙ ap (λ n. get_or now n last) (sym at) ∙ ap (λ xs. get_or xs place last) more) in
+    let rows : length (t.stretches customer number) ≡ length before = ap length is ∙ length-map before stretch_row in
+    let many : length now ≡ length before = ap length more ∙ length-granted_more limit before in
+    subst (λ all. Holds db (with_stretches customer number all t)) (ap (granted_last last.granted) is ∙ again ∙ ap (map stretch_row) (sym more)) (did (omega (arith, rows, many, here)))
 
 -- ---- the office and its tables
 

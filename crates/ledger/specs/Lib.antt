@@ -4,4 +4,8 @@ pub mod Meters
 pub mod New
 pub mod Numbers
 pub mod Office
+pub mod Replying
+pub mod Saving
+pub mod Serving
 pub mod Standing
+pub mod Steps

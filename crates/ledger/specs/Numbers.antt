@@ -3,6 +3,7 @@ use Rattle.std.specs.Prelude.{ℕ}
 use Rattle.ledger.specs.declared.commands.Refusal.{Refusal}
 use Rattle.ledger.specs.declared.commands.Refusal.TheVariants.{Customer, Number, Size, Deck, OtherContents, TooManyJobs, NoJob, Limit, Held, NotRunning, Collected, TooMuch}
 
+-- the number of a refusal
 abbrev pub refusal_number : Refusal → ℕ
 refusal_number Customer = 10
 refusal_number Number = 11

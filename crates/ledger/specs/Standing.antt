@@ -21,30 +21,45 @@ use Rattle.ledger.specs.declared.commands.Reply.{Reply}
 use Rattle.ledger.specs.declared.office.Stretch.{Stretch}
 use Rattle.ledger.specs.Office.{Job, Entry, Office, job_of, loaded_deck, most_granted, picture, granted}
 
+-- the number of a kind
 abbrev pub kind_number : Kind → ℕ
 kind_number Object = 0
 
+-- the columns of a job
 abbrev pub job_cells : Job → JobCells
-job_cells job = record { kind = kind_number job.kind; size = positions_of job.size; deck = deck_bytes job.deck; loaded = deck_bytes (loaded_deck job); held = truth job.held; collected = truth job.collected }
+job_cells job = record {
+  kind = kind_number job.kind;
+  size = positions_of job.size;
+  deck = deck_bytes job.deck;
+  loaded = deck_bytes (loaded_deck job);
+  held = truth job.held;
+  collected = truth job.collected;
+}
 
+-- a job as the tables hold it
 abbrev pub named : Entry → NamedJob
 named e = record { customer = e.customer; number = e.number; cells = job_cells e.job }
 
+-- the columns of a stretch
 abbrev pub stretch_row : Stretch → StretchRow
 stretch_row s = record { switches = s.switches.0; granted = s.granted }
 
+-- the stretches of a job, if there is one
 abbrev pub stretches_of : Option Job → List StretchRow
 stretches_of None = []
 stretches_of (Some job) = map stretch_row job.stretches
 
+-- the picture of a job's machine, if there is one
 abbrev pub picture_of : Option Job → Option PictureCells
 picture_of None = None
 picture_of (Some job) = Some (picture_cells (picture job))
 
+-- the cards that a job has punched, if there is one
 abbrev pub cards_of : Option Job → List (List ℕ)
 cards_of None = []
 cards_of (Some job) = map (λ card. card.0) (picture job).works.units.punch
 
+-- the lines that a job has printed, if there is one
 abbrev pub lines_of : Option Job → List LineCells
 lines_of None = []
 lines_of (Some job) = map line_cells (picture job).works.units.printer.lines
@@ -85,7 +100,8 @@ abbrev pub StandsIn : store.State → Office → Type 0
 StandsIn s office = Rows s.now office
 
 -- a step inside the transaction: the office and the reply are those of the change
-pub record Served (new : store.State) (change : Office → Office × Reply) (office : Office) (reply : Reply) : Type 0 where
+pub record Served (new : store.State) (change : Office → Office × Reply) (office : Office)
+    (reply : Reply) : Type 0 where
   pub reply_is : reply ≡ (change office).1
   pub stands : StandsIn new (change office).0
 
@@ -99,7 +115,8 @@ pub record Stands (s : store.State) (office : Office) : Type 0 where
   pub now : IsTrue s.is_open → StandsIn s office
   pub left : (db : Trees) → s.may_leave db → LeftAs db office
 
--- a call that changed nothing: a crash leaves no more than before the call, and an open connection sees what it saw
+-- a call that changed nothing: a crash leaves no more than before the call, and an open connection
+-- sees what it saw
 pub record IsAsBefore (old new : store.State) : Type 0 where
   pub outside : new.in_transaction ≡ false
   pub now : IsTrue new.is_open → new.now ≡ old.now

@@ -1,20 +1,23 @@
 //! The bureau: each command in one transaction, whose commit is the last call of the store.
 
-ghost use Rattle.std.specs.Prelude.{◌≡◌, ◌⊎◌, ◌≤◌, List, [], false, None, Some, Err, IsTrue, IfOk, IfErr, OnOk, OnErr, IsErrOf, length};
+ghost use Rattle.std.specs.Prelude.{◌≡◌, ◌⊎◌, ◌≤◌, [], false, None, Some, Err, IsTrue, IfOk, IfErr, OnOk, OnErr, IsErrOf};
 ghost use Rattle.cards.specs.Decks.{IsDeck};
 ghost use Rattle.machine.specs.Run.{risen};
 ghost use Rattle.sqlite.specs.Held.{state};
-ghost use Rattle.sqlite.specs.State.{HasCleanDisk, Survives};
-ghost use Rattle.sqlite.specs.Tree.{Trees};
+ghost use Rattle.sqlite.specs.State.{HasCleanDisk};
 ghost use Rattle.sqlite.specs.View.{doubt};
-ghost use Rattle.tables.specs.Frames.{Frames};
+ghost use Rattle.tables.specs.Steps.{IsStep, IsOpenStep};
 ghost use Rattle.tables.specs.Schema.{no_schema};
 ghost use Rattle.ledger.specs.Found.{IsFirst};
 ghost use Rattle.ledger.specs.Kept.{kept_of};
 ghost use Rattle.ledger.specs.declared.commands.Kind.{Kind};
-ghost use Rattle.ledger.specs.Office.{Job, Office, job_of, name_refusal, early_refusal, is_same_kind, is_of, is_empty, new_job, loaded_deck, repeated, added, submitted_new, size_numbered, submitted, sliced, served, take, attempted_of, attempted_by, attempted};
+ghost use Rattle.ledger.specs.Office.{Job, name_refusal, early_refusal, is_same_kind, is_of, repeated, served, take, attempted_of, attempted_by, attempted};
 ghost use Rattle.ledger.specs.Meters.{RisenAtMost, limit_of};
-ghost use Rattle.ledger.specs.Standing.{StandsIn, Served, Stands, LeftAs, IsAsBefore, IsJob, job_cells, kind_number};
+ghost use Rattle.ledger.specs.Replying.{Replies, Rises, RisesAtMost, KeepsOffice, LeavesEither, MakesOffice, LeavesNone};
+ghost use Rattle.ledger.specs.Saving.{job_in, IsNew};
+ghost use Rattle.ledger.specs.Serving.{added_as, submitted_new_as, submitted_as, sliced_as, attempted_as};
+ghost use Rattle.ledger.specs.Standing.{Stands, IsAsBefore, IsJob, job_cells, kind_number};
+ghost use Rattle.ledger.specs.Steps.{Serves, ServesWhere, Ticks, TicksAtMost};
 
 use crate::commands::{Command, Contents, Kind, Refusal, Reply};
 use crate::office::{KeptJob, MOST_JOBS, NewFault, is_customer, is_limit, is_number, new_job};
@@ -24,9 +27,9 @@ use bitflags::Flags;
 use core_store::{FlagCore, Size};
 use machine::Meter;
 use pictures::deck_bytes;
-use sqlite::{Alter, Connection, Transaction};
+use sqlite::{Alter, Connection};
 use std::alloc::{AllocError, Global};
-use tables::{Fault, count_jobs, make_tables};
+use tables::{Fault, JobName, OpenTables};
 
 /// A bureau over a connection to its tables.
 pub struct Bureau<S: Alter> {
@@ -91,7 +94,8 @@ fn is_same_kind(number: u32, kind: Kind) -> bool
 
 /// Whether a job was handed in with these contents.
 fn is_same(alloc: Global, handed: &Handed, contents: &Contents) -> Result<bool, AllocError>
-    ensures same { IfOk result (λ same. (job : Job) → handed.now.row ≡ job_cells job → IsFirst handed.now.switches job.stretches → same ≡ is_of contents.now job) }
+    ensures same { IfOk result (λ same. (job : Job) → handed.now.row ≡ job_cells job
+        → IsFirst handed.now.switches job.stretches → same ≡ is_of contents.now job) }
     ensures deck { IfOk result (λ same. IsTrue same → IsDeck contents.now.deck) }
 {
     if !is_same_kind(handed.row.kind, contents.kind)
@@ -106,7 +110,9 @@ fn is_same(alloc: Global, handed: &Handed, contents: &Contents) -> Result<bool, 
 
 /// The reply to a job that was handed in before.
 fn repeated(alloc: Global, handed: &Handed, contents: &Contents) -> Result<Reply, AllocError>
-    ensures { IfOk result (λ reply. (job : Job) → handed.now.row ≡ job_cells job → IsFirst handed.now.switches job.stretches → IsJob job → reply ≡ repeated contents.now job) }
+    ensures { IfOk result (λ reply. (job : Job) → handed.now.row ≡ job_cells job
+        → IsFirst handed.now.switches job.stretches → IsJob job
+        → reply ≡ repeated contents.now job) }
 {
     if is_same(alloc, handed, contents)? {
         Ok(Reply::Taken {
@@ -119,103 +125,84 @@ fn repeated(alloc: Global, handed: &Handed, contents: &Contents) -> Result<Reply
 
 /// Adds a new job, unless its customer has as many as one may have.
 fn add<S: Alter>(
-    alloc: Global,
-    tx: &mut Transaction<'_, S>,
-    customer: &str,
-    number: u32,
+    tables: &mut OpenTables<'_, '_, S>,
+    name: JobName<'_>,
     contents: &Contents,
     size: Size,
     job: &KeptJob<FlagCore>,
 ) -> Result<Reply, Fault>
-    ensures same_reference { tx.new.conn.ghost_name ≡ tx.old.conn.ghost_name }
-    ensures done { HasCleanDisk (state S.Store tx.new.conn.now) → IsTrue (state S.Store tx.old.conn.now).in_transaction
-        → IfOk result (λ reply. (office : Office) → job_of customer.now number office ≡ None → is_empty contents.now.deck ≡ false → job.now ≡ kept_of (new_job size contents.now) → StandsIn (state S.Store tx.old.conn.now) office
-        → Served (state S.Store tx.new.conn.now) (λ office. added customer.now number contents.now office size) office reply) }
-    ensures opened { HasCleanDisk (state S.Store tx.new.conn.now) → OnOk result (IsTrue (state S.Store tx.old.conn.now).is_open) }
-    ensures frame { HasCleanDisk (state S.Store tx.new.conn.now) → IsTrue (state S.Store tx.old.conn.now).in_transaction → Frames (state S.Store tx.old.conn.now) (state S.Store tx.new.conn.now) result }
-    ensures survives { Survives (state S.Store tx.old.conn.now) (state S.Store tx.new.conn.now) (λ _. ⊥) }
+    ensures step { IsOpenStep S.Store tables.old tables.new result }
+    ensures done { ServesWhere S.Store tables.old tables.new result
+        (IsNew name.entry contents.now size job.now) (added_as name.entry contents.now size) }
 {
-    if count_jobs(tx, customer)? >= MOST_JOBS {
+    if tables.count_jobs(name.customer)? >= MOST_JOBS {
         return Ok(Reply::Refused(Refusal::TooManyJobs));
     }
-    save_new(alloc, tx, customer, number, contents, size, job)?;
+    save_new(tables, name, contents, size, job)?;
     Ok(Reply::Taken {
         cards: contents.deck.cards().len() as u32,
     })
 }
 
-/// Takes a job whose name is free.
+/// Accepts a job whose name is free.
 fn submit_new<S: Alter>(
-    alloc: Global,
-    tx: &mut Transaction<'_, S>,
-    customer: &str,
-    number: u32,
+    tables: &mut OpenTables<'_, '_, S>,
+    name: JobName<'_>,
     contents: &Contents,
 ) -> Result<Reply, Fault>
-    ensures same_reference { tx.new.conn.ghost_name ≡ tx.old.conn.ghost_name }
-    ensures done { HasCleanDisk (state S.Store tx.new.conn.now) → IsTrue (state S.Store tx.old.conn.now).in_transaction
-        → IfOk result (λ reply. (office : Office) → job_of customer.now number office ≡ None → StandsIn (state S.Store tx.old.conn.now) office
-        → Served (state S.Store tx.new.conn.now) (λ office. submitted_new customer.now number contents.now office (size_numbered contents.now.size)) office reply) }
-    ensures frame { HasCleanDisk (state S.Store tx.new.conn.now) → IsTrue (state S.Store tx.old.conn.now).in_transaction → Frames (state S.Store tx.old.conn.now) (state S.Store tx.new.conn.now) result }
-    ensures survives { Survives (state S.Store tx.old.conn.now) (state S.Store tx.new.conn.now) (λ _. ⊥) }
+    ensures step { IsStep S.Store tables.old tables.new result }
+    ensures done { ServesWhere S.Store tables.old tables.new result
+        (λ office. job_in name.entry office ≡ None) (submitted_new_as name.entry contents.now) }
 {
-    match new_job(alloc, contents) {
-        Ok((size, job)) => add(alloc, tx, customer, number, contents, size, &job),
+    match new_job(tables.alloc, contents) {
+        Ok((size, job)) => add(tables, name, contents, size, &job),
         Err(NewFault::Refused(reason)) => Ok(Reply::Refused(reason)),
         Err(NewFault::NoMemory) => Err(Fault::NoMemory),
     }
 }
 
-/// Takes a job, or tells again what was told when it was taken.
+/// Accepts a new job; a repeated submission gets the first reply again.
 fn submit<S: Alter>(
-    alloc: Global,
-    tx: &mut Transaction<'_, S>,
-    customer: &str,
-    number: u32,
+    tables: &mut OpenTables<'_, '_, S>,
+    name: JobName<'_>,
     contents: &Contents,
 ) -> Result<Reply, Fault>
-    ensures same_reference { tx.new.conn.ghost_name ≡ tx.old.conn.ghost_name }
-    ensures done { HasCleanDisk (state S.Store tx.new.conn.now) → IsTrue (state S.Store tx.old.conn.now).in_transaction
-        → IfOk result (λ reply. (office : Office) → StandsIn (state S.Store tx.old.conn.now) office
-        → Served (state S.Store tx.new.conn.now) (λ office. submitted customer.now number contents.now office (job_of customer.now number office)) office reply) }
-    ensures opened { HasCleanDisk (state S.Store tx.new.conn.now) → OnOk result (IsTrue (state S.Store tx.old.conn.now).is_open) }
-    ensures frame { HasCleanDisk (state S.Store tx.new.conn.now) → IsTrue (state S.Store tx.old.conn.now).in_transaction → Frames (state S.Store tx.old.conn.now) (state S.Store tx.new.conn.now) result }
-    ensures survives { Survives (state S.Store tx.old.conn.now) (state S.Store tx.new.conn.now) (λ _. ⊥) }
+    ensures step { IsOpenStep S.Store tables.old tables.new result }
+    ensures done { Serves S.Store tables.old tables.new result
+        (submitted_as name.entry contents.now) }
 {
-    match find_handed(alloc, tx, customer, number)? {
+    match find_handed(tables, name)? {
         Some(handed) => {
-            let reply = repeated(alloc, &handed, contents)?;
+            let reply = repeated(tables.alloc, &handed, contents)?;
             Ok(reply)
         }
-        None => submit_new(alloc, tx, customer, number, contents),
+        None => submit_new(tables, name, contents),
     }
 }
 
 /// Runs a job that was found, and notes what came of it.
 fn run_job<S: Alter>(
-    alloc: Global,
-    tx: &mut Transaction<'_, S>,
-    customer: &str,
-    number: u32,
+    tables: &mut OpenTables<'_, '_, S>,
+    name: JobName<'_>,
     mut job: KeptJob<FlagCore>,
     limit: u32,
     meter: &mut Meter,
 ) -> Result<Reply, Fault>
-    ensures same_reference { tx.new.conn.ghost_name ≡ tx.old.conn.ghost_name }
-    ensures done { HasCleanDisk (state S.Store tx.new.conn.now) → IsTrue (state S.Store tx.old.conn.now).in_transaction
-        → IfOk result (λ reply. (office : Office) → (old : Job) → job_of customer.now number office ≡ Some old → job ≡ kept_of old → StandsIn (state S.Store tx.old.conn.now) office
-        → Served (state S.Store tx.new.conn.now) (λ office. sliced customer.now number limit office (job_of customer.now number office)) office reply) }
-    ensures meter { OnOk result ((old : Job) → job ≡ kept_of old → meter.new ≡ risen meter.old (attempted_of limit (Some old))) }
-    ensures given_up { OnErr result ((old : Job) → job ≡ kept_of old → RisenAtMost (attempted_of limit (Some old)) meter.old meter.new) }
+    ensures step { IsStep S.Store tables.old tables.new result }
+    ensures done { (old : Job) → job ≡ kept_of old
+        → ServesWhere S.Store tables.old tables.new result
+        (λ office. job_in name.entry office ≡ Some old) (sliced_as name.entry limit) }
+    ensures meter { OnOk result ((old : Job) → job ≡ kept_of old
+        → meter.new ≡ risen meter.old (attempted_of limit (Some old))) }
+    ensures given_up { OnErr result ((old : Job) → job ≡ kept_of old
+        → RisenAtMost (attempted_of limit (Some old)) meter.old meter.new) }
     ensures most { RisenAtMost limit meter.old meter.new }
-    ensures frame { HasCleanDisk (state S.Store tx.new.conn.now) → IsTrue (state S.Store tx.old.conn.now).in_transaction → Frames (state S.Store tx.old.conn.now) (state S.Store tx.new.conn.now) result }
-    ensures survives { Survives (state S.Store tx.old.conn.now) (state S.Store tx.new.conn.now) (λ _. ⊥) }
 {
     let before = job.made();
     match job.slice(limit, meter)? {
         Reply::Refused(reason) => Ok(Reply::Refused(reason)),
         reply => {
-            save_slice(alloc, tx, customer, number, &job, before)?;
+            save_slice(tables, name, &job, before)?;
             Ok(reply)
         }
     }
@@ -223,65 +210,62 @@ fn run_job<S: Alter>(
 
 /// Runs a job.
 fn slice<S: Alter>(
-    alloc: Global,
-    tx: &mut Transaction<'_, S>,
-    customer: &str,
-    number: u32,
+    tables: &mut OpenTables<'_, '_, S>,
+    name: JobName<'_>,
     limit: u32,
     meter: &mut Meter,
 ) -> Result<Reply, Fault>
-    ensures same_reference { tx.new.conn.ghost_name ≡ tx.old.conn.ghost_name }
-    ensures done { HasCleanDisk (state S.Store tx.new.conn.now) → IsTrue (state S.Store tx.old.conn.now).in_transaction
-        → IfOk result (λ reply. (office : Office) → StandsIn (state S.Store tx.old.conn.now) office
-        → Served (state S.Store tx.new.conn.now) (λ office. sliced customer.now number limit office (job_of customer.now number office)) office reply) }
-    ensures meter { HasCleanDisk (state S.Store tx.new.conn.now) → IsTrue (state S.Store tx.old.conn.now).in_transaction
-        → OnOk result ((office : Office) → StandsIn (state S.Store tx.old.conn.now) office → meter.new ≡ risen meter.old (attempted_of limit (job_of customer.now number office))) }
-    ensures given_up { HasCleanDisk (state S.Store tx.new.conn.now) → IsTrue (state S.Store tx.old.conn.now).in_transaction
-        → OnErr result ((office : Office) → (IsTrue (state S.Store tx.old.conn.now).is_open → StandsIn (state S.Store tx.old.conn.now) office)
-        → RisenAtMost (attempted_of limit (job_of customer.now number office)) meter.old meter.new) }
+    ensures step { IsOpenStep S.Store tables.old tables.new result }
+    ensures done { Serves S.Store tables.old tables.new result (sliced_as name.entry limit) }
+    ensures meter { Ticks S.Store tables.old tables.new result
+        meter.old meter.new (attempted_as name.entry limit) }
+    ensures given_up { TicksAtMost S.Store tables.old tables.new result
+        meter.old meter.new (attempted_as name.entry limit) }
     ensures most { RisenAtMost limit meter.old meter.new }
-    ensures opened { HasCleanDisk (state S.Store tx.new.conn.now) → OnOk result (IsTrue (state S.Store tx.old.conn.now).is_open) }
-    ensures frame { HasCleanDisk (state S.Store tx.new.conn.now) → IsTrue (state S.Store tx.old.conn.now).in_transaction → Frames (state S.Store tx.old.conn.now) (state S.Store tx.new.conn.now) result }
-    ensures survives { Survives (state S.Store tx.old.conn.now) (state S.Store tx.new.conn.now) (λ _. ⊥) }
 {
-    match find_to_run(alloc, tx, customer, number)? {
-        Some(job) => run_job(alloc, tx, customer, number, job, limit, meter),
+    match find_to_run(tables, name)? {
+        Some(job) => run_job(tables, name, job, limit, meter),
         None => Ok(Reply::Refused(Refusal::NoJob)),
     }
 }
 
 /// A command that names a job rightly.
 fn serve<S: Alter>(
-    alloc: Global,
-    tx: &mut Transaction<'_, S>,
+    tables: &mut OpenTables<'_, '_, S>,
     command: &Command,
     meter: &mut Meter,
 ) -> Result<Reply, Fault>
-    ensures same_reference { tx.new.conn.ghost_name ≡ tx.old.conn.ghost_name }
-    ensures done { HasCleanDisk (state S.Store tx.new.conn.now) → IsTrue (state S.Store tx.old.conn.now).in_transaction
-        → IfOk result (λ reply. (office : Office) → StandsIn (state S.Store tx.old.conn.now) office
-        → Served (state S.Store tx.new.conn.now) (λ office. served command.now office) office reply) }
-    ensures meter { HasCleanDisk (state S.Store tx.new.conn.now) → IsTrue (state S.Store tx.old.conn.now).in_transaction
-        → OnOk result ((office : Office) → StandsIn (state S.Store tx.old.conn.now) office → meter.new ≡ risen meter.old (attempted_by command.now office)) }
-    ensures given_up { HasCleanDisk (state S.Store tx.new.conn.now) → IsTrue (state S.Store tx.old.conn.now).in_transaction
-        → OnErr result ((office : Office) → (IsTrue (state S.Store tx.old.conn.now).is_open → StandsIn (state S.Store tx.old.conn.now) office)
-        → RisenAtMost (attempted_by command.now office) meter.old meter.new) }
+    ensures step { IsOpenStep S.Store tables.old tables.new result }
+    ensures done { Serves S.Store tables.old tables.new result (served command.now) }
+    ensures meter { Ticks S.Store tables.old tables.new result
+        meter.old meter.new (attempted_by command.now) }
+    ensures given_up { TicksAtMost S.Store tables.old tables.new result
+        meter.old meter.new (attempted_by command.now) }
     ensures most { RisenAtMost (limit_of command.now) meter.old meter.new }
-    ensures opened { HasCleanDisk (state S.Store tx.new.conn.now) → OnOk result (IsTrue (state S.Store tx.old.conn.now).is_open) }
-    ensures frame { HasCleanDisk (state S.Store tx.new.conn.now) → IsTrue (state S.Store tx.old.conn.now).in_transaction → Frames (state S.Store tx.old.conn.now) (state S.Store tx.new.conn.now) result }
-    ensures survives { Survives (state S.Store tx.old.conn.now) (state S.Store tx.new.conn.now) (λ _. ⊥) }
 {
     match command {
         Command::Submit {
             customer,
             number,
             contents,
-        } => submit(alloc, tx, customer.as_str(), *number, contents),
+        } => {
+            let name = JobName {
+                customer: customer.as_str(),
+                number: *number,
+            };
+            submit(tables, name, contents)
+        }
         Command::Slice {
             customer,
             number,
             limit,
-        } => slice(alloc, tx, customer.as_str(), *number, *limit, meter),
+        } => {
+            let name = JobName {
+                customer: customer.as_str(),
+                number: *number,
+            };
+            slice(tables, name, *limit, meter)
+        }
     }
 }
 
@@ -292,23 +276,22 @@ fn transact<S: Alter>(
     command: &Command,
     meter: &mut Meter,
 ) -> Result<Reply, Fault>
-    ensures reply { HasCleanDisk (state S.Store conn.new) → IfOk result (λ reply. (office : Office) → Stands (state S.Store conn.old) office
-        → (reply ≡ (served command.now office).1) × Stands (state S.Store conn.new) (served command.now office).0) }
-    ensures meter { HasCleanDisk (state S.Store conn.new) → OnOk result ((office : Office) → Stands (state S.Store conn.old) office
-        → meter.new ≡ risen meter.old (attempted_by command.now office)) }
-    ensures given_up { HasCleanDisk (state S.Store conn.new) → OnErr result ((office : Office) → Stands (state S.Store conn.old) office
-        → RisenAtMost (attempted_by command.now office) meter.old meter.new) }
+    ensures reply { Replies S.Store conn.old conn.new result (served command.now) }
+    ensures meter { Rises S.Store conn.old conn.new result
+        meter.old meter.new (attempted_by command.now) }
+    ensures given_up { RisesAtMost S.Store conn.old conn.new result
+        meter.old meter.new (attempted_by command.now) }
     ensures most { RisenAtMost (limit_of command.now) meter.old meter.new }
-    ensures no_memory { HasCleanDisk (state S.Store conn.new) → IsErrOf result Fault.NoMemory → (office : Office) → Stands (state S.Store conn.old) office → Stands (state S.Store conn.new) office }
-    ensures crash { HasCleanDisk (state S.Store conn.new) → (office : Office) → Stands (state S.Store conn.old) office
-        → (db : Trees) → (state S.Store conn.new).may_leave db → LeftAs db office ⊎ LeftAs db (served command.now office).0 }
-    ensures clean { doubt (state S.Store conn.old).is_clean ≤ doubt (state S.Store conn.new).is_clean }
+    ensures no_memory { KeepsOffice S.Store conn.old conn.new result }
+    ensures crash { LeavesEither S.Store conn.old conn.new (served command.now) }
+    ensures clean { doubt (state S.Store conn.old).is_clean
+        ≤ doubt (state S.Store conn.new).is_clean }
 {
     if !conn.is_autocommit() {
         return Err(Fault::Store);
     }
     let mut tx = conn.transaction();
-    let result = serve(alloc, &mut tx, command, meter);
+    let result = serve(&mut OpenTables { tx: &mut tx, alloc }, command, meter);
     match result {
         Ok(reply) => match tx.commit() {
             Ok(()) => Ok(reply),
@@ -322,17 +305,18 @@ fn transact<S: Alter>(
 }
 
 /// Makes the tables in one transaction.
-fn make<S: Alter>(conn: &mut Connection<S>) -> Result<(), Fault>
-    ensures no_memory { HasCleanDisk (state S.Store conn.new) → IsErrOf result Fault.NoMemory → IsAsBefore (state S.Store conn.old) (state S.Store conn.new) }
-    ensures made { HasCleanDisk (state S.Store conn.new) → OnOk result ((state S.Store conn.old).now.schema ≡ no_schema → Stands (state S.Store conn.new) []) }
-    ensures crash { HasCleanDisk (state S.Store conn.new) → (state S.Store conn.old).now.schema ≡ no_schema
-        → (db : Trees) → (state S.Store conn.new).may_leave db → (state S.Store conn.old).may_leave db ⊎ LeftAs db [] }
+fn make<S: Alter>(alloc: Global, conn: &mut Connection<S>) -> Result<(), Fault>
+    ensures no_memory { HasCleanDisk (state S.Store conn.new) → IsErrOf result Fault.NoMemory
+        → IsAsBefore (state S.Store conn.old) (state S.Store conn.new) }
+    ensures made { MakesOffice S.Store conn.old conn.new result }
+    ensures crash { LeavesNone S.Store conn.old conn.new }
 {
     if !conn.is_autocommit() {
         return Err(Fault::Store);
     }
     let mut tx = conn.transaction();
-    match make_tables(&mut tx) {
+    let made = OpenTables { tx: &mut tx, alloc }.make();
+    match made {
         Ok(()) => match tx.commit() {
             Ok(()) => Ok(()),
             Err(_) => Err(Fault::Store),
@@ -348,20 +332,20 @@ impl<S: Alter> Bureau<S> {
     /// Applies a command. After fault 2 every later command is answered so, until the file is
     /// opened again. A fault leaves the meter risen by the instructions that were attempted.
     pub fn apply(&mut self, command: &Command, meter: &mut Meter) -> Result<Reply, Fault>
-        ensures reply { HasCleanDisk (state S.Store self.new.conn) → IfOk result (λ reply. (office : Office) → Stands (state S.Store self.old.conn) office
-            → (reply ≡ (take command.now office).1) × Stands (state S.Store self.new.conn) (take command.now office).0) }
-        ensures meter { HasCleanDisk (state S.Store self.new.conn) → OnOk result ((office : Office) → Stands (state S.Store self.old.conn) office
-            → meter.new ≡ risen meter.old (attempted command.now office)) }
-        ensures given_up { HasCleanDisk (state S.Store self.new.conn) → OnErr result ((office : Office) → Stands (state S.Store self.old.conn) office
-            → RisenAtMost (attempted command.now office) meter.old meter.new) }
+        ensures reply { Replies S.Store self.old.conn self.new.conn result (take command.now) }
+        ensures meter { Rises S.Store self.old.conn self.new.conn result
+            meter.old meter.new (attempted command.now) }
+        ensures given_up { RisesAtMost S.Store self.old.conn self.new.conn result
+            meter.old meter.new (attempted command.now) }
         ensures most { RisenAtMost (limit_of command.now) meter.old meter.new }
-        ensures no_memory { HasCleanDisk (state S.Store self.new.conn) → IsErrOf result Fault.NoMemory → (office : Office) → Stands (state S.Store self.old.conn) office → Stands (state S.Store self.new.conn) office }
-        ensures crash { HasCleanDisk (state S.Store self.new.conn) → (office : Office) → Stands (state S.Store self.old.conn) office
-            → (db : Trees) → (state S.Store self.new.conn).may_leave db → LeftAs db office ⊎ LeftAs db (take command.now office).0 }
+        ensures no_memory { KeepsOffice S.Store self.old.conn self.new.conn result }
+        ensures crash { LeavesEither S.Store self.old.conn self.new.conn (take command.now) }
         ensures broken { IsErrOf result Fault.Store → IsTrue self.new.broken }
         ensures kept { (self.new.broken ≡ self.old.broken) ⊎ IsErrOf result Fault.Store }
-        ensures ended { IsTrue self.old.broken → (result ≡ Err Fault.Store) × (self.new ≡ self.old) × (meter.new ≡ meter.old) }
-        ensures clean { doubt (state S.Store self.old.conn).is_clean ≤ doubt (state S.Store self.new.conn).is_clean }
+        ensures ended { IsTrue self.old.broken
+            → (result ≡ Err Fault.Store) × (self.new ≡ self.old) × (meter.new ≡ meter.old) }
+        ensures clean { doubt (state S.Store self.old.conn).is_clean
+            ≤ doubt (state S.Store self.new.conn).is_clean }
     {
         if self.broken {
             return Err(Fault::Store);
@@ -391,13 +375,14 @@ impl<S: Alter + Drop> Bureau<S> {
         alloc: Global,
         mut conn: Connection<S>,
     ) -> Result<Bureau<S>, (Fault, Connection<S>)>
-        ensures made { IfOk result (λ bureau. HasCleanDisk (state S.Store bureau.conn) → (state S.Store conn).now.schema ≡ no_schema → Stands (state S.Store bureau.conn) []) }
+        ensures made { IfOk result (λ bureau. HasCleanDisk (state S.Store bureau.conn)
+            → (state S.Store conn).now.schema ≡ no_schema → Stands (state S.Store bureau.conn) []) }
         ensures whole { IfOk result (λ bureau. bureau.broken ≡ false) }
-        ensures no_memory { IfErr result (λ e. HasCleanDisk (state S.Store e.1) → e.0 ≡ Fault.NoMemory → IsAsBefore (state S.Store conn) (state S.Store e.1)) }
-        ensures crash { IfErr result (λ e. HasCleanDisk (state S.Store e.1) → (state S.Store conn).now.schema ≡ no_schema
-            → (db : Trees) → (state S.Store e.1).may_leave db → (state S.Store conn).may_leave db ⊎ LeftAs db []) }
+        ensures no_memory { IfErr result (λ e. HasCleanDisk (state S.Store e.1)
+            → e.0 ≡ Fault.NoMemory → IsAsBefore (state S.Store conn) (state S.Store e.1)) }
+        ensures crash { IfErr result (λ e. LeavesNone S.Store conn e.1) }
     {
-        match make(&mut conn) {
+        match make(alloc, &mut conn) {
             Ok(()) => Ok(Bureau {
                 conn,
                 alloc,

@@ -4,13 +4,13 @@ use crate::decks::deck_named;
 use core_store::{FlagCore, Size};
 use machine::{Machine, Meter, Parts};
 use pictures::{
-    Media, deck_bytes, line_row, picture_row, read_deck, read_lines, read_picture, read_switches,
+    Media, deck_bytes, line_row, picture_row, read_deck, read_picture, read_rows, read_switches,
     switches_number,
 };
 use std::alloc::Global;
 use std::test::Fail;
 use tables::{LineRow, PictureRow};
-use units::{Switches, render};
+use units::{Line, Switches, render};
 
 /// Runs a machine for so many instructions at most.
 fn run_on(machine: &mut Machine<FlagCore>, limit: u32) -> Result<(), Fail> {
@@ -45,7 +45,7 @@ fn media_of(alloc: Global, parts: &Parts<FlagCore>) -> Result<Media, Fail> {
         deck: read_deck(alloc, &bytes)?.ok_or("a deck")?,
         switches: read_switches(switches_number(parts.units.switches)).ok_or("switches")?,
         cards: Vec::new(alloc),
-        lines: read_lines(alloc, &rows)?.ok_or("lines")?,
+        lines: read_rows::<LineRow, Line>(alloc, &rows)?.ok_or("lines")?,
     })
 }
 

@@ -2,7 +2,7 @@
 
 use bcd::Code;
 use cards::{COLUMNS, Card, Deck};
-use pictures::{card_bytes, deck_bytes, line_row, read_cards, read_deck, read_lines};
+use pictures::{card_bytes, deck_bytes, line_row, read_deck, read_rows};
 use std::alloc::Global;
 use std::test::Fail;
 use tables::{CardRow, LineRow};
@@ -60,7 +60,7 @@ fn rows_of(alloc: Global, deck: &Deck) -> Result<Vec<CardRow>, Fail> {
 fn cards_told(alloc: Global, glyphs: &str) -> Result<&'static str, Fail> {
     let deck = deck_of(alloc, glyphs)?;
     let rows = rows_of(alloc, &deck)?;
-    let Some(read) = read_cards(alloc, &rows)? else {
+    let Some(read) = read_rows::<CardRow, Card>(alloc, &rows)? else {
         return Ok("no cards");
     };
     Ok(if read.as_slice() == deck.cards() {
@@ -76,7 +76,7 @@ fn are_cards(alloc: Global, glyphs: &str, count: usize, byte: u8) -> Result<bool
     let mut rows = rows_of(alloc, &deck)?;
     let card = bytes_of(alloc, count, &[byte])?;
     rows.push(CardRow { card })?;
-    Ok(read_cards(alloc, &rows)?.is_some())
+    Ok(read_rows::<CardRow, Card>(alloc, &rows)?.is_some())
 }
 
 /// The row of a line that has one character in each place, and whether it is read as the line.
@@ -94,7 +94,7 @@ fn line_told(alloc: Global, form: u32, line: u8, glyph: u8) -> Result<String, Fa
     }
     let mut rows = Vec::new(alloc);
     rows.push(row)?;
-    let read = read_lines(alloc, &rows)?.ok_or("lines")?;
+    let read = read_rows::<LineRow, Line>(alloc, &rows)?.ok_or("lines")?;
     if read.as_slice() == [line].as_slice() {
         text.push_str(", the line")?;
     }
@@ -123,7 +123,7 @@ fn is_line(alloc: Global, line: u32, count: usize, byte: u8) -> Result<bool, Fai
         line,
         image,
     })?;
-    Ok(read_lines(alloc, &rows)?.is_some())
+    Ok(read_rows::<LineRow, Line>(alloc, &rows)?.is_some())
 }
 
 /// Whether so many bytes, each the same, are read as what a word names.

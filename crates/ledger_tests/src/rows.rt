@@ -1,12 +1,14 @@
 //! A row of each table.
 
 use crate::sessions::number;
-use sqlite::{Alter, Connection, MemStore, Transaction};
+use sqlite::{Alter, Connection, MemStore};
 use std::alloc::Global;
 use std::test::Fail;
-use tables::{
-    Fault, JobRow, LineRow, PictureRow, StretchRow, insert_card, insert_job, insert_line,
-    insert_picture, insert_stretch, make_tables,
+use tables::{Fault, JobName, JobRow, LineRow, OpenTables, PictureRow, StretchRow};
+
+const NAME: JobName<'static> = JobName {
+    customer: "ACME",
+    number: 9,
 };
 
 fn job(alloc: Global) -> Result<JobRow, Fail> {
@@ -48,39 +50,39 @@ fn line(alloc: Global) -> Result<LineRow, Fail> {
 }
 
 /// Makes the tables, with a job and its stretch.
-fn take_job<S: Alter>(tx: &mut Transaction<'_, S>, job: &JobRow) -> Result<(), Fault> {
-    make_tables(tx)?;
-    insert_job(tx, "ACME", 9, job)?;
+fn take_job<S: Alter>(tables: &mut OpenTables<'_, '_, S>, job: &JobRow) -> Result<(), Fault> {
+    tables.make()?;
+    tables.insert_job(NAME, job)?;
     let stretch = StretchRow {
         switches: 65,
         granted: 1000,
     };
-    insert_stretch(tx, "ACME", 9, 0, stretch)
+    tables.insert_stretch(NAME, 0, stretch)
 }
 
 /// Adds the job's picture, a card and a line.
 fn run_job<S: Alter>(
-    tx: &mut Transaction<'_, S>,
+    tables: &mut OpenTables<'_, '_, S>,
     picture: &PictureRow,
     line: &LineRow,
 ) -> Result<(), Fault> {
-    insert_picture(tx, "ACME", 9, picture)?;
-    insert_card(tx, "ACME", 9, 1, &[15, 16])?;
-    insert_line(tx, "ACME", 9, 1, line)
+    tables.insert_picture(NAME, picture)?;
+    tables.insert_card(NAME, 1, &[15, 16])?;
+    tables.insert_line(NAME, 1, line)
 }
 
-fn take_again<S: Alter>(tx: &mut Transaction<'_, S>, job: &JobRow) -> Result<(), Fault> {
-    insert_job(tx, "ACME", 9, job)
+fn take_again<S: Alter>(tables: &mut OpenTables<'_, '_, S>, job: &JobRow) -> Result<(), Fault> {
+    tables.insert_job(NAME, job)
 }
 
 /// Adds a row to each table, and the job a second time, which is answered with the fault.
-fn fill<S: Alter>(alloc: Global, tx: &mut Transaction<'_, S>) -> Result<Option<Fault>, Fail> {
-    let job = job(alloc)?;
-    let picture = picture(alloc)?;
-    let line = line(alloc)?;
-    take_job(tx, &job)?;
-    run_job(tx, &picture, &line)?;
-    Ok(take_again(tx, &job).err())
+fn fill<S: Alter>(tables: &mut OpenTables<'_, '_, S>) -> Result<Option<Fault>, Fail> {
+    let job = job(tables.alloc)?;
+    let picture = picture(tables.alloc)?;
+    let line = line(tables.alloc)?;
+    take_job(tables, &job)?;
+    run_job(tables, &picture, &line)?;
+    Ok(take_again(tables, &job).err())
 }
 
 /// A connection to tables with a row each.
@@ -90,7 +92,8 @@ fn filled(alloc: Global) -> Result<Connection<MemStore>, Fail> {
         return Err("in a transaction")?;
     }
     let mut tx = conn.transaction();
-    if fill(alloc, &mut tx)? != Some(Fault::Store) {
+    let again = fill(&mut OpenTables { tx: &mut tx, alloc })?;
+    if again != Some(Fault::Store) {
         return Err("a job taken twice")?;
     }
     tx.commit()?;

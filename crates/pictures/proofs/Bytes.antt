@@ -9,7 +9,6 @@ use Rattle.cards.specs.declared.decks.Card.{Card}
 use Rattle.cards.specs.Decks.{IsCard}
 use Rattle.cards.proofs.Pieces.{AreApart, goes_on, Next, next_of}
 use Rattle.pictures.specs.Columns.{deck_bytes}
-use Rattle.pictures.proofs.Rows.{AreTold}
 
 abbrev pub columns : Card → List ℕ
 columns card = card.0
@@ -76,9 +75,6 @@ bytes_more deck i card before after within is old new =
 pub cards_more : (deck : List Card) (i : ℕ) (card : Card) → i < length deck → card ≡ get_or deck i card → All IsCard (take i deck) → IsCard card →
     All IsCard (take (i + 1) deck)
 cards_more deck i card within is each card_is = All-more IsCard deck i card within each (rw is at card_is)
-
-pub cards_told : AreTold columns IsCard
-cards_told one two is_one is_two same = same_card one two same
 
 -- what is not empty has something
 pub some_left : (n : ℕ) → false ≡ (n == 0) → 0 < n

@@ -23,15 +23,18 @@ deck_bytes = flat_map (λ card. card.0)
 abbrev pub storage_bytes : Storage → List ℕ
 storage_bytes = map (λ cell. if cell.1 then 64 + cell.0 else cell.0)
 
+-- 1 for what holds, else 0
 abbrev pub truth : Bool → ℕ
 truth false = 0
 truth true = 1
 
+-- the number of a comparison
 abbrev pub compare_number : Compared → ℕ
 compare_number Equal = 0
 compare_number Low = 1
 compare_number High = 2
 
+-- the number of the carriage's motion that waits, if one does
 abbrev pub waiting_number : Option Motion → ℕ
 waiting_number None = 0
 waiting_number (Some Space) = 1
@@ -39,6 +42,7 @@ waiting_number (Some DoubleSpace) = 2
 waiting_number (Some TripleSpace) = 3
 waiting_number (Some SkipToChannel1) = 4
 
+-- the number of a check
 abbrev pub check_number : Check → ℕ
 check_number Address = 2
 check_number Instruction = 3
@@ -48,11 +52,13 @@ check_number ReaderEmpty = 6
 check_number PunchFull = 7
 check_number PrinterFull = 8
 
+-- the number of how a machine stands
 abbrev pub standing_number : Standing → ℕ
 standing_number Running = 0
 standing_number Halted = 1
 standing_number (Checked check) = check_number check
 
+-- the columns of a printed line
 abbrev pub line_cells : Line → LineCells
 line_cells l = record { form = l.form; line = l.line; image = l.codes }
 

@@ -7,6 +7,7 @@ use Rattle.pictures.specs.declared.parts.Media.{Media}
 use Rattle.pictures.specs.Columns.{truth, compare_number, waiting_number}
 use Rattle.tables.specs.Cells.{PictureCells}
 
+-- the row holds these registers
 pub record HasRegisters (row : PictureCells) (r : Registers) : Type 0 where
   pub i : row.i ≡ r.i
   pub a : row.a ≡ r.a
@@ -14,6 +15,7 @@ pub record HasRegisters (row : PictureCells) (r : Registers) : Type 0 where
   pub compare : row.compare ≡ compare_number r.compare
   pub overflow : row.overflow ≡ truth r.overflow
 
+-- the row holds this carriage
 pub record HasCarriage (row : PictureCells) (c : Carriage) : Type 0 where
   pub form : row.form ≡ c.form
   pub line : row.line ≡ c.line

@@ -1,11 +1,12 @@
 //! Cards and decks as bytes.
 
-ghost use Rattle.std.specs.Prelude.{◌≡◌, ◌≢◌, ◌++◌, List, ℕ, All, map, Some, IfOk, IfSome, IsSome, IsNone};
+ghost use Rattle.std.specs.Prelude.{◌≡◌, ◌≢◌, ◌++◌, List, ℕ, Some, IfOk, IfSome, IsNone};
 ghost use Rattle.cards.specs.declared.decks.Card.{Card};
 ghost use Rattle.cards.specs.Decks.{IsCard, IsDeck};
 ghost use Rattle.pictures.specs.Columns.{deck_bytes};
 
 use crate::codes::{read_codes, write_numbers};
+use crate::from_cells::FromCells;
 use bcd::Code;
 use cards::{COLUMNS, Card, Deck, DeckFault};
 use std::alloc::{AllocError, Global};
@@ -38,8 +39,10 @@ fn read_card(bytes: &[u8]) -> Option<Card>
 
 /// The card that the bytes begin with, and the bytes behind it.
 fn split_card(bytes: &[u8]) -> Option<(Card, &[u8])>
-    ensures found { IfSome result (λ found. IsCard found.0 × (bytes.now ≡ found.0.0 ++ found.1.now)) }
-    ensures missing { IsNone result → (card : Card) (behind : List ℕ) → IsCard card → bytes.now ≢ card.0 ++ behind }
+    ensures found { IfSome result (λ found. IsCard found.0
+        × (bytes.now ≡ found.0.0 ++ found.1.now)) }
+    ensures missing { IsNone result → (card : Card) (behind : List ℕ) → IsCard card
+        → bytes.now ≢ card.0 ++ behind }
 {
     if bytes.len() < COLUMNS {
         return None;
@@ -65,8 +68,10 @@ pub fn deck_bytes(alloc: Global, deck: &Deck) -> Result<Vec<u8>, AllocError>
 
 /// The deck of these bytes, if there is one.
 pub fn read_deck(alloc: Global, bytes: &[u8]) -> Result<Option<Deck>, AllocError>
-    ensures all { IfOk result (λ read. (deck : List Card) → IsDeck deck → bytes.now ≡ deck_bytes deck → read ≡ Some deck) }
-    ensures only { IfOk result (λ read. IfSome read (λ deck. (deck_bytes deck ≡ bytes.now) × IsDeck deck)) }
+    ensures all { IfOk result (λ read. (deck : List Card) → IsDeck deck
+        → bytes.now ≡ deck_bytes deck → read ≡ Some deck) }
+    ensures only { IfOk result (λ read.
+        IfSome read (λ deck. (deck_bytes deck ≡ bytes.now) × IsDeck deck)) }
 {
     let mut deck = Deck::empty(alloc);
     let mut rest = bytes;
@@ -84,17 +89,12 @@ pub fn read_deck(alloc: Global, bytes: &[u8]) -> Result<Option<Deck>, AllocError
     Ok(Some(deck))
 }
 
-/// The cards of these rows, if each is one.
-pub fn read_cards(alloc: Global, rows: &[CardRow]) -> Result<Option<Vec<Card>>, AllocError>
-    ensures all { IfOk result (λ read. (cards : List Card) → All IsCard cards → rows.now ≡ map (λ card. card.0) cards → IfSome read (λ made. made.items ≡ cards) × IsSome read) }
-    ensures only { IfOk result (λ read. IfSome read (λ made. (map (λ (card : Card). card.0) made.items ≡ rows.now) × All IsCard made.items)) }
-{
-    let mut cards = Vec::with_capacity(alloc, rows.len())?;
-    for row in rows {
-        let Some(card) = read_card(&row.card) else {
-            return Ok(None);
-        };
-        cards.push(Card(card.0))?;
+impl FromCells<CardRow> for Card {
+    ghost cells = { λ card. card.0 };
+
+    ghost IsHeld = { IsCard };
+
+    fn from_cells(row: &CardRow) -> Option<Card> {
+        read_card(&row.card)
     }
-    Ok(Some(cards))
 }

@@ -7,12 +7,14 @@
 
 mod codes;
 mod decks;
+mod from_cells;
 mod lines;
 mod numbers;
 mod parts;
 mod storage;
 
-pub use decks::{card_bytes, deck_bytes, read_cards, read_deck};
-pub use lines::{line_row, read_lines};
+pub use decks::{card_bytes, deck_bytes, read_deck};
+pub use from_cells::{FromCells, read_rows};
+pub use lines::line_row;
 pub use numbers::{read_switches, read_truth, switches_number, truth};
 pub use parts::{Media, picture_row, read_picture};

@@ -22,7 +22,8 @@ pub fn switches_number(switches: Switches) -> u32
 
 /// The switches of a number: the sum of their bits, below 128.
 pub fn read_switches(number: u32) -> Option<Switches>
-    ensures all { (switches : Switches) → AreSeven switches → number ≡ switches.0 → result ≡ Some switches }
+    ensures all { (switches : Switches) → AreSeven switches → number ≡ switches.0
+        → result ≡ Some switches }
     ensures only { IfSome result (λ switches. (switches.0 ≡ number) × AreSeven switches) }
 {
     let Ok(bits) = u8::try_from(number) else {
@@ -90,7 +91,8 @@ pub fn waiting_number(waiting: Option<Motion>) -> u32
 }
 
 pub fn read_waiting(number: u32) -> Option<Option<Motion>>
-    ensures all { (waiting : Option Motion) → number ≡ waiting_number waiting → result ≡ Some waiting }
+    ensures all { (waiting : Option Motion) → number ≡ waiting_number waiting
+        → result ≡ Some waiting }
     ensures only { IfSome result (λ waiting. waiting_number waiting ≡ number) }
 {
     match number {
@@ -128,7 +130,8 @@ pub fn standing_number(standing: Standing) -> u32
 }
 
 pub fn read_standing(number: u32) -> Option<Standing>
-    ensures all { (standing : Standing) → number ≡ standing_number standing → result ≡ Some standing }
+    ensures all { (standing : Standing) → number ≡ standing_number standing
+        → result ≡ Some standing }
     ensures only { IfSome result (λ standing. standing_number standing ≡ number) }
 {
     match number {

@@ -92,7 +92,8 @@ fn read_registers(row: &PictureRow) -> Option<Registers>
 
 /// The carriage of a row, if there is one.
 fn read_carriage(row: &PictureRow) -> Option<Carriage>
-    ensures all { (c : Carriage) → c.line ≤ lines_of_form → HasCarriage row.now c → result ≡ Some c }
+    ensures all { (c : Carriage) → c.line ≤ lines_of_form → HasCarriage row.now c
+        → result ≡ Some c }
     ensures only { IfSome result (λ c. HasCarriage row.now c) }
 {
     let Ok(line) = u8::try_from(row.line) else {
@@ -114,7 +115,8 @@ fn read_carriage(row: &PictureRow) -> Option<Carriage>
 
 /// The units of a row, if there are such.
 fn read_units(row: &PictureRow, media: Media) -> Option<Units>
-    ensures all { (u : Units) → HasRead u.hopper → u.printer.carriage.line ≤ lines_of_form → HasUnits row.now media u → result ≡ Some u }
+    ensures all { (u : Units) → HasRead u.hopper → u.printer.carriage.line ≤ lines_of_form
+        → HasUnits row.now media u → result ≡ Some u }
     ensures only { IfSome result (λ u. HasUnits row.now media u) }
 {
     if row.cards as usize != media.cards.len() || row.lines as usize != media.lines.len() {
@@ -147,8 +149,10 @@ pub fn read_picture<C: Core>(
     row: &PictureRow,
     media: Media,
 ) -> Result<Option<Parts<C>>, AllocError>
-    ensures all { IfOk result (λ read. (m : State) → IsInRange m → HoldsCharacters m.works.storage → IsPictured row.now media m → read ≡ Some m) }
-    ensures only { IfOk result (λ read. IfSome read (λ m. IsPictured row.now media m × HoldsCharacters m.works.storage)) }
+    ensures all { IfOk result (λ read. (m : State) → IsInRange m
+        → HoldsCharacters m.works.storage → IsPictured row.now media m → read ≡ Some m) }
+    ensures only { IfOk result (λ read. IfSome read (λ m. IsPictured row.now media m
+        × HoldsCharacters m.works.storage)) }
 {
     let Some(core) = read_storage::<C>(alloc, &row.storage)? else {
         return Ok(None);

@@ -32,8 +32,10 @@ fn cell_byte(cell: Cell) -> u8
 
 /// What stands at the position of a byte, if it is a position's.
 fn read_cell(byte: u8) -> Option<Cell>
-    ensures all { (cell : Cell) → cell.code < 64 → byte ≡ (if cell.marked then 64 + cell.code else cell.code) → IsSome result }
-    ensures only { IfSome result (λ cell. (byte ≡ (if cell.marked then 64 + cell.code else cell.code)) × (cell.code < 64)) }
+    ensures all { (cell : Cell) → cell.code < 64
+        → byte ≡ (if cell.marked then 64 + cell.code else cell.code) → IsSome result }
+    ensures only { IfSome result
+        (λ cell. (byte ≡ (if cell.marked then 64 + cell.code else cell.code)) × (cell.code < 64)) }
 {
     let marked = byte >= MARK;
     let number = if marked { byte - MARK } else { byte };
@@ -88,7 +90,8 @@ fn put_cells<C: Core>(core: &mut C, bytes: &[u8]) -> bool
     requires size { length (C.cells core.old) ≡ length bytes.now }
     requires limit { length bytes.now ≤ largest_size }
     ensures all { (s : Storage) → HoldsCharacters s → bytes.now ≡ storage_bytes s → IsTrue result }
-    ensures only { IsTrue result → (storage_bytes (C.cells core.new) ≡ bytes.now) × HoldsCharacters (C.cells core.new) }
+    ensures only { IsTrue result → (storage_bytes (C.cells core.new) ≡ bytes.now)
+        × HoldsCharacters (C.cells core.new) }
 {
     for position in 0..bytes.len() {
         let Some(cell) = read_cell(bytes[position]) else {
@@ -101,8 +104,11 @@ fn put_cells<C: Core>(core: &mut C, bytes: &[u8]) -> bool
 
 /// The storage of these bytes, if there is one.
 pub fn read_storage<C: Core>(alloc: Global, bytes: &[u8]) -> Result<Option<C>, AllocError>
-    ensures all { IfOk result (λ read. (s : Storage) → HasSize s → HoldsCharacters s → bytes.now ≡ storage_bytes s → IfSome read (λ core. C.cells core ≡ s) × IsSome read) }
-    ensures only { IfOk result (λ read. IfSome read (λ core. (storage_bytes (C.cells core) ≡ bytes.now) × HasSize (C.cells core) × HoldsCharacters (C.cells core))) }
+    ensures all { IfOk result (λ read. (s : Storage) → HasSize s → HoldsCharacters s
+        → bytes.now ≡ storage_bytes s → IfSome read (λ core. C.cells core ≡ s) × IsSome read) }
+    ensures only { IfOk result (λ read. IfSome read
+        (λ core. (storage_bytes (C.cells core) ≡ bytes.now) × HasSize (C.cells core)
+        × HoldsCharacters (C.cells core))) }
 {
     let Some(size) = size_of(bytes) else {
         return Ok(None);

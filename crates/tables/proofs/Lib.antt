@@ -11,5 +11,6 @@ pub mod ReadTexts
 pub mod Reading
 pub mod Replacing
 pub mod Selecting
+pub mod Stepping
 pub mod Texts
 pub mod Updating

@@ -1,7 +1,7 @@
 -- What each SELECT answers.
 use Rattle.std.proofs.Common.{◌≡◌, ℕ, pos, List, [], ◌∷◌, map, filter, length, Bool, bytes_eq, None, Some, Option, refl, sym, ap, subst, ◌∙◌}
 use Rattle.std.specs.List.{AllByRecursion}
-use Rattle.std.specs.Option.{option_to_list}
+use Rattle.std.specs.Option.{option_map, option_to_list}
 use Rattle.std.specs.List.Sorted.{IsPermutation}
 use Rattle.std.proofs.lemmas.List.{length-map}
 use Rattle.std.proofs.lemmas.List.Sorted.{length_permutation}
@@ -16,7 +16,7 @@ use Rattle.sqlite.specs.Listing.{understood}
 use Rattle.sqlite.proofs.Callers.{IsPlain, reads_as}
 use Rattle.tables.specs.Schema.{bureau_schema}
 use Rattle.tables.specs.Cells.{PictureCells}
-use Rattle.tables.specs.Tables.{ByJob, Tables, Holds, IsOf, NamesJob, job_named, jobs_of, is_job, job_row, stretch_row, picture_rows, card_row, line_row, placed, cells, is_row_of, has_customer}
+use Rattle.tables.specs.Tables.{NamedJob, ByJob, Tables, Holds, IsOf, NamesJob, job_named, jobs_of, is_job, job_row, stretch_row, picture_rows, card_row, line_row, placed, cells, is_row_of, has_customer}
 use Rattle.tables.proofs.Frames.{shown_same}
 use Rattle.tables.proofs.Selecting.{passes, plain_answer, ordered_query, ordered_answer}
 use Rattle.tables.specs.Shown.{shown_job, shown_number, shown_stretch, shown_picture, shown_card, shown_line}
@@ -91,8 +91,13 @@ picture_looked_up old new customer number rows h t holds =
 abbrev job_columns : List ℕ
 job_columns = 2 ∷ 3 ∷ 4 ∷ 5 ∷ 6 ∷ 7 ∷ []
 
+-- the row of a job shows its columns
+named_shown : (job : Option NamedJob) → map (λ (j : NamedJob). shown_job j.cells) (option_to_list job) ≡ map shown_job (option_to_list (option_map (λ (j : NamedJob). j.cells) job))
+named_shown None = refl
+named_shown (Some job) = refl
+
 pub job_looked_up : (old new : State) (customer : List ℕ) (number : ℕ) (rows : List Row) → Shown select_job (Text customer ∷ Int (pos number) ∷ []) old new rows
-    → (t : Tables) → Holds old.now t → IsUnchanged old new × (rows ≡ map shown_job (option_to_list (job_named customer number t.jobs)))
+    → (t : Tables) → Holds old.now t → IsUnchanged old new × (rows ≡ map shown_job (option_to_list (option_map (λ (j : NamedJob). j.cells) (job_named customer number t.jobs))))
 job_looked_up old new customer number rows h t holds =
     let did = looks select_job _ _ select_job_is old new (key_of customer number) rows holds.schema h in
     let params = key_of customer number in
@@ -101,9 +106,10 @@ job_looked_up old new customer number rows h t holds =
     let named = subst (AllByRecursion NamesJob) (sym holds.jobs) (jobs_named t.jobs) in
     let here = filter (is_job customer number) t.jobs in
     let are : cells kept ≡ map job_row here = rows_of_key customer number [] (db 1) named ∙ ap (filter (is_row_of customer number)) holds.jobs ∙ rows_of_jobs (is_row_of customer number) (is_job customer number) (λ job. refl) t.jobs in
-    let found = shown_cells job_columns params kept ∙ ap (map (view job_columns)) are ∙ jobs_shown (view job_columns) shown_job (λ job. refl) here ∙ ap (map shown_job) (found_once customer number t.jobs holds.distinct) in
+    let tells = λ (j : NamedJob). shown_job j.cells in
+    let found = shown_cells job_columns params kept ∙ ap (map (view job_columns)) are ∙ jobs_shown (view job_columns) tells (λ job. refl) here ∙ ap (map tells) (found_once customer number t.jobs holds.distinct) in
     let same = plain_answer 1 is_key (columns job_columns) params db rows refl did.1 in
-    (did.0, at_most_one shown_job (job_named customer number t.jobs) rows (subst (λ xs. IsPermutation xs rows) found same))
+    (did.0, at_most_one tells (job_named customer number t.jobs) rows (subst (λ xs. IsPermutation xs rows) found same) ∙ named_shown (job_named customer number t.jobs))
 
 pub numbers_looked_up : (old new : State) (customer : List ℕ) (rows : List Row) → Shown select_numbers (Text customer ∷ []) old new rows
     → (t : Tables) → Holds old.now t → IsUnchanged old new × (length rows ≡ length (jobs_of customer t.jobs))

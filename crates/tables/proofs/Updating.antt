@@ -1,5 +1,5 @@
 -- What each UPDATE does.
-use Rattle.std.proofs.Common.{◌≡◌, ◌≢◌, ◌+◌, ℕ, ℤ, pos, List, [], ◌∷◌, ◌++◌, drop, filter, length, slice_get, Bool, true, false, ◌&&◌, ◌==◌, bytes_eq, Option, Some, None, Ok, refl, sym, ap, subst, ◌∙◌, true≢false, arith, map}
+use Rattle.std.proofs.Common.{◌≡◌, ◌≢◌, ◌+◌, ℕ, zero, suc, ℤ, pos, List, [], ◌∷◌, ◌++◌, drop, filter, length, slice_get, Bool, true, false, ◌&&◌, ◌==◌, bytes_eq, Option, Some, None, IsSome, Ok, refl, sym, ap, subst, ◌∙◌, true≢false, arith, map}
 use Rattle.std.specs.List.{AllByRecursion}
 use Rattle.std.specs.List.Sorted.{IsPermutation}
 use Rattle.std.proofs.lemmas.Bool.Decides.{nat_tests}
@@ -26,6 +26,7 @@ use Rattle.sqlite_rules.specs.Calls.{ids_of}
 use Rattle.sqlite_trees.specs.declared.store.Shape.TheVariants.{Table as Rising}
 use Rattle.sqlite_trees.proofs.TreeLemmas.{IsShaped-put_row, IsShaped-filter}
 use Rattle.tables.specs.Cells.{PictureCells}
+use Rattle.tables.specs.Named.{granted_last}
 use Rattle.tables.specs.Schema.{bureau_schema, to_job, stretches, pictures}
 use Rattle.tables.specs.Tables.{Tables, Holds, IsOf, NamesJob, cells, placed, is_row_of, stretch_row, picture_row, picture_rows, card_row, line_row, with_stretches, with_picture}
 use Rattle.tables.specs.declared.rows.StretchRow.{StretchRow}
@@ -90,6 +91,10 @@ own_key customer number = key_yes customer number customer number refl refl
 
 -- ---- the picture of a job
 
+some_one : {X : Type 0} (o : Option X) → IsSome o → (x : X) × (o ≡ Some x)
+some_one None some = absurd (let e = some in cc)
+some_one (Some x) some = (x, refl)
+
 blind_key : (params r : Row) → passes is_key params r ≡ on_cells is_key params (drop 1 r)
 blind_key params [] = refl
 blind_key params (x ∷ r) = refl
@@ -111,7 +116,7 @@ module _ (customer : List ℕ) (number : ℕ) (p : PictureCells) where
   other_picture c n other None = refl
   other_picture c n other (Some q) = let none = picture_passes c n q ∙ other in rw none
 
-  pub picture_set : (old new : State) (count : ℕ) → Executes update_picture picture_params old new (Ok count) → (t : Tables) → Holds old.now t → (before : PictureCells) → t.pictures customer number ≡ Some before
+  picture_set : (old new : State) (count : ℕ) → Executes update_picture picture_params old new (Ok count) → (t : Tables) → Holds old.now t → (before : PictureCells) → t.pictures customer number ≡ Some before
       → Holds new.now (with_picture customer number p t)
   picture_set old new count h t holds before was =
       let did = updates bureau_schema update_picture 3 (record pictures { tree = 5 }) is_key new_picture_terms update_picture_is refl (idle_here 5) old new picture_params count holds.schema h in
@@ -146,7 +151,21 @@ module _ (customer : List ℕ) (number : ℕ) (p : PictureCells) where
         lines = subst (λ rows. IsOf rows (λ c n. placed (line_row c n) 1 (t.lines c n))) (sym (others.1.1.1.1.1.0 (apart refl))) holds.lines;
       }
 
+  pub picture_in_place : (old new : State) (count : ℕ) → Executes update_picture picture_params old new (Ok count) → (t : Tables) → Holds old.now t → IsSome (t.pictures customer number)
+      → Holds new.now (with_picture customer number p t)
+  picture_in_place old new count h t holds some = let it = some_one (t.pictures customer number) some in picture_set old new count h t holds it.0 it.1
+
 -- ---- what is granted in a stretch
+
+-- a last stretch, after others
+last_of : (granted : ℕ) (xs : List StretchRow) (place : ℕ) → length xs ≡ place + 1
+    → (before : List StretchRow) × (last : StretchRow) × (xs ≡ before ++ last ∷ []) × (place ≡ length before) × (granted_last granted xs ≡ before ++ (record last { granted = granted }) ∷ [])
+last_of granted [] place long = absurd (omega (arith, long))
+last_of granted (s ∷ []) place long = ([], s, refl, omega (arith, long), refl)
+last_of granted (s ∷ t ∷ rest) zero long = absurd (omega (arith, long))
+last_of granted (s ∷ t ∷ rest) (suc place) long =
+    let more = last_of granted (t ∷ rest) place (omega (arith, long)) in
+    (s ∷ more.0, more.1, ap (λ xs. s ∷ xs) more.2, omega (arith, more.3), ap (λ xs. s ∷ xs) more.4)
 
 blind_place : (params r : Row) → passes is_place params r ≡ on_cells is_place params (drop 1 r)
 blind_place params [] = refl
@@ -179,7 +198,7 @@ module _ (customer : List ℕ) (number place granted : ℕ) where
   other_place : (c : List ℕ) (n : ℕ) → (bytes_eq c customer && (n == number)) ≡ false → (k : ℕ) (s : StretchRow) → of_place (stretch_row c n k s) ≡ false
   other_place c n other k s = stretch_passes c n k s ∙ none_of (bytes_eq c customer) (n == number) (k == place) other
 
-  pub granted_set : (old new : State) (count : ℕ) → Executes update_granted stretch_params old new (Ok count) → (t : Tables) → Holds old.now t → (before : List StretchRow) (last : StretchRow) → t.stretches customer number ≡ before ++ last ∷ [] → place ≡ length before
+  granted_set : (old new : State) (count : ℕ) → Executes update_granted stretch_params old new (Ok count) → (t : Tables) → Holds old.now t → (before : List StretchRow) (last : StretchRow) → t.stretches customer number ≡ before ++ last ∷ [] → place ≡ length before
       → Holds new.now (with_stretches customer number (before ++ (record last { granted = granted }) ∷ []) t)
   granted_set old new count h t holds before last was at_end =
       let did = updates bureau_schema update_granted 2 (record stretches { tree = 3 }) is_place granted_terms update_granted_is refl (idle_here 3) old new stretch_params count holds.schema h in
@@ -217,3 +236,9 @@ module _ (customer : List ℕ) (number place granted : ℕ) where
         cards = subst (λ rows. IsOf rows (λ c n. placed (card_row c n) 1 (t.cards c n))) (sym (others.1.1.1.1.0 (apart refl))) holds.cards;
         lines = subst (λ rows. IsOf rows (λ c n. placed (line_row c n) 1 (t.lines c n))) (sym (others.1.1.1.1.1.0 (apart refl))) holds.lines;
       }
+
+  pub granted_in_last : (old new : State) (count : ℕ) → Executes update_granted stretch_params old new (Ok count) → (t : Tables) → Holds old.now t → length (t.stretches customer number) ≡ place + 1
+      → Holds new.now (with_stretches customer number (granted_last granted (t.stretches customer number)) t)
+  granted_in_last old new count h t holds long =
+      let it = last_of granted (t.stretches customer number) place long in
+      subst (λ xs. Holds new.now (with_stretches customer number xs t)) (sym it.4) (granted_set old new count h t holds it.0 it.1 it.2 it.3)

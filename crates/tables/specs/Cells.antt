@@ -1,6 +1,7 @@
 -- what the columns of a row hold beside the job that it names and its place
 use Rattle.std.specs.Prelude.{ℕ, List}
 
+-- the columns of a job
 pub record JobCells : Type 0 where
   pub kind : ℕ
   pub size : ℕ
@@ -9,6 +10,7 @@ pub record JobCells : Type 0 where
   pub held : ℕ
   pub collected : ℕ
 
+-- the columns of the picture of a job's machine
 pub record PictureCells : Type 0 where
   pub storage : List ℕ
   pub i : ℕ
@@ -25,6 +27,7 @@ pub record PictureCells : Type 0 where
   pub lines : ℕ
   pub standing : ℕ
 
+-- the columns of a printed line
 pub record LineCells : Type 0 where
   pub form : ℕ
   pub line : ℕ

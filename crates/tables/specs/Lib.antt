@@ -1,7 +1,9 @@
 pub mod Cells
 pub mod Faults
-pub mod Frames
 pub mod Making
+pub mod Named
+pub mod Reading
 pub mod Schema
 pub mod Shown
+pub mod Steps
 pub mod Tables

@@ -1,155 +1,121 @@
 //! Each statement that adds a row.
 
-ghost use Rattle.std.specs.Prelude.{◌≡◌, ◌+◌, ◌++◌, [], ◌∷◌, None, length, IsTrue, OnOk};
-ghost use Rattle.sqlite.specs.State.{HasCleanDisk, Survives};
-ghost use Rattle.sqlite.specs.Held.{state};
-ghost use Rattle.tables.specs.Frames.{Frames};
-ghost use Rattle.tables.specs.Tables.{Tables, Holds, job_named, with_job, with_stretches, with_picture, with_cards, with_lines};
+ghost use Rattle.tables.specs.Named.{HasNoJob, with_new_job, IsNextStretch, with_next_stretch, HasNoPicture, with_picture_of, IsNextCard, with_next_card, IsNextLine, with_next_line};
+ghost use Rattle.tables.specs.Steps.{Changes, IsStep};
 
-use crate::faults::{Fault, fault_of};
+use crate::faults::Fault;
+use crate::names::JobName;
+use crate::open_tables::OpenTables;
 use crate::rows::{JobRow, LineRow, PictureRow, StretchRow};
-use sqlite::{Alter, Transaction, params};
+use sqlite::{Alter, params};
 
-/// Adds a job. It is refused where there is one of this name.
-pub fn insert_job<S: Alter>(
-    tx: &mut Transaction<'_, S>,
-    customer: &str,
-    number: u32,
-    job: &JobRow,
-) -> Result<(), Fault>
-    ensures same_reference { tx.new.conn.ghost_name ≡ tx.old.conn.ghost_name }
-    ensures added { HasCleanDisk (state S.Store tx.new.conn.now) → IsTrue (state S.Store tx.old.conn.now).in_transaction
-        → OnOk result ((t : Tables) → Holds (state S.Store tx.old.conn.now).now t → job_named customer.now number t.jobs ≡ None
-        → Holds (state S.Store tx.new.conn.now).now (with_job customer.now number job.now t)) }
-    ensures frame { HasCleanDisk (state S.Store tx.new.conn.now) → IsTrue (state S.Store tx.old.conn.now).in_transaction → Frames (state S.Store tx.old.conn.now) (state S.Store tx.new.conn.now) result }
-    ensures survives { Survives (state S.Store tx.old.conn.now) (state S.Store tx.new.conn.now) (λ _. ⊥) }
-{
-    match tx.execute(
-        "INSERT INTO jobs (customer, number, kind, size, deck, loaded, held, collected) VALUES (?1, ?2, ?3, ?4, ?5, ?6, ?7, ?8)",
-        params![
-            customer,
-            number,
-            job.kind,
-            job.size,
-            &job.deck,
-            &job.loaded,
-            job.held,
-            job.collected
-        ],
-    ) {
-        Ok(_) => Ok(()),
-        Err(error) => Err(fault_of(error)),
+impl<S: Alter> OpenTables<'_, '_, S> {
+    /// Adds a job. It is refused where there is one of this name.
+    pub fn insert_job(&mut self, name: JobName<'_>, job: &JobRow) -> Result<(), Fault>
+        ensures step { IsStep S.Store self.old self.new result }
+        ensures added { Changes S.Store self.old self.new result
+            (HasNoJob name.entry) (with_new_job name.entry job.now) }
+    {
+        self.run(
+            "INSERT INTO jobs (customer, number, kind, size, deck, loaded, held, collected) VALUES (?1, ?2, ?3, ?4, ?5, ?6, ?7, ?8)",
+            params![
+                name.customer,
+                name.number,
+                job.kind,
+                job.size,
+                &job.deck,
+                &job.loaded,
+                job.held,
+                job.collected
+            ],
+        )
     }
-}
 
-/// Adds a stretch behind those that a job has. Places are counted from 0.
-pub fn insert_stretch<S: Alter>(
-    tx: &mut Transaction<'_, S>,
-    customer: &str,
-    number: u32,
-    place: u32,
-    stretch: StretchRow,
-) -> Result<(), Fault>
-    ensures same_reference { tx.new.conn.ghost_name ≡ tx.old.conn.ghost_name }
-    ensures added { HasCleanDisk (state S.Store tx.new.conn.now) → IsTrue (state S.Store tx.old.conn.now).in_transaction
-        → OnOk result ((t : Tables) → Holds (state S.Store tx.old.conn.now).now t → place ≡ length (t.stretches customer.now number)
-        → Holds (state S.Store tx.new.conn.now).now (with_stretches customer.now number (t.stretches customer.now number ++ stretch ∷ []) t)) }
-    ensures frame { HasCleanDisk (state S.Store tx.new.conn.now) → IsTrue (state S.Store tx.old.conn.now).in_transaction → Frames (state S.Store tx.old.conn.now) (state S.Store tx.new.conn.now) result }
-    ensures survives { Survives (state S.Store tx.old.conn.now) (state S.Store tx.new.conn.now) (λ _. ⊥) }
-{
-    match tx.execute(
-        "INSERT INTO stretches (customer, number, place, switches, granted) VALUES (?1, ?2, ?3, ?4, ?5)",
-        params![customer, number, place, stretch.switches, stretch.granted],
-    ) {
-        Ok(_) => Ok(()),
-        Err(error) => Err(fault_of(error)),
+    /// Adds a stretch after those that a job has. Places are counted from 0.
+    pub fn insert_stretch(
+        &mut self,
+        name: JobName<'_>,
+        place: u32,
+        stretch: StretchRow,
+    ) -> Result<(), Fault>
+        ensures step { IsStep S.Store self.old self.new result }
+        ensures added { Changes S.Store self.old self.new result
+            (IsNextStretch name.entry place) (with_next_stretch name.entry stretch) }
+    {
+        self.run(
+            "INSERT INTO stretches (customer, number, place, switches, granted) VALUES (?1, ?2, ?3, ?4, ?5)",
+            params![
+                name.customer,
+                name.number,
+                place,
+                stretch.switches,
+                stretch.granted
+            ],
+        )
     }
-}
 
-/// Adds the picture of a job that has none.
-pub fn insert_picture<S: Alter>(
-    tx: &mut Transaction<'_, S>,
-    customer: &str,
-    number: u32,
-    picture: &PictureRow,
-) -> Result<(), Fault>
-    ensures same_reference { tx.new.conn.ghost_name ≡ tx.old.conn.ghost_name }
-    ensures added { HasCleanDisk (state S.Store tx.new.conn.now) → IsTrue (state S.Store tx.old.conn.now).in_transaction
-        → OnOk result ((t : Tables) → Holds (state S.Store tx.old.conn.now).now t → t.pictures customer.now number ≡ None
-        → Holds (state S.Store tx.new.conn.now).now (with_picture customer.now number picture.now t)) }
-    ensures frame { HasCleanDisk (state S.Store tx.new.conn.now) → IsTrue (state S.Store tx.old.conn.now).in_transaction → Frames (state S.Store tx.old.conn.now) (state S.Store tx.new.conn.now) result }
-    ensures survives { Survives (state S.Store tx.old.conn.now) (state S.Store tx.new.conn.now) (λ _. ⊥) }
-{
-    match tx.execute(
-        "INSERT INTO pictures (customer, number, storage, i, a, b, compare, overflow, channel, waiting, form, line, taken, cards, lines, standing) VALUES (?1, ?2, ?3, ?4, ?5, ?6, ?7, ?8, ?9, ?10, ?11, ?12, ?13, ?14, ?15, ?16)",
-        params![
-            customer,
-            number,
-            &picture.storage,
-            picture.i,
-            picture.a,
-            picture.b,
-            picture.compare,
-            picture.overflow,
-            picture.channel,
-            picture.waiting,
-            picture.form,
-            picture.line,
-            picture.taken,
-            picture.cards,
-            picture.lines,
-            picture.standing
-        ],
-    ) {
-        Ok(_) => Ok(()),
-        Err(error) => Err(fault_of(error)),
+    /// Adds the picture of a job that has none.
+    pub fn insert_picture(&mut self, name: JobName<'_>, picture: &PictureRow) -> Result<(), Fault>
+        ensures step { IsStep S.Store self.old self.new result }
+        ensures added { Changes S.Store self.old self.new result
+            (HasNoPicture name.entry) (with_picture_of name.entry picture.now) }
+    {
+        self.run(
+            "INSERT INTO pictures (customer, number, storage, i, a, b, compare, overflow, channel, waiting, form, line, taken, cards, lines, standing) VALUES (?1, ?2, ?3, ?4, ?5, ?6, ?7, ?8, ?9, ?10, ?11, ?12, ?13, ?14, ?15, ?16)",
+            params![
+                name.customer,
+                name.number,
+                &picture.storage,
+                picture.i,
+                picture.a,
+                picture.b,
+                picture.compare,
+                picture.overflow,
+                picture.channel,
+                picture.waiting,
+                picture.form,
+                picture.line,
+                picture.taken,
+                picture.cards,
+                picture.lines,
+                picture.standing
+            ],
+        )
     }
-}
 
-/// Adds a card behind those that a job has punched. Places are counted from 1.
-pub fn insert_card<S: Alter>(
-    tx: &mut Transaction<'_, S>,
-    customer: &str,
-    number: u32,
-    place: u32,
-    card: &[u8],
-) -> Result<(), Fault>
-    ensures same_reference { tx.new.conn.ghost_name ≡ tx.old.conn.ghost_name }
-    ensures added { HasCleanDisk (state S.Store tx.new.conn.now) → IsTrue (state S.Store tx.old.conn.now).in_transaction
-        → OnOk result ((t : Tables) → Holds (state S.Store tx.old.conn.now).now t → place ≡ length (t.cards customer.now number) + 1
-        → Holds (state S.Store tx.new.conn.now).now (with_cards customer.now number (t.cards customer.now number ++ card.now ∷ []) t)) }
-    ensures frame { HasCleanDisk (state S.Store tx.new.conn.now) → IsTrue (state S.Store tx.old.conn.now).in_transaction → Frames (state S.Store tx.old.conn.now) (state S.Store tx.new.conn.now) result }
-    ensures survives { Survives (state S.Store tx.old.conn.now) (state S.Store tx.new.conn.now) (λ _. ⊥) }
-{
-    match tx.execute(
-        "INSERT INTO cards (customer, number, place, card) VALUES (?1, ?2, ?3, ?4)",
-        params![customer, number, place, card],
-    ) {
-        Ok(_) => Ok(()),
-        Err(error) => Err(fault_of(error)),
+    /// Adds a card after those that a job has punched. Places are counted from 1.
+    pub fn insert_card(&mut self, name: JobName<'_>, place: u32, card: &[u8]) -> Result<(), Fault>
+        ensures step { IsStep S.Store self.old self.new result }
+        ensures added { Changes S.Store self.old self.new result
+            (IsNextCard name.entry place) (with_next_card name.entry card.now) }
+    {
+        self.run(
+            "INSERT INTO cards (customer, number, place, card) VALUES (?1, ?2, ?3, ?4)",
+            params![name.customer, name.number, place, card],
+        )
     }
-}
 
-/// Adds a line behind those that a job has printed. Places are counted from 1.
-pub fn insert_line<S: Alter>(
-    tx: &mut Transaction<'_, S>,
-    customer: &str,
-    number: u32,
-    place: u32,
-    line: &LineRow,
-) -> Result<(), Fault>
-    ensures same_reference { tx.new.conn.ghost_name ≡ tx.old.conn.ghost_name }
-    ensures added { HasCleanDisk (state S.Store tx.new.conn.now) → IsTrue (state S.Store tx.old.conn.now).in_transaction
-        → OnOk result ((t : Tables) → Holds (state S.Store tx.old.conn.now).now t → place ≡ length (t.lines customer.now number) + 1
-        → Holds (state S.Store tx.new.conn.now).now (with_lines customer.now number (t.lines customer.now number ++ line.now ∷ []) t)) }
-    ensures frame { HasCleanDisk (state S.Store tx.new.conn.now) → IsTrue (state S.Store tx.old.conn.now).in_transaction → Frames (state S.Store tx.old.conn.now) (state S.Store tx.new.conn.now) result }
-    ensures survives { Survives (state S.Store tx.old.conn.now) (state S.Store tx.new.conn.now) (λ _. ⊥) }
-{
-    match tx.execute(
-        "INSERT INTO lines (customer, number, place, form, line, image) VALUES (?1, ?2, ?3, ?4, ?5, ?6)",
-        params![customer, number, place, line.form, line.line, &line.image],
-    ) {
-        Ok(_) => Ok(()),
-        Err(error) => Err(fault_of(error)),
+    /// Adds a line after those that a job has printed. Places are counted from 1.
+    pub fn insert_line(
+        &mut self,
+        name: JobName<'_>,
+        place: u32,
+        line: &LineRow,
+    ) -> Result<(), Fault>
+        ensures step { IsStep S.Store self.old self.new result }
+        ensures added { Changes S.Store self.old self.new result
+            (IsNextLine name.entry place) (with_next_line name.entry line.now) }
+    {
+        self.run(
+            "INSERT INTO lines (customer, number, place, form, line, image) VALUES (?1, ?2, ?3, ?4, ?5, ?6)",
+            params![
+                name.customer,
+                name.number,
+                place,
+                line.form,
+                line.line,
+                &line.image
+            ],
+        )
     }
 }

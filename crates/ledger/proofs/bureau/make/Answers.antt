@@ -1,22 +1,23 @@
-use Rattle.std.proofs.Common.{◌≡◌, List, [], ◌∷◌, length, Some, None, Option, refl, sym, ap, subst, ◌∙◌, arith, rules, IsTrue, true, false}
+use Rattle.std.proofs.Common.{◌≡◌, [], ap, subst, arith, rules, IsTrue}
 use Rattle.sqlite.specs.State.{HasCleanDisk}
 use Rattle.sqlite.specs.Held.{state}
-use Rattle.ledger.specs.Office.{Job, Office, job_of, picture, served}
-use Rattle.ledger.specs.Standing.{StandsIn, Stands, Rows, Served, tables_of}
-use Rattle.ledger.proofs.Offices.{still, if_ok_then, job_is}
+use Rattle.tables.specs.Tables.{Holds, no_rows}
+use Rattle.ledger.specs.Standing.{StandsIn, Stands}
 use Rattle.ledger.proofs.Crash.{committed_stands}
 use Rattle.ledger.proofs.bureau.make.Goals as goal
 
 pub returns-in-Ok-commit-clause-made : goal.returns-in-Ok-commit-clause-made
 returns-in-Ok-commit-clause-made g c clean empty =
     let begun = c.transaction-tx.ensures.begun in
-    let start = c.transaction-tx.result.conn.now in
-    let mid = c.make_tables.new.tx.conn.now in
+    let mid = c.make-made.new.self.tx.now.conn.now in
+    let last = c.tx-2-1.given.0.conn.now in
     let end = c.commit.new.self.0 in
+    let back : mid ≡ last = search rules in
     let same : end ≡ c.conn-1.given.0 = search rules in
     let late : HasCleanDisk (state g.S.Store end) = search rules in
-    let early : HasCleanDisk (state g.S.Store mid) = omega (arith, c.commit.ensures.survives.clean) in
-    let inside : IsTrue start.in_transaction = ap (λ h. h.in_transaction) begun in
-    let holds = c.in-Ok.ensures.made early inside (rw begun empty) in
-    let rows : StandsIn (state g.S.Store mid) [] = record { tables = holds; jobs = tt } in
-    subst (λ h. Stands (state g.S.Store h) []) same (committed_stands (state g.S.Store mid) (state g.S.Store end) [] (λ db opened may. g.met.S.Store.settled end.store db opened may) rows (c.in-Ok-commit.ensures.ok late).1)
+    let tried : HasCleanDisk (state g.S.Store last) = omega (arith, c.commit.ensures.survives.clean) in
+    let early : HasCleanDisk (state g.S.Store mid) = rw back tried in
+    let inside : IsTrue c.transaction-tx.result.conn.now.in_transaction = ap (λ h. h.in_transaction) begun in
+    let holds = subst (λ h. Holds (state g.S.Store h).now no_rows) back (c.in-Ok.ensures.made early inside (rw begun empty)) in
+    let rows : StandsIn (state g.S.Store last) [] = record { tables = holds; jobs = tt } in
+    subst (λ h. Stands (state g.S.Store h) []) same (committed_stands (state g.S.Store last) (state g.S.Store end) [] (λ db opened may. g.met.S.Store.settled end.store db opened may) rows (c.in-Ok-commit.ensures.ok late).1)

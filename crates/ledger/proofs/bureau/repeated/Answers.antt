@@ -1,4 +1,4 @@
-use Rattle.std.proofs.Common.{◌≡◌, length, true, refl, sym, ap, ◌∙◌, IsTrue}
+use Rattle.std.proofs.Common.{length, sym, ap, ◌∙◌}
 use Rattle.ledger.specs.declared.commands.Reply.TheVariants.{Taken}
 use Rattle.ledger.proofs.Replies.{repeated_taken}
 use Rattle.ledger.proofs.bureau.repeated.Goals as goal

@@ -1,22 +1,25 @@
-use Rattle.std.proofs.Common.{◌≡◌, List, [], ◌∷◌, length, Some, None, Option, refl, sym, ap, subst, ◌∙◌, arith, rules, IsTrue, true, false}
+use Rattle.std.proofs.Common.{◌≡◌, ap, subst, arith, rules, IsTrue}
 use Rattle.sqlite.specs.State.{HasCleanDisk}
 use Rattle.sqlite.specs.Held.{state}
-use Rattle.ledger.specs.Office.{Job, Office, job_of, picture, served}
-use Rattle.ledger.specs.Standing.{StandsIn, Stands, Rows, Served, tables_of}
-use Rattle.ledger.proofs.Offices.{still, if_ok_then, job_is}
+use Rattle.ledger.specs.Office.{served}
+use Rattle.ledger.specs.Standing.{StandsIn, Stands}
 use Rattle.ledger.proofs.Crash.{committed_stands}
 use Rattle.ledger.proofs.bureau.transact.Goals as goal
 
 pub returns-in-Ok-commit-clause-reply : goal.returns-in-Ok-commit-clause-reply
 returns-in-Ok-commit-clause-reply g c clean office s =
     let begun = c.transaction-tx.ensures.begun in
-    let mid = c.serve-result.new.tx.conn.now in
+    let mid = c.serve-result.new.tables.tx.now.conn.now in
+    let last = c.tx-2-1.given.0.conn.now in
     let end = c.commit.new.self.0 in
+    let back : mid ≡ last = search rules in
     let same : end ≡ c.conn-1.given.0 = search rules in
     let late : HasCleanDisk (state g.S.Store end) = search rules in
-    let early : HasCleanDisk (state g.S.Store mid) = omega (arith, c.commit.ensures.survives.clean) in
+    let tried : HasCleanDisk (state g.S.Store last) = omega (arith, c.commit.ensures.survives.clean) in
+    let early : HasCleanDisk (state g.S.Store mid) = rw back tried in
     let inside : IsTrue c.transaction-tx.result.conn.now.in_transaction = ap (λ h. h.in_transaction) begun in
-    let first : StandsIn (state g.S.Store c.transaction-tx.result.conn.now) office = rw begun (s.now (rw begun at (c.in-Ok.ensures.opened early))) in
+    let first : StandsIn (state g.S.Store c.transaction-tx.result.conn.now) office = rw begun (s.now (rw begun at (c.in-Ok.ensures.step.opened early))) in
     let done = c.in-Ok.ensures.done early inside office first in
     let new = (served c.args.command.now office).0 in
-    (done.reply_is, subst (λ h. Stands (state g.S.Store h) new) same (committed_stands (state g.S.Store mid) (state g.S.Store end) new (λ db opened may. g.met.S.Store.settled end.store db opened may) done.stands (c.in-Ok-commit.ensures.ok late).1))
+    let rows = subst (λ h. StandsIn (state g.S.Store h) new) back done.stands in
+    (done.reply_is, subst (λ h. Stands (state g.S.Store h) new) same (committed_stands (state g.S.Store last) (state g.S.Store end) new (λ db opened may. g.met.S.Store.settled end.store db opened may) rows (c.in-Ok-commit.ensures.ok late).1))

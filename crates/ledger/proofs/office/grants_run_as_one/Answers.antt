@@ -1,5 +1,5 @@
-use Rattle.std.proofs.Common.{◌≡◌, [], ◌∷◌, refl, ap, ◌∙◌}
-use Rattle.ledger.specs.Office.{resumed, picture, loaded_deck, all_off}
+use Rattle.std.proofs.Common.{ap, ◌∙◌}
+use Rattle.ledger.specs.Office.{resumed, loaded_deck, all_off}
 use Rattle.machine.specs.Run.{loaded}
 use Rattle.ledger.proofs.Sliced.{resumed_more}
 use Rattle.ledger.proofs.Stretches.{one_stretch}

@@ -1,4 +1,4 @@
-use Rattle.std.proofs.Common.{◌≡◌, ◌⊎◌, sym, subst, ◌∙◌}
+use Rattle.std.proofs.Common.{◌⊎◌, sym, subst, ◌∙◌}
 use Rattle.ledger.specs.Office.{taken}
 use Rattle.ledger.specs.Standing.{LeftAs}
 use Rattle.ledger.proofs.Replies.{none_is}

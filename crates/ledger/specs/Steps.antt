@@ -1,0 +1,59 @@
+-- how the contracts of the steps of a command are said
+use Rattle.std.specs.Prelude.{◌≡◌, ℕ, IsTrue, Result, IfOk, OnOk, OnErr}
+use Rattle.machine.specs.Run.{risen}
+use Rattle.sqlite_trees.specs.declared.store.Store.{Ghosts}
+use Rattle.tables.specs.declared.faults.Fault.{Fault}
+use Rattle.tables.specs.declared.open_tables.OpenTables.{OpenTables}
+use Rattle.tables.specs.Steps.{Inside}
+use Rattle.ledger.specs.declared.commands.Reply.{Reply}
+use Rattle.ledger.specs.Meters.{RisenAtMost}
+use Rattle.ledger.specs.Office.{Office}
+use Rattle.ledger.specs.Standing.{StandsIn, Served}
+
+module _ {S : Type 0} (g : Ghosts S) where
+  -- on Ok, where the tables represented an office, they still do, and this was found of it
+  abbrev pub FindsIn : {X : Type 0} → OpenTables S → OpenTables S → Result X Fault
+      → (Office → X → Type 0) → Type 0
+  FindsIn old new result Is =
+      Inside g old new (λ before after. IfOk result (λ found. (office : Office)
+      → StandsIn before office → StandsIn after office × Is office found))
+
+  -- on Ok, where the tables represented an office that meets the premise, they represent what the
+  -- change makes of it
+  abbrev pub Saves : {X : Type 0} → OpenTables S → OpenTables S → Result X Fault
+      → (Office → Type 0) → (Office → Office) → Type 0
+  Saves old new result Premise change =
+      Inside g old new (λ before after. OnOk result ((office : Office) → StandsIn before office
+      → Premise office → StandsIn after (change office)))
+
+  -- on Ok, where the tables represented an office that meets the premise, they represent the
+  -- changed one, and the reply is the change's
+  abbrev pub ServesWhere : OpenTables S → OpenTables S → Result Reply Fault → (Office → Type 0)
+      → (Office → Office × Reply) → Type 0
+  ServesWhere old new result Premise change =
+      Inside g old new (λ before after. IfOk result (λ reply. (office : Office) → Premise office
+      → StandsIn before office → Served after change office reply))
+
+  -- on Ok, where the tables represented an office, they represent the changed one, and the reply is
+  -- the change's
+  abbrev pub Serves : OpenTables S → OpenTables S → Result Reply Fault
+      → (Office → Office × Reply) → Type 0
+  Serves old new result change =
+      Inside g old new (λ before after. IfOk result (λ reply. (office : Office)
+      → StandsIn before office → Served after change office reply))
+
+  -- on Ok, where the tables represented an office, the meter has ticked this often
+  abbrev pub Ticks : OpenTables S → OpenTables S → Result Reply Fault → ℕ → ℕ → (Office → ℕ)
+      → Type 0
+  Ticks old new result meter risen_meter often =
+      Inside g old new (λ before after. OnOk result ((office : Office) → StandsIn before office
+      → risen_meter ≡ risen meter (often office)))
+
+  -- on a fault, where the tables represent an office as long as they are open, the meter has ticked
+  -- this often at most
+  abbrev pub TicksAtMost : OpenTables S → OpenTables S → Result Reply Fault → ℕ → ℕ
+      → (Office → ℕ) → Type 0
+  TicksAtMost old new result meter risen_meter often =
+      Inside g old new (λ before after. OnErr result ((office : Office)
+      → (IsTrue before.is_open → StandsIn before office)
+      → RisenAtMost (often office) meter risen_meter))

@@ -1,0 +1,118 @@
+//! Rows of answers, read as values.
+
+ghost use Rattle.std.specs.Prelude.{◌≡◌, List, Option, map, IfOk};
+ghost use Rattle.std.specs.Option.{option_to_list};
+ghost use Rattle.sqlite.specs.Order.{Row as Values};
+ghost use Rattle.tables.specs.Shown.{shown_job, shown_stretch, shown_picture, shown_card, shown_line};
+
+use crate::faults::{Fault, fault_of};
+use crate::rows::{CardRow, JobRow, LineRow, PictureRow, StretchRow};
+use sqlite::{Error, Row};
+use std::alloc::Global;
+
+/// A value that a row of an answer shows.
+pub trait FromRow: Drop {
+    // The row that shows a value.
+    ghost shown: { Self → Values };
+
+    /// Reads the value. It fails where the row shows none.
+    fn from_row(row: &Row) -> Result<Self, Error>
+        ensures { IfOk result (λ read. (it : Self) → row.now ≡ shown it → read ≡ it) };
+}
+
+impl FromRow for JobRow {
+    ghost shown = { shown_job };
+
+    fn from_row(row: &Row) -> Result<JobRow, Error> {
+        Ok(JobRow {
+            kind: row.get(0)?,
+            size: row.get(1)?,
+            deck: row.get(2)?,
+            loaded: row.get(3)?,
+            held: row.get(4)?,
+            collected: row.get(5)?,
+        })
+    }
+}
+
+impl FromRow for StretchRow {
+    ghost shown = { shown_stretch };
+
+    fn from_row(row: &Row) -> Result<StretchRow, Error> {
+        Ok(StretchRow {
+            switches: row.get(0)?,
+            granted: row.get(1)?,
+        })
+    }
+}
+
+impl FromRow for PictureRow {
+    ghost shown = { shown_picture };
+
+    fn from_row(row: &Row) -> Result<PictureRow, Error> {
+        Ok(PictureRow {
+            storage: row.get(0)?,
+            i: row.get(1)?,
+            a: row.get(2)?,
+            b: row.get(3)?,
+            compare: row.get(4)?,
+            overflow: row.get(5)?,
+            channel: row.get(6)?,
+            waiting: row.get(7)?,
+            form: row.get(8)?,
+            line: row.get(9)?,
+            taken: row.get(10)?,
+            cards: row.get(11)?,
+            lines: row.get(12)?,
+            standing: row.get(13)?,
+        })
+    }
+}
+
+impl FromRow for CardRow {
+    ghost shown = { shown_card };
+
+    fn from_row(row: &Row) -> Result<CardRow, Error> {
+        Ok(CardRow { card: row.get(0)? })
+    }
+}
+
+impl FromRow for LineRow {
+    ghost shown = { shown_line };
+
+    fn from_row(row: &Row) -> Result<LineRow, Error> {
+        Ok(LineRow {
+            form: row.get(0)?,
+            line: row.get(1)?,
+            image: row.get(2)?,
+        })
+    }
+}
+
+/// The values that the rows show. It fails where one shows none.
+pub(crate) fn read_all<T: FromRow>(alloc: Global, rows: &[Row]) -> Result<Vec<T>, Fault>
+    ensures { IfOk result (λ read. (all : List T) → rows.now ≡ map T.shown all → read.items ≡ all) }
+{
+    let mut read = Vec::with_capacity(alloc, rows.len())?;
+    for row in rows {
+        match T::from_row(row) {
+            Ok(it) => read.push_reserved(it),
+            Err(error) => return Err(fault_of(error)),
+        }
+    }
+    Ok(read)
+}
+
+/// The value that the first row shows, if there is a row.
+pub(crate) fn read_first<T: FromRow>(rows: &[Row]) -> Result<Option<T>, Fault>
+    ensures { IfOk result (λ found. (it : Option T)
+        → rows.now ≡ map T.shown (option_to_list it) → found ≡ it) }
+{
+    let Some(row) = rows.first() else {
+        return Ok(None);
+    };
+    match T::from_row(row) {
+        Ok(it) => Ok(Some(it)),
+        Err(error) => Err(fault_of(error)),
+    }
+}
