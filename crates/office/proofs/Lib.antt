@@ -1,0 +1,9 @@
+pub mod Sources
+pub mod Stopping
+pub mod PastLoading
+pub mod FreeOfFaults
+pub mod Granting
+pub mod OfSources
+pub mod Needed
+pub mod Commanding
+pub mod Lasting
