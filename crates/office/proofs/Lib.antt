@@ -7,3 +7,4 @@ pub mod OfSources
 pub mod Needed
 pub mod Commanding
 pub mod Lasting
+pub mod Keeping

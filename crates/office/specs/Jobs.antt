@@ -1,6 +1,6 @@
 -- jobs, and where their machines are
 use Rattle.std.specs.Prelude.{◌≡◌, ℕ, ◌+◌, ◌<◌, ◌≤◌, Bool, List, [], ◌∷◌, ◌++◌, length, map, take, drop}
-use Rattle.std.specs.List.{AllByRecursion, sum_by}
+use Rattle.std.specs.List.{All, sum_by}
 use Rattle.cards.specs.declared.decks.Card.{Card}
 use Rattle.cards.specs.Decks.{IsDeck}
 use Rattle.core_store.specs.Storage.{positions_of}
@@ -83,7 +83,7 @@ HasSwitches s = AreSeven s.switches
 -- the stretches of a job: there is one, and in all not too much is granted
 pub record AreStretches (stretches : List Stretch) : Type 0 where
   pub begun : 0 < length stretches
-  pub switches : AllByRecursion HasSwitches stretches
+  pub switches : All HasSwitches stretches
   pub most : granted stretches ≤ most_granted
 
 -- a job with its first n stretches alone

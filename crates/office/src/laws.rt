@@ -74,7 +74,6 @@ pub fn commands_keep_jobs()
     ensures kept { (command : JobCommand) (job : Job) → IsJob job → IsJob (job_after command job) }
     ensures in_range { (job : Job) → IsJob job → IsJobInRange (kept_of job) }
 {
-    halts_stay_between();
     stays_in_range();
 }
 

@@ -1,7 +1,7 @@
 //! The stretches of a job, from one start of its machine to the next.
 
 ghost use Rattle.std.specs.Prelude.{◌≡◌, ◌↔◌, ◌+◌, ◌-◌, ◌^◌, ◌≤◌, min, length, IsTrue};
-ghost use Rattle.std.specs.List.{AllByRecursion};
+ghost use Rattle.std.specs.List.{All};
 ghost use Rattle.office.specs.Limits.{most_granted};
 ghost use Rattle.office.specs.Jobs.{granted, granted_more, HasSwitches, AreStretches};
 
@@ -41,7 +41,7 @@ pub(crate) fn grant_more(stretches: &mut [Stretch], limit: u32)
 
 /// Whether no stretch has a switch beyond the seven.
 fn have_switches(stretches: &[Stretch]) -> bool
-    ensures { IsTrue result ↔ AllByRecursion HasSwitches stretches.now }
+    ensures { IsTrue result ↔ All HasSwitches stretches.now }
 {
     for stretch in stretches {
         if !stretch.switches.are_seven() {
