@@ -1,5 +1,5 @@
 -- a job as its machine's picture and its stretches show it, and what a command makes of it
-use Rattle.std.specs.Prelude.{◌≡◌, ℕ, ◌+◌, nat_lt, Bool, true, false, not, List, length, Option, Some, None, if◌then◌else◌}
+use Rattle.std.specs.Prelude.{◌≡◌, ℕ, ◌+◌, ◌&&◌, nat_lt, Bool, true, false, not, List, length, Option, Some, None, if◌then◌else◌}
 use Rattle.machine.specs.Ranges.{IsInRange}
 use Rattle.machine.specs.Run.{State, after, attempts, executed, lines_of, started}
 use Rattle.machine.specs.declared.parts.Standing.{Standing}
@@ -77,35 +77,57 @@ is_at_halt (Checked check at) = false
 
 -- ---- what is refused
 
+-- a command that only asks
+abbrev pub is_query : JobCommand → Bool
+is_query (Slice limit) = false
+is_query (Start switches) = false
+is_query Hold = false
+is_query Release = false
+is_query Collect = false
+is_query Tell = true
+is_query Cards = true
+is_query Lines = true
+
+-- a command that is for a job that isn't held
+abbrev pub is_for_free : JobCommand → Bool
+is_for_free (Slice limit) = true
+is_for_free (Start switches) = true
+is_for_free Hold = false
+is_for_free Release = false
+is_for_free Collect = true
+is_for_free Tell = false
+is_for_free Cards = false
+is_for_free Lines = false
+
+-- the reason, where the test holds
+abbrev pub refused_if : Bool → Refusal → Option Refusal
+refused_if true reason = Some reason
+refused_if false reason = None
+
+-- why a slice is refused to a job that is free: it doesn't run, or too much would be granted
+abbrev pub slice_refusal : ℕ → Summary → Option Refusal
+slice_refusal limit job =
+    if not (goes_on job.standing) then Some refusal.NotRunning else
+    refused_if (nat_lt most_granted (job.granted + limit)) refusal.TooMuch
+
+-- the last tests of each command
+abbrev pub last_refusal : JobCommand → Summary → Option Refusal
+last_refusal (Slice limit) job = slice_refusal limit job
+last_refusal (Start switches) job = refused_if (not (is_at_halt job.standing)) refusal.NotAtHalt
+last_refusal Hold job = refused_if job.held refusal.AlreadyHeld
+last_refusal Release job = refused_if (not job.held) refusal.NotHeld
+last_refusal Collect job = refused_if (goes_on job.standing) refusal.NotAtHalt
+last_refusal Tell job = None
+last_refusal Cards job = None
+last_refusal Lines job = None
+
 -- the first of these tests that fails; a query is never refused
 abbrev pub job_refusal : JobCommand → Summary → Option Refusal
-job_refusal (Slice limit) job =
+job_refusal c job =
+    if is_query c then None else
     if job.collected then Some refusal.Collected else
-    if job.held then Some refusal.Held else
-    if not (goes_on job.standing) then Some refusal.NotRunning else
-    if nat_lt most_granted (job.granted + limit) then Some refusal.TooMuch else
-    None
-job_refusal (Start switches) job =
-    if job.collected then Some refusal.Collected else
-    if job.held then Some refusal.Held else
-    if not (is_at_halt job.standing) then Some refusal.NotAtHalt else
-    None
-job_refusal Hold job =
-    if job.collected then Some refusal.Collected else
-    if job.held then Some refusal.AlreadyHeld else
-    None
-job_refusal Release job =
-    if job.collected then Some refusal.Collected else
-    if not job.held then Some refusal.NotHeld else
-    None
-job_refusal Collect job =
-    if job.collected then Some refusal.Collected else
-    if job.held then Some refusal.Held else
-    if goes_on job.standing then Some refusal.NotAtHalt else
-    None
-job_refusal Tell job = None
-job_refusal Cards job = None
-job_refusal Lines job = None
+    if is_for_free c && job.held then Some refusal.Held else
+    last_refusal c job
 
 -- ---- what a command makes of a job
 

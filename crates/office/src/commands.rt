@@ -1,7 +1,7 @@
 //! What is handed in, and what is asked of the office.
 
 ghost use Rattle.std.specs.Prelude.{◌≡◌};
-ghost use Rattle.office.specs.Kept.{job_refusal};
+ghost use Rattle.office.specs.Kept.{is_query, is_for_free, refused_if, slice_refusal, last_refusal, job_refusal};
 
 use crate::refusals::Refusal;
 use crate::standings::Summary;
@@ -71,97 +71,74 @@ pub enum Command {
     Queue,
 }
 
-/// Why a slice is refused.
-fn slice_refusal(limit: u32, job: &Summary) -> Option<Refusal>
-    ensures { result ≡ job_refusal (JobCommand.Slice limit) job.now }
+/// The reason, where the test holds.
+fn refused_if(test: bool, reason: Refusal) -> Option<Refusal>
+    ensures { result ≡ refused_if test reason }
 {
-    if job.collected {
-        return Some(Refusal::Collected);
-    }
-    if job.held {
-        return Some(Refusal::Held);
-    }
+    if test { Some(reason) } else { None }
+}
+
+/// Why a slice is refused for a job that is free.
+fn slice_refusal(limit: u32, job: &Summary) -> Option<Refusal>
+    ensures { result ≡ slice_refusal limit job.now }
+{
     if !job.standing.goes_on() {
         return Some(Refusal::NotRunning);
     }
-    if job.granted as u64 + limit as u64 > MOST_GRANTED {
-        return Some(Refusal::TooMuch);
-    }
-    None
-}
-
-/// Why a start is refused.
-fn start_refusal(switches: Switches, job: &Summary) -> Option<Refusal>
-    ensures { result ≡ job_refusal (JobCommand.Start switches) job.now }
-{
-    if job.collected {
-        return Some(Refusal::Collected);
-    }
-    if job.held {
-        return Some(Refusal::Held);
-    }
-    if !job.standing.is_at_halt() {
-        return Some(Refusal::NotAtHalt);
-    }
-    None
-}
-
-/// Why a hold is refused.
-fn hold_refusal(job: &Summary) -> Option<Refusal>
-    ensures { result ≡ job_refusal JobCommand.Hold job.now }
-{
-    if job.collected {
-        return Some(Refusal::Collected);
-    }
-    if job.held {
-        return Some(Refusal::AlreadyHeld);
-    }
-    None
-}
-
-/// Why a release is refused.
-fn release_refusal(job: &Summary) -> Option<Refusal>
-    ensures { result ≡ job_refusal JobCommand.Release job.now }
-{
-    if job.collected {
-        return Some(Refusal::Collected);
-    }
-    if !job.held {
-        return Some(Refusal::NotHeld);
-    }
-    None
-}
-
-/// Why a collection is refused.
-fn collect_refusal(job: &Summary) -> Option<Refusal>
-    ensures { result ≡ job_refusal JobCommand.Collect job.now }
-{
-    if job.collected {
-        return Some(Refusal::Collected);
-    }
-    if job.held {
-        return Some(Refusal::Held);
-    }
-    if job.standing.goes_on() {
-        return Some(Refusal::NotAtHalt);
-    }
-    None
+    let granted = job.granted as u64 + limit as u64;
+    refused_if(granted > MOST_GRANTED, Refusal::TooMuch)
 }
 
 impl JobCommand {
-    /// Why it is refused for a job of which this is told, if it is.
-    pub fn refusal(self, job: &Summary) -> Option<Refusal>
-        ensures { result ≡ job_refusal self job.now }
+    /// Whether it only asks.
+    fn is_query(self) -> bool
+        ensures { result ≡ is_query self }
+    {
+        matches!(
+            self,
+            JobCommand::Standing | JobCommand::Cards | JobCommand::Lines
+        )
+    }
+
+    /// Whether it is for a job that isn't held.
+    fn is_for_free(self) -> bool
+        ensures { result ≡ is_for_free self }
+    {
+        matches!(
+            self,
+            JobCommand::Slice { .. } | JobCommand::Start { .. } | JobCommand::Collect
+        )
+    }
+
+    /// The last tests of it.
+    fn last_refusal(self, job: &Summary) -> Option<Refusal>
+        ensures { result ≡ last_refusal self job.now }
     {
         match self {
             JobCommand::Slice { limit } => slice_refusal(limit, job),
-            JobCommand::Start { switches } => start_refusal(switches, job),
-            JobCommand::Hold => hold_refusal(job),
-            JobCommand::Release => release_refusal(job),
-            JobCommand::Collect => collect_refusal(job),
+            JobCommand::Start { .. } => refused_if(!job.standing.is_at_halt(), Refusal::NotAtHalt),
+            JobCommand::Hold => refused_if(job.held, Refusal::AlreadyHeld),
+            JobCommand::Release => refused_if(!job.held, Refusal::NotHeld),
+            JobCommand::Collect => refused_if(job.standing.goes_on(), Refusal::NotAtHalt),
             JobCommand::Standing => None,
             JobCommand::Cards => None,
             JobCommand::Lines => None,
         }
+    }
+
+    /// Why it is refused for a job of which this is told, if it is.
+    pub fn refusal(self, job: &Summary) -> Option<Refusal>
+        ensures { result ≡ job_refusal self job.now }
+    {
+        if self.is_query() {
+            return None;
+        }
+        if job.collected {
+            return Some(Refusal::Collected);
+        }
+        if self.is_for_free() && job.held {
+            return Some(Refusal::Held);
+        }
+        self.last_refusal(job)
     }
 }

@@ -1,6 +1,7 @@
 //! New jobs.
 
-ghost use Rattle.std.specs.Prelude.{◌≡◌, ◌≤◌, ◌<◌, [], length, None, IfOk, IfErr};
+ghost use Rattle.std.specs.Prelude.{◌≡◌, ◌≤◌, ◌<◌, ◌++◌, [], length, None, IfOk, IfErr, OnOk, IsErrOf};
+ghost use Rattle.cards.specs.Decks.{largest_deck};
 ghost use Rattle.layout.specs.Source.{source_of};
 ghost use Rattle.autocoder.specs.Programs.{IsProgramOf};
 ghost use Rattle.office.specs.Limits.{most_loaded};
@@ -37,18 +38,27 @@ fn size_of(positions: u32) -> Option<Size>
     }
 }
 
+/// Adds some cards to a deck.
+fn push_cards(deck: &mut Deck, cards: &[Card]) -> Result<(), DeckFault>
+    ensures pushed { OnOk result (deck.new ≡ deck.old ++ cards.now) }
+    ensures full { IsErrOf result DeckFault.TooManyCards → largest_deck < length (deck.old ++ cards.now) }
+{
+    for card in cards {
+        deck.push(Card(card.0))?;
+    }
+    Ok(())
+}
+
 /// Another deck of the same cards.
 fn copy_of(alloc: Global, deck: &Deck) -> Result<Deck, NewFault>
     ensures copy { IfOk result (λ copy. copy ≡ deck.now) }
     ensures fault { IfErr result (λ fault. fault ≡ NewFault.NoMemory) }
 {
     let mut copy = Deck::empty(alloc);
-    for card in deck.cards() {
-        if copy.push(Card(card.0)).is_err() {
-            return Err(NewFault::NoMemory);
-        }
+    match push_cards(&mut copy, deck.cards()) {
+        Ok(()) => Ok(copy),
+        Err(_) => Err(NewFault::NoMemory),
     }
-    Ok(copy)
 }
 
 /// The data cards: those after the source.
