@@ -66,7 +66,9 @@ pub enum Command {
         command: JobCommand,
     },
     /// The jobs of a customer, by number.
-    Jobs { customer: String },
+    Jobs {
+        customer: String,
+    },
     /// All jobs that are running and not held, by customer and then by number.
     Queue,
 }

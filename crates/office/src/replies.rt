@@ -8,9 +8,14 @@ use crate::standings::{JobStanding, Summary};
 #[derive(Drop)]
 pub enum Reply {
     /// The job was taken: so many cards are loaded.
-    Taken { cards: u32 },
+    Taken {
+        cards: u32,
+    },
     /// So many instructions were executed, and so the machine stands.
-    Ran { executed: u32, standing: JobStanding },
+    Ran {
+        executed: u32,
+        standing: JobStanding,
+    },
     /// The job goes on from its halt.
     Started,
     /// The job is held.
@@ -18,7 +23,10 @@ pub enum Reply {
     /// The job is held no more.
     Released,
     /// The job was collected: it has made so many cards and lines.
-    Collected { cards: u32, lines: u32 },
+    Collected {
+        cards: u32,
+        lines: u32,
+    },
     /// How the job stands.
     Standing(Summary),
     /// The cards that the job has punched.

@@ -16,8 +16,7 @@ B342.                                  L006361,360361N000000N0000001040
 ";
 
 /// The source of the same program.
-const SOURCE_THAT_PRINTS: &str = "\
-               CS   332
+const SOURCE_THAT_PRINTS: &str = "               CS   332
                CS
                SW   001
      READ      R
@@ -30,15 +29,13 @@ const SOURCE_THAT_PRINTS: &str = "\
 ";
 
 /// A source of which each card has a fault; the second is the first for its operand.
-const FAULTY_SOURCE: &str = "\
-               XYZ
+const FAULTY_SOURCE: &str = "               XYZ
                B    LOST
      *
 ";
 
 /// A source that fills all but the whole storage.
-const LARGE_SOURCE: &str = "\
-               DCW  #3600
+const LARGE_SOURCE: &str = "               DCW  #3600
                H
                END
 ";
@@ -52,7 +49,13 @@ const TWO_CARDS: &str = "HELLO\nWORLD\n";
 fn handed_in(name: &str) -> Option<(Kind, u32, Switches, &'static str, &'static str)> {
     let (kind, size, switches, program, data) = match name {
         "two lines" => (Kind::Object, 4000, Switches::A, PRINTS_EACH_CARD, TWO_CARDS),
-        "two lines of a source" => (Kind::Autocoder, 4000, Switches::A, SOURCE_THAT_PRINTS, TWO_CARDS),
+        "two lines of a source" => (
+            Kind::Autocoder,
+            4000,
+            Switches::A,
+            SOURCE_THAT_PRINTS,
+            TWO_CARDS,
+        ),
         "three cards" => (Kind::Object, 1400, Switches::empty(), PUNCHES_THREE, ""),
         "another size" => (Kind::Object, 4001, Switches::empty(), PUNCHES_THREE, ""),
         "no card of another size" => (Kind::Autocoder, 0, Switches::empty(), "", ""),

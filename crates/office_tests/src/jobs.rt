@@ -55,11 +55,7 @@ collected 3 0|collect
 
 /// How a sheet is answered by a job: the first line that is answered otherwise, or else nothing;
 /// and how many instructions were attempted.
-fn told_by(
-    alloc: Global,
-    job: &mut Job<FlagCore>,
-    sheet: &'static str,
-) -> Result<String, Fail> {
+fn told_by(alloc: Global, job: &mut Job<FlagCore>, sheet: &'static str) -> Result<String, Fail> {
     let mut meter = Meter::new();
     let line = misanswered(alloc, job, &mut meter, sheet)?;
     Ok(format!(in alloc; "{line}{} ticks", meter.ticks())?)
@@ -101,7 +97,10 @@ fn printed_by_new(alloc: Global, name: &str) -> Result<String, Fail> {
 #[test]
 fn sources_print_as_their_programs(rt: HostRuntime) -> Result<(), Fail> {
     for name in ["two lines", "two lines of a source"] {
-        assert_eq!(rt; printed_by_new(rt.alloc(), name)?.as_str(), "HELLO\nWORLD\n");
+        assert_eq!(rt;
+            printed_by_new(rt.alloc(), name)?.as_str(),
+            "HELLO\nWORLD\n"
+        );
     }
     Ok(())
 }

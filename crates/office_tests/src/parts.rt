@@ -62,11 +62,7 @@ fn parts_with(alloc: Global, switches: u8, granted: u32) -> Result<JobParts<Flag
 }
 
 /// How a job answers a sheet.
-fn told_by(
-    alloc: Global,
-    job: &mut Job<FlagCore>,
-    sheet: &'static str,
-) -> Result<String, Fail> {
+fn told_by(alloc: Global, job: &mut Job<FlagCore>, sheet: &'static str) -> Result<String, Fail> {
     let mut meter = Meter::new();
     let line = misanswered(alloc, job, &mut meter, sheet)?;
     Ok(format!(in alloc; "{line}{} ticks", meter.ticks())?)
