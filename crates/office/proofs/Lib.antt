@@ -8,3 +8,5 @@ pub mod Needed
 pub mod Commanding
 pub mod Lasting
 pub mod Keeping
+pub mod Ordered
+pub mod Repeating

@@ -1,5 +1,6 @@
 -- the office: the jobs of all customers, and what commands make of it
 use Rattle.std.specs.Prelude.{◌≡◌, ℕ, ◌≤◌, nat_le, ◌==◌, ◌&&◌, not, Bool, true, false, List, [], ◌∷◌, ◌++◌, length, map, filter, find, take as beginning_of, flat_map, if◌then◌else◌, bytes_eq, Option, Some, None, option_map, Result, Ok, Err, string_bytes}
+use Rattle.std.specs.List.{AllByRecursion}
 use Rattle.std.specs.declared.cmp.Ordering.{Ordering}
 use Rattle.std.specs.Cmp.Lexicographic.{slice_cmp}
 use Rattle.std.specs.Ordering.{nat_cmp, ordering_then}
@@ -55,6 +56,11 @@ job_of customer number office = option_map (λ e. e.job) (entry_of customer numb
 -- a customer's own part of the office
 abbrev pub own : List ℕ → Office → Office
 own customer = filter (λ e. bytes_eq e.customer customer)
+
+-- no two jobs have one name
+abbrev pub AreDistinct : Office → Type 0
+AreDistinct [] = Unit {0}
+AreDistinct (e ∷ office) = AllByRecursion (λ f. is_entry e.customer e.number f ≡ false) office × AreDistinct office
 
 -- another job in the place of the one of this name
 abbrev pub with_job : List ℕ → ℕ → Job → Office → Office
@@ -137,9 +143,17 @@ queued_job e = record { customer = e.customer; number = e.number }
 abbrev pub by_name : Entry → Entry → Ordering
 by_name a b = ordering_then (slice_cmp nat_cmp a.customer b.customer) (nat_cmp a.number b.number)
 
+-- the jobs that are not held
+abbrev pub free_jobs : Office → Office
+free_jobs = filter (λ e. not e.job.held)
+
+-- the machine of a job has something left to run
+abbrev pub runs : Entry → Bool
+runs e = is_running (picture e.job).standing
+
 -- the jobs that are not held, by name, and of these the running
 abbrev pub queue_told : Office → List QueuedJob
-queue_told office = map queued_job (filter (λ e. is_running (picture e.job).standing) (in_order by_name (filter (λ e. not e.job.held) office)))
+queue_told office = map queued_job (filter runs (in_order by_name (free_jobs office)))
 
 -- ---- any command
 

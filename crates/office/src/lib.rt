@@ -19,6 +19,7 @@ mod laws;
 mod lists;
 mod making;
 mod names;
+mod offices;
 mod refusals;
 mod replies;
 mod standings;
@@ -36,6 +37,7 @@ pub use laws::{
 pub use lists::{JobLine, JobList, Listing, PunchedCards, QueueLine, QueueList, SourceFaults};
 pub use making::{NewFault, new_job};
 pub use names::{is_customer, is_limit, is_number};
+pub use offices::{lists_are_in_order, submissions_repeat};
 pub use refusals::Refusal;
 pub use replies::Reply;
 pub use standings::{JobStanding, Summary};
