@@ -12,7 +12,7 @@ use Rattle.machine.specs.Run.{State, after, started, loaded}
 use Rattle.units.specs.Switches.{seven}
 use Rattle.units.specs.declared.switches.Switches.{Switches}
 use Rattle.office.specs.Jobs.{Job, loaded_of, loaded_deck, resumed, all_off, beginning, picture, IsAtHalt, HaltsBetween, IsJob}
-use Rattle.office.specs.Kept.{kept_of, summary_of, job_refusal, changed_job, job_unless, job_after, IsJobInRange}
+use Rattle.office.specs.Kept.{Kept, kept_of, summary_of, job_refusal, changed_job, job_unless, job_after, IsJobInRange}
 use Rattle.office.specs.New.{size_numbered, faults_in, refusal_for, deck_refusal, new_job, job_unless_refused, job_of_size, job_or_refusal}
 use Rattle.office.specs.declared.commands.Contents.{Contents}
 use Rattle.office.specs.declared.commands.Kind.{Kind}
@@ -62,6 +62,16 @@ by_size contents job (Some size) is deck loaded = by_refusal size contents job (
 pub new_jobs_are : (contents : Contents) (job : Job) → job_or_refusal contents ≡ Ok job → IsDeck contents.deck → IsDeck (loaded_deck job) → IsJob job
 new_jobs_are contents job is deck loaded = by_size contents job (size_numbered contents.size) is deck loaded
 
+-- what is handed in and not refused is taken as this job
+pub taken_as : (size : Size) (contents : Contents) → size_numbered contents.size ≡ Some size → deck_refusal contents.kind contents.deck ≡ None → job_or_refusal contents ≡ Ok (new_job size contents)
+taken_as size contents sized none = ap (job_of_size contents) sized ∙ ap (job_unless_refused size contents) none
+
+-- its machine has loaded the deck and done nothing
+pub kept_as : (size : Size) (contents : Contents) (deck : List Card) → deck ≡ loaded_of contents.kind contents.deck
+    → ◌≡◌ {A = Kept} (record { stretches = (record { switches = seven contents.switches; granted = 0 }) ∷ []; held = false; collected = false; machine = loaded deck size (seven contents.switches) }) (kept_of (new_job size contents))
+unfolding resumed after
+kept_as size contents deck is = ap (λ (d : List Card). let k : Kept = record { stretches = (record { switches = seven contents.switches; granted = 0 }) ∷ []; held = false; collected = false; machine = loaded d size (seven contents.switches) } in k) is
+
 -- ---- after a command
 
 stays : (c : JobCommand) (job : Job) → job_refusal c (summary_of (kept_of job)) ≡ None → IsJob job → IsJob (changed_job c job)
@@ -106,7 +116,7 @@ StartsInRange = (m : State) (switches : Switches) → IsInRange m → IsInRange 
 abbrev pub LoadsInRange : Type 0
 LoadsInRange = (deck : List Card) (size : Size) (switches : Switches) → 0 < length deck → IsInRange (loaded deck size switches)
 
-some_loaded : (kind : Kind) (deck : List Card) → 0 < length deck → 0 < length (loaded_of kind deck)
+pub some_loaded : (kind : Kind) (deck : List Card) → 0 < length deck → 0 < length (loaded_of kind deck)
 unfolding loading_cards
 some_loaded Object deck some = some
 some_loaded Autocoder deck some = omega arith

@@ -2,6 +2,7 @@
 use Rattle.std.proofs.Common.{◌≡◌, ℕ, true, ltb, zero, suc, ◌+◌, ◌-◌, ◌%◌, ◌<◌, ◌≤◌, List, [], ◌∷◌, ◌++◌, length, get_or, set, take, drop, refl, sym, ap, ◌∙◌, arith, length-append}
 use Rattle.std.specs.List.{All, sum_by}
 use Rattle.std.proofs.lemmas.List.Elements.{All-nil, All-cons, All-head, All-tail, All-push}
+use Rattle.std.proofs.lemmas.List.{take-append-le, take_all}
 use Rattle.std.proofs.lemmas.List.Sums.{sum_by-cons, sum_by_push, get_or-le-sum_by}
 use Rattle.units.specs.declared.switches.Switches.{Switches}
 use Rattle.units.specs.Switches.{seven, AreSeven}
@@ -89,3 +90,9 @@ first_fits switches seven = record {
 
 pub seven_are : (s : Switches) → AreSeven (seven s)
 seven_are s = omega arith
+
+-- what was granted in place is the list with more
+pub put_back : (items new rest : List Stretch) (n limit : ℕ) → n ≡ length items → new ≡ granted_more limit items → take n (new ++ rest) ≡ granted_more limit items
+put_back items new rest n limit whole is =
+    let long : length new ≡ length items = ap length is ∙ length-granted_more limit items in
+    take-append-le n new rest (omega arith) ∙ take_all n new (omega arith) ∙ is

@@ -7,6 +7,7 @@ pub mod OfSources
 pub mod Needed
 pub mod Commanding
 pub mod Lasting
+pub mod Meters
 pub mod Keeping
 pub mod Ordered
 pub mod Repeating

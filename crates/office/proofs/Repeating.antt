@@ -1,14 +1,17 @@
 -- Jobs among others, and what is handed in again.
 use Rattle.std.proofs.Common.{◌≡◌, ℕ, ◌≤◌, nat_le, ◌==◌, ◌%◌, ◌&&◌, bytes_eq, List, [], ◌∷◌, ◌++◌, length, find, Bool, true, false, if◌then◌else◌, Option, None, Some, Result, Ok, Err, refl, sym, ap, subst, ◌∙◌, true≢false, arith}
 use Rattle.std.specs.List.{AllByRecursion}
-use Rattle.std.specs.Prelude.{String, string_bytes}
+use Rattle.std.specs.Prelude.{string_bytes}
 use Rattle.std.proofs.lemmas.Bool.Decides.{nat_tests}
 use Rattle.std.proofs.lemmas.Slice.Eq.{bytes_eq-Decides}
 use Rattle.core_store.specs.Storage.{positions_of}
 use Rattle.core_store.specs.declared.sizes.Size.{Size}
 use Rattle.core_store.specs.declared.sizes.Size.TheVariants.{Positions1400, Positions2000, Positions4000}
 use Rattle.units.specs.Switches.{seven}
-use Rattle.office.specs.declared.commands.Command.TheVariants.{Submit}
+use Rattle.office.specs.declared.commands.Command.{Command}
+use Rattle.office.specs.declared.commands.Command.TheVariants.{Submit, Job as OnJob, Jobs, Queue}
+use Rattle.office.specs.declared.commands.JobCommand.{JobCommand}
+use Rattle.office.specs.declared.commands.JobCommand.TheVariants.{Slice, Start, Hold, Release, Collect, Standing as Tell, Cards, Lines}
 use Rattle.office.specs.declared.commands.Contents.{Contents}
 use Rattle.office.specs.declared.commands.Kind.{Kind}
 use Rattle.office.specs.declared.commands.Kind.TheVariants.{Object, Autocoder}
@@ -17,8 +20,9 @@ use Rattle.office.specs.declared.replies.Reply.{Reply}
 use Rattle.office.specs.declared.replies.Reply.TheVariants as reply
 use Rattle.office.specs.Limits.{most_jobs}
 use Rattle.office.specs.Jobs.{Job, loaded_deck}
+use Rattle.office.specs.Kept.{Kept, kept_of, summary_of, job_refusal, answered, taken_unless, take_kept}
 use Rattle.office.specs.New.{size_numbered, deck_refusal, new_job, job_unless_refused, job_of_size, job_or_refusal}
-use Rattle.office.specs.Office.{Entry, Office, is_entry, entry_of, job_of, own, added, submitted_as, began_with, is_same_kind, deck_bytes, is_of, repeated, submitted, name_refusal, early_refusal, taken, take}
+use Rattle.office.specs.Office.{Entry, Office, is_entry, entry_of, job_of, own, added, submitted_as, began_with, is_same_kind, deck_bytes, is_of, repeated, submitted, commanded, early_refusal, served, taken, take}
 
 this_name : (customer : List ℕ) (number : ℕ) (job : Job) → is_entry customer number (record { customer = customer; number = number; job = job }) ≡ true
 this_name customer number job =
@@ -29,11 +33,12 @@ this_name customer number job =
 -- a job that was added is found by its name
 pub found_added : (customer : List ℕ) (number : ℕ) (job : Job) (office : Office) → job_of customer number office ≡ None → job_of customer number (office ++ (record { customer = customer; number = number; job = job }) ∷ []) ≡ Some job
 found_added customer number job [] none = rw (this_name customer number job)
-found_added customer number job (e ∷ office) none = go (is_entry customer number e) refl
+found_added customer number job (e ∷ office) none = go (is_entry customer number e) refl (found_added customer number job office)
   where
-    go : (b : Bool) → is_entry customer number e ≡ b → job_of customer number (e ∷ office ++ (record { customer = customer; number = number; job = job }) ∷ []) ≡ Some job
-    go true this = absurd (let found = rw this at none in cc)
-    go false other = rw other (found_added customer number job office (rw other at none))
+    go : (b : Bool) → is_entry customer number e ≡ b → (job_of customer number office ≡ None → job_of customer number (office ++ (record { customer = customer; number = number; job = job }) ∷ []) ≡ Some job)
+        → job_of customer number (e ∷ office ++ (record { customer = customer; number = number; job = job }) ∷ []) ≡ Some job
+    go true this rest = absurd (let found = rw this at none in cc)
+    go false other rest = rw other (rest (rw other at none))
 
 -- ---- the contents of a new job
 
@@ -86,12 +91,38 @@ module _ (customer : List ℕ) (number : ℕ) (contents : Contents) (office : Of
   by_job (Some job) at told = rw at (ap (λ (r : Reply). let p : Office × Reply = (office, r) in p) told)
   by_job None at told = by_new (job_or_refusal contents) refl at told
 
--- the reply is that of the first, and nothing changes
-pub submitted_twice : (customer : String) (number : ℕ) (contents : Contents) (office : Office) (cards : ℕ) → (take (Submit customer number contents) office).1 ≡ reply.Taken cards
-    → take (Submit customer number contents) (take (Submit customer number contents) office).0 ≡ ((take (Submit customer number contents) office).0, reply.Taken cards)
-submitted_twice customer number contents office cards = go (early_refusal (Submit customer number contents))
+-- what is said of a command on a job is never that one was taken
+not_taken : (c : JobCommand) (k : Kept) (cards : ℕ) → (take_kept c k).1 ≡ reply.Taken cards → ⊥
+not_taken c k cards = go (job_refusal c (summary_of k))
   where
-    go : (o : Option Refusal) → (taken (Submit customer number contents) office o).1 ≡ reply.Taken cards
-        → taken (Submit customer number contents) (taken (Submit customer number contents) office o).0 o ≡ ((taken (Submit customer number contents) office o).0, reply.Taken cards)
+    go : (o : Option Refusal) → (taken_unless c k o).1 ≡ reply.Taken cards → ⊥
+    go (Some reason) told = let e = told in cc
+    go None told = answer c told
+      where
+        answer : (c : JobCommand) → answered c k ≡ reply.Taken cards → ⊥
+        answer (Slice limit) told = let e = told in cc
+        answer (Start switches) told = let e = told in cc
+        answer Hold told = let e = told in cc
+        answer Release told = let e = told in cc
+        answer Collect told = let e = told in cc
+        answer Tell told = let e = told in cc
+        answer Cards told = let e = told in cc
+        answer Lines told = let e = told in cc
+
+not_commanded : (customer : List ℕ) (number : ℕ) (c : JobCommand) (office : Office) (cards : ℕ) (j : Option Job) → (commanded customer number c office j).1 ≡ reply.Taken cards → ⊥
+not_commanded customer number c office cards None told = let e = told in cc
+not_commanded customer number c office cards (Some job) told = not_taken c (kept_of job) cards told
+
+-- the reply is that of the first, and nothing changes
+served_twice : (command : Command) (office : Office) (cards : ℕ) → (served command office).1 ≡ reply.Taken cards → served command (served command office).0 ≡ ((served command office).0, reply.Taken cards)
+served_twice (Submit customer number contents) office cards told = by_job (string_bytes customer) number contents office cards (job_of (string_bytes customer) number office) refl told
+served_twice (OnJob customer number c) office cards told = absurd (not_commanded (string_bytes customer) number c office cards (job_of (string_bytes customer) number office) told)
+served_twice (Jobs customer) office cards told = absurd (let e = told in cc)
+served_twice Queue office cards told = absurd (let e = told in cc)
+
+pub taken_twice : (command : Command) (office : Office) (cards : ℕ) → (take command office).1 ≡ reply.Taken cards → take command (take command office).0 ≡ ((take command office).0, reply.Taken cards)
+taken_twice command office cards = go (early_refusal command)
+  where
+    go : (o : Option Refusal) → (taken command office o).1 ≡ reply.Taken cards → taken command (taken command office o).0 o ≡ ((taken command office o).0, reply.Taken cards)
     go (Some reason) told = absurd (let e = told in cc)
-    go None told = by_job (string_bytes customer) number contents office cards (job_of (string_bytes customer) number office) refl told
+    go None told = served_twice command office cards told

@@ -6,7 +6,7 @@ ghost use Rattle.layout.specs.Source.{source_of};
 ghost use Rattle.autocoder.specs.Programs.{IsProgramOf};
 ghost use Rattle.office.specs.Limits.{most_loaded};
 ghost use Rattle.office.specs.Jobs.{data_after, loaded_of};
-ghost use Rattle.office.specs.New.{size_numbered, faults_in, deck_refusal, IsWhyNotLoaded, IsJobOf, IsWhyNot};
+ghost use Rattle.office.specs.New.{size_numbered, deck_refusal, IsWhyNotLoaded, IsTooLong, IsJobOf, IsWhyNot};
 
 use crate::commands::{Contents, Kind};
 use crate::jobs::Job;
@@ -122,7 +122,6 @@ fn deck_to_load(alloc: Global, kind: Kind, deck: &Deck) -> Result<Deck, NewFault
 
 /// The job of what is handed in. It is refused where there is no such size, or no card, or where
 /// the source has faults, or where what would be loaded has over 2,000 cards, in this order.
-#[tactic(auto, unfolding(crate::specs::Jobs::resumed, machine::specs::Run::after))]
 pub fn new_job<C: Core>(alloc: Global, contents: &Contents) -> Result<Job<C>, NewFault>
     ensures job { IfOk result (λ job. IsJobOf contents.now job) }
     ensures refused { IfErr result (λ fault. IsWhyNot contents.now fault) }

@@ -1,11 +1,10 @@
 //! The laws of whole offices.
 
-ghost use Rattle.std.specs.Prelude.{◌≡◌, ℕ, List, String};
+ghost use Rattle.std.specs.Prelude.{◌≡◌, ℕ, List};
 ghost use Rattle.std.specs.List.Sorted.{IsPermutation, IsStrictlySortedBy};
 ghost use Rattle.office.specs.Orders.{in_order};
 ghost use Rattle.office.specs.Office.{Office, AreDistinct, own, free_jobs, by_number, by_name, take};
 ghost use Rattle.office.specs.declared.commands.Command.{Command};
-ghost use Rattle.office.specs.declared.commands.Contents.{Contents};
 ghost use Rattle.office.specs.declared.replies.Reply.{Reply};
 
 /// The law of lists: a customer's jobs in order are these jobs, and the jobs that are not held in
@@ -17,9 +16,9 @@ pub fn lists_are_in_order()
     ensures free_rise { (office : Office) → AreDistinct office → IsStrictlySortedBy by_name (in_order by_name (free_jobs office)) }
 {}
 
-/// The law of submissions: one that was taken is answered alike when it comes again, and changes
-/// nothing.
+/// The law of submissions: one that was taken is answered alike when it comes again, and then it
+/// changes nothing.
 pub fn submissions_repeat()
-    ensures { (customer : String) (number : ℕ) (contents : Contents) (office : Office) (cards : ℕ) → (take (Command.Submit customer number contents) office).1 ≡ Reply.Taken cards →
-        take (Command.Submit customer number contents) (take (Command.Submit customer number contents) office).0 ≡ ((take (Command.Submit customer number contents) office).0, Reply.Taken cards) }
+    ensures { (command : Command) (office : Office) (cards : ℕ) → (take command office).1 ≡ Reply.Taken cards →
+        take command (take command office).0 ≡ ((take command office).0, Reply.Taken cards) }
 {}
