@@ -29,8 +29,11 @@ fn units_with(alloc: Global, deck: Deck) -> Units {
 /// A machine that has just loaded a deck.
 fn machine_with(alloc: Global, deck: Deck) -> Result<Parts<FlagCore>, Fail> {
     let mut core = FlagCore::blank(alloc, Size::Positions1400)?;
-    put_card(&mut core, deck.cards().first().ok_or("a card")?);
     core.set_mark(1);
+    put_card(&mut core, deck.cards().first().ok_or("a card")?);
+    if core.size() != 1400 {
+        Err("a size")?;
+    }
     Ok(Parts {
         core,
         registers: Registers {

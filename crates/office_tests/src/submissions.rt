@@ -17,7 +17,8 @@ pub(crate) fn job_of(alloc: Global, contents: &Contents) -> Result<Job<FlagCore>
 
 /// How many cards a job has loaded.
 fn loaded_by(alloc: Global, job: &Job<FlagCore>) -> Result<String, Fail> {
-    let cards = job.parts().machine.units.hopper.deck.cards().len();
+    let machine = job.parts().machine;
+    let cards = machine.units.hopper.deck.cards().len();
     Ok(format!(in alloc; "taken {cards}")?)
 }
 
