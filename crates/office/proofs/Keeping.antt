@@ -12,7 +12,7 @@ use Rattle.machine.specs.Run.{State, after, started, loaded}
 use Rattle.units.specs.Switches.{seven}
 use Rattle.units.specs.declared.switches.Switches.{Switches}
 use Rattle.office.specs.Jobs.{Job, loaded_of, loaded_deck, resumed, all_off, beginning, picture, IsAtHalt, HaltsBetween, IsJob}
-use Rattle.office.specs.Kept.{Kept, kept_of, summary_of, job_refusal, changed_job, job_unless, job_after, IsJobInRange}
+use Rattle.office.specs.Kept.{kept_of, loaded_kept, summary_of, job_refusal, changed_job, job_unless, job_after, IsJobInRange}
 use Rattle.office.specs.New.{size_numbered, faults_in, refusal_for, deck_refusal, new_job, job_unless_refused, job_of_size, job_or_refusal}
 use Rattle.office.specs.declared.commands.Contents.{Contents}
 use Rattle.office.specs.declared.commands.Kind.{Kind}
@@ -68,9 +68,9 @@ taken_as size contents sized none = ap (job_of_size contents) sized ∙ ap (job_
 
 -- its machine has loaded the deck and done nothing
 pub kept_as : (size : Size) (contents : Contents) (deck : List Card) → deck ≡ loaded_of contents.kind contents.deck
-    → ◌≡◌ {A = Kept} (record { stretches = (record { switches = seven contents.switches; granted = 0 }) ∷ []; held = false; collected = false; machine = loaded deck size (seven contents.switches) }) (kept_of (new_job size contents))
+    → loaded_kept deck size contents.switches ≡ kept_of (new_job size contents)
 unfolding resumed after
-kept_as size contents deck is = ap (λ (d : List Card). let k : Kept = record { stretches = (record { switches = seven contents.switches; granted = 0 }) ∷ []; held = false; collected = false; machine = loaded d size (seven contents.switches) } in k) is
+kept_as size contents deck is = ap (λ (d : List Card). loaded_kept d size contents.switches) is
 
 -- ---- after a command
 

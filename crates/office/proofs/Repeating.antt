@@ -18,11 +18,10 @@ use Rattle.office.specs.declared.commands.Kind.TheVariants.{Object, Autocoder}
 use Rattle.office.specs.declared.refusals.Refusal.{Refusal}
 use Rattle.office.specs.declared.replies.Reply.{Reply}
 use Rattle.office.specs.declared.replies.Reply.TheVariants as reply
-use Rattle.office.specs.Limits.{most_jobs}
 use Rattle.office.specs.Jobs.{Job, loaded_deck}
 use Rattle.office.specs.Kept.{Kept, kept_of, summary_of, job_refusal, answered, taken_unless, take_kept}
 use Rattle.office.specs.New.{size_numbered, deck_refusal, new_job, job_unless_refused, job_of_size, job_or_refusal}
-use Rattle.office.specs.Office.{Entry, Office, is_entry, entry_of, job_of, own, added, submitted_as, began_with, is_same_kind, deck_bytes, is_of, repeated, submitted, commanded, early_refusal, served, taken, take}
+use Rattle.office.specs.Office.{Entry, Office, is_entry, entry_of, job_of, has_most_jobs, and_job, added, submitted_as, began_with, is_same_kind, deck_bytes, is_of, repeated, submitted, commanded, early_refusal, served, taken, take}
 
 this_name : (customer : List ℕ) (number : ℕ) (job : Job) → is_entry customer number (record { customer = customer; number = number; job = job }) ≡ true
 this_name customer number job =
@@ -73,7 +72,7 @@ of_size contents job (Some size) at is = of_refusal size contents job (deck_refu
 -- ---- the same submission twice
 
 module _ (customer : List ℕ) (number : ℕ) (contents : Contents) (office : Office) (cards : ℕ) where
-  by_room : (job : Job) (b : Bool) → nat_le most_jobs (length (own customer office)) ≡ b → job_of customer number office ≡ None → is_of contents job ≡ true → (added customer number office job).1 ≡ reply.Taken cards
+  by_room : (job : Job) (b : Bool) → has_most_jobs customer office ≡ b → job_of customer number office ≡ None → is_of contents job ≡ true → (added customer number office job).1 ≡ reply.Taken cards
       → submitted customer number contents (added customer number office job).0 (job_of customer number (added customer number office job).0) ≡ ((added customer number office job).0, reply.Taken cards)
   by_room job true full none is told = absurd (let e = rw full at told in cc)
   by_room job false room none is told =
@@ -84,7 +83,7 @@ module _ (customer : List ℕ) (number : ℕ) (contents : Contents) (office : Of
   by_new : (r : Result Job Refusal) → job_or_refusal contents ≡ r → job_of customer number office ≡ None → (submitted_as customer number office r).1 ≡ reply.Taken cards
       → submitted customer number contents (submitted_as customer number office r).0 (job_of customer number (submitted_as customer number office r).0) ≡ ((submitted_as customer number office r).0, reply.Taken cards)
   by_new (Err reason) at none told = absurd (let e = told in cc)
-  by_new (Ok job) at none told = by_room job (nat_le most_jobs (length (own customer office))) refl none (of_size contents job (size_numbered contents.size) refl at) told
+  by_new (Ok job) at none told = by_room job (has_most_jobs customer office) refl none (of_size contents job (size_numbered contents.size) refl at) told
 
   by_job : (j : Option Job) → job_of customer number office ≡ j → (submitted customer number contents office j).1 ≡ reply.Taken cards
       → submitted customer number contents (submitted customer number contents office j).0 (job_of customer number (submitted customer number contents office j).0) ≡ ((submitted customer number contents office j).0, reply.Taken cards)

@@ -41,7 +41,9 @@ data_after deck = drop (length (source_of deck)) deck
 -- an object deck itself, or the cards that load the program of a source and then its data
 abbrev pub loaded_of : Kind → List Card → List Card
 loaded_of Object deck = deck
-loaded_of Autocoder deck = loading_cards (image_for (source_of deck)) (start_for (source_of deck)) ++ data_after deck
+loaded_of Autocoder deck =
+    let source : List Card = source_of deck in
+    loading_cards (image_for source) (start_for source) ++ data_after deck
 
 -- the deck that a job's machine loads
 abbrev pub loaded_deck : Job → List Card
@@ -49,7 +51,8 @@ loaded_deck job = loaded_of job.kind job.deck
 
 -- ---- where a job's machine is
 
--- the machine through its stretches: each time it is started with the switches, and runs for what was granted
+-- the machine through its stretches: each time it is started with the switches, and runs for what
+-- was granted
 unfoldable pub resumed : State → List Stretch → State
 resumed m [] = m
 resumed m (s ∷ stretches) = resumed (after (started m s.switches) s.granted) stretches
@@ -129,10 +132,20 @@ started_job switches job = record job { stretches = one_more switches job.stretc
 abbrev pub switches_of : Job → List Switches
 switches_of job = map (λ s. s.switches) job.stretches
 
--- a job has made the cards and lines of the whole run from this beginning with the job's starts, and that run makes no others
+-- the cards that a job has punched
+abbrev pub cards_by : Job → List Card
+cards_by job = (picture job).works.units.punch
+
+-- the lines that a job has printed
+abbrev pub lines_by : Job → List Line
+lines_by job = lines_of (picture job)
+
+-- a job has made the cards and lines of the whole run from this beginning with the job's starts,
+-- and that run makes no others
 pub record HasRunWhole (begin : Switches → State) (job : Job) : Type 0 where
-  pub holds : Whole begin (switches_of job) (picture job).works.units.punch (lines_of (picture job))
-  pub only : (cards : List Card) (lines : List Line) → Whole begin (switches_of job) cards lines → (cards ≡ (picture job).works.units.punch) × (lines ≡ lines_of (picture job))
+  pub holds : Whole begin (switches_of job) (cards_by job) (lines_by job)
+  pub only : (cards : List Card) (lines : List Line) → Whole begin (switches_of job) cards lines →
+      (cards ≡ cards_by job) × (lines ≡ lines_by job)
 
 -- a job's source has no faults, and its machine is as large as the source says, or larger
 pub record CanRunItsSource (job : Job) : Type 0 where
@@ -142,8 +155,20 @@ pub record CanRunItsSource (job : Job) : Type 0 where
 
 -- the machine at the start of the program of a deck's source, the data after the source unread
 abbrev pub program_begun : List Card → Size → Switches → State
-program_begun deck size switches = at_the_start (image_for (source_of deck)) (start_for (source_of deck)) (data_after deck) size switches
+program_begun deck size switches =
+    let source : List Card = source_of deck in
+    at_the_start (image_for source) (start_for source) (data_after deck) size switches
 
--- what an office owes each of its jobs: one that stands at a halt has run whole from the load button, and from the start of its program if it can run its source
+-- a job has run whole from the load button
+abbrev pub HasRunFromItsDeck : Job → Type 0
+HasRunFromItsDeck job = HasRunWhole (loaded (loaded_deck job) job.size) job
+
+-- a job has run whole from the start of its source's program
+abbrev pub HasRunFromItsSource : Job → Type 0
+HasRunFromItsSource job = HasRunWhole (program_begun job.deck job.size) job
+
+-- what an office owes each of its jobs: one that stands at a halt has run whole from the load
+-- button, and from the start of its program if it can run its source
 abbrev pub RunsWhole : Job → Type 0
-RunsWhole job = IsAtHalt job → HasRunWhole (loaded (loaded_deck job) job.size) job × (CanRunItsSource job → HasRunWhole (program_begun job.deck job.size) job)
+RunsWhole job =
+    IsAtHalt job → HasRunFromItsDeck job × (CanRunItsSource job → HasRunFromItsSource job)

@@ -1,11 +1,14 @@
 -- a job as its machine's picture and its stretches show it, and what a command makes of it
-use Rattle.std.specs.Prelude.{◌≡◌, ℕ, ◌+◌, ◌&&◌, nat_lt, Bool, true, false, not, List, length, Option, Some, None, if◌then◌else◌}
+use Rattle.std.specs.Prelude.{◌≡◌, ℕ, ◌+◌, ◌&&◌, nat_lt, Bool, true, false, not, List, [], length, Option, Some, None, if◌then◌else◌}
+use Rattle.cards.specs.declared.decks.Card.{Card}
+use Rattle.core_store.specs.declared.sizes.Size.{Size}
 use Rattle.machine.specs.Ranges.{IsInRange}
-use Rattle.machine.specs.Run.{State, after, attempts, executed, lines_of, started}
+use Rattle.machine.specs.Run.{State, loaded, after, attempts, executed, lines_of, started}
 use Rattle.machine.specs.declared.parts.Standing.{Standing}
 use Rattle.machine.specs.declared.parts.Standing.TheVariants as standing
 use Rattle.units.specs.Switches.{seven}
 use Rattle.units.specs.Units.{Makes}
+use Rattle.units.specs.declared.switches.Switches.{Switches}
 use Rattle.office.specs.Limits.{most_granted}
 use Rattle.office.specs.Jobs.{Job, picture, granted, granted_more, one_more, sliced_job, started_job, AreStretches}
 use Rattle.office.specs.declared.commands.JobCommand.{JobCommand}
@@ -33,6 +36,15 @@ kept_of job = record {
   held = job.held;
   collected = job.collected;
   machine = picture job;
+}
+
+-- a job whose machine has just loaded a deck
+abbrev pub loaded_kept : List Card → Size → Switches → Kept
+loaded_kept deck size switches = record {
+  stretches = one_more (seven switches) [];
+  held = false;
+  collected = false;
+  machine = loaded deck size (seven switches);
 }
 
 -- what may be kept of a job, wherever its machine is
@@ -154,7 +166,7 @@ answered (Slice limit) k = reply.Ran (executed k.machine limit) (told (after k.m
 answered (Start switches) k = reply.Started
 answered Hold k = reply.Held
 answered Release k = reply.Released
-answered Collect k = reply.Collected (length k.machine.works.units.punch) (length (lines_of k.machine))
+answered Collect k = reply.Collected (summary_of k).cards (summary_of k).lines
 answered Tell k = reply.Standing (summary_of k)
 answered Cards k = reply.Cards k.machine.works.units.punch
 answered Lines k = reply.Lines (lines_of k.machine)
@@ -179,6 +191,7 @@ changed_job Tell job = job
 changed_job Cards job = job
 changed_job Lines job = job
 
+-- a refusal changes nothing
 abbrev pub job_unless : JobCommand → Job → Option Refusal → Job
 job_unless c job (Some reason) = job
 job_unless c job None = changed_job c job
@@ -200,6 +213,7 @@ attempts_of Tell k = 0
 attempts_of Cards k = 0
 attempts_of Lines k = 0
 
+-- a refused command attempts nothing
 abbrev pub attempts_unless : JobCommand → Kept → Option Refusal → ℕ
 attempts_unless c k (Some reason) = 0
 attempts_unless c k None = attempts_of c k

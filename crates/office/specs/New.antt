@@ -9,7 +9,7 @@ use Rattle.autocoder.specs.Telling.{faults_of}
 use Rattle.autocoder.specs.declared.faults.CardFault.{CardFault}
 use Rattle.units.specs.Switches.{seven}
 use Rattle.office.specs.Limits.{most_loaded}
-use Rattle.office.specs.Jobs.{Job, loaded_of}
+use Rattle.office.specs.Jobs.{Job, loaded_of, one_more}
 use Rattle.office.specs.Kept.{Kept, kept_of}
 use Rattle.office.specs.declared.commands.Contents.{Contents}
 use Rattle.office.specs.declared.commands.Kind.{Kind}
@@ -32,11 +32,13 @@ abbrev pub faults_in : Kind → List Card → List CardFault
 faults_in Object deck = []
 faults_in Autocoder deck = faults_of (has_end (source_of deck)) (layout_for (source_of deck))
 
+-- the faults as a refusal, or what follows where there are none
 abbrev pub refusal_for : List CardFault → Option Refusal → Option Refusal
 refusal_for [] rest = rest
 refusal_for (fault ∷ faults) rest = Some (refusal.Assembly (fault ∷ faults))
 
--- why a deck is refused: it has no card, or its source has faults, or what is loaded has too many cards
+-- why a deck is refused: it has no card, or its source has faults, or what is loaded has too many
+-- cards
 abbrev pub deck_refusal : Kind → List Card → Option Refusal
 deck_refusal kind [] = Some refusal.Deck
 deck_refusal kind (card ∷ cards) =
@@ -60,18 +62,21 @@ new_job size contents = record {
   kind = contents.kind;
   size = size;
   deck = contents.deck;
-  stretches = (record { switches = seven contents.switches; granted = 0 }) ∷ [];
+  stretches = one_more (seven contents.switches) [];
   held = false;
   collected = false;
 }
 
+-- the job, unless its deck is refused
 abbrev pub job_unless_refused : Size → Contents → Option Refusal → Result Job Refusal
 job_unless_refused size contents (Some reason) = Err reason
 job_unless_refused size contents None = Ok (new_job size contents)
 
+-- the job with this size, if there is such a size
 abbrev pub job_of_size : Contents → Option Size → Result Job Refusal
 job_of_size contents None = Err refusal.Size
-job_of_size contents (Some size) = job_unless_refused size contents (deck_refusal contents.kind contents.deck)
+job_of_size contents (Some size) =
+    job_unless_refused size contents (deck_refusal contents.kind contents.deck)
 
 -- the job of what is handed in, or the first test that fails
 abbrev pub job_or_refusal : Contents → Result Job Refusal

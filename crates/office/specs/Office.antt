@@ -46,6 +46,7 @@ Office = List Entry
 abbrev pub is_entry : List ℕ → ℕ → Entry → Bool
 is_entry customer number e = bytes_eq e.customer customer && (e.number == number)
 
+-- the first entry of this name, if there is one
 abbrev pub entry_of : List ℕ → ℕ → Office → Option Entry
 entry_of customer number = find (is_entry customer number)
 
@@ -57,23 +58,38 @@ job_of customer number office = option_map (λ e. e.job) (entry_of customer numb
 abbrev pub own : List ℕ → Office → Office
 own customer = filter (λ e. bytes_eq e.customer customer)
 
+-- no job has this name
+abbrev pub IsFree : List ℕ → ℕ → Office → Type 0
+IsFree customer number = AllByRecursion (λ e. is_entry customer number e ≡ false)
+
 -- no two jobs have one name
 abbrev pub AreDistinct : Office → Type 0
 AreDistinct [] = Unit {0}
-AreDistinct (e ∷ office) = AllByRecursion (λ f. is_entry e.customer e.number f ≡ false) office × AreDistinct office
+AreDistinct (e ∷ office) = IsFree e.customer e.number office × AreDistinct office
 
 -- another job in the place of the one of this name
 abbrev pub with_job : List ℕ → ℕ → Job → Office → Office
-with_job customer number job = map (λ e. if is_entry customer number e then record e { job = job } else e)
+with_job customer number job =
+    map (λ e. if is_entry customer number e then record e { job = job } else e)
 
 -- ---- a submission
 
--- one job more, unless the customer has as many as one may have
+-- one job more, after the others
+abbrev pub and_job : List ℕ → ℕ → Job → Office → Office
+and_job customer number job office =
+    office ++ (record { customer = customer; number = number; job = job }) ∷ []
+
+-- the customer has as many jobs as one may have
+abbrev pub has_most_jobs : List ℕ → Office → Bool
+has_most_jobs customer office = nat_le most_jobs (length (own customer office))
+
+-- a job is taken, unless its customer has too many
 abbrev pub added : List ℕ → ℕ → Office → Job → Office × Reply
 added customer number office job =
-    if nat_le most_jobs (length (own customer office)) then (office, reply.Refused refusal.TooManyJobs) else
-    (office ++ (record { customer = customer; number = number; job = job }) ∷ [], reply.Taken (length (loaded_deck job)))
+    if has_most_jobs customer office then (office, reply.Refused refusal.TooManyJobs) else
+    (and_job customer number job office, reply.Taken (length (loaded_deck job)))
 
+-- a submission of which this became
 abbrev pub submitted_as : List ℕ → ℕ → Office → Result Job Refusal → Office × Reply
 submitted_as customer number office (Ok job) = added customer number office job
 submitted_as customer number office (Err reason) = (office, reply.Refused reason)
@@ -83,6 +99,7 @@ abbrev pub began_with : Switches → List Stretch → Bool
 began_with switches [] = false
 began_with switches (s ∷ stretches) = s.switches.0 == switches.0
 
+-- whether the kinds are one
 abbrev pub is_same_kind : Kind → Kind → Bool
 is_same_kind Object Object = true
 is_same_kind Object Autocoder = false
@@ -107,15 +124,19 @@ repeated contents job =
     if is_of contents job then reply.Taken (length (loaded_deck job)) else
     reply.Refused refusal.OtherContents
 
+-- a submission, where this is the job of that name so far
 abbrev pub submitted : List ℕ → ℕ → Contents → Office → Option Job → Office × Reply
-submitted customer number contents office None = submitted_as customer number office (job_or_refusal contents)
+submitted customer number contents office None =
+    submitted_as customer number office (job_or_refusal contents)
 submitted customer number contents office (Some job) = (office, repeated contents job)
 
 -- ---- a command on a job
 
+-- a command, where this is the job of that name
 abbrev pub commanded : List ℕ → ℕ → JobCommand → Office → Option Job → Office × Reply
 commanded customer number c office None = (office, reply.Refused refusal.NoJob)
-commanded customer number c office (Some job) = (with_job customer number (job_after c job) office, (take_kept c (kept_of job)).1)
+commanded customer number c office (Some job) =
+    (with_job customer number (job_after c job) office, (take_kept c (kept_of job)).1)
 
 -- ---- lists of jobs
 
@@ -128,6 +149,7 @@ job_line e = record {
   standing = told (picture e.job);
 }
 
+-- by number alone
 abbrev pub by_number : Entry → Entry → Ordering
 by_number a b = nat_cmp a.number b.number
 
@@ -164,25 +186,36 @@ name_refusal customer number =
     if not (is_number number) then Some refusal.Number else
     None
 
+-- a limit that no slice can have, after what is refused of the name
 abbrev pub limit_refusal : JobCommand → Option Refusal → Option Refusal
 limit_refusal c (Some reason) = Some reason
 limit_refusal (Slice limit) None = if is_limit limit then None else Some refusal.Limit
 limit_refusal c None = None
 
+-- a name that no customer can have
+abbrev pub customer_refusal : List ℕ → Option Refusal
+customer_refusal customer = if is_customer customer then None else Some refusal.Customer
+
 -- what is refused before any job is looked at
 abbrev pub early_refusal : Command → Option Refusal
 early_refusal (Submit customer number contents) = name_refusal (string_bytes customer) number
-early_refusal (OnJob customer number c) = limit_refusal c (name_refusal (string_bytes customer) number)
-early_refusal (Jobs customer) = if is_customer (string_bytes customer) then None else Some refusal.Customer
+early_refusal (OnJob customer number c) =
+    limit_refusal c (name_refusal (string_bytes customer) number)
+early_refusal (Jobs customer) = customer_refusal (string_bytes customer)
 early_refusal Queue = None
 
 -- a command that is not refused so early
 abbrev pub served : Command → Office → Office × Reply
-served (Submit customer number contents) office = submitted (string_bytes customer) number contents office (job_of (string_bytes customer) number office)
-served (OnJob customer number c) office = commanded (string_bytes customer) number c office (job_of (string_bytes customer) number office)
+served (Submit customer number contents) office =
+    let name : List ℕ = string_bytes customer in
+    submitted name number contents office (job_of name number office)
+served (OnJob customer number c) office =
+    let name : List ℕ = string_bytes customer in
+    commanded name number c office (job_of name number office)
 served (Jobs customer) office = (office, reply.Jobs (jobs_told (string_bytes customer) office))
 served Queue office = (office, reply.Queue (queue_told office))
 
+-- a refusal changes nothing
 abbrev pub taken : Command → Office → Option Refusal → Office × Reply
 taken command office (Some reason) = (office, reply.Refused reason)
 taken command office None = served command office
@@ -200,27 +233,32 @@ replied_first reply rest = (rest.0, reply ∷ rest.1)
 -- the office after a list of commands, and the replies
 unfoldable pub fold : List Command → Office → Office × List Reply
 fold [] office = (office, [])
-fold (command ∷ commands) office = replied_first (take command office).1 (fold commands (take command office).0)
+fold (command ∷ commands) office =
+    let done : Office × Reply = take command office in
+    replied_first done.1 (fold commands done.0)
 
 -- an office after a beginning of the commands that holds every acknowledged one
-pub record IsLeft (office : Office) (commands : List Command) (acknowledged : ℕ) (left : Office) : Type 0 where
-  pub carried_out : ℕ
-  pub holds_all : acknowledged ≤ carried_out
-  pub within : carried_out ≤ length commands
-  pub is : left ≡ (fold (beginning_of carried_out commands) office).0
+abbrev pub IsLeft : Office → List Command → ℕ → Office → Type 0
+IsLeft office commands acknowledged left =
+    (taken : ℕ) × (acknowledged ≤ taken) × (taken ≤ length commands)
+    × (left ≡ (fold (beginning_of taken commands) office).0)
 
 -- ---- what a command attempts
 
+-- what a command on a job attempts, if there is such a job
 abbrev pub attempted_of : JobCommand → Option Job → ℕ
 attempted_of c None = 0
 attempted_of c (Some job) = attempted_on c (kept_of job)
 
+-- what a command that is not refused early attempts
 abbrev pub attempted_by : Command → Office → ℕ
 attempted_by (Submit customer number contents) office = 0
-attempted_by (OnJob customer number c) office = attempted_of c (job_of (string_bytes customer) number office)
+attempted_by (OnJob customer number c) office =
+    attempted_of c (job_of (string_bytes customer) number office)
 attempted_by (Jobs customer) office = 0
 attempted_by Queue office = 0
 
+-- a refused command attempts nothing
 abbrev pub attempted_unless : Command → Office → Option Refusal → ℕ
 attempted_unless command office (Some reason) = 0
 attempted_unless command office None = attempted_by command office

@@ -19,8 +19,11 @@ use machine::runs_add;
 
 /// A machine that loads a program makes what one makes that begins at the program's start.
 pub fn programs_run_from_their_start()
-    ensures { (size : Size) (image : List Cell) (start : ℕ) (data_cards : List Card) (starts : List Switches) (cards : List Card) (lines : List Line) → IsLoadable (positions_of size) image start →
-        Whole (loaded (loading_cards image start ++ data_cards) size) starts cards lines ↔ Whole (at_the_start image start data_cards size) starts cards lines }
+    ensures { (size : Size) (image : List Cell) (start : ℕ) (data_cards : List Card)
+        (starts : List Switches) (cards : List Card) (lines : List Line) →
+        IsLoadable (positions_of size) image start →
+        Whole (loaded (loading_cards image start ++ data_cards) size) starts cards lines
+        ↔ Whole (at_the_start image start data_cards size) starts cards lines }
 {
     runs_add();
     stopped_machines_stay();

@@ -8,5 +8,6 @@ ghost use Rattle.office.specs.Sources.{image_for, start_for};
 
 /// Cards can load the program of a source without faults.
 pub fn faultless_sources_can_be_loaded()
-    ensures { (source : List Card) → IsFaultless source → IsLoadable (size_for source) (image_for source) (start_for source) }
+    ensures { (source : List Card) → IsFaultless source →
+        IsLoadable (size_for source) (image_for source) (start_for source) }
 {}

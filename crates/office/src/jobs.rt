@@ -1,17 +1,15 @@
 //! Jobs, and what commands make of them.
 
-ghost use Rattle.std.specs.Prelude.{◌≡◌, ◌<◌, [], ◌∷◌, length, Some, None, false, OnOk, OnErr, IfOk, IfSome, MatchOption};
-ghost use Rattle.machine.specs.Ranges.{IsInRange};
-ghost use Rattle.machine.specs.Run.{loaded, risen, attempts};
-ghost use Rattle.units.specs.Switches.{seven};
-ghost use Rattle.office.specs.Kept.{IsJobInRange, told, summary_of, job_refusal, changed, answered, take_kept, attempts_of, attempted_on, limit_of, MakesOn, MayWant};
+ghost use Rattle.std.specs.Prelude.{◌≡◌, ◌<◌, length, None, OnOk, OnErr, IfOk, IfSome, MatchOption};
+ghost use Rattle.machine.specs.Run.{risen};
+ghost use Rattle.office.specs.Kept.{IsJobInRange, loaded_kept, told, summary_of, job_refusal, changed, answered, take_kept, attempts_of, attempted_on, limit_of, MakesOn, MayWant};
 ghost use Rattle.office.specs.Meters.{RisenAtMost};
 
 use crate::commands::JobCommand;
 use crate::lists::{Listing, PunchedCards};
 use crate::replies::Reply;
 use crate::standings::{JobStanding, Summary};
-use crate::stretches::{Stretch, are_stretches, grant_more, granted};
+use crate::stretches::{Stretch, Stretches};
 use cards::{Card, Deck};
 use core_store::{Core, Size};
 use machine::{Machine, Meter, Parts, Standing};
@@ -22,21 +20,23 @@ use units::{Line, Switches};
 /// A job that commands work on: its stretches, its flags and its machine.
 #[derive(Drop)]
 pub struct Job<C: Core> {
-    stretches: Vec<Stretch>,
+    stretches: Stretches,
     held: bool,
     collected: bool,
     machine: Machine<C>,
 }
 
 impl<C: Core> Model for Job<C> {
-    ghost use Rattle.office.specs.Jobs.{AreStretches};
     ghost use Rattle.office.specs.Kept.{Kept};
 
     ghost Value = { Kept };
 
-    ghost view = { λ job. record { stretches = job.stretches.items; held = job.held; collected = job.collected; machine = job.machine } };
-
-    ghost invariant = { λ job. AreStretches job.stretches.items };
+    ghost view = { λ job. record {
+      stretches = job.stretches;
+      held = job.held;
+      collected = job.collected;
+      machine = job.machine;
+    } };
 }
 
 /// All that there is to know of a job between two calls.
@@ -54,7 +54,12 @@ impl<C: Core> Model for JobParts<C> {
 
     ghost Value = { Kept };
 
-    ghost view = { λ job. record { stretches = job.stretches.items; held = job.held; collected = job.collected; machine = job.machine } };
+    ghost view = { λ job. record {
+      stretches = job.stretches.items;
+      held = job.held;
+      collected = job.collected;
+      machine = job.machine;
+    } };
 }
 
 /// The parts of a job, as it shows them.
@@ -77,19 +82,6 @@ fn told<C: Core>(parts: &Parts<C>) -> JobStanding
         Standing::Halted => JobStanding::Halted { next: address },
         Standing::Checked(check) => JobStanding::Checked { check, at: address },
     }
-}
-
-/// One stretch, in which nothing is granted yet.
-fn first_stretch(alloc: Global, switches: Switches) -> Result<Vec<Stretch>, AllocError>
-    ensures { IfOk result (λ stretches. stretches.items ≡ (record { switches = switches; granted = 0 }) ∷ []) }
-{
-    let mut stretches = Vec::new(alloc);
-    stretches.try_reserve(1)?;
-    stretches.push_reserved(Stretch {
-        switches,
-        granted: 0,
-    });
-    Ok(stretches)
 }
 
 /// A copy of the cards.
@@ -119,16 +111,13 @@ impl<C: Core> Job<C> {
         switches: Switches,
     ) -> Result<Job<C>, AllocError>
         requires { 0 < length deck }
-        ensures { IfOk result (λ job. job ≡ record { stretches = (record { switches = seven switches; granted = 0 }) ∷ []; held = false; collected = false; machine = loaded deck size (seven switches) }) }
+        ensures { IfOk result (λ job. job ≡ loaded_kept deck size switches) }
     {
-        let switches = switches.seven();
-        let machine = Machine::load(alloc, deck, size, switches)?;
-        let stretches = first_stretch(alloc, switches)?;
         Ok(Job {
-            stretches,
+            stretches: Stretches::begun(alloc, switches)?,
             held: false,
             collected: false,
-            machine,
+            machine: Machine::load(alloc, deck, size, switches.seven())?,
         })
     }
 
@@ -137,7 +126,8 @@ impl<C: Core> Job<C> {
     /// for parts in range.
     pub fn from_parts(alloc: Global, parts: JobParts<C>) -> Result<Option<Job<C>>, AllocError>
         ensures job { IfOk result (λ made. IfSome made (λ job. job ≡ parts)) }
-        ensures in_range { IfOk result (λ made. MatchOption made (¬ IsJobInRange parts) (λ _. IsJobInRange parts)) }
+        ensures in_range { IfOk result (λ made.
+            MatchOption made (¬ IsJobInRange parts) (λ _. IsJobInRange parts)) }
         ensures memory { OnErr result (IsJobInRange parts) }
     {
         let JobParts {
@@ -146,9 +136,9 @@ impl<C: Core> Job<C> {
             collected,
             machine,
         } = parts;
-        if !are_stretches(&stretches) {
+        let Some(stretches) = Stretches::of_list(stretches) else {
             return Ok(None);
-        }
+        };
         let Some(machine) = Machine::from_parts(alloc, machine)? else {
             return Ok(None);
         };
@@ -169,7 +159,7 @@ impl<C: Core> Job<C> {
         ensures in_range { IsJobInRange self.now }
     {
         ShownJob {
-            stretches: &self.stretches,
+            stretches: self.stretches.list(),
             held: self.held,
             collected: self.collected,
             machine: self.machine.parts(),
@@ -185,7 +175,7 @@ impl<C: Core> Job<C> {
             standing: told(parts),
             held: self.held,
             collected: self.collected,
-            granted: granted(&self.stretches),
+            granted: self.stretches.granted(),
             cards: parts.units.punch.cards.len() as u32,
             lines: parts.units.printer.lines.len() as u32,
         }
@@ -196,13 +186,15 @@ impl<C: Core> Job<C> {
         requires { job_refusal (JobCommand.Slice limit) (summary_of self.old) ≡ None }
         ensures reply { IfOk result (λ reply. reply ≡ answered (JobCommand.Slice limit) self.old) }
         ensures job { OnOk result (self.new ≡ changed (JobCommand.Slice limit) self.old) }
-        ensures meter { OnOk result (meter.new ≡ risen meter.old (attempts self.old.machine limit)) }
+        ensures meter { OnOk result
+            (meter.new ≡ risen meter.old (attempts_of (JobCommand.Slice limit) self.old)) }
         ensures unchanged { OnErr result (self.new ≡ self.old) }
         ensures memory { OnErr result (MakesOn (JobCommand.Slice limit) self.old) }
-        ensures given_up { OnErr result (RisenAtMost (attempts self.old.machine limit) meter.old meter.new) }
+        ensures given_up { OnErr result
+            (RisenAtMost (attempts_of (JobCommand.Slice limit) self.old) meter.old meter.new) }
     {
         let ran = self.machine.run(limit, meter)?;
-        grant_more(&mut self.stretches, limit);
+        self.stretches.grant(limit);
         Ok(Reply::Ran {
             executed: ran.executed,
             standing: told(self.machine.parts()),
@@ -212,17 +204,13 @@ impl<C: Core> Job<C> {
     /// Goes on from a halt, with the switches set anew.
     fn start(&mut self, switches: Switches) -> Result<Reply, AllocError>
         requires { job_refusal (JobCommand.Start switches) (summary_of self.old) ≡ None }
-        ensures reply { IfOk result (λ reply. reply ≡ answered (JobCommand.Start switches) self.old) }
+        ensures reply { IfOk result (λ reply.
+            reply ≡ answered (JobCommand.Start switches) self.old) }
         ensures job { OnOk result (self.new ≡ changed (JobCommand.Start switches) self.old) }
         ensures unchanged { OnErr result (self.new ≡ self.old) }
     {
-        self.stretches.try_reserve(1)?;
-        let switches = switches.seven();
-        self.stretches.push_reserved(Stretch {
-            switches,
-            granted: 0,
-        });
-        self.machine.start(switches);
+        self.stretches.begin(switches)?;
+        self.machine.start(switches.seven());
         Ok(Reply::Started)
     }
 
@@ -286,7 +274,8 @@ impl<C: Core> Job<C> {
         ensures meter { OnOk result (meter.new ≡ risen meter.old (attempts_of command self.old)) }
         ensures unchanged { OnErr result (self.new ≡ self.old) }
         ensures memory { OnErr result (MakesOn command self.old) }
-        ensures given_up { OnErr result (RisenAtMost (attempts_of command self.old) meter.old meter.new) }
+        ensures given_up { OnErr result
+            (RisenAtMost (attempts_of command self.old) meter.old meter.new) }
     {
         match command {
             JobCommand::Slice { limit } => self.slice(limit, meter),
@@ -310,10 +299,12 @@ impl<C: Core> Job<C> {
     ) -> Result<Reply, AllocError>
         ensures reply { IfOk result (λ reply. reply ≡ (take_kept command.now self.old).1) }
         ensures job { OnOk result (self.new ≡ (take_kept command.now self.old).0) }
-        ensures meter { OnOk result (meter.new ≡ risen meter.old (attempted_on command.now self.old)) }
+        ensures meter { OnOk result
+            (meter.new ≡ risen meter.old (attempted_on command.now self.old)) }
         ensures unchanged { OnErr result (self.new ≡ self.old) }
         ensures memory { OnErr result (MayWant command.now self.old) }
-        ensures given_up { OnErr result (RisenAtMost (attempted_on command.now self.old) meter.old meter.new) }
+        ensures given_up { OnErr result
+            (RisenAtMost (attempted_on command.now self.old) meter.old meter.new) }
         ensures most { RisenAtMost (limit_of command.now) meter.old meter.new }
     {
         match command.refusal(&self.summary()) {

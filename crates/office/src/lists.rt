@@ -67,7 +67,10 @@ impl Model for QueueLine {
 
     ghost Value = { QueuedJob };
 
-    ghost view = { λ line. record { customer = string_bytes line.customer; number = line.number } };
+    ghost view = { λ line. record {
+      customer = string_bytes line.customer;
+      number = line.number;
+    } };
 }
 
 /// The jobs that are running and not held, by customer and then by number.

@@ -41,7 +41,8 @@ fn size_of(positions: u32) -> Option<Size>
 /// Adds some cards to a deck.
 fn push_cards(deck: &mut Deck, cards: &[Card]) -> Result<(), DeckFault>
     ensures pushed { OnOk result (deck.new ≡ deck.old ++ cards.now) }
-    ensures full { IsErrOf result DeckFault.TooManyCards → largest_deck < length (deck.old ++ cards.now) }
+    ensures full { IsErrOf result DeckFault.TooManyCards →
+        largest_deck < length (deck.old ++ cards.now) }
 {
     for card in cards {
         deck.push(Card(card.0))?;
