@@ -11,3 +11,4 @@ pub mod Meters
 pub mod Keeping
 pub mod Ordered
 pub mod Repeating
+pub mod Apart

@@ -68,11 +68,11 @@ module _ {X : Type 0} (cmp : X → X → Ordering) (total : IsTotalOrder cmp) wh
 
 -- ---- jobs
 
-lost : (b : Bool) → (b ≡ true → ⊥) → b ≡ false
+pub lost : (b : Bool) → (b ≡ true → ⊥) → b ≡ false
 lost true no_way = absurd (no_way refl)
 lost false no_way = refl
 
-named_alike : (a b : Entry) → b.customer ≡ a.customer → b.number ≡ a.number → is_entry a.customer a.number b ≡ true
+pub named_alike : (a b : Entry) → b.customer ≡ a.customer → b.number ≡ a.number → is_entry a.customer a.number b ≡ true
 named_alike a b customer number =
     let one : bytes_eq b.customer a.customer ≡ true = (bytes_eq-Decides b.customer a.customer).1 customer in
     let two : (b.number == a.number) ≡ true = grind (arith, nat_tests) in

@@ -1,5 +1,5 @@
 -- the job of what is handed in, or why there is none
-use Rattle.std.specs.Prelude.{◌≡◌, ℕ, ◌<◌, ◌==◌, nat_lt, if◌then◌else◌, List, [], ◌∷◌, length, true, false, Option, Some, None, option_map, Result, Ok, Err}
+use Rattle.std.specs.Prelude.{◌≡◌, ℕ, ◌<◌, ◌==◌, nat_lt, if◌then◌else◌, List, [], ◌∷◌, length, true, false, Option, Some, None, IsSome, Result, Ok, Err}
 use Rattle.cards.specs.declared.decks.Card.{Card}
 use Rattle.core_store.specs.declared.sizes.Size.{Size}
 use Rattle.core_store.specs.declared.sizes.Size.TheVariants.{Positions1400, Positions2000, Positions4000}
@@ -46,10 +46,10 @@ deck_refusal kind (card ∷ cards) =
     if nat_lt most_loaded (length (loaded_of kind (card ∷ cards))) then Some refusal.Deck else
     None)
 
--- why there is no deck to load; memory may be wanted for any
+-- why there is no deck to load; memory may be wanted for one with a card
 abbrev pub IsWhyNotLoaded : Kind → List Card → NewFault → Type 0
 IsWhyNotLoaded kind deck (Refused reason) = deck_refusal kind deck ≡ Some reason
-IsWhyNotLoaded kind deck NoMemory = Unit {0}
+IsWhyNotLoaded kind deck NoMemory = 0 < length deck
 
 -- a deck is refused for its length alone; memory may be wanted for any
 abbrev pub IsTooLong : NewFault → List Card → Type 0
@@ -88,7 +88,12 @@ pub record IsJobOf (contents : Contents) (kept : Kept) : Type 0 where
   pub taken : job_or_refusal contents ≡ Ok job
   pub kept_is : kept ≡ kept_of job
 
--- a refusal is the first test that fails; memory may be wanted for any contents
+-- memory may be wanted for a deck with a card, and a size that there is
+pub record MayWantMemory (contents : Contents) : Type 0 where
+  pub sized : IsSome (size_numbered contents.size)
+  pub card : 0 < length contents.deck
+
+-- a refusal is the first test that fails
 abbrev pub IsWhyNot : Contents → NewFault → Type 0
 IsWhyNot contents (Refused reason) = job_or_refusal contents ≡ Err reason
-IsWhyNot contents NoMemory = Unit {0}
+IsWhyNot contents NoMemory = MayWantMemory contents

@@ -37,7 +37,7 @@ pub use laws::{
 pub use lists::{JobLine, JobList, Listing, PunchedCards, QueueLine, QueueList, SourceFaults};
 pub use making::{NewFault, new_job};
 pub use names::{is_customer, is_limit, is_number};
-pub use offices::{lists_are_in_order, submissions_repeat};
+pub use offices::{lists_are_in_order, names_stay_apart, submissions_repeat};
 pub use refusals::Refusal;
 pub use replies::Reply;
 pub use standings::{JobStanding, Summary};

@@ -27,3 +27,9 @@ pub fn submissions_repeat()
         (take command office).1 ≡ Reply.Taken cards →
         take command (take command office).0 ≡ ((take command office).0, Reply.Taken cards) }
 {}
+
+/// The law of names: whatever is commanded, no two jobs come to have one name.
+pub fn names_stay_apart()
+    ensures { (command : Command) (office : Office) → AreDistinct office →
+        AreDistinct (take command office).0 }
+{}
