@@ -1,6 +1,5 @@
 -- No two jobs have one name, whatever is commanded.
-use Rattle.std.proofs.Common.{◌≡◌, ℕ, ◌==◌, ◌&&◌, bytes_eq, List, [], ◌∷◌, ◌++◌, Bool, true, false, if◌then◌else◌, Option, None, Some, Result, Ok, Err, refl, sym, ◌∙◌, true≢false, arith}
-use Rattle.std.specs.List.{AllByRecursion}
+use Rattle.std.proofs.Common.{◌≡◌, ℕ, ◌==◌, bytes_eq, List, [], ◌∷◌, ◌++◌, Bool, true, false, if◌then◌else◌, Option, None, Some, Result, Ok, Err, refl, sym, ◌∙◌, true≢false, arith}
 use Rattle.std.specs.Prelude.{string_bytes}
 use Rattle.std.proofs.lemmas.Bool.{and_parts}
 use Rattle.std.proofs.lemmas.Bool.Decides.{nat_tests}
@@ -13,7 +12,7 @@ use Rattle.office.specs.declared.refusals.Refusal.{Refusal}
 use Rattle.office.specs.Jobs.{Job}
 use Rattle.office.specs.Kept.{job_after}
 use Rattle.office.specs.New.{job_or_refusal}
-use Rattle.office.specs.Office.{Entry, Office, is_entry, job_of, IsFree, AreDistinct, with_job, and_job, has_most_jobs, added, submitted_as, submitted, commanded, early_refusal, served, taken, take}
+use Rattle.office.specs.Office.{Entry, Office, is_entry, job_of, IsFree, AreDistinct, with_job, has_most_jobs, added, submitted_as, submitted, commanded, early_refusal, served, taken, take}
 use Rattle.office.proofs.Ordered.{lost, named_alike}
 
 -- ---- another job in the place of one

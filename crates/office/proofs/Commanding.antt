@@ -1,24 +1,18 @@
 -- what a command makes of a job
-use Rattle.std.proofs.Common.{true≢false, inl, inr, ◌≡◌, ℕ, ◌+◌, ◌<◌, ◌≤◌, nat_lt, not, List, [], ◌∷◌, ◌++◌, length, Bool, true, false, Option, None, Some, Result, Ok, Err, if◌then◌else◌, refl, sym, ap, subst, ◌∙◌, arith}
-use Rattle.std.proofs.lemmas.Bool.{cases_Bool}
+use Rattle.std.proofs.Common.{◌≡◌, ℕ, ◌+◌, ◌<◌, ◌≤◌, nat_lt, length, Bool, true, false, Option, None, Some, refl, sym, ap, arith}
 use Rattle.std.proofs.lemmas.Bool.Decides.{nat_tests}
-use Rattle.cards.specs.declared.decks.Card.{Card}
-use Rattle.cards.specs.Decks.{IsDeck}
-use Rattle.core_store.specs.declared.sizes.Size.{Size}
-use Rattle.machine.specs.Ranges.{IsInRange}
-use Rattle.machine.specs.Run.{State, after, started, loaded, is_halted, lines_of}
+use Rattle.machine.specs.Run.{State, after, started}
 use Rattle.machine.specs.declared.parts.Standing.{Standing}
 use Rattle.machine.specs.declared.parts.Standing.TheVariants as standing
 use Rattle.units.specs.Switches.{seven}
 use Rattle.units.specs.declared.switches.Switches.{Switches}
 use Rattle.office.specs.Limits.{most_granted}
-use Rattle.office.specs.Jobs.{Job, picture, sliced_job, started_job, granted, HaltsBetween, IsAtHalt, AreStretches}
-use Rattle.office.specs.Kept.{Kept, kept_of, summary_of, goes_on, is_at_halt, told_at, told, job_refusal, changed, taken_unless, take_kept, changed_job, job_unless, job_after}
+use Rattle.office.specs.Jobs.{Job, picture, sliced_job, started_job}
+use Rattle.office.specs.Kept.{Kept, kept_of, summary_of, goes_on, is_at_halt, told_at, job_refusal, changed, taken_unless, take_kept, changed_job, job_unless, job_after}
 use Rattle.office.specs.declared.commands.JobCommand.{JobCommand}
 use Rattle.office.specs.declared.commands.JobCommand.TheVariants.{Slice, Start, Hold, Release, Collect, Standing as Tell, Cards, Lines}
 use Rattle.office.specs.declared.standings.Summary.{Summary}
 use Rattle.office.specs.declared.refusals.Refusal.{Refusal}
-use Rattle.office.specs.declared.refusals.Refusal.TheVariants as refusal
 
 -- ---- what a command that isn't refused tells
 

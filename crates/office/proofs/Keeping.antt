@@ -1,17 +1,15 @@
 -- what stays a job
-use Rattle.std.proofs.Common.{◌≡◌, ℕ, ◌+◌, ◌<◌, ◌≤◌, ◌==◌, nat_lt, List, [], ◌∷◌, ◌++◌, length, Bool, true, false, Option, None, Some, Result, Ok, Err, if◌then◌else◌, refl, sym, ap, subst, ◌∙◌, arith}
+use Rattle.std.proofs.Common.{◌≡◌, ℕ, ◌<◌, List, [], ◌∷◌, length, Option, None, Some, Ok, refl, sym, ap, subst, ◌∙◌, arith}
 use Rattle.cards.specs.declared.decks.Card.{Card}
 use Rattle.cards.specs.Decks.{IsDeck}
 use Rattle.core_store.specs.declared.sizes.Size.{Size}
-use Rattle.layout.specs.Source.{source_of}
-use Rattle.autocoder.specs.Programs.{IsFaultless}
 use Rattle.autocoder.specs.declared.faults.CardFault.{CardFault}
 use Rattle.loader.specs.Cards.{loading_cards}
 use Rattle.machine.specs.Ranges.{IsInRange}
 use Rattle.machine.specs.Run.{State, after, started, loaded}
 use Rattle.units.specs.Switches.{seven}
 use Rattle.units.specs.declared.switches.Switches.{Switches}
-use Rattle.office.specs.Jobs.{Job, loaded_of, loaded_deck, resumed, all_off, beginning, picture, IsAtHalt, HaltsBetween, IsJob}
+use Rattle.office.specs.Jobs.{Job, loaded_of, loaded_deck, resumed, all_off, beginning, IsJob}
 use Rattle.office.specs.Kept.{kept_of, loaded_kept, summary_of, job_refusal, changed_job, job_unless, job_after, IsJobInRange}
 use Rattle.office.specs.New.{size_numbered, faults_in, refusal_for, deck_refusal, new_job, job_unless_refused, job_of_size, job_or_refusal}
 use Rattle.office.specs.declared.commands.Contents.{Contents}

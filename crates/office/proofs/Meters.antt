@@ -1,5 +1,5 @@
 -- By how much the meter rises.
-use Rattle.std.proofs.Common.{◌≡◌, ◌≤◌, ◌<◌, ◌+◌, ℕ, zero, suc, Bool, true, false, if◌then◌else◌, Result, Ok, Err, OnErr, arith}
+use Rattle.std.proofs.Common.{◌≡◌, ◌≤◌, ◌+◌, ℕ, zero, suc, Bool, true, false, if◌then◌else◌, Result, Ok, Err, OnErr, arith}
 use Rattle.machine.specs.Run.{State, IsGivenUp, attempts, step, risen, is_running}
 use Rattle.std.specs.Prelude.{OnOk}
 use Rattle.office.specs.Kept.{Kept, attempts_of, limit_of}

@@ -1,13 +1,11 @@
 -- Jobs among others, and what is handed in again.
-use Rattle.std.proofs.Common.{◌≡◌, ℕ, ◌≤◌, nat_le, ◌==◌, ◌%◌, ◌&&◌, bytes_eq, List, [], ◌∷◌, ◌++◌, length, find, Bool, true, false, if◌then◌else◌, Option, None, Some, Result, Ok, Err, refl, sym, ap, subst, ◌∙◌, true≢false, arith}
-use Rattle.std.specs.List.{AllByRecursion}
+use Rattle.std.proofs.Common.{◌≡◌, ℕ, ◌==◌, ◌%◌, bytes_eq, List, [], ◌∷◌, ◌++◌, length, Bool, true, false, Option, None, Some, Result, Ok, Err, refl, ap, subst, arith}
 use Rattle.std.specs.Prelude.{string_bytes}
 use Rattle.std.proofs.lemmas.Bool.Decides.{nat_tests}
 use Rattle.std.proofs.lemmas.Slice.Eq.{bytes_eq-Decides}
 use Rattle.core_store.specs.Storage.{positions_of}
 use Rattle.core_store.specs.declared.sizes.Size.{Size}
 use Rattle.core_store.specs.declared.sizes.Size.TheVariants.{Positions1400, Positions2000, Positions4000}
-use Rattle.units.specs.Switches.{seven}
 use Rattle.office.specs.declared.commands.Command.{Command}
 use Rattle.office.specs.declared.commands.Command.TheVariants.{Submit, Job as OnJob, Jobs, Queue}
 use Rattle.office.specs.declared.commands.JobCommand.{JobCommand}
@@ -21,7 +19,7 @@ use Rattle.office.specs.declared.replies.Reply.TheVariants as reply
 use Rattle.office.specs.Jobs.{Job, loaded_deck}
 use Rattle.office.specs.Kept.{Kept, kept_of, summary_of, job_refusal, answered, taken_unless, take_kept}
 use Rattle.office.specs.New.{size_numbered, deck_refusal, new_job, job_unless_refused, job_of_size, job_or_refusal}
-use Rattle.office.specs.Office.{Entry, Office, is_entry, entry_of, job_of, has_most_jobs, and_job, added, submitted_as, began_with, is_same_kind, deck_bytes, is_of, repeated, submitted, commanded, early_refusal, served, taken, take}
+use Rattle.office.specs.Office.{Office, is_entry, job_of, has_most_jobs, added, submitted_as, is_same_kind, deck_bytes, is_of, submitted, commanded, early_refusal, served, taken, take}
 
 this_name : (customer : List ℕ) (number : ℕ) (job : Job) → is_entry customer number (record { customer = customer; number = number; job = job }) ≡ true
 this_name customer number job =

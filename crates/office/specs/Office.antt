@@ -11,7 +11,7 @@ use Rattle.units.specs.Switches.{seven}
 use Rattle.units.specs.declared.switches.Switches.{Switches}
 use Rattle.office.specs.Limits.{most_jobs}
 use Rattle.office.specs.Names.{is_customer, is_number, is_limit}
-use Rattle.office.specs.Jobs.{Job, loaded_of, loaded_deck, picture, IsJob}
+use Rattle.office.specs.Jobs.{Job, loaded_deck, picture}
 use Rattle.office.specs.Kept.{kept_of, told, take_kept, job_after, attempted_on}
 use Rattle.office.specs.New.{job_or_refusal}
 use Rattle.office.specs.Orders.{in_order}
