@@ -1,0 +1,14 @@
+pub mod Sources
+pub mod Stopping
+pub mod PastLoading
+pub mod FreeOfFaults
+pub mod Granting
+pub mod OfSources
+pub mod Needed
+pub mod Commanding
+pub mod Lasting
+pub mod Meters
+pub mod Keeping
+pub mod Ordered
+pub mod Repeating
+pub mod Apart

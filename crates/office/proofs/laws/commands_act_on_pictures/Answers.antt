@@ -1,0 +1,5 @@
+use Rattle.office.proofs.Commanding.{acts}
+use Rattle.office.proofs.laws.commands_act_on_pictures.Goals as goal
+
+pub returns : goal.returns
+returns c = acts c.pictures_go_on.ensures.sliced c.pictures_go_on.ensures.started

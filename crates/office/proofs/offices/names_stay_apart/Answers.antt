@@ -1,0 +1,5 @@
+use Rattle.office.proofs.Apart.{stay_apart}
+use Rattle.office.proofs.offices.names_stay_apart.Goals as goal
+
+pub returns : goal.returns
+returns c = stay_apart

@@ -1,0 +1,174 @@
+-- jobs, and where their machines are
+use Rattle.std.specs.Prelude.{◌≡◌, ℕ, ◌+◌, ◌<◌, ◌≤◌, Bool, List, [], ◌∷◌, ◌++◌, length, map, take, drop}
+use Rattle.std.specs.List.{All, sum_by}
+use Rattle.cards.specs.declared.decks.Card.{Card}
+use Rattle.cards.specs.Decks.{IsDeck}
+use Rattle.core_store.specs.Storage.{positions_of}
+use Rattle.core_store.specs.declared.sizes.Size.{Size}
+use Rattle.layout.specs.Source.{source_of}
+use Rattle.autocoder.specs.Programs.{size_for, IsFaultless}
+use Rattle.loader.specs.Cards.{loading_cards}
+use Rattle.loader.specs.Loading.{at_the_start}
+use Rattle.machine.specs.Run.{State, loaded, started, after, lines_of}
+use Rattle.machine.specs.declared.parts.Standing.TheVariants.{Halted}
+use Rattle.units.specs.Switches.{AreSeven}
+use Rattle.units.specs.declared.printer.Line.{Line}
+use Rattle.units.specs.declared.switches.Switches.{Switches}
+use Rattle.office.specs.Limits.{most_granted}
+use Rattle.office.specs.Sources.{image_for, start_for}
+use Rattle.office.specs.Whole.{Whole}
+use Rattle.office.specs.declared.commands.Kind.{Kind}
+use Rattle.office.specs.declared.commands.Kind.TheVariants.{Object, Autocoder}
+use Rattle.office.specs.declared.stretches.Stretch.{Stretch}
+
+-- what was handed in, the operator's starts, and two flags
+pub record Job : Type 0 where
+  pub kind : Kind
+  pub size : Size
+  -- as it was handed in
+  pub deck : List Card
+  -- the operator's starts, the first of them at the submission
+  pub stretches : List Stretch
+  pub held : Bool
+  pub collected : Bool
+
+-- ---- the deck in the card reader
+
+-- the cards of a deck after its source
+abbrev pub data_after : List Card → List Card
+data_after deck = drop (length (source_of deck)) deck
+
+-- an object deck itself, or the cards that load the program of a source and then its data
+abbrev pub loaded_of : Kind → List Card → List Card
+loaded_of Object deck = deck
+loaded_of Autocoder deck =
+    let source : List Card = source_of deck in
+    loading_cards (image_for source) (start_for source) ++ data_after deck
+
+-- the deck that a job's machine loads
+abbrev pub loaded_deck : Job → List Card
+loaded_deck job = loaded_of job.kind job.deck
+
+-- ---- where a job's machine is
+
+-- the machine through its stretches: each time it is started with the switches, and runs for what
+-- was granted
+unfoldable pub resumed : State → List Stretch → State
+resumed m [] = m
+resumed m (s ∷ stretches) = resumed (after (started m s.switches) s.granted) stretches
+
+-- no switch is on
+abbrev pub all_off : Switches
+all_off = record { 0 = 0 }
+
+-- a job's machine before its first start
+abbrev pub beginning : Job → State
+beginning job = loaded (loaded_deck job) job.size all_off
+
+-- where a job's machine is, by its contents and what was granted, and by nothing else
+abbrev pub picture : Job → State
+picture job = resumed (beginning job) job.stretches
+
+-- a job's machine stands at a halt
+abbrev pub IsAtHalt : Job → Type 0
+IsAtHalt job = (picture job).standing ≡ Halted
+
+-- ---- what a job is
+
+-- how much was granted in all
+abbrev pub granted : List Stretch → ℕ
+granted = sum_by (λ s. s.granted)
+
+-- the switches of a stretch are no others than the seven
+abbrev pub HasSwitches : Stretch → Type 0
+HasSwitches s = AreSeven s.switches
+
+-- the stretches of a job: there is one, and in all not too much is granted
+pub record AreStretches (stretches : List Stretch) : Type 0 where
+  pub begun : 0 < length stretches
+  pub switches : All HasSwitches stretches
+  pub most : granted stretches ≤ most_granted
+
+-- a job with its first n stretches alone
+abbrev pub up_to : ℕ → Job → Job
+up_to n job = record job { stretches = take n job.stretches }
+
+-- each stretch but the last ends at a halt
+abbrev pub HaltsBetween : Job → Type 0
+HaltsBetween job = (n : ℕ) → 0 < n → n < length job.stretches → IsAtHalt (up_to n job)
+
+-- what any job may hold
+pub record IsJob (job : Job) : Type 0 where
+  pub deck : IsDeck job.deck
+  pub card : 0 < length job.deck
+  pub faultless : job.kind ≡ Autocoder → IsFaultless (source_of job.deck)
+  pub loaded : IsDeck (loaded_deck job)
+  pub stretches : AreStretches job.stretches
+  pub halts : HaltsBetween job
+
+-- ---- what changes a job's stretches
+
+-- so much more in the last stretch
+abbrev pub granted_more : ℕ → List Stretch → List Stretch
+granted_more limit [] = []
+granted_more limit (s ∷ []) = (record s { granted = s.granted + limit }) ∷ []
+granted_more limit (s ∷ t ∷ stretches) = s ∷ granted_more limit (t ∷ stretches)
+
+-- one stretch more, in which nothing is granted yet
+abbrev pub one_more : Switches → List Stretch → List Stretch
+one_more switches stretches = stretches ++ (record { switches = switches; granted = 0 }) ∷ []
+
+-- a job to which so much more was granted
+abbrev pub sliced_job : ℕ → Job → Job
+sliced_job limit job = record job { stretches = granted_more limit job.stretches }
+
+-- a job that was started once more
+abbrev pub started_job : Switches → Job → Job
+started_job switches job = record job { stretches = one_more switches job.stretches }
+
+-- ---- what a job has made
+
+-- the switches of a job's starts
+abbrev pub switches_of : Job → List Switches
+switches_of job = map (λ s. s.switches) job.stretches
+
+-- the cards that a job has punched
+abbrev pub cards_by : Job → List Card
+cards_by job = (picture job).works.units.punch
+
+-- the lines that a job has printed
+abbrev pub lines_by : Job → List Line
+lines_by job = lines_of (picture job)
+
+-- a job has made the cards and lines of the whole run from this beginning with the job's starts,
+-- and that run makes no others
+pub record HasRunWhole (begin : Switches → State) (job : Job) : Type 0 where
+  pub holds : Whole begin (switches_of job) (cards_by job) (lines_by job)
+  pub only : (cards : List Card) (lines : List Line) → Whole begin (switches_of job) cards lines →
+      (cards ≡ cards_by job) × (lines ≡ lines_by job)
+
+-- a job's source has no faults, and its machine is as large as the source says, or larger
+pub record CanRunItsSource (job : Job) : Type 0 where
+  pub kind : job.kind ≡ Autocoder
+  pub faultless : IsFaultless (source_of job.deck)
+  pub large : size_for (source_of job.deck) ≤ positions_of job.size
+
+-- the machine at the start of the program of a deck's source, the data after the source unread
+abbrev pub program_begun : List Card → Size → Switches → State
+program_begun deck size switches =
+    let source : List Card = source_of deck in
+    at_the_start (image_for source) (start_for source) (data_after deck) size switches
+
+-- a job has run whole from the load button
+abbrev pub HasRunFromItsDeck : Job → Type 0
+HasRunFromItsDeck job = HasRunWhole (loaded (loaded_deck job) job.size) job
+
+-- a job has run whole from the start of its source's program
+abbrev pub HasRunFromItsSource : Job → Type 0
+HasRunFromItsSource job = HasRunWhole (program_begun job.deck job.size) job
+
+-- what an office owes each of its jobs: one that stands at a halt has run whole from the load
+-- button, and from the start of its program if it can run its source
+abbrev pub RunsWhole : Job → Type 0
+RunsWhole job =
+    IsAtHalt job → HasRunFromItsDeck job × (CanRunItsSource job → HasRunFromItsSource job)

@@ -1,0 +1,252 @@
+-- a job as its machine's picture and its stretches show it, and what a command makes of it
+use Rattle.std.specs.Prelude.{◌≡◌, ℕ, ◌+◌, ◌&&◌, nat_lt, Bool, true, false, not, List, [], length, Option, Some, None, if◌then◌else◌}
+use Rattle.cards.specs.declared.decks.Card.{Card}
+use Rattle.core_store.specs.declared.sizes.Size.{Size}
+use Rattle.machine.specs.Ranges.{IsInRange}
+use Rattle.machine.specs.Run.{State, loaded, after, attempts, executed, lines_of, started}
+use Rattle.machine.specs.declared.parts.Standing.{Standing}
+use Rattle.machine.specs.declared.parts.Standing.TheVariants as standing
+use Rattle.units.specs.Switches.{seven}
+use Rattle.units.specs.Units.{Makes}
+use Rattle.units.specs.declared.switches.Switches.{Switches}
+use Rattle.office.specs.Limits.{most_granted}
+use Rattle.office.specs.Jobs.{Job, picture, granted, granted_more, one_more, sliced_job, started_job, AreStretches}
+use Rattle.office.specs.declared.commands.JobCommand.{JobCommand}
+use Rattle.office.specs.declared.commands.JobCommand.TheVariants.{Slice, Start, Hold, Release, Collect, Standing as Tell, Cards, Lines}
+use Rattle.office.specs.declared.standings.JobStanding.{JobStanding}
+use Rattle.office.specs.declared.standings.JobStanding.TheVariants.{Running, Halted, Checked}
+use Rattle.office.specs.declared.standings.Summary.{Summary}
+use Rattle.office.specs.declared.stretches.Stretch.{Stretch}
+use Rattle.office.specs.declared.refusals.Refusal.{Refusal}
+use Rattle.office.specs.declared.refusals.Refusal.TheVariants as refusal
+use Rattle.office.specs.declared.replies.Reply.{Reply}
+use Rattle.office.specs.declared.replies.Reply.TheVariants as reply
+
+-- what of a job a command works on; its machine may be anywhere
+pub record Kept : Type 0 where
+  pub stretches : List Stretch
+  pub held : Bool
+  pub collected : Bool
+  pub machine : State
+
+-- a job with its machine where its grants have left it
+abbrev pub kept_of : Job → Kept
+kept_of job = record {
+  stretches = job.stretches;
+  held = job.held;
+  collected = job.collected;
+  machine = picture job;
+}
+
+-- a job whose machine has just loaded a deck
+abbrev pub loaded_kept : List Card → Size → Switches → Kept
+loaded_kept deck size switches = record {
+  stretches = one_more (seven switches) [];
+  held = false;
+  collected = false;
+  machine = loaded deck size (seven switches);
+}
+
+-- what may be kept of a job, wherever its machine is
+pub record IsJobInRange (k : Kept) : Type 0 where
+  pub stretches : AreStretches k.stretches
+  pub machine : IsInRange k.machine
+
+-- ---- how a job stands
+
+-- a standing, with the place of the next instruction or of the one in a check
+abbrev pub told_at : Standing → ℕ → JobStanding
+told_at standing.Running i = Running
+told_at standing.Halted i = Halted i
+told_at (standing.Checked check) i = Checked check i
+
+-- how a machine stands, as it is told
+abbrev pub told : State → JobStanding
+told m = told_at m.standing m.works.registers.i
+
+-- what is told of a job: how it stands, its flags, what was granted and what it has made
+abbrev pub summary_of : Kept → Summary
+summary_of k = record {
+  standing = told k.machine;
+  held = k.held;
+  collected = k.collected;
+  granted = granted k.stretches;
+  cards = length k.machine.works.units.punch;
+  lines = length (lines_of k.machine);
+}
+
+-- the machine has something left to run
+abbrev pub goes_on : JobStanding → Bool
+goes_on Running = true
+goes_on (Halted next) = false
+goes_on (Checked check at) = false
+
+-- the machine may be started
+abbrev pub is_at_halt : JobStanding → Bool
+is_at_halt Running = false
+is_at_halt (Halted next) = true
+is_at_halt (Checked check at) = false
+
+-- ---- what is refused
+
+-- a command that only asks
+abbrev pub is_query : JobCommand → Bool
+is_query (Slice limit) = false
+is_query (Start switches) = false
+is_query Hold = false
+is_query Release = false
+is_query Collect = false
+is_query Tell = true
+is_query Cards = true
+is_query Lines = true
+
+-- a command that is for a job that isn't held
+abbrev pub is_for_free : JobCommand → Bool
+is_for_free (Slice limit) = true
+is_for_free (Start switches) = true
+is_for_free Hold = false
+is_for_free Release = false
+is_for_free Collect = true
+is_for_free Tell = false
+is_for_free Cards = false
+is_for_free Lines = false
+
+-- the reason, where the test holds
+abbrev pub refused_if : Bool → Refusal → Option Refusal
+refused_if true reason = Some reason
+refused_if false reason = None
+
+-- why a slice is refused to a job that is free: it doesn't run, or too much would be granted
+abbrev pub slice_refusal : ℕ → Summary → Option Refusal
+slice_refusal limit job =
+    if not (goes_on job.standing) then Some refusal.NotRunning else
+    refused_if (nat_lt most_granted (job.granted + limit)) refusal.TooMuch
+
+-- the last tests of each command
+abbrev pub last_refusal : JobCommand → Summary → Option Refusal
+last_refusal (Slice limit) job = slice_refusal limit job
+last_refusal (Start switches) job = refused_if (not (is_at_halt job.standing)) refusal.NotAtHalt
+last_refusal Hold job = refused_if job.held refusal.AlreadyHeld
+last_refusal Release job = refused_if (not job.held) refusal.NotHeld
+last_refusal Collect job = refused_if (goes_on job.standing) refusal.NotAtHalt
+last_refusal Tell job = None
+last_refusal Cards job = None
+last_refusal Lines job = None
+
+-- the first of these tests that fails; a query is never refused
+abbrev pub job_refusal : JobCommand → Summary → Option Refusal
+job_refusal c job =
+    if is_query c then None else
+    if job.collected then Some refusal.Collected else
+    if is_for_free c && job.held then Some refusal.Held else
+    last_refusal c job
+
+-- ---- what a command makes of a job
+
+-- a job after a command that isn't refused
+abbrev pub changed : JobCommand → Kept → Kept
+changed (Slice limit) k = record k {
+  stretches = granted_more limit k.stretches;
+  machine = after k.machine limit;
+}
+changed (Start switches) k = record k {
+  stretches = one_more (seven switches) k.stretches;
+  machine = started k.machine (seven switches);
+}
+changed Hold k = record k { held = true }
+changed Release k = record k { held = false }
+changed Collect k = record k { collected = true }
+changed Tell k = k
+changed Cards k = k
+changed Lines k = k
+
+-- the reply to a command that isn't refused
+abbrev pub answered : JobCommand → Kept → Reply
+answered (Slice limit) k = reply.Ran (executed k.machine limit) (told (after k.machine limit))
+answered (Start switches) k = reply.Started
+answered Hold k = reply.Held
+answered Release k = reply.Released
+answered Collect k = reply.Collected (summary_of k).cards (summary_of k).lines
+answered Tell k = reply.Standing (summary_of k)
+answered Cards k = reply.Cards k.machine.works.units.punch
+answered Lines k = reply.Lines (lines_of k.machine)
+
+-- a refusal changes nothing
+abbrev pub taken_unless : JobCommand → Kept → Option Refusal → Kept × Reply
+taken_unless c k (Some reason) = (k, reply.Refused reason)
+taken_unless c k None = (changed c k, answered c k)
+
+-- a job after a command, and the reply
+abbrev pub take_kept : JobCommand → Kept → Kept × Reply
+take_kept c k = taken_unless c k (job_refusal c (summary_of k))
+
+-- the same change of a job that knows no machine
+abbrev pub changed_job : JobCommand → Job → Job
+changed_job (Slice limit) job = sliced_job limit job
+changed_job (Start switches) job = started_job (seven switches) job
+changed_job Hold job = record job { held = true }
+changed_job Release job = record job { held = false }
+changed_job Collect job = record job { collected = true }
+changed_job Tell job = job
+changed_job Cards job = job
+changed_job Lines job = job
+
+-- a refusal changes nothing
+abbrev pub job_unless : JobCommand → Job → Option Refusal → Job
+job_unless c job (Some reason) = job
+job_unless c job None = changed_job c job
+
+-- a job after a command: its stretches and its flags
+abbrev pub job_after : JobCommand → Job → Job
+job_after c job = job_unless c job (job_refusal c (summary_of (kept_of job)))
+
+-- ---- what a command attempts
+
+-- the instructions that a command attempts where it isn't refused
+abbrev pub attempts_of : JobCommand → Kept → ℕ
+attempts_of (Slice limit) k = attempts k.machine limit
+attempts_of (Start switches) k = 0
+attempts_of Hold k = 0
+attempts_of Release k = 0
+attempts_of Collect k = 0
+attempts_of Tell k = 0
+attempts_of Cards k = 0
+attempts_of Lines k = 0
+
+-- a refused command attempts nothing
+abbrev pub attempts_unless : JobCommand → Kept → Option Refusal → ℕ
+attempts_unless c k (Some reason) = 0
+attempts_unless c k None = attempts_of c k
+
+-- how many instructions a command on a job attempts
+abbrev pub attempted_on : JobCommand → Kept → ℕ
+attempted_on c k = attempts_unless c k (job_refusal c (summary_of k))
+
+-- the most instructions that a command may attempt, whatever the job
+abbrev pub limit_of : JobCommand → ℕ
+limit_of (Slice limit) = limit
+limit_of (Start switches) = 0
+limit_of Hold = 0
+limit_of Release = 0
+limit_of Collect = 0
+limit_of Tell = 0
+limit_of Cards = 0
+limit_of Lines = 0
+
+-- ---- where memory may be wanted
+
+-- a command that makes something: a card or a line, a stretch, or a copy of what was made
+abbrev pub MakesOn : JobCommand → Kept → Type 0
+MakesOn (Slice limit) k = Makes k.machine.works.units (after k.machine limit).works.units
+MakesOn (Start switches) k = Unit {0}
+MakesOn Hold k = ⊥
+MakesOn Release k = ⊥
+MakesOn Collect k = ⊥
+MakesOn Tell k = ⊥
+MakesOn Cards k = Unit {0}
+MakesOn Lines k = Unit {0}
+
+-- memory may be wanted by a command that isn't refused and makes something
+pub record MayWant (c : JobCommand) (k : Kept) : Type 0 where
+  pub let_through : job_refusal c (summary_of k) ≡ None
+  pub makes : MakesOn c k

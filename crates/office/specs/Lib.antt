@@ -1,0 +1,12 @@
+pub mod Limits
+pub mod Names
+pub mod Numbers
+pub mod Whole
+pub mod Sources
+pub mod Jobs
+pub mod Queued
+pub mod Kept
+pub mod Meters
+pub mod New
+pub mod Orders
+pub mod Office

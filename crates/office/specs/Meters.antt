@@ -1,0 +1,9 @@
+-- by how much the meter has risen
+use Rattle.std.specs.Prelude.{◌≡◌, ◌≤◌, ℕ}
+use Rattle.machine.specs.Run.{risen}
+
+-- the meter has ticked at most so many times
+pub record RisenAtMost (limit old new : ℕ) : Type 0 where
+  pub ticks : ℕ
+  pub most : ticks ≤ limit
+  pub is : new ≡ risen old ticks

@@ -1,0 +1,23 @@
+-- the numbers by which refusals are told
+use Rattle.std.specs.Prelude.{ℕ}
+use Rattle.office.specs.declared.refusals.Refusal.{Refusal}
+use Rattle.office.specs.declared.refusals.Refusal.TheVariants.{Customer, Number, Size, Deck, OtherContents, TooManyJobs, Assembly, NoJob, Limit, Held, NotRunning, NotAtHalt, AlreadyHeld, NotHeld, Collected, TooMuch}
+
+-- each refusal has a number of its own
+abbrev pub refusal_number : Refusal → ℕ
+refusal_number Customer = 10
+refusal_number Number = 11
+refusal_number Size = 12
+refusal_number Deck = 13
+refusal_number OtherContents = 14
+refusal_number TooManyJobs = 15
+refusal_number (Assembly faults) = 16
+refusal_number NoJob = 20
+refusal_number Limit = 21
+refusal_number Held = 22
+refusal_number NotRunning = 23
+refusal_number NotAtHalt = 24
+refusal_number AlreadyHeld = 25
+refusal_number NotHeld = 26
+refusal_number Collected = 27
+refusal_number TooMuch = 28

@@ -1,0 +1,146 @@
+//! What is handed in, and what is asked of the office.
+
+ghost use Rattle.std.specs.Prelude.{◌≡◌};
+ghost use Rattle.office.specs.Kept.{is_query, is_for_free, refused_if, slice_refusal, last_refusal, job_refusal};
+
+use crate::refusals::Refusal;
+use crate::standings::Summary;
+use crate::stretches::MOST_GRANTED;
+use cards::Deck;
+use units::Switches;
+
+/// What kind of deck is handed in.
+#[derive(Clone, Copy, Debug, PartialEq, Eq)]
+pub enum Kind {
+    /// Cards that load themselves.
+    Object,
+    /// A source, and data after it.
+    Autocoder,
+}
+
+/// What a customer hands in.
+#[derive(Drop)]
+pub struct Contents {
+    pub kind: Kind,
+    /// How many positions of storage the machine is to have.
+    pub size: u32,
+    /// The switches at the first start.
+    pub switches: Switches,
+    pub deck: Deck,
+}
+
+/// A command on one job. The last three are queries, which change nothing.
+#[derive(Clone, Copy, Debug, PartialEq, Eq)]
+pub enum JobCommand {
+    /// Runs the job for at most so many instructions.
+    Slice { limit: u32 },
+    /// Lets the job go on from a halt, with the switches set anew.
+    Start { switches: Switches },
+    /// Keeps the job from being run or collected.
+    Hold,
+    /// Ends a hold.
+    Release,
+    /// Hands out what the job has made; after it the job is only looked at.
+    Collect,
+    /// How the job stands.
+    Standing,
+    /// The cards that the job has punched.
+    Cards,
+    /// The lines that the job has printed.
+    Lines,
+}
+
+/// A command to the bureau. A job is named by its customer and a number.
+#[derive(Drop)]
+pub enum Command {
+    /// Hands in a job.
+    Submit {
+        customer: String,
+        number: u32,
+        contents: Contents,
+    },
+    /// A command on the job of this name.
+    Job {
+        customer: String,
+        number: u32,
+        command: JobCommand,
+    },
+    /// The jobs of a customer, by number.
+    Jobs {
+        customer: String,
+    },
+    /// All jobs that are running and not held, by customer and then by number.
+    Queue,
+}
+
+/// The reason, where the test holds.
+fn refused_if(test: bool, reason: Refusal) -> Option<Refusal>
+    ensures { result ≡ refused_if test reason }
+{
+    if test { Some(reason) } else { None }
+}
+
+/// Why a slice is refused for a job that is free.
+fn slice_refusal(limit: u32, job: &Summary) -> Option<Refusal>
+    ensures { result ≡ slice_refusal limit job.now }
+{
+    if !job.standing.goes_on() {
+        return Some(Refusal::NotRunning);
+    }
+    let granted = job.granted as u64 + limit as u64;
+    refused_if(granted > MOST_GRANTED, Refusal::TooMuch)
+}
+
+impl JobCommand {
+    /// Whether it only asks.
+    fn is_query(self) -> bool
+        ensures { result ≡ is_query self }
+    {
+        matches!(
+            self,
+            JobCommand::Standing | JobCommand::Cards | JobCommand::Lines
+        )
+    }
+
+    /// Whether it is for a job that isn't held.
+    fn is_for_free(self) -> bool
+        ensures { result ≡ is_for_free self }
+    {
+        matches!(
+            self,
+            JobCommand::Slice { .. } | JobCommand::Start { .. } | JobCommand::Collect
+        )
+    }
+
+    /// The last tests of it.
+    fn last_refusal(self, job: &Summary) -> Option<Refusal>
+        ensures { result ≡ last_refusal self job.now }
+    {
+        match self {
+            JobCommand::Slice { limit } => slice_refusal(limit, job),
+            JobCommand::Start { .. } => refused_if(!job.standing.is_at_halt(), Refusal::NotAtHalt),
+            JobCommand::Hold => refused_if(job.held, Refusal::AlreadyHeld),
+            JobCommand::Release => refused_if(!job.held, Refusal::NotHeld),
+            JobCommand::Collect => refused_if(job.standing.goes_on(), Refusal::NotAtHalt),
+            JobCommand::Standing => None,
+            JobCommand::Cards => None,
+            JobCommand::Lines => None,
+        }
+    }
+
+    /// Why it is refused for a job of which this is told, if it is.
+    pub fn refusal(self, job: &Summary) -> Option<Refusal>
+        ensures { result ≡ job_refusal self job.now }
+    {
+        if self.is_query() {
+            return None;
+        }
+        if job.collected {
+            return Some(Refusal::Collected);
+        }
+        if self.is_for_free() && job.held {
+            return Some(Refusal::Held);
+        }
+        self.last_refusal(job)
+    }
+}

@@ -1,0 +1,315 @@
+//! Jobs, and what commands make of them.
+
+ghost use Rattle.std.specs.Prelude.{◌≡◌, ◌<◌, length, None, OnOk, OnErr, IfOk, IfSome, MatchOption};
+ghost use Rattle.machine.specs.Run.{risen};
+ghost use Rattle.office.specs.Kept.{IsJobInRange, loaded_kept, told, summary_of, job_refusal, changed, answered, take_kept, attempts_of, attempted_on, limit_of, MakesOn, MayWant};
+ghost use Rattle.office.specs.Meters.{RisenAtMost};
+
+use crate::commands::JobCommand;
+use crate::lists::{Listing, PunchedCards};
+use crate::replies::Reply;
+use crate::standings::{JobStanding, Summary};
+use crate::stretches::{Stretch, Stretches};
+use cards::{Card, Deck};
+use core_store::{Core, Size};
+use machine::{Machine, Meter, Parts, Standing};
+use std::alloc::{AllocError, Global};
+use std::marker::Model;
+use units::{Line, Switches};
+
+/// A job that commands work on: its stretches, its flags and its machine.
+#[derive(Drop)]
+pub struct Job<C: Core> {
+    stretches: Stretches,
+    held: bool,
+    collected: bool,
+    machine: Machine<C>,
+}
+
+impl<C: Core> Model for Job<C> {
+    ghost use Rattle.office.specs.Kept.{Kept};
+
+    ghost Value = { Kept };
+
+    ghost view = { λ job. record {
+      stretches = job.stretches;
+      held = job.held;
+      collected = job.collected;
+      machine = job.machine;
+    } };
+}
+
+/// All that there is to know of a job between two calls.
+#[derive(Drop)]
+pub struct JobParts<C: Core> {
+    pub stretches: Vec<Stretch>,
+    pub held: bool,
+    pub collected: bool,
+    /// The picture of its machine.
+    pub machine: Parts<C>,
+}
+
+impl<C: Core> Model for JobParts<C> {
+    ghost use Rattle.office.specs.Kept.{Kept};
+
+    ghost Value = { Kept };
+
+    ghost view = { λ job. record {
+      stretches = job.stretches.items;
+      held = job.held;
+      collected = job.collected;
+      machine = job.machine;
+    } };
+}
+
+/// The parts of a job, as it shows them.
+#[derive(Drop)]
+pub struct ShownJob<'a, C: Core> {
+    pub stretches: &'a [Stretch],
+    pub held: bool,
+    pub collected: bool,
+    /// The picture of its machine.
+    pub machine: &'a Parts<C>,
+}
+
+/// How a machine stands, as it is told.
+fn told<C: Core>(parts: &Parts<C>) -> JobStanding
+    ensures { result ≡ told parts.now }
+{
+    let address = parts.registers.i;
+    match parts.standing {
+        Standing::Running => JobStanding::Running,
+        Standing::Halted => JobStanding::Halted { next: address },
+        Standing::Checked(check) => JobStanding::Checked { check, at: address },
+    }
+}
+
+/// A copy of the cards.
+fn copy_of_cards(alloc: Global, cards: &[Card]) -> Result<PunchedCards, AllocError>
+    ensures { IfOk result (λ copy. copy ≡ cards.now) }
+{
+    let mut copy = Vec::new(alloc);
+    copy.extend_from_slice(cards)?;
+    Ok(PunchedCards(copy))
+}
+
+/// A copy of the lines.
+fn copy_of_lines(alloc: Global, lines: &[Line]) -> Result<Listing, AllocError>
+    ensures { IfOk result (λ copy. copy ≡ lines.now) }
+{
+    let mut copy = Vec::new(alloc);
+    copy.extend_from_slice(lines)?;
+    Ok(Listing(copy))
+}
+
+impl<C: Core> Job<C> {
+    /// A job whose machine has loaded a deck, with nothing granted yet.
+    pub(crate) fn load(
+        alloc: Global,
+        deck: Deck,
+        size: Size,
+        switches: Switches,
+    ) -> Result<Job<C>, AllocError>
+        requires { 0 < length deck }
+        ensures { IfOk result (λ job. job ≡ loaded_kept deck size switches) }
+    {
+        Ok(Job {
+            stretches: Stretches::begun(alloc, switches)?,
+            held: false,
+            collected: false,
+            machine: Machine::load(alloc, deck, size, switches.seven())?,
+        })
+    }
+
+    /// A job with these parts, or none if no job has them. From what `parts` shows the very job is
+    /// made that showed it. Memory is taken for the machine's second storage alone, and so only
+    /// for parts in range.
+    pub fn from_parts(alloc: Global, parts: JobParts<C>) -> Result<Option<Job<C>>, AllocError>
+        ensures job { IfOk result (λ made. IfSome made (λ job. job ≡ parts)) }
+        ensures in_range { IfOk result (λ made.
+            MatchOption made (¬ IsJobInRange parts) (λ _. IsJobInRange parts)) }
+        ensures memory { OnErr result (IsJobInRange parts) }
+    {
+        let JobParts {
+            stretches,
+            held,
+            collected,
+            machine,
+        } = parts;
+        let Some(stretches) = Stretches::of_list(stretches) else {
+            return Ok(None);
+        };
+        let Some(machine) = Machine::from_parts(alloc, machine)? else {
+            return Ok(None);
+        };
+        Ok(Some(Job {
+            stretches,
+            held,
+            collected,
+            machine,
+        }))
+    }
+
+    /// All that there is to know of the job.
+    pub fn parts(&self) -> ShownJob<'_, C>
+        ensures stretches { result.stretches.now ≡ self.now.stretches }
+        ensures held { result.held ≡ self.now.held }
+        ensures collected { result.collected ≡ self.now.collected }
+        ensures machine { result.machine.now ≡ self.now.machine }
+        ensures in_range { IsJobInRange self.now }
+    {
+        ShownJob {
+            stretches: self.stretches.list(),
+            held: self.held,
+            collected: self.collected,
+            machine: self.machine.parts(),
+        }
+    }
+
+    /// What is told of the job.
+    pub fn summary(&self) -> Summary
+        ensures { result ≡ summary_of self.now }
+    {
+        let parts = self.machine.parts();
+        Summary {
+            standing: told(parts),
+            held: self.held,
+            collected: self.collected,
+            granted: self.stretches.granted(),
+            cards: parts.units.punch.cards.len() as u32,
+            lines: parts.units.printer.lines.len() as u32,
+        }
+    }
+
+    /// Runs for at most so many instructions.
+    fn slice(&mut self, limit: u32, meter: &mut Meter) -> Result<Reply, AllocError>
+        requires { job_refusal (JobCommand.Slice limit) (summary_of self.old) ≡ None }
+        ensures reply { IfOk result (λ reply. reply ≡ answered (JobCommand.Slice limit) self.old) }
+        ensures job { OnOk result (self.new ≡ changed (JobCommand.Slice limit) self.old) }
+        ensures meter { OnOk result
+            (meter.new ≡ risen meter.old (attempts_of (JobCommand.Slice limit) self.old)) }
+        ensures unchanged { OnErr result (self.new ≡ self.old) }
+        ensures memory { OnErr result (MakesOn (JobCommand.Slice limit) self.old) }
+        ensures given_up { OnErr result
+            (RisenAtMost (attempts_of (JobCommand.Slice limit) self.old) meter.old meter.new) }
+    {
+        let ran = self.machine.run(limit, meter)?;
+        self.stretches.grant(limit);
+        Ok(Reply::Ran {
+            executed: ran.executed,
+            standing: told(self.machine.parts()),
+        })
+    }
+
+    /// Goes on from a halt, with the switches set anew.
+    fn start(&mut self, switches: Switches) -> Result<Reply, AllocError>
+        requires { job_refusal (JobCommand.Start switches) (summary_of self.old) ≡ None }
+        ensures reply { IfOk result (λ reply.
+            reply ≡ answered (JobCommand.Start switches) self.old) }
+        ensures job { OnOk result (self.new ≡ changed (JobCommand.Start switches) self.old) }
+        ensures unchanged { OnErr result (self.new ≡ self.old) }
+    {
+        self.stretches.begin(switches)?;
+        self.machine.start(switches.seven());
+        Ok(Reply::Started)
+    }
+
+    /// Is held from now on.
+    fn hold(&mut self) -> Reply
+        ensures reply { result ≡ answered JobCommand.Hold self.old }
+        ensures job { self.new ≡ changed JobCommand.Hold self.old }
+    {
+        self.held = true;
+        Reply::Held
+    }
+
+    /// Is held no more.
+    fn release(&mut self) -> Reply
+        ensures reply { result ≡ answered JobCommand.Release self.old }
+        ensures job { self.new ≡ changed JobCommand.Release self.old }
+    {
+        self.held = false;
+        Reply::Released
+    }
+
+    /// Is collected.
+    fn collect(&mut self) -> Reply
+        ensures reply { result ≡ answered JobCommand.Collect self.old }
+        ensures job { self.new ≡ changed JobCommand.Collect self.old }
+    {
+        let made = self.summary();
+        self.collected = true;
+        Reply::Collected {
+            cards: made.cards,
+            lines: made.lines,
+        }
+    }
+
+    /// The cards that were punched.
+    fn cards(&self, alloc: Global) -> Result<Reply, AllocError>
+        ensures { IfOk result (λ reply. reply ≡ answered JobCommand.Cards self.now) }
+    {
+        let cards = &self.machine.parts().units.punch.cards;
+        Ok(Reply::Cards(copy_of_cards(alloc, cards)?))
+    }
+
+    /// The lines that were printed.
+    fn lines(&self, alloc: Global) -> Result<Reply, AllocError>
+        ensures { IfOk result (λ reply. reply ≡ answered JobCommand.Lines self.now) }
+    {
+        let lines = &self.machine.parts().units.printer.lines;
+        Ok(Reply::Lines(copy_of_lines(alloc, lines)?))
+    }
+
+    /// Carries out a command that is not refused.
+    fn carry_out(
+        &mut self,
+        alloc: Global,
+        command: JobCommand,
+        meter: &mut Meter,
+    ) -> Result<Reply, AllocError>
+        requires { job_refusal command (summary_of self.old) ≡ None }
+        ensures reply { IfOk result (λ reply. reply ≡ answered command self.old) }
+        ensures job { OnOk result (self.new ≡ changed command self.old) }
+        ensures meter { OnOk result (meter.new ≡ risen meter.old (attempts_of command self.old)) }
+        ensures unchanged { OnErr result (self.new ≡ self.old) }
+        ensures memory { OnErr result (MakesOn command self.old) }
+        ensures given_up { OnErr result
+            (RisenAtMost (attempts_of command self.old) meter.old meter.new) }
+    {
+        match command {
+            JobCommand::Slice { limit } => self.slice(limit, meter),
+            JobCommand::Start { switches } => self.start(switches),
+            JobCommand::Hold => Ok(self.hold()),
+            JobCommand::Release => Ok(self.release()),
+            JobCommand::Collect => Ok(self.collect()),
+            JobCommand::Standing => Ok(Reply::Standing(self.summary())),
+            JobCommand::Cards => self.cards(alloc),
+            JobCommand::Lines => self.lines(alloc),
+        }
+    }
+
+    /// Carries out a command, unless it is refused; a refusal changes nothing. On want of memory
+    /// the job is as before; the instructions done until then have ticked. Only a slice ticks.
+    pub fn take(
+        &mut self,
+        alloc: Global,
+        command: &JobCommand,
+        meter: &mut Meter,
+    ) -> Result<Reply, AllocError>
+        ensures reply { IfOk result (λ reply. reply ≡ (take_kept command.now self.old).1) }
+        ensures job { OnOk result (self.new ≡ (take_kept command.now self.old).0) }
+        ensures meter { OnOk result
+            (meter.new ≡ risen meter.old (attempted_on command.now self.old)) }
+        ensures unchanged { OnErr result (self.new ≡ self.old) }
+        ensures memory { OnErr result (MayWant command.now self.old) }
+        ensures given_up { OnErr result
+            (RisenAtMost (attempted_on command.now self.old) meter.old meter.new) }
+        ensures most { RisenAtMost (limit_of command.now) meter.old meter.new }
+    {
+        match command.refusal(&self.summary()) {
+            Some(reason) => Ok(Reply::Refused(reason)),
+            None => self.carry_out(alloc, *command, meter),
+        }
+    }
+}

@@ -1,0 +1,141 @@
+//! New jobs.
+
+ghost use Rattle.std.specs.Prelude.{◌≡◌, ◌≤◌, ◌<◌, ◌++◌, [], length, None, IfOk, IfErr, OnOk, IsErrOf};
+ghost use Rattle.cards.specs.Decks.{largest_deck};
+ghost use Rattle.layout.specs.Source.{source_of};
+ghost use Rattle.autocoder.specs.Programs.{IsProgramOf};
+ghost use Rattle.office.specs.Limits.{most_loaded};
+ghost use Rattle.office.specs.Jobs.{data_after, loaded_of};
+ghost use Rattle.office.specs.New.{size_numbered, deck_refusal, IsWhyNotLoaded, IsTooLong, IsJobOf, IsWhyNot};
+
+use crate::commands::{Contents, Kind};
+use crate::jobs::Job;
+use crate::lists::SourceFaults;
+use crate::refusals::Refusal;
+use autocoder::{Faults, Program, assemble};
+use cards::{Card, Deck, DeckFault};
+use core_store::{Core, Size};
+use loader::deck_to_run;
+use std::alloc::Global;
+
+/// Why there is no new job.
+#[derive(Drop)]
+pub enum NewFault {
+    Refused(Refusal),
+    /// There was no memory for the job; nothing was changed.
+    NoMemory,
+}
+
+/// The size with so many positions, if there is one.
+fn size_of(positions: u32) -> Option<Size>
+    ensures { result ≡ size_numbered positions }
+{
+    match positions {
+        1400 => Some(Size::Positions1400),
+        2000 => Some(Size::Positions2000),
+        4000 => Some(Size::Positions4000),
+        _ => None,
+    }
+}
+
+/// Adds some cards to a deck.
+fn push_cards(deck: &mut Deck, cards: &[Card]) -> Result<(), DeckFault>
+    ensures pushed { OnOk result (deck.new ≡ deck.old ++ cards.now) }
+    ensures full { IsErrOf result DeckFault.TooManyCards →
+        largest_deck < length (deck.old ++ cards.now) }
+{
+    for card in cards {
+        deck.push(Card(card.0))?;
+    }
+    Ok(())
+}
+
+/// Another deck of the same cards.
+fn copy_of(alloc: Global, deck: &Deck) -> Result<Deck, NewFault>
+    ensures copy { IfOk result (λ copy. copy ≡ deck.now) }
+    ensures fault { IfErr result (λ fault. fault ≡ NewFault.NoMemory) }
+{
+    let mut copy = Deck::empty(alloc);
+    match push_cards(&mut copy, deck.cards()) {
+        Ok(()) => Ok(copy),
+        Err(_) => Err(NewFault::NoMemory),
+    }
+}
+
+/// The data cards: those after the source.
+#[tactic(auto, using(crate::proofs::Sources::source_within))]
+fn data_in<'a>(deck: &'a Deck, program: &Program) -> &'a [Card]
+    requires { IsProgramOf (source_of deck.now) program.now }
+    ensures { result.now ≡ data_after deck.now }
+{
+    &deck.cards()[program.last() as usize..]
+}
+
+/// The deck that loads the program of a source and then its data.
+fn program_deck(alloc: Global, deck: &Deck, program: &Program) -> Result<Deck, NewFault>
+    requires { IsProgramOf (source_of deck.now) program.now }
+    ensures deck { IfOk result (λ loaded. loaded ≡ loaded_of Kind.Autocoder deck.now) }
+    ensures fits { IfOk result (λ loaded. length loaded ≤ most_loaded) }
+    ensures fault { IfErr result (λ fault. IsTooLong fault (loaded_of Kind.Autocoder deck.now)) }
+{
+    match deck_to_run(alloc, program, data_in(deck, program)) {
+        Ok(loaded) => {
+            // This shows that they are not too many.
+            let _cards = loaded.cards();
+            Ok(loaded)
+        }
+        Err(DeckFault::TooManyCards) => Err(NewFault::Refused(Refusal::Deck)),
+        Err(DeckFault::NoMemory) => Err(NewFault::NoMemory),
+    }
+}
+
+/// The program of a source, made ready to load.
+fn assembled(alloc: Global, deck: &Deck) -> Result<Deck, NewFault>
+    requires { 0 < length deck.now }
+    ensures deck { IfOk result (λ loaded. loaded ≡ loaded_of Kind.Autocoder deck.now) }
+    ensures taken { IfOk result (λ _. deck_refusal Kind.Autocoder deck.now ≡ None) }
+    ensures refused { IfErr result (λ fault. IsWhyNotLoaded Kind.Autocoder deck.now fault) }
+{
+    match assemble(alloc, deck) {
+        Ok(program) => program_deck(alloc, deck, &program),
+        Err(Faults::Source(faults)) => {
+            Err(NewFault::Refused(Refusal::Assembly(SourceFaults(faults))))
+        }
+        Err(Faults::NoMemory) => Err(NewFault::NoMemory),
+    }
+}
+
+/// The deck that a job's machine loads.
+fn deck_to_load(alloc: Global, kind: Kind, deck: &Deck) -> Result<Deck, NewFault>
+    ensures deck { IfOk result (λ loaded. loaded ≡ loaded_of kind deck.now) }
+    ensures some { IfOk result (λ loaded. 0 < length loaded) }
+    ensures taken { IfOk result (λ _. deck_refusal kind deck.now ≡ None) }
+    ensures refused { IfErr result (λ fault. IsWhyNotLoaded kind deck.now fault) }
+{
+    if deck.cards().is_empty() {
+        return Err(NewFault::Refused(Refusal::Deck));
+    }
+    match kind {
+        Kind::Object => copy_of(alloc, deck),
+        Kind::Autocoder => assembled(alloc, deck),
+    }
+}
+
+/// The job of what is handed in. It is refused where there is no such size, or no card, or where
+/// the source has faults, or where what would be loaded has over 2,000 cards, in this order.
+pub fn new_job<C: Core>(alloc: Global, contents: &Contents) -> Result<Job<C>, NewFault>
+    ensures job { IfOk result (λ job. IsJobOf contents.now job) }
+    ensures refused { IfErr result (λ fault. IsWhyNot contents.now fault) }
+{
+    let Some(size) = size_of(contents.size) else {
+        return Err(NewFault::Refused(Refusal::Size));
+    };
+    let deck = match deck_to_load(alloc, contents.kind, &contents.deck) {
+        Ok(deck) => deck,
+        Err(fault) => return Err(fault),
+    };
+    match Job::load(alloc, deck, size, contents.switches) {
+        Ok(job) => Ok(job),
+        Err(_) => Err(NewFault::NoMemory),
+    }
+}

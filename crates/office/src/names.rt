@@ -1,0 +1,48 @@
+//! How customers and jobs are named, and how much a slice may ask for.
+
+ghost use Rattle.std.specs.Prelude.{◌≡◌};
+ghost use Rattle.std.specs.List.{list_all};
+ghost use Rattle.office.specs.Names.{is_letter_or_digit, is_name_length, is_customer, is_number, is_limit};
+
+/// The characters of a customer's name.
+const NAME_CHARACTERS: &[u8] = b"ABCDEFGHIJKLMNOPQRSTUVWXYZ0123456789";
+
+/// Whether each is a character of names.
+fn are_name_characters(bytes: &[u8]) -> bool
+    ensures { result ≡ list_all is_letter_or_digit bytes.now }
+{
+    for byte in bytes {
+        if !NAME_CHARACTERS.contains(byte) {
+            return false;
+        }
+    }
+    true
+}
+
+/// Whether a name may have so many characters.
+fn is_name_length(length: usize) -> bool
+    ensures { result ≡ is_name_length length }
+{
+    1 <= length && length <= 12
+}
+
+/// Whether this is a customer's name: 1 to 12 capital letters and digits.
+pub fn is_customer(name: &str) -> bool
+    ensures { result ≡ is_customer name.now }
+{
+    is_name_length(name.len()) && are_name_characters(name.as_bytes())
+}
+
+/// Whether a job may have this number.
+pub fn is_number(number: u32) -> bool
+    ensures { result ≡ is_number number }
+{
+    1 <= number && number <= 999_999
+}
+
+/// Whether a slice may have this limit.
+pub fn is_limit(limit: u32) -> bool
+    ensures { result ≡ is_limit limit }
+{
+    1 <= limit && limit <= 2_000
+}
