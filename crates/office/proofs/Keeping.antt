@@ -5,6 +5,7 @@ use Rattle.cards.specs.Decks.{IsDeck}
 use Rattle.core_store.specs.declared.sizes.Size.{Size}
 use Rattle.autocoder.specs.declared.faults.CardFault.{CardFault}
 use Rattle.loader.specs.Cards.{loading_cards}
+use Rattle.loader.specs.Decks.{runnable_deck}
 use Rattle.machine.specs.Ranges.{IsInRange}
 use Rattle.machine.specs.Run.{State, after, started, loaded}
 use Rattle.units.specs.Switches.{seven}
@@ -115,7 +116,7 @@ abbrev pub LoadsInRange : Type 0
 LoadsInRange = (deck : List Card) (size : Size) (switches : Switches) → 0 < length deck → IsInRange (loaded deck size switches)
 
 pub some_loaded : (kind : Kind) (deck : List Card) → 0 < length deck → 0 < length (loaded_of kind deck)
-unfolding loading_cards
+unfolding runnable_deck loading_cards
 some_loaded Object deck some = some
 some_loaded Autocoder deck some = omega arith
 

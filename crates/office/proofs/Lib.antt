@@ -1,7 +1,5 @@
-pub mod Sources
 pub mod Stopping
 pub mod PastLoading
-pub mod FreeOfFaults
 pub mod Granting
 pub mod OfSources
 pub mod Needed

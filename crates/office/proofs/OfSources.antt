@@ -16,8 +16,9 @@ use Rattle.layout.specs.Source.{source_of}
 use Rattle.autocoder.specs.Programs.{IsFaultless, size_for}
 use Rattle.office.specs.declared.commands.Kind.{Kind}
 use Rattle.office.specs.declared.commands.Kind.TheVariants.{Autocoder}
-use Rattle.office.specs.Sources.{image_for, start_for}
-use Rattle.office.specs.Jobs.{Job, loaded_of, loaded_deck, program_begun, data_after, picture, switches_of, HaltsBetween, IsAtHalt, HasRunWhole, CanRunItsSource, RunsWhole}
+use Rattle.autocoder.specs.Programs.{image_for, start_for}
+use Rattle.loader.specs.Decks.{data_of, runnable_deck}
+use Rattle.office.specs.Jobs.{Job, loaded_of, loaded_deck, program_begun, picture, switches_of, HaltsBetween, IsAtHalt, HasRunWhole, CanRunItsSource, RunsWhole}
 use Rattle.office.specs.Whole.{Whole}
 
 -- what a machine of the program's size can take a larger one can
@@ -37,11 +38,12 @@ CanBeLoaded = (source : List Card) → IsFaultless source → IsLoadable (size_f
 source_alike : RunFromTheirStart → CanBeLoaded → (kind : Kind) (deck : List Card) (size : Size) (starts : List Switches) (cards : List Card) (lines : List Line) →
     kind ≡ Autocoder → IsFaultless (source_of deck) → size_for (source_of deck) ≤ positions_of size →
     Whole (loaded (loaded_of kind deck) size) starts cards lines ↔ Whole (program_begun deck size) starts cards lines
+unfolding runnable_deck
 source_alike from_start loadable kind deck size starts cards lines is faultless fits =
     let source : List Card = source_of deck in
     let large : IsLoadable (positions_of size) (image_for source) (start_for source) = wider (size_for source) (positions_of size) (image_for source) (start_for source) fits (loadable source faultless) in
     subst (λ k. Whole (loaded (loaded_of k deck) size) starts cards lines ↔ Whole (program_begun deck size) starts cards lines) (sym is)
-    (from_start size (image_for source) (start_for source) (data_after deck) starts cards lines large)
+    (from_start size (image_for source) (start_for source) (data_of deck) starts cards lines large)
 
 pub source_run_whole : RunFromTheirStart → CanBeLoaded → (job : Job) → CanRunItsSource job → HasRunWhole (loaded (loaded_deck job) job.size) job → HasRunWhole (program_begun job.deck job.size) job
 source_run_whole from_start loadable job can run =

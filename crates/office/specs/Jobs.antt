@@ -1,13 +1,13 @@
 -- jobs, and where their machines are
-use Rattle.std.specs.Prelude.{◌≡◌, ℕ, ◌+◌, ◌<◌, ◌≤◌, Bool, List, [], ◌∷◌, ◌++◌, length, map, take, drop}
+use Rattle.std.specs.Prelude.{◌≡◌, ℕ, ◌+◌, ◌<◌, ◌≤◌, Bool, List, [], ◌∷◌, ◌++◌, length, map, take}
 use Rattle.std.specs.List.{All, sum_by}
 use Rattle.cards.specs.declared.decks.Card.{Card}
 use Rattle.cards.specs.Decks.{IsDeck}
 use Rattle.core_store.specs.Storage.{positions_of}
 use Rattle.core_store.specs.declared.sizes.Size.{Size}
 use Rattle.layout.specs.Source.{source_of}
-use Rattle.autocoder.specs.Programs.{size_for, IsFaultless}
-use Rattle.loader.specs.Cards.{loading_cards}
+use Rattle.autocoder.specs.Programs.{image_for, size_for, start_for, IsFaultless}
+use Rattle.loader.specs.Decks.{data_of, runnable_deck}
 use Rattle.loader.specs.Loading.{at_the_start}
 use Rattle.machine.specs.Run.{State, loaded, started, after, lines_of}
 use Rattle.machine.specs.declared.parts.Standing.TheVariants.{Halted}
@@ -15,7 +15,6 @@ use Rattle.units.specs.Switches.{AreSeven}
 use Rattle.units.specs.declared.printer.Line.{Line}
 use Rattle.units.specs.declared.switches.Switches.{Switches}
 use Rattle.office.specs.Limits.{most_granted}
-use Rattle.office.specs.Sources.{image_for, start_for}
 use Rattle.office.specs.Whole.{Whole}
 use Rattle.office.specs.declared.commands.Kind.{Kind}
 use Rattle.office.specs.declared.commands.Kind.TheVariants.{Object, Autocoder}
@@ -34,16 +33,10 @@ pub record Job : Type 0 where
 
 -- ---- the deck in the card reader
 
--- the cards of a deck after its source
-abbrev pub data_after : List Card → List Card
-data_after deck = drop (length (source_of deck)) deck
-
 -- an object deck itself, or the cards that load the program of a source and then its data
 abbrev pub loaded_of : Kind → List Card → List Card
 loaded_of Object deck = deck
-loaded_of Autocoder deck =
-    let source : List Card = source_of deck in
-    loading_cards (image_for source) (start_for source) ++ data_after deck
+loaded_of Autocoder deck = runnable_deck deck
 
 -- the deck that a job's machine loads
 abbrev pub loaded_deck : Job → List Card
@@ -157,7 +150,7 @@ pub record CanRunItsSource (job : Job) : Type 0 where
 abbrev pub program_begun : List Card → Size → Switches → State
 program_begun deck size switches =
     let source : List Card = source_of deck in
-    at_the_start (image_for source) (start_for source) (data_after deck) size switches
+    at_the_start (image_for source) (start_for source) (data_of deck) size switches
 
 -- a job has run whole from the load button
 abbrev pub HasRunFromItsDeck : Job → Type 0

@@ -2,7 +2,6 @@ pub mod Limits
 pub mod Names
 pub mod Numbers
 pub mod Whole
-pub mod Sources
 pub mod Jobs
 pub mod Queued
 pub mod Kept

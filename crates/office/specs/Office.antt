@@ -1,10 +1,10 @@
 -- the office: the jobs of all customers, and what commands make of it
-use Rattle.std.specs.Prelude.{◌≡◌, ℕ, ◌≤◌, nat_le, ◌==◌, ◌&&◌, not, Bool, true, false, List, [], ◌∷◌, ◌++◌, length, map, filter, find, take as beginning_of, flat_map, if◌then◌else◌, bytes_eq, Option, Some, None, option_map, Result, Ok, Err, string_bytes}
+use Rattle.std.specs.Prelude.{◌≡◌, ℕ, ◌≤◌, nat_le, ◌==◌, ◌&&◌, not, Bool, true, false, List, [], ◌∷◌, ◌++◌, length, map, filter, find, take as beginning_of, if◌then◌else◌, bytes_eq, Option, Some, None, option_map, Result, Ok, Err, string_bytes}
 use Rattle.std.specs.List.{AllByRecursion}
 use Rattle.std.specs.declared.cmp.Ordering.{Ordering}
 use Rattle.std.specs.Cmp.Lexicographic.{slice_cmp}
 use Rattle.std.specs.Ordering.{nat_cmp, ordering_then}
-use Rattle.cards.specs.declared.decks.Card.{Card}
+use Rattle.cards.specs.Decks.{deck_bytes}
 use Rattle.core_store.specs.Storage.{positions_of}
 use Rattle.machine.specs.Run.{is_running}
 use Rattle.units.specs.Switches.{seven}
@@ -105,10 +105,6 @@ is_same_kind Object Object = true
 is_same_kind Object Autocoder = false
 is_same_kind Autocoder Object = false
 is_same_kind Autocoder Autocoder = true
-
--- cards joined, a byte a column
-abbrev pub deck_bytes : List Card → List ℕ
-deck_bytes = flat_map (λ card. card.0)
 
 -- the job was submitted with these contents
 abbrev pub is_of : Contents → Job → Bool

@@ -12,8 +12,8 @@ ghost use Rattle.office.specs.declared.commands.Contents.{Contents};
 ghost use Rattle.office.specs.declared.commands.JobCommand.{JobCommand};
 
 use crate::beginnings::programs_run_from_their_start;
-use crate::faultless::faultless_sources_can_be_loaded;
 use crate::halts::whole_runs_end_alike;
+use autocoder::faultless_sources_can_be_loaded;
 use machine::{runs_add, stays_in_range};
 
 /// The law of grants: whatever the pieces, a job at a halt has made the cards and lines of the

@@ -12,7 +12,6 @@
 
 mod beginnings;
 mod commands;
-mod faultless;
 mod halts;
 mod jobs;
 mod laws;
@@ -27,7 +26,6 @@ mod stretches;
 
 pub use beginnings::programs_run_from_their_start;
 pub use commands::{Command, Contents, JobCommand, Kind};
-pub use faultless::faultless_sources_can_be_loaded;
 pub use halts::{stopped_machines_stay, whole_runs_end_alike};
 pub use jobs::{Job, JobParts, ShownJob};
 pub use laws::{

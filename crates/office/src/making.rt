@@ -5,7 +5,7 @@ ghost use Rattle.cards.specs.Decks.{largest_deck};
 ghost use Rattle.layout.specs.Source.{source_of};
 ghost use Rattle.autocoder.specs.Programs.{IsProgramOf};
 ghost use Rattle.office.specs.Limits.{most_loaded};
-ghost use Rattle.office.specs.Jobs.{data_after, loaded_of};
+ghost use Rattle.office.specs.Jobs.{loaded_of};
 ghost use Rattle.office.specs.New.{size_numbered, deck_refusal, IsWhyNotLoaded, IsTooLong, IsJobOf, IsWhyNot};
 
 use crate::commands::{Contents, Kind};
@@ -15,7 +15,7 @@ use crate::refusals::Refusal;
 use autocoder::{Faults, Program, assemble};
 use cards::{Card, Deck, DeckFault};
 use core_store::{Core, Size};
-use loader::deck_to_run;
+use loader::runnable_deck;
 use std::alloc::Global;
 
 /// Why there is no new job.
@@ -62,15 +62,6 @@ fn copy_of(alloc: Global, deck: &Deck) -> Result<Deck, NewFault>
     }
 }
 
-/// The data cards: those after the source.
-#[tactic(auto, using(crate::proofs::Sources::source_within))]
-fn data_in<'a>(deck: &'a Deck, program: &Program) -> &'a [Card]
-    requires { IsProgramOf (source_of deck.now) program.now }
-    ensures { result.now ≡ data_after deck.now }
-{
-    &deck.cards()[program.last() as usize..]
-}
-
 /// The deck that loads the program of a source and then its data.
 fn program_deck(alloc: Global, deck: &Deck, program: &Program) -> Result<Deck, NewFault>
     requires { IsProgramOf (source_of deck.now) program.now }
@@ -78,12 +69,8 @@ fn program_deck(alloc: Global, deck: &Deck, program: &Program) -> Result<Deck, N
     ensures fits { IfOk result (λ loaded. length loaded ≤ most_loaded) }
     ensures fault { IfErr result (λ fault. IsTooLong fault (loaded_of Kind.Autocoder deck.now)) }
 {
-    match deck_to_run(alloc, program, data_in(deck, program)) {
-        Ok(loaded) => {
-            // This shows that they are not too many.
-            let _cards = loaded.cards();
-            Ok(loaded)
-        }
+    match runnable_deck(alloc, deck, program) {
+        Ok(loaded) => Ok(loaded),
         Err(DeckFault::TooManyCards) => Err(NewFault::Refused(Refusal::Deck)),
         Err(DeckFault::NoMemory) => Err(NewFault::NoMemory),
     }
