@@ -12,13 +12,11 @@ ghost use Rattle.words.specs.Asked.{IsHelp, IsVersion, page_of};
 ghost use Rattle.words.specs.Plain.{texts};
 ghost use Rattle.words.specs.declared.RowName.{RowName};
 
-mod out;
-
 use counter::{
-    Assembled, Fault, Misuse, Source, Status, Task, assemble_deck, run_deck, show_help,
-    show_version, task_of, tell_fault, tell_misuse,
+    Fault, Misuse, Status, Task, assemble_deck, show_help, show_version, task_of, tell_fault,
+    tell_misuse,
 };
-use out::put_file;
+use files::{run_source, write_out};
 use std::fs::File;
 use std::io::Write;
 use std::process::ExitCode;
@@ -42,16 +40,8 @@ fn assemble<W: Write, E: Write>(
     let Ok(file) = File::open(rt, source) else {
         return tell_fault(errors, Fault::Device);
     };
-    match assemble_deck(rt.alloc(), file, output, errors)? {
-        Assembled {
-            status,
-            out: Some(deck),
-        } => match put_file(rt, out, &deck) {
-            Ok(()) => Ok(status),
-            Err(_) => tell_fault(errors, Fault::Device),
-        },
-        Assembled { status, out: None } => Ok(status),
-    }
+    let answer = assemble_deck(rt.alloc(), file, output, errors)?;
+    write_out(rt, out, answer, errors)
 }
 
 /// Does what the words after the program's name ask for.
@@ -68,27 +58,16 @@ fn answer<W: Write, E: Write>(
         → IfOk result (λ status. IsTextShown VERSION.now status
         (W.contents output.old) (W.contents output.new) (E.contents errors.old) (E.contents errors.new)) }
 {
-    let alloc = rt.alloc();
-    match task_of(alloc, words) {
+    match task_of(rt.alloc(), words) {
         Ok(Task::Help(row)) => show_help(output, errors, row),
         Ok(Task::Version) => show_version(output, errors),
         Ok(
             Task::Run {
-                deck: Source::Input,
+                deck,
                 size,
                 switches,
             },
-        ) => run_deck(alloc, rt.stdin(), output, errors, size, switches),
-        Ok(
-            Task::Run {
-                deck: Source::File(path),
-                size,
-                switches,
-            },
-        ) => match File::open(rt, path) {
-            Ok(file) => run_deck(alloc, file, output, errors, size, switches),
-            Err(_) => tell_fault(errors, Fault::Device),
-        },
+        ) => run_source(rt, deck, size, switches, output, errors),
         Ok(Task::Assemble { source, out }) => assemble(rt, source, out, output, errors),
         Err(misuse) => tell_misuse(errors, misuse),
     }

@@ -6,43 +6,18 @@ ghost use Rattle.layout.specs.Source.{source_of};
 ghost use Rattle.autocoder.specs.Programs.{IsProgramOf};
 ghost use Rattle.loader.specs.Decks.{runnable_deck};
 ghost use Rattle.runs.specs.Runs.{Reads};
-ghost use Rattle.counter.specs.Assembling.{Assembles, Ends, IsHindrance, IsMadeOf, IsShown, ending_by, made_by, made_of, assembled, faulty, hindered};
+ghost use Rattle.endings.specs.Endings.{ending_by, made_by};
+ghost use Rattle.counter.specs.Assembling.{Assembles, Ends, IsMadeOf, made_of};
 
-use crate::source_faults::put_fault_lines;
-use autocoder::{CardFault, Faults, Program, assemble, listing};
+use autocoder::{Program, assemble, listing};
 use cards::{Deck, read_text, write_text};
-use command_line::{Fault, Status, put_out, tell_fault};
+use command_line::Fault;
+use endings::{Assembled, Hindrance, Product, hinder, show_hindrance, show_product};
 use loader::runnable_deck;
 use runs::text_in;
 use std::alloc::Global;
 use std::io;
 use std::io::{Read, Write};
-
-/// What the assembling of a deck answers.
-#[derive(Drop)]
-pub struct Assembled {
-    /// How the program ends.
-    pub status: Status,
-    /// The bytes that are to be written to OUT, or none where OUT is to stay as it is.
-    pub out: Option<Vec<u8>>,
-}
-
-/// What is made of a deck: the listing of its source, and the text of the deck that runs its
-/// program.
-#[derive(Drop)]
-struct Product {
-    listing: Vec<u8>,
-    out: Vec<u8>,
-}
-
-/// Why nothing is made of a deck.
-#[derive(Drop)]
-enum Hindrance {
-    /// Its source has faults, or there was no memory to assemble it.
-    Source(Faults),
-    /// This fault.
-    Fault(Fault),
-}
 
 /// What is made of a deck and its program.
 fn product_of(alloc: Global, deck: &Deck, program: &Program) -> Result<Product, Fault>
@@ -75,65 +50,6 @@ fn assembled_in(alloc: Global, text: &[u8]) -> Result<Product, Hindrance>
     match product_of(alloc, &deck, &program) {
         Ok(product) => Ok(product),
         Err(fault) => Err(Hindrance::Fault(fault)),
-    }
-}
-
-/// Tells a fault in place of all else.
-fn hinder<E: Write>(errors: &mut E, fault: Fault) -> io::Result<Assembled>
-    ensures { IfOk result (λ answer. IsHindrance fault answer (E.contents errors.old) (E.contents errors.new)) }
-{
-    let status = tell_fault(errors, fault)?;
-    Ok(Assembled { status, out: None })
-}
-
-/// Puts the listing out, and gives the bytes for OUT.
-fn show_product<W: Write, E: Write>(
-    product: Product,
-    output: &mut W,
-    errors: &mut E,
-) -> io::Result<Assembled>
-    ensures { IfOk result (λ answer. IsShown (assembled (made_by product)) answer
-        (W.contents output.old) (W.contents output.new) (E.contents errors.old) (E.contents errors.new)) }
-{
-    if put_out(output, &product.listing).is_err() {
-        return hinder(errors, Fault::Device);
-    }
-    Ok(Assembled {
-        status: Status::Done,
-        out: Some(product.out),
-    })
-}
-
-/// Puts the faults of a source out.
-fn show_faults<W: Write, E: Write>(
-    faults: &[CardFault],
-    output: &mut W,
-    errors: &mut E,
-) -> io::Result<Assembled>
-    ensures { IfOk result (λ answer. IsShown (faulty faults.now) answer
-        (W.contents output.old) (W.contents output.new) (E.contents errors.old) (E.contents errors.new)) }
-{
-    if put_fault_lines(output, faults).is_err() {
-        return hinder(errors, Fault::Device);
-    }
-    Ok(Assembled {
-        status: Status::Told,
-        out: None,
-    })
-}
-
-/// Tells why nothing is made of a deck.
-fn show_hindrance<W: Write, E: Write>(
-    hindrance: Hindrance,
-    output: &mut W,
-    errors: &mut E,
-) -> io::Result<Assembled>
-    ensures { IfOk result (λ answer. IsShown (ending_by hindrance) answer
-        (W.contents output.old) (W.contents output.new) (E.contents errors.old) (E.contents errors.new)) }
-{
-    match hindrance {
-        Hindrance::Source(faults) => show_faults(faults.list(), output, errors),
-        Hindrance::Fault(fault) => hinder(errors, fault),
     }
 }
 

@@ -12,11 +12,11 @@
 #![tactic(auto)]
 
 mod assembling;
-mod source_faults;
 
-pub use assembling::{Assembled, assemble_deck};
+pub use assembling::assemble_deck;
 pub use command_line::{
     Fault, Misuse, Source, Status, Task, show_help, show_version, task_of, tell_fault, tell_misuse,
 };
+pub use endings::Assembled;
 pub use runs::{MOST_BYTES, MOST_INSTRUCTIONS, Report, Stand, no_deck_is_cut_off, run_deck};
 pub use values::{size_of, switches_of};

@@ -2,10 +2,11 @@ use Rattle.std.proofs.Common.{◌≡◌, List, ℕ, inl, inr, refl, subst, sym, 
 use Rattle.std.specs.Prelude.{Option}
 use Rattle.std.proofs.lemmas.Result.{IfOk-weaker}
 use Rattle.cards.specs.Faults.{out_of_memory}
-use Rattle.counter.specs.declared.assembling.Assembled.{Assembled}
+use Rattle.endings.specs.declared.showing.Assembled.{Assembled}
 use Rattle.command_line.specs.declared.faults.Fault.{Fault}
 use Rattle.command_line.specs.declared.faults.Fault.TheVariants as fault
-use Rattle.counter.specs.Assembling.{Assembles, Hinders, IsHindrance, hindered}
+use Rattle.endings.specs.Endings.{IsHindrance, hindered}
+use Rattle.counter.specs.Assembling.{Assembles, Hinders}
 use Rattle.runs.proofs.Unread.{kept, some_text}
 use Rattle.counter.proofs.assembling.assemble_deck.Goals as goal
 

@@ -2,7 +2,7 @@
 
 ghost use Rattle.std.specs.Prelude.{OnOk};
 ghost use Rattle.std.specs.Io.KnownBytes.{Appends};
-ghost use Rattle.counter.specs.Assembling.{fault_line, fault_lines};
+ghost use Rattle.endings.specs.Endings.{fault_line, fault_lines};
 
 use autocoder::CardFault;
 use std::io;

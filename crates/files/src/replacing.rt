@@ -1,4 +1,4 @@
-//! Writing the deck of an assembly to OUT.
+//! Writing a file in the place of another.
 
 use std::fs::{File, OpenFile, OpenOptions, Permissions};
 use std::io::{ErrorKind, Write};

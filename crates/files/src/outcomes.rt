@@ -1,0 +1,28 @@
+//! What is written to OUT.
+
+use crate::replacing::put_file;
+use command_line::{Fault, Status, tell_fault};
+use endings::Assembled;
+use std::io;
+use std::io::Write;
+
+/// Writes what an assembling gave for OUT, if it gave bytes, and answers how the program ends. A
+/// file that cannot be written is told as the fault of a device. An error is one of the writer, to
+/// which nothing can be told.
+pub fn write_out<E: Write>(
+    rt: &HostRuntime,
+    out: &str,
+    answer: Assembled,
+    errors: &mut E,
+) -> io::Result<Status> {
+    match answer {
+        Assembled {
+            status,
+            out: Some(deck),
+        } => match put_file(rt, out, &deck) {
+            Ok(()) => Ok(status),
+            Err(_) => tell_fault(errors, Fault::Device),
+        },
+        Assembled { status, out: None } => Ok(status),
+    }
+}

@@ -1,0 +1,29 @@
+//! Runs of decks from files.
+
+use command_line::{Fault, Source, Status, tell_fault};
+use core_store::Size;
+use runs::run_deck;
+use std::fs::File;
+use std::io;
+use std::io::Write;
+use units::Switches;
+
+/// Runs the deck of the standard input, or that in a file, as `runs` does. A file that cannot be
+/// opened is told as the fault of a device. An error is one of the second writer, to which nothing
+/// can be told.
+pub fn run_source<W: Write, E: Write>(
+    rt: &HostRuntime,
+    deck: Source<'_>,
+    size: Size,
+    switches: Switches,
+    output: &mut W,
+    errors: &mut E,
+) -> io::Result<Status> {
+    match deck {
+        Source::Input => run_deck(rt.alloc(), rt.stdin(), output, errors, size, switches),
+        Source::File(path) => match File::open(rt, path) {
+            Ok(file) => run_deck(rt.alloc(), file, output, errors, size, switches),
+            Err(_) => tell_fault(errors, Fault::Device),
+        },
+    }
+}
