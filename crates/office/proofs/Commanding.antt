@@ -14,7 +14,7 @@ use Rattle.office.specs.declared.commands.JobCommand.TheVariants.{Slice, Start, 
 use Rattle.office.specs.declared.standings.Summary.{Summary}
 use Rattle.office.specs.declared.refusals.Refusal.{Refusal}
 
--- ---- what a command that isn't refused tells
+-- ---- what is known of a command that isn't refused
 
 pub more_fits_by : (limit : ℕ) (job : Summary) → job_refusal (Slice limit) job ≡ None → job.granted + limit ≤ most_granted
 more_fits_by limit job none = go job.collected refl job.held refl (goes_on job.standing) refl (nat_lt most_granted (job.granted + limit)) refl

@@ -66,9 +66,9 @@ resumed_started m (s ∷ stretches) switches = resumed_started (after (started m
 abbrev Halting : State → List Stretch → Type 0
 Halting m stretches = (n : ℕ) → 0 < n → n < length stretches → (resumed m (take n stretches)).standing ≡ Halted
 
-behind : (m : State) (s : Stretch) (stretches : List Stretch) → Halting m (s ∷ stretches) → Halting (after (started m s.switches) s.granted) stretches
+following : (m : State) (s : Stretch) (stretches : List Stretch) → Halting m (s ∷ stretches) → Halting (after (started m s.switches) s.granted) stretches
 unfolding resumed
-behind m s stretches between n some less = between (suc n) (omega arith) (omega (arith, less))
+following m s stretches between n some less = between (suc n) (omega arith) (omega (arith, less))
 
 runs_through : (m : State) (s : Stretch) (stretches : List Stretch) → Halting m (s ∷ stretches) → (resumed m (s ∷ stretches)).standing ≡ Halted →
     RunsThrough (started m s.switches) (map (λ t. t.switches) stretches) (resumed m (s ∷ stretches))
@@ -77,7 +77,7 @@ runs_through m s [] between halted = record { count = s.granted; is = refl; halt
 runs_through m s (t ∷ stretches) between halted =
     let halt : State = after (started m s.switches) s.granted in
     let first : RunsToHalt (started m s.switches) halt = record { count = s.granted; is = refl; halted = between 1 (omega arith) (omega arith) } in
-    (halt, first, runs_through halt t stretches (behind m s (t ∷ stretches) between) halted)
+    (halt, first, runs_through halt t stretches (following m s (t ∷ stretches) between) halted)
 
 abbrev pub EndAlike : Type 0
 EndAlike = (m : State) (starts : List Switches) (first second : State) → RunsThrough m starts first → RunsThrough m starts second → first ≡ second

@@ -89,7 +89,7 @@ added customer number office job =
     if has_most_jobs customer office then (office, reply.Refused refusal.TooManyJobs) else
     (and_job customer number job office, reply.Taken (length (loaded_deck job)))
 
--- a submission of which this became
+-- a submission, where this is its job or why there is none
 abbrev pub submitted_as : List ℕ → ℕ → Office → Result Job Refusal → Office × Reply
 submitted_as customer number office (Ok job) = added customer number office job
 submitted_as customer number office (Err reason) = (office, reply.Refused reason)
@@ -99,7 +99,7 @@ abbrev pub began_with : Switches → List Stretch → Bool
 began_with switches [] = false
 began_with switches (s ∷ stretches) = s.switches.0 == switches.0
 
--- whether the kinds are one
+-- the kinds are one
 abbrev pub is_same_kind : Kind → Kind → Bool
 is_same_kind Object Object = true
 is_same_kind Object Autocoder = false
@@ -136,7 +136,7 @@ commanded customer number c office (Some job) =
 
 -- ---- lists of jobs
 
--- what the list of a customer's jobs tells of one
+-- what the list of a customer's jobs shows of one
 abbrev pub job_line : Entry → JobLine
 job_line e = record {
   number = e.number;
@@ -153,7 +153,7 @@ by_number a b = nat_cmp a.number b.number
 abbrev pub jobs_told : List ℕ → Office → List JobLine
 jobs_told customer office = map job_line (in_order by_number (own customer office))
 
--- what the queue tells of a job
+-- what the queue shows of a job
 abbrev pub queued_job : Entry → QueuedJob
 queued_job e = record { customer = e.customer; number = e.number }
 

@@ -1,4 +1,4 @@
--- what the queue tells of a job
+-- what the queue shows of a job
 use Rattle.std.specs.Prelude.{ℕ, List}
 
 -- a job by its customer and number
