@@ -1,4 +1,0 @@
-pub mod Fields
-pub mod Asked
-pub mod Tests
-pub mod Heads
