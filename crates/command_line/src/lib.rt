@@ -1,4 +1,4 @@
-//! The command line: the task that the program's words ask for, and what the program tells there.
+//! The command line: the task that the program's words ask for, and what the program prints there.
 //!
 //! It stands on `words`, which finds the row that words spell, and on `values`, which reads the
 //! values in them. Its contracts for the layers above: the task of words is the one that they ask

@@ -4,17 +4,17 @@ ghost use Rattle.std.specs.Prelude.{◌≡◌};
 ghost use Rattle.std.specs.List.{before_first, after_first};
 ghost use Rattle.routes.specs.Parts.{is_slash, part};
 
-/// What stands behind the first slash of a text, or nothing.
-fn behind_slash(text: &str) -> &str
+/// What comes after the first slash of a text, or nothing.
+fn after_slash(text: &str) -> &str
     ensures { result.now ≡ after_first is_slash text.now }
 {
     match text.split_once('/') {
-        Some((_, behind)) => behind,
+        Some((_, after)) => after,
         None => "",
     }
 }
 
-/// What stands in front of the first slash of a text, or all of it.
+/// What comes before the first slash of a text, or all of it.
 fn before_slash(text: &str) -> &str
     ensures { result.now ≡ before_first is_slash text.now }
 {
@@ -24,7 +24,7 @@ fn before_slash(text: &str) -> &str
     }
 }
 
-/// The part of a text with this place, from 0 on. Behind the last part all are empty.
+/// The part of a text with this place, from 0 on. After the last part all are empty.
 #[tactic(auto, using(crate::proofs::Steps::part_next, crate::proofs::Steps::part_last))]
 pub fn part(text: &str, place: usize) -> &str
     ensures { result.now ≡ part place text.now }
@@ -32,7 +32,7 @@ pub fn part(text: &str, place: usize) -> &str
     let mut rest = text;
     let mut left = place;
     while left > 0 {
-        rest = behind_slash(rest);
+        rest = after_slash(rest);
         left -= 1;
     }
     before_slash(rest)

@@ -1,7 +1,7 @@
 //! Runs of decks: a deck from a reader, its listing to a writer, and how its machine stands to
 //! another.
 //!
-//! It stands on the machine and on what `command_line` tells, and does no file's work itself, so
+//! It stands on the machine and on what `command_line` prints, and does no file's work itself, so
 //! that all of it can be tried in memory. The contract for the layers above is that of
 //! [`run_deck`]: what goes out is the listing of the machine that ran the text's deck, and how the
 //! machine stands is told; or a fault is told in place of all else.

@@ -98,7 +98,7 @@ fn outcome_of(alloc: Global, text: &[u8], size: Size, switches: Switches) -> Res
     }
 }
 
-/// Puts the listing out, and then tells how the machine stands.
+/// Puts the listing out, and then prints how the machine stands.
 fn show<W: Write, E: Write>(outcome: &Outcome, output: &mut W, errors: &mut E) -> io::Result<Status>
     ensures { IfOk result (λ status. IsShown (shown_of outcome.now) status
         (W.contents output.old) (W.contents output.new) (E.contents errors.old) (E.contents errors.new)) }

@@ -121,12 +121,12 @@ one_more bits letter bit is low small =
       subst (λ n. bits + n < 128) (sym p.bit_at) (sum_small p.place bits p.seven below),
     )
 
--- the letters behind those of a set make this set with it
+-- the letters after those of a set make this set with it
 pub record IsRead (bits : ℕ) (letters : List ℕ) (set : ℕ) : Type 0 where
   pub same : letters_of bits ++ letters ≡ letters_of set
   pub small : set < 128
 
--- the next letter's bit, which lies above the set, and then the letters behind it
+-- the next letter's bit, which lies above the set, and then the letters after it
 rises : (bits letter set : ℕ) (letters : List ℕ) (o : Option ℕ) → letter_bit letter ≡ o → bits < 128
     → option_and_then (λ bit. if nat_le bit bits then None else risen (bits + bit) letters) o ≡ Some set
     → ((bit : ℕ) → bits + bit < 128 → risen (bits + bit) letters ≡ Some set → IsRead (bits + bit) letters set)

@@ -31,7 +31,7 @@ fn bits_of(letters: &[u8]) -> Option<u8>
 {
     let mut bits = 0;
     let mut rest = letters;
-    while let Some((letter, behind)) = rest.split_first() {
+    while let Some((letter, more)) = rest.split_first() {
         let Some(bit) = bit_of(*letter) else {
             return None;
         };
@@ -39,7 +39,7 @@ fn bits_of(letters: &[u8]) -> Option<u8>
             return None;
         }
         bits += bit;
-        rest = behind;
+        rest = more;
     }
     Some(bits)
 }

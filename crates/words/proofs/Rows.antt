@@ -13,7 +13,7 @@ use Rattle.words.proofs.Leaf.{leaf_fault}
 use Rattle.words.proofs.Two.{two}
 use Rattle.words.proofs.Three.{three}
 
--- ---- behind a row's name clap's own command only collects the words
+-- ---- after a row's name clap's own command only collects the words
 
 abbrev collecting : Text → List Text → Walk
 collecting name words = record { held = nothing_held; waiting = idle; position = 1; is_trailing = false; stopped = Some (name, words) }
@@ -39,7 +39,7 @@ no_fault s names name before (w ∷ ws) = no_fault s names name (before ++ w ∷
 abbrev top : App
 top = built bureau
 
--- the faults behind the walk of clap's own command
+-- the faults after the walk of clap's own command
 abbrev behind : Walk → Kinds
 behind w = or_else (entered_fault top w.stopped)
     (or_else (settle_fault top.top.rules top.top.args_override_self w.held)
@@ -50,7 +50,7 @@ or_else_nil : (k : Kinds) → or_else k [] ≡ k
 or_else_nil [] = refl
 or_else_nil (x ∷ xs) = refl
 
--- the name stops clap's own walk without a fault, and what is behind it goes to the row
+-- the name stops clap's own walk without a fault, and what comes after it goes to the row
 pub record IsEntered (name : Text) (row : Shape) : Type 0 where
   pub stops : walked top.top.rules (names_of top) (walk_from nothing_held) name ≡ collecting name []
   pub clean : turn_fault top.top (names_of top) (walk_from nothing_held) name ≡ []

@@ -1,4 +1,4 @@
--- What clap makes of the words behind the name of a row of three values.
+-- What clap makes of the words after the name of a row of three values.
 use Rattle.std.proofs.Common.{◌≡◌, ◌≢◌, ◌∙◌, ℕ, List, [], ◌∷◌, codes, refl, Some, ap, sym}
 use Rattle.clap.specs.Walk.{Held, finished, first_of, Row, Text, Walk, arg_by_index, nothing_held, to_positional, walk, walked}
 use Rattle.clap.specs.Simple.{Shape}

@@ -124,10 +124,10 @@ page_of None = HELP.now
 page_of (Some name.Run) = RUN_HELP.now
 page_of (Some name.Assemble) = ASSEMBLE_HELP.now
 
--- what a row wants after its name
+-- what a row takes after its name
 abbrev pub wish_of : RowName → Text
-wish_of name.Run = codes "`run` wants three words after it: DECK SIZE SWITCHES"
-wish_of name.Assemble = codes "`assemble` wants two words after it: IN OUT"
+wish_of name.Run = codes "`run` takes three words after it: DECK SIZE SWITCHES"
+wish_of name.Assemble = codes "`assemble` takes two words after it: IN OUT"
 
 -- what a fault prints
 abbrev pub complaint : WordsFault → Text

@@ -67,13 +67,13 @@ impl RowName {
         }
     }
 
-    /// What the row wants after its name.
+    /// What the row takes after its name.
     fn wish(self) -> &'static str
         ensures { result.now ≡ wish_of self }
     {
         match self {
-            RowName::Run => "`run` wants three words after it: DECK SIZE SWITCHES",
-            RowName::Assemble => "`assemble` wants two words after it: IN OUT",
+            RowName::Run => "`run` takes three words after it: DECK SIZE SWITCHES",
+            RowName::Assemble => "`assemble` takes two words after it: IN OUT",
         }
     }
 }

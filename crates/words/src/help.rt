@@ -67,7 +67,7 @@ of the cards of a source:
                                             or an END that has no address to start at
   43      the label is wrong                one to six letters and digits, a letter first
   44      the label is used twice           give one of the two cards another label
-  45      no card has this label            correct it; ORG and EQU want it on an earlier card
+  45      no card has this label            correct it; ORG and EQU require it on an earlier card
   46      an address past the storage       put a CTL with a larger size first, or a lower ORG
   47      a position below 081              put the program higher: that is where cards are read
   48      a position is filled twice        correct the ORG before it; the first to fill it stays

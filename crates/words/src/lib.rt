@@ -78,7 +78,7 @@ fn first_word<'a>(words: &'a [String]) -> Option<(&'a str, &'a [String])>
     ensures none { IfNone result (texts words.entry.now ≡ []) }
 {
     match words.split_first() {
-        Some((word, behind)) => Some((word.as_str(), behind)),
+        Some((word, more)) => Some((word.as_str(), more)),
         None => None,
     }
 }
@@ -98,11 +98,11 @@ fn odd_word<'a>(words: &'a [String]) -> Option<&'a str>
     ensures { option_map (λ s. s.now) result ≡ find is_odd (texts words.entry.now) }
 {
     let mut rest = words;
-    while let Some((word, behind)) = first_word(rest) {
+    while let Some((word, more)) = first_word(rest) {
         if !is_plain_word(word) {
             return Some(word);
         }
-        rest = behind;
+        rest = more;
     }
     None
 }
@@ -127,10 +127,10 @@ fn misread_after<'a>(row: RowName, values: &'a [String]) -> WordsFault<'a>
 fn misread_after_help<'a>(words: &[String]) -> WordsFault<'a>
     ensures { misreading_by result ≡ misread_help (texts words.now) }
 {
-    let Some((word, behind)) = first_word(words) else {
+    let Some((word, more)) = first_word(words) else {
         return WordsFault::Help(None);
     };
-    if !behind.is_empty() {
+    if !more.is_empty() {
         return WordsFault::Row;
     }
     match RowName::of(word) {
@@ -143,14 +143,14 @@ fn misread_after_help<'a>(words: &[String]) -> WordsFault<'a>
 fn misread<'a>(words: &'a [String]) -> WordsFault<'a>
     ensures { misreading_by result ≡ misreading (texts words.entry.now) }
 {
-    let Some((word, behind)) = first_word(words) else {
+    let Some((word, more)) = first_word(words) else {
         return WordsFault::Row;
     };
     if let Some(row) = RowName::of(word) {
-        return misread_after(row, behind);
+        return misread_after(row, more);
     }
     if word == "help" {
-        misread_after_help(behind)
+        misread_after_help(more)
     } else {
         WordsFault::Row
     }
@@ -322,13 +322,13 @@ fn after_dashes<'a>(words: &'a [String]) -> Option<(RowName, &'a [String])>
     ensures none { IfNone result ((row : RowName) (values : List (List ℕ))
         → texts words.entry.now ≢ name_of row ∷ codes "--" ∷ values) }
 {
-    let Some((name, behind)) = first_word(words) else {
+    let Some((name, more)) = first_word(words) else {
         return None;
     };
     let Some(row) = RowName::of(name) else {
         return None;
     };
-    let Some((dashes, values)) = first_word(behind) else {
+    let Some((dashes, values)) = first_word(more) else {
         return None;
     };
     if dashes == "--" {
