@@ -1,5 +1,10 @@
 //! What is written to OUT.
 
+ghost use Rattle.std.specs.Prelude.{◌≡◌, None, IfOk, Ok};
+ghost use Rattle.std.specs.Io.KnownBytes.{Keeps};
+ghost use Rattle.endings.specs.Endings.{out_in};
+ghost use Rattle.files.specs.Put.{IsPut};
+
 use crate::replacing::put_file;
 use command_line::{Fault, Status, tell_fault};
 use endings::Assembled;
@@ -14,7 +19,12 @@ pub fn write_out<E: Write>(
     out: &str,
     answer: Assembled,
     errors: &mut E,
-) -> io::Result<Status> {
+) -> io::Result<Status>
+    ensures stays { out_in answer ≡ None → result ≡ Ok answer.status }
+    ensures quiet { out_in answer ≡ None → Keeps (E.contents errors.old) (E.contents errors.new) }
+    ensures put { IfOk result (λ status. IsPut answer.status status
+        (E.contents errors.old) (E.contents errors.new)) }
+{
     match answer {
         Assembled {
             status,

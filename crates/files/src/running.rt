@@ -1,5 +1,8 @@
 //! Runs of decks from files.
 
+ghost use Rattle.std.specs.Prelude.{List, ℕ, IfOk};
+ghost use Rattle.runs.specs.Runs.{Tells};
+
 use command_line::{Fault, Source, Status, tell_fault};
 use core_store::Size;
 use runs::run_deck;
@@ -18,7 +21,11 @@ pub fn run_source<W: Write, E: Write>(
     switches: Switches,
     output: &mut W,
     errors: &mut E,
-) -> io::Result<Status> {
+) -> io::Result<Status>
+    ensures { IfOk result (λ status. (text : List ℕ) × Tells text size switches status
+        (W.contents output.old) (W.contents output.new)
+        (E.contents errors.old) (E.contents errors.new)) }
+{
     match deck {
         Source::Input => run_deck(rt.alloc(), rt.stdin(), output, errors, size, switches),
         Source::File(path) => match File::open(rt, path) {
