@@ -6,10 +6,12 @@ ghost use Rattle.std.specs.Option.{option_to_list};
 ghost use Rattle.sqlite.specs.Order.{Row as Values};
 ghost use Rattle.sqlite.specs.declared.error.ErrorCode.TheVariants.{OutOfMemory};
 ghost use Rattle.tables.specs.Reading.{AreReadable};
-ghost use Rattle.tables.specs.Shown.{shown_job, shown_stretch, shown_picture, shown_card, shown_line};
+ghost use Rattle.tables.specs.Shown.{shown_job, shown_name, shown_queued, shown_stretch, shown_picture, shown_progress, shown_card, shown_line};
 
 use crate::faults::{Fault, fault_of};
-use crate::rows::{CardRow, JobRow, LineRow, PictureRow, StretchRow};
+use crate::rows::{
+    CardRow, JobRow, LineRow, NameRow, PictureRow, ProgressRow, QueuedRow, StretchRow,
+};
 use sqlite::{Error, Row};
 use std::alloc::Global;
 
@@ -37,6 +39,29 @@ impl FromRow for JobRow {
             loaded: row.get(3)?,
             held: row.get(4)?,
             collected: row.get(5)?,
+        })
+    }
+}
+
+impl FromRow for NameRow {
+    ghost shown = { shown_name };
+
+    fn from_row(row: &Row) -> Result<NameRow, Error> {
+        Ok(NameRow {
+            number: row.get(0)?,
+            held: row.get(1)?,
+            collected: row.get(2)?,
+        })
+    }
+}
+
+impl FromRow for QueuedRow {
+    ghost shown = { shown_queued };
+
+    fn from_row(row: &Row) -> Result<QueuedRow, Error> {
+        Ok(QueuedRow {
+            customer: row.get(0)?,
+            number: row.get(1)?,
         })
     }
 }
@@ -71,6 +96,19 @@ impl FromRow for PictureRow {
             cards: row.get(11)?,
             lines: row.get(12)?,
             standing: row.get(13)?,
+        })
+    }
+}
+
+impl FromRow for ProgressRow {
+    ghost shown = { shown_progress };
+
+    fn from_row(row: &Row) -> Result<ProgressRow, Error> {
+        Ok(ProgressRow {
+            i: row.get(0)?,
+            cards: row.get(1)?,
+            lines: row.get(2)?,
+            standing: row.get(3)?,
         })
     }
 }
