@@ -1,0 +1,92 @@
+-- what the first bytes of a request come to
+use Rattle.std.specs.Prelude.{ℕ, ◌≡◌, ◌<◌, ◌≤◌, ◌⊎◌, List, ◌++◌, length, take, Option, Some, None, [], ⊤}
+use Rattle.httparse.specs.Grammar.{HasNoRequest, NeverHasRequest, ReadsRequest, RequestHead, print_request}
+use Rattle.httparse.specs.Spans.{RequestExceeds}
+use Rattle.http_heads.specs.Asked.{Asks}
+use Rattle.http_heads.specs.Fields.{body_length}
+use Rattle.http_heads.specs.Tests.{count_of, fields_of, status_of}
+use Rattle.http_heads.specs.Reading.{ComesTo}
+use Rattle.http_heads.specs.declared.asked.Asked.{Asked}
+use Rattle.http_heads.specs.declared.head.Head.{Head}
+use Rattle.http_heads.specs.declared.verdicts.Verdict.{Verdict}
+use Rattle.http_heads.specs.declared.verdicts.Verdict.TheVariants as verdict
+
+-- the most bytes of a head
+abbrev pub most_bytes : ℕ
+most_bytes = 8192
+
+-- the most header fields of a head
+abbrev pub most_fields : ℕ
+most_fields = 64
+
+-- the bytes begin with this head, which is no longer than a head may be
+pub record BeginsWith (input : List ℕ) (h : RequestHead) : Type 0 where
+  pub rest : List ℕ
+  pub reads : ReadsRequest input h rest
+  pub short : length (print_request h) ≤ most_bytes
+  pub few : length h.fields ≤ most_fields
+
+-- no head begins with some front of the bytes, which is no longer than a head may be
+abbrev pub IsNoHead : List ℕ → Type 0
+IsNoHead input = (front : List ℕ) × (rest : List ℕ) × (input ≡ front ++ rest) × (length front ≤ most_bytes) × NeverHasRequest front
+
+-- the bytes end before a head does
+abbrev pub EndsEarly : List ℕ → Type 0
+EndsEarly input = HasNoRequest input × (length input < most_bytes)
+
+-- the bytes begin with a start line and more header fields than a head may have
+abbrev pub HasManyFields : List ℕ → Type 0
+HasManyFields input = (front : List ℕ) × (rest : List ℕ) × (input ≡ front ++ rest) × RequestExceeds most_fields front
+
+-- no head ends within as many bytes as a head may have
+abbrev pub IsTooLong : List ℕ → Type 0
+IsTooLong input = (most_bytes ≤ length input) × HasNoRequest (take most_bytes input)
+
+-- the bytes are refused with this status before they are routed
+abbrev pub IsUnread : List ℕ → ℕ → Type 0
+IsUnread input status =
+    ((IsNoHead input ⊎ EndsEarly input) × (status ≡ 400))
+    ⊎ ((HasManyFields input ⊎ IsTooLong input) × (status ≡ 431))
+
+-- a head is refused with this status: by one of the tests, or else since its switches can't be read
+abbrev pub IsRefused : RequestHead → ℕ → Type 0
+IsRefused h status =
+    (status_of h ≡ Some status)
+    ⊎ ((status_of h ≡ None) × (status ≡ 400) × ((asked : Asked) → ¬ Asks h.target asked))
+
+-- the bytes are answered with this status alone
+abbrev pub Refuses : List ℕ → ℕ → Type 0
+Refuses input status = IsUnread input status ⊎ ((h : RequestHead) × BeginsWith input h × IsRefused h status)
+
+-- the bytes begin with a head that passes all tests and asks for this, with a body of so many
+-- bytes, which begins these
+abbrev pub AsksFor : List ℕ → Asked → ℕ → List ℕ → Type 0
+AsksFor input asked count body =
+    (h : RequestHead) × (begins : BeginsWith input h) × (status_of h ≡ None) × Asks h.target asked
+    × (count ≡ count_of (body_length (fields_of h))) × (body ≡ begins.rest)
+
+-- what a head that was read comes to: refused, or what it asks for
+abbrev pub IsVerdictOn : RequestHead → List ℕ → Verdict → Type 0
+IsVerdictOn h after (verdict.Refused status) = IsRefused h status
+IsVerdictOn h after (verdict.Asks asked count begun) =
+    (status_of h ≡ None) × Asks h.target asked × (count ≡ count_of (body_length (fields_of h)))
+    × (begun.now ≡ after)
+IsVerdictOn h after verdict.ReadFailed = ⊥
+
+-- what the bytes of a reader come to, of which the last are not read yet
+abbrev pub Judges : List ℕ → List ℕ → Verdict → Type 0
+Judges input rest (verdict.Refused status) = Refuses input status
+Judges input rest (verdict.Asks asked count begun) = AsksFor input asked count (begun.now ++ rest)
+Judges input rest verdict.ReadFailed = ⊤
+
+-- the bytes of a reader begin with those of a head that was read, and go on with the rest
+abbrev pub IsReadOf : Head → List ℕ → List ℕ → Type 0
+IsReadOf head input rest =
+    (input ≡ take head.filled head.bytes ++ rest)
+    × ComesTo (take head.filled head.bytes) head.fields most_bytes (rest ≡ []) head.outcome
+
+-- what is known of a head that was read from a reader
+abbrev pub ReadsHead : Option (List ℕ) → Option (List ℕ) → Head → Type 0
+ReadsHead None new head = ⊤
+ReadsHead (Some input) None head = ⊥
+ReadsHead (Some input) (Some rest) head = IsReadOf head input rest

@@ -1,0 +1,5 @@
+pub mod Fields
+pub mod Asked
+pub mod Tests
+pub mod Reading
+pub mod Heads
