@@ -1,3 +1,4 @@
+pub mod Changed
 pub mod Crash
 pub mod Handed
 pub mod Meters
@@ -5,5 +6,3 @@ pub mod Offices
 pub mod ReadBack
 pub mod Replies
 pub mod Saved
-pub mod Sliced
-pub mod Stretches

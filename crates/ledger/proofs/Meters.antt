@@ -1,49 +1,18 @@
--- By how much the meter rises.
-use Rattle.std.proofs.Common.{◌≡◌, ◌≤◌, ◌+◌, ℕ, zero, suc, Bool, true, false, if◌then◌else◌, Result, Ok, Err, OnErr, arith}
-use Rattle.machine.specs.Run.{State, IsGivenUp, attempts, step, risen, is_running}
-use Rattle.ledger.specs.Meters.{RisenAtMost}
+-- By how much the meter rises at most.
+use Rattle.std.proofs.Common.{◌≡◌, ℕ, String, refl}
+use Rattle.office.specs.Kept.{limit_of as limit_on}
+use Rattle.office.specs.Office.{limit_of}
+use Rattle.office.specs.declared.commands.Command.TheVariants.{Job as OnJob}
+use Rattle.office.specs.declared.commands.JobCommand.{JobCommand}
+use Rattle.office.specs.declared.commands.JobCommand.TheVariants.{Slice, Start, Hold, Release, Collect, Standing as Tell, Cards, Lines}
 
-pub on_err : {X E : Type 0} (r : Result X E) (P : Type 0) → P → OnErr r P
-on_err (Ok x) P h = tt
-on_err (Err e) P h = h
-
--- a meter that has not ticked
-pub unticked : (limit old new : ℕ) → new ≡ old → RisenAtMost limit old new
-unticked limit old new same = record { ticks = 0; most = omega arith; is = omega (arith, same) }
-
-pub risen_by : (ticks limit old new : ℕ) → ticks ≤ limit → new ≡ risen old ticks → RisenAtMost limit old new
-risen_by ticks limit old new most is = record { ticks = ticks; most = most; is = is }
-
-pub no_more : (fewer limit old new : ℕ) → fewer ≤ limit → RisenAtMost fewer old new → RisenAtMost limit old new
-no_more fewer limit old new less it = record { ticks = it.ticks; most = omega (arith, less, it.most); is = it.is }
-
-one_at_most : (b : Bool) (n count : ℕ) → n ≤ count → (if b then 1 else 0) + n ≤ suc count
-one_at_most true n count h = omega arith
-one_at_most false n count h = omega arith
-
--- there are no more attempts than steps
-pub attempts_fit : (m : State) (count : ℕ) → attempts m count ≤ count
-unfolding attempts
-attempts_fit m zero = omega arith
-attempts_fit m (suc count) = one_at_most (is_running m.standing) (attempts (step m) count) count (attempts_fit (step m) count)
-
-both_more : (first a b : ℕ) → a ≤ b → first + a ≤ first + b
-both_more first a b h = omega arith
-
--- and with more steps no fewer
-attempts_rise : (m : State) (fewer count : ℕ) → fewer ≤ count → attempts m fewer ≤ attempts m count
-unfolding attempts
-attempts_rise m zero count h = omega arith
-attempts_rise m (suc fewer) zero h = absurd (omega (arith, h))
-attempts_rise m (suc fewer) (suc count) h =
-    both_more (if is_running m.standing then 1 else 0) (attempts (step m) fewer) (attempts (step m) count) (attempts_rise (step m) fewer count (omega (arith, h)))
-
--- a run that was given up has ticked for no more than it would have attempted
-pub given_up_within : (m : State) (limit old new : ℕ) → IsGivenUp m limit old new → RisenAtMost (attempts m limit) old new
-given_up_within m limit old new it = record {
-  ticks = it.done;
-  most =
-      let rise = attempts_rise m it.done limit (omega (arith, it.below)) in
-      omega (arith, it.attempted, rise);
-  is = it.meter;
-}
+-- a command attempts no more than its command on the job
+pub limit_is : (customer : String) (number : ℕ) (c : JobCommand) → limit_of (OnJob customer number c) ≡ limit_on c
+limit_is customer number (Slice limit) = refl
+limit_is customer number (Start switches) = refl
+limit_is customer number Hold = refl
+limit_is customer number Release = refl
+limit_is customer number Collect = refl
+limit_is customer number Tell = refl
+limit_is customer number Cards = refl
+limit_is customer number Lines = refl
