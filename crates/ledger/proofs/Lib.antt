@@ -1,7 +1,6 @@
 pub mod Changed
 pub mod Crash
 pub mod Handed
-pub mod Meters
 pub mod Offices
 pub mod ReadBack
 pub mod Replies
