@@ -1,12 +1,12 @@
 -- What a command changes of a job, in the office and in the tables
-use Rattle.std.proofs.Common.{true≢false, inl, inr, ◌≡◌, ℕ, List, [], ◌∷◌, length, take, map, ◌≤◌, Bool, true, false, ◌&&◌, ◌==◌, bytes_eq, if◌then◌else◌, Option, None, Some, refl, sym, ap, subst, ◌∙◌, arith}
+use Rattle.std.proofs.Common.{true≢false, inl, inr, ◌≡◌, ℕ, List, [], ◌∷◌, length, take, map, ◌≤◌, Bool, true, false, ◌&&◌, ◌==◌, bytes_eq, if◌then◌else◌, Option, Some, refl, sym, ap, subst, ◌∙◌, arith}
 use Rattle.std.specs.List.{All, AllByRecursion}
 use Rattle.std.proofs.Math.Path.{fun_ext}
 use Rattle.std.proofs.lemmas.Bool.{cases_Bool}
 use Rattle.std.proofs.lemmas.List.{length-take}
 use Rattle.cards.specs.declared.decks.Card.{Card}
 use Rattle.cards.specs.Decks.{IsCard}
-use Rattle.machine.specs.Run.{State, after, started, lines_of}
+use Rattle.machine.specs.Run.{State, after, lines_of}
 use Rattle.office.specs.Jobs.{Job, picture, IsJob}
 use Rattle.office.specs.Kept.{Kept, kept_of, changed, changed_job}
 use Rattle.office.specs.Office.{Entry, Office, is_entry, job_of, with_job}
@@ -17,7 +17,6 @@ use Rattle.sqlite.specs.Effect.{Database}
 use Rattle.sqlite.specs.State as store
 use Rattle.tables.specs.Tables.{NamedJob, Holds, AreDistinct, is_job, at_job, with_cards, with_lines, with_stretches, with_picture}
 use Rattle.tables.proofs.Behind.{name_is, name_yes}
-use Rattle.units.specs.Switches.{seven}
 use Rattle.units.specs.declared.switches.Switches.{Switches}
 use Rattle.ledger.specs.Saving.{HadMade}
 use Rattle.ledger.specs.Standing.{named, job_cells, stretch_row, stretches_of, picture_of, cards_of, tables_of, CanBeKept, Rows, StandsIn}

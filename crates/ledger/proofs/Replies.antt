@@ -5,7 +5,7 @@ use Rattle.std.proofs.lemmas.List.Elements.{All-head, All-tail}
 use Rattle.cards.specs.declared.decks.Card.{Card}
 use Rattle.cards.specs.Decks.{deck_bytes, IsCard, IsDeck}
 use Rattle.office.specs.Jobs.{Job, loaded_deck, IsJob}
-use Rattle.office.specs.Kept.{Kept, kept_of, summary_of, job_refusal, answered, changed, changed_job, taken_unless, take_kept, job_unless, job_after}
+use Rattle.office.specs.Kept.{Kept, kept_of, summary_of, job_refusal, answered, changed_job, taken_unless, take_kept, job_unless, job_after}
 use Rattle.office.specs.New.{job_or_refusal}
 use Rattle.office.specs.Office.{Office, job_of, own, with_job, and_job, added, submitted_as, submitted, commanded}
 use Rattle.office.specs.declared.commands.Contents.{Contents}
@@ -19,7 +19,7 @@ use Rattle.sqlite.specs.State.{State}
 use Rattle.tables.specs.Tables as tables
 use Rattle.tables.specs.declared.names.JobName.{JobName}
 use Rattle.ledger.specs.Saving.{job_in, IsAfter}
-use Rattle.ledger.specs.Standing.{CanBeKept, StandsIn, Served, named}
+use Rattle.ledger.specs.Standing.{StandsIn, Served, named}
 use Rattle.ledger.proofs.Changed.{same_job}
 
 -- ---- submissions

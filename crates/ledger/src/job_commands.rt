@@ -14,9 +14,7 @@ use crate::reading::find_whole;
 use crate::saving::{Made, save};
 use core_store::FlagCore;
 use machine::Meter;
-use office::{
-    Job, JobCommand, Refusal, Reply, commands_act_on_pictures, commands_keep_jobs,
-};
+use office::{Job, JobCommand, Refusal, Reply, commands_act_on_pictures, commands_keep_jobs};
 use sqlite::Alter;
 use tables::{Fault, JobName, OpenTables};
 

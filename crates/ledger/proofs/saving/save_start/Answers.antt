@@ -2,7 +2,6 @@ use Rattle.std.proofs.Common.{◌≡◌, ap, arith, rules, is_some}
 use Rattle.sqlite.specs.State.{HasCleanDisk}
 use Rattle.tables.specs.Steps.{seen}
 use Rattle.tables.proofs.Frames.{on_ok_then}
-use Rattle.tables.proofs.Stepping.{on_any}
 use Rattle.office.specs.Kept.{Kept}
 use Rattle.units.specs.Switches.{seven}
 use Rattle.ledger.specs.Saving.{with_machine}

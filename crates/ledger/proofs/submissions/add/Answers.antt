@@ -1,5 +1,4 @@
-use Rattle.std.proofs.Common.{◌≡◌, length, sym, ap, ◌∙◌, arith}
-use Rattle.cards.specs.declared.decks.Card.{Card}
+use Rattle.std.proofs.Common.{length, ap, ◌∙◌, arith}
 use Rattle.sqlite.specs.State.{HasCleanDisk}
 use Rattle.tables.specs.Steps.{seen}
 use Rattle.office.specs.Kept.{Kept}
