@@ -1,9 +1,7 @@
+pub mod Changed
 pub mod Crash
 pub mod Handed
-pub mod Meters
 pub mod Offices
 pub mod ReadBack
 pub mod Replies
 pub mod Saved
-pub mod Sliced
-pub mod Stretches

@@ -1,9 +1,5 @@
+pub mod Asked
 pub mod Found
-pub mod Kept
-pub mod Meters
-pub mod New
-pub mod Numbers
-pub mod Office
 pub mod Replying
 pub mod Saving
 pub mod Serving
