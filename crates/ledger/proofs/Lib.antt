@@ -5,3 +5,4 @@ pub mod Offices
 pub mod ReadBack
 pub mod Replies
 pub mod Saved
+pub mod Adopted

@@ -5,3 +5,4 @@ pub mod Saving
 pub mod Serving
 pub mod Standing
 pub mod Steps
+pub mod Adopting

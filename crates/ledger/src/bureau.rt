@@ -1,12 +1,13 @@
 //! The bureau: each command in one transaction, whose commit is the last call of the store.
 
-ghost use Rattle.std.specs.Prelude.{◌≡◌, ◌⊎◌, ◌≤◌, [], false, Err, IsTrue, IfOk, IfErr, IsErrOf};
+ghost use Rattle.std.specs.Prelude.{◌≡◌, ◌⊎◌, ◌≤◌, [], false, Err, IsTrue, IfOk, IfErr, OnOk, IsErrOf};
 ghost use Rattle.sqlite.specs.Held.{state};
 ghost use Rattle.sqlite.specs.State.{HasCleanDisk};
 ghost use Rattle.sqlite.specs.View.{doubt};
 ghost use Rattle.tables.specs.Schema.{no_schema};
 ghost use Rattle.office.specs.Meters.{RisenAtMost};
 ghost use Rattle.office.specs.Office.{served, take, attempted_by, attempted, limit_of};
+ghost use Rattle.ledger.specs.Adopting.{StandsStill, IsNoFaultOfTables, HasOwnVersion};
 ghost use Rattle.ledger.specs.Asked.{asked};
 ghost use Rattle.ledger.specs.Replying.{Replies, Rises, RisesAtMost, KeepsOffice, LeavesEither, MakesOffice, LeavesNone};
 ghost use Rattle.ledger.specs.Standing.{Stands, IsAsBefore};
@@ -17,7 +18,7 @@ use machine::Meter;
 use office::Reply;
 use sqlite::{Alter, Connection};
 use std::alloc::Global;
-use tables::{Fault, OpenTables};
+use tables::{Fault, OpenFault, OpenTables};
 
 /// A bureau over a connection to its tables.
 pub struct Bureau<S: Alter> {
@@ -95,6 +96,24 @@ fn make<S: Alter>(alloc: Global, conn: &mut Connection<S>) -> Result<(), Fault>
     }
 }
 
+/// Whether the tables are a bureau's, of its own version: they are asked in a transaction that is
+/// rolled back.
+fn look<S: Alter>(alloc: Global, conn: &mut Connection<S>) -> Result<(), OpenFault>
+    ensures stands { StandsStill S.Store conn.old conn.new }
+    ensures known { IfErr result (IsNoFaultOfTables S.Store conn.old conn.new) }
+    ensures version { OnOk result (HasOwnVersion S.Store conn.old conn.new) }
+    ensures clean { doubt (state S.Store conn.old).is_clean
+        ≤ doubt (state S.Store conn.new).is_clean }
+{
+    if !conn.is_autocommit() {
+        return Err(OpenFault::Store);
+    }
+    let mut tx = conn.transaction();
+    let found = OpenTables { tx: &mut tx, alloc }.find_version();
+    tx.rollback();
+    found
+}
+
 impl<S: Alter> Bureau<S> {
     /// Applies a command. After fault 2 every later command is answered so, until the file is
     /// opened again. A fault leaves the meter risen by the instructions that were attempted.
@@ -150,6 +169,33 @@ impl<S: Alter + Drop> Bureau<S> {
         ensures crash { IfErr result (λ e. LeavesNone S.Store conn e.1) }
     {
         match make(alloc, &mut conn) {
+            Ok(()) => Ok(Bureau {
+                conn,
+                alloc,
+                broken: false,
+            }),
+            Err(fault) => Err((fault, conn)),
+        }
+    }
+
+    /// A bureau over the tables that a connection finds. It changes none of them. It fails with 50
+    /// where they are no bureau's, or a later version's, and with 51 where they are an earlier
+    /// version's; the connection is then handed back.
+    pub fn adopt(
+        alloc: Global,
+        mut conn: Connection<S>,
+    ) -> Result<Bureau<S>, (OpenFault, Connection<S>)>
+        ensures stands { IfOk result (λ bureau. StandsStill S.Store conn bureau.conn) }
+        ensures whole { IfOk result (λ bureau. bureau.broken ≡ false) }
+        ensures version { IfOk result (λ bureau. HasOwnVersion S.Store conn bureau.conn) }
+        ensures kept { IfErr result (λ e. StandsStill S.Store conn e.1) }
+        ensures known { IfErr result (λ e. IsNoFaultOfTables S.Store conn e.1 e.0) }
+        ensures clean { IfOk result (λ bureau. doubt (state S.Store conn).is_clean
+            ≤ doubt (state S.Store bureau.conn).is_clean) }
+        ensures clean_still { IfErr result (λ e. doubt (state S.Store conn).is_clean
+            ≤ doubt (state S.Store e.1).is_clean) }
+    {
+        match look(alloc, &mut conn) {
             Ok(()) => Ok(Bureau {
                 conn,
                 alloc,
