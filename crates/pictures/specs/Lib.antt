@@ -1,3 +1,4 @@
 pub mod Columns
 pub mod Pictures
+pub mod Progress
 pub mod Rows

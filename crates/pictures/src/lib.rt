@@ -11,6 +11,7 @@ mod from_cells;
 mod lines;
 mod numbers;
 mod parts;
+mod progress;
 mod storage;
 
 pub use decks::{card_bytes, deck_bytes, read_deck};
@@ -18,3 +19,4 @@ pub use from_cells::{FromCells, read_rows};
 pub use lines::line_row;
 pub use numbers::{read_switches, read_truth, switches_number, truth};
 pub use parts::{Media, picture_row, read_picture};
+pub use progress::{Progress, read_progress};

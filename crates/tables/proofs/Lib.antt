@@ -4,13 +4,17 @@ pub mod Creating
 pub mod Frames
 pub mod Inserting
 pub mod Keys
+pub mod Listing
 pub mod Looking
 pub mod Made
+pub mod OneVersion
+pub mod Ordered
 pub mod Placing
 pub mod ReadTexts
 pub mod Reading
 pub mod Replacing
 pub mod Selecting
+pub mod Setting
 pub mod Stepping
 pub mod Texts
 pub mod Updating

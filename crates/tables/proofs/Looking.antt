@@ -17,10 +17,11 @@ use Rattle.sqlite.proofs.Callers.{IsPlain, reads_as}
 use Rattle.tables.specs.Schema.{bureau_schema}
 use Rattle.tables.specs.Cells.{PictureCells}
 use Rattle.tables.specs.Tables.{NamedJob, ByJob, Tables, Holds, IsOf, NamesJob, job_named, jobs_of, is_job, job_row, stretch_row, picture_rows, card_row, line_row, placed, cells, is_row_of, has_customer}
+use Rattle.tables.specs.Listed.{progress_row}
 use Rattle.tables.proofs.Frames.{shown_same}
 use Rattle.tables.proofs.Selecting.{passes, plain_answer, ordered_query, ordered_answer}
-use Rattle.tables.specs.Shown.{shown_job, shown_number, shown_stretch, shown_picture, shown_card, shown_line}
-use Rattle.tables.proofs.ReadTexts.{Selects, is_customer, is_key, select_job, select_job_is, select_numbers, select_numbers_is, select_stretches, select_stretches_is, select_picture, select_picture_is, select_cards, select_cards_is, select_lines, select_lines_is}
+use Rattle.tables.specs.Shown.{shown_job, shown_number, shown_stretch, shown_picture, shown_progress, shown_card, shown_line}
+use Rattle.tables.proofs.ReadTexts.{Selects, is_customer, is_key, select_job, select_job_is, select_numbers, select_numbers_is, select_stretches, select_stretches_is, select_picture, select_picture_is, select_progress, select_progress_is, select_cards, select_cards_is, select_lines, select_lines_is}
 use Rattle.tables.proofs.Keys.{columns, view, shown_cells, rows_of_key, kept_cells, each_test, customer_test, rises, placed_shown, jobs_named, rows_of_jobs, jobs_shown, found_once, at_most_one}
 
 module _ (sql : List ℕ) (query : Query) (names : List (List ℕ)) (is : Selects sql query names) where
@@ -85,6 +86,27 @@ picture_looked_up old new customer number rows h t holds =
     let found = shown_cells picture_columns params kept ∙ ap (map (view picture_columns)) are ∙ picture_shown customer number (t.pictures customer number) in
     let same = plain_answer 5 is_key (columns picture_columns) params db rows refl did.1 in
     (did.0, at_most_one shown_picture (t.pictures customer number) rows (subst (λ xs. IsPermutation xs rows) found same))
+
+-- ---- how far a job has come
+
+abbrev progress_columns : List ℕ
+progress_columns = 3 ∷ 13 ∷ 14 ∷ 15 ∷ []
+
+progress_shown : (customer : List ℕ) (number : ℕ) (p : Option PictureCells) → map (view progress_columns) (picture_rows customer number p) ≡ map shown_progress (option_to_list (option_map progress_row p))
+progress_shown customer number None = refl
+progress_shown customer number (Some p) = refl
+
+pub progress_looked_up : (old new : State) (customer : List ℕ) (number : ℕ) (rows : List Row) → Shown select_progress (Text customer ∷ Int (pos number) ∷ []) old new rows
+    → (t : Tables) → Holds old.now t → IsUnchanged old new × (rows ≡ map shown_progress (option_to_list (option_map progress_row (t.pictures customer number))))
+progress_looked_up old new customer number rows h t holds =
+    let did = looks select_progress _ _ select_progress_is old new (key_of customer number) rows holds.schema h in
+    let params = key_of customer number in
+    let db = old.now.trees in
+    let kept = filter (passes is_key params) (db 5) in
+    let are = rows_of_key customer number [] (db 5) holds.pictures.named ∙ holds.pictures.each customer number in
+    let found = shown_cells progress_columns params kept ∙ ap (map (view progress_columns)) are ∙ progress_shown customer number (t.pictures customer number) in
+    let same = plain_answer 5 is_key (columns progress_columns) params db rows refl did.1 in
+    (did.0, at_most_one shown_progress (option_map progress_row (t.pictures customer number)) rows (subst (λ xs. IsPermutation xs rows) found same))
 
 -- ---- jobs
 

@@ -1,16 +1,21 @@
 -- What the texts mean that read the tables or change a row.
-use Rattle.std.proofs.Common.{◌≡◌, ℕ, List, [], ◌∷◌, codes, refl, false}
+use Rattle.std.proofs.Common.{◌≡◌, ℕ, pos, List, [], ◌∷◌, codes, refl, false}
+use Rattle.sqlite.specs.declared.types.Value.TheVariants.{Int}
 use Rattle.sqlite.specs.Query.{Query}
-use Rattle.sqlite.specs.Term.{Term, col, op2}
+use Rattle.sqlite.specs.Term.{Term, col, op2, lit}
 use Rattle.sqlite_sql.specs.declared.ops.BinaryOp.TheVariants.{Compare}
 use Rattle.sqlite_sql.specs.declared.ops.CompareOp.TheVariants.{Eq}
 use Rattle.sqlite.specs.Collation.TheVariants.{Binary}
 use Rattle.sqlite.specs.Command.TheVariants.{Update, Select}
 use Rattle.sqlite_tied.specs.Compute.{everything}
 use Rattle.sqlite.specs.Listing.{understood, reads_listing}
+use Rattle.sqlite_value.specs.Keys.{ascending}
+use Rattle.sqlite_value.specs.declared.keys.Key.{Key}
 use Rattle.tables.specs.Schema.{bureau_schema}
+use Rattle.tables.specs.Versions.{select_version}
 use Rattle.tables.proofs.Inserting.{Means}
 use Rattle.tables.proofs.Selecting.{plain_query, ordered_query}
+use Rattle.tables.proofs.Ordered.{sorting_query}
 
 -- the text means this query, which does not read the listing of tables
 abbrev pub Selects : List ℕ → Query → List (List ℕ) → Type 0
@@ -27,6 +32,15 @@ is_key = op2 (Compare Eq Binary) (col 1 1) (col 0 0) ∷ op2 (Compare Eq Binary)
 -- .. and its place the third
 abbrev pub is_place : List Term
 is_place = op2 (Compare Eq Binary) (col 1 1) (col 0 0) ∷ op2 (Compare Eq Binary) (col 1 2) (col 0 1) ∷ op2 (Compare Eq Binary) (col 1 3) (col 0 2) ∷ []
+
+-- ---- the version
+
+abbrev pub version_terms : List Term
+version_terms = col 1 2 ∷ []
+
+pub select_version_is : Selects select_version (plain_query 0 [] version_terms) (codes "version" ∷ [])
+unfolding understood everything
+select_version_is = ((refl, (refl, refl)), refl)
 
 -- ---- jobs
 
@@ -49,6 +63,46 @@ number_terms = col 1 2 ∷ []
 pub select_numbers_is : Selects select_numbers (plain_query 1 is_customer number_terms) (codes "number" ∷ [])
 unfolding understood everything
 select_numbers_is = ((refl, (refl, refl)), refl)
+
+abbrev pub select_names : List ℕ
+select_names = codes "SELECT number, held, collected FROM jobs WHERE customer = ?1 ORDER BY number"
+
+abbrev pub name_terms : List Term
+name_terms = col 1 2 ∷ col 1 7 ∷ col 1 8 ∷ []
+
+abbrev pub by_number : List (Term × Key)
+by_number = (col 1 2, ascending Binary) ∷ []
+
+pub select_names_is : Selects select_names (sorting_query 1 is_customer name_terms by_number) (codes "number" ∷ codes "held" ∷ codes "collected" ∷ [])
+unfolding understood everything
+select_names_is = ((refl, (refl, refl)), refl)
+
+abbrev pub select_queued : List ℕ
+select_queued = codes "SELECT customer, number FROM jobs WHERE held = 0 ORDER BY customer, number"
+
+-- the row's job is not held
+abbrev pub is_free : List Term
+is_free = op2 (Compare Eq Binary) (col 1 7) (lit (Int (pos 0))) ∷ []
+
+abbrev pub queued_terms : List Term
+queued_terms = col 1 1 ∷ col 1 2 ∷ []
+
+abbrev pub by_name : List (Term × Key)
+by_name = (col 1 1, ascending Binary) ∷ (col 1 2, ascending Binary) ∷ []
+
+pub select_queued_is : Selects select_queued (sorting_query 1 is_free queued_terms by_name) (codes "customer" ∷ codes "number" ∷ [])
+unfolding understood everything
+select_queued_is = ((refl, (refl, refl)), refl)
+
+abbrev pub update_flags : List ℕ
+update_flags = codes "UPDATE jobs SET held = ?3, collected = ?4 WHERE customer = ?1 AND number = ?2"
+
+abbrev pub flag_terms : List Term
+flag_terms = col 1 0 ∷ col 1 0 ∷ col 1 1 ∷ col 1 2 ∷ col 1 3 ∷ col 1 4 ∷ col 1 5 ∷ col 1 6 ∷ col 0 2 ∷ col 0 3 ∷ []
+
+pub update_flags_is : Means bureau_schema update_flags (Update 1 (record { lets = []; body = plain_query 1 is_key flag_terms }))
+unfolding understood everything
+update_flags_is = (refl, (refl, refl))
 
 -- ---- stretches
 
@@ -84,6 +138,16 @@ pub select_picture_is : Selects select_picture (plain_query 5 is_key picture_ter
     (codes "storage" ∷ codes "i" ∷ codes "a" ∷ codes "b" ∷ codes "compare" ∷ codes "overflow" ∷ codes "channel" ∷ codes "waiting" ∷ codes "form" ∷ codes "line" ∷ codes "taken" ∷ codes "cards" ∷ codes "lines" ∷ codes "standing" ∷ [])
 unfolding understood everything
 select_picture_is = ((refl, (refl, refl)), refl)
+
+abbrev pub select_progress : List ℕ
+select_progress = codes "SELECT i, cards, lines, standing FROM pictures WHERE customer = ?1 AND number = ?2"
+
+abbrev pub progress_terms : List Term
+progress_terms = col 1 4 ∷ col 1 14 ∷ col 1 15 ∷ col 1 16 ∷ []
+
+pub select_progress_is : Selects select_progress (plain_query 5 is_key progress_terms) (codes "i" ∷ codes "cards" ∷ codes "lines" ∷ codes "standing" ∷ [])
+unfolding understood everything
+select_progress_is = ((refl, (refl, refl)), refl)
 
 abbrev pub update_picture : List ℕ
 update_picture = codes "UPDATE pictures SET storage = ?3, i = ?4, a = ?5, b = ?6, compare = ?7, overflow = ?8, channel = ?9, waiting = ?10, form = ?11, line = ?12, taken = ?13, cards = ?14, lines = ?15, standing = ?16 WHERE customer = ?1 AND number = ?2"

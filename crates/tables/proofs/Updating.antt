@@ -41,7 +41,7 @@ no_deed : (deletes : Bool) → deed_for Enforced deletes to_job ≡ None
 no_deed true = refl
 no_deed false = refl
 
-idle_here : (tree : ℕ) (olds news : List Row) → works bureau_schema Enforced 0 tree olds news ≡ []
+pub idle_here : (tree : ℕ) (olds news : List Row) → works bureau_schema Enforced 0 tree olds news ≡ []
 idle_here tree olds news = rw (no_deed (length news == 0))
 
 module _ (schema : Schema) (sql : List ℕ) (at : ℕ) (table : Table) (tests terms : List Term) (is : Means schema sql (Update at (record { lets = []; body = plain_query table.tree tests terms })))
@@ -76,11 +76,11 @@ module _ (schema : Schema) (sql : List ℕ) (at : ℕ) (table : Table) (tests te
       )
 
 -- a test of rows that does not look at the rowid
-abbrev on_cells : List Term → Row → Row → Bool
+abbrev pub on_cells : List Term → Row → Row → Bool
 on_cells tests params row = passes tests params (Null ∷ row)
 
 -- where one row alone passes
-spot : (tests : List Term) (params : Row) → ((r : Row) → passes tests params r ≡ on_cells tests params (drop 1 r)) → (rows : List Row) (old : Row) → AllByRecursion NamesJob (cells rows) → IsShaped Rising rows
+pub spot : (tests : List Term) (params : Row) → ((r : Row) → passes tests params r ≡ on_cells tests params (drop 1 r)) → (rows : List Row) (old : Row) → AllByRecursion NamesJob (cells rows) → IsShaped Rising rows
     → filter (on_cells tests params) (cells rows) ≡ old ∷ [] → (id : ℤ) × (filter (passes tests params) rows ≡ (Int id ∷ old) ∷ [])
 spot tests params blind rows old named shaped found =
     only_row (filter (passes tests params) rows) old (IsShaped-filter Rising (passes tests params) rows shaped)
@@ -95,7 +95,7 @@ some_one : {X : Type 0} (o : Option X) → IsSome o → (x : X) × (o ≡ Some x
 some_one None some = absurd (let e = some in cc)
 some_one (Some x) some = (x, refl)
 
-blind_key : (params r : Row) → passes is_key params r ≡ on_cells is_key params (drop 1 r)
+pub blind_key : (params r : Row) → passes is_key params r ≡ on_cells is_key params (drop 1 r)
 blind_key params [] = refl
 blind_key params (x ∷ r) = refl
 

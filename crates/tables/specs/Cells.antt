@@ -27,6 +27,11 @@ pub record PictureCells : Type 0 where
   pub lines : ℕ
   pub standing : ℕ
 
+-- the columns of a job that are its name
+pub record QueuedName : Type 0 where
+  pub customer : List ℕ
+  pub number : ℕ
+
 -- the columns of a printed line
 pub record LineCells : Type 0 where
   pub form : ℕ

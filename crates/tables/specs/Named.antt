@@ -2,7 +2,7 @@
 use Rattle.std.specs.Prelude.{◌≡◌, ◌+◌, ◌++◌, ℕ, List, [], ◌∷◌, length, Option, None, IsSome}
 use Rattle.std.specs.Option.{option_map}
 use Rattle.tables.specs.Cells.{JobCells, PictureCells, LineCells}
-use Rattle.tables.specs.Tables.{ByJob, Tables, job_named, with_job, with_stretches, with_picture, with_cards, with_lines}
+use Rattle.tables.specs.Tables.{ByJob, Tables, job_named, with_job, with_flags, with_stretches, with_picture, with_cards, with_lines}
 use Rattle.tables.specs.declared.names.JobName.{JobName}
 use Rattle.tables.specs.declared.rows.StretchRow.{StretchRow}
 
@@ -21,6 +21,10 @@ HasNoJob name t = job_named name.customer.now name.number t.jobs ≡ None
 -- a job more
 abbrev pub with_new_job : JobName → JobCells → Tables → Tables
 with_new_job name = with_job name.customer.now name.number
+
+-- the job has these flags, if there is one
+abbrev pub with_flags_of : JobName → ℕ → ℕ → Tables → Tables
+with_flags_of name = with_flags name.customer.now name.number
 
 -- the job has this many stretches, and so the next one has this place
 abbrev pub IsNextStretch : JobName → ℕ → Tables → Type 0

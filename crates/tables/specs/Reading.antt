@@ -1,8 +1,22 @@
 -- what the database's answers are, and which values they show
-use Rattle.std.specs.Prelude.{◌≡◌, ℕ, List, map, Option, Ok}
+use Rattle.std.specs.Prelude.{◌≡◌, ℕ, ◌<◌, ◌^◌, pos, List, map, Option, Ok, IsUtf8, ⊤}
+use Rattle.std.specs.List.{AllByRecursion}
 use Rattle.std.specs.Option.{option_to_list}
+use Rattle.sqlite.specs.declared.types.Value.{Value}
+use Rattle.sqlite.specs.declared.types.Value.TheVariants.{Int, Text, Blob}
 use Rattle.sqlite.specs.Order.{Row}
 use Rattle.sqlite.specs.State.{State, ExecutesInside, Shown}
+
+-- what a value of the tables can be: a number of 32 bits, a text in UTF-8, or bytes
+abbrev pub IsReadable : Value → Type 0
+IsReadable (Int (pos n)) = n < 2 ^ 32
+IsReadable (Text text) = IsUtf8 text
+IsReadable (Blob bytes) = ⊤
+IsReadable _ = ⊥
+
+-- each value of the row can be read
+abbrev pub AreReadable : Row → Type 0
+AreReadable = AllByRecursion IsReadable
 
 -- the text was run with these parameters
 abbrev pub Runs : List ℕ → Row → State → State → Type 0

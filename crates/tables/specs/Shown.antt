@@ -1,9 +1,11 @@
 -- what is read of a row
 use Rattle.std.specs.Prelude.{ℕ, pos, List, [], ◌∷◌}
-use Rattle.sqlite.specs.declared.types.Value.TheVariants.{Int, Blob}
+use Rattle.sqlite.specs.declared.types.Value.TheVariants.{Int, Text, Blob}
 use Rattle.sqlite.specs.Order.{Row}
-use Rattle.tables.specs.Cells.{JobCells, PictureCells, LineCells}
+use Rattle.tables.specs.Cells.{JobCells, PictureCells, LineCells, QueuedName}
 use Rattle.tables.specs.Tables.{NamedJob}
+use Rattle.tables.specs.declared.rows.NameRow.{NameRow}
+use Rattle.tables.specs.declared.rows.ProgressRow.{ProgressRow}
 use Rattle.tables.specs.declared.rows.StretchRow.{StretchRow}
 
 -- the columns of a job, without its name
@@ -15,6 +17,14 @@ shown_job job = Int (pos job.kind) ∷ Int (pos job.size) ∷ Blob job.deck ∷ 
 abbrev pub shown_number : NamedJob → Row
 shown_number job = Int (pos job.number) ∷ []
 
+-- the columns of a job in its customer's list
+abbrev pub shown_name : NameRow → Row
+shown_name job = Int (pos job.number) ∷ Int (pos job.held) ∷ Int (pos job.collected) ∷ []
+
+-- the columns of a job in the queue
+abbrev pub shown_queued : QueuedName → Row
+shown_queued job = Text job.customer ∷ Int (pos job.number) ∷ []
+
 -- the columns of a stretch, without its job and place
 abbrev pub shown_stretch : StretchRow → Row
 shown_stretch s = Int (pos s.switches) ∷ Int (pos s.granted) ∷ []
@@ -25,6 +35,11 @@ shown_picture p = Blob p.storage ∷ Int (pos p.i) ∷ Int (pos p.a) ∷ Int (po
     ∷ Int (pos p.compare) ∷ Int (pos p.overflow) ∷ Int (pos p.channel) ∷ Int (pos p.waiting)
     ∷ Int (pos p.form) ∷ Int (pos p.line) ∷ Int (pos p.taken) ∷ Int (pos p.cards)
     ∷ Int (pos p.lines) ∷ Int (pos p.standing) ∷ []
+
+-- the columns of a picture that tell how far the job has come
+abbrev pub shown_progress : ProgressRow → Row
+shown_progress p = Int (pos p.i) ∷ Int (pos p.cards) ∷ Int (pos p.lines)
+    ∷ Int (pos p.standing) ∷ []
 
 -- the column of a card, without its job and place
 abbrev pub shown_card : List ℕ → Row

@@ -13,7 +13,7 @@ pub record GoesOn (old new : State) : Type 0 where
   pub inside : IsTrue new.in_transaction
 
 -- the transaction goes on, or the commit below it stays
-abbrev pub Frames : {X : Type 0} → State → State → Result X Fault → Type 0
+abbrev pub Frames : {X E : Type 0} → State → State → Result X E → Type 0
 Frames old new (Ok x) = GoesOn old new
 Frames old new (Err fault) = KeepsCommit old new
 
@@ -29,7 +29,7 @@ module _ {S : Type 0} (g : Ghosts S) where
 
   -- A call stays in its transaction, or leaves the commit below it as it was; and it adds nothing
   -- to what a crash may leave.
-  pub record IsStep {X : Type 0} (old new : OpenTables S) (result : Result X Fault)
+  pub record IsStep {X E : Type 0} (old new : OpenTables S) (result : Result X E)
       : Type 0 where
     pub same_transaction : new.tx.ghost_name ≡ old.tx.ghost_name
     pub same_reference : new.tx.now.conn.ghost_name ≡ old.tx.now.conn.ghost_name
@@ -38,7 +38,7 @@ module _ {S : Type 0} (g : Ghosts S) where
     pub survives : Survives (seen old) (seen new) (λ _. ⊥)
 
   -- a step whose Ok shows that the connection was open
-  pub record IsOpenStep {X : Type 0} (old new : OpenTables S) (result : Result X Fault)
+  pub record IsOpenStep {X E : Type 0} (old new : OpenTables S) (result : Result X E)
       : Type 0 where
     pub same_transaction : new.tx.ghost_name ≡ old.tx.ghost_name
     pub same_reference : new.tx.now.conn.ghost_name ≡ old.tx.now.conn.ghost_name

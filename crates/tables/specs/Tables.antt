@@ -60,6 +60,17 @@ with_job customer number cells t = record t {
   jobs = t.jobs ++ (record { customer = customer; number = number; cells = cells }) ∷ [];
 }
 
+-- the job with these flags: whether it is held, and whether it was collected
+abbrev pub flagged : ℕ → ℕ → NamedJob → NamedJob
+flagged held collected job =
+    record job { cells = record job.cells { held = held; collected = collected } }
+
+-- the job of that name has these flags, if there is one
+abbrev pub with_flags : List ℕ → ℕ → ℕ → ℕ → Tables → Tables
+with_flags customer number held collected t = record t {
+  jobs = map (λ job. if is_job customer number job then flagged held collected job else job) t.jobs;
+}
+
 -- these are the job's stretches
 abbrev pub with_stretches : List ℕ → ℕ → List StretchRow → Tables → Tables
 with_stretches customer number stretches t =

@@ -11,10 +11,8 @@ ghost use Rattle.tables.specs.Tables.{Holds, no_rows};
 
 use crate::faults::Fault;
 use crate::open_tables::OpenTables;
+use crate::openings::VERSION;
 use sqlite::{Alter, params};
-
-/// The version of the tables.
-const VERSION: u32 = 1;
 
 impl<S: Alter> OpenTables<'_, '_, S> {
     fn make_bureau(&mut self) -> Result<(), Fault>

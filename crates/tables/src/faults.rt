@@ -2,6 +2,7 @@
 
 ghost use Rattle.std.specs.Prelude.{◌≡◌, ◌↔◌};
 ghost use Rattle.tables.specs.Faults.{fault_number};
+ghost use Rattle.tables.specs.declared.faults.Fault.TheVariants.{NoMemory};
 
 use sqlite::{Error, ErrorCode};
 use std::alloc::AllocError;
@@ -29,10 +30,10 @@ impl Fault {
 }
 
 impl From<AllocError> for Fault {
+    ghost from_gives = { λ _ fault. fault ≡ NoMemory };
+
     /// Want of memory.
-    fn from(_: AllocError) -> Fault
-        ensures { result ≡ Fault.NoMemory }
-    {
+    fn from(_: AllocError) -> Fault {
         Fault::NoMemory
     }
 }

@@ -1,12 +1,17 @@
 //! Rows of answers, read as values.
 
-ghost use Rattle.std.specs.Prelude.{◌≡◌, List, Option, map, IfOk};
+ghost use Rattle.std.specs.Prelude.{◌≡◌, ◌≢◌, List, Option, map, IfOk, IfErr, IsErrOf};
+ghost use Rattle.std.specs.List.{AllByRecursion};
 ghost use Rattle.std.specs.Option.{option_to_list};
 ghost use Rattle.sqlite.specs.Order.{Row as Values};
-ghost use Rattle.tables.specs.Shown.{shown_job, shown_stretch, shown_picture, shown_card, shown_line};
+ghost use Rattle.sqlite.specs.declared.error.ErrorCode.TheVariants.{OutOfMemory};
+ghost use Rattle.tables.specs.Reading.{AreReadable};
+ghost use Rattle.tables.specs.Shown.{shown_job, shown_name, shown_queued, shown_stretch, shown_picture, shown_progress, shown_card, shown_line};
 
 use crate::faults::{Fault, fault_of};
-use crate::rows::{CardRow, JobRow, LineRow, PictureRow, StretchRow};
+use crate::rows::{
+    CardRow, JobRow, LineRow, NameRow, PictureRow, ProgressRow, QueuedRow, StretchRow,
+};
 use sqlite::{Error, Row};
 use std::alloc::Global;
 
@@ -15,9 +20,12 @@ pub trait FromRow: Drop {
     // The row that shows a value.
     ghost shown: { Self → Values };
 
-    /// Reads the value. It fails where the row shows none.
+    /// Reads the value. Where the row shows one that can be read, it fails for want of memory
+    /// alone.
     fn from_row(row: &Row) -> Result<Self, Error>
-        ensures { IfOk result (λ read. (it : Self) → row.now ≡ shown it → read ≡ it) };
+        ensures read { IfOk result (λ read. (it : Self) → row.now ≡ shown it → read ≡ it) }
+        ensures none { IfErr result (λ error. error ≢ Error.SqliteFailure OutOfMemory
+            → (it : Self) → AreReadable (shown it) → row.now ≢ shown it) };
 }
 
 impl FromRow for JobRow {
@@ -31,6 +39,29 @@ impl FromRow for JobRow {
             loaded: row.get(3)?,
             held: row.get(4)?,
             collected: row.get(5)?,
+        })
+    }
+}
+
+impl FromRow for NameRow {
+    ghost shown = { shown_name };
+
+    fn from_row(row: &Row) -> Result<NameRow, Error> {
+        Ok(NameRow {
+            number: row.get(0)?,
+            held: row.get(1)?,
+            collected: row.get(2)?,
+        })
+    }
+}
+
+impl FromRow for QueuedRow {
+    ghost shown = { shown_queued };
+
+    fn from_row(row: &Row) -> Result<QueuedRow, Error> {
+        Ok(QueuedRow {
+            customer: row.get(0)?,
+            number: row.get(1)?,
         })
     }
 }
@@ -69,6 +100,19 @@ impl FromRow for PictureRow {
     }
 }
 
+impl FromRow for ProgressRow {
+    ghost shown = { shown_progress };
+
+    fn from_row(row: &Row) -> Result<ProgressRow, Error> {
+        Ok(ProgressRow {
+            i: row.get(0)?,
+            cards: row.get(1)?,
+            lines: row.get(2)?,
+            standing: row.get(3)?,
+        })
+    }
+}
+
 impl FromRow for CardRow {
     ghost shown = { shown_card };
 
@@ -89,9 +133,13 @@ impl FromRow for LineRow {
     }
 }
 
-/// The values that the rows show. It fails where one shows none.
+/// The values that the rows show. Where each shows one that can be read, it fails for want of
+/// memory alone.
 pub(crate) fn read_all<T: FromRow>(alloc: Global, rows: &[Row]) -> Result<Vec<T>, Fault>
-    ensures { IfOk result (λ read. (all : List T) → rows.now ≡ map T.shown all → read.items ≡ all) }
+    ensures read { IfOk result (λ read. (all : List T)
+        → rows.now ≡ map T.shown all → read.items ≡ all) }
+    ensures none { IsErrOf result Fault.Store → (all : List T)
+        → AllByRecursion (λ it. AreReadable (T.shown it)) all → rows.now ≢ map T.shown all }
 {
     let mut read = Vec::with_capacity(alloc, rows.len())?;
     for row in rows {
@@ -103,10 +151,14 @@ pub(crate) fn read_all<T: FromRow>(alloc: Global, rows: &[Row]) -> Result<Vec<T>
     Ok(read)
 }
 
-/// The value that the first row shows, if there is a row.
+/// The value that the first row shows, if there is a row. Where it shows one that can be read, it
+/// fails for want of memory alone.
 pub(crate) fn read_first<T: FromRow>(rows: &[Row]) -> Result<Option<T>, Fault>
-    ensures { IfOk result (λ found. (it : Option T)
+    ensures read { IfOk result (λ found. (it : Option T)
         → rows.now ≡ map T.shown (option_to_list it) → found ≡ it) }
+    ensures none { IsErrOf result Fault.Store → (it : Option T)
+        → AllByRecursion (λ it. AreReadable (T.shown it)) (option_to_list it)
+        → rows.now ≢ map T.shown (option_to_list it) }
 {
     let Some(row) = rows.first() else {
         return Ok(None);

@@ -11,13 +11,17 @@ mod creates;
 mod faults;
 mod from_row;
 mod inserts;
+mod lists;
 mod lookups;
 mod names;
 mod open_tables;
+mod openings;
 mod rows;
 mod updates;
 
 pub use faults::Fault;
+pub use lists::lists_are_in_order;
 pub use names::JobName;
 pub use open_tables::OpenTables;
-pub use rows::{CardRow, JobRow, LineRow, PictureRow, StretchRow};
+pub use openings::OpenFault;
+pub use rows::{CardRow, JobRow, LineRow, NameRow, PictureRow, ProgressRow, QueuedRow, StretchRow};

@@ -1,6 +1,8 @@
 //! Each statement that reads what the tables hold.
 
 ghost use Rattle.std.specs.Prelude.{◌≡◌, length};
+ghost use Rattle.std.specs.Option.{option_map};
+ghost use Rattle.tables.specs.Listed.{names_of, names_queued, progress_row};
 ghost use Rattle.tables.specs.Named.{cells_of, of_job};
 ghost use Rattle.tables.specs.Steps.{Finds, IsOpenStep};
 ghost use Rattle.tables.specs.Tables.{jobs_of};
@@ -8,7 +10,9 @@ ghost use Rattle.tables.specs.Tables.{jobs_of};
 use crate::faults::Fault;
 use crate::names::JobName;
 use crate::open_tables::OpenTables;
-use crate::rows::{CardRow, JobRow, LineRow, PictureRow, StretchRow};
+use crate::rows::{
+    CardRow, JobRow, LineRow, NameRow, PictureRow, ProgressRow, QueuedRow, StretchRow,
+};
 use sqlite::{Alter, params};
 
 impl<S: Alter> OpenTables<'_, '_, S> {
@@ -35,6 +39,30 @@ impl<S: Alter> OpenTables<'_, '_, S> {
             params![customer],
         )?;
         Ok(rows.len())
+    }
+
+    /// The jobs of a customer, by number.
+    pub fn job_names_of(&mut self, customer: &str) -> Result<Vec<NameRow>, Fault>
+        ensures step { IsOpenStep S.Store self.old self.new result }
+        ensures found { Finds S.Store self.old self.new result
+            (λ t found. found.items ≡ names_of customer.now t.jobs) }
+    {
+        self.all(
+            "SELECT number, held, collected FROM jobs WHERE customer = ?1 ORDER BY number",
+            params![customer],
+        )
+    }
+
+    /// The jobs that are not held, by customer and then by number.
+    pub fn queued_names(&mut self) -> Result<Vec<QueuedRow>, Fault>
+        ensures step { IsOpenStep S.Store self.old self.new result }
+        ensures found { Finds S.Store self.old self.new result
+            (λ t found. found.items ≡ names_queued t.jobs) }
+    {
+        self.all(
+            "SELECT customer, number FROM jobs WHERE held = 0 ORDER BY customer, number",
+            params![],
+        )
     }
 
     /// The stretches of a job, from place 0 on.
@@ -81,6 +109,17 @@ impl<S: Alter> OpenTables<'_, '_, S> {
     {
         self.one(
             "SELECT storage, i, a, b, compare, overflow, channel, waiting, form, line, taken, cards, lines, standing FROM pictures WHERE customer = ?1 AND number = ?2",
+            params![name.customer, name.number],
+        )
+    }
+    /// How far a job has come, if it has a picture: what `find_picture` finds, without the storage.
+    pub fn find_progress(&mut self, name: JobName<'_>) -> Result<Option<ProgressRow>, Fault>
+        ensures step { IsOpenStep S.Store self.old self.new result }
+        ensures found { Finds S.Store self.old self.new result
+            (λ t found. found ≡ option_map progress_row (of_job name.entry t.pictures)) }
+    {
+        self.one(
+            "SELECT i, cards, lines, standing FROM pictures WHERE customer = ?1 AND number = ?2",
             params![name.customer, name.number],
         )
     }

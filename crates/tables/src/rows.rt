@@ -27,6 +27,32 @@ impl Model for JobRow {
     ghost view = { λ row. record { kind = row.kind; size = row.size; deck = row.deck.items; loaded = row.loaded.items; held = row.held; collected = row.collected } };
 }
 
+/// Of a row of `jobs`: what the list of a customer's jobs shows.
+#[derive(Clone, Copy)]
+pub struct NameRow {
+    pub number: u32,
+    /// 0 or 1.
+    pub held: u32,
+    /// 0 or 1.
+    pub collected: u32,
+}
+
+/// Of a row of `jobs`: its name.
+#[derive(Drop)]
+pub struct QueuedRow {
+    pub customer: String,
+    pub number: u32,
+}
+
+impl Model for QueuedRow {
+    ghost use Rattle.std.specs.Prelude.{string_bytes};
+    ghost use Rattle.tables.specs.Cells.{QueuedName};
+
+    ghost Value = { QueuedName };
+
+    ghost view = { λ row. record { customer = string_bytes row.customer; number = row.number } };
+}
+
 /// A row of `stretches`.
 #[derive(Clone, Copy, PartialEq, Eq)]
 pub struct StretchRow {
@@ -70,6 +96,18 @@ impl Model for PictureRow {
     ghost Value = { PictureCells };
 
     ghost view = { λ row. record { storage = row.storage.items; i = row.i; a = row.a; b = row.b; compare = row.compare; overflow = row.overflow; channel = row.channel; waiting = row.waiting; form = row.form; line = row.line; taken = row.taken; cards = row.cards; lines = row.lines; standing = row.standing } };
+}
+
+/// Of a row of `pictures`: how far the job has come.
+#[derive(Clone, Copy)]
+pub struct ProgressRow {
+    pub i: u32,
+    /// How many cards were punched.
+    pub cards: u32,
+    /// How many lines were printed.
+    pub lines: u32,
+    /// 0 running, 1 halted, 2 to 8 the checks.
+    pub standing: u32,
 }
 
 /// A row of `cards`: 80 bytes, each the number of a character.

@@ -1,6 +1,7 @@
 //! Each statement that changes a row.
 
-ghost use Rattle.tables.specs.Named.{IsLastStretch, with_last_granted, HasPicture, with_picture_of};
+ghost use Rattle.std.specs.Prelude.{⊤};
+ghost use Rattle.tables.specs.Named.{with_flags_of, IsLastStretch, with_last_granted, HasPicture, with_picture_of};
 ghost use Rattle.tables.specs.Steps.{Changes, IsStep};
 
 use crate::faults::Fault;
@@ -10,6 +11,19 @@ use crate::rows::PictureRow;
 use sqlite::{Alter, params};
 
 impl<S: Alter> OpenTables<'_, '_, S> {
+    /// Notes whether a job is held, and whether it was collected. Where there is no such job,
+    /// nothing is changed.
+    pub fn set_flags(&mut self, name: JobName<'_>, held: u32, collected: u32) -> Result<(), Fault>
+        ensures step { IsStep S.Store self.old self.new result }
+        ensures set { Changes S.Store self.old self.new result
+            (λ t. ⊤) (with_flags_of name.entry held collected) }
+    {
+        self.run(
+            "UPDATE jobs SET held = ?3, collected = ?4 WHERE customer = ?1 AND number = ?2",
+            params![name.customer, name.number, held, collected],
+        )
+    }
+
     /// Notes how much is granted in a job's last stretch, which has this place.
     pub fn set_granted(&mut self, name: JobName<'_>, place: u32, granted: u32) -> Result<(), Fault>
         ensures step { IsStep S.Store self.old self.new result }

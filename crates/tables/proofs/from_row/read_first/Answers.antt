@@ -1,8 +1,17 @@
-use Rattle.std.proofs.Common.{Some, sym, ap, ◌∙◌}
-use Rattle.tables.proofs.Reading.{first_one}
+use Rattle.std.proofs.Common.{Some, sym, ap, subst, ◌∙◌}
+use Rattle.std.specs.List.{AllByRecursion}
+use Rattle.std.specs.Option.{option_to_list}
+use Rattle.tables.specs.Reading.{AreReadable}
+use Rattle.tables.proofs.Reading.{first_one, no_memory, same_fault}
 use Rattle.tables.proofs.from_row.read_first.Goals as goal
 
-pub returns-in-Ok : goal.returns-in-Ok
-returns-in-Ok g c it h =
+pub returns-in-Ok-clause-read : goal.returns-in-Ok-clause-read
+returns-in-Ok-clause-read g c it h =
     let found = first_one g.T.FromRow.shown it c.args.rows.now c.in-Some.row.now h c.in-Some.ensures.value in
-    ap Some (c.in-Ok.ensures found.0 found.2) ∙ sym found.1
+    ap Some (c.in-Ok.ensures.read found.0 found.2) ∙ sym found.1
+
+pub returns-in-Err-clause-none : goal.returns-in-Err-clause-none
+returns-in-Err-clause-none g c store it ready h =
+    let found = first_one g.T.FromRow.shown it c.args.rows.now c.in-Some.row.now h c.in-Some.ensures.value in
+    let here = subst (λ o. AllByRecursion (λ x. AreReadable (g.T.FromRow.shown x)) (option_to_list o)) found.1 ready in
+    c.in-Err.ensures.none (no_memory _ _ c.fault_of.ensures (same_fault store)) found.0 here.0 found.2
