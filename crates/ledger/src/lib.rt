@@ -13,6 +13,7 @@
 mod bureau;
 mod commands;
 mod job_commands;
+mod lists;
 mod reading;
 mod saving;
 mod serving;
