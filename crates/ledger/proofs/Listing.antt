@@ -4,13 +4,13 @@ use Rattle.std.specs.List.{AllByRecursion}
 use Rattle.std.specs.Ordering.{is_gt}
 use Rattle.std.proofs.lemmas.List.{map-append}
 use Rattle.std.proofs.lemmas.Slice.Eq.{bytes_eq-Decides}
-use Rattle.sqlite_keyed.proofs.ListLemmas.{filter-map, map-map}
 use Rattle.machine.specs.Run.{is_running}
 use Rattle.machine.specs.declared.parts.Standing.{Standing}
 use Rattle.machine.specs.declared.parts.Standing.TheVariants as standing
 use Rattle.office.specs.Kept.{told_at, goes_on}
-use Rattle.office.specs.Office.{Entry, Office, is_entry, job_of, own, free_jobs, by_number, by_name, runs}
+use Rattle.office.specs.Office.{Entry, Office, is_entry, job_of, own, free_jobs, by_number, by_name, queued_job, runs}
 use Rattle.office.specs.Orders.{put_among, in_order}
+use Rattle.office.specs.Queued.{QueuedJob}
 use Rattle.pictures.specs.Columns.{truth}
 use Rattle.tables.proofs.Behind.{name_is, name_yes}
 use Rattle.tables.proofs.Ordered.{in_order-map}
@@ -45,6 +45,18 @@ module _ {X : Type 0} (P : X → Type 0) where
       go : (b : Bool) → test x ≡ b → AllByRecursion Q (filter test xs) → AllByRecursion Q (if b then x ∷ filter test xs else filter test xs)
       go true is rest = (so x all.0 is, rest)
       go false is rest = rest
+
+filter-map : {X Y : Type 0} (test : Y → Bool) (f : X → Y) (xs : List X) → filter test (map f xs) ≡ map f (filter (λ x. test (f x)) xs)
+filter-map test f [] = refl
+filter-map test f (x ∷ xs) = go (test (f x)) (filter-map test f xs)
+  where
+    go : (b : Bool) → filter test (map f xs) ≡ map f (filter (λ x. test (f x)) xs) → (if b then f x ∷ filter test (map f xs) else filter test (map f xs)) ≡ map f (if b then x ∷ filter (λ x. test (f x)) xs else filter (λ x. test (f x)) xs)
+    go true rest = ap (λ ys. f x ∷ ys) rest
+    go false rest = rest
+
+map-map : {X Y Z : Type 0} (g : Y → Z) (f : X → Y) (xs : List X) → map g (map f xs) ≡ map (λ x. g (f x)) xs
+map-map g f [] = refl
+map-map g f (x ∷ xs) = ap (λ zs. g (f x) ∷ zs) (map-map g f xs)
 
 -- ---- the entries of an office are found by their names
 
@@ -113,12 +125,18 @@ free_told office =
 -- ---- one row after another
 
 -- the thing whose row stands at a place
-pub at_place : {X Y : Type 0} (f : X → Y) (P : X → Type 0) (xs : List X) (i : ℕ) (y : Y) → AllByRecursion P xs → i < length (map f xs) → y ≡ get_or (map f xs) i y → (x : X) × (y ≡ f x) × P x × (take (i + 1) xs ≡ take i xs ++ x ∷ [])
+at_place : {X Y : Type 0} (f : X → Y) (P : X → Type 0) (xs : List X) (i : ℕ) (y : Y) → AllByRecursion P xs → i < length (map f xs) → y ≡ get_or (map f xs) i y → (x : X) × (y ≡ f x) × P x × (take (suc i) xs ≡ take i xs ++ x ∷ [])
 at_place f P [] i y all within is = absurd (omega (arith, within))
 at_place f P (x ∷ xs) zero y all within is = (x, is, all.0, refl)
 at_place f P (x ∷ xs) (suc i) y all within is =
     let it = at_place f P xs i y all.1 (omega (arith, within)) is in
     (it.0, it.1, it.2, ap (λ zs. x ∷ zs) it.3)
+
+pub at_row : {X Y : Type 0} (f : X → Y) (P : X → Type 0) (xs : List X) (rows : List Y) (i : ℕ) (y : Y) → rows ≡ map f xs → AllByRecursion P xs → i < length rows → y ≡ get_or rows i y → (x : X) × (y ≡ f x) × P x × (take (i + 1) xs ≡ take i xs ++ x ∷ [])
+at_row f P xs rows i y is all within at =
+    let it = at_place f P xs i y all (subst (λ r. i < length r) is within) (at ∙ ap (λ r. get_or r i y) is) in
+    let next : i + 1 ≡ suc i = omega arith in
+    (it.0, it.1, it.2, ap (λ n. take n xs) next ∙ it.3)
 
 filter-append : {X : Type 0} (test : X → Bool) (xs ys : List X) → filter test (xs ++ ys) ≡ filter test xs ++ filter test ys
 filter-append test [] ys = refl
@@ -130,7 +148,7 @@ filter-append test (x ∷ xs) ys = go (test x) (filter-append test xs ys)
 
 -- those that pass and one more, if it passes
 pub passed_on : {X Y : Type 0} (f : X → Y) (test : X → Bool) (xs more : List X) (x : X) → more ≡ xs ++ x ∷ [] → map f (filter test more) ≡ map f (filter test xs) ++ map f (filter test (x ∷ []))
-passed_on f test xs more x is =
+passed_on {X = X} f test xs more x is =
     ap (λ (zs : List X). map f (filter test zs)) is ∙ ap (map f) (filter-append test xs (x ∷ [])) ∙ map-append f (filter test xs) (filter test (x ∷ []))
 
 -- ---- how a machine stands
@@ -143,3 +161,7 @@ running_goes_on (standing.Checked check) i = refl
 pub runs_so : (e : Entry) (b : Bool) → runs e ≡ b → filter runs (e ∷ []) ≡ (if b then e ∷ [] else [])
 runs_so e true is = rw is
 runs_so e false is = rw is
+
+-- what is added to the queue is the entry's name
+pub queued_is : (a : List ℕ) (n : ℕ) (e : Entry) → a ≡ e.customer → n ≡ e.number → ◌≡◌ {A = QueuedJob} (record { customer = a; number = n }) (queued_job e)
+queued_is a n e one two = rw (one, two)
