@@ -3,7 +3,6 @@ use Rattle.std.proofs.Common.{◌≡◌, ℕ, List, [], ◌∷◌, map, Bool, tr
 use Rattle.std.specs.List.{AllByRecursion}
 use Rattle.std.proofs.Math.Path.{fun_ext}
 use Rattle.office.specs.Jobs.{Job, IsJob}
-use Rattle.office.specs.Kept.{Kept, kept_of}
 use Rattle.office.specs.Office.{Entry, Office, is_entry, job_of, with_job}
 use Rattle.pictures.specs.Columns.{truth}
 use Rattle.sqlite.specs.Effect.{Database}

@@ -1,5 +1,5 @@
 -- The lists of the tables are those of the office.
-use Rattle.std.proofs.Common.{true≢false, ◌≡◌, ◌+◌, ◌<◌, ℕ, zero, suc, List, [], ◌∷◌, ◌++◌, length, map, filter, take, get_or, Bool, true, false, not, ◌==◌, bytes_eq, if◌then◌else◌, Ordering, Option, Some, None, refl, sym, ap, subst, ◌∙◌, arith}
+use Rattle.std.proofs.Common.{true≢false, ◌≡◌, ◌+◌, ◌<◌, ℕ, zero, suc, List, [], ◌∷◌, ◌++◌, length, map, filter, take, get_or, Bool, true, false, not, ◌==◌, bytes_eq, if◌then◌else◌, Ordering, Some, refl, sym, ap, subst, ◌∙◌, arith}
 use Rattle.std.specs.List.{AllByRecursion}
 use Rattle.std.specs.Ordering.{is_gt}
 use Rattle.std.proofs.lemmas.List.{map-append}
@@ -14,12 +14,10 @@ use Rattle.office.specs.Queued.{QueuedJob}
 use Rattle.pictures.specs.Columns.{truth}
 use Rattle.tables.proofs.Behind.{name_is, name_yes}
 use Rattle.tables.proofs.Ordered.{in_order-map}
-use Rattle.tables.specs.Cells.{QueuedName}
 use Rattle.tables.specs.Listed.{name_row, names_of, queued_name, names_queued, is_free}
 use Rattle.tables.specs.Listed as listed
 use Rattle.tables.specs.Orders as orders
 use Rattle.tables.specs.Tables.{NamedJob, AreDistinct, is_job}
-use Rattle.tables.specs.declared.rows.NameRow.{NameRow}
 use Rattle.ledger.specs.Listed.{IsHis, IsIts}
 use Rattle.ledger.specs.Standing.{named}
 

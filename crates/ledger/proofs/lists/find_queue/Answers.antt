@@ -1,5 +1,5 @@
-use Rattle.std.proofs.Common.{◌≡◌, ◌≤◌, ◌+◌, [], ◌∷◌, ◌++◌, length, map, filter, take, sym, ap, ◌∙◌, arith}
-use Rattle.std.proofs.lemmas.List.{get_or_default, length-map, take_all}
+use Rattle.std.proofs.Common.{◌≤◌, ◌+◌, [], ◌∷◌, ◌++◌, length, map, filter, take, sym, ap, ◌∙◌, arith}
+use Rattle.std.proofs.lemmas.List.{length-map, take_all}
 use Rattle.office.specs.Office.{Entry, Office, queued_job, runs}
 use Rattle.sqlite.specs.State.{HasCleanDisk}
 use Rattle.tables.proofs.Stepping.{of_open, step_still, step_then, step_ends}

@@ -1,6 +1,6 @@
 use Rattle.std.proofs.Common.{◌≡◌, ◌<◌, ◌^◌, sym, ap, ◌∙◌, arith}
 use Rattle.std.specs.Option.{option_map}
-use Rattle.office.specs.Jobs.{Job, picture}
+use Rattle.office.specs.Jobs.{picture}
 use Rattle.office.specs.Kept.{told_at}
 use Rattle.pictures.specs.Columns.{picture_cells}
 use Rattle.pictures.specs.Progress.{progress_of}
