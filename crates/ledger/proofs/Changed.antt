@@ -77,7 +77,7 @@ named_with customer number job old (e ∷ office) distinct is cells = elim (case
   | inr other ↦ rw other (ap (λ xs. named e ∷ xs) (named_with customer number job old office distinct.1 (rw other at is) cells))
 ]
 
-all_with : (customer : List ℕ) (number : ℕ) (job : Job) (office : Office) → AllByRecursion (λ (e : Entry). CanBeKept e.job) office → CanBeKept job → AllByRecursion (λ (e : Entry). CanBeKept e.job) (with_job customer number job office)
+pub all_with : (customer : List ℕ) (number : ℕ) (job : Job) (office : Office) → AllByRecursion (λ (e : Entry). CanBeKept e.job) office → CanBeKept job → AllByRecursion (λ (e : Entry). CanBeKept e.job) (with_job customer number job office)
 all_with customer number job [] all it = tt
 all_with customer number job (e ∷ office) all it = (go (is_entry customer number e), all_with customer number job office all.1 it)
   where

@@ -1,6 +1,8 @@
 pub mod Changed
 pub mod Crash
+pub mod Flagged
 pub mod Handed
+pub mod Listing
 pub mod Offices
 pub mod ReadBack
 pub mod Replies

@@ -1,5 +1,5 @@
-pub mod Asked
 pub mod Found
+pub mod Listed
 pub mod Replying
 pub mod Saving
 pub mod Serving

@@ -1,5 +1,5 @@
 -- what is saved of a job
-use Rattle.std.specs.Prelude.{◌≡◌, ◌≤◌, ℕ, false, List, [], ◌∷◌, ◌++◌, map, take, length, Option, Some, None, Ok}
+use Rattle.std.specs.Prelude.{◌≡◌, ◌≤◌, ℕ, Bool, false, List, [], ◌∷◌, ◌++◌, map, take, length, Option, Some, None, Ok}
 use Rattle.cards.specs.Decks.{deck_bytes}
 use Rattle.cards.specs.declared.decks.Card.{Card}
 use Rattle.machine.specs.Run.{State, lines_of}
@@ -120,6 +120,22 @@ pub record IsAfter (name : JobName) (kept : Kept) (c : JobCommand) (old : Job) (
 -- the job is what a command that was let through makes of it
 abbrev pub with_after : JobName → JobCommand → Job → Office → Office
 with_after name c old = with_job name.customer.now name.number (changed_job c old)
+
+-- the job with these flags
+abbrev pub flagged_job : Bool → Bool → Job → Job
+flagged_job held collected job = record job { held = held; collected = collected }
+
+-- there is this job, and this is the same with other flags
+pub record IsFlagged (name : JobName) (kept : Kept) (held collected : Bool) (old : Job)
+    (office : Office) : Type 0 where
+  pub found : job_in name office ≡ Some old
+  pub is : kept ≡ kept_of (flagged_job held collected old)
+  pub job : IsJob (flagged_job held collected old)
+
+-- the job has these flags
+abbrev pub with_flagged : JobName → Bool → Bool → Job → Office → Office
+with_flagged name held collected old =
+    with_job name.customer.now name.number (flagged_job held collected old)
 
 -- no job has the name
 abbrev pub IsFreeName : JobName → Office → Type 0

@@ -8,14 +8,12 @@ ghost use Rattle.tables.specs.Schema.{no_schema};
 ghost use Rattle.office.specs.Meters.{RisenAtMost};
 ghost use Rattle.office.specs.Office.{served, take, attempted_by, attempted, limit_of};
 ghost use Rattle.ledger.specs.Adopting.{StandsStill, IsNoFaultOfTables, HasOwnVersion};
-ghost use Rattle.ledger.specs.Asked.{asked};
 ghost use Rattle.ledger.specs.Replying.{Replies, Rises, RisesAtMost, KeepsOffice, LeavesEither, MakesOffice, LeavesNone};
 ghost use Rattle.ledger.specs.Standing.{Stands, IsAsBefore};
 
-use crate::commands::Command;
 use crate::serving::{early_refusal, serve};
 use machine::Meter;
-use office::Reply;
+use office::{Command, Reply};
 use sqlite::{Alter, Connection};
 use std::alloc::Global;
 use tables::{Fault, OpenFault, OpenTables};
@@ -44,14 +42,14 @@ fn transact<S: Alter>(
     command: &Command,
     meter: &mut Meter,
 ) -> Result<Reply, Fault>
-    ensures reply { Replies S.Store conn.old conn.new result (served (asked command.now)) }
+    ensures reply { Replies S.Store conn.old conn.new result (served command.now) }
     ensures meter { Rises S.Store conn.old conn.new result
-        meter.old meter.new (attempted_by (asked command.now)) }
+        meter.old meter.new (attempted_by command.now) }
     ensures given_up { RisesAtMost S.Store conn.old conn.new result
-        meter.old meter.new (attempted_by (asked command.now)) }
-    ensures most { RisenAtMost (limit_of (asked command.now)) meter.old meter.new }
+        meter.old meter.new (attempted_by command.now) }
+    ensures most { RisenAtMost (limit_of command.now) meter.old meter.new }
     ensures no_memory { KeepsOffice S.Store conn.old conn.new result }
-    ensures crash { LeavesEither S.Store conn.old conn.new (served (asked command.now)) }
+    ensures crash { LeavesEither S.Store conn.old conn.new (served command.now) }
     ensures clean { doubt (state S.Store conn.old).is_clean
         ≤ doubt (state S.Store conn.new).is_clean }
 {
@@ -118,14 +116,14 @@ impl<S: Alter> Bureau<S> {
     /// Applies a command. After fault 2 every later command is answered so, until the file is
     /// opened again. A fault leaves the meter risen by the instructions that were attempted.
     pub fn apply(&mut self, command: &Command, meter: &mut Meter) -> Result<Reply, Fault>
-        ensures reply { Replies S.Store self.old.conn self.new.conn result (take (asked command.now)) }
+        ensures reply { Replies S.Store self.old.conn self.new.conn result (take command.now) }
         ensures meter { Rises S.Store self.old.conn self.new.conn result
-            meter.old meter.new (attempted (asked command.now)) }
+            meter.old meter.new (attempted command.now) }
         ensures given_up { RisesAtMost S.Store self.old.conn self.new.conn result
-            meter.old meter.new (attempted (asked command.now)) }
-        ensures most { RisenAtMost (limit_of (asked command.now)) meter.old meter.new }
+            meter.old meter.new (attempted command.now) }
+        ensures most { RisenAtMost (limit_of command.now) meter.old meter.new }
         ensures no_memory { KeepsOffice S.Store self.old.conn self.new.conn result }
-        ensures crash { LeavesEither S.Store self.old.conn self.new.conn (take (asked command.now)) }
+        ensures crash { LeavesEither S.Store self.old.conn self.new.conn (take command.now) }
         ensures broken { IsErrOf result Fault.Store → IsTrue self.new.broken }
         ensures kept { (self.new.broken ≡ self.old.broken) ⊎ IsErrOf result Fault.Store }
         ensures ended { IsTrue self.old.broken

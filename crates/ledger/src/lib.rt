@@ -1,8 +1,8 @@
 //! The bureau: jobs that customers hand in, kept in tables, and commands on them.
 //!
 //! What a job is and what a command makes of it, `office` says. `reading` and `saving` are what the
-//! tables show of a job and what is written of it, over `tables` and `pictures`; `submissions` and
-//! `job_commands` join them to `office`. `bureau` puts each command into one transaction, whose
+//! tables show of a job and what is written of it, over `tables` and `pictures`; `submissions`,
+//! `job_commands` and `lists` join them to `office`. `bureau` puts each command into one transaction, whose
 //! commit is the last call of the store.
 //!
 //! The contract that the layers above use: where the tables represent an office, a reply is the
@@ -11,13 +11,12 @@
 #![tactic(auto)]
 
 mod bureau;
-mod commands;
 mod job_commands;
+mod lists;
 mod reading;
 mod saving;
 mod serving;
 mod submissions;
 
 pub use bureau::Bureau;
-pub use commands::{Command, Work};
 pub use tables::Fault;

@@ -2,16 +2,15 @@
 
 ghost use Rattle.std.specs.Prelude.{◌≡◌, None};
 ghost use Rattle.office.specs.Meters.{RisenAtMost};
-ghost use Rattle.office.specs.Office.{name_refusal, limit_refusal, early_refusal, served, attempted_by, limit_of};
+ghost use Rattle.office.specs.Office.{name_refusal, limit_refusal, customer_refusal, early_refusal, served, attempted_by, limit_of};
 ghost use Rattle.tables.specs.Steps.{IsOpenStep};
-ghost use Rattle.ledger.specs.Asked.{asked};
 ghost use Rattle.ledger.specs.Steps.{Serves, Ticks, TicksAtMost};
 
-use crate::commands::Command;
 use crate::job_commands::command_job;
+use crate::lists::{list_jobs, list_queue};
 use crate::submissions::submit;
 use machine::Meter;
-use office::{JobCommand, Refusal, Reply, is_customer, is_limit, is_number};
+use office::{Command, JobCommand, Refusal, Reply, is_customer, is_limit, is_number};
 use sqlite::Alter;
 use tables::{Fault, JobName, OpenTables};
 
@@ -56,9 +55,20 @@ fn job_refusal(customer: &str, number: u32, command: JobCommand) -> Option<Refus
     }
 }
 
+/// Why a customer may not have this name, if so.
+fn customer_refusal(customer: &str) -> Option<Refusal>
+    ensures { result ≡ customer_refusal customer.now }
+{
+    if is_customer(customer) {
+        None
+    } else {
+        Some(Refusal::Customer)
+    }
+}
+
 /// Why a command is refused before any job is looked at, if it is.
 pub fn early_refusal(command: &Command) -> Option<Refusal>
-    ensures { result ≡ early_refusal (asked command.now) }
+    ensures { result ≡ early_refusal command.now }
 {
     match command {
         Command::Submit {
@@ -69,8 +79,10 @@ pub fn early_refusal(command: &Command) -> Option<Refusal>
         Command::Job {
             customer,
             number,
-            work,
-        } => job_refusal(customer.as_str(), *number, work.asked()),
+            command,
+        } => job_refusal(customer.as_str(), *number, *command),
+        Command::Jobs { customer } => customer_refusal(customer.as_str()),
+        Command::Queue => None,
     }
 }
 
@@ -81,12 +93,12 @@ pub fn serve<S: Alter>(
     meter: &mut Meter,
 ) -> Result<Reply, Fault>
     ensures step { IsOpenStep S.Store tables.old tables.new result }
-    ensures done { Serves S.Store tables.old tables.new result (served (asked command.now)) }
+    ensures done { Serves S.Store tables.old tables.new result (served command.now) }
     ensures meter { Ticks S.Store tables.old tables.new result
-        meter.old meter.new (attempted_by (asked command.now)) }
+        meter.old meter.new (attempted_by command.now) }
     ensures given_up { TicksAtMost S.Store tables.old tables.new result
-        meter.old meter.new (attempted_by (asked command.now)) }
-    ensures most { RisenAtMost (limit_of (asked command.now)) meter.old meter.new }
+        meter.old meter.new (attempted_by command.now) }
+    ensures most { RisenAtMost (limit_of command.now) meter.old meter.new }
 {
     match command {
         Command::Submit {
@@ -103,13 +115,15 @@ pub fn serve<S: Alter>(
         Command::Job {
             customer,
             number,
-            work,
+            command,
         } => {
             let name = JobName {
                 customer: customer.as_str(),
                 number: *number,
             };
-            command_job(tables, name, work.asked(), meter)
+            command_job(tables, name, *command, meter)
         }
+        Command::Jobs { customer } => list_jobs(tables, customer.as_str()),
+        Command::Queue => list_queue(tables),
     }
 }

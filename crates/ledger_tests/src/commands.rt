@@ -3,9 +3,9 @@
 use crate::decks::deck_named;
 use crate::replies::reply_text;
 use bitflags::Flags;
-use ledger::{Bureau, Command, Work};
+use ledger::Bureau;
 use machine::Meter;
-use office::{Contents, Kind};
+use office::{Command, Contents, JobCommand, Kind};
 use sqlite::Alter;
 use std::alloc::Global;
 use std::test::Fail;
@@ -41,17 +41,20 @@ fn contents_of(alloc: Global, kind: Kind, fields: &str) -> Result<Contents, Fail
 }
 
 /// The command on a job with this word, and with its limit or switches.
-fn work_of(word: &str, field: &str) -> Result<Work, Fail> {
+fn job_command_of(word: &str, field: &str) -> Result<JobCommand, Fail> {
     match word {
-        "slice" => Ok(Work::Slice {
+        "slice" => Ok(JobCommand::Slice {
             limit: number_of(field)?,
         }),
-        "start" => Ok(Work::Start {
+        "start" => Ok(JobCommand::Start {
             switches: switches_of(field)?,
         }),
-        "standing" => Ok(Work::Standing),
-        "cards" => Ok(Work::Cards),
-        "lines" => Ok(Work::Lines),
+        "hold" => Ok(JobCommand::Hold),
+        "release" => Ok(JobCommand::Release),
+        "collect" => Ok(JobCommand::Collect),
+        "standing" => Ok(JobCommand::Standing),
+        "cards" => Ok(JobCommand::Cards),
+        "lines" => Ok(JobCommand::Lines),
         _ => Err("a word")?,
     }
 }
@@ -68,7 +71,14 @@ fn kind_of(word: &str) -> Option<Kind> {
 /// The command of a line: its word, the customer, the number, and what the command has besides.
 fn command_of(alloc: Global, line: &str) -> Result<Command, Fail> {
     let (word, fields) = line.split_once('|').ok_or("a word")?;
+    if word == "queue" {
+        return Ok(Command::Queue);
+    }
     let (customer, fields) = fields.split_once('|').ok_or("a customer")?;
+    if word == "jobs" {
+        let customer = String::from_str(alloc, customer)?;
+        return Ok(Command::Jobs { customer });
+    }
     let (number, fields) = fields.split_once('|').ok_or("a number")?;
     let customer = String::from_str(alloc, customer)?;
     let number = number_of(number)?;
@@ -81,7 +91,7 @@ fn command_of(alloc: Global, line: &str) -> Result<Command, Fail> {
         None => Ok(Command::Job {
             customer,
             number,
-            work: work_of(word, fields)?,
+            command: job_command_of(word, fields)?,
         }),
     }
 }

@@ -7,9 +7,9 @@ ghost use Rattle.sqlite_disk.specs.Memory.{memory_is_usable};
 use crate::decks::deck_named;
 use crate::replies::reply_text;
 use bitflags::Flags;
-use ledger::{Bureau, Command, Fault, Work};
+use ledger::{Bureau, Fault};
 use machine::Meter;
-use office::{Contents, Kind, Reply};
+use office::{Command, Contents, JobCommand, Kind, Reply};
 use sqlite::{Alter, Connection, FileStore, Files, Options};
 use sqlite_disk::{Disk, Memory};
 use std::alloc::Global;
@@ -35,7 +35,7 @@ fn slice_9(alloc: Global, limit: u32) -> Result<Command, Fail> {
     Ok(Command::Job {
         customer: String::from_str(alloc, "ACME")?,
         number: 9,
-        work: Work::Slice { limit },
+        command: JobCommand::Slice { limit },
     })
 }
 

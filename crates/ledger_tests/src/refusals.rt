@@ -65,6 +65,15 @@ refused 10|start|acme|0|-
 refused 11|start|ACME|0|-
 refused 20|start|ACME|8|-
 refused 24|start|ACME|9|-
+refused 10|hold|acme|9|
+refused 11|hold|ACME|0|
+refused 20|hold|ACME|8|
+refused 10|release|acme|9|
+refused 11|release|ACME|0|
+refused 20|release|ACME|8|
+refused 10|collect|acme|9|
+refused 11|collect|ACME|0|
+refused 20|collect|ACME|8|
 refused 10|standing||9|
 refused 11|standing|ACME|1000000|
 refused 20|standing|ACME|8|

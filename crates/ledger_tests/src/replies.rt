@@ -2,7 +2,7 @@
 
 use cards::Card;
 use ledger::Fault;
-use office::{JobStanding, Refusal, Reply, Summary};
+use office::{JobLine, JobStanding, QueueLine, Refusal, Reply, Summary};
 use std::alloc::Global;
 use std::test::Fail;
 use units::{Line, render};
@@ -65,6 +65,28 @@ fn lines_text(alloc: Global, lines: &[Line]) -> Result<String, Fail> {
     Ok(text)
 }
 
+/// A customer's jobs: the number of each, its flags and how it stands.
+fn jobs_text(alloc: Global, jobs: &[JobLine]) -> Result<String, Fail> {
+    let mut text = String::from_str(alloc, "jobs")?;
+    for job in jobs {
+        let standing = standing_text(alloc, job.standing)?;
+        let (number, held, collected) = (job.number, job.held, job.collected);
+        let more = format!(in alloc; "; {number} {held} {collected} {standing}")?;
+        text.push_str(more.as_str())?;
+    }
+    Ok(text)
+}
+
+/// The queue: the customer and the number of each job.
+fn queue_text(alloc: Global, queue: &[QueueLine]) -> Result<String, Fail> {
+    let mut text = String::from_str(alloc, "queue")?;
+    for job in queue {
+        let more = format!(in alloc; " {}/{}", job.customer, job.number)?;
+        text.push_str(more.as_str())?;
+    }
+    Ok(text)
+}
+
 /// What the bureau answers, in words.
 fn answer_text(alloc: Global, reply: &Reply) -> Result<String, Fail> {
     match reply {
@@ -80,8 +102,8 @@ fn answer_text(alloc: Global, reply: &Reply) -> Result<String, Fail> {
         Reply::Standing(job) => summary_text(alloc, job),
         Reply::Cards(cards) => cards_text(alloc, &cards.0),
         Reply::Lines(lines) => lines_text(alloc, &lines.0),
-        Reply::Jobs(_) => Err("no jobs are asked for")?,
-        Reply::Queue(_) => Err("no queue is asked for")?,
+        Reply::Jobs(jobs) => jobs_text(alloc, &jobs.0),
+        Reply::Queue(queue) => queue_text(alloc, &queue.0),
         Reply::Refused(reason) => refusal_text(alloc, reason),
     }
 }
