@@ -22,12 +22,12 @@ use Rattle.sqlite_resolve.specs.declared.error.CompileError.{CompileError}
 use Rattle.sqlite_schema.specs.declared.command.Returning.{Returning}
 use Rattle.tables.specs.declared.openings.OpenFault.{OpenFault}
 use Rattle.tables.specs.declared.openings.OpenFault.TheVariants.{NoMemory, Store, NotABureau, Old}
-use Rattle.tables.specs.Schema.{bureau_schema}
+use Rattle.tables.specs.Schema.{bureau_schema, own_version}
 use Rattle.tables.specs.Tables.{Tables, Holds}
 use Rattle.tables.proofs.Frames.{shown_opened}
 use Rattle.tables.proofs.Selecting.{plain_answer, passes, show}
 use Rattle.tables.proofs.Looking.{looks}
-use Rattle.tables.specs.Versions.{own_version, select_version, versions_in, opening_fault, IsVerdict, IsRefusedAs, IsOfNoTables}
+use Rattle.tables.specs.Versions.{select_version, versions_in, opening_fault, IsVerdict, IsRefusedAs, IsKnown}
 use Rattle.tables.proofs.ReadTexts.{version_terms, select_version_is}
 
 -- the text is none of this database
@@ -108,16 +108,16 @@ fails_without old new e t has (inr h) = ap is_input h.4
 
 -- ---- what the answer means
 
-meant : (e : Error) → is_input e ≡ false → IsOfNoTables (opening_fault e)
+meant : (e : Error) → is_input e ≡ false → IsKnown (opening_fault e)
 meant (SqlInputError fault) h = absurd (true≢false h)
 meant (SqliteFailure NoRoom) h = (λ same. cc, λ same. cc)
 meant _ h = (λ same. cc, λ same. cc)
 
-pub refused_known : (old new : State) (fault : OpenFault) → IsRefusedAs old new fault → (t : Tables) → (IsTrue old.is_open → Holds old.now t) → IsOfNoTables fault
-refused_known old new fault h t has = subst IsOfNoTables (sym h.2) (meant h.0 (fails_without old new h.0 t has h.1))
+pub refused_known : (old new : State) (fault : OpenFault) → IsRefusedAs old new fault → (t : Tables) → (IsTrue old.is_open → Holds old.now t) → IsKnown fault
+refused_known old new fault h t has = subst IsKnown (sym h.2) (meant h.0 (fails_without old new h.0 t has h.1))
 
 pub verdict_known : {X : Type 0} (r : Result X OpenFault) (versions : List Value) (H : Tables → Type 0) → IsVerdict versions r → ((t : Tables) → H t → versions ≡ Int (pos own_version) ∷ [])
-    → IfErr r (λ fault. (t : Tables) → H t → IsOfNoTables fault)
+    → IfErr r (λ fault. (t : Tables) → H t → IsKnown fault)
 verdict_known (Ok x) versions H is ours = tt
 verdict_known (Err NoMemory) versions H is ours = absurd is
 verdict_known (Err Store) versions H is ours = absurd is
