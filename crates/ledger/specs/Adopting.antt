@@ -6,7 +6,8 @@ use Rattle.sqlite.specs.Listing.{understood}
 use Rattle.sqlite.specs.State.{HasCleanDisk}
 use Rattle.sqlite_trees.specs.declared.store.Store.{Ghosts}
 use Rattle.tables.specs.Schema.{bureau_schema}
-use Rattle.tables.specs.Versions.{own_version, select_version, versions_in, IsOfNoTables}
+use Rattle.tables.specs.Schema.{own_version}
+use Rattle.tables.specs.Versions.{select_version, versions_in, IsKnown}
 use Rattle.tables.specs.declared.openings.OpenFault.{OpenFault}
 use Rattle.office.specs.Office.{Office}
 use Rattle.ledger.specs.Standing.{Stands}
@@ -20,7 +21,7 @@ module _ {S : Type 0} (g : Ghosts S) (old new : Held S) where
   -- where the tables represented an office, the fault says nothing against them
   abbrev pub IsNoFaultOfTables : OpenFault → Type 0
   IsNoFaultOfTables fault = HasCleanDisk (state g new) → (office : Office)
-      → Stands (state g old) office → IsOfNoTables fault
+      → Stands (state g old) office → IsKnown fault
 
   -- the query of the version is one for these tables; and where they are a bureau's by their
   -- schema, they have one version, its own

@@ -5,7 +5,7 @@ ghost use Rattle.sqlite.specs.Held.{state};
 ghost use Rattle.sqlite.specs.Files.{file_state};
 ghost use Rattle.sqlite.specs.State.{HasCleanDisk, Opens, IsLive};
 ghost use Rattle.sqlite.specs.WalFiles.{image_at};
-ghost use Rattle.tables.specs.Versions.{IsOfNoTables};
+ghost use Rattle.tables.specs.Versions.{IsKnown};
 ghost use Rattle.office.specs.Office.{Office};
 ghost use Rattle.ledger.specs.Standing.{LeftAs, Stands};
 ghost use Rattle.ledger_files.specs.Opening.{AreOf, KeptStands, IsCleanKept};
@@ -27,7 +27,7 @@ fn opened_stands<S: Alter>(conn: &Connection<S>)
 fn store_fault_of(error: Error) -> OpenFault
     ensures memory { error ≡ Error.SqliteFailure ErrorCode.OutOfMemory
         → result ≡ OpenFault.NoMemory }
-    ensures known { IsOfNoTables result }
+    ensures known { IsKnown result }
 {
     match error {
         Error::SqliteFailure(ErrorCode::OutOfMemory) => OpenFault::NoMemory,
@@ -49,7 +49,7 @@ pub fn open_from<S: Start>(
     ensures kept { IfErr result (λ e. IsCleanKept e.1 → (has_sums : Bool) → (office : Office)
         → AreOf has_sums (image_at S.Start) office → KeptStands has_sums e.1 office) }
     ensures known { IfErr result (λ e. IsCleanKept e.1 → (has_sums : Bool) → (office : Office)
-        → AreOf has_sums (image_at S.Start) office → IsOfNoTables e.0) }
+        → AreOf has_sums (image_at S.Start) office → IsKnown e.0) }
 {
     let conn = match Connection::open_from(rt, path, false, start) {
         Ok(conn) => conn,

@@ -4,7 +4,7 @@ use Rattle.sqlite_disk.specs.Modelled.{start_of}
 use Rattle.sqlite.specs.State.{HasCleanDisk}
 use Rattle.sqlite.specs.Tree.{Trees}
 use Rattle.sqlite.specs.Files.{file_state, HoldsDatabase}
-use Rattle.tables.specs.Versions.{IsOfNoTables}
+use Rattle.tables.specs.Versions.{IsKnown}
 use Rattle.sqlite.specs.WalFiles.{image_at}
 use Rattle.ledger.specs.Standing.{LeftAs, Stands}
 use Rattle.ledger_files.proofs.Leftovers.{fresh_seen, fresh_left, fresh_stands}
@@ -41,6 +41,6 @@ returns-in-Err-clause-known g c clean has_sums office are =
     let early : HasCleanDisk (file_state c.in-Ok.conn) = omega (arith, c.in-Err.ensures.clean_still) in
     let opened = c.in-Ok.ensures.opened early in
     let found = c.in-Ok.ensures.found early in
-    let known : (db : Trees) → HoldsDatabase (image_at g.S.Start) db → LeftAs db office → IsOfNoTables c.in-Err.fault = λ db held left.
+    let known : (db : Trees) → HoldsDatabase (image_at g.S.Start) db → LeftAs db office → IsKnown c.in-Err.fault = λ db held left.
     c.in-Err.ensures.known clean office (c.opened_stands.ensures opened.0 opened.1 office (subst (λ d. LeftAs d office) (sym (found.holds db held)) left)) in
     (λ e. ∥∥₁_elim are (λ x y. absurd x) (λ it. (known it.0 it.1 it.3).0 e), λ e. ∥∥₁_elim are (λ x y. absurd x) (λ it. (known it.0 it.1 it.3).1 e))
