@@ -4,7 +4,7 @@ use Rattle.sqlite.specs.Tree.{Trees}
 use Rattle.sqlite.specs.Effect.{Database}
 use Rattle.sqlite.specs.State.{State, HasCleanDisk, Shows, IsRolledBack, KeepsCommit, Survives}
 use Rattle.tables.specs.Schema.{bureau_schema}
-use Rattle.ledger.specs.Office.{Office}
+use Rattle.office.specs.Office.{Office}
 use Rattle.ledger.specs.Standing.{Rows, StandsIn, LeftAs, Stands}
 
 -- the trees alone tell the office

@@ -1,9 +1,10 @@
+pub mod Changed
 pub mod Crash
+pub mod Flagged
 pub mod Handed
-pub mod Meters
+pub mod Listing
 pub mod Offices
 pub mod ReadBack
 pub mod Replies
 pub mod Saved
-pub mod Sliced
-pub mod Stretches
+pub mod Adopted

@@ -4,12 +4,13 @@ use Rattle.std.specs.List.{AllByRecursion}
 use Rattle.std.specs.Option.{option_map}
 use Rattle.sqlite.specs.State.{State, IsUnchanged}
 use Rattle.tables.specs.Tables.{NamedJob, job_named}
-use Rattle.ledger.specs.Office.{Job, Entry, Office, is_entry, entry_of, job_of, picture}
-use Rattle.ledger.specs.Standing.{IsJob, Rows, StandsIn, named, job_cells}
+use Rattle.office.specs.Jobs.{Job, picture}
+use Rattle.office.specs.Kept.{Kept, kept_of}
+use Rattle.office.specs.Office.{Entry, Office, is_entry, entry_of, job_of}
+use Rattle.office.specs.declared.stretches.Stretch.{Stretch}
+use Rattle.ledger.specs.Standing.{CanBeKept, Rows, StandsIn, named, job_cells}
 use Rattle.machine.specs.Run as run
 use Rattle.tables.specs.Cells.{JobCells}
-use Rattle.ledger.specs.declared.office.Stretch.{Stretch}
-use Rattle.ledger.specs.Kept.{Kept, kept_of}
 
 -- what was read changed nothing
 pub still : (old new : State) (office : Office) → IsUnchanged old new → StandsIn old office → StandsIn new office
@@ -38,11 +39,11 @@ all_found P customer number (first ∷ office) e all h = go (is_entry customer n
         subst P one all.0
     go false is later = later (rw is at h)
 
--- a job that is found may hold what any job may
-pub job_is : (customer : List ℕ) (number : ℕ) (office : Office) (job : Job) → AllByRecursion (λ e. IsJob e.job) office → job_of customer number office ≡ Some job → IsJob job
+-- a job that is found can be kept
+pub job_is : (customer : List ℕ) (number : ℕ) (office : Office) (job : Job) → AllByRecursion (λ e. CanBeKept e.job) office → job_of customer number office ≡ Some job → CanBeKept job
 job_is customer number office job all h =
     let it = entry_found customer number office job h in
-    subst IsJob it.2 (all_found (λ e. IsJob e.job) customer number office it.0 all it.1)
+    subst CanBeKept it.2 (all_found (λ e. CanBeKept e.job) customer number office it.0 all it.1)
 
 -- the row of a job is found where the job is
 pub named_of : (customer : List ℕ) (number : ℕ) (office : Office) → job_named customer number (map named office) ≡ option_map named (entry_of customer number office)

@@ -1,41 +1,43 @@
 -- Replies and the offices that they leave.
-use Rattle.std.proofs.Common.{◌≡◌, ℕ, suc, ◌*◌, ◌≤◌, nat_le, List, [], ◌∷◌, ◌++◌, map, length, length-append, All, Option, Some, None, Bool, true, false, ◌&&◌, ◌==◌, bytes_eq, refl, sym, ap, subst, ◌∙◌, arith}
-use Rattle.std.proofs.lemmas.Bool.{and_parts, le-leb, leb-true}
+use Rattle.std.proofs.Common.{◌≡◌, ℕ, suc, ◌*◌, ◌/◌, ◌<◌, ◌≤◌, nat_le, List, [], ◌∷◌, map, length, length-append, All, Option, Some, None, Result, Ok, Err, Bool, true, false, bytes_eq, refl, sym, ap, subst, ◌∙◌, arith}
+use Rattle.std.proofs.lemmas.Bool.{le-leb, leb-true}
 use Rattle.std.proofs.lemmas.List.Elements.{All-head, All-tail}
-use Rattle.std.proofs.lemmas.Slice.Eq.{bytes_eq-Decides}
 use Rattle.cards.specs.declared.decks.Card.{Card}
-use Rattle.cards.specs.Decks.{IsCard, IsDeck}
-use Rattle.core_store.specs.Storage.{positions_of}
-use Rattle.core_store.specs.declared.sizes.Size.{Size}
-use Rattle.units.specs.Switches.{seven}
+use Rattle.cards.specs.Decks.{deck_bytes, IsCard, IsDeck}
+use Rattle.office.specs.Jobs.{Job, loaded_deck, IsJob}
+use Rattle.office.specs.Kept.{Kept, kept_of, summary_of, job_refusal, answered, changed_job, taken_unless, take_kept, job_unless, job_after}
+use Rattle.office.specs.New.{job_or_refusal}
+use Rattle.office.specs.Office.{Office, job_of, own, with_job, and_job, added, submitted_as, submitted, commanded}
+use Rattle.office.specs.declared.commands.Contents.{Contents}
+use Rattle.office.specs.declared.commands.JobCommand.{JobCommand}
+use Rattle.office.specs.declared.commands.JobCommand.TheVariants.{Slice, Start, Hold, Release, Collect, Standing as Tell, Cards, Lines}
+use Rattle.office.specs.declared.refusals.Refusal.{Refusal}
+use Rattle.office.specs.declared.refusals.Refusal.TheVariants as refusal
+use Rattle.office.specs.declared.replies.Reply.{Reply}
+use Rattle.office.specs.declared.replies.Reply.TheVariants.{Taken, Refused}
 use Rattle.sqlite.specs.State.{State}
 use Rattle.tables.specs.Tables as tables
-use Rattle.pictures.specs.Columns.{deck_bytes}
-use Rattle.ledger.specs.declared.commands.Contents.{Contents}
-use Rattle.ledger.specs.declared.commands.Refusal.{Refusal}
-use Rattle.ledger.specs.declared.commands.Refusal.TheVariants as refusal
-use Rattle.ledger.specs.declared.commands.Reply.{Reply}
-use Rattle.ledger.specs.declared.commands.Reply.TheVariants.{Taken, Refused}
-use Rattle.ledger.specs.Kept.{kept_of, refusal_at, slice_reply}
-use Rattle.ledger.specs.New.{new_refusal}
-use Rattle.ledger.specs.Office.{Job, Office, job_of, jobs_of, added, submitted, submitted_new, sliced, refusal_of, repeated, is_of, began_with, is_same_kind, is_empty, loaded_deck, new_job, size_numbered}
+use Rattle.tables.specs.declared.names.JobName.{JobName}
+use Rattle.ledger.specs.Saving.{job_in, IsAfter}
 use Rattle.ledger.specs.Standing.{StandsIn, Served, named}
-use Rattle.ledger.proofs.ReadBack.{loaded_is_deck}
+use Rattle.ledger.proofs.Changed.{same_job}
+
+-- ---- submissions
 
 -- a customer has as many rows as jobs
-pub jobs_named : (customer : List ℕ) (office : Office) → length (tables.jobs_of customer (map named office)) ≡ length (jobs_of customer office)
+pub jobs_named : (customer : List ℕ) (office : Office) → length (tables.jobs_of customer (map named office)) ≡ length (own customer office)
 jobs_named customer [] = refl
 jobs_named customer (e ∷ office) = go (bytes_eq e.customer customer) refl (jobs_named customer office)
   where
-    go : (b : Bool) → bytes_eq e.customer customer ≡ b → length (tables.jobs_of customer (map named office)) ≡ length (jobs_of customer office)
-        → length (tables.jobs_of customer (map named (e ∷ office))) ≡ length (jobs_of customer (e ∷ office))
+    go : (b : Bool) → bytes_eq e.customer customer ≡ b → length (tables.jobs_of customer (map named office)) ≡ length (own customer office)
+        → length (tables.jobs_of customer (map named (e ∷ office))) ≡ length (own customer (e ∷ office))
     go true is rest = rw is (ap (λ n. suc n) rest)
     go false is rest = rw is rest
 
-pub too_many : (new : State) (customer : List ℕ) (number count : ℕ) (contents : Contents) (size : Size) (office : Office) → count ≡ length (tables.jobs_of customer (map named office)) → 200 ≤ count → StandsIn new office
-    → Served new (λ all. added customer number contents all size) office (Refused refusal.TooManyJobs)
-too_many new customer number count contents size office is many s =
-    let test : nat_le 200 (length (jobs_of customer office)) ≡ true = le-leb _ _ (subst (λ n. 200 ≤ n) (is ∙ jobs_named customer office) many) in
+pub too_many : (new : State) (customer : List ℕ) (number count : ℕ) (job : Job) (office : Office) → count ≡ length (tables.jobs_of customer (map named office)) → 200 ≤ count → StandsIn new office
+    → Served new (λ all. added customer number all job) office (Refused refusal.TooManyJobs)
+too_many new customer number count job office is many s =
+    let test : nat_le 200 (length (own customer office)) ≡ true = le-leb _ _ (subst (λ n. 200 ≤ n) (is ∙ jobs_named customer office) many) in
     record { reply_is = rw test; stands = rw test s }
 
 few_test : (count : ℕ) → (200 ≤ count → ⊥) → nat_le 200 count ≡ false
@@ -45,67 +47,117 @@ few_test count few = go (nat_le 200 count) refl
     go true is = absurd (few (leb-true 200 count is))
     go false is = is
 
-pub few_enough : (new : State) (customer : List ℕ) (number count : ℕ) (contents : Contents) (size : Size) (office : Office) → count ≡ length (tables.jobs_of customer (map named office)) → (200 ≤ count → ⊥)
-    → StandsIn new (office ++ (record { customer = customer; number = number; job = new_job size contents }) ∷ [])
-    → Served new (λ all. added customer number contents all size) office (Taken (length contents.deck))
-few_enough new customer number count contents size office is few s =
-    let test : nat_le 200 (length (jobs_of customer office)) ≡ false = few_test _ (λ many. few (subst (λ n. 200 ≤ n) (sym (is ∙ jobs_named customer office)) many)) in
-    record { reply_is = rw (test, loaded_is_deck contents.kind contents.deck); stands = rw test s }
+pub few_enough : (new : State) (customer : List ℕ) (number count : ℕ) (job : Job) (office : Office) → count ≡ length (tables.jobs_of customer (map named office)) → (200 ≤ count → ⊥)
+    → StandsIn new (and_job customer number job office)
+    → Served new (λ all. added customer number all job) office (Taken (length (loaded_deck job)))
+few_enough new customer number count job office is few s =
+    let test : nat_le 200 (length (own customer office)) ≡ false = few_test _ (λ many. few (subst (λ n. 200 ≤ n) (sym (is ∙ jobs_named customer office)) many)) in
+    record { reply_is = rw test; stands = rw test s }
 
-pub not_new : (new : State) (customer : List ℕ) (number : ℕ) (contents : Contents) (reason : Refusal) (office : Office) → new_refusal contents (size_numbered contents.size) ≡ Some reason → StandsIn new office
-    → Served new (λ all. submitted_new customer number contents all (size_numbered contents.size)) office (Refused reason)
-not_new new customer number contents reason office why s = go (size_numbered contents.size) why
-  where
-    of_some : (size : Size) (b : Bool) → is_empty contents.deck ≡ b → new_refusal contents (Some size) ≡ Some reason → Served new (λ all. submitted_new customer number contents all (Some size)) office (Refused reason)
-    of_some size true is h =
-        let e : Some refusal.Deck ≡ Some reason = rw is at h in
-        let same : refusal.Deck ≡ reason = cc in
-        record { reply_is = rw is (ap Refused (sym same)); stands = rw is s }
-    of_some size false is h = absurd (let e : None ≡ Some reason = rw is at h in cc)
+pub not_new : (new : State) (customer : List ℕ) (number : ℕ) (contents : Contents) (reason : Refusal) (office : Office) → job_or_refusal contents ≡ Err reason → StandsIn new office
+    → Served new (λ all. submitted_as customer number all (job_or_refusal contents)) office (Refused reason)
+not_new new customer number contents reason office why s = record {
+  reply_is = ap (λ (r : Result Job Refusal). (submitted_as customer number office r).1) (sym why);
+  stands = subst (λ (r : Result Job Refusal). StandsIn new (submitted_as customer number office r).0) (sym why) s;
+}
 
-    go : (o : Option Size) → new_refusal contents o ≡ Some reason → Served new (λ all. submitted_new customer number contents all o) office (Refused reason)
-    go None h =
-        let same : refusal.Size ≡ reason = cc in
-        record { reply_is = ap Refused (sym same); stands = s }
-    go (Some size) h = of_some size (is_empty contents.deck) refl h
+pub new_taken : (new : State) (customer : List ℕ) (number : ℕ) (contents : Contents) (job : Job) (office : Office) (reply : Reply) → job_or_refusal contents ≡ Ok job
+    → Served new (λ all. added customer number all job) office reply → Served new (λ all. submitted_as customer number all (job_or_refusal contents)) office reply
+new_taken new customer number contents job office reply taken s = record {
+  reply_is = s.reply_is ∙ ap (λ (r : Result Job Refusal). (submitted_as customer number office r).1) (sym taken);
+  stands = subst (λ (r : Result Job Refusal). StandsIn new (submitted_as customer number office r).0) (sym taken) s.stands;
+}
 
--- decks of the same bytes have as many cards
+-- cards have 80 bytes each
 bytes_of : (deck : List Card) → All IsCard deck → length (deck_bytes deck) ≡ 80 * length deck
 bytes_of [] all = refl
 bytes_of (card ∷ deck) all = length-append card.0 (deck_bytes deck) ∙ omega (arith, (All-head IsCard card deck all).0, bytes_of deck (All-tail IsCard card deck all))
 
-last_part : (contents : Contents) (job : Job) → is_of contents job ≡ true → bytes_eq (deck_bytes job.deck) (deck_bytes contents.deck) ≡ true
-last_part contents job h =
-    let d = bytes_eq (deck_bytes job.deck) (deck_bytes contents.deck) in
-    let c = began_with (seven contents.switches) job.stretches in
-    let b = positions_of job.size == contents.size in
-    let a = is_same_kind job.kind contents.kind in
-    (and_parts ((a && b) && c) d h).1
+pub cards_counted : (job : Job) (bytes cards : ℕ) → IsDeck (loaded_deck job) → bytes ≡ length (deck_bytes (loaded_deck job)) → cards ≡ bytes / 80 → cards ≡ length (loaded_deck job)
+cards_counted job bytes cards deck is at =
+    let whole : bytes ≡ 80 * length (loaded_deck job) = is ∙ bytes_of (loaded_deck job) deck.1 in
+    omega (arith, whole, at)
 
-pub same_length : (contents : Contents) (job : Job) → IsDeck job.deck → IsDeck contents.deck → is_of contents job ≡ true → length contents.deck ≡ length (loaded_deck job)
-same_length contents job one two h =
-    let bytes : deck_bytes job.deck ≡ deck_bytes contents.deck = (bytes_eq-Decides (deck_bytes job.deck) (deck_bytes contents.deck)).0 (last_part contents job h) in
-    let same : length job.deck ≡ length contents.deck = omega (arith, ap length bytes, bytes_of job.deck one.1, bytes_of contents.deck two.1) in
-    sym same ∙ sym (ap length (loaded_is_deck job.kind job.deck))
-
-pub repeated_taken : (contents : Contents) (job : Job) → IsDeck job.deck → IsDeck contents.deck → is_of contents job ≡ true → Taken (length contents.deck) ≡ repeated contents job
-repeated_taken contents job one two h = rw h (ap Taken (same_length contents job one two h))
-
-pub served_again : (new : State) (customer : List ℕ) (number : ℕ) (contents : Contents) (office : Office) (job : Job) (reply : Reply) → job_of customer number office ≡ Some job → reply ≡ repeated contents job → StandsIn new office
+pub served_again : (new : State) (customer : List ℕ) (number : ℕ) (contents : Contents) (office : Office) (job : Job) (reply : Reply) → job_of customer number office ≡ Some job → reply ≡ (submitted customer number contents office (Some job)).1 → StandsIn new office
     → Served new (λ all. submitted customer number contents all (job_of customer number all)) office reply
-served_again new customer number contents office job reply is told s = record { reply_is = rw is told; stands = rw is s }
+served_again new customer number contents office job reply is told s = record {
+  reply_is = told ∙ ap (λ (o : Option Job). (submitted customer number contents office o).1) (sym is);
+  stands = subst (λ (o : Option Job). StandsIn new (submitted customer number contents office o).0) (sym is) s;
+}
 
 pub served_new : (new : State) (customer : List ℕ) (number : ℕ) (contents : Contents) (office : Office) (reply : Reply) → job_of customer number office ≡ None
-    → Served new (λ all. submitted_new customer number contents all (size_numbered contents.size)) office reply → Served new (λ all. submitted customer number contents all (job_of customer number all)) office reply
-served_new new customer number contents office reply none s = record { reply_is = rw none s.reply_is; stands = rw none s.stands }
+    → Served new (λ all. submitted_as customer number all (job_or_refusal contents)) office reply → Served new (λ all. submitted customer number contents all (job_of customer number all)) office reply
+served_new new customer number contents office reply none s = record {
+  reply_is = s.reply_is ∙ ap (λ (o : Option Job). (submitted customer number contents office o).1) (sym none);
+  stands = subst (λ (o : Option Job). StandsIn new (submitted customer number contents office o).0) (sym none) s.stands;
+}
 
-pub slice_refused : (new : State) (customer : List ℕ) (number limit : ℕ) (reason : Refusal) (office : Office) (job : Job) → job_of customer number office ≡ Some job → Refused reason ≡ slice_reply limit (kept_of job) (refusal_at limit (kept_of job)) → StandsIn new office
-    → Served new (λ all. sliced customer number limit all (job_of customer number all)) office (Refused reason)
-slice_refused new customer number limit reason office job is told s = go (refusal_of limit job) refl
+-- ---- commands on a job
+
+-- a reply that isn't a refusal is none
+answers : (c : JobCommand) (k : Kept) (reason : Refusal) → Refused reason ≡ answered c k → ⊥
+answers (Slice limit) k reason told = let e = told in cc
+answers (Start switches) k reason told = let e = told in cc
+answers Hold k reason told = let e = told in cc
+answers Release k reason told = let e = told in cc
+answers Collect k reason told = let e = told in cc
+answers Tell k reason told = let e = told in cc
+answers Cards k reason told = let e = told in cc
+answers Lines k reason told = let e = told in cc
+
+-- what is replied as a refusal is refused so
+refused_so : (c : JobCommand) (k : Kept) (reason : Refusal) → Refused reason ≡ (take_kept c k).1 → job_refusal c (summary_of k) ≡ Some reason
+refused_so c k reason told = go (job_refusal c (summary_of k)) told
   where
-    go : (o : Option Refusal) → refusal_of limit job ≡ o → Served new (λ all. sliced customer number limit all (job_of customer number all)) office (Refused reason)
-    go None at = absurd (let e : Refused reason ≡ slice_reply limit (kept_of job) None = told ∙ ap (slice_reply limit (kept_of job)) at in cc)
-    go (Some why) at = record { reply_is = rw (is, at) (told ∙ ap (slice_reply limit (kept_of job)) at); stands = rw (is, at) s }
+    go : (o : Option Refusal) → Refused reason ≡ (taken_unless c k o).1 → o ≡ Some reason
+    go (Some why) is = let same : reason ≡ why = cc in ap Some (sym same)
+    go None is = absurd (answers c k reason is)
+
+-- what is replied otherwise is not refused
+pub let_through : (c : JobCommand) (k : Kept) (reply : Reply) → reply ≡ (take_kept c k).1 → ((reason : Refusal) → reply ≡ Refused reason → ⊥) → job_refusal c (summary_of k) ≡ None
+let_through c k reply told not = go (job_refusal c (summary_of k)) told
+  where
+    go : (o : Option Refusal) → reply ≡ (taken_unless c k o).1 → o ≡ None
+    go (Some why) is = absurd (not why is)
+    go None is = refl
+
+pub command_refused : (new : State) (customer : List ℕ) (number : ℕ) (c : JobCommand) (reason : Refusal) (office : Office) (old : Job) → job_of customer number office ≡ Some old → Refused reason ≡ (take_kept c (kept_of old)).1 → StandsIn new office
+    → Served new (λ all. commanded customer number c all (job_of customer number all)) office (Refused reason)
+command_refused new customer number c reason office old is told s =
+    let why = refused_so c (kept_of old) reason told in
+    let stays : job_after c old ≡ old = ap (job_unless c old) why in
+    let whole : with_job customer number (job_after c old) office ≡ office = ap (λ (j : Job). with_job customer number j office) stays ∙ same_job customer number old office s.tables.distinct is in
+    record {
+      reply_is = told ∙ ap (λ (o : Option Job). (commanded customer number c office o).1) (sym is);
+      stands = subst (λ (o : Option Job). StandsIn new (commanded customer number c office o).0) (sym is) (subst (StandsIn new) (sym whole) s);
+    }
+
+pub command_done : (new : State) (customer : List ℕ) (number : ℕ) (c : JobCommand) (reply : Reply) (office : Office) (old : Job) → job_of customer number office ≡ Some old → reply ≡ (take_kept c (kept_of old)).1 → job_refusal c (summary_of (kept_of old)) ≡ None
+    → StandsIn new (with_job customer number (changed_job c old) office) → Served new (λ all. commanded customer number c all (job_of customer number all)) office reply
+command_done new customer number c reply office old is told none s =
+    let stays : changed_job c old ≡ job_after c old = sym (ap (job_unless c old) none) in
+    record {
+      reply_is = told ∙ ap (λ (o : Option Job). (commanded customer number c office o).1) (sym is);
+      stands = subst (λ (o : Option Job). StandsIn new (commanded customer number c office o).0) (sym is) (subst (λ (j : Job). StandsIn new (with_job customer number j office)) stays s);
+    }
+
+-- what is known of commands
+abbrev pub ActOnPictures : Type 0
+ActOnPictures = (c : JobCommand) (job : Job) → 0 < length job.stretches → (take_kept c (kept_of job)).0 ≡ kept_of (job_after c job)
+
+abbrev pub KeepJobs : Type 0
+KeepJobs = (c : JobCommand) (job : Job) → IsJob job → IsJob (job_after c job)
+
+-- what a command that is let through makes of a job
+pub is_after : ActOnPictures → KeepJobs → (name : JobName) (c : JobCommand) (old : Job) (k : Kept) (office : Office) → job_in name office ≡ Some old → IsJob old → k ≡ (take_kept c (kept_of old)).0 → job_refusal c (summary_of (kept_of old)) ≡ None → IsAfter name k c old office
+is_after act keep name c old k office found it is none =
+    let stays : job_after c old ≡ changed_job c old = ap (job_unless c old) none in
+    record {
+      found = found;
+      made = is ∙ ap (λ (o : Option Refusal). (taken_unless c (kept_of old) o).0) none;
+      is = is ∙ act c old it.stretches.begun ∙ ap (λ (j : Job). kept_of j) stays;
+      job = subst IsJob stays (keep c old it);
+    }
 
 pub none_is : {X : Type 0} (o : Option X) → ((x : X) → o ≡ Some x → ⊥) → o ≡ None
 none_is None not = refl

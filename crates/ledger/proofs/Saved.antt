@@ -1,5 +1,5 @@
 -- What is saved of a job, against what the tables held before
-use Rattle.std.proofs.Common.{◌≡◌, ℕ, List, [], ◌∷◌, ◌++◌, length, take, map, get_or, slice_index_or, ◌<◌, ◌≤◌, ◌+◌, ◌-◌, zero, suc, Result, Ok, Err, OnOk, Bool, true, false, ◌&&◌, ◌==◌, bytes_eq, if◌then◌else◌, Option, refl, sym, ap, subst, ◌∙◌, arith}
+use Rattle.std.proofs.Common.{◌≡◌, ℕ, List, [], ◌∷◌, ◌++◌, length, take, map, get_or, slice_index_or, ◌<◌, ◌≤◌, ◌+◌, ◌-◌, zero, suc, Result, Ok, Err, OnOk, Bool, true, false, ◌&&◌, ◌==◌, bytes_eq, if◌then◌else◌, Option, refl, sym, ap, subst, ◌∙◌, arith, length-append}
 use Rattle.std.proofs.Math.Path.{fun_ext}
 use Rattle.std.proofs.lemmas.List.{map-append, take_more, length-map, length-take-le}
 use Rattle.std.specs.List.{All}
@@ -9,8 +9,9 @@ use Rattle.tables.specs.Cells.{LineCells, PictureCells}
 use Rattle.tables.specs.Named.{granted_last}
 use Rattle.tables.specs.Tables.{NamedJob, ByJob, Tables, Holds, at_job, with_cards, with_lines, with_stretches}
 use Rattle.tables.specs.declared.rows.StretchRow.{StretchRow}
-use Rattle.ledger.specs.declared.office.Stretch.{Stretch}
-use Rattle.ledger.specs.Office.{Job, Entry, Office, job_of, is_entry, granted_more}
+use Rattle.office.specs.Jobs.{Job, granted_more}
+use Rattle.office.specs.Office.{Entry, Office, job_of, is_entry}
+use Rattle.office.specs.declared.stretches.Stretch.{Stretch}
 use Rattle.ledger.specs.Standing.{stretch_row}
 use Rattle.tables.proofs.Behind.{name_is, name_yes}
 
@@ -83,9 +84,25 @@ line_pushed db t customer number lines more line is = subst (λ all. Holds db (r
 
 -- ---- stretches
 
-pub first_stretched : (db : Database) (t : Tables) (customer : List ℕ) (number : ℕ) (s first : StretchRow) → t.stretches customer number ≡ [] → s ≡ first
-    → Holds db (with_stretches customer number (t.stretches customer number ++ s ∷ []) t) → Holds db (with_stretches customer number (first ∷ []) t)
-first_stretched db t customer number s first none is = subst (λ all. Holds db (with_stretches customer number all t)) (ap (λ all. all ++ s ∷ []) none ∙ ap (λ x. let y : List StretchRow = x ∷ [] in y) is)
+-- the last of a list
+last_of : (before : List Stretch) (last found : Stretch) (n : ℕ) → n ≡ length before → get_or (before ++ last ∷ []) n found ≡ last
+last_of [] last found zero is = refl
+last_of [] last found (suc n) is = absurd (omega (arith, is))
+last_of (s ∷ before) last found zero is = absurd (omega (arith, is))
+last_of (s ∷ before) last found (suc n) is = last_of before last found n (omega (arith, is))
+
+pub last_stretched : (db : Database) (t : Tables) (customer : List ℕ) (number place : ℕ) (before now : List Stretch) (last found : Stretch) (row : StretchRow) → now ≡ before ++ last ∷ [] → t.stretches customer number ≡ map stretch_row before
+    → place ≡ length now - 1 → found ≡ get_or now (length now - 1) found → row ≡ stretch_row found
+    → (place ≡ length (t.stretches customer number) → Holds db (with_stretches customer number (t.stretches customer number ++ row ∷ []) t)) → Holds db (with_stretches customer number (map stretch_row now) t)
+last_stretched db t customer number place before now last found row more is at is_found row_is did =
+    let many : length now ≡ length before + 1 = ap length more ∙ length-append before (last ∷ []) in
+    let here : length now - 1 ≡ length before = omega (arith, many) in
+    let rows : length (t.stretches customer number) ≡ length before = ap length is ∙ length-map before stretch_row in
+    let same : found ≡ last = is_found ∙ ap (λ n. get_or now n found) here ∙ ap (λ xs. get_or xs (length before) found) more ∙ last_of before last found (length before) refl in
+    let one : t.stretches customer number ++ row ∷ [] ≡ map stretch_row before ++ row ∷ [] = ap (λ (xs : List StretchRow). xs ++ row ∷ []) is in
+    let two : map stretch_row before ++ row ∷ [] ≡ map stretch_row before ++ stretch_row last ∷ [] = ap (λ (r : StretchRow). map stretch_row before ++ r ∷ []) (row_is ∙ ap stretch_row same) in
+    let three : map stretch_row before ++ stretch_row last ∷ [] ≡ map stretch_row now = sym (ap (map stretch_row) more ∙ map-append stretch_row before (last ∷ [])) in
+    subst (λ all. Holds db (with_stretches customer number all t)) (one ∙ two ∙ three) (did (omega (arith, at, here, rows)))
 
 pub length-granted_more : (limit : ℕ) (stretches : List Stretch) → length (granted_more limit stretches) ≡ length stretches
 length-granted_more limit [] = refl

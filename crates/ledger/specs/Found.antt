@@ -1,15 +1,15 @@
 -- what is found of a job
 use Rattle.std.specs.Prelude.{◌≡◌, ℕ, All, List, ◌∷◌, map, Option, Some, None}
-use Rattle.cards.specs.Decks.{IsCard, IsDeck}
+use Rattle.cards.specs.Decks.{deck_bytes, IsCard, IsDeck}
 use Rattle.machine.specs.Run.{State}
 use Rattle.units.specs.declared.switches.Switches.{Switches}
 use Rattle.pictures.specs.declared.parts.Media.{Media}
-use Rattle.ledger.specs.declared.office.Stretch.{Stretch}
-use Rattle.ledger.specs.declared.reading.Handed.{Handed}
-use Rattle.ledger.specs.Kept.{Kept, kept_of}
-use Rattle.ledger.specs.Office.{Job, loaded_deck, picture}
-use Rattle.pictures.specs.Columns.{deck_bytes, IsLine}
+use Rattle.office.specs.Jobs.{Job, loaded_deck, picture}
+use Rattle.office.specs.Kept.{Kept, kept_of}
+use Rattle.office.specs.declared.stretches.Stretch.{Stretch}
+use Rattle.pictures.specs.Columns.{IsLine}
 use Rattle.tables.specs.Cells.{JobCells}
+use Rattle.ledger.specs.declared.reading.Handed.{Handed}
 use Rattle.ledger.specs.Standing.{job_cells}
 
 -- what the machine reads and has made

@@ -1,11 +1,8 @@
 pub mod Found
-pub mod Kept
-pub mod Meters
-pub mod New
-pub mod Numbers
-pub mod Office
+pub mod Listed
 pub mod Replying
 pub mod Saving
 pub mod Serving
 pub mod Standing
 pub mod Steps
+pub mod Adopting

@@ -8,9 +8,9 @@ use Rattle.sqlite_trees.specs.declared.store.Store.{Ghosts}
 use Rattle.tables.specs.Schema.{no_schema}
 use Rattle.tables.specs.declared.faults.Fault.{Fault}
 use Rattle.tables.specs.declared.faults.Fault.TheVariants.{NoMemory}
-use Rattle.ledger.specs.declared.commands.Reply.{Reply}
-use Rattle.ledger.specs.Meters.{RisenAtMost}
-use Rattle.ledger.specs.Office.{Office}
+use Rattle.office.specs.Meters.{RisenAtMost}
+use Rattle.office.specs.Office.{Office}
+use Rattle.office.specs.declared.replies.Reply.{Reply}
 use Rattle.ledger.specs.Standing.{Stands, LeftAs}
 
 module _ {S : Type 0} (g : Ghosts S) (old new : Held S) where

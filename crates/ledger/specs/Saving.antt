@@ -1,21 +1,24 @@
 -- what is saved of a job
-use Rattle.std.specs.Prelude.{◌≡◌, ◌≤◌, ℕ, false, List, [], ◌∷◌, ◌++◌, map, take, length, Option, Some, None}
+use Rattle.std.specs.Prelude.{◌≡◌, ◌≤◌, ℕ, Bool, false, List, [], ◌∷◌, ◌++◌, map, take, length, Option, Some, None, Ok}
+use Rattle.cards.specs.Decks.{deck_bytes}
 use Rattle.cards.specs.declared.decks.Card.{Card}
-use Rattle.core_store.specs.declared.sizes.Size.{Size}
 use Rattle.machine.specs.Run.{State, lines_of}
-use Rattle.units.specs.declared.printer.Line.{Line}
-use Rattle.units.specs.declared.switches.Switches.{Switches}
-use Rattle.units.specs.declared.units.Units.{Units}
-use Rattle.pictures.specs.Columns.{line_cells, picture_cells}
+use Rattle.office.specs.Jobs.{Job, granted_more, picture, IsJob}
+use Rattle.office.specs.Kept.{Kept, kept_of, changed, changed_job}
+use Rattle.office.specs.New.{job_or_refusal}
+use Rattle.office.specs.Office.{Office, job_of, with_job, and_job}
+use Rattle.office.specs.declared.commands.Contents.{Contents}
+use Rattle.office.specs.declared.commands.JobCommand.{JobCommand}
+use Rattle.office.specs.declared.stretches.Stretch.{Stretch}
+use Rattle.pictures.specs.Columns.{line_cells, picture_cells, truth}
+use Rattle.tables.specs.Cells.{JobCells}
 use Rattle.tables.specs.Named.{of_job, with_picture_of, with_new_job}
 use Rattle.tables.specs.Tables.{Tables, with_stretches, with_cards, with_lines}
 use Rattle.tables.specs.declared.names.JobName.{JobName}
-use Rattle.ledger.specs.declared.commands.Contents.{Contents}
-use Rattle.ledger.specs.declared.office.Made.{Made}
-use Rattle.ledger.specs.declared.office.Stretch.{Stretch}
-use Rattle.ledger.specs.Kept.{Kept, kept_of, sliced_kept}
-use Rattle.ledger.specs.Office.{Job, Office, job_of, with_job, new_job, is_empty, granted_more, picture, refusal_of}
-use Rattle.ledger.specs.Standing.{stretch_row, job_cells}
+use Rattle.units.specs.declared.printer.Line.{Line}
+use Rattle.units.specs.declared.units.Units.{Units}
+use Rattle.ledger.specs.declared.saving.Made.{Made}
+use Rattle.ledger.specs.Standing.{kind_number, stretch_row}
 
 -- the tables have so many of these cards for the job, the first of them
 pub record HasFirstCards (name : JobName) (many : ℕ) (all : List Card) (t : Tables) : Type 0 where
@@ -59,29 +62,41 @@ HasFewerGranted name stretches t =
 abbrev pub with_machine : JobName → State → Tables → Tables
 with_machine name m = with_picture_of name (picture_cells m)
 
+-- the tables have these stretches for the job, but for the last
+abbrev pub HasOneLess : JobName → List Stretch → Tables → Type 0
+HasOneLess name stretches t =
+    (before : List Stretch) × (last : Stretch) × (stretches ≡ before ++ last ∷ [])
+    × (of_job name t.stretches ≡ map stretch_row before)
+
 -- the job has made this progress
 abbrev pub with_progress : JobName → Kept → Tables → Tables
 with_progress name kept t =
     with_all_stretches name kept.stretches (with_machine name kept.machine t)
 
--- the job has this one stretch, in which nothing is granted yet
-abbrev pub with_first_stretch : JobName → Switches → Tables → Tables
-with_first_stretch name switches =
-    with_stretches name.customer.now name.number
-    ((record { switches = switches.0; granted = 0 }) ∷ [])
+-- the job starts with these stretches and this machine
+abbrev pub with_start : JobName → Kept → Tables → Tables
+with_start name kept t =
+    with_machine name kept.machine (with_all_stretches name kept.stretches t)
 
--- the job starts with these switches and this machine
-abbrev pub with_start : JobName → Switches → State → Tables → Tables
-with_start name switches m t = with_machine name m (with_first_stretch name switches t)
-
--- the job has no stretch and no picture
-pub record HasNotStarted (name : JobName) (t : Tables) : Type 0 where
-  pub stretches : of_job name t.stretches ≡ []
+-- the job has these stretches but for the last, and no picture
+pub record HasNotStarted (name : JobName) (kept : Kept) (t : Tables) : Type 0 where
+  pub stretches : HasOneLess name kept.stretches t
   pub picture : of_job name t.pictures ≡ None
 
+-- the columns of a job that is handed in, where this is what its machine loads
+abbrev pub new_cells : Contents → List Card → JobCells
+new_cells contents loaded = record {
+  kind = kind_number contents.kind;
+  size = contents.size;
+  deck = deck_bytes contents.deck;
+  loaded = deck_bytes loaded;
+  held = truth false;
+  collected = truth false;
+}
+
 -- the job of these contents is there
-abbrev pub with_handed : JobName → Contents → Size → Tables → Tables
-with_handed name contents size = with_new_job name (job_cells (new_job size contents))
+abbrev pub with_handed : JobName → Contents → List Card → Tables → Tables
+with_handed name contents loaded = with_new_job name (new_cells contents loaded)
 
 -- ---- the office
 
@@ -89,34 +104,48 @@ with_handed name contents size = with_new_job name (job_cells (new_job size cont
 abbrev pub job_in : JobName → Office → Option Job
 job_in name = job_of name.customer.now name.number
 
--- The slice is allowed, and this is what it makes of the job; before, the job had made so many
--- cards and lines.
-pub record IsSliced (name : JobName) (kept : Kept) (made : Made) (limit : ℕ) (old : Job)
-    (office : Office) : Type 0 where
-  pub found : job_in name office ≡ Some old
-  pub allowed : refusal_of limit old ≡ None
-  pub is : kept ≡ sliced_kept limit (kept_of old) None
+-- the job had made so many cards and lines
+pub record HadMade (made : Made) (old : Job) : Type 0 where
   pub cards : made.cards ≡ length (picture old).works.units.punch
   pub lines : made.lines ≡ length (lines_of (picture old))
 
--- so much more is granted to the job
-abbrev pub with_more : JobName → ℕ → Job → Office → Office
-with_more name limit old =
-    with_job name.customer.now name.number
-    (record old { stretches = granted_more limit old.stretches })
+-- there is this job, and this is what a command that was let through made of it
+pub record IsAfter (name : JobName) (kept : Kept) (c : JobCommand) (old : Job) (office : Office)
+    : Type 0 where
+  pub found : job_in name office ≡ Some old
+  pub made : kept ≡ changed c (kept_of old)
+  pub is : kept ≡ kept_of (changed_job c old)
+  pub job : IsJob (changed_job c old)
 
--- The name is free, the contents have a card, and this is what becomes of them.
-pub record IsNew (name : JobName) (contents : Contents) (size : Size) (kept : Kept)
+-- the job is what a command that was let through makes of it
+abbrev pub with_after : JobName → JobCommand → Job → Office → Office
+with_after name c old = with_job name.customer.now name.number (changed_job c old)
+
+-- the job with these flags
+abbrev pub flagged_job : Bool → Bool → Job → Job
+flagged_job held collected job = record job { held = held; collected = collected }
+
+-- there is this job, and this is the same with other flags
+pub record IsFlagged (name : JobName) (kept : Kept) (held collected : Bool) (old : Job)
     (office : Office) : Type 0 where
-  pub free : job_in name office ≡ None
-  pub card : is_empty contents.deck ≡ false
-  pub is : kept ≡ kept_of (new_job size contents)
+  pub found : job_in name office ≡ Some old
+  pub is : kept ≡ kept_of (flagged_job held collected old)
+  pub job : IsJob (flagged_job held collected old)
 
--- the job of these contents is the last that was taken
-abbrev pub with_new : JobName → Contents → Size → Office → Office
-with_new name contents size office =
-    office ++ (record {
-      customer = name.customer.now;
-      number = name.number;
-      job = new_job size contents;
-    }) ∷ []
+-- the job has these flags
+abbrev pub with_flagged : JobName → Bool → Bool → Job → Office → Office
+with_flagged name held collected old =
+    with_job name.customer.now name.number (flagged_job held collected old)
+
+-- no job has the name
+abbrev pub IsFreeName : JobName → Office → Type 0
+IsFreeName name office = job_in name office ≡ None
+
+-- this is the job of what was handed in
+pub record IsTakenAs (contents : Contents) (kept : Kept) (job : Job) : Type 0 where
+  pub taken : job_or_refusal contents ≡ Ok job
+  pub kept_is : kept ≡ kept_of job
+
+-- the job is the last that was taken
+abbrev pub with_new : JobName → Job → Office → Office
+with_new name = and_job name.customer.now name.number

@@ -1,30 +1,33 @@
--- what a command on a job makes of the office, by the job's name
+-- what a command makes of the office, by the name of its job
 use Rattle.std.specs.Prelude.{ℕ}
-use Rattle.core_store.specs.declared.sizes.Size.{Size}
+use Rattle.office.specs.Jobs.{Job}
+use Rattle.office.specs.New.{job_or_refusal}
+use Rattle.office.specs.Office.{Office, added, submitted, submitted_as, commanded, attempted_of}
+use Rattle.office.specs.declared.commands.Contents.{Contents}
+use Rattle.office.specs.declared.commands.JobCommand.{JobCommand}
+use Rattle.office.specs.declared.replies.Reply.{Reply}
 use Rattle.tables.specs.declared.names.JobName.{JobName}
-use Rattle.ledger.specs.declared.commands.Contents.{Contents}
-use Rattle.ledger.specs.declared.commands.Reply.{Reply}
-use Rattle.ledger.specs.Office.{Office, added, submitted, submitted_new, size_numbered, sliced, attempted_of}
 use Rattle.ledger.specs.Saving.{job_in}
 
 -- one job more, unless its customer has as many as one may have
-abbrev pub added_as : JobName → Contents → Size → Office → Office × Reply
-added_as name contents size office = added name.customer.now name.number contents office size
+abbrev pub with_added : JobName → Job → Office → Office × Reply
+with_added name job office = added name.customer.now name.number office job
 
 -- a submission whose name is free
-abbrev pub submitted_new_as : JobName → Contents → Office → Office × Reply
-submitted_new_as name contents office =
-    submitted_new name.customer.now name.number contents office (size_numbered contents.size)
+abbrev pub with_taken : JobName → Contents → Office → Office × Reply
+with_taken name contents office =
+    submitted_as name.customer.now name.number office (job_or_refusal contents)
 
 -- a submission
-abbrev pub submitted_as : JobName → Contents → Office → Office × Reply
-submitted_as name contents office =
+abbrev pub with_submitted : JobName → Contents → Office → Office × Reply
+with_submitted name contents office =
     submitted name.customer.now name.number contents office (job_in name office)
 
--- a slice
-abbrev pub sliced_as : JobName → ℕ → Office → Office × Reply
-sliced_as name limit office = sliced name.customer.now name.number limit office (job_in name office)
+-- a command on a job
+abbrev pub with_commanded : JobName → JobCommand → Office → Office × Reply
+with_commanded name c office =
+    commanded name.customer.now name.number c office (job_in name office)
 
--- how many instructions a slice attempts
-abbrev pub attempted_as : JobName → ℕ → Office → ℕ
-attempted_as name limit office = attempted_of limit (job_in name office)
+-- how many instructions a command on a job attempts
+abbrev pub attempted_as : JobName → JobCommand → Office → ℕ
+attempted_as name c office = attempted_of c (job_in name office)

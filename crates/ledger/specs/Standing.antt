@@ -1,13 +1,16 @@
 -- the tables stand for an office
-use Rattle.std.specs.Prelude.{◌≡◌, ◌<◌, ◌≤◌, ℕ, false, List, [], ◌∷◌, ◌++◌, map, length, All, Option, Some, None, IsTrue}
+use Rattle.std.specs.Prelude.{◌≡◌, ℕ, false, List, [], map, All, Option, Some, None, IsTrue}
 use Rattle.std.specs.List.{AllByRecursion}
-use Rattle.std.specs.Option.{option_map}
-use Rattle.cards.specs.Decks.{IsCard, IsDeck}
+use Rattle.cards.specs.Decks.{deck_bytes, IsCard}
 use Rattle.core_store.specs.Storage.{positions_of}
-use Rattle.machine.specs.Ranges.{IsInRange}
-use Rattle.machine.specs.Run.{State}
-use Rattle.units.specs.Switches.{AreSeven}
-use Rattle.pictures.specs.Columns.{deck_bytes, truth, picture_cells, line_cells, HoldsCharacters, IsLine}
+use Rattle.machine.specs.Run.{lines_of as printed_by}
+use Rattle.office.specs.Jobs.{Job, loaded_deck, picture, IsJob}
+use Rattle.office.specs.Office.{Entry, Office, job_of}
+use Rattle.office.specs.declared.commands.Kind.{Kind}
+use Rattle.office.specs.declared.commands.Kind.TheVariants.{Object, Autocoder}
+use Rattle.office.specs.declared.replies.Reply.{Reply}
+use Rattle.office.specs.declared.stretches.Stretch.{Stretch}
+use Rattle.pictures.specs.Columns.{truth, picture_cells, line_cells, HoldsCharacters, IsLine}
 use Rattle.sqlite.specs.Effect.{Database}
 use Rattle.sqlite.specs.Tree.{Trees}
 use Rattle.sqlite.specs.State as store
@@ -15,15 +18,11 @@ use Rattle.tables.specs.Cells.{JobCells, PictureCells, LineCells}
 use Rattle.tables.specs.Schema.{bureau_schema}
 use Rattle.tables.specs.Tables.{NamedJob, Tables, Holds}
 use Rattle.tables.specs.declared.rows.StretchRow.{StretchRow}
-use Rattle.ledger.specs.declared.commands.Kind.{Kind}
-use Rattle.ledger.specs.declared.commands.Kind.TheVariants.{Object}
-use Rattle.ledger.specs.declared.commands.Reply.{Reply}
-use Rattle.ledger.specs.declared.office.Stretch.{Stretch}
-use Rattle.ledger.specs.Office.{Job, Entry, Office, job_of, loaded_deck, most_granted, picture, granted}
 
 -- the number of a kind
 abbrev pub kind_number : Kind → ℕ
 kind_number Object = 0
+kind_number Autocoder = 1
 
 -- the columns of a job
 abbrev pub job_cells : Job → JobCells
@@ -62,7 +61,7 @@ cards_of (Some job) = map (λ card. card.0) (picture job).works.units.punch
 -- the lines that a job has printed, if there is one
 abbrev pub lines_of : Option Job → List LineCells
 lines_of None = []
-lines_of (Some job) = map line_cells (picture job).works.units.printer.lines
+lines_of (Some job) = map line_cells (printed_by (picture job))
 
 -- what the tables of an office hold
 abbrev pub tables_of : Office → Tables
@@ -74,26 +73,17 @@ tables_of office = record {
   lines = λ customer number. lines_of (job_of customer number office);
 }
 
--- the switches of a stretch are no others than the seven
-abbrev pub HasSwitches : Stretch → Type 0
-HasSwitches s = AreSeven s.switches
-
--- what any job may hold
-pub record IsJob (job : Job) : Type 0 where
-  pub deck : IsDeck job.deck
-  pub card : 0 < length job.deck
-  pub begun : 0 < length job.stretches
-  pub switches : AllByRecursion HasSwitches job.stretches
-  pub most : granted job.stretches ≤ most_granted
-  pub machine : IsInRange (picture job)
-  pub storage : HoldsCharacters (picture job).works.storage
-  pub cards : All IsCard (picture job).works.units.punch
-  pub lines : All IsLine (picture job).works.units.printer.lines
+-- a job that the tables can hold: what its machine holds and has made are characters
+pub record CanBeKept (it : Job) : Type 0 where
+  pub job : IsJob it
+  pub storage : HoldsCharacters (picture it).works.storage
+  pub cards : All IsCard (picture it).works.units.punch
+  pub lines : All IsLine (printed_by (picture it))
 
 -- the rows of the tables are those of the office, and no others
 pub record Rows (db : Database) (office : Office) : Type 0 where
   pub tables : Holds db (tables_of office)
-  pub jobs : AllByRecursion (λ e. IsJob e.job) office
+  pub jobs : AllByRecursion (λ e. CanBeKept e.job) office
 
 -- what a connection sees is that of the office
 abbrev pub StandsIn : store.State → Office → Type 0

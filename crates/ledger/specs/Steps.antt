@@ -5,9 +5,9 @@ use Rattle.sqlite_trees.specs.declared.store.Store.{Ghosts}
 use Rattle.tables.specs.declared.faults.Fault.{Fault}
 use Rattle.tables.specs.declared.open_tables.OpenTables.{OpenTables}
 use Rattle.tables.specs.Steps.{Inside}
-use Rattle.ledger.specs.declared.commands.Reply.{Reply}
-use Rattle.ledger.specs.Meters.{RisenAtMost}
-use Rattle.ledger.specs.Office.{Office}
+use Rattle.office.specs.Meters.{RisenAtMost}
+use Rattle.office.specs.Office.{Office}
+use Rattle.office.specs.declared.replies.Reply.{Reply}
 use Rattle.ledger.specs.Standing.{StandsIn, Served}
 
 module _ {S : Type 0} (g : Ghosts S) where

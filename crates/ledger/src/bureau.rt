@@ -1,35 +1,22 @@
 //! The bureau: each command in one transaction, whose commit is the last call of the store.
 
-ghost use Rattle.std.specs.Prelude.{◌≡◌, ◌⊎◌, ◌≤◌, [], false, None, Some, Err, IsTrue, IfOk, IfErr, OnOk, OnErr, IsErrOf};
-ghost use Rattle.cards.specs.Decks.{IsDeck};
-ghost use Rattle.machine.specs.Run.{risen};
+ghost use Rattle.std.specs.Prelude.{◌≡◌, ◌⊎◌, ◌≤◌, [], false, Err, IsTrue, IfOk, IfErr, OnOk, IsErrOf};
 ghost use Rattle.sqlite.specs.Held.{state};
 ghost use Rattle.sqlite.specs.State.{HasCleanDisk};
 ghost use Rattle.sqlite.specs.View.{doubt};
-ghost use Rattle.tables.specs.Steps.{IsStep, IsOpenStep};
 ghost use Rattle.tables.specs.Schema.{no_schema};
-ghost use Rattle.ledger.specs.Found.{IsFirst};
-ghost use Rattle.ledger.specs.Kept.{kept_of};
-ghost use Rattle.ledger.specs.declared.commands.Kind.{Kind};
-ghost use Rattle.ledger.specs.Office.{Job, name_refusal, early_refusal, is_same_kind, is_of, repeated, served, take, attempted_of, attempted_by, attempted};
-ghost use Rattle.ledger.specs.Meters.{RisenAtMost, limit_of};
+ghost use Rattle.office.specs.Meters.{RisenAtMost};
+ghost use Rattle.office.specs.Office.{served, take, attempted_by, attempted, limit_of};
+ghost use Rattle.ledger.specs.Adopting.{StandsStill, IsNoFaultOfTables, HasOwnVersion};
 ghost use Rattle.ledger.specs.Replying.{Replies, Rises, RisesAtMost, KeepsOffice, LeavesEither, MakesOffice, LeavesNone};
-ghost use Rattle.ledger.specs.Saving.{job_in, IsNew};
-ghost use Rattle.ledger.specs.Serving.{added_as, submitted_new_as, submitted_as, sliced_as, attempted_as};
-ghost use Rattle.ledger.specs.Standing.{Stands, IsAsBefore, IsJob, job_cells, kind_number};
-ghost use Rattle.ledger.specs.Steps.{Serves, ServesWhere, Ticks, TicksAtMost};
+ghost use Rattle.ledger.specs.Standing.{Stands, IsAsBefore};
 
-use crate::commands::{Command, Contents, Kind, Refusal, Reply};
-use crate::office::{KeptJob, MOST_JOBS, NewFault, is_customer, is_limit, is_number, new_job};
-use crate::reading::{Handed, find_handed, find_to_run};
-use crate::saving::{save_new, save_slice};
-use bitflags::Flags;
-use core_store::{FlagCore, Size};
+use crate::serving::{early_refusal, serve};
 use machine::Meter;
-use pictures::deck_bytes;
+use office::{Command, Reply};
 use sqlite::{Alter, Connection};
-use std::alloc::{AllocError, Global};
-use tables::{Fault, JobName, OpenTables};
+use std::alloc::Global;
+use tables::{Fault, OpenFault, OpenTables};
 
 /// A bureau over a connection to its tables.
 pub struct Bureau<S: Alter> {
@@ -45,227 +32,6 @@ impl<S: Alter + Drop> Drop for Bureau<S> {
             alloc: _,
             broken: _,
         } = self;
-    }
-}
-
-/// Why a job may not have this name, if so.
-fn name_refusal(customer: &str, number: u32) -> Option<Refusal>
-    ensures { result ≡ name_refusal customer.now number }
-{
-    if !is_customer(customer) {
-        return Some(Refusal::Customer);
-    }
-    if !is_number(number) {
-        return Some(Refusal::Number);
-    }
-    None
-}
-
-/// Why a command is refused before any job is looked at, if it is.
-fn early_refusal(command: &Command) -> Option<Refusal>
-    ensures { result ≡ early_refusal command.now }
-{
-    match command {
-        Command::Submit {
-            customer,
-            number,
-            ..
-        } => name_refusal(customer.as_str(), *number),
-        Command::Slice {
-            customer,
-            number,
-            limit,
-        } => match name_refusal(customer.as_str(), *number) {
-            Some(reason) => Some(reason),
-            None if !is_limit(*limit) => Some(Refusal::Limit),
-            None => None,
-        },
-    }
-}
-
-/// Whether both are of one kind.
-fn is_same_kind(number: u32, kind: Kind) -> bool
-    ensures { (is : Kind) → number ≡ kind_number is → result ≡ is_same_kind is kind }
-{
-    match kind {
-        Kind::Object => number == 0,
-    }
-}
-
-/// Whether a job was handed in with these contents.
-fn is_same(alloc: Global, handed: &Handed, contents: &Contents) -> Result<bool, AllocError>
-    ensures same { IfOk result (λ same. (job : Job) → handed.now.row ≡ job_cells job
-        → IsFirst handed.now.switches job.stretches → same ≡ is_of contents.now job) }
-    ensures deck { IfOk result (λ same. IsTrue same → IsDeck contents.now.deck) }
-{
-    if !is_same_kind(handed.row.kind, contents.kind)
-        || handed.row.size != contents.size
-        || handed.switches.bits() != contents.switches.seven().bits()
-    {
-        return Ok(false);
-    }
-    let deck = deck_bytes(alloc, &contents.deck)?;
-    Ok(handed.row.deck.as_slice() == deck.as_slice())
-}
-
-/// The reply to a job that was handed in before.
-fn repeated(alloc: Global, handed: &Handed, contents: &Contents) -> Result<Reply, AllocError>
-    ensures { IfOk result (λ reply. (job : Job) → handed.now.row ≡ job_cells job
-        → IsFirst handed.now.switches job.stretches → IsJob job
-        → reply ≡ repeated contents.now job) }
-{
-    if is_same(alloc, handed, contents)? {
-        Ok(Reply::Taken {
-            cards: contents.deck.cards().len() as u32,
-        })
-    } else {
-        Ok(Reply::Refused(Refusal::OtherContents))
-    }
-}
-
-/// Adds a new job, unless its customer has as many as one may have.
-fn add<S: Alter>(
-    tables: &mut OpenTables<'_, '_, S>,
-    name: JobName<'_>,
-    contents: &Contents,
-    size: Size,
-    job: &KeptJob<FlagCore>,
-) -> Result<Reply, Fault>
-    ensures step { IsOpenStep S.Store tables.old tables.new result }
-    ensures done { ServesWhere S.Store tables.old tables.new result
-        (IsNew name.entry contents.now size job.now) (added_as name.entry contents.now size) }
-{
-    if tables.count_jobs(name.customer)? >= MOST_JOBS {
-        return Ok(Reply::Refused(Refusal::TooManyJobs));
-    }
-    save_new(tables, name, contents, size, job)?;
-    Ok(Reply::Taken {
-        cards: contents.deck.cards().len() as u32,
-    })
-}
-
-/// Accepts a job whose name is free.
-fn submit_new<S: Alter>(
-    tables: &mut OpenTables<'_, '_, S>,
-    name: JobName<'_>,
-    contents: &Contents,
-) -> Result<Reply, Fault>
-    ensures step { IsStep S.Store tables.old tables.new result }
-    ensures done { ServesWhere S.Store tables.old tables.new result
-        (λ office. job_in name.entry office ≡ None) (submitted_new_as name.entry contents.now) }
-{
-    match new_job(tables.alloc, contents) {
-        Ok((size, job)) => add(tables, name, contents, size, &job),
-        Err(NewFault::Refused(reason)) => Ok(Reply::Refused(reason)),
-        Err(NewFault::NoMemory) => Err(Fault::NoMemory),
-    }
-}
-
-/// Accepts a new job; a repeated submission gets the first reply again.
-fn submit<S: Alter>(
-    tables: &mut OpenTables<'_, '_, S>,
-    name: JobName<'_>,
-    contents: &Contents,
-) -> Result<Reply, Fault>
-    ensures step { IsOpenStep S.Store tables.old tables.new result }
-    ensures done { Serves S.Store tables.old tables.new result
-        (submitted_as name.entry contents.now) }
-{
-    match find_handed(tables, name)? {
-        Some(handed) => {
-            let reply = repeated(tables.alloc, &handed, contents)?;
-            Ok(reply)
-        }
-        None => submit_new(tables, name, contents),
-    }
-}
-
-/// Runs a job that was found, and notes what came of it.
-fn run_job<S: Alter>(
-    tables: &mut OpenTables<'_, '_, S>,
-    name: JobName<'_>,
-    mut job: KeptJob<FlagCore>,
-    limit: u32,
-    meter: &mut Meter,
-) -> Result<Reply, Fault>
-    ensures step { IsStep S.Store tables.old tables.new result }
-    ensures done { (old : Job) → job ≡ kept_of old
-        → ServesWhere S.Store tables.old tables.new result
-        (λ office. job_in name.entry office ≡ Some old) (sliced_as name.entry limit) }
-    ensures meter { OnOk result ((old : Job) → job ≡ kept_of old
-        → meter.new ≡ risen meter.old (attempted_of limit (Some old))) }
-    ensures given_up { OnErr result ((old : Job) → job ≡ kept_of old
-        → RisenAtMost (attempted_of limit (Some old)) meter.old meter.new) }
-    ensures most { RisenAtMost limit meter.old meter.new }
-{
-    let before = job.made();
-    match job.slice(limit, meter)? {
-        Reply::Refused(reason) => Ok(Reply::Refused(reason)),
-        reply => {
-            save_slice(tables, name, &job, before)?;
-            Ok(reply)
-        }
-    }
-}
-
-/// Runs a job.
-fn slice<S: Alter>(
-    tables: &mut OpenTables<'_, '_, S>,
-    name: JobName<'_>,
-    limit: u32,
-    meter: &mut Meter,
-) -> Result<Reply, Fault>
-    ensures step { IsOpenStep S.Store tables.old tables.new result }
-    ensures done { Serves S.Store tables.old tables.new result (sliced_as name.entry limit) }
-    ensures meter { Ticks S.Store tables.old tables.new result
-        meter.old meter.new (attempted_as name.entry limit) }
-    ensures given_up { TicksAtMost S.Store tables.old tables.new result
-        meter.old meter.new (attempted_as name.entry limit) }
-    ensures most { RisenAtMost limit meter.old meter.new }
-{
-    match find_to_run(tables, name)? {
-        Some(job) => run_job(tables, name, job, limit, meter),
-        None => Ok(Reply::Refused(Refusal::NoJob)),
-    }
-}
-
-/// A command that names a job rightly.
-fn serve<S: Alter>(
-    tables: &mut OpenTables<'_, '_, S>,
-    command: &Command,
-    meter: &mut Meter,
-) -> Result<Reply, Fault>
-    ensures step { IsOpenStep S.Store tables.old tables.new result }
-    ensures done { Serves S.Store tables.old tables.new result (served command.now) }
-    ensures meter { Ticks S.Store tables.old tables.new result
-        meter.old meter.new (attempted_by command.now) }
-    ensures given_up { TicksAtMost S.Store tables.old tables.new result
-        meter.old meter.new (attempted_by command.now) }
-    ensures most { RisenAtMost (limit_of command.now) meter.old meter.new }
-{
-    match command {
-        Command::Submit {
-            customer,
-            number,
-            contents,
-        } => {
-            let name = JobName {
-                customer: customer.as_str(),
-                number: *number,
-            };
-            submit(tables, name, contents)
-        }
-        Command::Slice {
-            customer,
-            number,
-            limit,
-        } => {
-            let name = JobName {
-                customer: customer.as_str(),
-                number: *number,
-            };
-            slice(tables, name, *limit, meter)
-        }
     }
 }
 
@@ -328,6 +94,24 @@ fn make<S: Alter>(alloc: Global, conn: &mut Connection<S>) -> Result<(), Fault>
     }
 }
 
+/// Whether the tables are a bureau's, of its own version: they are asked in a transaction that is
+/// rolled back.
+fn look<S: Alter>(alloc: Global, conn: &mut Connection<S>) -> Result<(), OpenFault>
+    ensures stands { StandsStill S.Store conn.old conn.new }
+    ensures known { IfErr result (IsNoFaultOfTables S.Store conn.old conn.new) }
+    ensures version { OnOk result (HasOwnVersion S.Store conn.old conn.new) }
+    ensures clean { doubt (state S.Store conn.old).is_clean
+        ≤ doubt (state S.Store conn.new).is_clean }
+{
+    if !conn.is_autocommit() {
+        return Err(OpenFault::Store);
+    }
+    let mut tx = conn.transaction();
+    let found = OpenTables { tx: &mut tx, alloc }.find_version();
+    tx.rollback();
+    found
+}
+
 impl<S: Alter> Bureau<S> {
     /// Applies a command. After fault 2 every later command is answered so, until the file is
     /// opened again. A fault leaves the meter risen by the instructions that were attempted.
@@ -383,6 +167,33 @@ impl<S: Alter + Drop> Bureau<S> {
         ensures crash { IfErr result (λ e. LeavesNone S.Store conn e.1) }
     {
         match make(alloc, &mut conn) {
+            Ok(()) => Ok(Bureau {
+                conn,
+                alloc,
+                broken: false,
+            }),
+            Err(fault) => Err((fault, conn)),
+        }
+    }
+
+    /// A bureau over the tables that a connection finds. It changes none of them. It fails with 50
+    /// where they are no bureau's, or a later version's, and with 51 where they are an earlier
+    /// version's; the connection is then handed back.
+    pub fn adopt(
+        alloc: Global,
+        mut conn: Connection<S>,
+    ) -> Result<Bureau<S>, (OpenFault, Connection<S>)>
+        ensures stands { IfOk result (λ bureau. StandsStill S.Store conn bureau.conn) }
+        ensures whole { IfOk result (λ bureau. bureau.broken ≡ false) }
+        ensures version { IfOk result (λ bureau. HasOwnVersion S.Store conn bureau.conn) }
+        ensures kept { IfErr result (λ e. StandsStill S.Store conn e.1) }
+        ensures known { IfErr result (λ e. IsNoFaultOfTables S.Store conn e.1 e.0) }
+        ensures clean { IfOk result (λ bureau. doubt (state S.Store conn).is_clean
+            ≤ doubt (state S.Store bureau.conn).is_clean) }
+        ensures clean_still { IfErr result (λ e. doubt (state S.Store conn).is_clean
+            ≤ doubt (state S.Store e.1).is_clean) }
+    {
+        match look(alloc, &mut conn) {
             Ok(()) => Ok(Bureau {
                 conn,
                 alloc,

@@ -1,21 +1,22 @@
 //! What the tables tell of a job.
 
 ghost use Rattle.std.specs.Prelude.{◌≡◌, ◌≢◌, List, All, map, Some, IsErrOf, IsSome, IfOk, IfSome};
-ghost use Rattle.std.specs.List.{AllByRecursion};
 ghost use Rattle.cards.specs.Decks.{IsCard, IsDeck};
 ghost use Rattle.machine.specs.Ranges.{IsInRange};
 ghost use Rattle.machine.specs.Run.{State};
+ghost use Rattle.office.specs.Jobs.{HasSwitches};
+ghost use Rattle.office.specs.Kept.{IsJobInRange};
+ghost use Rattle.office.specs.declared.stretches.Stretch.{Stretch};
 ghost use Rattle.pictures.specs.Columns.{line_cells, picture_cells, HoldsCharacters, IsLine};
 ghost use Rattle.tables.specs.Steps.{IsOpenStep};
 ghost use Rattle.ledger.specs.Found.{IsMediaOf, IsFoundAs, IsHandedAs, ShowsMedia, HasStretches, HasMedia, HasMachine, HasMachineWith, HasKept, BeganWith};
-ghost use Rattle.ledger.specs.declared.office.Stretch.{Stretch};
 ghost use Rattle.ledger.specs.Saving.{job_in};
-ghost use Rattle.ledger.specs.Standing.{HasSwitches, stretch_row};
+ghost use Rattle.ledger.specs.Standing.{stretch_row};
 ghost use Rattle.ledger.specs.Steps.{FindsIn};
 
-use crate::office::{KeptJob, Stretch};
 use core_store::Core;
-use machine::{Machine, runs_only_add};
+use machine::{Parts, runs_only_add};
+use office::{Job, JobParts, Stretch, commands_keep_jobs};
 use pictures::{Media, read_deck, read_picture, read_rows, read_switches, read_truth};
 use sqlite::Alter;
 use std::alloc::{AllocError, Global};
@@ -39,10 +40,10 @@ fn read_stretch(row: &StretchRow) -> Option<Stretch>
 /// The stretches of these rows, if each is one.
 fn read_stretches(alloc: Global, rows: &[StretchRow]) -> Result<Option<Vec<Stretch>>, AllocError>
     ensures all { IfOk result (λ read. (stretches : List Stretch)
-        → AllByRecursion HasSwitches stretches → rows.now ≡ map stretch_row stretches
+        → All HasSwitches stretches → rows.now ≡ map stretch_row stretches
         → IfSome read (λ made. made.items ≡ stretches) × IsSome read) }
     ensures only { IfOk result (λ read. IfSome read (λ made.
-        (map stretch_row made.items ≡ rows.now) × AllByRecursion HasSwitches made.items)) }
+        (map stretch_row made.items ≡ rows.now) × All HasSwitches made.items)) }
 {
     let mut stretches = Vec::new(alloc);
     for row in rows {
@@ -136,19 +137,14 @@ fn find_media<S: Alter>(
 }
 
 /// The machine of a picture.
-fn machine_of<C: Core>(alloc: Global, row: &PictureRow, media: Media) -> Result<Machine<C>, Fault>
+fn machine_of<C: Core>(alloc: Global, row: &PictureRow, media: Media) -> Result<Parts<C>, Fault>
     ensures machine { IfOk result (λ machine. (m : State) → IsInRange m
         → HoldsCharacters m.works.storage → row.now ≡ picture_cells m → IsMediaOf media m
         → machine ≡ m) }
     ensures store { IsErrOf result Fault.Store → (m : State) → IsInRange m
         → HoldsCharacters m.works.storage → IsMediaOf media m → row.now ≢ picture_cells m }
 {
-    let parts = match read_picture(alloc, row, media) {
-        Ok(Some(parts)) => parts,
-        Ok(None) => return Err(Fault::Store),
-        Err(_) => return Err(Fault::NoMemory),
-    };
-    match Machine::from_parts(alloc, parts) {
+    match read_picture(alloc, row, media) {
         Ok(Some(machine)) => Ok(machine),
         Ok(None) => Err(Fault::Store),
         Err(_) => Err(Fault::NoMemory),
@@ -160,11 +156,13 @@ fn find_machine<S: Alter, C: Core>(
     tables: &mut OpenTables<'_, '_, S>,
     name: JobName<'_>,
     media: Media,
-) -> Result<Machine<C>, Fault>
+) -> Result<Parts<C>, Fault>
     ensures step { IsOpenStep S.Store tables.old tables.new result }
     ensures found { FindsIn S.Store tables.old tables.new result
         (λ office found. HasMachineWith (job_in name.entry office) media found) }
 {
+    // A law, for the proof: it does nothing.
+    commands_keep_jobs();
     match tables.find_picture(name)? {
         Some(row) => machine_of(tables.alloc, &row, media),
         None => Err(Fault::Store),
@@ -177,7 +175,7 @@ fn find_running<S: Alter, C: Core>(
     name: JobName<'_>,
     loaded: &[u8],
     switches: Switches,
-) -> Result<Machine<C>, Fault>
+) -> Result<Parts<C>, Fault>
     ensures step { IsOpenStep S.Store tables.old tables.new result }
     ensures found { FindsIn S.Store tables.old tables.new result
         (λ office found. HasMachine (job_in name.entry office) loaded.now switches found) }
@@ -186,12 +184,12 @@ fn find_running<S: Alter, C: Core>(
     find_machine(tables, name, media)
 }
 
-/// A job, by its row.
-fn find_kept<S: Alter, C: Core>(
+/// The parts of a job, by its row.
+fn find_parts<S: Alter, C: Core>(
     tables: &mut OpenTables<'_, '_, S>,
     name: JobName<'_>,
     row: &JobRow,
-) -> Result<KeptJob<C>, Fault>
+) -> Result<JobParts<C>, Fault>
     ensures step { IsOpenStep S.Store tables.old tables.new result }
     ensures found { FindsIn S.Store tables.old tables.new result
         (λ office found. HasKept (job_in name.entry office) row.now found) }
@@ -206,7 +204,7 @@ fn find_kept<S: Alter, C: Core>(
         return Err(Fault::Store);
     };
     let machine = find_running(tables, name, &row.loaded, last.switches)?;
-    Ok(KeptJob {
+    Ok(JobParts {
         stretches,
         held,
         collected,
@@ -214,11 +212,37 @@ fn find_kept<S: Alter, C: Core>(
     })
 }
 
-/// The job of this name, to be run, if there is one.
-pub fn find_to_run<S: Alter, C: Core>(
+/// The job with these parts.
+fn job_with<C: Core>(alloc: Global, parts: JobParts<C>) -> Result<Job<C>, Fault>
+    ensures job { IfOk result (λ job. job ≡ parts) }
+    ensures store { IsErrOf result Fault.Store → ¬ IsJobInRange parts }
+{
+    match Job::from_parts(alloc, parts) {
+        Ok(Some(job)) => Ok(job),
+        Ok(None) => Err(Fault::Store),
+        Err(_) => Err(Fault::NoMemory),
+    }
+}
+
+/// The job of this row.
+fn find_kept<S: Alter, C: Core>(
     tables: &mut OpenTables<'_, '_, S>,
     name: JobName<'_>,
-) -> Result<Option<KeptJob<C>>, Fault>
+    row: &JobRow,
+) -> Result<Job<C>, Fault>
+    ensures step { IsOpenStep S.Store tables.old tables.new result }
+    ensures found { FindsIn S.Store tables.old tables.new result
+        (λ office found. HasKept (job_in name.entry office) row.now found) }
+{
+    let parts = find_parts(tables, name, row)?;
+    job_with(tables.alloc, parts)
+}
+
+/// The job of this name, if there is one.
+pub fn find_whole<S: Alter, C: Core>(
+    tables: &mut OpenTables<'_, '_, S>,
+    name: JobName<'_>,
+) -> Result<Option<Job<C>>, Fault>
     ensures step { IsOpenStep S.Store tables.old tables.new result }
     ensures found { FindsIn S.Store tables.old tables.new result
         (λ office found. IsFoundAs found (job_in name.entry office)) }

@@ -1,30 +1,54 @@
 //! What the tables are told of a job.
 
-ghost use Rattle.std.specs.Prelude.{◌≡◌, ◌≤◌, ℕ, [], All, take, length, IfOk, OnOk};
+ghost use Rattle.std.specs.Prelude.{◌≡◌, ◌≤◌, ℕ, Bool, All, take, length, IfOk, OnOk};
 ghost use Rattle.cards.specs.Decks.{IsCard, IsDeck};
 ghost use Rattle.machine.specs.Ranges.{IsInRange};
+ghost use Rattle.machine.specs.Run.{lines_of};
+ghost use Rattle.office.specs.Jobs.{Job as KnownJob};
+ghost use Rattle.office.specs.declared.commands.JobCommand.{JobCommand};
+ghost use Rattle.units.specs.declared.switches.Switches.{Switches};
 ghost use Rattle.pictures.specs.Columns.{HoldsCharacters, IsLine};
-ghost use Rattle.tables.specs.Named.{of_job, HasNoJob, HasNoPicture, HasPicture};
+ghost use Rattle.tables.specs.Named.{HasNoJob, HasNoPicture, HasPicture};
 ghost use Rattle.tables.specs.Steps.{Changes, IsStep};
-ghost use Rattle.ledger.specs.Office.{Job, new_job};
-ghost use Rattle.ledger.specs.Saving.{HasFirstCards, with_all_cards, HasFirstLines, with_all_lines, HasFirst, with_made, HasFewerGranted, with_all_stretches, with_machine, with_progress, with_first_stretch, with_start, HasNotStarted, with_handed, IsSliced, with_more, IsNew, with_new};
+ghost use Rattle.ledger.specs.Saving.{HasFirstCards, with_all_cards, HasFirstLines, with_all_lines, HasFirst, with_made, HasFewerGranted, HasOneLess, with_all_stretches, with_machine, with_progress, with_start, HasNotStarted, new_cells, with_handed, HadMade, IsAfter, with_after, IsFlagged, with_flagged, IsFreeName, IsTakenAs, with_new};
 ghost use Rattle.ledger.specs.declared.saving.TheConstants.{MOST_MADE};
-ghost use Rattle.ledger.specs.Standing.{kind_number, job_cells};
+ghost use Rattle.ledger.specs.Standing.{kind_number};
 ghost use Rattle.ledger.specs.Steps.{Saves};
 
-use crate::commands::{Contents, Kind};
-use crate::office::{KeptJob, Made};
-use cards::Card;
-use core_store::{Core, Size};
-use machine::{runs_add, runs_only_add, stays_in_range};
+use cards::{Card, Deck};
+use core_store::Core;
+use machine::{Parts, runs_only_add};
+use office::{Contents, Job, JobCommand, Kind, Stretch, commands_keep_jobs};
 use pictures::{card_bytes, deck_bytes, line_row, picture_row, switches_number, truth};
 use sqlite::Alter;
 use std::alloc::{AllocError, Global};
 use tables::{Fault, JobName, JobRow, OpenTables, StretchRow};
-use units::{Line, Switches, Units};
+use units::{Line, Units};
 
 /// No job has more cards or lines than this.
 const MOST_MADE: usize = 20_000;
+
+/// How much a job has made.
+#[derive(Clone, Copy)]
+pub struct Made {
+    pub cards: usize,
+    pub lines: usize,
+}
+
+impl Made {
+    /// How much a job has made so far.
+    pub fn by<C: Core>(job: &Job<C>) -> Made
+        ensures cards { result.cards ≡ length job.now.machine.works.units.punch }
+        ensures lines { result.lines ≡ length (lines_of job.now.machine) }
+    {
+        let machine = job.parts().machine;
+        let units = &machine.units;
+        Made {
+            cards: units.punch.cards.len(),
+            lines: units.printer.lines.len(),
+        }
+    }
+}
 
 /// Adds the cards after so many that the tables have already.
 fn insert_cards<S: Alter>(
@@ -93,32 +117,33 @@ fn insert_made<S: Alter>(
 fn set_machine<S: Alter, C: Core>(
     tables: &mut OpenTables<'_, '_, S>,
     name: JobName<'_>,
-    job: &KeptJob<C>,
+    machine: &Parts<C>,
 ) -> Result<(), Fault>
+    requires { IsInRange machine.now }
     ensures step { IsStep S.Store tables.old tables.new result }
     ensures set { Changes S.Store tables.old tables.new result
-        (HasPicture name.entry) (with_machine name.entry job.now.machine) }
-    ensures characters { OnOk result (HoldsCharacters job.now.machine.works.storage) }
+        (HasPicture name.entry) (with_machine name.entry machine.now) }
+    ensures characters { OnOk result (HoldsCharacters machine.now.works.storage) }
 {
-    let row = picture_row(tables.alloc, job.machine.parts())?;
+    let row = picture_row(tables.alloc, machine)?;
     tables.set_picture(name, &row)
 }
 
 /// Notes what is granted in a job's last stretch.
-fn set_last_granted<S: Alter, C: Core>(
+fn set_last_granted<S: Alter>(
     tables: &mut OpenTables<'_, '_, S>,
     name: JobName<'_>,
-    job: &KeptJob<C>,
+    stretches: &[Stretch],
 ) -> Result<(), Fault>
     ensures step { IsStep S.Store tables.old tables.new result }
     ensures set { Changes S.Store tables.old tables.new result
-        (HasFewerGranted name.entry job.now.stretches)
-        (with_all_stretches name.entry job.now.stretches) }
+        (HasFewerGranted name.entry stretches.now)
+        (with_all_stretches name.entry stretches.now) }
 {
-    let Some(last) = job.stretches.last() else {
+    let Some(last) = stretches.last() else {
         return Err(Fault::Store);
     };
-    let Ok(place) = u32::try_from(job.stretches.len() - 1) else {
+    let Ok(place) = u32::try_from(stretches.len() - 1) else {
         return Err(Fault::Store);
     };
     tables.set_granted(name, place, last.granted)
@@ -128,7 +153,7 @@ fn set_last_granted<S: Alter, C: Core>(
 fn set_progress<S: Alter, C: Core>(
     tables: &mut OpenTables<'_, '_, S>,
     name: JobName<'_>,
-    job: &KeptJob<C>,
+    job: &Job<C>,
 ) -> Result<(), Fault>
     ensures step { IsStep S.Store tables.old tables.new result }
     ensures set { Changes S.Store tables.old tables.new result
@@ -136,27 +161,110 @@ fn set_progress<S: Alter, C: Core>(
         (with_progress name.entry job.now) }
     ensures characters { OnOk result (HoldsCharacters job.now.machine.works.storage) }
 {
-    set_machine(tables, name, job)?;
-    set_last_granted(tables, name, job)
+    let parts = job.parts();
+    set_machine(tables, name, parts.machine)?;
+    set_last_granted(tables, name, parts.stretches)
 }
 
 /// Notes what a slice made of a job that had made so much before.
-pub fn save_slice<S: Alter, C: Core>(
+fn save_slice<S: Alter, C: Core>(
     tables: &mut OpenTables<'_, '_, S>,
     name: JobName<'_>,
-    job: &KeptJob<C>,
+    job: &Job<C>,
     before: Made,
 ) -> Result<(), Fault>
     ensures step { IsStep S.Store tables.old tables.new result }
-    ensures saved { (limit : ℕ) (old : Job) → Saves S.Store tables.old tables.new result
-        (IsSliced name.entry job.now before limit old) (with_more name.entry limit old) }
+    ensures saved { (limit : ℕ) (old : KnownJob) → HadMade before old
+        → Saves S.Store tables.old tables.new result
+        (IsAfter name.entry job.now (JobCommand.Slice limit) old)
+        (with_after name.entry (JobCommand.Slice limit) old) }
 {
-    // Laws, for the proof: they do nothing.
-    runs_add();
+    // A law, for the proof: it does nothing.
     runs_only_add();
-    stays_in_range();
-    insert_made(tables, name, &job.machine.parts().units, before)?;
+    let machine = job.parts().machine;
+    let units = &machine.units;
+    insert_made(tables, name, units, before)?;
     set_progress(tables, name, job)
+}
+
+/// Adds a job's last stretch.
+fn insert_last_stretch<S: Alter>(
+    tables: &mut OpenTables<'_, '_, S>,
+    name: JobName<'_>,
+    stretches: &[Stretch],
+) -> Result<(), Fault>
+    ensures step { IsStep S.Store tables.old tables.new result }
+    ensures added { Changes S.Store tables.old tables.new result
+        (HasOneLess name.entry stretches.now)
+        (with_all_stretches name.entry stretches.now) }
+{
+    let Some(last) = stretches.last() else {
+        return Err(Fault::Store);
+    };
+    let Ok(place) = u32::try_from(stretches.len() - 1) else {
+        return Err(Fault::Store);
+    };
+    let stretch = StretchRow {
+        switches: switches_number(last.switches),
+        granted: last.granted,
+    };
+    tables.insert_stretch(name, place, stretch)
+}
+
+/// Notes that a job goes on from a halt.
+fn save_start<S: Alter, C: Core>(
+    tables: &mut OpenTables<'_, '_, S>,
+    name: JobName<'_>,
+    job: &Job<C>,
+) -> Result<(), Fault>
+    ensures step { IsStep S.Store tables.old tables.new result }
+    ensures saved { (switches : Switches) (old : KnownJob) → Saves S.Store tables.old tables.new result
+        (IsAfter name.entry job.now (JobCommand.Start switches) old)
+        (with_after name.entry (JobCommand.Start switches) old) }
+{
+    let started = job.parts();
+    set_machine(tables, name, started.machine)?;
+    insert_last_stretch(tables, name, started.stretches)
+}
+
+/// Notes a job's flags.
+fn save_flags<S: Alter, C: Core>(
+    tables: &mut OpenTables<'_, '_, S>,
+    name: JobName<'_>,
+    job: &Job<C>,
+) -> Result<(), Fault>
+    ensures step { IsStep S.Store tables.old tables.new result }
+    ensures saved { (held collected : Bool) (old : KnownJob)
+        → Saves S.Store tables.old tables.new result
+        (IsFlagged name.entry job.now held collected old)
+        (with_flagged name.entry held collected old) }
+{
+    let flagged = job.parts();
+    tables.set_flags(name, truth(flagged.held), truth(flagged.collected))
+}
+
+/// Notes what a command that was let through made of a job, which had made so much before.
+pub fn save<S: Alter, C: Core>(
+    tables: &mut OpenTables<'_, '_, S>,
+    name: JobName<'_>,
+    command: JobCommand,
+    job: &Job<C>,
+    before: Made,
+) -> Result<(), Fault>
+    ensures step { IsStep S.Store tables.old tables.new result }
+    ensures saved { (old : KnownJob) → HadMade before old → Saves S.Store tables.old tables.new result
+        (IsAfter name.entry job.now command old) (with_after name.entry command old) }
+{
+    match command {
+        JobCommand::Slice { .. } => save_slice(tables, name, job, before),
+        JobCommand::Start { .. } => save_start(tables, name, job),
+        JobCommand::Hold => save_flags(tables, name, job),
+        JobCommand::Release => save_flags(tables, name, job),
+        JobCommand::Collect => save_flags(tables, name, job),
+        JobCommand::Standing => Ok(()),
+        JobCommand::Cards => Ok(()),
+        JobCommand::Lines => Ok(()),
+    }
 }
 
 /// The number of a kind.
@@ -165,19 +273,21 @@ fn kind_number(kind: Kind) -> u32
 {
     match kind {
         Kind::Object => 0,
+        Kind::Autocoder => 1,
     }
 }
 
-/// The row of a job that is handed in.
-fn job_row(alloc: Global, contents: &Contents, size: Size) -> Result<JobRow, AllocError>
-    ensures row { IfOk result (λ row. row ≡ job_cells (new_job size contents.now)) }
+/// The row of a job that is handed in, and loads this deck.
+fn job_row(alloc: Global, contents: &Contents, loaded: &Deck) -> Result<JobRow, AllocError>
+    ensures row { IfOk result (λ row. row ≡ new_cells contents.now loaded.now) }
     ensures deck { OnOk result (IsDeck contents.now.deck) }
+    ensures loaded { OnOk result (IsDeck loaded.now) }
 {
     Ok(JobRow {
         kind: kind_number(contents.kind),
-        size: size.positions() as u32,
+        size: contents.size,
         deck: deck_bytes(alloc, &contents.deck)?,
-        loaded: deck_bytes(alloc, &contents.deck)?,
+        loaded: deck_bytes(alloc, loaded)?,
         held: truth(false),
         collected: truth(false),
     })
@@ -188,47 +298,31 @@ fn insert_handed<S: Alter>(
     tables: &mut OpenTables<'_, '_, S>,
     name: JobName<'_>,
     contents: &Contents,
-    size: Size,
+    loaded: &Deck,
 ) -> Result<(), Fault>
     ensures step { IsStep S.Store tables.old tables.new result }
     ensures added { Changes S.Store tables.old tables.new result
-        (HasNoJob name.entry) (with_handed name.entry contents.now size) }
+        (HasNoJob name.entry) (with_handed name.entry contents.now loaded.now) }
     ensures deck { OnOk result (IsDeck contents.now.deck) }
+    ensures loaded { OnOk result (IsDeck loaded.now) }
 {
-    let row = job_row(tables.alloc, contents, size)?;
+    let row = job_row(tables.alloc, contents, loaded)?;
     tables.insert_job(name, &row)
-}
-
-/// Adds a job's first stretch.
-fn insert_first_stretch<S: Alter>(
-    tables: &mut OpenTables<'_, '_, S>,
-    name: JobName<'_>,
-    switches: Switches,
-) -> Result<(), Fault>
-    ensures step { IsStep S.Store tables.old tables.new result }
-    ensures added { Changes S.Store tables.old tables.new result
-        (λ t. of_job name.entry t.stretches ≡ []) (with_first_stretch name.entry switches) }
-{
-    let stretch = StretchRow {
-        switches: switches_number(switches),
-        granted: 0,
-    };
-    tables.insert_stretch(name, 0, stretch)
 }
 
 /// Adds the picture of a job's machine.
 fn insert_machine<S: Alter, C: Core>(
     tables: &mut OpenTables<'_, '_, S>,
     name: JobName<'_>,
-    job: &KeptJob<C>,
+    machine: &Parts<C>,
 ) -> Result<(), Fault>
+    requires { IsInRange machine.now }
     ensures step { IsStep S.Store tables.old tables.new result }
     ensures added { Changes S.Store tables.old tables.new result
-        (HasNoPicture name.entry) (with_machine name.entry job.now.machine) }
-    ensures characters { OnOk result (HoldsCharacters job.now.machine.works.storage) }
-    ensures machine { OnOk result (IsInRange job.now.machine) }
+        (HasNoPicture name.entry) (with_machine name.entry machine.now) }
+    ensures characters { OnOk result (HoldsCharacters machine.now.works.storage) }
 {
-    let row = picture_row(tables.alloc, job.machine.parts())?;
+    let row = picture_row(tables.alloc, machine)?;
     tables.insert_picture(name, &row)
 }
 
@@ -236,17 +330,16 @@ fn insert_machine<S: Alter, C: Core>(
 fn insert_start<S: Alter, C: Core>(
     tables: &mut OpenTables<'_, '_, S>,
     name: JobName<'_>,
-    switches: Switches,
-    job: &KeptJob<C>,
+    job: &Job<C>,
 ) -> Result<(), Fault>
     ensures step { IsStep S.Store tables.old tables.new result }
     ensures added { Changes S.Store tables.old tables.new result
-        (HasNotStarted name.entry) (with_start name.entry switches job.now.machine) }
+        (HasNotStarted name.entry job.now) (with_start name.entry job.now) }
     ensures characters { OnOk result (HoldsCharacters job.now.machine.works.storage) }
-    ensures machine { OnOk result (IsInRange job.now.machine) }
 {
-    insert_first_stretch(tables, name, switches)?;
-    insert_machine(tables, name, job)
+    let parts = job.parts();
+    insert_last_stretch(tables, name, parts.stretches)?;
+    insert_machine(tables, name, parts.machine)
 }
 
 /// Adds a job that was handed in.
@@ -254,14 +347,18 @@ pub fn save_new<S: Alter, C: Core>(
     tables: &mut OpenTables<'_, '_, S>,
     name: JobName<'_>,
     contents: &Contents,
-    size: Size,
-    job: &KeptJob<C>,
+    job: &Job<C>,
 ) -> Result<(), Fault>
     ensures step { IsStep S.Store tables.old tables.new result }
-    ensures saved { Saves S.Store tables.old tables.new result
-        (IsNew name.entry contents.now size job.now) (with_new name.entry contents.now size) }
+    ensures saved { (new : KnownJob) → IsTakenAs contents.now job.now new
+        → Saves S.Store tables.old tables.new result
+        (IsFreeName name.entry) (with_new name.entry new) }
 {
-    let switches = contents.switches.seven();
-    insert_handed(tables, name, contents, size)?;
-    insert_start(tables, name, switches, job)
+    // Laws, for the proof: they do nothing.
+    runs_only_add();
+    commands_keep_jobs();
+    let machine = job.parts().machine;
+    let deck = &machine.units.hopper.deck;
+    insert_handed(tables, name, contents, deck)?;
+    insert_start(tables, name, job)
 }

@@ -1,9 +1,11 @@
 //! Commands as lines, and what is replied to them.
 
 use crate::decks::deck_named;
+use crate::replies::reply_text;
 use bitflags::Flags;
-use ledger::{Bureau, Command, Contents, Fault, JobStanding, Kind, Reply};
+use ledger::Bureau;
 use machine::Meter;
+use office::{Command, Contents, JobCommand, Kind};
 use sqlite::Alter;
 use std::alloc::Global;
 use std::test::Fail;
@@ -27,58 +29,70 @@ fn switches_of(field: &str) -> Result<Switches, Fail> {
 }
 
 /// What is handed in by fields: a size, switches and the name of a deck.
-fn contents_of(alloc: Global, fields: &str) -> Result<Contents, Fail> {
+fn contents_of(alloc: Global, kind: Kind, fields: &str) -> Result<Contents, Fail> {
     let (size, fields) = fields.split_once('|').ok_or("a size")?;
     let (switches, deck) = fields.split_once('|').ok_or("switches")?;
     Ok(Contents {
-        kind: Kind::Object,
+        kind,
         size: number_of(size)?,
         switches: switches_of(switches)?,
         deck: deck_named(alloc, deck)?,
     })
 }
 
-/// The command of a line: its word, the customer, the number, and the contents or the limit.
-fn command_of(alloc: Global, line: &str) -> Result<Command, Fail> {
-    let (word, fields) = line.split_once('|').ok_or("a word")?;
-    let (customer, fields) = fields.split_once('|').ok_or("a customer")?;
-    let (number, fields) = fields.split_once('|').ok_or("a number")?;
-    let customer = String::from_str(alloc, customer)?;
-    let number = number_of(number)?;
+/// The command on a job with this word, and with its limit or switches.
+fn job_command_of(word: &str, field: &str) -> Result<JobCommand, Fail> {
     match word {
-        "submit" => Ok(Command::Submit {
-            customer,
-            number,
-            contents: contents_of(alloc, fields)?,
+        "slice" => Ok(JobCommand::Slice {
+            limit: number_of(field)?,
         }),
-        "slice" => Ok(Command::Slice {
-            customer,
-            number,
-            limit: number_of(fields)?,
+        "start" => Ok(JobCommand::Start {
+            switches: switches_of(field)?,
         }),
+        "hold" => Ok(JobCommand::Hold),
+        "release" => Ok(JobCommand::Release),
+        "collect" => Ok(JobCommand::Collect),
+        "standing" => Ok(JobCommand::Standing),
+        "cards" => Ok(JobCommand::Cards),
+        "lines" => Ok(JobCommand::Lines),
         _ => Err("a word")?,
     }
 }
 
-/// How a job's machine stands, in words.
-fn standing_text(alloc: Global, standing: JobStanding) -> Result<String, Fail> {
-    match standing {
-        JobStanding::Running => Ok(String::from_str(alloc, "running")?),
-        JobStanding::Halted { next } => Ok(format!(in alloc; "halted, next {next}")?),
-        JobStanding::Checked { check, at } => Ok(format!(in alloc; "{check:?} at {at}")?),
+/// The kind of deck that a word hands in, if it does.
+fn kind_of(word: &str) -> Option<Kind> {
+    match word {
+        "submit" => Some(Kind::Object),
+        "submit source" => Some(Kind::Autocoder),
+        _ => None,
     }
 }
 
-/// A reply in words.
-fn reply_text(alloc: Global, reply: Result<Reply, Fault>) -> Result<String, Fail> {
-    match reply {
-        Ok(Reply::Taken { cards }) => Ok(format!(in alloc; "taken {cards}")?),
-        Ok(Reply::Ran { executed, standing }) => {
-            let standing = standing_text(alloc, standing)?;
-            Ok(format!(in alloc; "ran {executed}, {standing}")?)
-        }
-        Ok(Reply::Refused(reason)) => Ok(format!(in alloc; "refused {}", reason.number())?),
-        Err(fault) => Ok(format!(in alloc; "fault {fault:?}")?),
+/// The command of a line: its word, the customer, the number, and what the command has besides.
+fn command_of(alloc: Global, line: &str) -> Result<Command, Fail> {
+    let (word, fields) = line.split_once('|').ok_or("a word")?;
+    if word == "queue" {
+        return Ok(Command::Queue);
+    }
+    let (customer, fields) = fields.split_once('|').ok_or("a customer")?;
+    if word == "jobs" {
+        let customer = String::from_str(alloc, customer)?;
+        return Ok(Command::Jobs { customer });
+    }
+    let (number, fields) = fields.split_once('|').ok_or("a number")?;
+    let customer = String::from_str(alloc, customer)?;
+    let number = number_of(number)?;
+    match kind_of(word) {
+        Some(kind) => Ok(Command::Submit {
+            customer,
+            number,
+            contents: contents_of(alloc, kind, fields)?,
+        }),
+        None => Ok(Command::Job {
+            customer,
+            number,
+            command: job_command_of(word, fields)?,
+        }),
     }
 }
 
@@ -90,7 +104,7 @@ pub(crate) fn reply_to<S: Alter>(
     line: &str,
 ) -> Result<String, Fail> {
     let command = command_of(alloc, line)?;
-    reply_text(alloc, bureau.apply(&command, meter))
+    reply_text(alloc, &bureau.apply(&command, meter))
 }
 
 /// The first line of a sheet whose command has another reply than the line gives before it; else

@@ -12,6 +12,28 @@ B342.                                  L006361,360361N000000N0000001040
                                        /333080
 ";
 
+/// The source of the same program.
+const SOURCE_THAT_PRINTS: &str = "               CS   332
+               CS
+               SW   001
+     READ      R
+               MCW  080,280
+               W
+               BLC  DONE
+               B    READ
+     DONE      H
+               END
+";
+
+/// A source of which each card has a fault.
+const FAULTY_SOURCE: &str = "               XYZ
+               B    LOST
+     *
+";
+
+/// A program that punches its own card three times.
+const PUNCHES_THREE: &str = ",008015,022029,030031,032033444.\n";
+
 /// The program and the data of the deck with a name.
 fn cards_named(name: &str) -> Option<(&'static str, &'static str)> {
     match name {
@@ -20,6 +42,9 @@ fn cards_named(name: &str) -> Option<(&'static str, &'static str)> {
         "no data" => Some((PRINTS_EACH_CARD, "")),
         "loop" => Some((",008012B008\n", "")),
         "outside" => Some((",008015L000200\n", "")),
+        "source of two lines" => Some((SOURCE_THAT_PRINTS, "HELLO\nWORLD\n")),
+        "faulty source" => Some((FAULTY_SOURCE, "")),
+        "three cards" => Some((PUNCHES_THREE, "")),
         "no card" => Some(("", "")),
         _ => None,
     }

@@ -21,6 +21,8 @@ mod opened_anew;
 #[cfg(test)]
 mod refusals;
 #[cfg(test)]
+mod replies;
+#[cfg(test)]
 mod rows;
 #[cfg(test)]
 mod runs;

@@ -5,9 +5,11 @@ ghost use Rattle.std.specs.Prelude.{IsTrue, IfOk};
 ghost use Rattle.sqlite_disk.specs.Memory.{memory_is_usable};
 
 use crate::decks::deck_named;
+use crate::replies::reply_text;
 use bitflags::Flags;
-use ledger::{Bureau, Command, Contents, Fault, JobStanding, Kind, Reply};
+use ledger::{Bureau, Fault};
 use machine::Meter;
+use office::{Command, Contents, JobCommand, Kind, Reply};
 use sqlite::{Alter, Connection, FileStore, Files, Options};
 use sqlite_disk::{Disk, Memory};
 use std::alloc::Global;
@@ -30,10 +32,10 @@ fn submit_9(alloc: Global, deck: &str) -> Result<Command, Fail> {
 
 /// Runs job 9 of ACME.
 fn slice_9(alloc: Global, limit: u32) -> Result<Command, Fail> {
-    Ok(Command::Slice {
+    Ok(Command::Job {
         customer: String::from_str(alloc, "ACME")?,
         number: 9,
-        limit,
+        command: JobCommand::Slice { limit },
     })
 }
 
@@ -44,10 +46,6 @@ fn apply<S: Alter>(
     meter: &mut Meter,
 ) -> Result<Reply, Fault> {
     bureau.apply(command, meter)
-}
-
-fn ran(executed: u32, standing: JobStanding) -> Result<Reply, Fault> {
-    Ok(Reply::Ran { executed, standing })
 }
 
 fn copy(alloc: Global, disk: &Memory) -> Result<Memory, Fail>
@@ -112,20 +110,20 @@ fn applied<S: Alter + Drop>(
     bureau.into_connection()
 }
 
-/// The reply to a command to the bureau on these disks, and the disks after it.
+/// The reply to a command to the bureau on these disks, in words, and the disks after it.
 fn apply_anew(
     alloc: Global,
     disks: &Files<Memory>,
     command: &Command,
     meter: &mut Meter,
-) -> Result<(Result<Reply, Fault>, Files<Memory>), Fail> {
+) -> Result<(String, Files<Memory>), Fail> {
     let mut reply = Err(Fault::Store);
     let conn = match open(alloc, disks) {
         Ok(conn) => Ok(applied(alloc, conn, command, meter, &mut reply)),
         Err(fail) => Err(fail),
     };
     let disks = closed(conn)?;
-    Ok((reply, disks))
+    Ok((reply_text(alloc, &reply)?, disks))
 }
 
 /// The characters of all lines, as numbers in a row.
@@ -139,16 +137,16 @@ fn images<S: Alter + Drop>(alloc: Global, mut conn: Connection<S>) -> Result<Vec
 }
 
 /// How many slices of one instruction are answered with a running machine, each over the file
-/// opened anew, the reply to the next slice, and the disks after it.
+/// opened anew, the reply to the next slice in words, and the disks after it.
 fn run_by_ones(
     alloc: Global,
     mut disks: Files<Memory>,
     meter: &mut Meter,
-) -> Result<(u32, Result<Reply, Fault>, Files<Memory>), Fail> {
+) -> Result<(u32, String, Files<Memory>), Fail> {
     let command = slice_9(alloc, 1)?;
     for count in 0..100 {
         let (reply, after) = apply_anew(alloc, &disks, &command, meter)?;
-        if reply != ran(1, JobStanding::Running) {
+        if reply.as_str() != "ran 1, running" {
             return Ok((count, reply, after));
         }
         disks = after;
@@ -162,10 +160,10 @@ fn slices_of_one_instruction(rt: HostRuntime) -> Result<(), Fail> {
     let mut meter = Meter::new();
     let disks = new_disks(alloc)?;
     let (taken, disks) = apply_anew(alloc, &disks, &submit_9(alloc, "two lines")?, &mut meter)?;
-    assert_eq!(rt; taken, Ok(Reply::Taken { cards: 6 }));
+    assert_eq!(rt; taken.as_str(), "taken 6");
     let (count, last, disks) = run_by_ones(alloc, disks, &mut meter)?;
     assert_eq!(rt; count, 34);
-    assert_eq!(rt; last, ran(1, JobStanding::Halted { next: 361 }));
+    assert_eq!(rt; last.as_str(), "ran 1, halted, next 361");
     assert_eq!(rt; meter.ticks(), 35);
     let images = images(alloc, open(alloc, &disks)?)?;
     assert_eq!(rt; images.len(), 2 * 132);

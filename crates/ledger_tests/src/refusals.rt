@@ -58,9 +58,50 @@ refused 20|slice|ACME|8|2000
 refused 20|slice|ACM|9|1
 ";
 
+/// Commands on jobs that there are not.
+const OTHER_COMMANDS: &str = "\
+taken 6|submit|ACME|9|4000|A|two lines
+refused 10|start|acme|0|-
+refused 11|start|ACME|0|-
+refused 20|start|ACME|8|-
+refused 24|start|ACME|9|-
+refused 10|hold|acme|9|
+refused 11|hold|ACME|0|
+refused 20|hold|ACME|8|
+refused 10|release|acme|9|
+refused 11|release|ACME|0|
+refused 20|release|ACME|8|
+refused 10|collect|acme|9|
+refused 11|collect|ACME|0|
+refused 20|collect|ACME|8|
+refused 10|standing||9|
+refused 11|standing|ACME|1000000|
+refused 20|standing|ACME|8|
+refused 10|cards|acme|9|
+refused 11|cards|ACME|0|
+refused 20|cards|ACM|9|
+refused 10|lines|acme|9|
+refused 11|lines|ACME|0|
+refused 20|lines|ACME|8|
+";
+
+/// Sources with faults.
+const FAULTY_SOURCES: &str = "\
+taken 6|submit source|ACME|9|4000|A|source of two lines
+refused 16 1:41 2:45 3:49|submit source|ACME|8|4000|A|faulty source
+refused 14|submit source|ACME|9|4000|A|faulty source
+refused 13|submit source|ACME|8|4000|A|no card
+refused 12|submit source|ACME|8|4001|A|faulty source
+";
+
 #[test]
 fn refusals_by_their_numbers(rt: HostRuntime) -> Result<(), Fail> {
-    for sheet in [NO_CARDS_AND_OTHER_CARDS, SLICES] {
+    for sheet in [
+        NO_CARDS_AND_OTHER_CARDS,
+        SLICES,
+        OTHER_COMMANDS,
+        FAULTY_SOURCES,
+    ] {
         assert_eq!(rt;
             outcome(rt.alloc(), sheet)?.as_str(),
             "0 ticks, 1 jobs, 0 lines"
@@ -73,6 +114,7 @@ fn refusals_by_their_numbers(rt: HostRuntime) -> Result<(), Fail> {
 const AFTER_TWO_HUNDRED: &str = "\
 refused 15|submit|ACME|201|1400|A|loop
 refused 12|submit|ACME|201|1401|A|loop
+refused 16 1:41 2:45 3:49|submit source|ACME|201|1400|A|faulty source
 taken 1|submit|ACME|200|1400|A|loop
 taken 1|submit|ABCDEFGHIJKL|999999|1400|A|loop
 ";

@@ -1,6 +1,8 @@
 pub mod Added
 pub mod Behind
+pub mod Blaming
 pub mod Creating
+pub mod Failing
 pub mod Frames
 pub mod Inserting
 pub mod Keys

@@ -1,5 +1,5 @@
 -- What the query of the version answers.
-use Rattle.std.proofs.Common.{◌≡◌, ◌⊎◌, ℕ, pos, List, [], ◌∷◌, map, filter, Bool, true, false, true≢false, IsTrue, None, Some, Option, refl, sym, ap, subst, ◌∙◌, inl, inr, Err, Result, Ok, IfErr, IsOk, OnOk, subst₂, arith}
+use Rattle.std.proofs.Common.{◌≡◌, ◌≢◌, ◌⊎◌, ℕ, pos, List, [], ◌∷◌, map, filter, Bool, true, false, true≢false, IsTrue, None, Some, Option, refl, sym, ap, subst, ◌∙◌, inl, inr, Err, Result, Ok, IfErr, IsOk, OnOk, subst₂, arith}
 use Rattle.std.specs.List.Sorted.{IsPermutation}
 use Rattle.std.proofs.lemmas.Int.{ints}
 use Rattle.std.proofs.lemmas.List.Sorted.{IsPermutation-map, IsPermutation-sym}
@@ -14,6 +14,7 @@ use Rattle.sqlite.specs.Command.TheVariants.{Select, Rows}
 use Rattle.sqlite.specs.Effect.{Database, RefusesToRead}
 use Rattle.sqlite_trees.specs.declared.error.StoreError.{StoreError}
 use Rattle.sqlite_trees.specs.declared.error.StoreError.TheVariants.{OutOfMemory, Io, Corrupt, Full, Broken, Unstorable}
+use Rattle.sqlite_tied.specs.Compute.{everything}
 use Rattle.sqlite.specs.State.{State, Shown, Fails, store_error, FailsToQuery, FailsToShow, IsNotRun, IsTooLate}
 use Rattle.sqlite.specs.Listing.{understood}
 use Rattle.sqlite.proofs.Callers.{IsPlain, one_permutation}
@@ -22,12 +23,14 @@ use Rattle.sqlite_resolve.specs.declared.error.CompileError.{CompileError}
 use Rattle.sqlite_schema.specs.declared.command.Returning.{Returning}
 use Rattle.tables.specs.declared.openings.OpenFault.{OpenFault}
 use Rattle.tables.specs.declared.openings.OpenFault.TheVariants.{NoMemory, Store, NotABureau, Old}
-use Rattle.tables.specs.Schema.{bureau_schema}
+use Rattle.tables.specs.Schema.{bureau_schema, own_version}
 use Rattle.tables.specs.Tables.{Tables, Holds}
 use Rattle.tables.proofs.Frames.{shown_opened}
-use Rattle.tables.proofs.Selecting.{plain_answer, passes, show}
+use Rattle.tables.proofs.Selecting.{plain_query, plain_answer, passes, show}
+use Rattle.tables.specs.Steps.{HasFailed}
+use Rattle.tables.proofs.Failing.{IsWhole, IsCalm, refused}
 use Rattle.tables.proofs.Looking.{looks}
-use Rattle.tables.specs.Versions.{own_version, select_version, versions_in, opening_fault, IsVerdict, IsRefusedAs, IsOfNoTables}
+use Rattle.tables.specs.Versions.{select_version, versions_in, opening_fault, IsVerdict, IsRefusedAs, IsKnown}
 use Rattle.tables.proofs.ReadTexts.{version_terms, select_version_is}
 
 -- the text is none of this database
@@ -108,16 +111,16 @@ fails_without old new e t has (inr h) = ap is_input h.4
 
 -- ---- what the answer means
 
-meant : (e : Error) → is_input e ≡ false → IsOfNoTables (opening_fault e)
+meant : (e : Error) → is_input e ≡ false → IsKnown (opening_fault e)
 meant (SqlInputError fault) h = absurd (true≢false h)
 meant (SqliteFailure NoRoom) h = (λ same. cc, λ same. cc)
 meant _ h = (λ same. cc, λ same. cc)
 
-pub refused_known : (old new : State) (fault : OpenFault) → IsRefusedAs old new fault → (t : Tables) → (IsTrue old.is_open → Holds old.now t) → IsOfNoTables fault
-refused_known old new fault h t has = subst IsOfNoTables (sym h.2) (meant h.0 (fails_without old new h.0 t has h.1))
+pub refused_known : (old new : State) (fault : OpenFault) → IsRefusedAs old new fault → (t : Tables) → (IsTrue old.is_open → Holds old.now t) → IsKnown fault
+refused_known old new fault h t has = subst IsKnown (sym h.2) (meant h.0 (fails_without old new h.0 t has h.1))
 
 pub verdict_known : {X : Type 0} (r : Result X OpenFault) (versions : List Value) (H : Tables → Type 0) → IsVerdict versions r → ((t : Tables) → H t → versions ≡ Int (pos own_version) ∷ [])
-    → IfErr r (λ fault. (t : Tables) → H t → IsOfNoTables fault)
+    → IfErr r (λ fault. (t : Tables) → H t → IsKnown fault)
 verdict_known (Ok x) versions H is ours = tt
 verdict_known (Err NoMemory) versions H is ours = absurd is
 verdict_known (Err Store) versions H is ours = absurd is
@@ -127,3 +130,25 @@ verdict_known (Err Old) versions H is ours = λ t h. absurd (let one = ours t h 
 pub verdict_ok : {X : Type 0} (r : Result X OpenFault) (versions : List Value) (P : Type 0) → IsVerdict versions r → (versions ≡ Int (pos own_version) ∷ [] → P) → OnOk r P
 verdict_ok (Ok x) versions P is f = f is
 verdict_ok (Err fault) versions P is f = tt
+
+-- ---- a failure of the store
+
+version_whole : IsWhole 0 select_version (understood bureau_schema select_version)
+unfolding understood everything
+version_whole = (omega arith, refl)
+
+version_calm : IsCalm (plain_query 0 [] version_terms) []
+version_calm limit db e has (inl typed) = absurd (let no = rw has at typed.1 in cc)
+version_calm limit db e has (inr (inl over)) = elim over.1 [ inl none ↦ absurd none | inr some ↦ absurd some.4 ]
+version_calm limit db e has (inr (inr stopped)) = stopped.1
+
+pub refused_store : (old new : State) (fault : OpenFault) → IsRefusedAs old new fault → fault ≡ Store → (t : Tables) → (IsTrue old.is_open → Holds old.now t) → HasFailed old new
+refused_store old new fault h store t has =
+    let other : h.0 ≢ SqliteFailure NoRoom = λ same. let memory : opening_fault h.0 ≡ NoMemory = ap opening_fault same in absurd (let both = h.2 in cc) in
+    refused select_version _ _ select_version_is 0 version_whole [] refl version_calm old new t has (h.0, other, h.1)
+
+pub verdict_store : {X : Type 0} (r : Result X OpenFault) (versions : List Value) → IsVerdict versions r → r ≡ Err Store → ⊥
+verdict_store r versions is same = subst (IsVerdict versions) same is
+
+pub same_reason : {X : Type 0} {a b : OpenFault} → ◌≡◌ {A = Result X OpenFault} (Err a) (Err b) → a ≡ b
+same_reason e = cc

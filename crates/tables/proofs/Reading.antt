@@ -43,6 +43,11 @@ pub first_one : {X : Type 0} (shown : X → Row) (o : Option X) (rows : List Row
 first_one shown None rows row h first = absurd (let e = first ∙ ap (λ rs. slice_get rs 0) h in cc)
 first_one shown (Some x) rows row h first = (x, refl, let e : Some row ≡ Some (shown x) = first ∙ ap (λ rs. slice_get rs 0) h in cc)
 
+-- .. or it shows the first of what there is, of which this holds, as it holds of all
+pub first_of : {X : Type 0} (shown : X → Row) (P : X → Type 0) (all : List X) (rows : List Row) (row : Row) → AllByRecursion P all → rows ≡ map shown all → Some row ≡ slice_get rows 0 → (x : X) × (row ≡ shown x) × P x
+first_of shown P [] rows row each h first = absurd (let e = first ∙ ap (λ rs. slice_get rs 0) h in cc)
+first_of shown P (x ∷ all) rows row each h first = (x, let e : Some row ≡ Some (shown x) = first ∙ ap (λ rs. slice_get rs 0) h in cc, each.0)
+
 -- ---- faults
 
 -- what is told as a fault of the store is no want of memory

@@ -1,4 +1,4 @@
--- the tables of a bureau, version 1, as the database lists them
+-- the tables of a bureau as the database lists them, and their version
 use Rattle.sqlite.specs.Collation.TheVariants.{Binary}
 use Rattle.std.specs.Prelude.{true, false, [], ◌∷◌, Some, None, codes, List, ℕ}
 use Rattle.sqlite.specs.declared.types.Value.TheVariants.{Null}
@@ -11,6 +11,10 @@ use Rattle.sqlite_schema.specs.declared.schema.Reference.{Reference}
 use Rattle.sqlite_schema.specs.declared.schema.Action.TheVariants.{NoAction}
 use Rattle.sqlite.specs.Kind.{Kind}
 use Rattle.sqlite.specs.Kind.TheVariants.{Integer, Text, Blob}
+
+-- the version of the tables that this bureau makes and opens
+abbrev pub own_version : ℕ
+own_version = 1
 
 -- a column that always has a value of this kind
 abbrev pub required : List ℕ → Kind → Column

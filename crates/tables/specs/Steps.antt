@@ -1,10 +1,12 @@
 -- how the contracts of calls inside a transaction are said
-use Rattle.std.specs.Prelude.{◌≡◌, IsTrue, Result, Ok, Err, IfOk, OnOk}
+use Rattle.std.specs.Prelude.{◌≡◌, ◌⊎◌, false, IsTrue, IsSome, Result, Ok, Err, IfOk, OnOk, IsErrOf}
 use Rattle.sqlite.specs.Held.{state}
 use Rattle.sqlite.specs.State.{State, HasCleanDisk, IsUnchanged, KeepsCommit, Survives}
+use Rattle.sqlite_disk.specs.Disk.{MoreFaults}
 use Rattle.sqlite_trees.specs.declared.store.Store.{Ghosts}
 use Rattle.tables.specs.Tables.{Tables, Holds}
 use Rattle.tables.specs.declared.faults.Fault.{Fault}
+use Rattle.tables.specs.declared.faults.Fault.TheVariants.{Store}
 use Rattle.tables.specs.declared.open_tables.OpenTables.{OpenTables}
 
 -- the transaction goes on, over the same commit
@@ -16,6 +18,11 @@ pub record GoesOn (old new : State) : Type 0 where
 abbrev pub Frames : {X E : Type 0} → State → State → Result X E → Type 0
 Frames old new (Ok x) = GoesOn old new
 Frames old new (Err fault) = KeepsCommit old new
+
+-- the database failed: its disk did, or the connection was shut, or its steps were limited
+abbrev pub HasFailed : State → State → Type 0
+HasFailed old new = MoreFaults old.faults new.faults
+    ⊎ ((old.is_open ≡ false) ⊎ IsSome old.step_limit)
 
 module _ {S : Type 0} (g : Ghosts S) where
   -- what the connection below these tables shows
@@ -60,3 +67,10 @@ module _ {S : Type 0} (g : Ghosts S) where
   Finds old new result Is =
       Inside old new (λ before after. IfOk result (λ found. (t : Tables) → Holds before.now t
       → IsUnchanged before after × Is t found))
+
+  -- fault `Store` is answered only where the database failed, if what the tables hold can be read
+  abbrev pub FailsOnly : {X : Type 0} → OpenTables S → OpenTables S → Result X Fault
+      → (Tables → Type 0) → Type 0
+  FailsOnly old new result CanBeRead =
+      Inside old new (λ before after. IsErrOf result Store → (t : Tables)
+      → (IsTrue before.is_open → Holds before.now t) → CanBeRead t → HasFailed before after)

@@ -8,7 +8,7 @@ use Rattle.sqlite.specs.Tree.{IsAscending}
 use Rattle.sqlite.specs.View.{IsShaped}
 use Rattle.sqlite.specs.Effect.{Database, IsDatabase}
 use Rattle.sqlite_trees.specs.declared.store.Shape.TheVariants.{Table}
-use Rattle.tables.specs.Schema.{bureau_schema}
+use Rattle.tables.specs.Schema.{bureau_schema, own_version}
 use Rattle.tables.specs.Cells.{JobCells, PictureCells, LineCells}
 use Rattle.tables.specs.declared.rows.StretchRow.{StretchRow}
 
@@ -172,11 +172,11 @@ pub record IsOf (rows : List Row) (of_job : ByJob (List Row)) : Type 0 where
   pub named : AllByRecursion NamesJob (cells rows)
   pub rise : IsShaped Table rows
 
--- the database is that of a bureau, of version 1, and its tables hold this and nothing else
+-- the database is that of a bureau, of its own version, and its tables hold this and nothing else
 pub record Holds (db : Database) (t : Tables) : Type 0 where
   pub schema : db.schema ≡ bureau_schema
   pub sound : IsDatabase db
-  pub version : db.trees 0 ≡ (Int (pos 1) ∷ Null ∷ Int (pos 1) ∷ []) ∷ []
+  pub version : db.trees 0 ≡ (Int (pos 1) ∷ Null ∷ Int (pos own_version) ∷ []) ∷ []
   pub jobs : cells (db.trees 1) ≡ map job_row t.jobs
   pub jobs_rise : IsShaped Table (db.trees 1)
   pub distinct : AreDistinct t.jobs

@@ -8,6 +8,7 @@ use Rattle.sqlite.specs.declared.types.Value.TheVariants.{Int}
 use Rattle.sqlite.specs.Effect.{Database}
 use Rattle.sqlite.specs.Order.{Row, column}
 use Rattle.sqlite.specs.State.{State, Shown, FailsToQuery, IsTooLate}
+use Rattle.tables.specs.Schema.{own_version}
 use Rattle.tables.specs.declared.openings.OpenFault.{OpenFault}
 use Rattle.tables.specs.declared.openings.OpenFault.TheVariants.{NoMemory, Store, NotABureau, Old}
 
@@ -17,10 +18,6 @@ opening_number NoMemory = 1
 opening_number Store = 2
 opening_number NotABureau = 50
 opening_number Old = 51
-
--- the version of the tables that this bureau makes and opens
-abbrev pub own_version : ℕ
-own_version = 1
 
 -- the query of the version
 abbrev pub select_version : List ℕ
@@ -62,6 +59,6 @@ IsFoundVersion old new result =
     × IsVerdict (map (λ row. column row 0) rows) result)
     ⊎ IsErrAnd result (IsRefusedAs old new)
 
--- the reason says nothing against the tables
-abbrev pub IsOfNoTables : OpenFault → Type 0
-IsOfNoTables fault = (fault ≢ NotABureau) × (fault ≢ Old)
+-- the tables are known: the reason is not that they are no bureau's, or old
+abbrev pub IsKnown : OpenFault → Type 0
+IsKnown fault = (fault ≢ NotABureau) × (fault ≢ Old)

@@ -1,11 +1,10 @@
 //! Rows of answers, read as values.
 
 ghost use Rattle.std.specs.Prelude.{◌≡◌, ◌≢◌, List, Option, map, IfOk, IfErr, IsErrOf};
-ghost use Rattle.std.specs.List.{AllByRecursion};
 ghost use Rattle.std.specs.Option.{option_to_list};
 ghost use Rattle.sqlite.specs.Order.{Row as Values};
 ghost use Rattle.sqlite.specs.declared.error.ErrorCode.TheVariants.{OutOfMemory};
-ghost use Rattle.tables.specs.Reading.{AreReadable};
+ghost use Rattle.tables.specs.Reading.{AreReadable, CanRead};
 ghost use Rattle.tables.specs.Shown.{shown_job, shown_name, shown_queued, shown_stretch, shown_picture, shown_progress, shown_card, shown_line};
 
 use crate::faults::{Fault, fault_of};
@@ -138,8 +137,8 @@ impl FromRow for LineRow {
 pub(crate) fn read_all<T: FromRow>(alloc: Global, rows: &[Row]) -> Result<Vec<T>, Fault>
     ensures read { IfOk result (λ read. (all : List T)
         → rows.now ≡ map T.shown all → read.items ≡ all) }
-    ensures none { IsErrOf result Fault.Store → (all : List T)
-        → AllByRecursion (λ it. AreReadable (T.shown it)) all → rows.now ≢ map T.shown all }
+    ensures none { IsErrOf result Fault.Store → (all : List T) → CanRead T.shown all
+        → rows.now ≢ map T.shown all }
 {
     let mut read = Vec::with_capacity(alloc, rows.len())?;
     for row in rows {
@@ -156,9 +155,8 @@ pub(crate) fn read_all<T: FromRow>(alloc: Global, rows: &[Row]) -> Result<Vec<T>
 pub(crate) fn read_first<T: FromRow>(rows: &[Row]) -> Result<Option<T>, Fault>
     ensures read { IfOk result (λ found. (it : Option T)
         → rows.now ≡ map T.shown (option_to_list it) → found ≡ it) }
-    ensures none { IsErrOf result Fault.Store → (it : Option T)
-        → AllByRecursion (λ it. AreReadable (T.shown it)) (option_to_list it)
-        → rows.now ≢ map T.shown (option_to_list it) }
+    ensures none { IsErrOf result Fault.Store → (all : List T) → CanRead T.shown all
+        → rows.now ≢ map T.shown all }
 {
     let Some(row) = rows.first() else {
         return Ok(None);

@@ -5,6 +5,7 @@
 //! its caller begins and ends. Its contract has two parts (`specs/Steps.antt`): a step stays in
 //! the transaction, or leaves the commit below it, and adds nothing to what a crash may leave; and
 //! which change of `Tables` it makes, or what it found of them while changing nothing.
+//! `find_version` looks whether the database is a bureau's at all.
 #![tactic(auto)]
 
 mod creates;

@@ -1,10 +1,12 @@
 //! Each statement that reads what the tables hold.
 
-ghost use Rattle.std.specs.Prelude.{◌≡◌, length};
-ghost use Rattle.std.specs.Option.{option_map};
+ghost use Rattle.std.specs.Prelude.{◌≡◌, length, ⊤};
+ghost use Rattle.std.specs.Option.{option_map, option_to_list};
 ghost use Rattle.tables.specs.Listed.{names_of, names_queued, progress_row};
 ghost use Rattle.tables.specs.Named.{cells_of, of_job};
-ghost use Rattle.tables.specs.Steps.{Finds, IsOpenStep};
+ghost use Rattle.tables.specs.Reading.{CanRead};
+ghost use Rattle.tables.specs.Shown.{shown_job, shown_name, shown_queued, shown_stretch, shown_picture, shown_progress, shown_line};
+ghost use Rattle.tables.specs.Steps.{FailsOnly, Finds, IsOpenStep};
 ghost use Rattle.tables.specs.Tables.{jobs_of};
 
 use crate::faults::Fault;
@@ -21,6 +23,8 @@ impl<S: Alter> OpenTables<'_, '_, S> {
         ensures step { IsOpenStep S.Store self.old self.new result }
         ensures found { Finds S.Store self.old self.new result
             (λ t found. found ≡ cells_of name.entry t) }
+        ensures failed { FailsOnly S.Store self.old self.new result
+            (λ t. CanRead shown_job (option_to_list (cells_of name.entry t))) }
     {
         self.one(
             "SELECT kind, size, deck, loaded, held, collected FROM jobs WHERE customer = ?1 AND number = ?2",
@@ -33,12 +37,16 @@ impl<S: Alter> OpenTables<'_, '_, S> {
         ensures step { IsOpenStep S.Store self.old self.new result }
         ensures found { Finds S.Store self.old self.new result
             (λ t found. found ≡ length (jobs_of customer.now t.jobs)) }
+        ensures failed { FailsOnly S.Store self.old self.new result
+            (λ t. ⊤) }
     {
-        let rows = self.rows(
+        match self.rows(
             "SELECT number FROM jobs WHERE customer = ?1",
             params![customer],
-        )?;
-        Ok(rows.len())
+        ) {
+            Ok(rows) => Ok(rows.len()),
+            Err(fault) => Err(fault),
+        }
     }
 
     /// The jobs of a customer, by number.
@@ -46,6 +54,8 @@ impl<S: Alter> OpenTables<'_, '_, S> {
         ensures step { IsOpenStep S.Store self.old self.new result }
         ensures found { Finds S.Store self.old self.new result
             (λ t found. found.items ≡ names_of customer.now t.jobs) }
+        ensures failed { FailsOnly S.Store self.old self.new result
+            (λ t. CanRead shown_name (names_of customer.now t.jobs)) }
     {
         self.all(
             "SELECT number, held, collected FROM jobs WHERE customer = ?1 ORDER BY number",
@@ -58,6 +68,8 @@ impl<S: Alter> OpenTables<'_, '_, S> {
         ensures step { IsOpenStep S.Store self.old self.new result }
         ensures found { Finds S.Store self.old self.new result
             (λ t found. found.items ≡ names_queued t.jobs) }
+        ensures failed { FailsOnly S.Store self.old self.new result
+            (λ t. CanRead shown_queued (names_queued t.jobs)) }
     {
         self.all(
             "SELECT customer, number FROM jobs WHERE held = 0 ORDER BY customer, number",
@@ -70,6 +82,8 @@ impl<S: Alter> OpenTables<'_, '_, S> {
         ensures step { IsOpenStep S.Store self.old self.new result }
         ensures found { Finds S.Store self.old self.new result
             (λ t found. found.items ≡ of_job name.entry t.stretches) }
+        ensures failed { FailsOnly S.Store self.old self.new result
+            (λ t. CanRead shown_stretch (of_job name.entry t.stretches)) }
     {
         self.all(
             "SELECT switches, granted FROM stretches WHERE customer = ?1 AND number = ?2 ORDER BY place",
@@ -82,6 +96,8 @@ impl<S: Alter> OpenTables<'_, '_, S> {
         ensures step { IsOpenStep S.Store self.old self.new result }
         ensures found { Finds S.Store self.old self.new result
             (λ t found. found.items ≡ of_job name.entry t.cards) }
+        ensures failed { FailsOnly S.Store self.old self.new result
+            (λ t. ⊤) }
     {
         self.all(
             "SELECT card FROM cards WHERE customer = ?1 AND number = ?2 ORDER BY place",
@@ -94,6 +110,8 @@ impl<S: Alter> OpenTables<'_, '_, S> {
         ensures step { IsOpenStep S.Store self.old self.new result }
         ensures found { Finds S.Store self.old self.new result
             (λ t found. found.items ≡ of_job name.entry t.lines) }
+        ensures failed { FailsOnly S.Store self.old self.new result
+            (λ t. CanRead shown_line (of_job name.entry t.lines)) }
     {
         self.all(
             "SELECT form, line, image FROM lines WHERE customer = ?1 AND number = ?2 ORDER BY place",
@@ -106,6 +124,8 @@ impl<S: Alter> OpenTables<'_, '_, S> {
         ensures step { IsOpenStep S.Store self.old self.new result }
         ensures found { Finds S.Store self.old self.new result
             (λ t found. found ≡ of_job name.entry t.pictures) }
+        ensures failed { FailsOnly S.Store self.old self.new result
+            (λ t. CanRead shown_picture (option_to_list (of_job name.entry t.pictures))) }
     {
         self.one(
             "SELECT storage, i, a, b, compare, overflow, channel, waiting, form, line, taken, cards, lines, standing FROM pictures WHERE customer = ?1 AND number = ?2",
@@ -117,6 +137,8 @@ impl<S: Alter> OpenTables<'_, '_, S> {
         ensures step { IsOpenStep S.Store self.old self.new result }
         ensures found { Finds S.Store self.old self.new result
             (λ t found. found ≡ option_map progress_row (of_job name.entry t.pictures)) }
+        ensures failed { FailsOnly S.Store self.old self.new result (λ t. CanRead shown_progress
+            (option_to_list (option_map progress_row (of_job name.entry t.pictures)))) }
     {
         self.one(
             "SELECT i, cards, lines, standing FROM pictures WHERE customer = ?1 AND number = ?2",

@@ -1,9 +1,9 @@
 //! The tables inside a transaction.
 
-ghost use Rattle.std.specs.Prelude.{IfOk, OnOk};
+ghost use Rattle.std.specs.Prelude.{◌⊎◌, IfOk, OnOk, IsErrOf};
 ghost use Rattle.sqlite.specs.State.{Shown};
 ghost use Rattle.sqlite.specs.Values.{bound};
-ghost use Rattle.tables.specs.Reading.{Runs, ShowsAll, ShowsOne};
+ghost use Rattle.tables.specs.Reading.{Runs, Refuses, ShowsAll, ShowsOne, ShowsNone};
 ghost use Rattle.tables.specs.Steps.{Inside, IsStep, IsOpenStep};
 
 use crate::faults::{Fault, fault_of};
@@ -37,6 +37,8 @@ impl<S: Alter> OpenTables<'_, '_, S> {
         ensures step { IsOpenStep S.Store self.old self.new result }
         ensures shown { Inside S.Store self.old self.new
             (λ old new. IfOk result (λ rows. Shown sql.now (bound params.now) old new rows.items)) }
+        ensures failed { Inside S.Store self.old self.new
+            (λ old new. IsErrOf result Fault.Store → Refuses sql.now (bound params.now) old new) }
     {
         match self.tx.query_all(sql, params) {
             Ok(rows) => Ok(rows),
@@ -53,6 +55,9 @@ impl<S: Alter> OpenTables<'_, '_, S> {
         ensures step { IsOpenStep S.Store self.old self.new result }
         ensures shown { Inside S.Store self.old self.new (λ old new. IfOk result
             (λ found. ShowsAll T.shown sql.now (bound params.now) old new found.items)) }
+        ensures failed { Inside S.Store self.old self.new (λ old new. IsErrOf result Fault.Store
+            → Refuses sql.now (bound params.now) old new
+            ⊎ ShowsNone T.shown sql.now (bound params.now) old new) }
     {
         let rows = self.rows(sql, params)?;
         read_all(self.alloc, rows.as_slice())
@@ -67,6 +72,9 @@ impl<S: Alter> OpenTables<'_, '_, S> {
         ensures step { IsOpenStep S.Store self.old self.new result }
         ensures shown { Inside S.Store self.old self.new (λ old new. IfOk result
             (λ found. ShowsOne T.shown sql.now (bound params.now) old new found)) }
+        ensures failed { Inside S.Store self.old self.new (λ old new. IsErrOf result Fault.Store
+            → Refuses sql.now (bound params.now) old new
+            ⊎ ShowsNone T.shown sql.now (bound params.now) old new) }
     {
         let rows = self.rows(sql, params)?;
         read_first(rows.as_slice())

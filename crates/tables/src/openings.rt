@@ -1,15 +1,15 @@
 //! Whether a database is a bureau's, and of which version.
 
-ghost use Rattle.std.specs.Prelude.{◌≡◌, [], ◌∷◌, map, pos, IfOk, IfErr, OnOk, IsTrue, IsOk};
+ghost use Rattle.std.specs.Prelude.{◌≡◌, [], ◌∷◌, map, pos, IfOk, IfErr, OnOk, IsTrue, IsOk, IsErrOf};
 ghost use Rattle.sqlite.specs.declared.types.Value.TheVariants.{Int};
 ghost use Rattle.sqlite.specs.Listing.{understood};
 ghost use Rattle.sqlite.specs.Order.{column};
 ghost use Rattle.sqlite.specs.State.{Shown};
 ghost use Rattle.sqlite_value.specs.Value.{owned};
-ghost use Rattle.tables.specs.Schema.{bureau_schema};
-ghost use Rattle.tables.specs.Steps.{Inside, IsStep};
+ghost use Rattle.tables.specs.Schema.{bureau_schema, own_version};
+ghost use Rattle.tables.specs.Steps.{HasFailed, Inside, IsStep};
 ghost use Rattle.tables.specs.Tables.{Tables, Holds};
-ghost use Rattle.tables.specs.Versions.{opening_number, own_version, select_version, versions_in, opening_fault, IsVerdict, IsRefusedAs, IsFoundVersion, IsOfNoTables};
+ghost use Rattle.tables.specs.Versions.{opening_number, select_version, versions_in, opening_fault, IsVerdict, IsRefusedAs, IsFoundVersion, IsKnown};
 
 use crate::open_tables::OpenTables;
 use sqlite::types::ValueRef;
@@ -120,7 +120,10 @@ impl<S: Alter> OpenTables<'_, '_, S> {
             → versions_in old.now ≡ Int (pos own_version) ∷ []))) }
         ensures known { Inside S.Store self.old self.new
             (λ old new. IfErr result (λ fault. (t : Tables)
-            → (IsTrue old.is_open → Holds old.now t) → IsOfNoTables fault)) }
+            → (IsTrue old.is_open → Holds old.now t) → IsKnown fault)) }
+        ensures failed { Inside S.Store self.old self.new
+            (λ old new. IsErrOf result OpenFault.Store → (t : Tables)
+            → (IsTrue old.is_open → Holds old.now t) → HasFailed old new) }
     {
         match self.version_rows() {
             Ok(rows) => judge(rows.as_slice()),

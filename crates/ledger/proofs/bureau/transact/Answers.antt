@@ -1,7 +1,7 @@
 use Rattle.std.proofs.Common.{◌≡◌, ap, subst, arith, rules, IsTrue}
 use Rattle.sqlite.specs.State.{HasCleanDisk}
 use Rattle.sqlite.specs.Held.{state}
-use Rattle.ledger.specs.Office.{served}
+use Rattle.office.specs.Office.{served, attempted_by}
 use Rattle.ledger.specs.Standing.{StandsIn, Stands}
 use Rattle.ledger.proofs.Crash.{committed_stands}
 use Rattle.ledger.proofs.bureau.transact.Goals as goal
@@ -23,3 +23,15 @@ returns-in-Ok-commit-clause-reply g c clean office s =
     let new = (served c.args.command.now office).0 in
     let rows = subst (λ h. StandsIn (state g.S.Store h) new) back done.stands in
     (done.reply_is, subst (λ h. Stands (state g.S.Store h) new) same (committed_stands (state g.S.Store last) (state g.S.Store end) new (λ db opened may. g.met.S.Store.settled end.store db opened may) rows (c.in-Ok-commit.ensures.ok late).1))
+
+pub returns-in-Err-commit-clause-given_up : goal.returns-in-Err-commit-clause-given_up
+returns-in-Err-commit-clause-given_up g c clean office s =
+    let begun = c.transaction-tx.ensures.begun in
+    let mid = c.serve-result.new.tables.tx.now.conn.now in
+    let end = c.commit.new.self.0 in
+    let late : HasCleanDisk (state g.S.Store end) = search rules in
+    let early : HasCleanDisk (state g.S.Store mid) = search (rules, c.commit.ensures.survives.clean) in
+    let inside : IsTrue c.transaction-tx.result.conn.now.in_transaction = ap (λ h. h.in_transaction) begun in
+    let first : StandsIn (state g.S.Store c.transaction-tx.result.conn.now) office = rw begun (s.now (rw begun at (c.in-Ok.ensures.step.opened early))) in
+    let often = attempted_by c.args.command.now office in
+    record { ticks = often; most = omega arith; is = c.in-Ok.ensures.meter early inside office first }

@@ -1,6 +1,6 @@
 use Rattle.std.proofs.Common.{sym, ap, ◌∙◌}
 use Rattle.tables.specs.Steps.{seen}
-use Rattle.ledger.specs.Office.{picture}
+use Rattle.office.specs.Jobs.{picture}
 use Rattle.ledger.specs.Standing.{tables_of, picture_of}
 use Rattle.ledger.proofs.Offices.{still, if_ok_then, job_is}
 use Rattle.ledger.proofs.ReadBack.{some_is}
@@ -14,5 +14,5 @@ returns-in-Some-clause-found g c clean inside = if_ok_then _ _ c.machine_of.resu
       still old new office found.0 s,
       λ job is media.
           let kept = job_is c.args.name.customer.now c.args.name.number office job s.jobs is in
-          made (picture job) kept.machine kept.storage (some_is (sym c.in-Some.is ∙ found.1 ∙ ap picture_of is)) media,
+          made (picture job) (c.commands_keep_jobs.ensures.in_range job kept.job).machine kept.storage (some_is (sym c.in-Some.is ∙ found.1 ∙ ap picture_of is)) media,
     )) c.machine_of.ensures.machine

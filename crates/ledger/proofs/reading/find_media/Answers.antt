@@ -1,12 +1,11 @@
 use Rattle.std.proofs.Common.{sym, ap, subst, ◌∙◌, arith}
-use Rattle.cards.specs.Decks.{IsDeck}
+use Rattle.cards.specs.Decks.{deck_bytes, IsDeck}
 use Rattle.sqlite.specs.State.{HasCleanDisk}
 use Rattle.tables.specs.Steps.{seen}
-use Rattle.pictures.specs.Columns.{deck_bytes}
-use Rattle.ledger.specs.Office.{picture}
+use Rattle.office.specs.Jobs.{picture}
 use Rattle.ledger.specs.Standing.{tables_of, cards_of, lines_of}
 use Rattle.ledger.proofs.Offices.{still, if_ok_then, job_is}
-use Rattle.ledger.proofs.ReadBack.{picture_deck, loaded_is_deck}
+use Rattle.ledger.proofs.ReadBack.{picture_deck}
 use Rattle.ledger.proofs.reading.find_media.Goals as goal
 
 pub returns-clause-found : goal.returns-clause-found
@@ -23,9 +22,8 @@ returns-clause-found g c clean inside = if_ok_then _ _ c.read_media.result (λ m
       λ job is loaded switches.
           let kept = job_is c.args.name.customer.now c.args.name.number office job s.jobs is in
           let deck = picture_deck c.runs_only_add.ensures.deck job in
-          let same = loaded_is_deck job.kind job.deck in
           read (picture job) (record {
-            is_deck = subst IsDeck (sym (deck ∙ same)) kept.deck;
+            is_deck = subst IsDeck (sym deck) kept.job.loaded;
             are_cards = kept.cards;
             are_lines = kept.lines;
             deck = loaded ∙ ap deck_bytes (sym deck);

@@ -1,8 +1,8 @@
 use Rattle.std.proofs.Common.{◌∷◌, [], ◌++◌, ap, ◌∙◌, refl, arith}
 use Rattle.std.proofs.lemmas.List.{get_or_default, take_all}
-use Rattle.std.proofs.lemmas.List.Elements.{All-from_recursion, recursion_from_All}
 use Rattle.pictures.proofs.Rows.{made_from, one_more, same_things}
-use Rattle.ledger.specs.Standing.{HasSwitches, stretch_row}
+use Rattle.office.specs.Jobs.{HasSwitches}
+use Rattle.ledger.specs.Standing.{stretch_row}
 use Rattle.ledger.proofs.ReadBack.{stretches_told}
 use Rattle.ledger.proofs.reading.read_stretches.Goals as goal
 
@@ -10,7 +10,7 @@ pub returns-in_default-clause-all : goal.returns-in_default-clause-all
 returns-in_default-clause-all c = λ them all same.
     let rows = c.args.rows.now in
     let i = c.loop-row.row-index in
-    let made = made_from stretch_row HasSwitches rows i _ c.loop-row-test.true (get_or_default rows i _ _ c.loop-row-test.true) them (All-from_recursion HasSwitches them all) same in
+    let made = made_from stretch_row HasSwitches rows i _ c.loop-row-test.true (get_or_default rows i _ _ c.loop-row-test.true) them all same in
     absurd (c.in_default.not-Some _ (c.read_stretch.ensures.all made.thing made.is made.row_is))
 
 pub loop-row-preserved : goal.loop-row-preserved
@@ -25,11 +25,11 @@ loop-row-preserved c =
 pub returns-clause-all : goal.returns-clause-all
 returns-clause-all c = λ them all same.
     let found = c.loop-row.invariant in (
-      same_things stretch_row HasSwitches stretches_told c.loop-row.stretches.items them found.switches (All-from_recursion HasSwitches them all) (found.rows ∙ take_all _ _ (omega arith) ∙ same),
+      same_things stretch_row HasSwitches stretches_told c.loop-row.stretches.items them found.switches all (found.rows ∙ take_all _ _ (omega arith) ∙ same),
       refl,
     )
 
 pub returns-clause-only : goal.returns-clause-only
 returns-clause-only c =
     let found = c.loop-row.invariant in
-    (found.rows ∙ take_all _ _ (omega arith), recursion_from_All HasSwitches c.loop-row.stretches.items found.switches)
+    (found.rows ∙ take_all _ _ (omega arith), found.switches)

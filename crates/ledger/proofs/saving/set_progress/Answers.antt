@@ -1,4 +1,4 @@
-use Rattle.std.proofs.Common.{arith}
+use Rattle.std.proofs.Common.{◌≡◌, arith, rules}
 use Rattle.sqlite.specs.State.{HasCleanDisk}
 use Rattle.tables.specs.Steps.{seen}
 use Rattle.tables.proofs.Frames.{on_ok_then}
@@ -9,6 +9,8 @@ pub returns-clause-set : goal.returns-clause-set
 returns-clause-set g c clean inside =
     let early : HasCleanDisk (seen g.S.Store c.set_machine.new.tables) = omega (arith, c.set_last_granted.ensures.step.survives.clean) in
     let on = c.in_ok-set_machine.ensures.step.frame early inside in
-    let did = c.in_ok-set_machine.ensures.set early inside in
-    on_ok_then c.set_last_granted.result _ _ (λ more t holds has. more (with_machine c.args.name c.args.job.now.machine t) (did t holds has.0) has.1)
-    (c.set_last_granted.ensures.set clean on.inside)
+    let machine : c.parts-parts.result.machine.now ≡ c.args.job.now.machine = search rules in
+    let stretches : c.parts-parts.result.stretches.now ≡ c.args.job.now.stretches = search rules in
+    let did = rw machine at (c.in_ok-set_machine.ensures.set early inside) in
+    let more = rw stretches at (c.set_last_granted.ensures.set clean on.inside) in
+    on_ok_then c.set_last_granted.result _ _ (λ more t holds has. more (with_machine c.args.name c.args.job.now.machine t) (did t holds has.0) has.1) more

@@ -1,8 +1,6 @@
-use Rattle.std.proofs.Common.{Some, sym, ap, subst, ◌∙◌}
-use Rattle.std.specs.List.{AllByRecursion}
-use Rattle.std.specs.Option.{option_to_list}
+use Rattle.std.proofs.Common.{Some, sym, ap, ◌∙◌}
 use Rattle.tables.specs.Reading.{AreReadable}
-use Rattle.tables.proofs.Reading.{first_one, no_memory, same_fault}
+use Rattle.tables.proofs.Reading.{first_one, first_of, no_memory, same_fault}
 use Rattle.tables.proofs.from_row.read_first.Goals as goal
 
 pub returns-in-Ok-clause-read : goal.returns-in-Ok-clause-read
@@ -11,7 +9,6 @@ returns-in-Ok-clause-read g c it h =
     ap Some (c.in-Ok.ensures.read found.0 found.2) ∙ sym found.1
 
 pub returns-in-Err-clause-none : goal.returns-in-Err-clause-none
-returns-in-Err-clause-none g c store it ready h =
-    let found = first_one g.T.FromRow.shown it c.args.rows.now c.in-Some.row.now h c.in-Some.ensures.value in
-    let here = subst (λ o. AllByRecursion (λ x. AreReadable (g.T.FromRow.shown x)) (option_to_list o)) found.1 ready in
-    c.in-Err.ensures.none (no_memory _ _ c.fault_of.ensures (same_fault store)) found.0 here.0 found.2
+returns-in-Err-clause-none g c store all ready h =
+    let it = first_of g.T.FromRow.shown (λ x. AreReadable (g.T.FromRow.shown x)) all c.args.rows.now c.in-Some.row.now ready h c.in-Some.ensures.value in
+    c.in-Err.ensures.none (no_memory _ _ c.fault_of.ensures (same_fault store)) it.0 it.2 it.1

@@ -1,5 +1,5 @@
 use Rattle.std.proofs.Common.{◌⊎◌, sym, subst, ◌∙◌}
-use Rattle.ledger.specs.Office.{taken}
+use Rattle.office.specs.Office.{taken}
 use Rattle.ledger.specs.Standing.{LeftAs}
 use Rattle.ledger.proofs.Replies.{none_is}
 use Rattle.ledger.proofs.bureau.Bureau.apply.Goals as goal

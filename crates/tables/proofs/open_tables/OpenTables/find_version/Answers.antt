@@ -2,7 +2,7 @@ use Rattle.std.proofs.Common.{inl, inr, map, IsTrue}
 use Rattle.sqlite.specs.Order.{column}
 use Rattle.tables.specs.Steps.{seen}
 use Rattle.tables.specs.Tables.{Holds}
-use Rattle.tables.proofs.OneVersion.{version_looked_up, shown_understood, versions_shown, refused_known, verdict_known, verdict_ok}
+use Rattle.tables.proofs.OneVersion.{version_looked_up, shown_understood, versions_shown, refused_known, refused_store, same_reason, verdict_known, verdict_ok, verdict_store}
 use Rattle.tables.proofs.open_tables.OpenTables.find_version.Goals as goal
 
 pub returns-in-Err-clause-found : goal.returns-in-Err-clause-found
@@ -31,3 +31,9 @@ returns-in-Ok-clause-known g c clean inside =
     let rows = c.in-Ok.rows.items in
     verdict_known c.judge.result (map (λ row. column row 0) rows) (λ t. IsTrue old.is_open → Holds old.now t) (rw c.as_slice.ensures.value at c.judge.ensures)
     (λ t has. let one = version_looked_up old new rows (c.in-Ok.ensures.shown clean inside) t has in rw one)
+
+pub returns-in-Err-clause-failed : goal.returns-in-Err-clause-failed
+returns-in-Err-clause-failed g c clean inside store = refused_store _ _ _ (c.in-Err.ensures.failed clean inside) (same_reason store)
+
+pub returns-in-Ok-clause-failed : goal.returns-in-Ok-clause-failed
+returns-in-Ok-clause-failed g c clean inside store = absurd (verdict_store c.judge.result _ c.judge.ensures store)

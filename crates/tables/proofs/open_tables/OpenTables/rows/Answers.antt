@@ -1,5 +1,6 @@
 use Rattle.std.proofs.Common.{refl}
 use Rattle.tables.proofs.Frames.{shown_goes_on, shown_opened, query_keeps}
+use Rattle.tables.proofs.Reading.{no_memory, same_fault}
 use Rattle.tables.proofs.open_tables.OpenTables.rows.Goals as goal
 
 pub returns-in-Ok-clause-step : goal.returns-in-Ok-clause-step
@@ -19,3 +20,6 @@ returns-in-Err-clause-step g c = record {
   survives = c.query_all.ensures.survives;
   opened = λ clean. tt;
 }
+
+pub returns-in-Err-clause-failed : goal.returns-in-Err-clause-failed
+returns-in-Err-clause-failed g c clean inside store = (c.in-Err.error, no_memory _ _ c.fault_of.ensures (same_fault store), c.in-Err.ensures.err clean)

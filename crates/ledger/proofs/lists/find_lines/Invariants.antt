@@ -1,0 +1,17 @@
+use Rattle.std.proofs.Common.{◌≡◌, map, take}
+use Rattle.std.specs.List.{AllByRecursion}
+use Rattle.office.specs.Office.{Entry, Office, job_line}
+use Rattle.tables.proofs.Stepping.{HasStepped}
+use Rattle.tables.specs.Listed.{name_row}
+use Rattle.tables.specs.Steps.{Inside}
+use Rattle.ledger.specs.Listed.{IsHis}
+use Rattle.ledger.specs.Standing.{named, StandsIn}
+use Rattle.ledger.proofs.lists.find_lines.Given as goal
+
+abbrev pub invariant-loop-row : goal.invariant-loop-row
+invariant-loop-row g l = record {
+  step : HasStepped g.S.Store l.fn.tables l.tables;
+  found : Inside g.S.Store l.fn.tables l.tables (λ before after. (office : Office) → StandsIn before office
+      → StandsIn after office × ((entries : Office) → l.rows ≡ map (λ (e : Entry). name_row (named e)) entries → AllByRecursion (IsHis l.customer office) entries
+      → l.lines.items ≡ map job_line (take l.row-index entries)));
+}

@@ -1,0 +1,22 @@
+use Rattle.std.proofs.Common.{ap, ◌∙◌, arith}
+use Rattle.office.specs.Office.{own, by_number}
+use Rattle.office.specs.Orders.{in_order}
+use Rattle.office.specs.declared.replies.Reply.TheVariants.{Jobs}
+use Rattle.sqlite.specs.State.{HasCleanDisk}
+use Rattle.tables.specs.Steps.{seen}
+use Rattle.ledger.specs.Standing.{tables_of}
+use Rattle.ledger.proofs.Listing.{all_his, names_told}
+use Rattle.ledger.proofs.Offices.{still}
+use Rattle.ledger.proofs.lists.list_jobs.Goals as goal
+
+pub returns-clause-done : goal.returns-clause-done
+returns-clause-done g c clean inside office s =
+    let old = seen g.S.Store c.args.tables.now in
+    let mid = seen g.S.Store c.job_names_of.new.self in
+    let early : HasCleanDisk mid = omega (arith, c.find_lines.ensures.step.survives.clean) in
+    let customer = c.args.customer.now in
+    let found = c.in_ok-rows.ensures.found early inside (tables_of office) s.tables in
+    let on = c.in_ok-rows.ensures.step.frame early inside in
+    let lines = c.in_ok-lines.ensures.found clean on.inside office (still old mid office found.0 s) in
+    let told = lines.1 (in_order by_number (own customer office)) (c.as_slice.ensures.value ∙ found.1 ∙ names_told customer office) (all_his customer office s.tables.distinct) in
+    record { reply_is = ap Jobs told; stands = lines.0 }

@@ -1,0 +1,21 @@
+use Rattle.std.proofs.Common.{ap, ◌∙◌, arith}
+use Rattle.office.specs.Office.{free_jobs, by_name}
+use Rattle.office.specs.Orders.{in_order}
+use Rattle.office.specs.declared.replies.Reply.TheVariants.{Queue}
+use Rattle.sqlite.specs.State.{HasCleanDisk}
+use Rattle.tables.specs.Steps.{seen}
+use Rattle.ledger.specs.Standing.{tables_of}
+use Rattle.ledger.proofs.Listing.{all_free, free_told}
+use Rattle.ledger.proofs.Offices.{still}
+use Rattle.ledger.proofs.lists.list_queue.Goals as goal
+
+pub returns-clause-done : goal.returns-clause-done
+returns-clause-done g c clean inside office s =
+    let old = seen g.S.Store c.args.tables.now in
+    let mid = seen g.S.Store c.queued_names.new.self in
+    let early : HasCleanDisk mid = omega (arith, c.find_queue.ensures.step.survives.clean) in
+    let found = c.in_ok-rows.ensures.found early inside (tables_of office) s.tables in
+    let on = c.in_ok-rows.ensures.step.frame early inside in
+    let queue = c.in_ok-queue.ensures.found clean on.inside office (still old mid office found.0 s) in
+    let told = queue.1 (in_order by_name (free_jobs office)) (c.as_slice.ensures.value ∙ found.1 ∙ free_told office) (all_free office s.tables.distinct) in
+    record { reply_is = ap Queue told; stands = queue.0 }

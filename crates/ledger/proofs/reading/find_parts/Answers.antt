@@ -1,0 +1,26 @@
+use Rattle.std.proofs.Common.{◌≡◌, length, get_or, ◌-◌, sym, ap, subst, ◌∙◌, arith}
+use Rattle.sqlite.specs.State.{HasCleanDisk}
+use Rattle.tables.specs.Steps.{seen}
+use Rattle.tables.specs.Cells.{JobCells}
+use Rattle.ledger.proofs.Offices.{job_is, kept_is}
+use Rattle.ledger.proofs.ReadBack.{some_is, picture_switches}
+use Rattle.ledger.proofs.reading.find_parts.Goals as goal
+
+pub returns-clause-found : goal.returns-clause-found
+returns-clause-found g c clean inside office s =
+    let old = seen g.S.Store c.args.tables.now in
+    let mid = seen g.S.Store c.find_stretches.new.tables in
+    let early : HasCleanDisk mid = omega (arith, c.find_running.ensures.step.survives.clean) in
+    let found = c.in_ok-stretches.ensures.found early inside office s in
+    let on = c.in_ok-stretches.ensures.step.frame early inside in
+    let rest = c.in_ok-machine.ensures.found clean on.inside office found.0 in (
+      rest.0,
+      λ job is row.
+          let kept = job_is c.args.name.customer.now c.args.name.number office job s.jobs is in
+          let cells = c.row.view_is ∙ row in
+          let stretches = found.1 job is in
+          let held = some_is (sym c.in-Some-Some.is-0 ∙ c.read_truth.ensures.all job.held (ap (λ (r : JobCells). r.held) cells)) in
+          let collected = some_is (sym c.in-Some-Some.is-1 ∙ c.read_truth-2.ensures.all job.collected (ap (λ (r : JobCells). r.collected) cells)) in
+          let switches = picture_switches c.runs_only_add.ensures.switches job c.in-Some.last.now kept.job.stretches.switches kept.job.stretches.begun (subst (λ xs. c.in-Some.last.now ≡ get_or xs (length xs - 1) c.in-Some.last.now) (c.deref.ensures.value ∙ stretches) c.in-Some.ensures.item.1) in
+          kept_is _ _ _ _ job stretches held collected (rest.1 job is (c.deref-2.ensures.value ∙ ap (λ (r : JobCells). r.loaded) cells) (sym switches)),
+    )

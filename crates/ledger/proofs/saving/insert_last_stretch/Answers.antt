@@ -1,0 +1,14 @@
+use Rattle.std.proofs.Common.{◌≡◌, ◌-◌, length, get_or, ap, rules}
+use Rattle.tables.proofs.Frames.{on_ok_then}
+use Rattle.tables.specs.declared.rows.StretchRow.{StretchRow}
+use Rattle.ledger.proofs.Saved.{last_stretched}
+use Rattle.ledger.proofs.saving.insert_last_stretch.Goals as goal
+
+pub returns-clause-added : goal.returns-clause-added
+returns-clause-added g c clean inside =
+    let last = c.in-Some.last.now in
+    let at : c.in-Ok.place ≡ length c.args.stretches.now - 1 = search rules in
+    let is_last : last ≡ get_or c.args.stretches.now (length c.args.stretches.now - 1) last = search rules in
+    on_ok_then c.insert_stretch.result _ _ (λ did t holds was. last_stretched _ t c.args.name.customer.now c.args.name.number c.in-Ok.place was.0 c.args.stretches.now was.1 last _ was.2 was.3 at is_last
+    (ap (λ n. let y : StretchRow = record { switches = n; granted = last.granted } in y) c.switches_number.ensures.number) (did t holds))
+    (c.insert_stretch.ensures.added clean inside)

@@ -1,0 +1,71 @@
+//! Commands on a job.
+
+ghost use Rattle.std.specs.Prelude.{◌≡◌, Some, OnOk, OnErr};
+ghost use Rattle.machine.specs.Run.{risen};
+ghost use Rattle.office.specs.Jobs.{Job as KnownJob};
+ghost use Rattle.office.specs.Kept.{kept_of, attempted_on, limit_of};
+ghost use Rattle.office.specs.Meters.{RisenAtMost};
+ghost use Rattle.tables.specs.Steps.{IsStep, IsOpenStep};
+ghost use Rattle.ledger.specs.Saving.{job_in};
+ghost use Rattle.ledger.specs.Serving.{with_commanded, attempted_as};
+ghost use Rattle.ledger.specs.Steps.{Serves, ServesWhere, Ticks, TicksAtMost};
+
+use crate::reading::find_whole;
+use crate::saving::{Made, save};
+use core_store::FlagCore;
+use machine::Meter;
+use office::{Job, JobCommand, Refusal, Reply, commands_act_on_pictures, commands_keep_jobs};
+use sqlite::Alter;
+use tables::{Fault, JobName, OpenTables};
+
+/// Carries out a command on a job that was found, and notes what came of it.
+fn carry_out<S: Alter>(
+    tables: &mut OpenTables<'_, '_, S>,
+    name: JobName<'_>,
+    job: &mut Job<FlagCore>,
+    command: JobCommand,
+    meter: &mut Meter,
+) -> Result<Reply, Fault>
+    ensures step { IsStep S.Store tables.old tables.new result }
+    ensures done { (old : KnownJob) → job.old ≡ kept_of old
+        → ServesWhere S.Store tables.old tables.new result
+        (λ office. job_in name.entry office ≡ Some old) (with_commanded name.entry command) }
+    ensures meter { OnOk result (meter.new ≡ risen meter.old (attempted_on command job.old)) }
+    ensures given_up { OnErr result
+        (RisenAtMost (attempted_on command job.old) meter.old meter.new) }
+    ensures most { RisenAtMost (limit_of command) meter.old meter.new }
+{
+    // Laws, for the proof: they do nothing.
+    commands_act_on_pictures();
+    commands_keep_jobs();
+    let before = Made::by(job);
+    match job.take(tables.alloc, &command, meter)? {
+        Reply::Refused(reason) => Ok(Reply::Refused(reason)),
+        reply => {
+            save(tables, name, command, job, before)?;
+            Ok(reply)
+        }
+    }
+}
+
+/// A command on the job of this name.
+pub fn command_job<S: Alter>(
+    tables: &mut OpenTables<'_, '_, S>,
+    name: JobName<'_>,
+    command: JobCommand,
+    meter: &mut Meter,
+) -> Result<Reply, Fault>
+    ensures step { IsOpenStep S.Store tables.old tables.new result }
+    ensures done { Serves S.Store tables.old tables.new result
+        (with_commanded name.entry command) }
+    ensures meter { Ticks S.Store tables.old tables.new result
+        meter.old meter.new (attempted_as name.entry command) }
+    ensures given_up { TicksAtMost S.Store tables.old tables.new result
+        meter.old meter.new (attempted_as name.entry command) }
+    ensures most { RisenAtMost (limit_of command) meter.old meter.new }
+{
+    match find_whole(tables, name)? {
+        Some(mut job) => carry_out(tables, name, &mut job, command, meter),
+        None => Ok(Reply::Refused(Refusal::NoJob)),
+    }
+}

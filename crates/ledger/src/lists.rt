@@ -1,0 +1,159 @@
+//! The lists of jobs: a customer's, and the queue.
+
+ghost use Rattle.std.specs.Prelude.{◌≡◌, ◌++◌, []};
+ghost use Rattle.office.specs.Kept.{told_at};
+ghost use Rattle.office.specs.Office.{jobs_told, queue_told};
+ghost use Rattle.office.specs.declared.replies.Reply.{Reply};
+ghost use Rattle.tables.specs.Steps.{IsStep, IsOpenStep};
+ghost use Rattle.ledger.specs.Listed.{HasStanding, HasLine, HasLines, IsQueued, AreQueued, with_jobs_told, with_queue_told};
+ghost use Rattle.ledger.specs.Saving.{job_in};
+ghost use Rattle.ledger.specs.Steps.{FindsIn, Serves};
+
+use machine::{Standing, stays_in_range};
+use office::{JobLine, JobList, JobStanding, QueueLine, QueueList, Reply, commands_keep_jobs};
+use pictures::{Progress, read_progress, read_truth};
+use sqlite::Alter;
+use tables::{Fault, JobName, NameRow, OpenTables, QueuedRow};
+
+/// How a machine stands that has come so far.
+fn standing_of(progress: Progress) -> JobStanding
+    ensures { result ≡ told_at progress.standing progress.i }
+{
+    match progress.standing {
+        Standing::Running => JobStanding::Running,
+        Standing::Halted => JobStanding::Halted { next: progress.i },
+        Standing::Checked(check) => JobStanding::Checked {
+            check,
+            at: progress.i,
+        },
+    }
+}
+
+/// How the machine of the job of this name stands.
+fn find_standing<S: Alter>(
+    tables: &mut OpenTables<'_, '_, S>,
+    name: JobName<'_>,
+) -> Result<JobStanding, Fault>
+    ensures step { IsOpenStep S.Store tables.old tables.new result }
+    ensures found { FindsIn S.Store tables.old tables.new result
+        (λ office found. HasStanding (job_in name.entry office) found) }
+{
+    // A law, for the proof: it does nothing.
+    commands_keep_jobs();
+    let Some(row) = tables.find_progress(name)? else {
+        return Err(Fault::Store);
+    };
+    match read_progress(&row) {
+        Some(progress) => Ok(standing_of(progress)),
+        None => Err(Fault::Store),
+    }
+}
+
+/// What the list of a customer's jobs shows of the job of this row.
+fn find_line<S: Alter>(
+    tables: &mut OpenTables<'_, '_, S>,
+    customer: &str,
+    row: &NameRow,
+) -> Result<JobLine, Fault>
+    ensures step { IsOpenStep S.Store tables.old tables.new result }
+    ensures found { FindsIn S.Store tables.old tables.new result
+        (λ office found. HasLine customer.now row.now office found) }
+{
+    let (Some(held), Some(collected)) = (read_truth(row.held), read_truth(row.collected)) else {
+        return Err(Fault::Store);
+    };
+    let name = JobName {
+        customer,
+        number: row.number,
+    };
+    Ok(JobLine {
+        number: row.number,
+        held,
+        collected,
+        standing: find_standing(tables, name)?,
+    })
+}
+
+/// What the list of a customer's jobs shows of the jobs of these rows.
+fn find_lines<S: Alter>(
+    tables: &mut OpenTables<'_, '_, S>,
+    customer: &str,
+    rows: &[NameRow],
+) -> Result<Vec<JobLine>, Fault>
+    ensures step { IsStep S.Store tables.old tables.new result }
+    ensures found { FindsIn S.Store tables.old tables.new result
+        (λ office found. HasLines customer.now rows.now office found.items) }
+{
+    let mut lines = Vec::new(tables.alloc);
+    for row in rows {
+        let line = find_line(tables, customer, row)?;
+        lines.try_reserve(1)?;
+        lines.push_reserved(line);
+    }
+    Ok(lines)
+}
+
+/// The list of a customer's jobs.
+pub fn list_jobs<S: Alter>(
+    tables: &mut OpenTables<'_, '_, S>,
+    customer: &str,
+) -> Result<Reply, Fault>
+    ensures step { IsOpenStep S.Store tables.old tables.new result }
+    ensures done { Serves S.Store tables.old tables.new result (with_jobs_told customer.now) }
+{
+    let rows = tables.job_names_of(customer)?;
+    let lines = find_lines(tables, customer, rows.as_slice())?;
+    Ok(Reply::Jobs(JobList(lines)))
+}
+
+/// Adds the job of this row to the queue, if its machine is running.
+fn queue_running<S: Alter>(
+    tables: &mut OpenTables<'_, '_, S>,
+    row: &QueuedRow,
+    queue: &mut Vec<QueueLine>,
+) -> Result<(), Fault>
+    ensures step { IsOpenStep S.Store tables.old tables.new result }
+    ensures found { FindsIn S.Store tables.old tables.new result
+        (λ office _. IsQueued row.now office queue.old.items queue.new.items) }
+{
+    let name = JobName {
+        customer: row.customer.as_str(),
+        number: row.number,
+    };
+    if !find_standing(tables, name)?.goes_on() {
+        return Ok(());
+    }
+    let customer = String::from_str(tables.alloc, row.customer.as_str())?;
+    queue.try_reserve(1)?;
+    queue.push_reserved(QueueLine {
+        customer,
+        number: row.number,
+    });
+    Ok(())
+}
+
+/// The jobs of these rows whose machines are running.
+fn find_queue<S: Alter>(
+    tables: &mut OpenTables<'_, '_, S>,
+    rows: &[QueuedRow],
+) -> Result<Vec<QueueLine>, Fault>
+    ensures step { IsStep S.Store tables.old tables.new result }
+    ensures found { FindsIn S.Store tables.old tables.new result
+        (λ office found. AreQueued rows.now office found.items) }
+{
+    let mut queue = Vec::new(tables.alloc);
+    for row in rows {
+        queue_running(tables, row, &mut queue)?;
+    }
+    Ok(queue)
+}
+
+/// The queue.
+pub fn list_queue<S: Alter>(tables: &mut OpenTables<'_, '_, S>) -> Result<Reply, Fault>
+    ensures step { IsOpenStep S.Store tables.old tables.new result }
+    ensures done { Serves S.Store tables.old tables.new result with_queue_told }
+{
+    let rows = tables.queued_names()?;
+    let queue = find_queue(tables, rows.as_slice())?;
+    Ok(Reply::Queue(QueueList(queue)))
+}

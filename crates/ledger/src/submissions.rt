@@ -1,0 +1,136 @@
+//! Submissions: new jobs, and jobs that are handed in again.
+
+ghost use Rattle.std.specs.Prelude.{◌≡◌, length, IfOk, IsTrue};
+ghost use Rattle.cards.specs.Decks.{IsDeck};
+ghost use Rattle.office.specs.Jobs.{Job as KnownJob};
+ghost use Rattle.office.specs.Office.{is_same_kind, is_of, repeated};
+ghost use Rattle.office.specs.declared.commands.Kind.{Kind};
+ghost use Rattle.tables.specs.Steps.{IsStep, IsOpenStep};
+ghost use Rattle.ledger.specs.Found.{IsFirst};
+ghost use Rattle.ledger.specs.Saving.{IsFreeName, IsTakenAs};
+ghost use Rattle.ledger.specs.Serving.{with_added, with_taken, with_submitted};
+ghost use Rattle.ledger.specs.Standing.{CanBeKept, job_cells, kind_number};
+ghost use Rattle.ledger.specs.Steps.{Serves, ServesWhere};
+
+use crate::reading::{Handed, find_handed};
+use crate::saving::save_new;
+use bitflags::Flags;
+use cards::COLUMNS;
+use core_store::{Core, FlagCore};
+use machine::runs_only_add;
+use office::{Contents, Job, Kind, NewFault, Refusal, Reply, new_job};
+use pictures::deck_bytes;
+use sqlite::Alter;
+use std::alloc::{AllocError, Global};
+use tables::{Fault, JobName, OpenTables};
+
+/// A customer has at most so many jobs.
+const MOST_JOBS: usize = 200;
+
+/// Whether the number is that of a kind.
+fn is_same_kind(number: u32, kind: Kind) -> bool
+    ensures { (is : Kind) → number ≡ kind_number is → result ≡ is_same_kind is kind }
+{
+    match kind {
+        Kind::Object => number == 0,
+        Kind::Autocoder => number == 1,
+    }
+}
+
+/// Whether a job was handed in with these contents.
+fn is_same(alloc: Global, handed: &Handed, contents: &Contents) -> Result<bool, AllocError>
+    ensures same { IfOk result (λ same. (job : KnownJob) → handed.now.row ≡ job_cells job
+        → IsFirst handed.now.switches job.stretches → same ≡ is_of contents.now job) }
+{
+    if !is_same_kind(handed.row.kind, contents.kind)
+        || handed.row.size != contents.size
+        || handed.switches.bits() != contents.switches.seven().bits()
+    {
+        return Ok(false);
+    }
+    let deck = deck_bytes(alloc, &contents.deck)?;
+    Ok(handed.row.deck.as_slice() == deck.as_slice())
+}
+
+/// The reply to a job that was handed in before.
+fn repeated(alloc: Global, handed: &Handed, contents: &Contents) -> Result<Reply, Fault>
+    ensures { IfOk result (λ reply. (job : KnownJob) → handed.now.row ≡ job_cells job
+        → IsFirst handed.now.switches job.stretches → CanBeKept job
+        → reply ≡ repeated contents.now job) }
+{
+    if !is_same(alloc, handed, contents)? {
+        return Ok(Reply::Refused(Refusal::OtherContents));
+    }
+    match u32::try_from(handed.row.loaded.len() / COLUMNS) {
+        Ok(cards) => Ok(Reply::Taken { cards }),
+        Err(_) => Err(Fault::Store),
+    }
+}
+
+/// How many cards a job loads.
+fn cards_loaded<C: Core>(job: &Job<C>) -> u32
+    ensures { result ≡ length job.now.machine.works.units.hopper.deck }
+{
+    let machine = job.parts().machine;
+    let deck = &machine.units.hopper.deck;
+    deck.cards().len() as u32
+}
+
+/// Adds a new job, unless its customer has as many as one may have.
+fn add<S: Alter>(
+    tables: &mut OpenTables<'_, '_, S>,
+    name: JobName<'_>,
+    contents: &Contents,
+    job: &Job<FlagCore>,
+) -> Result<Reply, Fault>
+    ensures step { IsOpenStep S.Store tables.old tables.new result }
+    ensures done { (new : KnownJob) → IsTakenAs contents.now job.now new
+        → ServesWhere S.Store tables.old tables.new result
+        (IsFreeName name.entry) (with_added name.entry new) }
+{
+    // A law, for the proof: it does nothing.
+    runs_only_add();
+    if tables.count_jobs(name.customer)? >= MOST_JOBS {
+        return Ok(Reply::Refused(Refusal::TooManyJobs));
+    }
+    save_new(tables, name, contents, job)?;
+    Ok(Reply::Taken {
+        cards: cards_loaded(job),
+    })
+}
+
+/// Accepts a job whose name is free.
+fn submit_new<S: Alter>(
+    tables: &mut OpenTables<'_, '_, S>,
+    name: JobName<'_>,
+    contents: &Contents,
+) -> Result<Reply, Fault>
+    ensures step { IsStep S.Store tables.old tables.new result }
+    ensures done { ServesWhere S.Store tables.old tables.new result
+        (IsFreeName name.entry) (with_taken name.entry contents.now) }
+{
+    match new_job(tables.alloc, contents) {
+        Ok(job) => add(tables, name, contents, &job),
+        Err(NewFault::Refused(reason)) => Ok(Reply::Refused(reason)),
+        Err(NewFault::NoMemory) => Err(Fault::NoMemory),
+    }
+}
+
+/// Accepts a new job; a repeated submission gets the first reply again.
+pub fn submit<S: Alter>(
+    tables: &mut OpenTables<'_, '_, S>,
+    name: JobName<'_>,
+    contents: &Contents,
+) -> Result<Reply, Fault>
+    ensures step { IsOpenStep S.Store tables.old tables.new result }
+    ensures done { Serves S.Store tables.old tables.new result
+        (with_submitted name.entry contents.now) }
+{
+    match find_handed(tables, name)? {
+        Some(handed) => {
+            let reply = repeated(tables.alloc, &handed, contents)?;
+            Ok(reply)
+        }
+        None => submit_new(tables, name, contents),
+    }
+}

@@ -1,0 +1,124 @@
+-- What an open that failed hands back still holds the database.
+use Rattle.std.proofs.Common.{◌≡◌, ℕ, ◌≤◌, ◌%◌, true, false, List, refl, sym, ap, subst, ◌∙◌, inl, inr, arith, IsTrue, eq-eqb, ne_eqb, Bool, [], ◌∷◌, ap₂, if◌then◌else◌}
+use Rattle.std.proofs.lemmas.Bool.{cases_Bool, cases_eq}
+use Rattle.std.proofs.Math.Logic.{∥∥₁_map}
+use Rattle.sqlite_disk.specs.declared.Disk.{Ghosts}
+use Rattle.sqlite_disk.specs.declared.Files.{Files}
+use Rattle.sqlite_disk.specs.Events.{Event, settled, replay}
+use Rattle.sqlite_disk.specs.History.{MayLeave}
+use Rattle.sqlite_wal.specs.Recovery.{Image, IsIgnored}
+use Rattle.sqlite_wal.specs.Recovery as raw
+use Rattle.sqlite_wal.specs.Files.{outcomes}
+use Rattle.sqlite_pool.specs.Stored.{reserved, is_summed, stored_size, Adopts, StandsAs}
+use Rattle.sqlite_pool.proofs.ProbeLemmas.{size_by_log, size_by_file, reserved_word}
+use Rattle.sqlite_store.specs.Unopened.{state_of}
+use Rattle.sqlite_store.specs.declared.store.open.Unopened.{Unopened}
+use Rattle.sqlite_store.specs.declared.store.FileStore.{FileStore}
+use Rattle.sqlite_store.specs.FileStore.{recovers}
+use Rattle.sqlite_trees.specs.Tree.{Trees}
+use Rattle.sqlite.specs.Opening.{HoldsIn}
+use Rattle.sqlite.specs.Files.{HoldsDatabase, LeavesFiles, NamesSize, SaysSums, image_of}
+use Rattle.sqlite.specs.declared.file.Leftover.{Leftover}
+use Rattle.sqlite.specs.declared.file.Leftover.TheVariants as left
+use Rattle.sqlite.proofs.FileLemmas.{is_something}
+use Rattle.office.specs.Office.{Office}
+use Rattle.ledger.specs.Standing.{LeftAs}
+use Rattle.ledger_files.specs.Opening.{AreOf, LeftStands}
+
+reserved_is : (size : ℕ) → reserved size ≡ if is_summed size then 8 else 0
+reserved_is size = elim (cases_eq (size % 16) 8) [
+  | inl on ↦ let eight : reserved size ≡ 8 = rw (eq-eqb _ 8 on) in rw eight
+  | inr off ↦ let zero : reserved size ≡ 0 = rw (ne_eqb _ 8 off) in rw zero
+]
+
+-- two sizes that are stored as one are one, if both have sums or neither has
+one_used : (a b : ℕ) → is_summed a ≡ is_summed b → stored_size a ≡ stored_size b → a ≡ b
+one_used a b sums stored = let same : reserved a ≡ reserved b = reserved_is a ∙ ap (λ s. if s then 8 else 0) sums ∙ sym (reserved_is b) in omega (arith, same, stored)
+
+module _ (image : Image) (db : Trees) (held : HoldsDatabase image db) where
+  large : 504 ≤ held.0
+  large = let few : reserved held.0 ≤ 8 = grind arith in omega (arith, held.1.0)
+
+  -- files that hold a database name one page size
+  one_size : (size : ℕ) → NamesSize image size → stored_size held.0 ≡ size
+  one_size size names = elim (cases_eq (stored_size held.0) size) [
+    | inl same ↦ same
+    | inr other ↦ absurd (
+        let read = λ (seen : ¬ IsIgnored image.log). other (sym (names.0 seen ∙ size_by_log held.0 image held.2.pages held.2.found seen)) in
+        read (λ ignored. other (sym (names.1 ignored ∙ size_by_file held.0 image held.2.pages held.2.found large held.2.ours.file.sound ignored))))
+  ]
+
+  -- and say of themselves whether they have sums
+  no_sums : (size : ℕ) → is_summed held.0 ≡ false → stored_size held.0 ≡ stored_size size → (IsTrue (is_summed size) → SaysSums (stored_size size) image) → is_summed size ≡ false
+  no_sums size plain same says = elim (cases_Bool (is_summed size)) [
+    | inr none ↦ none
+    | inl summed ↦ absurd (
+        let found = held.2.found in
+        let page = reserved_word held.0 image held.2.pages found large held.2.ours.file.sound in
+        let word = says summed found.stored page.0 (subst (λ n. raw.Recovers n image found.stored) same found.found) page.1 (page.2 ∙ same) in
+        let eight : reserved held.0 ≡ 8 = omega (arith, word, page.3) in
+        let e = rw eight at plain in cc)
+  ]
+
+  -- what such an image stands for in place of the files holds it too
+  holds_still : (size : ℕ) → held.0 ≡ size → (now : Image) → StandsAs size image now → HoldsIn held.0 now db
+  holds_still size same now stands = record {
+    pages = held.2.pages;
+    wanted = held.2.wanted;
+    schema = held.2.schema;
+    found = subst (λ n. Adopts n now held.2.pages) (sym same) (stands.1 held.2.pages (subst (λ n. Adopts n image held.2.pages) same held.2.found));
+    ours = held.2.ours;
+    reads = held.2.reads;
+    sound = held.2.sound;
+  }
+
+  -- the size that unopened files have is the size that holds the database
+  used_size_is : (size : ℕ) (has_sums : Bool) → is_summed held.0 ≡ has_sums → (IsTrue has_sums → IsTrue (is_summed size)) → NamesSize image (stored_size size) → (IsTrue (is_summed size) → SaysSums (stored_size size) image) → held.0 ≡ size
+  used_size_is size true is taken names says = one_used held.0 size (is ∙ sym (taken refl)) (one_size (stored_size size) names)
+  used_size_is size false is taken names says = let stored = one_size (stored_size size) names in one_used held.0 size (is ∙ sym (no_sums size is stored says)) stored
+
+module _ {D : Type 0} (g : Ghosts D) (files : Files D) (alone : (image : Image) → outcomes g files.log files.db image → image ≡ image_of g files) (has_sums : Bool) (office : Office) (are : AreOf has_sums (image_of g files) office) where
+  abbrev IsFileOf : Image → Type 0
+  IsFileOf image = (db : Trees) × (held : HoldsDatabase image db) × (is_summed held.0 ≡ has_sums) × LeftAs db office
+
+  files_stand : (now : Files D) → ((image : Image) → outcomes g now.log now.db image → outcomes g files.log files.db image) → (image : Image) → outcomes g now.log now.db image → AreOf has_sums image office
+  files_stand now leaves image may = subst (λ i. AreOf has_sums i office) (sym (alone image (leaves image may))) are
+
+  unopened_stand : (now : Unopened D g) → LeavesFiles files (left.Unopened now) → (IsTrue has_sums → IsTrue (is_summed (state_of now).page_size)) → (image : Image) → (state_of now).may_leave image → AreOf has_sums image office
+  unopened_stand now leaves taken image may = ∥∥₁_map are (λ it. elim leaves [
+    | inl nothing ↦ absurd (is_something (image_of g files) it.0 it.1 nothing.0)
+    | inr kept ↦ elim (kept.4 image may).same [
+      | inl old ↦ subst IsFileOf (sym (alone image old)) it
+      | inr stands ↦
+          let size = (state_of now).page_size in
+          let same = used_size_is (image_of g files) it.0 it.1 size has_sums it.2 taken kept.1 kept.3 in
+          let r : IsFileOf image = (it.0, (it.1.0, it.1.1, holds_still (image_of g files) it.0 it.1 size same image stands), it.2, it.3) in r
+    ]
+  ])
+
+  store_stands : (now : FileStore D g) → LeavesFiles files (left.Store now) → ∥ ((db : Trees) → recovers now db → LeftAs db office) ∥₁
+  store_stands now leaves = ∥∥₁_map are (λ it. let r : (db : Trees) → recovers now db → LeftAs db office = λ db may. subst (λ d. LeftAs d office) (sym ((leaves db may).1 it.0 it.1)) it.3 in r)
+
+  -- each of the three
+  pub left_stands : (rest : Leftover D g) → LeavesFiles files rest → LeftStands has_sums rest office
+  left_stands (left.Files now) leaves = files_stand now leaves
+  left_stands (left.Unopened now) leaves = unopened_stand now leaves
+  left_stands (left.Store now) leaves = store_stands now leaves
+
+-- a file that nothing was done to since it was opened is as it was then
+pub fresh_seen : (start : List ℕ) (events : List Event) (key : ℕ) → events ≡ settled key ∷ [] → (replay start events).seen ≡ start
+fresh_seen start events key is = ap (λ e. (replay start e).seen) is
+
+pub fresh_left : (mixes : Bool) (start : List ℕ) (events : List Event) (key : ℕ) → events ≡ settled key ∷ [] → (c : List ℕ)
+    → MayLeave mixes (replay start events).seen (replay start events).synced (replay start events).steps c → c ≡ start
+fresh_left mixes start events key is c may = elim (subst (λ e. MayLeave mixes (replay start e).seen (replay start e).synced (replay start e).steps c) is may) [ inl a ↦ a | inr b ↦ b ]
+
+pub both : (a b : Image) → a.log ≡ b.log → a.db ≡ b.db → a ≡ b
+both a b log db = ap₂ (λ x y. let i : Image = record { log = x; db = y } in i) log db
+
+-- what is left of an open of files that were as `start` says
+pub fresh_stands : {D : Type 0} {g : Ghosts D} (files : Files D) (rest : Leftover D g) → LeavesFiles files rest → (start : Image) → g.seen files.log ≡ start.log → g.seen files.db ≡ start.db
+    → ((c : List ℕ) → g.may_leave files.log c → c ≡ start.log) → ((c : List ℕ) → g.may_leave files.db c → c ≡ start.db) → (has_sums : Bool) (office : Office) → AreOf has_sums start office → LeftStands has_sums rest office
+fresh_stands {D} {g} files rest leaves start log_seen db_seen log_left db_left has_sums office are =
+    left_stands g files (λ image out. both _ _ (log_left image.log out.0 ∙ sym log_seen) (db_left image.db out.1 ∙ sym db_seen)) has_sums office
+    (subst (λ i. AreOf has_sums i office) (sym (both _ _ log_seen db_seen)) are) rest leaves

@@ -1,0 +1,64 @@
+//! Opening a bureau's file.
+
+ghost use Rattle.std.specs.Prelude.{◌≡◌, Bool, IfOk, IfErr};
+ghost use Rattle.sqlite.specs.Held.{state};
+ghost use Rattle.sqlite.specs.Files.{file_state};
+ghost use Rattle.sqlite.specs.State.{HasCleanDisk, Opens, IsLive};
+ghost use Rattle.sqlite.specs.WalFiles.{image_at};
+ghost use Rattle.tables.specs.Versions.{IsKnown};
+ghost use Rattle.office.specs.Office.{Office};
+ghost use Rattle.ledger.specs.Standing.{LeftAs, Stands};
+ghost use Rattle.ledger_files.specs.Opening.{AreOf, KeptStands, IsCleanKept};
+
+use crate::kept::Kept;
+use ledger::Bureau;
+use sqlite::{Alter, Connection, Error, ErrorCode, FileFrom, FileStore, Start};
+use tables::OpenFault;
+
+/// A connection that was just opened represents the office of its trees. It is called for its
+/// clause alone.
+fn opened_stands<S: Alter>(conn: &Connection<S>)
+    ensures { Opens (state S.Store conn.now) → IsLive (state S.Store conn.now)
+        → (office : Office) → LeftAs (state S.Store conn.now).committed.trees office
+        → Stands (state S.Store conn.now) office }
+{}
+
+/// What a failed open means: 1 for want of memory, else 2.
+fn store_fault_of(error: Error) -> OpenFault
+    ensures memory { error ≡ Error.SqliteFailure ErrorCode.OutOfMemory
+        → result ≡ OpenFault.NoMemory }
+    ensures known { IsKnown result }
+{
+    match error {
+        Error::SqliteFailure(ErrorCode::OutOfMemory) => OpenFault::NoMemory,
+        _ => OpenFault::Store,
+    }
+}
+
+/// Opens the file at a path as a bureau. It fails with 50 where it is no bureau's, or a later
+/// version's, with 51 where it is an earlier version's, with 1 for want of memory and else with 2;
+/// what the files held is then handed back, as far as they were reached.
+pub fn open_from<S: Start>(
+    rt: &HostRuntime,
+    path: &str,
+    start: S,
+) -> Result<Bureau<FileStore<FileFrom<S>>>, (OpenFault, Kept<FileFrom<S>>)>
+    ensures found { IfOk result (λ bureau. HasCleanDisk (file_state bureau.conn)
+        → (has_sums : Bool) → (office : Office) → AreOf has_sums (image_at S.Start) office
+        → ∥ Stands (file_state bureau.conn) office ∥₁) }
+    ensures kept { IfErr result (λ e. IsCleanKept e.1 → (has_sums : Bool) → (office : Office)
+        → AreOf has_sums (image_at S.Start) office → KeptStands has_sums e.1 office) }
+    ensures known { IfErr result (λ e. IsCleanKept e.1 → (has_sums : Bool) → (office : Office)
+        → AreOf has_sums (image_at S.Start) office → IsKnown e.0) }
+{
+    let conn = match Connection::open_from(rt, path, false, start) {
+        Ok(conn) => conn,
+        Err((error, Some(left))) => return Err((store_fault_of(error), Kept::Left(left))),
+        Err((error, None)) => return Err((store_fault_of(error), Kept::Nothing)),
+    };
+    opened_stands(&conn);
+    match Bureau::adopt(rt.alloc(), conn) {
+        Ok(bureau) => Ok(bureau),
+        Err((fault, conn)) => Err((fault, Kept::Connection(conn))),
+    }
+}
