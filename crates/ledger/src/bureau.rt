@@ -203,20 +203,6 @@ impl<S: Alter + Drop> Bureau<S> {
         }
     }
 
-    /// A bureau over a connection to tables that are there. It does not look at them: what `apply`
-    /// promises holds where they are the tables of an office. It serves tests until a bureau can be
-    /// opened, which checks the tables.
-    pub fn over(alloc: Global, conn: Connection<S>) -> Bureau<S>
-        ensures connection { result.conn ≡ conn }
-        ensures whole { result.broken ≡ false }
-    {
-        Bureau {
-            conn,
-            alloc,
-            broken: false,
-        }
-    }
-
     /// The connection, for other uses of the file.
     pub fn into_connection(self) -> Connection<S>
         ensures { result ≡ self.conn }

@@ -6,6 +6,7 @@ ghost use Rattle.sqlite_disk.specs.Memory.{memory_is_usable};
 
 use crate::decks::deck_named;
 use crate::replies::reply_text;
+use crate::sessions::adopted;
 use bitflags::Flags;
 use ledger::{Bureau, Fault};
 use machine::Meter;
@@ -104,10 +105,10 @@ fn applied<S: Alter + Drop>(
     command: &Command,
     meter: &mut Meter,
     reply: &mut Result<Reply, Fault>,
-) -> Connection<S> {
-    let mut bureau = Bureau::over(alloc, conn);
+) -> Result<Connection<S>, Fail> {
+    let mut bureau = adopted(alloc, conn)?;
     *reply = apply(&mut bureau, command, meter);
-    bureau.into_connection()
+    Ok(bureau.into_connection())
 }
 
 /// The reply to a command to the bureau on these disks, in words, and the disks after it.
@@ -119,7 +120,7 @@ fn apply_anew(
 ) -> Result<(String, Files<Memory>), Fail> {
     let mut reply = Err(Fault::Store);
     let conn = match open(alloc, disks) {
-        Ok(conn) => Ok(applied(alloc, conn, command, meter, &mut reply)),
+        Ok(conn) => applied(alloc, conn, command, meter, &mut reply),
         Err(fail) => Err(fail),
     };
     let disks = closed(conn)?;
@@ -182,7 +183,7 @@ fn altered<S: Alter + Drop>(
     let conn = created(alloc, conn)?;
     let command = submit_9(alloc, "loop")?;
     let mut reply = Err(Fault::Store);
-    let mut conn = applied(alloc, conn, &command, &mut Meter::new(), &mut reply);
+    let mut conn = applied(alloc, conn, &command, &mut Meter::new(), &mut reply)?;
     conn.execute(sql, &[])?;
     Ok(conn)
 }
@@ -217,7 +218,7 @@ fn refusals<S: Alter + Drop>(
     conn: Connection<S>,
     limits: [u32; 4],
 ) -> Result<([u8; 4], u64, i64), Fail> {
-    let mut bureau = Bureau::over(alloc, conn);
+    let mut bureau = adopted(alloc, conn)?;
     let mut meter = Meter::new();
     let refusals = [
         refusal(alloc, &mut bureau, &mut meter, limits[0])?,
@@ -263,7 +264,7 @@ const ALTERED_ROWS: &str = "\
 /// for none, and the ticks that it takes.
 fn fault_after(alloc: Global, sql: &str) -> Result<(u8, u64), Fail> {
     let conn = altered(alloc, Connection::open_in_memory(alloc)?, sql)?;
-    let mut bureau = Bureau::over(alloc, conn);
+    let mut bureau = adopted(alloc, conn)?;
     let mut meter = Meter::new();
     let fault = match apply(&mut bureau, &slice_9(alloc, 1)?, &mut meter) {
         Ok(_) => 0,

@@ -18,6 +18,17 @@ pub(crate) fn new_bureau<S: Alter + Drop>(
     }
 }
 
+/// A bureau over the tables that a connection finds.
+pub(crate) fn adopted<S: Alter + Drop>(
+    alloc: Global,
+    conn: Connection<S>,
+) -> Result<Bureau<S>, Fail> {
+    match Bureau::adopt(alloc, conn) {
+        Ok(bureau) => Ok(bureau),
+        Err(_) => Err("not adopted")?,
+    }
+}
+
 /// A bureau without jobs, in memory.
 pub(crate) fn in_memory(alloc: Global) -> Result<Bureau<MemStore>, Fail> {
     new_bureau(alloc, Connection::open_in_memory(alloc)?)
