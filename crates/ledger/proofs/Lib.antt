@@ -4,6 +4,8 @@ pub mod Flagged
 pub mod Handed
 pub mod Listing
 pub mod Offices
+pub mod OneOffice
 pub mod ReadBack
 pub mod Replies
 pub mod Saved
+pub mod Shown
