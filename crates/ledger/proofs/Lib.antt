@@ -4,7 +4,9 @@ pub mod Flagged
 pub mod Handed
 pub mod Listing
 pub mod Offices
+pub mod OneOffice
 pub mod ReadBack
 pub mod Replies
 pub mod Saved
 pub mod Adopted
+pub mod Shown

@@ -68,7 +68,7 @@ behind first office (e ∷ rest) others all = (go (is_entry e.customer e.number 
         absurd (true≢false (sym (name_yes e.customer first.customer e.number first.number (sym name.0) (sym name.1)) ∙ others.0))
     go false other = rw other all.0
 
-all_its : (office : Office) → AreDistinct (map named office) → AllByRecursion (IsIts office) office
+pub all_its : (office : Office) → AreDistinct (map named office) → AllByRecursion (IsIts office) office
 all_its [] distinct = tt
 all_its (e ∷ office) distinct = (rw (name_yes e.customer e.customer e.number e.number refl refl), behind e office office distinct.0 (all_its office distinct.1))
 

@@ -7,7 +7,7 @@ use Rattle.cards.specs.Decks.{deck_bytes, IsCard, IsDeck}
 use Rattle.office.specs.Jobs.{Job, loaded_deck, IsJob}
 use Rattle.office.specs.Kept.{Kept, kept_of, summary_of, job_refusal, answered, changed_job, taken_unless, take_kept, job_unless, job_after}
 use Rattle.office.specs.New.{job_or_refusal}
-use Rattle.office.specs.Office.{Office, job_of, own, with_job, and_job, added, submitted_as, submitted, commanded}
+use Rattle.office.specs.Office.{Office, job_of, own, with_job, and_job, has_most_jobs, added, submitted_as, submitted, commanded}
 use Rattle.office.specs.declared.commands.Contents.{Contents}
 use Rattle.office.specs.declared.commands.JobCommand.{JobCommand}
 use Rattle.office.specs.declared.commands.JobCommand.TheVariants.{Slice, Start, Hold, Release, Collect, Standing as Tell, Cards, Lines}
@@ -34,25 +34,13 @@ jobs_named customer (e ∷ office) = go (bytes_eq e.customer customer) refl (job
     go true is rest = rw is (ap (λ n. suc n) rest)
     go false is rest = rw is rest
 
-pub too_many : (new : State) (customer : List ℕ) (number count : ℕ) (job : Job) (office : Office) → count ≡ length (tables.jobs_of customer (map named office)) → 200 ≤ count → StandsIn new office
+pub too_many : (new : State) (customer : List ℕ) (number : ℕ) (job : Job) (office : Office) → has_most_jobs customer office ≡ true → StandsIn new office
     → Served new (λ all. added customer number all job) office (Refused refusal.TooManyJobs)
-too_many new customer number count job office is many s =
-    let test : nat_le 200 (length (own customer office)) ≡ true = le-leb _ _ (subst (λ n. 200 ≤ n) (is ∙ jobs_named customer office) many) in
-    record { reply_is = rw test; stands = rw test s }
+too_many new customer number job office full s = record { reply_is = rw full; stands = rw full s }
 
-few_test : (count : ℕ) → (200 ≤ count → ⊥) → nat_le 200 count ≡ false
-few_test count few = go (nat_le 200 count) refl
-  where
-    go : (b : Bool) → nat_le 200 count ≡ b → nat_le 200 count ≡ false
-    go true is = absurd (few (leb-true 200 count is))
-    go false is = is
-
-pub few_enough : (new : State) (customer : List ℕ) (number count : ℕ) (job : Job) (office : Office) → count ≡ length (tables.jobs_of customer (map named office)) → (200 ≤ count → ⊥)
-    → StandsIn new (and_job customer number job office)
+pub few_enough : (new : State) (customer : List ℕ) (number : ℕ) (job : Job) (office : Office) → has_most_jobs customer office ≡ false → StandsIn new (and_job customer number job office)
     → Served new (λ all. added customer number all job) office (Taken (length (loaded_deck job)))
-few_enough new customer number count job office is few s =
-    let test : nat_le 200 (length (own customer office)) ≡ false = few_test _ (λ many. few (subst (λ n. 200 ≤ n) (sym (is ∙ jobs_named customer office)) many)) in
-    record { reply_is = rw test; stands = rw test s }
+few_enough new customer number job office room s = record { reply_is = rw room; stands = rw room s }
 
 pub not_new : (new : State) (customer : List ℕ) (number : ℕ) (contents : Contents) (reason : Refusal) (office : Office) → job_or_refusal contents ≡ Err reason → StandsIn new office
     → Served new (λ all. submitted_as customer number all (job_or_refusal contents)) office (Refused reason)

@@ -4,10 +4,14 @@ use Rattle.cards.specs.Decks.{deck_bytes, IsCard, IsDeck}
 use Rattle.machine.specs.Run.{State}
 use Rattle.units.specs.declared.switches.Switches.{Switches}
 use Rattle.pictures.specs.declared.parts.Media.{Media}
-use Rattle.office.specs.Jobs.{Job, loaded_deck, picture}
-use Rattle.office.specs.Kept.{Kept, kept_of}
+use Rattle.office.specs.Jobs.{Job, loaded_deck, picture, granted}
+use Rattle.office.specs.Kept.{Kept, kept_of, told, summary_of}
+use Rattle.office.specs.declared.standings.JobStanding.{JobStanding}
+use Rattle.office.specs.declared.standings.Summary.{Summary}
 use Rattle.office.specs.declared.stretches.Stretch.{Stretch}
 use Rattle.pictures.specs.Columns.{IsLine}
+use Rattle.pictures.specs.Progress.{progress_of}
+use Rattle.pictures.specs.declared.progress.Progress.{Progress}
 use Rattle.tables.specs.Cells.{JobCells}
 use Rattle.ledger.specs.declared.reading.Handed.{Handed}
 use Rattle.ledger.specs.Standing.{job_cells}
@@ -66,6 +70,23 @@ HasMachine here loaded switches found =
 -- this is the job, if this is its row
 abbrev pub HasKept : Option Job → JobCells → Kept → Type 0
 HasKept here row found = (job : Job) → here ≡ Some job → row ≡ job_cells job → found ≡ kept_of job
+
+-- so far its machine has come
+abbrev pub HasProgress : Option Job → Progress → Type 0
+HasProgress here found = (job : Job) → here ≡ Some job → found ≡ progress_of (picture job)
+
+-- its machine stands so
+abbrev pub HasStanding : Option Job → JobStanding → Type 0
+HasStanding here found = (job : Job) → here ≡ Some job → found ≡ told (picture job)
+
+-- so much was granted to it
+abbrev pub HasGranted : Option Job → ℕ → Type 0
+HasGranted here found = (job : Job) → here ≡ Some job → found ≡ granted job.stretches
+
+-- this is shown of it, if this is its row
+abbrev pub HasSummary : Option Job → JobCells → Summary → Type 0
+HasSummary here row found =
+    (job : Job) → here ≡ Some job → row ≡ job_cells job → found ≡ summary_of (kept_of job)
 
 -- The machine's deck and what it has made can be written, and its deck and cards are written so.
 pub record ShowsMedia (m : State) (loaded : List ℕ) (rows : List (List ℕ)) : Type 0 where

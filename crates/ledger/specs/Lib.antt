@@ -1,4 +1,5 @@
 pub mod Found
+pub mod Light
 pub mod Listed
 pub mod Replying
 pub mod Saving

@@ -1,22 +1,15 @@
 -- what is found of the jobs of a list
-use Rattle.std.specs.Prelude.{◌≡◌, ℕ, List, [], ◌∷◌, ◌++◌, map, filter, Option, Some}
+use Rattle.std.specs.Prelude.{◌≡◌, ℕ, List, [], ◌∷◌, ◌++◌, map, filter, Some}
 use Rattle.std.specs.List.{AllByRecursion}
-use Rattle.office.specs.Jobs.{Job, picture}
-use Rattle.office.specs.Kept.{told}
 use Rattle.office.specs.Office.{Entry, Office, job_of, job_line, jobs_told, queued_job, queue_told, runs}
 use Rattle.office.specs.Queued.{QueuedJob}
 use Rattle.office.specs.declared.lists.JobLine.{JobLine}
 use Rattle.office.specs.declared.replies.Reply.{Reply}
 use Rattle.office.specs.declared.replies.Reply.TheVariants as reply
-use Rattle.office.specs.declared.standings.JobStanding.{JobStanding}
 use Rattle.tables.specs.Cells.{QueuedName}
 use Rattle.tables.specs.Listed.{name_row, queued_name}
 use Rattle.tables.specs.declared.rows.NameRow.{NameRow}
 use Rattle.ledger.specs.Standing.{named}
-
--- its machine stands so, if there is such a job
-abbrev pub HasStanding : Option Job → JobStanding → Type 0
-HasStanding here found = (job : Job) → here ≡ Some job → found ≡ told (picture job)
 
 -- ---- a customer's jobs
 

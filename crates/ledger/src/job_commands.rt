@@ -10,6 +10,7 @@ ghost use Rattle.ledger.specs.Saving.{job_in};
 ghost use Rattle.ledger.specs.Serving.{with_commanded, attempted_as};
 ghost use Rattle.ledger.specs.Steps.{Serves, ServesWhere, Ticks, TicksAtMost};
 
+use crate::light_commands::{LightCommand, command_lightly};
 use crate::reading::find_whole;
 use crate::saving::{Made, save};
 use core_store::FlagCore;
@@ -48,8 +49,8 @@ fn carry_out<S: Alter>(
     }
 }
 
-/// A command on the job of this name.
-pub fn command_job<S: Alter>(
+/// A command on the job of this name, with its machine.
+fn command_wholly<S: Alter>(
     tables: &mut OpenTables<'_, '_, S>,
     name: JobName<'_>,
     command: JobCommand,
@@ -67,5 +68,27 @@ pub fn command_job<S: Alter>(
     match find_whole(tables, name)? {
         Some(mut job) => carry_out(tables, name, &mut job, command, meter),
         None => Ok(Reply::Refused(Refusal::NoJob)),
+    }
+}
+
+/// A command on the job of this name.
+pub fn command_job<S: Alter>(
+    tables: &mut OpenTables<'_, '_, S>,
+    name: JobName<'_>,
+    command: JobCommand,
+    meter: &mut Meter,
+) -> Result<Reply, Fault>
+    ensures step { IsOpenStep S.Store tables.old tables.new result }
+    ensures done { Serves S.Store tables.old tables.new result
+        (with_commanded name.entry command) }
+    ensures meter { Ticks S.Store tables.old tables.new result
+        meter.old meter.new (attempted_as name.entry command) }
+    ensures given_up { TicksAtMost S.Store tables.old tables.new result
+        meter.old meter.new (attempted_as name.entry command) }
+    ensures most { RisenAtMost (limit_of command) meter.old meter.new }
+{
+    match LightCommand::of(command) {
+        Some(light) => command_lightly(tables, name, light),
+        None => command_wholly(tables, name, command, meter),
     }
 }

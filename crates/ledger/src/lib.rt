@@ -12,11 +12,15 @@
 
 mod bureau;
 mod job_commands;
+mod laws;
+mod light_commands;
 mod lists;
 mod reading;
 mod saving;
 mod serving;
 mod submissions;
+mod summaries;
 
 pub use bureau::Bureau;
+pub use laws::tables_represent_one_office;
 pub use tables::Fault;

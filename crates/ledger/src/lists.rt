@@ -1,53 +1,17 @@
 //! The lists of jobs: a customer's, and the queue.
 
 ghost use Rattle.std.specs.Prelude.{◌≡◌, ◌++◌, []};
-ghost use Rattle.office.specs.Kept.{told_at};
 ghost use Rattle.office.specs.Office.{jobs_told, queue_told};
 ghost use Rattle.office.specs.declared.replies.Reply.{Reply};
 ghost use Rattle.tables.specs.Steps.{IsStep, IsOpenStep};
-ghost use Rattle.ledger.specs.Listed.{HasStanding, HasLine, HasLines, IsQueued, AreQueued, with_jobs_told, with_queue_told};
-ghost use Rattle.ledger.specs.Saving.{job_in};
+ghost use Rattle.ledger.specs.Listed.{HasLine, HasLines, IsQueued, AreQueued, with_jobs_told, with_queue_told};
 ghost use Rattle.ledger.specs.Steps.{FindsIn, Serves};
 
-use machine::{Standing, stays_in_range};
-use office::{JobLine, JobList, JobStanding, QueueLine, QueueList, Reply, commands_keep_jobs};
-use pictures::{Progress, read_progress, read_truth};
+use crate::summaries::find_standing;
+use office::{JobLine, JobList, QueueLine, QueueList, Reply};
+use pictures::read_truth;
 use sqlite::Alter;
 use tables::{Fault, JobName, NameRow, OpenTables, QueuedRow};
-
-/// How a machine stands that has come so far.
-fn standing_of(progress: Progress) -> JobStanding
-    ensures { result ≡ told_at progress.standing progress.i }
-{
-    match progress.standing {
-        Standing::Running => JobStanding::Running,
-        Standing::Halted => JobStanding::Halted { next: progress.i },
-        Standing::Checked(check) => JobStanding::Checked {
-            check,
-            at: progress.i,
-        },
-    }
-}
-
-/// How the machine of the job of this name stands.
-fn find_standing<S: Alter>(
-    tables: &mut OpenTables<'_, '_, S>,
-    name: JobName<'_>,
-) -> Result<JobStanding, Fault>
-    ensures step { IsOpenStep S.Store tables.old tables.new result }
-    ensures found { FindsIn S.Store tables.old tables.new result
-        (λ office found. HasStanding (job_in name.entry office) found) }
-{
-    // A law, for the proof: it does nothing.
-    commands_keep_jobs();
-    let Some(row) = tables.find_progress(name)? else {
-        return Err(Fault::Store);
-    };
-    match read_progress(&row) {
-        Some(progress) => Ok(standing_of(progress)),
-        None => Err(Fault::Store),
-    }
-}
 
 /// What the list of a customer's jobs shows of the job of this row.
 fn find_line<S: Alter>(

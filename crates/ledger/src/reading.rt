@@ -57,7 +57,7 @@ fn read_stretches(alloc: Global, rows: &[StretchRow]) -> Result<Option<Vec<Stret
 }
 
 /// The stretches of a job.
-fn find_stretches<S: Alter>(
+pub fn find_stretches<S: Alter>(
     tables: &mut OpenTables<'_, '_, S>,
     name: JobName<'_>,
 ) -> Result<Vec<Stretch>, Fault>

@@ -3,14 +3,14 @@
 ghost use Rattle.std.specs.Prelude.{◌≡◌, length, IfOk, IsTrue};
 ghost use Rattle.cards.specs.Decks.{IsDeck};
 ghost use Rattle.office.specs.Jobs.{Job as KnownJob};
-ghost use Rattle.office.specs.Office.{is_same_kind, is_of, repeated};
+ghost use Rattle.office.specs.Office.{has_most_jobs, is_same_kind, is_of, repeated};
 ghost use Rattle.office.specs.declared.commands.Kind.{Kind};
 ghost use Rattle.tables.specs.Steps.{IsStep, IsOpenStep};
 ghost use Rattle.ledger.specs.Found.{IsFirst};
 ghost use Rattle.ledger.specs.Saving.{IsFreeName, IsTakenAs};
 ghost use Rattle.ledger.specs.Serving.{with_added, with_taken, with_submitted};
 ghost use Rattle.ledger.specs.Standing.{CanBeKept, job_cells, kind_number};
-ghost use Rattle.ledger.specs.Steps.{Serves, ServesWhere};
+ghost use Rattle.ledger.specs.Steps.{FindsIn, Serves, ServesWhere};
 
 use crate::reading::{Handed, find_handed};
 use crate::saving::save_new;
@@ -76,6 +76,19 @@ fn cards_loaded<C: Core>(job: &Job<C>) -> u32
     deck.cards().len() as u32
 }
 
+/// Whether a customer has as many jobs as one may have.
+fn has_most_jobs<S: Alter>(
+    tables: &mut OpenTables<'_, '_, S>,
+    customer: &str,
+) -> Result<bool, Fault>
+    ensures step { IsOpenStep S.Store tables.old tables.new result }
+    ensures found { FindsIn S.Store tables.old tables.new result
+        (λ office found. found ≡ has_most_jobs customer.now office) }
+{
+    let count = tables.count_jobs(customer)?;
+    Ok(count >= MOST_JOBS)
+}
+
 /// Adds a new job, unless its customer has as many as one may have.
 fn add<S: Alter>(
     tables: &mut OpenTables<'_, '_, S>,
@@ -90,7 +103,7 @@ fn add<S: Alter>(
 {
     // A law, for the proof: it does nothing.
     runs_only_add();
-    if tables.count_jobs(name.customer)? >= MOST_JOBS {
+    if has_most_jobs(tables, name.customer)? {
         return Ok(Reply::Refused(Refusal::TooManyJobs));
     }
     save_new(tables, name, contents, job)?;

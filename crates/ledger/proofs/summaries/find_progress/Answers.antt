@@ -1,7 +1,6 @@
 use Rattle.std.proofs.Common.{◌≡◌, ◌<◌, ◌^◌, sym, ap, ◌∙◌, arith}
 use Rattle.std.specs.Option.{option_map}
 use Rattle.office.specs.Jobs.{picture}
-use Rattle.office.specs.Kept.{told_at}
 use Rattle.pictures.specs.Columns.{picture_cells}
 use Rattle.pictures.specs.Progress.{progress_of}
 use Rattle.pictures.specs.declared.progress.Progress.{Progress}
@@ -10,7 +9,7 @@ use Rattle.tables.specs.Steps.{seen}
 use Rattle.ledger.specs.Standing.{tables_of, picture_of}
 use Rattle.ledger.proofs.Offices.{still, job_is}
 use Rattle.ledger.proofs.ReadBack.{some_is}
-use Rattle.ledger.proofs.lists.find_standing.Goals as goal
+use Rattle.ledger.proofs.summaries.find_progress.Goals as goal
 
 pub returns-in-Some-read_progress-clause-found : goal.returns-in-Some-read_progress-clause-found
 returns-in-Some-read_progress-clause-found g c clean inside office s =
@@ -23,6 +22,5 @@ returns-in-Some-read_progress-clause-found g c clean inside office s =
           let range = (c.commands_keep_jobs.ensures.in_range job kept.job).machine in
           let below : (picture job).works.registers.i < 2 ^ 16 = omega (arith, range.registers.i) in
           let row : c.in-Some.row ≡ progress_row (picture_cells (picture job)) = some_is (sym c.in-Some.is ∙ found.1 ∙ ap (λ o. option_map progress_row (picture_of o)) is) in
-          let read : c.in-Some-read_progress.progress ≡ progress_of (picture job) = some_is (sym c.in-Some-read_progress.is ∙ c.read_progress.ensures.picture (picture job) below row) in
-          c.standing_of.ensures ∙ ap (λ (p : Progress). told_at p.standing p.i) read,
+          some_is (sym c.in-Some-read_progress.is ∙ c.read_progress.ensures.picture (picture job) below row),
     )

@@ -1,0 +1,5 @@
+use Rattle.ledger.proofs.OneOffice.{one_office}
+use Rattle.ledger.proofs.laws.tables_represent_one_office.Goals as goal
+
+pub returns : goal.returns
+returns c = one_office

@@ -1,0 +1,11 @@
+use Rattle.std.proofs.Common.{nat_le, ap, ◌∙◌}
+use Rattle.tables.specs.Steps.{seen}
+use Rattle.ledger.specs.Standing.{tables_of}
+use Rattle.ledger.proofs.Offices.{still}
+use Rattle.ledger.proofs.Replies.{jobs_named}
+use Rattle.ledger.proofs.submissions.has_most_jobs.Goals as goal
+
+pub returns-clause-found : goal.returns-clause-found
+returns-clause-found g c clean inside office s =
+    let found = c.in_ok-count.ensures.found clean inside (tables_of office) s.tables in
+    (still (seen g.S.Store c.args.tables.now) (seen g.S.Store c.count_jobs.new.self) office found.0 s, ap (nat_le 200) (found.1 ∙ jobs_named c.args.customer.now office))

@@ -1,0 +1,25 @@
+use Rattle.std.proofs.Common.{sym, ap, ◌∙◌, arith}
+use Rattle.sqlite.specs.State.{HasCleanDisk}
+use Rattle.office.specs.Kept.{told_at}
+use Rattle.pictures.specs.declared.progress.Progress.{Progress}
+use Rattle.tables.specs.Cells.{JobCells}
+use Rattle.tables.specs.Steps.{seen}
+use Rattle.ledger.proofs.ReadBack.{some_is}
+use Rattle.ledger.proofs.Shown.{summary_is}
+use Rattle.ledger.proofs.summaries.find_summary.Goals as goal
+
+pub returns-clause-found : goal.returns-clause-found
+returns-clause-found g c clean inside office s =
+    let mid = seen g.S.Store c.find_granted.new.tables in
+    let early : HasCleanDisk mid = omega (arith, c.find_progress.ensures.step.survives.clean) in
+    let found = c.in_ok-granted.ensures.found early inside office s in
+    let on = c.in_ok-granted.ensures.step.frame early inside in
+    let rest = c.in_ok-progress.ensures.found clean on.inside office found.0 in (
+      rest.0,
+      λ job is row.
+          let cells = c.row.view_is ∙ row in
+          let held = some_is (sym c.in-Some-Some.is-0 ∙ c.read_truth.ensures.all job.held (ap (λ (r : JobCells). r.held) cells)) in
+          let collected = some_is (sym c.in-Some-Some.is-1 ∙ c.read_truth-2.ensures.all job.collected (ap (λ (r : JobCells). r.collected) cells)) in
+          let progress = rest.1 job is in
+          summary_is _ _ _ _ _ _ job (c.standing_of.ensures ∙ ap (λ (p : Progress). told_at p.standing p.i) progress) held collected (found.1 job is) (ap (λ (p : Progress). p.cards) progress) (ap (λ (p : Progress). p.lines) progress),
+    )

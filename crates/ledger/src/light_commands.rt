@@ -1,0 +1,140 @@
+//! Commands on a job that need no machine.
+
+ghost use Rattle.std.specs.Prelude.{◌≡◌, Bool, Some, None, IfSome};
+ghost use Rattle.office.specs.Jobs.{Job as KnownJob};
+ghost use Rattle.office.specs.Kept.{kept_of, summary_of, job_refusal};
+ghost use Rattle.tables.specs.Steps.{IsStep, IsOpenStep};
+ghost use Rattle.ledger.specs.Light.{command_of};
+ghost use Rattle.ledger.specs.Saving.{job_in, with_flagged};
+ghost use Rattle.ledger.specs.Serving.{with_commanded};
+ghost use Rattle.ledger.specs.Steps.{Saves, Serves, ServesWhere};
+
+use crate::summaries::find_summary;
+use office::{JobCommand, Refusal, Reply, Summary};
+use pictures::truth;
+use sqlite::Alter;
+use tables::{Fault, JobName, OpenTables};
+
+/// A command that needs no more of a job than is shown of it.
+#[derive(Clone, Copy)]
+pub enum LightCommand {
+    Hold,
+    Release,
+    Collect,
+    Standing,
+}
+
+impl LightCommand {
+    /// The command, if it is one of these.
+    pub fn of(command: JobCommand) -> Option<LightCommand>
+        ensures { IfSome result (λ light. command ≡ command_of light) }
+    {
+        match command {
+            JobCommand::Hold => Some(LightCommand::Hold),
+            JobCommand::Release => Some(LightCommand::Release),
+            JobCommand::Collect => Some(LightCommand::Collect),
+            JobCommand::Standing => Some(LightCommand::Standing),
+            JobCommand::Slice { .. } | JobCommand::Start { .. } => None,
+            JobCommand::Cards | JobCommand::Lines => None,
+        }
+    }
+
+    /// The command of `office`.
+    fn command(self) -> JobCommand
+        ensures { result ≡ command_of self }
+    {
+        match self {
+            LightCommand::Hold => JobCommand::Hold,
+            LightCommand::Release => JobCommand::Release,
+            LightCommand::Collect => JobCommand::Collect,
+            LightCommand::Standing => JobCommand::Standing,
+        }
+    }
+}
+
+/// Notes whether a job is held, and whether it was collected.
+fn note_flags<S: Alter>(
+    tables: &mut OpenTables<'_, '_, S>,
+    name: JobName<'_>,
+    held: bool,
+    collected: bool,
+) -> Result<(), Fault>
+    ensures step { IsStep S.Store tables.old tables.new result }
+    ensures saved { (old : KnownJob) → Saves S.Store tables.old tables.new result
+        (λ office. job_in name.entry office ≡ Some old)
+        (with_flagged name.entry held collected old) }
+{
+    tables.set_flags(name, truth(held), truth(collected))
+}
+
+/// Carries out a command that is not refused for a job of which this is shown.
+fn carry_out<S: Alter>(
+    tables: &mut OpenTables<'_, '_, S>,
+    name: JobName<'_>,
+    light: LightCommand,
+    job: &Summary,
+) -> Result<Reply, Fault>
+    ensures step { IsStep S.Store tables.old tables.new result }
+    ensures done { (old : KnownJob) → job.now ≡ summary_of (kept_of old)
+        → job_refusal (command_of light) job.now ≡ None
+        → ServesWhere S.Store tables.old tables.new result
+        (λ office. job_in name.entry office ≡ Some old)
+        (with_commanded name.entry (command_of light)) }
+{
+    match light {
+        LightCommand::Hold => {
+            note_flags(tables, name, true, job.collected)?;
+            Ok(Reply::Held)
+        }
+        LightCommand::Release => {
+            note_flags(tables, name, false, job.collected)?;
+            Ok(Reply::Released)
+        }
+        LightCommand::Collect => {
+            note_flags(tables, name, job.held, true)?;
+            Ok(Reply::Collected {
+                cards: job.cards,
+                lines: job.lines,
+            })
+        }
+        LightCommand::Standing => Ok(Reply::Standing(*job)),
+    }
+}
+
+/// A command on a job of which this is shown.
+fn command_shown<S: Alter>(
+    tables: &mut OpenTables<'_, '_, S>,
+    name: JobName<'_>,
+    light: LightCommand,
+    job: &Summary,
+) -> Result<Reply, Fault>
+    ensures step { IsStep S.Store tables.old tables.new result }
+    ensures done { (old : KnownJob) → job.now ≡ summary_of (kept_of old)
+        → ServesWhere S.Store tables.old tables.new result
+        (λ office. job_in name.entry office ≡ Some old)
+        (with_commanded name.entry (command_of light)) }
+{
+    match light.command().refusal(job) {
+        Some(reason) => Ok(Reply::Refused(reason)),
+        None => carry_out(tables, name, light, job),
+    }
+}
+
+/// A command on the job of this name, which needs no machine.
+pub fn command_lightly<S: Alter>(
+    tables: &mut OpenTables<'_, '_, S>,
+    name: JobName<'_>,
+    light: LightCommand,
+) -> Result<Reply, Fault>
+    ensures step { IsOpenStep S.Store tables.old tables.new result }
+    ensures done { Serves S.Store tables.old tables.new result
+        (with_commanded name.entry (command_of light)) }
+{
+    match tables.find_job(name)? {
+        Some(row) => {
+            let job = find_summary(tables, name, &row)?;
+            command_shown(tables, name, light, &job)
+        }
+        None => Ok(Reply::Refused(Refusal::NoJob)),
+    }
+}

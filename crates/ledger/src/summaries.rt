@@ -1,0 +1,113 @@
+//! What is shown of a job without its machine: its standing, its flags, and how much it was granted
+//! and has made.
+
+ghost use Rattle.std.specs.Prelude.{◌≡◌, ◌-◌, ◌^◌, min};
+ghost use Rattle.office.specs.Jobs.{granted};
+ghost use Rattle.office.specs.Kept.{told_at};
+ghost use Rattle.tables.specs.Steps.{IsOpenStep};
+ghost use Rattle.ledger.specs.Found.{HasProgress, HasStanding, HasGranted, HasSummary};
+ghost use Rattle.ledger.specs.Saving.{job_in};
+ghost use Rattle.ledger.specs.Steps.{FindsIn};
+
+use crate::reading::find_stretches;
+use machine::Standing;
+use office::{JobStanding, Stretch, Summary, commands_keep_jobs};
+use pictures::{Progress, read_progress, read_truth};
+use sqlite::Alter;
+use tables::{Fault, JobName, JobRow, OpenTables};
+
+/// How a machine stands that has come so far.
+fn standing_of(progress: Progress) -> JobStanding
+    ensures { result ≡ told_at progress.standing progress.i }
+{
+    match progress.standing {
+        Standing::Running => JobStanding::Running,
+        Standing::Halted => JobStanding::Halted { next: progress.i },
+        Standing::Checked(check) => JobStanding::Checked {
+            check,
+            at: progress.i,
+        },
+    }
+}
+
+/// How far the machine of the job of this name has come.
+fn find_progress<S: Alter>(
+    tables: &mut OpenTables<'_, '_, S>,
+    name: JobName<'_>,
+) -> Result<Progress, Fault>
+    ensures step { IsOpenStep S.Store tables.old tables.new result }
+    ensures found { FindsIn S.Store tables.old tables.new result
+        (λ office found. HasProgress (job_in name.entry office) found) }
+{
+    // A law, for the proof: it does nothing.
+    commands_keep_jobs();
+    let Some(row) = tables.find_progress(name)? else {
+        return Err(Fault::Store);
+    };
+    match read_progress(&row) {
+        Some(progress) => Ok(progress),
+        None => Err(Fault::Store),
+    }
+}
+
+/// How the machine of the job of this name stands.
+pub fn find_standing<S: Alter>(
+    tables: &mut OpenTables<'_, '_, S>,
+    name: JobName<'_>,
+) -> Result<JobStanding, Fault>
+    ensures step { IsOpenStep S.Store tables.old tables.new result }
+    ensures found { FindsIn S.Store tables.old tables.new result
+        (λ office found. HasStanding (job_in name.entry office) found) }
+{
+    let progress = find_progress(tables, name)?;
+    Ok(standing_of(progress))
+}
+
+/// How much was granted in all, or the greatest number where that is more.
+fn granted_in(stretches: &[Stretch]) -> u32
+    ensures { result ≡ min (granted stretches.now) (2 ^ 32 - 1) }
+{
+    let mut total = 0u32;
+    for stretch in stretches {
+        total = total.saturating_add(stretch.granted);
+    }
+    total
+}
+
+/// How much was granted to the job of this name.
+fn find_granted<S: Alter>(
+    tables: &mut OpenTables<'_, '_, S>,
+    name: JobName<'_>,
+) -> Result<u32, Fault>
+    ensures step { IsOpenStep S.Store tables.old tables.new result }
+    ensures found { FindsIn S.Store tables.old tables.new result
+        (λ office found. HasGranted (job_in name.entry office) found) }
+{
+    let stretches = find_stretches(tables, name)?;
+    Ok(granted_in(&stretches))
+}
+
+/// What is shown of the job of this row.
+pub fn find_summary<S: Alter>(
+    tables: &mut OpenTables<'_, '_, S>,
+    name: JobName<'_>,
+    row: &JobRow,
+) -> Result<Summary, Fault>
+    ensures step { IsOpenStep S.Store tables.old tables.new result }
+    ensures found { FindsIn S.Store tables.old tables.new result
+        (λ office found. HasSummary (job_in name.entry office) row.now found) }
+{
+    let (Some(held), Some(collected)) = (read_truth(row.held), read_truth(row.collected)) else {
+        return Err(Fault::Store);
+    };
+    let granted = find_granted(tables, name)?;
+    let progress = find_progress(tables, name)?;
+    Ok(Summary {
+        standing: standing_of(progress),
+        held,
+        collected,
+        granted,
+        cards: progress.cards,
+        lines: progress.lines,
+    })
+}
