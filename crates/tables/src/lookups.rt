@@ -37,8 +37,7 @@ impl<S: Alter> OpenTables<'_, '_, S> {
         ensures step { IsOpenStep S.Store self.old self.new result }
         ensures found { Finds S.Store self.old self.new result
             (λ t found. found ≡ length (jobs_of customer.now t.jobs)) }
-        ensures failed { FailsOnly S.Store self.old self.new result
-            (λ t. ⊤) }
+        ensures failed { FailsOnly S.Store self.old self.new result (λ t. ⊤) }
     {
         match self.rows(
             "SELECT number FROM jobs WHERE customer = ?1",
@@ -96,8 +95,7 @@ impl<S: Alter> OpenTables<'_, '_, S> {
         ensures step { IsOpenStep S.Store self.old self.new result }
         ensures found { Finds S.Store self.old self.new result
             (λ t found. found.items ≡ of_job name.entry t.cards) }
-        ensures failed { FailsOnly S.Store self.old self.new result
-            (λ t. ⊤) }
+        ensures failed { FailsOnly S.Store self.old self.new result (λ t. ⊤) }
     {
         self.all(
             "SELECT card FROM cards WHERE customer = ?1 AND number = ?2 ORDER BY place",
