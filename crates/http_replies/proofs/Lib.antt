@@ -1,0 +1,4 @@
+pub mod Pieces
+pub mod Plain
+pub mod Statuses
+pub mod Written

@@ -1,0 +1,100 @@
+-- the bodies of replies
+use Rattle.std.specs.Prelude.{ℕ, List, ◌++◌, Bool, if◌then◌else◌, codes, decimal, map}
+use Rattle.std.specs.List.{join_with_byte}
+use Rattle.autocoder.specs.declared.faults.CardFault.{CardFault}
+use Rattle.cards.specs.Files.{punch_file_of}
+use Rattle.cards.specs.Numbers.{card_error_number}
+use Rattle.cards.specs.declared.faults.CardFault as deck
+use Rattle.core_store.specs.declared.registers.Check.{Check}
+use Rattle.core_store.specs.declared.registers.Check.TheVariants as check
+use Rattle.json.specs.Print.{quoted}
+use Rattle.layout.specs.Faults.{fault_number}
+use Rattle.office.specs.Numbers.{refusal_number}
+use Rattle.office.specs.Queued.{QueuedJob}
+use Rattle.office.specs.declared.lists.JobLine.{JobLine}
+use Rattle.office.specs.declared.refusals.Refusal.{Refusal}
+use Rattle.office.specs.declared.refusals.Refusal.TheVariants as refusal
+use Rattle.office.specs.declared.replies.Reply.{Reply}
+use Rattle.office.specs.declared.replies.Reply.TheVariants as reply
+use Rattle.office.specs.declared.standings.JobStanding.{JobStanding}
+use Rattle.office.specs.declared.standings.JobStanding.TheVariants as standing
+use Rattle.office.specs.declared.standings.Summary.{Summary}
+use Rattle.units.specs.Listing.{rendered}
+
+-- the words of a check
+abbrev pub check_words : Check → List ℕ
+check_words check.Address = codes "ADDRESS"
+check_words check.Instruction = codes "INSTRUCTION"
+check_words check.Data = codes "DATA"
+check_words check.Overlap = codes "OVERLAP"
+check_words check.ReaderEmpty = codes "READER EMPTY"
+check_words check.PunchFull = codes "PUNCH FULL"
+check_words check.PrinterFull = codes "PRINTER FULL"
+
+-- how a job stands, in words
+abbrev pub standing_words : JobStanding → List ℕ
+standing_words standing.Running = codes "running"
+standing_words (standing.Halted next) = codes "halted next " ++ decimal next
+standing_words (standing.Checked check at) = codes "check " ++ check_words check ++ codes " at " ++ decimal at
+
+-- a truth value
+abbrev pub truth : Bool → List ℕ
+truth value = if value then codes "true" else codes "false"
+
+-- things with a comma between each two
+abbrev pub listed : List (List ℕ) → List ℕ
+listed = join_with_byte 44
+
+-- a job in the list of a customer's jobs
+abbrev pub job_text : JobLine → List ℕ
+job_text job =
+    codes "{\"collected\":" ++ truth job.collected
+    ++ codes ",\"held\":" ++ truth job.held
+    ++ codes ",\"number\":" ++ decimal job.number
+    ++ codes ",\"standing\":\"" ++ standing_words job.standing ++ codes "\"}"
+
+-- a job in the queue
+abbrev pub queued_text : QueuedJob → List ℕ
+queued_text job = codes "{\"customer\":" ++ quoted job.customer ++ codes ",\"number\":" ++ decimal job.number ++ codes "}"
+
+-- a card's fault
+abbrev pub fault_text : CardFault → List ℕ
+fault_text f = codes "{\"card\":" ++ decimal f.card ++ codes ",\"fault\":" ++ decimal (fault_number f.fault) ++ codes "}"
+
+-- what is told of a job
+abbrev pub summary_body : Summary → List ℕ
+summary_body job =
+    codes "{\"cards\":" ++ decimal job.cards
+    ++ codes ",\"collected\":" ++ truth job.collected
+    ++ codes ",\"granted\":" ++ decimal job.granted
+    ++ codes ",\"held\":" ++ truth job.held
+    ++ codes ",\"lines\":" ++ decimal job.lines
+    ++ codes ",\"reply\":\"standing\",\"standing\":\"" ++ standing_words job.standing ++ codes "\"}"
+
+-- why a command is refused
+abbrev pub refusal_body : Refusal → List ℕ
+refusal_body (refusal.Assembly faults) = codes "{\"faults\":[" ++ listed (map fault_text faults) ++ codes "],\"refusal\":16}"
+refusal_body other = codes "{\"refusal\":" ++ decimal (refusal_number other) ++ codes "}"
+
+-- the body of a reply
+abbrev pub body_of : Reply → List ℕ
+body_of (reply.Taken cards) = codes "{\"cards\":" ++ decimal cards ++ codes ",\"reply\":\"taken\"}"
+body_of (reply.Ran executed standing) =
+    codes "{\"executed\":" ++ decimal executed ++ codes ",\"reply\":\"ran\",\"standing\":\"" ++ standing_words standing ++ codes "\"}"
+body_of reply.Started = codes "{\"reply\":\"started\"}"
+body_of reply.Held = codes "{\"reply\":\"held\"}"
+body_of reply.Released = codes "{\"reply\":\"released\"}"
+body_of (reply.Collected cards lines) =
+    codes "{\"cards\":" ++ decimal cards ++ codes ",\"lines\":" ++ decimal lines ++ codes ",\"reply\":\"collected\"}"
+body_of (reply.Standing job) = summary_body job
+body_of (reply.Cards cards) = punch_file_of cards
+body_of (reply.Lines lines) = rendered lines
+body_of (reply.Jobs jobs) = codes "{\"jobs\":[" ++ listed (map job_text jobs) ++ codes "],\"reply\":\"jobs\"}"
+body_of (reply.Queue jobs) = codes "{\"queue\":[" ++ listed (map queued_text jobs) ++ codes "],\"reply\":\"queue\"}"
+body_of (reply.Refused reason) = refusal_body reason
+
+-- the body that says where a deck's text is at fault
+abbrev pub deck_fault_body : deck.CardFault → List ℕ
+deck_fault_body f =
+    codes "{\"card\":" ++ decimal f.card ++ codes ",\"column\":" ++ decimal f.column
+    ++ codes ",\"deck\":" ++ decimal (card_error_number f.error) ++ codes "}"

@@ -1,0 +1,5 @@
+pub mod Bodies
+pub mod Replies
+pub mod Values
+pub mod Fixed
+pub mod Sending

@@ -1,0 +1,85 @@
+-- replies over HTTP: the head and the body
+use Rattle.std.specs.Prelude.{ℕ, ◌==◌, List, [], ◌++◌, if◌then◌else◌, codes, decimal, length, ⊤}
+use Rattle.cards.specs.declared.faults.CardFault.{CardFault}
+use Rattle.office.specs.declared.refusals.Refusal.{Refusal}
+use Rattle.office.specs.declared.refusals.Refusal.TheVariants as refusal
+use Rattle.office.specs.declared.replies.Reply.{Reply}
+use Rattle.office.specs.declared.replies.Reply.TheVariants as reply
+use Rattle.units.specs.Listing.{IsRising}
+use Rattle.http_replies.specs.Bodies.{body_of, deck_fault_body}
+
+-- the reason phrase of a status
+abbrev pub phrase_of : ℕ → List ℕ
+phrase_of status =
+    if status == 200 then codes "OK" else
+    if status == 400 then codes "Bad Request" else
+    if status == 404 then codes "Not Found" else
+    if status == 405 then codes "Method Not Allowed" else
+    if status == 409 then codes "Conflict" else
+    if status == 411 then codes "Length Required" else
+    if status == 413 then codes "Payload Too Large" else
+    if status == 431 then codes "Request Header Fields Too Large" else
+    if status == 500 then codes "Internal Server Error" else
+    if status == 503 then codes "Service Unavailable" else
+    []
+
+-- the head of an answer with this status and phrase, and with a body of this type and length
+abbrev pub head_bytes : ℕ → List ℕ → List ℕ → ℕ → List ℕ
+head_bytes status phrase content_type length =
+    codes "HTTP/1.1 " ++ decimal status ++ codes " " ++ phrase ++ codes "\r\n"
+    ++ codes "Content-Type: " ++ content_type ++ codes "\r\n"
+    ++ codes "Content-Length: " ++ decimal length ++ codes "\r\n"
+    ++ codes "Connection: close\r\n"
+    ++ codes "\r\n"
+
+-- an answer with this status, and with a body of this type
+abbrev pub answer_bytes : ℕ → List ℕ → List ℕ → List ℕ
+answer_bytes status content_type body =
+    head_bytes status (phrase_of status) content_type (length body) ++ body
+
+-- the status of a refusal
+abbrev pub refusal_status : Refusal → ℕ
+refusal_status refusal.Customer = 400
+refusal_status refusal.Number = 400
+refusal_status refusal.Size = 400
+refusal_status refusal.Deck = 400
+refusal_status refusal.OtherContents = 409
+refusal_status refusal.TooManyJobs = 409
+refusal_status (refusal.Assembly faults) = 400
+refusal_status refusal.NoJob = 404
+refusal_status refusal.Limit = 400
+refusal_status refusal.Held = 409
+refusal_status refusal.NotRunning = 409
+refusal_status refusal.NotAtHalt = 409
+refusal_status refusal.AlreadyHeld = 409
+refusal_status refusal.NotHeld = 409
+refusal_status refusal.Collected = 409
+refusal_status refusal.TooMuch = 409
+
+-- the status of a reply
+abbrev pub status_of : Reply → ℕ
+status_of (reply.Refused reason) = refusal_status reason
+status_of other = 200
+
+-- the type of a reply's body
+abbrev pub content_type_of : Reply → List ℕ
+content_type_of (reply.Cards cards) = codes "text/plain"
+content_type_of (reply.Lines lines) = codes "text/plain"
+content_type_of other = codes "application/json"
+
+-- the bytes of a reply
+abbrev pub reply_bytes : Reply → List ℕ
+reply_bytes r = answer_bytes (status_of r) (content_type_of r) (body_of r)
+
+-- the lines of a reply, where it holds any, are in the order of printing
+abbrev pub HasLinesInOrder : Reply → Type 0
+HasLinesInOrder (reply.Lines lines) = IsRising lines
+HasLinesInOrder other = ⊤
+
+-- the bytes that say where a deck's text is at fault
+abbrev pub deck_fault_bytes : CardFault → List ℕ
+deck_fault_bytes f = answer_bytes 400 (codes "application/json") (deck_fault_body f)
+
+-- the bytes that refuse a request by its status alone
+abbrev pub refused_bytes : ℕ → List ℕ
+refused_bytes status = answer_bytes status (codes "application/json") (codes "{\"status\":" ++ decimal status ++ codes "}")

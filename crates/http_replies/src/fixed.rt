@@ -1,0 +1,137 @@
+//! Answers that are fixed, and take no memory.
+
+ghost use Rattle.std.specs.Prelude.{◌≡◌};
+ghost use Rattle.http_replies.specs.Fixed.{fault_bytes, fault_number, fault_status, refusing_status};
+ghost use Rattle.http_replies.specs.Replies.{refused_bytes};
+
+/// A fault of the bureau's own, by which a request has no other answer.
+#[derive(Clone, Copy, Debug, PartialEq, Eq)]
+pub enum Fault {
+    /// There was no memory for the command; it changed nothing.
+    NoMemory,
+    /// The store failed.
+    Store,
+    /// The command was carried out, and there was no memory for its reply.
+    NoMemoryForReply,
+}
+
+/// The answer of status 400.
+const BAD_REQUEST: &[u8] = b"HTTP/1.1 400 Bad Request\r\n\
+    Content-Type: application/json\r\n\
+    Content-Length: 14\r\n\
+    Connection: close\r\n\
+    \r\n\
+    {\"status\":400}";
+
+/// The answer of status 404.
+const NOT_FOUND: &[u8] = b"HTTP/1.1 404 Not Found\r\n\
+    Content-Type: application/json\r\n\
+    Content-Length: 14\r\n\
+    Connection: close\r\n\
+    \r\n\
+    {\"status\":404}";
+
+/// The answer of status 405.
+const METHOD_NOT_ALLOWED: &[u8] = b"HTTP/1.1 405 Method Not Allowed\r\n\
+    Content-Type: application/json\r\n\
+    Content-Length: 14\r\n\
+    Connection: close\r\n\
+    \r\n\
+    {\"status\":405}";
+
+/// The answer of status 411.
+const LENGTH_REQUIRED: &[u8] = b"HTTP/1.1 411 Length Required\r\n\
+    Content-Type: application/json\r\n\
+    Content-Length: 14\r\n\
+    Connection: close\r\n\
+    \r\n\
+    {\"status\":411}";
+
+/// The answer of status 413.
+const PAYLOAD_TOO_LARGE: &[u8] = b"HTTP/1.1 413 Payload Too Large\r\n\
+    Content-Type: application/json\r\n\
+    Content-Length: 14\r\n\
+    Connection: close\r\n\
+    \r\n\
+    {\"status\":413}";
+
+/// The answer of status 431.
+const TOO_LARGE_FIELDS: &[u8] = b"HTTP/1.1 431 Request Header Fields Too Large\r\n\
+    Content-Type: application/json\r\n\
+    Content-Length: 14\r\n\
+    Connection: close\r\n\
+    \r\n\
+    {\"status\":431}";
+
+/// The answer to a command for which there was no memory.
+const NO_MEMORY: &[u8] = b"HTTP/1.1 503 Service Unavailable\r\n\
+    Content-Type: application/json\r\n\
+    Content-Length: 11\r\n\
+    Connection: close\r\n\
+    \r\n\
+    {\"fault\":1}";
+
+/// The answer where the store failed.
+const STORE: &[u8] = b"HTTP/1.1 503 Service Unavailable\r\n\
+    Content-Type: application/json\r\n\
+    Content-Length: 11\r\n\
+    Connection: close\r\n\
+    \r\n\
+    {\"fault\":2}";
+
+/// The answer where there was no memory for a reply.
+const NO_MEMORY_FOR_REPLY: &[u8] = b"HTTP/1.1 500 Internal Server Error\r\n\
+    Content-Type: application/json\r\n\
+    Content-Length: 11\r\n\
+    Connection: close\r\n\
+    \r\n\
+    {\"fault\":3}";
+
+/// The answer that refuses a request by its status alone: 400, 404, 405, 411, 413 or 431. Any other
+/// status is answered as 400.
+pub fn refused(status: u16) -> &'static [u8]
+    ensures { result.now ≡ refused_bytes (refusing_status status) }
+{
+    match status {
+        404 => NOT_FOUND,
+        405 => METHOD_NOT_ALLOWED,
+        411 => LENGTH_REQUIRED,
+        413 => PAYLOAD_TOO_LARGE,
+        431 => TOO_LARGE_FIELDS,
+        _ => BAD_REQUEST,
+    }
+}
+
+impl Fault {
+    /// The number by which the fault is told.
+    pub fn number(self) -> u8
+        ensures { result ≡ fault_number self }
+    {
+        match self {
+            Fault::NoMemory => 1,
+            Fault::Store => 2,
+            Fault::NoMemoryForReply => 3,
+        }
+    }
+
+    /// The status of its answer.
+    pub fn status(self) -> u16
+        ensures { result ≡ fault_status self }
+    {
+        match self {
+            Fault::NoMemory | Fault::Store => 503,
+            Fault::NoMemoryForReply => 500,
+        }
+    }
+
+    /// Its answer.
+    pub fn answer(self) -> &'static [u8]
+        ensures { result.now ≡ fault_bytes self }
+    {
+        match self {
+            Fault::NoMemory => NO_MEMORY,
+            Fault::Store => STORE,
+            Fault::NoMemoryForReply => NO_MEMORY_FOR_REPLY,
+        }
+    }
+}

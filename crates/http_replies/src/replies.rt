@@ -1,0 +1,72 @@
+//! The bytes of each reply.
+
+ghost use Rattle.std.specs.Prelude.{◌≡◌, IfOk};
+ghost use Rattle.http_replies.specs.Replies.{HasLinesInOrder, content_type_of, deck_fault_bytes, refusal_status, reply_bytes, status_of};
+
+use crate::answers::answer;
+use crate::bodies::{body_of, deck_fault_body};
+use cards::CardFault;
+use office::{Refusal, Reply};
+use std::alloc::{AllocError, Global};
+
+/// The status of a refusal.
+fn refusal_status(reason: &Refusal) -> u16
+    ensures { result ≡ refusal_status reason.now }
+{
+    match reason {
+        Refusal::Customer
+        | Refusal::Number
+        | Refusal::Size
+        | Refusal::Deck
+        | Refusal::Assembly(_)
+        | Refusal::Limit => 400,
+        Refusal::NoJob => 404,
+        Refusal::OtherContents
+        | Refusal::TooManyJobs
+        | Refusal::Held
+        | Refusal::NotRunning
+        | Refusal::NotAtHalt
+        | Refusal::AlreadyHeld
+        | Refusal::NotHeld
+        | Refusal::Collected
+        | Refusal::TooMuch => 409,
+    }
+}
+
+/// The status of a reply.
+pub fn status_of(reply: &Reply) -> u16
+    ensures { result ≡ status_of reply.now }
+{
+    match reply {
+        Reply::Refused(reason) => refusal_status(reason),
+        _ => 200,
+    }
+}
+
+/// The type of a reply's body.
+fn content_type_of(reply: &Reply) -> &'static str
+    ensures { result.now ≡ content_type_of reply.now }
+{
+    match reply {
+        Reply::Cards(_) | Reply::Lines(_) => "text/plain",
+        _ => "application/json",
+    }
+}
+
+/// The bytes of a reply, head and body. Its lines, where it holds any, are to be in the order of
+/// printing, as those of a job are.
+pub fn reply_to(alloc: Global, reply: &Reply) -> Result<Vec<u8>, AllocError>
+    ensures { HasLinesInOrder reply.now
+        → IfOk result (λ bytes. bytes.items ≡ reply_bytes reply.now) }
+{
+    let body = body_of(alloc, reply)?;
+    answer(alloc, status_of(reply), content_type_of(reply), &body)
+}
+
+/// The bytes that say where a deck's text is at fault.
+pub fn deck_fault(alloc: Global, fault: CardFault) -> Result<Vec<u8>, AllocError>
+    ensures { IfOk result (λ bytes. bytes.items ≡ deck_fault_bytes fault) }
+{
+    let body = deck_fault_body(alloc, fault)?;
+    answer(alloc, 400, "application/json", &body)
+}

@@ -1,0 +1,22 @@
+//! Tests of the counter over HTTP: heads and what they come to, replies word for word, and writers
+//! that take no more.
+#![tactic(auto)]
+
+#[cfg(test)]
+mod answers;
+#[cfg(test)]
+mod devices;
+#[cfg(test)]
+mod heads;
+#[cfg(test)]
+mod lists;
+#[cfg(test)]
+mod refusals;
+#[cfg(test)]
+mod replies;
+#[cfg(test)]
+mod sending;
+#[cfg(test)]
+mod sizes;
+#[cfg(test)]
+mod verdicts;

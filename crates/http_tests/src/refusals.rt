@@ -1,0 +1,143 @@
+//! Refusals, faults of decks, and answers that are fixed.
+
+use crate::answers::{answer_of, is_answered};
+use autocoder::CardFault;
+use cards::read_text;
+use http_replies::{Fault, deck_fault, refused};
+use layout::SourceFault;
+use office::{Refusal, Reply, SourceFaults};
+use statements::StatementFault;
+use std::alloc::Global;
+use std::test::Fail;
+
+#[test]
+fn refusals_have_their_numbers(rt: HostRuntime) -> Result<(), Fail> {
+    for (reason, status, number) in [
+        (Refusal::Customer, "400 Bad Request", 10),
+        (Refusal::Number, "400 Bad Request", 11),
+        (Refusal::Size, "400 Bad Request", 12),
+        (Refusal::Deck, "400 Bad Request", 13),
+        (Refusal::OtherContents, "409 Conflict", 14),
+        (Refusal::TooManyJobs, "409 Conflict", 15),
+        (Refusal::NoJob, "404 Not Found", 20),
+        (Refusal::Limit, "400 Bad Request", 21),
+        (Refusal::Held, "409 Conflict", 22),
+        (Refusal::NotRunning, "409 Conflict", 23),
+        (Refusal::NotAtHalt, "409 Conflict", 24),
+        (Refusal::AlreadyHeld, "409 Conflict", 25),
+        (Refusal::NotHeld, "409 Conflict", 26),
+        (Refusal::Collected, "409 Conflict", 27),
+        (Refusal::TooMuch, "409 Conflict", 28),
+    ] {
+        let body = format!(in rt.alloc(); "{{\"refusal\":{number}}}")?;
+        let line = format!(in rt.alloc(); "{status}|application/json|14|{body}")?;
+        let reply = Reply::Refused(reason);
+        assert!(rt; is_answered(rt.alloc(), &reply, line.as_str())?, "{line}");
+    }
+    Ok(())
+}
+
+/// The refusal of a source with the first so many of three faults.
+fn faulty(alloc: Global, count: usize) -> Result<Reply, Fail> {
+    let mut faults = Vec::new(alloc);
+    for (card, fault) in [
+        (1, SourceFault::Statement(StatementFault::UnknownOperation)),
+        (3, SourceFault::UnknownName),
+        (2000, SourceFault::NoEnd),
+    ] {
+        if faults.len() < count {
+            faults.push(CardFault { card, fault })?;
+        }
+    }
+    Ok(Reply::Refused(Refusal::Assembly(SourceFaults(faults))))
+}
+
+#[test]
+fn faults_of_a_source_are_listed(rt: HostRuntime) -> Result<(), Fail> {
+    for (count, line) in [
+        (
+            1,
+            "400 Bad Request|application/json|47|\
+             {\"faults\":[{\"card\":1,\"fault\":41}],\"refusal\":16}",
+        ),
+        (
+            3,
+            "400 Bad Request|application/json|94|{\"faults\":[{\"card\":1,\"fault\":41},\
+             {\"card\":3,\"fault\":45},{\"card\":2000,\"fault\":49}],\"refusal\":16}",
+        ),
+    ] {
+        assert!(rt;
+            is_answered(rt.alloc(), &faulty(rt.alloc(), count)?, line)?,
+            "{line}"
+        );
+    }
+    Ok(())
+}
+
+/// The answer to a deck's text that is at fault.
+fn answer_to(alloc: Global, text: &[u8]) -> Result<Vec<u8>, Fail> {
+    let fault = read_text(alloc, text).err().ok_or("a fault")?;
+    Ok(deck_fault(alloc, fault)?)
+}
+
+#[test]
+fn faults_of_a_deck_have_their_place(rt: HostRuntime) -> Result<(), Fail> {
+    let alloc = rt.alloc();
+    let short = format!(in alloc; "{:80}\n{:80}\n{:79}\n", "A", "B", "C")?;
+    let wanted = "400 Bad Request|application/json|32|{\"card\":3,\"column\":80,\"deck\":30}";
+    let answer = answer_to(alloc, short.as_str().as_bytes())?;
+    assert!(rt; answer.as_slice() == answer_of(alloc, wanted)?.as_str().as_bytes());
+    let wanted = "400 Bad Request|application/json|31|{\"card\":1,\"column\":1,\"deck\":31}";
+    assert!(rt;
+        answer_to(alloc, b"a")?.as_slice() == answer_of(alloc, wanted)?.as_str().as_bytes()
+    );
+    Ok(())
+}
+
+#[test]
+fn requests_are_refused_by_their_status(rt: HostRuntime) -> Result<(), Fail> {
+    for (status, phrase) in [
+        (400, "Bad Request"),
+        (404, "Not Found"),
+        (405, "Method Not Allowed"),
+        (411, "Length Required"),
+        (413, "Payload Too Large"),
+        (431, "Request Header Fields Too Large"),
+    ] {
+        let body = format!(in rt.alloc(); "{{\"status\":{status}}}")?;
+        let line = format!(in rt.alloc(); "{status} {phrase}|application/json|14|{body}")?;
+        let wanted = answer_of(rt.alloc(), line.as_str())?;
+        assert!(rt; refused(status) == wanted.as_str().as_bytes(), "{line}");
+    }
+    assert!(rt; refused(200) == refused(400));
+    Ok(())
+}
+
+#[test]
+fn faults_of_the_bureau_are_told(rt: HostRuntime) -> Result<(), Fail> {
+    for (fault, status, number, line) in [
+        (
+            Fault::NoMemory,
+            503,
+            1,
+            "503 Service Unavailable|application/json|11|{\"fault\":1}",
+        ),
+        (
+            Fault::Store,
+            503,
+            2,
+            "503 Service Unavailable|application/json|11|{\"fault\":2}",
+        ),
+        (
+            Fault::NoMemoryForReply,
+            500,
+            3,
+            "500 Internal Server Error|application/json|11|{\"fault\":3}",
+        ),
+    ] {
+        let wanted = answer_of(rt.alloc(), line)?;
+        assert!(rt; fault.answer() == wanted.as_str().as_bytes(), "{line}");
+        assert_eq!(rt; (fault.status(), fault.number()), (status, number));
+    }
+    Ok(())
+}

@@ -1,0 +1,147 @@
+//! Replies that hold no list.
+
+use crate::answers::is_answered;
+use core_store::Check;
+use http_replies::reply_to;
+use office::{JobStanding, Refusal, Reply, Summary};
+use std::test::Fail;
+
+/// A job that has printed two lines and goes on.
+fn two_lines() -> Summary {
+    Summary {
+        standing: JobStanding::Running,
+        held: false,
+        collected: false,
+        granted: 34,
+        cards: 0,
+        lines: 2,
+    }
+}
+
+/// A job with every field another.
+fn three_cards() -> Summary {
+    Summary {
+        standing: JobStanding::Halted { next: 345 },
+        held: true,
+        collected: true,
+        granted: 1_000_000_000,
+        cards: 10_000,
+        lines: 20_000,
+    }
+}
+
+/// A checked machine.
+fn checked(check: Check) -> Reply {
+    Reply::Ran {
+        executed: 7,
+        standing: JobStanding::Checked { check, at: 351 },
+    }
+}
+
+#[test]
+fn replies_have_their_words(rt: HostRuntime) -> Result<(), Fail> {
+    for (reply, line) in [
+        (
+            Reply::Taken { cards: 6 },
+            "200 OK|application/json|27|{\"cards\":6,\"reply\":\"taken\"}",
+        ),
+        (
+            Reply::Ran {
+                executed: 34,
+                standing: JobStanding::Running,
+            },
+            "200 OK|application/json|50|\
+             {\"executed\":34,\"reply\":\"ran\",\"standing\":\"running\"}",
+        ),
+        (
+            Reply::Started,
+            "200 OK|application/json|19|{\"reply\":\"started\"}",
+        ),
+        (
+            Reply::Held,
+            "200 OK|application/json|16|{\"reply\":\"held\"}",
+        ),
+        (
+            Reply::Released,
+            "200 OK|application/json|20|{\"reply\":\"released\"}",
+        ),
+        (
+            Reply::Collected { cards: 0, lines: 2 },
+            "200 OK|application/json|41|{\"cards\":0,\"lines\":2,\"reply\":\"collected\"}",
+        ),
+        (
+            Reply::Standing(two_lines()),
+            "200 OK|application/json|105|{\"cards\":0,\"collected\":false,\"granted\":34,\
+             \"held\":false,\"lines\":2,\"reply\":\"standing\",\"standing\":\"running\"}",
+        ),
+        (
+            Reply::Standing(three_cards()),
+            "200 OK|application/json|127|{\"cards\":10000,\"collected\":true,\
+             \"granted\":1000000000,\"held\":true,\"lines\":20000,\"reply\":\"standing\",\
+             \"standing\":\"halted next 345\"}",
+        ),
+    ] {
+        assert!(rt; is_answered(rt.alloc(), &reply, line)?, "{line}");
+    }
+    Ok(())
+}
+
+#[test]
+fn standings_have_their_words(rt: HostRuntime) -> Result<(), Fail> {
+    for (reply, words) in [
+        (
+            Reply::Ran {
+                executed: 7,
+                standing: JobStanding::Halted { next: 15999 },
+            },
+            "59|{\"executed\":7,\"reply\":\"ran\",\"standing\":\"halted next 15999\"}",
+        ),
+        (
+            checked(Check::Address),
+            "62|{\"executed\":7,\"reply\":\"ran\",\"standing\":\"check ADDRESS at 351\"}",
+        ),
+        (
+            checked(Check::Instruction),
+            "66|{\"executed\":7,\"reply\":\"ran\",\"standing\":\"check INSTRUCTION at 351\"}",
+        ),
+        (
+            checked(Check::Data),
+            "59|{\"executed\":7,\"reply\":\"ran\",\"standing\":\"check DATA at 351\"}",
+        ),
+        (
+            checked(Check::Overlap),
+            "62|{\"executed\":7,\"reply\":\"ran\",\"standing\":\"check OVERLAP at 351\"}",
+        ),
+        (
+            checked(Check::ReaderEmpty),
+            "67|{\"executed\":7,\"reply\":\"ran\",\"standing\":\"check READER EMPTY at 351\"}",
+        ),
+        (
+            checked(Check::PunchFull),
+            "65|{\"executed\":7,\"reply\":\"ran\",\"standing\":\"check PUNCH FULL at 351\"}",
+        ),
+        (
+            checked(Check::PrinterFull),
+            "67|{\"executed\":7,\"reply\":\"ran\",\"standing\":\"check PRINTER FULL at 351\"}",
+        ),
+    ] {
+        let line = format!(in rt.alloc(); "200 OK|application/json|{words}")?;
+        assert!(rt; is_answered(rt.alloc(), &reply, line.as_str())?, "{line}");
+    }
+    Ok(())
+}
+
+/// The whole answer where there is no job of a name.
+const NO_JOB: &[u8] = b"HTTP/1.1 404 Not Found\r\n\
+    Content-Type: application/json\r\n\
+    Content-Length: 14\r\n\
+    Connection: close\r\n\
+    \r\n\
+    {\"refusal\":20}";
+
+#[test]
+fn no_job_is_not_found(rt: HostRuntime) -> Result<(), Fail> {
+    let bytes = reply_to(rt.alloc(), &Reply::Refused(Refusal::NoJob))?;
+    assert!(rt; bytes.as_slice() == NO_JOB);
+    Ok(())
+}
