@@ -109,6 +109,13 @@ let_through c k reply told not = go (job_refusal c (summary_of k)) told
     go (Some why) is = absurd (not why is)
     go None is = refl
 
+pub no_job : (new : State) (customer : List ℕ) (number : ℕ) (c : JobCommand) (office : Office) → job_of customer number office ≡ None → StandsIn new office
+    → Served new (λ all. commanded customer number c all (job_of customer number all)) office (Refused refusal.NoJob)
+no_job new customer number c office none s = record {
+  reply_is = ap (λ (o : Option Job). (commanded customer number c office o).1) (sym none);
+  stands = subst (λ (o : Option Job). StandsIn new (commanded customer number c office o).0) (sym none) s;
+}
+
 pub command_refused : (new : State) (customer : List ℕ) (number : ℕ) (c : JobCommand) (reason : Refusal) (office : Office) (old : Job) → job_of customer number office ≡ Some old → Refused reason ≡ (take_kept c (kept_of old)).1 → StandsIn new office
     → Served new (λ all. commanded customer number c all (job_of customer number all)) office (Refused reason)
 command_refused new customer number c reason office old is told s =
