@@ -20,6 +20,11 @@ pub if_ok_then : {X E : Type 0} (P Q : X → Type 0) (r : Result X E) → ((x : 
 if_ok_then P Q (Ok x) f h = f x h
 if_ok_then P Q (Err e) f h = tt
 
+-- what holds for each office, where there is no fault
+pub if_ok_each : {X E A : Type 0} (P : A → Type 0) (Q : A → X → Type 0) (r : Result X E) → ((a : A) → P a → IfOk r (Q a)) → IfOk r (λ x. (a : A) → P a → Q a x)
+if_ok_each P Q (Ok x) h = h
+if_ok_each P Q (Err e) h = tt
+
 -- the entry of a job that is found
 pub entry_found : (customer : List ℕ) (number : ℕ) (office : Office) (job : Job) → job_of customer number office ≡ Some job → (e : Entry) × (entry_of customer number office ≡ Some e) × (e.job ≡ job)
 entry_found customer number office job h = go (entry_of customer number office) refl

@@ -1,7 +1,6 @@
 -- The tables represent one office at most.
-use Rattle.std.proofs.Common.{◌≡◌, ◌+◌, ℕ, pos, List, [], ◌∷◌, map, Bool, true, false, Option, Some, refl, sym, ap, subst, ◌∙◌, arith}
+use Rattle.std.proofs.Common.{◌≡◌, ◌+◌, ℕ, List, [], ◌∷◌, map, Bool, true, false, Some, refl, sym, ap, ◌∙◌, arith}
 use Rattle.std.specs.List.{AllByRecursion}
-use Rattle.cards.specs.declared.decks.Card.{Card}
 use Rattle.cards.specs.Decks.{deck_bytes}
 use Rattle.core_store.specs.Storage.{positions_of}
 use Rattle.core_store.specs.declared.sizes.Size.{Size}
@@ -10,18 +9,15 @@ use Rattle.office.specs.Jobs.{HasSwitches}
 use Rattle.office.specs.Office.{Entry, Office, job_of}
 use Rattle.office.specs.declared.commands.Kind.{Kind}
 use Rattle.office.specs.declared.commands.Kind.TheVariants.{Object, Autocoder}
-use Rattle.office.specs.declared.stretches.Stretch.{Stretch}
 use Rattle.pictures.proofs.Bytes.{same_deck}
 use Rattle.pictures.proofs.Rows.{same_things}
 use Rattle.pictures.specs.Columns.{truth}
 use Rattle.sqlite.specs.Effect.{Database}
-use Rattle.sqlite.specs.Order.{Row}
-use Rattle.sqlite.specs.declared.types.Value.TheVariants.{Int, Text, Blob}
 use Rattle.tables.specs.Tables.{job_row, placed}
 use Rattle.tables.specs.Tables as tables
 use Rattle.tables.specs.declared.rows.StretchRow.{StretchRow}
 use Rattle.ledger.specs.Listed.{IsIts}
-use Rattle.ledger.specs.Standing.{named, job_cells, kind_number, stretch_row, stretches_of, CanBeKept, Rows}
+use Rattle.ledger.specs.Standing.{named, kind_number, stretch_row, stretches_of, CanBeKept, Rows}
 use Rattle.ledger.proofs.Listing.{all_its}
 use Rattle.ledger.proofs.ReadBack.{stretches_told}
 

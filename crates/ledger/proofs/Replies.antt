@@ -1,6 +1,5 @@
 -- Replies and the offices that they leave.
-use Rattle.std.proofs.Common.{◌≡◌, ℕ, suc, ◌*◌, ◌/◌, ◌<◌, ◌≤◌, nat_le, List, [], ◌∷◌, map, length, length-append, All, Option, Some, None, Result, Ok, Err, Bool, true, false, bytes_eq, refl, sym, ap, subst, ◌∙◌, arith}
-use Rattle.std.proofs.lemmas.Bool.{le-leb, leb-true}
+use Rattle.std.proofs.Common.{◌≡◌, ℕ, suc, ◌*◌, ◌/◌, ◌<◌, List, [], ◌∷◌, map, length, length-append, All, Option, Some, None, Result, Ok, Err, Bool, true, false, bytes_eq, refl, sym, ap, subst, ◌∙◌, arith}
 use Rattle.std.proofs.lemmas.List.Elements.{All-head, All-tail}
 use Rattle.cards.specs.declared.decks.Card.{Card}
 use Rattle.cards.specs.Decks.{deck_bytes, IsCard, IsDeck}
@@ -108,6 +107,13 @@ let_through c k reply told not = go (job_refusal c (summary_of k)) told
     go : (o : Option Refusal) → reply ≡ (taken_unless c k o).1 → o ≡ None
     go (Some why) is = absurd (not why is)
     go None is = refl
+
+pub no_job : (new : State) (customer : List ℕ) (number : ℕ) (c : JobCommand) (office : Office) → job_of customer number office ≡ None → StandsIn new office
+    → Served new (λ all. commanded customer number c all (job_of customer number all)) office (Refused refusal.NoJob)
+no_job new customer number c office none s = record {
+  reply_is = ap (λ (o : Option Job). (commanded customer number c office o).1) (sym none);
+  stands = subst (λ (o : Option Job). StandsIn new (commanded customer number c office o).0) (sym none) s;
+}
 
 pub command_refused : (new : State) (customer : List ℕ) (number : ℕ) (c : JobCommand) (reason : Refusal) (office : Office) (old : Job) → job_of customer number office ≡ Some old → Refused reason ≡ (take_kept c (kept_of old)).1 → StandsIn new office
     → Served new (λ all. commanded customer number c all (job_of customer number all)) office (Refused reason)

@@ -1,15 +1,14 @@
 -- What is shown of a job, and commands that need no more.
-use Rattle.std.proofs.Common.{◌≡◌, ◌≤◌, ◌-◌, ◌^◌, ℕ, min, String, Bool, true, false, length, Option, None, Some, refl, sym, ap, ◌∙◌, arith}
+use Rattle.std.proofs.Common.{◌≡◌, ◌≤◌, ◌-◌, ◌^◌, ℕ, min, Bool, Option, None, Some, refl, ap, arith}
 use Rattle.office.specs.Jobs.{Job, granted, picture, IsJob}
-use Rattle.office.specs.Kept.{Kept, kept_of, told, told_at, summary_of, job_refusal, answered, attempts_unless, attempted_on, taken_unless, take_kept, limit_of}
+use Rattle.office.specs.Kept.{Kept, kept_of, told, summary_of, job_refusal, answered, attempts_unless, attempted_on, taken_unless, take_kept}
 use Rattle.office.specs.Limits.{most_granted}
-use Rattle.office.specs.Office.{Office, job_of, attempted_of}
+use Rattle.office.specs.Office.{attempted_of}
 use Rattle.office.specs.declared.commands.JobCommand.{JobCommand}
 use Rattle.office.specs.declared.refusals.Refusal.{Refusal}
 use Rattle.office.specs.declared.standings.JobStanding.{JobStanding}
 use Rattle.office.specs.declared.standings.Summary.{Summary}
 use Rattle.pictures.specs.Progress.{progress_of}
-use Rattle.pictures.specs.declared.progress.Progress.{Progress}
 use Rattle.ledger.specs.Light.{command_of}
 use Rattle.ledger.specs.Saving.{flagged_job}
 use Rattle.ledger.specs.declared.light_commands.LightCommand.{LightCommand}

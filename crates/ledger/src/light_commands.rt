@@ -1,17 +1,17 @@
 //! Commands on a job that need no machine.
 
-ghost use Rattle.std.specs.Prelude.{◌≡◌, Bool, Some, None, IfSome};
+ghost use Rattle.std.specs.Prelude.{◌≡◌, Some, None, IfSome};
 ghost use Rattle.office.specs.Jobs.{Job as KnownJob};
 ghost use Rattle.office.specs.Kept.{kept_of, summary_of, job_refusal};
 ghost use Rattle.tables.specs.Steps.{IsStep, IsOpenStep};
 ghost use Rattle.ledger.specs.Light.{command_of};
-ghost use Rattle.ledger.specs.Saving.{job_in, with_flagged};
+ghost use Rattle.ledger.specs.Saving.{job_in};
 ghost use Rattle.ledger.specs.Serving.{with_commanded};
-ghost use Rattle.ledger.specs.Steps.{Saves, Serves, ServesWhere};
+ghost use Rattle.ledger.specs.Steps.{Serves, ServesWhere};
 
+use crate::saving::note_flags;
 use crate::summaries::find_summary;
 use office::{JobCommand, Refusal, Reply, Summary};
-use pictures::truth;
 use sqlite::Alter;
 use tables::{Fault, JobName, OpenTables};
 
@@ -50,21 +50,6 @@ impl LightCommand {
             LightCommand::Standing => JobCommand::Standing,
         }
     }
-}
-
-/// Notes whether a job is held, and whether it was collected.
-fn note_flags<S: Alter>(
-    tables: &mut OpenTables<'_, '_, S>,
-    name: JobName<'_>,
-    held: bool,
-    collected: bool,
-) -> Result<(), Fault>
-    ensures step { IsStep S.Store tables.old tables.new result }
-    ensures saved { (old : KnownJob) → Saves S.Store tables.old tables.new result
-        (λ office. job_in name.entry office ≡ Some old)
-        (with_flagged name.entry held collected old) }
-{
-    tables.set_flags(name, truth(held), truth(collected))
 }
 
 /// Carries out a command that is not refused for a job of which this is shown.

@@ -1,6 +1,6 @@
 //! What the tables are told of a job.
 
-ghost use Rattle.std.specs.Prelude.{◌≡◌, ◌≤◌, ℕ, Bool, All, take, length, IfOk, OnOk};
+ghost use Rattle.std.specs.Prelude.{◌≡◌, ◌≤◌, ℕ, Bool, Some, All, take, length, IfOk, OnOk};
 ghost use Rattle.cards.specs.Decks.{IsCard, IsDeck};
 ghost use Rattle.machine.specs.Ranges.{IsInRange};
 ghost use Rattle.machine.specs.Run.{lines_of};
@@ -10,7 +10,7 @@ ghost use Rattle.units.specs.declared.switches.Switches.{Switches};
 ghost use Rattle.pictures.specs.Columns.{HoldsCharacters, IsLine};
 ghost use Rattle.tables.specs.Named.{HasNoJob, HasNoPicture, HasPicture};
 ghost use Rattle.tables.specs.Steps.{Changes, IsStep};
-ghost use Rattle.ledger.specs.Saving.{HasFirstCards, with_all_cards, HasFirstLines, with_all_lines, HasFirst, with_made, HasFewerGranted, HasOneLess, with_all_stretches, with_machine, with_progress, with_start, HasNotStarted, new_cells, with_handed, HadMade, IsAfter, with_after, IsFlagged, with_flagged, IsFreeName, IsTakenAs, with_new};
+ghost use Rattle.ledger.specs.Saving.{job_in, HasFirstCards, with_all_cards, HasFirstLines, with_all_lines, HasFirst, with_made, HasFewerGranted, HasOneLess, with_all_stretches, with_machine, with_progress, with_start, HasNotStarted, new_cells, with_handed, HadMade, IsAfter, with_after, IsFlagged, with_flagged, IsFreeName, IsTakenAs, with_new};
 ghost use Rattle.ledger.specs.declared.saving.TheConstants.{MOST_MADE};
 ghost use Rattle.ledger.specs.Standing.{kind_number};
 ghost use Rattle.ledger.specs.Steps.{Saves};
@@ -227,6 +227,21 @@ fn save_start<S: Alter, C: Core>(
     insert_last_stretch(tables, name, started.stretches)
 }
 
+/// Notes whether a job is held, and whether it was collected.
+pub fn note_flags<S: Alter>(
+    tables: &mut OpenTables<'_, '_, S>,
+    name: JobName<'_>,
+    held: bool,
+    collected: bool,
+) -> Result<(), Fault>
+    ensures step { IsStep S.Store tables.old tables.new result }
+    ensures saved { (old : KnownJob) → Saves S.Store tables.old tables.new result
+        (λ office. job_in name.entry office ≡ Some old)
+        (with_flagged name.entry held collected old) }
+{
+    tables.set_flags(name, truth(held), truth(collected))
+}
+
 /// Notes a job's flags.
 fn save_flags<S: Alter, C: Core>(
     tables: &mut OpenTables<'_, '_, S>,
@@ -240,7 +255,7 @@ fn save_flags<S: Alter, C: Core>(
         (with_flagged name.entry held collected old) }
 {
     let flagged = job.parts();
-    tables.set_flags(name, truth(flagged.held), truth(flagged.collected))
+    note_flags(tables, name, flagged.held, flagged.collected)
 }
 
 /// Notes what a command that was let through made of a job, which had made so much before.

@@ -1,6 +1,5 @@
-use Rattle.std.proofs.Common.{◌≡◌, ◌≤◌, ◌-◌, ◌^◌, min, ap, ◌∙◌, arith}
+use Rattle.std.proofs.Common.{◌-◌, ◌^◌, min, ap, ◌∙◌}
 use Rattle.office.specs.Jobs.{granted}
-use Rattle.office.specs.Limits.{most_granted}
 use Rattle.ledger.proofs.Offices.{job_is}
 use Rattle.ledger.proofs.Shown.{granted_fits}
 use Rattle.ledger.proofs.summaries.find_granted.Goals as goal

@@ -2,8 +2,6 @@ use Rattle.std.proofs.Common.{◌≡◌, ◌<◌, ◌^◌, sym, ap, ◌∙◌, a
 use Rattle.std.specs.Option.{option_map}
 use Rattle.office.specs.Jobs.{picture}
 use Rattle.pictures.specs.Columns.{picture_cells}
-use Rattle.pictures.specs.Progress.{progress_of}
-use Rattle.pictures.specs.declared.progress.Progress.{Progress}
 use Rattle.tables.specs.Listed.{progress_row}
 use Rattle.tables.specs.Steps.{seen}
 use Rattle.ledger.specs.Standing.{tables_of, picture_of}

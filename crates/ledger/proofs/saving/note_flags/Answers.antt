@@ -4,7 +4,7 @@ use Rattle.ledger.specs.Standing.{tables_of}
 use Rattle.ledger.proofs.Flagged.{flags_saved}
 use Rattle.ledger.proofs.Offices.{job_is}
 use Rattle.ledger.proofs.Shown.{flagged_is}
-use Rattle.ledger.proofs.light_commands.note_flags.Goals as goal
+use Rattle.ledger.proofs.saving.note_flags.Goals as goal
 
 pub returns-clause-saved : goal.returns-clause-saved
 returns-clause-saved g c old clean inside =
