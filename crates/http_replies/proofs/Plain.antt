@@ -1,6 +1,10 @@
 -- Texts of which JSON escapes no byte.
-use Rattle.std.proofs.Common.{◌≡◌, ◌∙◌, ℕ, zero, suc, ◌<◌, ◌/◌, ◌%◌, ◌==◌, List, [], ◌∷◌, ◌++◌, Bool, true, false, cond, codes, decimal, refl, ap, arith}
+use Rattle.std.proofs.Common.{◌≡◌, ◌∙◌, ℕ, zero, suc, ◌<◌, ◌/◌, ◌%◌, ◌==◌, List, [], ◌∷◌, ◌++◌, Bool, true, false, cond, codes, decimal, refl, ap, arith, sym, subst, append_assoc, true≢false, inl, inr, ◌||◌, ◌&&◌, ◌⊎◌, length}
 use Rattle.std.specs.Str.{bytes_eq}
+use Rattle.std.specs.List.{list_all, list_any}
+use Rattle.std.proofs.lemmas.Bool.{eqb-true}
+use Rattle.office.specs.Names.{is_customer, is_letter_or_digit, is_name_length}
+use Rattle.office.specs.Queued.{QueuedJob}
 use Rattle.std.specs.Fmt.{digits, digits_onto, digit_glyph}
 use Rattle.std.proofs.lemmas.Grind.{flat_map-append}
 use Rattle.std.proofs.lemmas.Slice.Eq.{bytes_eq-Decides}
@@ -10,7 +14,7 @@ use Rattle.core_store.specs.declared.registers.Check.{Check}
 use Rattle.core_store.specs.declared.registers.Check.TheVariants as check
 use Rattle.office.specs.declared.standings.JobStanding.{JobStanding}
 use Rattle.office.specs.declared.standings.JobStanding.TheVariants as standing
-use Rattle.http_replies.specs.Bodies.{check_words, standing_words}
+use Rattle.http_replies.specs.Bodies.{check_words, queued_text, standing_words}
 
 abbrev pub IsPlain : List ℕ → Type 0
 IsPlain text = escape text ≡ text
@@ -75,3 +79,47 @@ standing_plain (standing.Checked kind at) =
     joined_plain _ (decimal at)
     (joined_plain _ (codes " at ") (joined_plain (codes "check ") (check_words kind) checked_plain (check_plain kind)) at_plain)
     (decimal_plain at)
+
+-- ---- a customer's name
+
+either_of : (b r : Bool) → (b || r) ≡ true → (b ≡ true) ⊎ (r ≡ true)
+either_of true r h = inl refl
+either_of false r h = inr h
+
+both_of : (b r : Bool) → (b && r) ≡ true → (b ≡ true) × (r ≡ true)
+both_of true r h = (refl, h)
+both_of false r h = absurd (true≢false (sym h))
+
+abbrev plain_alone : ℕ → Bool
+plain_alone c = bytes_eq (escape_byte c) (c ∷ [])
+
+here_or_later : (c x : ℕ) (rest : Bool) → plain_alone c ≡ true → (rest ≡ true → escape_byte x ≡ x ∷ [])
+    → ((c == x) ≡ true) ⊎ (rest ≡ true) → escape_byte x ≡ x ∷ []
+here_or_later c x rest plain later (inl here) = subst (λ (y : ℕ). escape_byte y ≡ y ∷ []) (eqb-true c x here) ((bytes_eq-Decides _ _).0 plain)
+here_or_later c x rest plain later (inr there) = later there
+
+-- one of some bytes that are not escaped
+one_plain : (cs : List ℕ) (x : ℕ) → list_all plain_alone cs ≡ true → list_any (λ c. c == x) cs ≡ true → escape_byte x ≡ x ∷ []
+one_plain [] x all any = absurd (true≢false (sym any))
+one_plain (c ∷ cs) x all any =
+    let plain = both_of (plain_alone c) (list_all plain_alone cs) all in
+    here_or_later c x (list_any (λ c. c == x) cs) plain.0 (one_plain cs x plain.1) (either_of (c == x) (list_any (λ c. c == x) cs) any)
+
+character_plain : (x : ℕ) → is_letter_or_digit x ≡ true → escape_byte x ≡ x ∷ []
+unfolding escape_byte
+character_plain x h = one_plain (codes "ABCDEFGHIJKLMNOPQRSTUVWXYZ0123456789") x refl h
+
+characters_plain : (name : List ℕ) → list_all is_letter_or_digit name ≡ true → IsPlain name
+characters_plain [] all = refl
+characters_plain (x ∷ xs) all =
+    let each = both_of (is_letter_or_digit x) (list_all is_letter_or_digit xs) all in
+    first_plain x xs (character_plain x each.0) (characters_plain xs each.1)
+
+-- a customer's name stands in the queue as it is
+pub name_shown : (job : QueuedJob) → is_customer job.customer ≡ true
+    → queued_text job ≡ codes "{\"customer\":\"" ++ job.customer ++ codes "\",\"number\":" ++ decimal job.number ++ codes "}"
+name_shown job h =
+    let each = both_of (is_name_length (length job.customer)) (list_all is_letter_or_digit job.customer) h in
+    ap (λ (t : List ℕ). codes "{\"customer\":" ++ (34 ∷ (t ++ 34 ∷ [])) ++ codes ",\"number\":" ++ decimal job.number ++ codes "}")
+    (characters_plain job.customer each.1)
+    ∙ simp append_assoc

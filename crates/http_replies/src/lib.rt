@@ -10,6 +10,7 @@
 mod answers;
 mod bodies;
 mod fixed;
+mod laws;
 mod lists;
 mod replies;
 mod sending;
@@ -17,5 +18,6 @@ mod standings;
 mod values;
 
 pub use fixed::{Fault, refused};
+pub use laws::names_stand_as_they_are;
 pub use replies::{deck_fault, reply_to, status_of};
 pub use sending::{Sent, send};

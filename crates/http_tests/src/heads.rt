@@ -3,21 +3,21 @@
 use crate::verdicts::{misjudged, verdict_on};
 use std::test::Fail;
 
-/// A request of each path, after what it asks for.
-const PATHS: &str =
-    r#"Submit { job: JobName { customer: "ACME", number: 1 }, kind: Object, size: 4000, switches: Switches(1) } 81 ""|PUT /c/ACME/j/1/object/4000/A;Content-Length: 81
-Submit { job: JobName { customer: "ACME", number: 2 }, kind: Autocoder, size: 1400, switches: Switches(0) } 0 ""|PUT /c/ACME/j/2/autocoder/1400/-;Content-Length: 0
-Slice { job: JobName { customer: "ACME", number: 1 }, limit: 34 } 0 ""|POST /c/ACME/j/1/slice/34
-Start { job: JobName { customer: "ACME", number: 1 }, switches: Switches(127) } 0 ""|POST /c/ACME/j/1/start/ABCDEFG
-Hold(JobName { customer: "ACME", number: 1 }) 0 ""|POST /c/ACME/j/1/hold
-Release(JobName { customer: "ACME", number: 1 }) 0 ""|POST /c/ACME/j/1/release;Content-Length: 0
-Collect(JobName { customer: "ACME", number: 1 }) 0 ""|POST /c/ACME/j/1/collect
-Standing(JobName { customer: "ACME", number: 9 }) 0 ""|GET /c/ACME/j/9;Host: a
-Cards(JobName { customer: "ACME", number: 1 }) 0 ""|GET /c/ACME/j/1/cards
-Lines(JobName { customer: "ACME", number: 1 }) 0 ""|GET /c/ACME/j/1/lines
-Jobs("ACME") 0 ""|GET /c/ACME/jobs
-Queue 0 ""|GET /queue;Content-Length: 0
-"#;
+/// A request of each path, after what it asks for and the length of its body.
+const PATHS: &str = "\
+submit ACME 1 Object 4000 Switches(1), 81|PUT /c/ACME/j/1/object/4000/A;Content-Length: 81
+submit ACME 2 Autocoder 1400 Switches(0), 0|PUT /c/ACME/j/2/autocoder/1400/-;Content-Length: 0
+slice ACME 1 34, 0|POST /c/ACME/j/1/slice/34
+start ACME 1 Switches(127), 0|POST /c/ACME/j/1/start/ABCDEFG
+hold ACME 1, 0|POST /c/ACME/j/1/hold
+release ACME 1, 0|POST /c/ACME/j/1/release;Content-Length: 0
+collect ACME 1, 0|POST /c/ACME/j/1/collect
+standing ACME 9, 0|GET /c/ACME/j/9;Host: a
+cards ACME 1, 0|GET /c/ACME/j/1/cards
+lines ACME 1, 0|GET /c/ACME/j/1/lines
+jobs ACME, 0|GET /c/ACME/jobs
+queue, 0|GET /queue;Content-Length: 0
+";
 
 #[test]
 fn each_path_is_asked_for(rt: HostRuntime) -> Result<(), Fail> {
@@ -26,23 +26,23 @@ fn each_path_is_asked_for(rt: HostRuntime) -> Result<(), Fail> {
 }
 
 /// Names, numbers and switches as they stand in targets.
-const TEXTS: &str =
-    r#"Standing(JobName { customer: "acme", number: 999999999 }) 0 ""|GET /c/acme/j/999999999
-Standing(JobName { customer: "A%20B", number: 0 }) 0 ""|GET /c/A%20B/j/1000000000
-Standing(JobName { customer: "ACME", number: 0 }) 0 ""|GET /c/ACME/j/09
-Standing(JobName { customer: "ACME", number: 0 }) 0 ""|GET /c/ACME/j/0
-Standing(JobName { customer: "ACME", number: 0 }) 0 ""|GET /c/ACME/j/9?x
-Standing(JobName { customer: "ACME", number: 0 }) 0 ""|GET /c/ACME/j/+9
-Slice { job: JobName { customer: "ACME", number: 0 }, limit: 0 } 0 ""|POST /c/ACME/j/-1/slice/034
-Submit { job: JobName { customer: "ACME", number: 1 }, kind: Object, size: 0, switches: Switches(64) } 5 ""|PUT /c/ACME/j/1/object/4000.0/G;Content-Length: 5
-Start { job: JobName { customer: "ACME", number: 1 }, switches: Switches(8) } 0 ""|POST /c/ACME/j/1/start/D
+const TEXTS: &str = "\
+standing acme 999999999, 0|GET /c/acme/j/999999999
+standing A%20B 0, 0|GET /c/A%20B/j/1000000000
+standing ACME 0, 0|GET /c/ACME/j/09
+standing ACME 0, 0|GET /c/ACME/j/0
+standing ACME 0, 0|GET /c/ACME/j/9?x
+standing ACME 0, 0|GET /c/ACME/j/+9
+slice ACME 0 0, 0|POST /c/ACME/j/-1/slice/034
+submit ACME 1 Object 0 Switches(64), 5|PUT /c/ACME/j/1/object/4000.0/G;Content-Length: 5
+start ACME 1 Switches(8), 0|POST /c/ACME/j/1/start/D
 400|POST /c/ACME/j/1/start/BA
 400|POST /c/ACME/j/1/start/AA
 400|POST /c/ACME/j/1/start/a
 400|POST /c/ACME/j/1/start/H
 400|POST /c/ACME/j/1/start/--
 400|PUT /c/ACME/j/1/object/4000/A-;Content-Length: 5
-"#;
+";
 
 #[test]
 fn texts_are_read_from_targets(rt: HostRuntime) -> Result<(), Fail> {
@@ -51,7 +51,8 @@ fn texts_are_read_from_targets(rt: HostRuntime) -> Result<(), Fail> {
 }
 
 /// Heads that fail a test, each after the status of the first test that it fails.
-const REFUSED: &str = r#"404|GET /
+const REFUSED: &str = "\
+404|GET /
 404|GET /queue/
 404|GET /queue?x=1
 404|GET /c//jobs
@@ -82,7 +83,7 @@ const REFUSED: &str = r#"404|GET /
 400|POST /c/ACME/j/1/hold;Content-Length: 1
 400|GET /queue;Content-Length: 200000
 400|PUT /c/ACME/j/1/object/4000/H;Content-Length: 0
-"#;
+";
 
 #[test]
 fn the_first_test_failed_gives_the_status(rt: HostRuntime) -> Result<(), Fail> {
@@ -91,12 +92,12 @@ fn the_first_test_failed_gives_the_status(rt: HostRuntime) -> Result<(), Fail> {
 }
 
 /// Lengths that a body may have, and names of fields in any case.
-const LENGTHS: &str =
-    r#"Submit { job: JobName { customer: "A", number: 1 }, kind: Object, size: 4000, switches: Switches(0) } 200000 ""|PUT /c/A/j/1/object/4000/-;Content-Length: 200000
-Submit { job: JobName { customer: "A", number: 1 }, kind: Object, size: 4000, switches: Switches(0) } 200000 ""|PUT /c/A/j/1/object/4000/-;content-length:0200000
-Submit { job: JobName { customer: "A", number: 1 }, kind: Object, size: 4000, switches: Switches(0) } 5 ""|PUT /c/A/j/1/object/4000/-;X: 7;CONTENT-LENGTH:   0000005
-Queue 0 ""|GET /queue;Content-Length: 0000000
-"#;
+const LENGTHS: &str = "\
+submit A 1 Object 4000 Switches(0), 200000|PUT /c/A/j/1/object/4000/-;Content-Length: 200000
+submit A 1 Object 4000 Switches(0), 200000|PUT /c/A/j/1/object/4000/-;content-length:0200000
+submit A 1 Object 4000 Switches(0), 5|PUT /c/A/j/1/object/4000/-;X: 7;CONTENT-LENGTH:  0000005
+queue, 0|GET /queue;Content-Length: 0000000
+";
 
 #[test]
 fn lengths_are_read_from_fields(rt: HostRuntime) -> Result<(), Fail> {
@@ -107,14 +108,14 @@ fn lengths_are_read_from_fields(rt: HostRuntime) -> Result<(), Fail> {
 #[test]
 fn heads_are_of_the_grammar(rt: HostRuntime) -> Result<(), Fail> {
     for (request, wanted) in [
-        ("GET /queue HTTP/1.0\r\n\r\n", "Queue 0 \"\""),
-        ("\r\nGET /queue HTTP/1.1\nHost: a\n\n", "Queue 0 \"\""),
+        ("GET /queue HTTP/1.0\r\n\r\n", "queue, 0"),
+        ("\r\nGET /queue HTTP/1.1\nHost: a\n\n", "queue, 0"),
         ("GET /queue HTTP/2.0\r\n\r\n", "400"),
         ("GET /queue\r\n\r\n", "400"),
         ("GET  /queue HTTP/1.1\r\n\r\n", "400"),
         ("GET /queue HTTP/1.1\r\nHost\r\n\r\n", "400"),
         ("GET /queue HTTP/1.1\r\nHost: a\r\n X\r\n\r\n", "400"),
-        ("GET /queue HTTP/1.1\r\n\r\nHELLO", "Queue 0 \"HELLO\""),
+        ("GET /queue HTTP/1.1\r\n\r\nHELLO", "queue, 0HELLO"),
         ("GET /nowhere HTTP/1.1\r\n\r\nHELLO", "404"),
         ("", "400"),
     ] {

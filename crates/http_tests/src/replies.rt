@@ -30,12 +30,9 @@ fn three_cards() -> Summary {
     }
 }
 
-/// A checked machine.
-fn checked(check: Check) -> Reply {
-    Reply::Ran {
-        executed: 7,
-        standing: JobStanding::Checked { check, at: 351 },
-    }
+/// How a checked machine stands.
+fn checked(check: Check) -> JobStanding {
+    JobStanding::Checked { check, at: 351 }
 }
 
 #[test]
@@ -69,6 +66,15 @@ fn replies_have_their_words(rt: HostRuntime) -> Result<(), Fail> {
             Reply::Collected { cards: 0, lines: 2 },
             "200 OK|application/json|41|{\"cards\":0,\"lines\":2,\"reply\":\"collected\"}",
         ),
+    ] {
+        assert!(rt; is_answered(rt.alloc(), &reply, line)?, "{line}");
+    }
+    Ok(())
+}
+
+#[test]
+fn jobs_are_told(rt: HostRuntime) -> Result<(), Fail> {
+    for (reply, line) in [
         (
             Reply::Standing(two_lines()),
             "200 OK|application/json|105|{\"cards\":0,\"collected\":false,\"granted\":34,\
@@ -87,45 +93,23 @@ fn replies_have_their_words(rt: HostRuntime) -> Result<(), Fail> {
 }
 
 #[test]
-fn standings_have_their_words(rt: HostRuntime) -> Result<(), Fail> {
-    for (reply, words) in [
-        (
-            Reply::Ran {
-                executed: 7,
-                standing: JobStanding::Halted { next: 15999 },
-            },
-            "59|{\"executed\":7,\"reply\":\"ran\",\"standing\":\"halted next 15999\"}",
-        ),
-        (
-            checked(Check::Address),
-            "62|{\"executed\":7,\"reply\":\"ran\",\"standing\":\"check ADDRESS at 351\"}",
-        ),
-        (
-            checked(Check::Instruction),
-            "66|{\"executed\":7,\"reply\":\"ran\",\"standing\":\"check INSTRUCTION at 351\"}",
-        ),
-        (
-            checked(Check::Data),
-            "59|{\"executed\":7,\"reply\":\"ran\",\"standing\":\"check DATA at 351\"}",
-        ),
-        (
-            checked(Check::Overlap),
-            "62|{\"executed\":7,\"reply\":\"ran\",\"standing\":\"check OVERLAP at 351\"}",
-        ),
-        (
-            checked(Check::ReaderEmpty),
-            "67|{\"executed\":7,\"reply\":\"ran\",\"standing\":\"check READER EMPTY at 351\"}",
-        ),
-        (
-            checked(Check::PunchFull),
-            "65|{\"executed\":7,\"reply\":\"ran\",\"standing\":\"check PUNCH FULL at 351\"}",
-        ),
-        (
-            checked(Check::PrinterFull),
-            "67|{\"executed\":7,\"reply\":\"ran\",\"standing\":\"check PRINTER FULL at 351\"}",
-        ),
+fn halts_and_checks_have_their_words(rt: HostRuntime) -> Result<(), Fail> {
+    for (standing, length, words) in [
+        (JobStanding::Halted { next: 15999 }, 59, "halted next 15999"),
+        (checked(Check::Address), 62, "check ADDRESS at 351"),
+        (checked(Check::Instruction), 66, "check INSTRUCTION at 351"),
+        (checked(Check::Data), 59, "check DATA at 351"),
+        (checked(Check::Overlap), 62, "check OVERLAP at 351"),
+        (checked(Check::ReaderEmpty), 67, "check READER EMPTY at 351"),
+        (checked(Check::PunchFull), 65, "check PUNCH FULL at 351"),
+        (checked(Check::PrinterFull), 67, "check PRINTER FULL at 351"),
     ] {
-        let line = format!(in rt.alloc(); "200 OK|application/json|{words}")?;
+        let executed = 7;
+        let reply = Reply::Ran { executed, standing };
+        let mut line = format!(in rt.alloc(); "200 OK|application/json|{length}|")?;
+        line.push_str("{\"executed\":7,\"reply\":\"ran\",\"standing\":\"")?;
+        line.push_str(words)?;
+        line.push_str("\"}")?;
         assert!(rt; is_answered(rt.alloc(), &reply, line.as_str())?, "{line}");
     }
     Ok(())

@@ -1,12 +1,50 @@
 //! What heads come to, in words.
 
-use http_heads::{Head, Verdict};
+use http_heads::{Asked, Head, JobName, Verdict};
 use routes::router;
 use std::alloc::Global;
 use std::io::Read;
 use std::test::Fail;
 
-/// What the bytes of a reader come to, in words.
+/// What is asked of a job, in words.
+fn job_text(alloc: Global, word: &str, job: JobName<'_>) -> Result<String, Fail> {
+    let (customer, number) = (job.customer, job.number);
+    Ok(format!(in alloc; "{word} {customer} {number}")?)
+}
+
+/// What is asked for, in words.
+fn asked_text(alloc: Global, asked: Asked<'_>) -> Result<String, Fail> {
+    match asked {
+        Asked::Submit {
+            job,
+            kind,
+            size,
+            switches,
+        } => {
+            let job = job_text(alloc, "submit", job)?;
+            Ok(format!(in alloc; "{job} {kind:?} {size} {switches:?}")?)
+        }
+        Asked::Slice { job, limit } => {
+            let job = job_text(alloc, "slice", job)?;
+            Ok(format!(in alloc; "{job} {limit}")?)
+        }
+        Asked::Start { job, switches } => {
+            let job = job_text(alloc, "start", job)?;
+            Ok(format!(in alloc; "{job} {switches:?}")?)
+        }
+        Asked::Hold(job) => job_text(alloc, "hold", job),
+        Asked::Release(job) => job_text(alloc, "release", job),
+        Asked::Collect(job) => job_text(alloc, "collect", job),
+        Asked::Standing(job) => job_text(alloc, "standing", job),
+        Asked::Cards(job) => job_text(alloc, "cards", job),
+        Asked::Lines(job) => job_text(alloc, "lines", job),
+        Asked::Jobs(customer) => Ok(format!(in alloc; "jobs {customer}")?),
+        Asked::Queue => Ok(String::from_str(alloc, "queue")?),
+    }
+}
+
+/// What the bytes of a reader come to, in words: a status; or what is asked for, with the length of
+/// the body and what is known of it.
 pub(crate) fn verdict_on<R: Read>(alloc: Global, reader: &mut R) -> Result<String, Fail> {
     let router = router(alloc)?;
     let head = Head::read(reader);
@@ -17,8 +55,9 @@ pub(crate) fn verdict_on<R: Read>(alloc: Global, reader: &mut R) -> Result<Strin
             count,
             begun,
         } => {
+            let asked = asked_text(alloc, asked)?;
             let begun = str::from_utf8(begun).ok().ok_or("a text")?;
-            Ok(format!(in alloc; "{asked:?} {count} {begun:?}")?)
+            Ok(format!(in alloc; "{asked}, {count}{begun}")?)
         }
         Verdict::ReadFailed => Ok(String::from_str(alloc, "read failed")?),
     }
