@@ -1,4 +1,4 @@
--- the tables stand for an office
+-- the tables represent an office
 use Rattle.std.specs.Prelude.{◌≡◌, ℕ, false, List, [], map, All, Option, Some, None, IsTrue}
 use Rattle.std.specs.List.{AllByRecursion}
 use Rattle.cards.specs.Decks.{deck_bytes, IsCard}
@@ -99,7 +99,7 @@ pub record Served (new : store.State) (change : Office → Office × Reply) (off
 abbrev pub LeftAs : Trees → Office → Type 0
 LeftAs db office = Rows (record { schema = bureau_schema; trees = db }) office
 
--- between commands the tables stand for the office, and a crash leaves it alone
+-- between commands the tables represent the office, and a crash leaves it alone
 pub record Stands (s : store.State) (office : Office) : Type 0 where
   pub outside : s.in_transaction ≡ false
   pub now : IsTrue s.is_open → StandsIn s office

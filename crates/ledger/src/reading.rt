@@ -1,4 +1,4 @@
-//! What the tables tell of a job.
+//! What the tables show of a job.
 
 ghost use Rattle.std.specs.Prelude.{◌≡◌, ◌≢◌, List, All, map, Some, IsErrOf, IsSome, IfOk, IfSome};
 ghost use Rattle.cards.specs.Decks.{IsCard, IsDeck};

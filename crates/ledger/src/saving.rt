@@ -1,4 +1,4 @@
-//! What the tables are told of a job.
+//! What is written of a job to the tables.
 
 ghost use Rattle.std.specs.Prelude.{◌≡◌, ◌≤◌, ℕ, Bool, Some, All, take, length, IfOk, OnOk};
 ghost use Rattle.cards.specs.Decks.{IsCard, IsDeck};
@@ -218,7 +218,8 @@ fn save_start<S: Alter, C: Core>(
     job: &Job<C>,
 ) -> Result<(), Fault>
     ensures step { IsStep S.Store tables.old tables.new result }
-    ensures saved { (switches : Switches) (old : KnownJob) → Saves S.Store tables.old tables.new result
+    ensures saved { (switches : Switches) (old : KnownJob)
+        → Saves S.Store tables.old tables.new result
         (IsAfter name.entry job.now (JobCommand.Start switches) old)
         (with_after name.entry (JobCommand.Start switches) old) }
 {
@@ -267,7 +268,8 @@ pub fn save<S: Alter, C: Core>(
     before: Made,
 ) -> Result<(), Fault>
     ensures step { IsStep S.Store tables.old tables.new result }
-    ensures saved { (old : KnownJob) → HadMade before old → Saves S.Store tables.old tables.new result
+    ensures saved { (old : KnownJob) → HadMade before old
+        → Saves S.Store tables.old tables.new result
         (IsAfter name.entry job.now command old) (with_after name.entry command old) }
 {
     match command {
