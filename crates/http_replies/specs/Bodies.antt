@@ -2,6 +2,7 @@
 use Rattle.std.specs.Prelude.{ℕ, List, ◌++◌, Bool, if◌then◌else◌, codes, decimal, map}
 use Rattle.std.specs.List.{join_with_byte}
 use Rattle.autocoder.specs.declared.faults.CardFault.{CardFault}
+use Rattle.bcd.specs.Table.{byte}
 use Rattle.cards.specs.Files.{punch_file_of}
 use Rattle.cards.specs.Numbers.{card_error_number}
 use Rattle.cards.specs.declared.faults.CardFault as deck
@@ -35,7 +36,8 @@ check_words check.PrinterFull = codes "PRINTER FULL"
 abbrev pub standing_words : JobStanding → List ℕ
 standing_words standing.Running = codes "running"
 standing_words (standing.Halted next) = codes "halted next " ++ decimal next
-standing_words (standing.Checked check at) = codes "check " ++ check_words check ++ codes " at " ++ decimal at
+standing_words (standing.Checked check at) =
+    codes "check " ++ check_words check ++ codes " at " ++ decimal at
 
 -- a truth value
 abbrev pub truth : Bool → List ℕ
@@ -43,7 +45,7 @@ truth value = if value then codes "true" else codes "false"
 
 -- things with a comma between each two
 abbrev pub listed : List (List ℕ) → List ℕ
-listed = join_with_byte 44
+listed = join_with_byte (byte (codes ","))
 
 -- a job in the list of a customer's jobs
 abbrev pub job_text : JobLine → List ℕ
@@ -55,11 +57,15 @@ job_text job =
 
 -- a job in the queue
 abbrev pub queued_text : QueuedJob → List ℕ
-queued_text job = codes "{\"customer\":" ++ quoted job.customer ++ codes ",\"number\":" ++ decimal job.number ++ codes "}"
+queued_text job =
+    codes "{\"customer\":" ++ quoted job.customer
+    ++ codes ",\"number\":" ++ decimal job.number ++ codes "}"
 
 -- a card's fault
 abbrev pub fault_text : CardFault → List ℕ
-fault_text f = codes "{\"card\":" ++ decimal f.card ++ codes ",\"fault\":" ++ decimal (fault_number f.fault) ++ codes "}"
+fault_text f =
+    codes "{\"card\":" ++ decimal f.card
+    ++ codes ",\"fault\":" ++ decimal (fault_number f.fault) ++ codes "}"
 
 -- what is told of a job
 abbrev pub summary_body : Summary → List ℕ
@@ -69,28 +75,34 @@ summary_body job =
     ++ codes ",\"granted\":" ++ decimal job.granted
     ++ codes ",\"held\":" ++ truth job.held
     ++ codes ",\"lines\":" ++ decimal job.lines
-    ++ codes ",\"reply\":\"standing\",\"standing\":\"" ++ standing_words job.standing ++ codes "\"}"
+    ++ codes ",\"reply\":\"standing\",\"standing\":\"" ++ standing_words job.standing
+    ++ codes "\"}"
 
 -- why a command is refused
 abbrev pub refusal_body : Refusal → List ℕ
-refusal_body (refusal.Assembly faults) = codes "{\"faults\":[" ++ listed (map fault_text faults) ++ codes "],\"refusal\":16}"
+refusal_body (refusal.Assembly faults) =
+    codes "{\"faults\":[" ++ listed (map fault_text faults) ++ codes "],\"refusal\":16}"
 refusal_body other = codes "{\"refusal\":" ++ decimal (refusal_number other) ++ codes "}"
 
 -- the body of a reply
 abbrev pub body_of : Reply → List ℕ
 body_of (reply.Taken cards) = codes "{\"cards\":" ++ decimal cards ++ codes ",\"reply\":\"taken\"}"
 body_of (reply.Ran executed standing) =
-    codes "{\"executed\":" ++ decimal executed ++ codes ",\"reply\":\"ran\",\"standing\":\"" ++ standing_words standing ++ codes "\"}"
+    codes "{\"executed\":" ++ decimal executed
+    ++ codes ",\"reply\":\"ran\",\"standing\":\"" ++ standing_words standing ++ codes "\"}"
 body_of reply.Started = codes "{\"reply\":\"started\"}"
 body_of reply.Held = codes "{\"reply\":\"held\"}"
 body_of reply.Released = codes "{\"reply\":\"released\"}"
 body_of (reply.Collected cards lines) =
-    codes "{\"cards\":" ++ decimal cards ++ codes ",\"lines\":" ++ decimal lines ++ codes ",\"reply\":\"collected\"}"
+    codes "{\"cards\":" ++ decimal cards ++ codes ",\"lines\":" ++ decimal lines
+    ++ codes ",\"reply\":\"collected\"}"
 body_of (reply.Standing job) = summary_body job
 body_of (reply.Cards cards) = punch_file_of cards
 body_of (reply.Lines lines) = rendered lines
-body_of (reply.Jobs jobs) = codes "{\"jobs\":[" ++ listed (map job_text jobs) ++ codes "],\"reply\":\"jobs\"}"
-body_of (reply.Queue jobs) = codes "{\"queue\":[" ++ listed (map queued_text jobs) ++ codes "],\"reply\":\"queue\"}"
+body_of (reply.Jobs jobs) =
+    codes "{\"jobs\":[" ++ listed (map job_text jobs) ++ codes "],\"reply\":\"jobs\"}"
+body_of (reply.Queue jobs) =
+    codes "{\"queue\":[" ++ listed (map queued_text jobs) ++ codes "],\"reply\":\"queue\"}"
 body_of (reply.Refused reason) = refusal_body reason
 
 -- the body that says where a deck's text is at fault

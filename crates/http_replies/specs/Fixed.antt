@@ -29,4 +29,5 @@ fault_status fault.NoMemoryForReply = 500
 -- the answer that tells a fault
 abbrev pub fault_bytes : Fault → List ℕ
 fault_bytes f =
-    answer_bytes (fault_status f) (codes "application/json") (codes "{\"fault\":" ++ decimal (fault_number f) ++ codes "}")
+    answer_bytes (fault_status f) (codes "application/json")
+    (codes "{\"fault\":" ++ decimal (fault_number f) ++ codes "}")

@@ -82,4 +82,6 @@ deck_fault_bytes f = answer_bytes 400 (codes "application/json") (deck_fault_bod
 
 -- the bytes that refuse a request by its status alone
 abbrev pub refused_bytes : ℕ → List ℕ
-refused_bytes status = answer_bytes status (codes "application/json") (codes "{\"status\":" ++ decimal status ++ codes "}")
+refused_bytes status =
+    answer_bytes status (codes "application/json")
+    (codes "{\"status\":" ++ decimal status ++ codes "}")

@@ -29,7 +29,8 @@ abbrev pub reply_data : List ℕ → Data
 reply_data name = object (text (codes "reply") name no_members)
 
 abbrev pub taken_data : ℕ → Data
-taken_data cards = object (count (codes "cards") cards (text (codes "reply") (codes "taken") no_members))
+taken_data cards =
+    object (count (codes "cards") cards (text (codes "reply") (codes "taken") no_members))
 
 abbrev pub ran_data : ℕ → JobStanding → Data
 ran_data executed standing =
@@ -61,16 +62,19 @@ job_data job =
     (text (codes "standing") (standing_words job.standing) no_members))))
 
 abbrev pub queued_data : QueuedJob → Data
-queued_data job = object (text (codes "customer") job.customer (count (codes "number") job.number no_members))
+queued_data job =
+    object (text (codes "customer") job.customer (count (codes "number") job.number no_members))
 
 abbrev pub fault_data : CardFault → Data
-fault_data f = object (count (codes "card") f.card (count (codes "fault") (fault_number f.fault) no_members))
+fault_data f =
+    object (count (codes "card") f.card (count (codes "fault") (fault_number f.fault) no_members))
 
 abbrev pub jobs_data : List Data → Data
 jobs_data jobs = object (list (codes "jobs") jobs (text (codes "reply") (codes "jobs") no_members))
 
 abbrev pub queue_data : List Data → Data
-queue_data jobs = object (list (codes "queue") jobs (text (codes "reply") (codes "queue") no_members))
+queue_data jobs =
+    object (list (codes "queue") jobs (text (codes "reply") (codes "queue") no_members))
 
 abbrev pub faults_data : List Data → Data
 faults_data faults = object (list (codes "faults") faults (count (codes "refusal") 16 no_members))

@@ -36,7 +36,11 @@ fn head(
         ≡ head_bytes status phrase.now content_type.now length) }
 {
     format!(in alloc;
-        "HTTP/1.1 {status} {phrase}\r\nContent-Type: {content_type}\r\nContent-Length: {length}\r\nConnection: close\r\n\r\n"
+        "HTTP/1.1 {status} {phrase}\r\n\
+         Content-Type: {content_type}\r\n\
+         Content-Length: {length}\r\n\
+         Connection: close\r\n\
+         \r\n"
     )
 }
 

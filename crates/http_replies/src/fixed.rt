@@ -87,8 +87,8 @@ const NO_MEMORY_FOR_REPLY: &[u8] = b"HTTP/1.1 500 Internal Server Error\r\n\
     \r\n\
     {\"fault\":3}";
 
-/// The answer that refuses a request by its status alone: 400, 404, 405, 411, 413 or 431. Any other
-/// status is answered as 400.
+/// The answer that refuses a request by its status alone: 400, 404, 405, 411, 413 or 431. Any
+/// other status is answered as 400.
 pub fn refused(status: u16) -> &'static [u8]
     ensures { result.now ≡ refused_bytes (refusing_status status) }
 {

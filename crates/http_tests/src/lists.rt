@@ -123,24 +123,36 @@ fn cards_are_a_punch_file(rt: HostRuntime) -> Result<(), Fail> {
     Ok(())
 }
 
-/// A printed line that shows a text.
-fn line(form: u32, line: u8, text: &str) -> Result<Line, Fail> {
+/// A print area that shows a text.
+fn print_area(text: &str) -> Result<[Code; 132], Fail> {
     let mut codes = [Code::blank(); 132];
     for (place, glyph) in text.bytes().enumerate() {
         *codes.get_mut(place).ok_or("a column")? = Code::from_glyph(glyph).ok_or("a glyph")?;
     }
-    Ok(Line { form, line, codes })
+    Ok(codes)
+}
+
+/// Lines that show these texts, each on a line of a form.
+fn lines(alloc: Global, rows: &[(u32, u8, &'static str)]) -> Result<Reply, Fail> {
+    let mut lines = Vec::new(alloc);
+    for row in rows {
+        let codes = print_area(row.2)?;
+        lines.push(Line {
+            form: row.0,
+            line: row.1,
+            codes,
+        })?;
+    }
+    Ok(Reply::Lines(Listing(lines)))
 }
 
 #[test]
 fn lines_are_a_listing(rt: HostRuntime) -> Result<(), Fail> {
     let alloc = rt.alloc();
-    let none = Reply::Lines(Listing(Vec::new(alloc)));
-    assert!(rt; is_answered(alloc, &none, "200 OK|text/plain|0|")?);
-    let mut lines = Vec::new(alloc);
-    lines.push(line(1, 3, "HELLO, WORLD")?)?;
-    lines.push(line(2, 1, "A")?)?;
+    let none = "200 OK|text/plain|0|";
+    assert!(rt; is_answered(alloc, &lines(alloc, &[])?, none)?);
+    let two = lines(alloc, &[(1, 3, "HELLO, WORLD"), (2, 1, "A")])?;
     let listing = "200 OK|text/plain|18|\n\nHELLO, WORLD\n\x0cA\n";
-    assert!(rt; is_answered(alloc, &Reply::Lines(Listing(lines)), listing)?);
+    assert!(rt; is_answered(alloc, &two, listing)?);
     Ok(())
 }

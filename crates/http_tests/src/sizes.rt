@@ -96,7 +96,8 @@ fn a_head_has_at_most_8192_bytes(rt: HostRuntime) -> Result<(), Fail> {
         assert_eq!(rt; verdict_on(rt.alloc(), &mut reader)?.as_str(), wanted);
     }
     let request = with_bytes(rt.alloc(), 8192)?;
-    let verdict = verdict_on(rt.alloc(), &mut &request.as_str().as_bytes()[..8191])?;
+    let short = request.as_str().strip_suffix('\n').ok_or("an end")?;
+    let verdict = verdict_on(rt.alloc(), &mut short.as_bytes())?;
     assert_eq!(rt; verdict.as_str(), "400");
     Ok(())
 }
