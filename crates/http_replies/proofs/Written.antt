@@ -119,7 +119,7 @@ fault_row : (f : CardFault) → IsText (fault_data f) (fault_text f)
 unfolding serde_json_on_literals
 fault_row f = (refl, simp append_assoc)
 
--- the texts of some things, with a comma between each two, and the bracket behind them
+-- the texts of some things, with a comma between each two, and the bracket after them
 rows_after : {X : Type 0} (shape : X → Data) (text : X → List ℕ) → ((x : X) → IsText (shape x) (text x)) → (first : List ℕ) (xs : List X)
     → first ++ items_text true (items_of (map shape xs)) ≡ join_with_byte 44 (first ∷ map text xs) ++ 93 ∷ []
 rows_after shape text each first [] = refl

@@ -26,7 +26,7 @@ fault_status fault.NoMemory = 503
 fault_status fault.Store = 503
 fault_status fault.NoMemoryForReply = 500
 
--- the answer that tells a fault
+-- the answer of a fault
 abbrev pub fault_bytes : Fault → List ℕ
 fault_bytes f =
     answer_bytes (fault_status f) (codes "application/json")

@@ -103,7 +103,7 @@ pub fn refused(status: u16) -> &'static [u8]
 }
 
 impl Fault {
-    /// The number by which the fault is told.
+    /// The number of the fault.
     pub fn number(self) -> u8
         ensures { result ≡ fault_number self }
     {
