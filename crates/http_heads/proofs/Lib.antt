@@ -1,3 +1,4 @@
 pub mod Pieces
 pub mod Said
 pub mod Judged
+pub mod Filled

@@ -3,3 +3,4 @@ pub mod Asked
 pub mod Tests
 pub mod Reading
 pub mod Heads
+pub mod Bodies

@@ -10,6 +10,7 @@
 
 mod asked;
 mod asking;
+mod bodies;
 mod fields;
 mod head;
 mod heads;
@@ -19,6 +20,7 @@ mod tests;
 mod verdicts;
 
 pub use asked::{Asked, JobName, Kind};
+pub use bodies::{Body, read_body};
 pub use head::Head;
 pub use lengths::BodyLength;
 pub use verdicts::Verdict;

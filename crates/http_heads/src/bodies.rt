@@ -1,0 +1,81 @@
+//! The body of a request.
+
+ghost use Rattle.std.specs.Prelude.{◌≡◌, ◌<◌, ◌++◌, length, IfOk, IfSome};
+ghost use Rattle.http_heads.specs.Bodies.{IsBodyOf, IsFilled, IsFilledAfter};
+
+use std::alloc::{AllocError, Global};
+use std::io::Read;
+
+/// What reading to the end of a buffer came to.
+#[derive(Drop)]
+enum Filled {
+    /// The buffer is full.
+    Whole,
+    /// The reader ended before.
+    Ended,
+    /// The reader failed before.
+    Failed,
+}
+
+/// What reading the body of a request came to.
+#[derive(Drop)]
+pub enum Body {
+    /// All of it was read.
+    Whole(Vec<u8>),
+    /// The reader ended before the body did.
+    Short,
+    /// The reader failed before the body ended.
+    ReadFailed,
+}
+
+/// Reads until a buffer is full, or the reader ends or fails.
+fn fill<R: Read>(reader: &mut R, buffer: &mut [u8]) -> Filled
+    ensures size { length buffer.new ≡ length buffer.old }
+    ensures filled { IsFilled (R.remaining reader.old) (R.remaining reader.new)
+        buffer.new result }
+{
+    let mut filled = 0usize;
+    while filled < buffer.len() {
+        match reader.read(&mut buffer[filled..]) {
+            Ok(0) => return Filled::Ended,
+            Ok(count) => filled += count,
+            Err(_) => return Filled::Failed,
+        }
+    }
+    Filled::Whole
+}
+
+/// Puts these bytes into a buffer that is longer, and reads the rest of it.
+fn fill_after<R: Read>(reader: &mut R, buffer: &mut [u8], begun: &[u8]) -> Filled
+    requires { length begun.now < length buffer.old }
+    ensures size { length buffer.new ≡ length buffer.old }
+    ensures filled { IsFilledAfter begun.now (R.remaining reader.old) (R.remaining reader.new)
+        buffer.new result }
+{
+    buffer[..begun.len()].copy_from_slice(begun);
+    fill(reader, &mut buffer[begun.len()..])
+}
+
+/// Reads the body of a request, which has so many bytes, of which the first are these. Of the
+/// reader it takes no byte after the body. It fails for want of memory alone.
+pub fn read_body<R: Read>(
+    alloc: Global,
+    reader: &mut R,
+    begun: &[u8],
+    count: u32,
+) -> Result<Body, AllocError>
+    ensures { IfOk result (λ body. IfSome (R.remaining reader.old)
+        (λ rest. IsBodyOf (begun.now ++ rest) count body)) }
+{
+    let count = count as usize;
+    let mut bytes = vec![in alloc; 0u8; count]?;
+    if begun.len() >= count {
+        bytes.as_mut_slice().copy_from_slice(&begun[..count]);
+        return Ok(Body::Whole(bytes));
+    }
+    match fill_after(reader, bytes.as_mut_slice(), begun) {
+        Filled::Whole => Ok(Body::Whole(bytes)),
+        Filled::Ended => Ok(Body::Short),
+        Filled::Failed => Ok(Body::ReadFailed),
+    }
+}

@@ -1,0 +1,36 @@
+//! Bodies of requests.
+
+use http_heads::{Body, read_body};
+use std::alloc::Global;
+use std::test::Fail;
+
+/// What a body of so many bytes comes to, of which some were read with the head; and how many
+/// bytes of the reader are left.
+fn body_told(alloc: Global, begun: &str, rest: &str, count: u32) -> Result<String, Fail> {
+    let mut reader = rest.as_bytes();
+    match read_body(alloc, &mut reader, begun.as_bytes(), count)? {
+        Body::Whole(bytes) => {
+            let text = str::from_utf8(&bytes).ok().ok_or("a text")?;
+            Ok(format!(in alloc; "{text}, {} left", reader.len())?)
+        }
+        Body::Short => Ok(String::from_str(alloc, "short")?),
+        Body::ReadFailed => Ok(String::from_str(alloc, "failed")?),
+    }
+}
+
+#[test]
+fn bodies_are_read_to_their_ends(rt: HostRuntime) -> Result<(), Fail> {
+    for (begun, rest, count, wanted) in [
+        ("", "", 0, ", 0 left"),
+        ("", "ABC", 0, ", 3 left"),
+        ("ABC", "DEF", 2, "AB, 3 left"),
+        ("ABC", "DEF", 3, "ABC, 3 left"),
+        ("ABC", "DEF", 5, "ABCDE, 1 left"),
+        ("", "DEF", 3, "DEF, 0 left"),
+        ("ABC", "DEF", 7, "short"),
+        ("", "", 1, "short"),
+    ] {
+        assert_eq!(rt; body_told(rt.alloc(), begun, rest, count)?.as_str(), wanted);
+    }
+    Ok(())
+}
