@@ -13,6 +13,8 @@ mod decks;
 #[cfg(test)]
 mod failing_disks;
 #[cfg(test)]
+mod lists;
+#[cfg(test)]
 mod machines;
 #[cfg(test)]
 mod media;
@@ -30,3 +32,5 @@ mod rows;
 mod runs;
 #[cfg(test)]
 mod sessions;
+#[cfg(test)]
+mod versions;
