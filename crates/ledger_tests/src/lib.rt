@@ -23,6 +23,8 @@ mod numbers;
 #[cfg(test)]
 mod opened_anew;
 #[cfg(test)]
+mod opened_files;
+#[cfg(test)]
 mod refusals;
 #[cfg(test)]
 mod replies;
