@@ -35,4 +35,6 @@ mod runs;
 #[cfg(test)]
 mod sessions;
 #[cfg(test)]
+mod stops;
+#[cfg(test)]
 mod versions;
