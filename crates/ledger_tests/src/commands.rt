@@ -69,7 +69,7 @@ fn kind_of(word: &str) -> Option<Kind> {
 }
 
 /// The command of a line: its word, the customer, the number, and what the command has besides.
-fn command_of(alloc: Global, line: &str) -> Result<Command, Fail> {
+pub(crate) fn command_of(alloc: Global, line: &str) -> Result<Command, Fail> {
     let (word, fields) = line.split_once('|').ok_or("a word")?;
     if word == "queue" {
         return Ok(Command::Queue);

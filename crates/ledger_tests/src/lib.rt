@@ -13,6 +13,8 @@ mod decks;
 #[cfg(test)]
 mod failing_disks;
 #[cfg(test)]
+mod lists;
+#[cfg(test)]
 mod machines;
 #[cfg(test)]
 mod media;
@@ -20,6 +22,8 @@ mod media;
 mod numbers;
 #[cfg(test)]
 mod opened_anew;
+#[cfg(test)]
+mod opened_files;
 #[cfg(test)]
 mod refusals;
 #[cfg(test)]
@@ -30,3 +34,7 @@ mod rows;
 mod runs;
 #[cfg(test)]
 mod sessions;
+#[cfg(test)]
+mod stops;
+#[cfg(test)]
+mod versions;

@@ -40,8 +40,9 @@ fn slice_9(alloc: Global, limit: u32) -> Result<Command, Fail> {
     })
 }
 
+/// The reply to a command.
 // It has no clause, so that the proof of a test does not carry the state of each call.
-fn apply<S: Alter>(
+pub(crate) fn apply<S: Alter>(
     bureau: &mut Bureau<S>,
     command: &Command,
     meter: &mut Meter,
@@ -49,7 +50,8 @@ fn apply<S: Alter>(
     bureau.apply(command, meter)
 }
 
-fn copy(alloc: Global, disk: &Memory) -> Result<Memory, Fail>
+/// A disk with the same bytes.
+pub(crate) fn copy(alloc: Global, disk: &Memory) -> Result<Memory, Fail>
     ensures { IfOk result (λ copy. IsTrue (memory_is_usable copy)) }
 {
     let mut copy = Memory::new(alloc);
@@ -58,7 +60,10 @@ fn copy(alloc: Global, disk: &Memory) -> Result<Memory, Fail>
 }
 
 /// A connection to what is on these disks.
-fn open(alloc: Global, disks: &Files<Memory>) -> Result<Connection<FileStore<Memory>>, Fail> {
+pub(crate) fn open(
+    alloc: Global,
+    disks: &Files<Memory>,
+) -> Result<Connection<FileStore<Memory>>, Fail> {
     let files = Files {
         log: copy(alloc, &disks.log)?,
         db: copy(alloc, &disks.db)?,
@@ -87,7 +92,7 @@ fn closed(conn: Result<Connection<FileStore<Memory>>, Fail>) -> Result<Files<Mem
 }
 
 /// The disks of a bureau without jobs.
-fn new_disks(alloc: Global) -> Result<Files<Memory>, Fail> {
+pub(crate) fn new_disks(alloc: Global) -> Result<Files<Memory>, Fail> {
     let empty = Files {
         log: Memory::new(alloc),
         db: Memory::new(alloc),
@@ -112,7 +117,7 @@ fn applied<S: Alter + Drop>(
 }
 
 /// The reply to a command to the bureau on these disks, in words, and the disks after it.
-fn apply_anew(
+pub(crate) fn apply_anew(
     alloc: Global,
     disks: &Files<Memory>,
     command: &Command,

@@ -22,7 +22,8 @@ fn job(alloc: Global) -> Result<JobRow, Fail> {
     })
 }
 
-fn picture(alloc: Global) -> Result<PictureRow, Fail> {
+/// The picture of a machine, its numbers all different.
+pub(crate) fn picture(alloc: Global) -> Result<PictureRow, Fail> {
     Ok(PictureRow {
         storage: Vec::from_slice(alloc, &[64, 0])?,
         i: 333,

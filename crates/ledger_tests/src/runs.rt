@@ -200,6 +200,29 @@ lines 2 HELLO/WORLD/|lines|ACME|9|
 taken 6|submit source|ACME|9|4000|A|source of two lines
 ";
 
+/// One job, with each command on it, refused and carried out.
+const EACH_COMMAND: &str = "\
+taken 6|submit|ACME|9|4000|A|two lines
+held|hold|ACME|9|
+refused 22|slice|ACME|9|34
+refused 25|hold|ACME|9|
+refused 21|slice|ACME|9|2001
+released|release|ACME|9|
+refused 26|release|ACME|9|
+refused 24|start|ACME|9|-
+refused 24|collect|ACME|9|
+ran 34, running|slice|ACME|9|34
+ran 1, halted, next 361|slice|ACME|9|2000
+refused 23|slice|ACME|9|1
+started|start|ACME|9|-
+ran 0, Instruction at 361|slice|ACME|9|10
+Instruction at 361, false false 2044 0 2|standing|ACME|9|
+collected 0 2|collect|ACME|9|
+refused 27|collect|ACME|9|
+refused 27|hold|ACME|9|
+taken 6|submit|ACME|9|4000|A|two lines
+";
+
 #[test]
 fn starts_sources_and_what_is_asked(rt: HostRuntime) -> Result<(), Fail> {
     for (sheet, wanted) in [
@@ -208,6 +231,7 @@ fn starts_sources_and_what_is_asked(rt: HostRuntime) -> Result<(), Fail> {
         (TO_ITS_COLLECTION, "35 ticks, 1 jobs, 2 lines"),
         (LISTS, "71 ticks, 4 jobs, 4 lines"),
         (OF_A_SOURCE, "35 ticks, 1 jobs, 2 lines"),
+        (EACH_COMMAND, "36 ticks, 1 jobs, 2 lines"),
     ] {
         assert_eq!(rt; outcome(rt.alloc(), sheet)?.as_str(), wanted);
     }

@@ -72,9 +72,8 @@ fn push_rows<S: Alter>(
     Ok(text.push_str(shown.as_str())?)
 }
 
-/// Every row of every table of a bureau.
-fn rows_of(alloc: Global, bureau: Bureau<MemStore>) -> Result<String, Fail> {
-    let mut conn = bureau.into_connection();
+/// Every row of every table.
+fn rows_in<S: Alter>(alloc: Global, conn: &mut Connection<S>) -> Result<String, Fail> {
     let mut text = String::new(alloc);
     for sql in [
         "SELECT * FROM bureau",
@@ -84,9 +83,15 @@ fn rows_of(alloc: Global, bureau: Bureau<MemStore>) -> Result<String, Fail> {
         "SELECT * FROM cards",
         "SELECT * FROM lines",
     ] {
-        push_rows(alloc, &mut text, &mut conn, sql)?;
+        push_rows(alloc, &mut text, conn, sql)?;
     }
     Ok(text)
+}
+
+/// Every row of every table of a bureau.
+pub(crate) fn rows_of<S: Alter + Drop>(alloc: Global, bureau: Bureau<S>) -> Result<String, Fail> {
+    let mut conn = bureau.into_connection();
+    rows_in(alloc, &mut conn)
 }
 
 /// Every row of every table after the commands of a sheet, or after those up to the first that is

@@ -1,0 +1,64 @@
+//! A bureau's file, made, closed and opened at its path.
+
+use crate::commands::misanswered;
+use ledger::Bureau;
+use ledger_files::open_from;
+use machine::Meter;
+use sqlite::{Connection, Unknown};
+use std::fs;
+use std::test::Fail;
+
+/// The number that a file is opened with as a bureau's, 0 where it is one.
+fn opening(rt: &HostRuntime, path: &str) -> u8 {
+    match open_from(rt, path, Unknown) {
+        Ok(_bureau) => 0,
+        Err((fault, _kept)) => fault.number(),
+    }
+}
+
+/// Makes a bureau's tables in a file.
+fn create(rt: &HostRuntime, path: &str) -> Result<(), Fail> {
+    let Ok(conn) = Connection::open_from(rt, path, false, Unknown) else {
+        return Err("not opened")?;
+    };
+    match Bureau::create(rt.alloc(), conn) {
+        Ok(_bureau) => Ok(()),
+        Err(_) => Err("not made")?,
+    }
+}
+
+/// The first line of a sheet that the bureau of a file answers otherwise; else nothing.
+fn misanswered_at(rt: &HostRuntime, path: &str, sheet: &'static str) -> Result<&'static str, Fail> {
+    match open_from(rt, path, Unknown) {
+        Ok(mut bureau) => misanswered(rt.alloc(), &mut bureau, &mut Meter::new(), sheet),
+        Err(_) => Err("not opened")?,
+    }
+}
+
+/// A job is handed in and run in part.
+const BEFORE: &str = "\
+taken 6|submit|ACME|9|4000|A|two lines
+ran 34, running|slice|ACME|9|34
+";
+
+/// It is there, and goes on.
+const AFTER: &str = "\
+queue ACME/9|queue|
+running, false false 34 0 2|standing|ACME|9|
+lines 2 HELLO/WORLD/|lines|ACME|9|
+taken 6|submit|ACME|9|4000|A|two lines
+ran 1, halted, next 361|slice|ACME|9|2000
+";
+
+#[test]
+fn a_file_is_opened_again(rt: HostRuntime) -> Result<(), Fail> {
+    let path = "opened_again.db";
+    assert_eq!(rt; opening(&rt, path), 50);
+    create(&rt, path)?;
+    assert_eq!(rt; opening(&rt, path), 0);
+    assert_eq!(rt; misanswered_at(&rt, path, BEFORE)?, "");
+    assert_eq!(rt; misanswered_at(&rt, path, AFTER)?, "");
+    fs::remove_file(&rt, path)?;
+    fs::remove_file(&rt, "opened_again.db-wal")?;
+    Ok(())
+}

@@ -1,0 +1,264 @@
+//! A bureau one of whose disks fails from a call on, each call in turn, and its files opened
+//! again.
+
+use crate::commands::command_of;
+use crate::opened_anew::{apply, apply_anew, copy, new_disks, open};
+use crate::replies::reply_text;
+use crate::sessions::{adopted, rows_of};
+use ledger::{Bureau, Fault};
+use machine::Meter;
+use office::{Command, Reply};
+use sqlite::{Connection, FileStore, Files, Options};
+use sqlite_disk::{Fuse, Memory};
+use std::alloc::Global;
+use std::test::Fail;
+
+/// How many calls of each disk do not fail.
+#[derive(Clone, Copy, Debug, Drop)]
+struct Calls {
+    log: u64,
+    db: u64,
+}
+
+/// None fails.
+const ALL: Calls = Calls {
+    log: u64::MAX,
+    db: u64::MAX,
+};
+
+/// The disk that fails.
+#[derive(Clone, Copy, Debug, Drop)]
+enum Failing {
+    Log,
+    Database,
+}
+
+impl Failing {
+    /// This disk fails after so many calls, the other one never.
+    fn after(self, calls: u64) -> Calls {
+        match self {
+            Failing::Log => Calls { log: calls, ..ALL },
+            Failing::Database => Calls { db: calls, ..ALL },
+        }
+    }
+}
+
+/// After how many stops the office was the old one, and after how many the next.
+#[derive(Clone, Copy, Debug, Drop)]
+struct Stops {
+    old: u32,
+    next: u32,
+}
+
+/// What a run over failing disks leaves.
+#[derive(Clone, Copy, Debug, Drop)]
+enum Left {
+    /// There was no reply, and it is the old office.
+    Old,
+    /// There was no reply, and it is the next office.
+    Next,
+    /// There was a reply, and it is the next office.
+    Replied,
+}
+
+/// A command to the bureau on some disks: the reply to it, the reply where it was carried out
+/// before, and the rows before and after it.
+#[derive(Drop)]
+struct Trial<'a> {
+    disks: &'a Files<Memory>,
+    command: &'a Command,
+    reply: &'a str,
+    again: &'a str,
+    old: String,
+    next: String,
+}
+
+/// Every row of the bureau on these disks.
+fn office_on(alloc: Global, disks: &Files<Memory>) -> Result<String, Fail> {
+    rows_of(alloc, adopted(alloc, open(alloc, disks)?)?)
+}
+
+/// The files after a command to the bureau over a connection, to which there is this reply.
+fn files_after(
+    alloc: Global,
+    conn: Connection<FileStore<Fuse<Memory>>>,
+    command: &Command,
+    reply: &mut Result<Reply, Fault>,
+) -> Files<Fuse<Memory>> {
+    match Bureau::adopt(alloc, conn) {
+        Ok(mut bureau) => {
+            *reply = apply(&mut bureau, command, &mut Meter::new());
+            bureau.into_connection().into_store().close()
+        }
+        Err((_, conn)) => conn.into_store().close(),
+    }
+}
+
+/// The same over copies of disks, after so many calls of which each fails. The log is copied into
+/// the database file often.
+fn run(
+    alloc: Global,
+    disks: &Files<Memory>,
+    calls: Calls,
+    command: &Command,
+    reply: &mut Result<Reply, Fault>,
+) -> Result<Files<Fuse<Memory>>, Fail> {
+    let files = Files {
+        log: Fuse::new(copy(alloc, &disks.log)?, calls.log),
+        db: Fuse::new(copy(alloc, &disks.db)?, calls.db),
+    };
+    let mut options = Options::new(1);
+    options.checkpoint_frames = 3;
+    match Connection::open_files(alloc, files, options) {
+        Ok(conn) => Ok(files_after(alloc, conn, command, reply)),
+        Err((_, left)) => Ok(left.into_files()),
+    }
+}
+
+/// The reply to a command in words, a fault where there was none, and what is then on the disks.
+fn run_to_its_end(
+    alloc: Global,
+    disks: &Files<Memory>,
+    calls: Calls,
+    command: &Command,
+) -> Result<(String, Files<Memory>), Fail> {
+    let mut reply = Err(Fault::Store);
+    let files = run(alloc, disks, calls, command, &mut reply)?;
+    let reply = reply_text(alloc, &reply)?;
+    let log = copy(alloc, files.log.inner())?;
+    let db = copy(alloc, files.db.inner())?;
+    Ok((reply, Files { log, db }))
+}
+
+/// Gives the command of a trial again, over disks that do not fail.
+fn repeat(alloc: Global, trial: &Trial, disks: &Files<Memory>, left: Left) -> Result<(), Fail> {
+    let (reply, _) = apply_anew(alloc, disks, trial.command, &mut Meter::new())?;
+    let wanted = match left {
+        Left::Old => trial.reply,
+        Left::Next | Left::Replied => trial.again,
+    };
+    if reply.as_str() != wanted {
+        return Err("another reply to the repeat")?;
+    }
+    Ok(())
+}
+
+/// What is left where this was the reply and these are the rows.
+fn left_by(trial: &Trial, reply: &str, office: &str) -> Result<Left, Fail> {
+    if reply == trial.reply && office == trial.next.as_str() {
+        return Ok(Left::Replied);
+    }
+    if reply != "fault Store" {
+        return Err("another reply")?;
+    }
+    if office == trial.next.as_str() {
+        return Ok(Left::Next);
+    }
+    if office != trial.old.as_str() {
+        return Err("another office")?;
+    }
+    Ok(Left::Old)
+}
+
+/// What is left after a trial in which so many calls do not fail.
+fn left_after(alloc: Global, trial: &Trial, calls: Calls) -> Result<Left, Fail> {
+    let (reply, disks) = run_to_its_end(alloc, trial.disks, calls, trial.command)?;
+    let office = office_on(alloc, &disks)?;
+    let left = left_by(trial, reply.as_str(), office.as_str())?;
+    repeat(alloc, trial, &disks, left)?;
+    Ok(left)
+}
+
+/// Stops a trial at each call of a disk in turn.
+fn stop_each(
+    alloc: Global,
+    trial: &Trial,
+    failing: Failing,
+    mut stops: Stops,
+) -> Result<Stops, Fail> {
+    for calls in 0..1000 {
+        match left_after(alloc, trial, failing.after(calls))? {
+            Left::Old => stops.old = stops.old.saturating_add(1),
+            Left::Next => stops.next = stops.next.saturating_add(1),
+            Left::Replied => return Ok(stops),
+        }
+    }
+    Err("no end")?
+}
+
+/// The stops of a line's command to the bureau on these disks, and the disks after it.
+fn stop_line(
+    alloc: Global,
+    disks: &Files<Memory>,
+    line: &str,
+    failing: Failing,
+    stops: Stops,
+) -> Result<(Stops, Files<Memory>), Fail> {
+    let (wanted, line) = line.split_once('|').ok_or("a reply")?;
+    let (again, line) = line.split_once('|').ok_or("a reply")?;
+    let command = command_of(alloc, line)?;
+    let (reply, after) = run_to_its_end(alloc, disks, ALL, &command)?;
+    if reply.as_str() != wanted {
+        return Err("another reply")?;
+    }
+    let trial = Trial {
+        disks,
+        command: &command,
+        reply: wanted,
+        again,
+        old: office_on(alloc, disks)?,
+        next: office_on(alloc, &after)?,
+    };
+    Ok((stop_each(alloc, &trial, failing, stops)?, after))
+}
+
+/// The stops of the commands of a sheet.
+fn stops_of(alloc: Global, sheet: &str, failing: Failing) -> Result<String, Fail> {
+    let mut disks = new_disks(alloc)?;
+    let mut stops = Stops { old: 0, next: 0 };
+    for line in sheet.lines() {
+        let (more, after) = stop_line(alloc, &disks, line, failing, stops)?;
+        stops = more;
+        disks = after;
+    }
+    Ok(format!(in alloc; "{} old, {} next", stops.old, stops.next)?)
+}
+
+/// Commands in turn, each after the reply to it and the reply where it was carried out before.
+const ONE_JOB: &str = "\
+taken 6|taken 6|submit|ACME|9|4000|A|two lines
+held|refused 25|hold|ACME|9|
+released|refused 26|release|ACME|9|
+ran 34, running|ran 1, halted, next 361|slice|ACME|9|34
+ran 1, halted, next 361|refused 23|slice|ACME|9|2000
+started|refused 24|start|ACME|9|-
+ran 0, Instruction at 361|refused 23|slice|ACME|9|10
+collected 0 2|refused 27|collect|ACME|9|
+";
+
+/// The same on a job that punches three cards.
+const WITH_CARDS: &str = "\
+taken 1|taken 1|submit|ACME|9|1400|-|three cards
+ran 8, halted, next 33|refused 23|slice|ACME|9|2000
+";
+
+/// The stops of both jobs.
+fn stops_of_both(alloc: Global, failing: Failing) -> Result<String, Fail> {
+    let one_job = stops_of(alloc, ONE_JOB, failing)?;
+    let with_cards = stops_of(alloc, WITH_CARDS, failing)?;
+    Ok(format!(in alloc; "{one_job}; {with_cards}")?)
+}
+
+#[test]
+fn the_log_fails_from_each_call_on(rt: HostRuntime) -> Result<(), Fail> {
+    let stops = stops_of_both(rt.alloc(), Failing::Log)?;
+    assert_eq!(rt; stops.as_str(), "479 old, 8 next; 197 old, 2 next");
+    Ok(())
+}
+
+#[test]
+fn the_database_fails_from_each_call_on(rt: HostRuntime) -> Result<(), Fail> {
+    let stops = stops_of_both(rt.alloc(), Failing::Database)?;
+    assert_eq!(rt; stops.as_str(), "290 old, 0 next; 56 old, 0 next");
+    Ok(())
+}
