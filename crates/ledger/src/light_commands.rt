@@ -4,7 +4,7 @@ ghost use Rattle.std.specs.Prelude.{◌≡◌, Some, None, IfSome};
 ghost use Rattle.office.specs.Jobs.{Job as KnownJob};
 ghost use Rattle.office.specs.Kept.{kept_of, summary_of, job_refusal};
 ghost use Rattle.tables.specs.Steps.{IsStep, IsOpenStep};
-ghost use Rattle.ledger.specs.Light.{command_of};
+ghost use Rattle.ledger.specs.Light.{command_of, light_of};
 ghost use Rattle.ledger.specs.Saving.{job_in};
 ghost use Rattle.ledger.specs.Serving.{with_commanded};
 ghost use Rattle.ledger.specs.Steps.{Serves, ServesWhere};
@@ -27,7 +27,8 @@ pub enum LightCommand {
 impl LightCommand {
     /// The command, if it is one of these.
     pub fn of(command: JobCommand) -> Option<LightCommand>
-        ensures { IfSome result (λ light. command ≡ command_of light) }
+        ensures which { result ≡ light_of command }
+        ensures same { IfSome result (λ light. command ≡ command_of light) }
     {
         match command {
             JobCommand::Hold => Some(LightCommand::Hold),

@@ -11,4 +11,4 @@ returns-in-Some-clause-meter g c clean inside =
     let still : risen c.args.meter.now 0 ≡ c.args.meter.now = search rules in
     on_any c.command_lightly.result _ (λ office s.
     let job = job_in c.args.name office in
-    sym (ap (λ q. risen c.args.meter.now (attempted_of q job)) c.in-Some.ensures ∙ ap (risen c.args.meter.now) (attempts_none c.in-Some.light job) ∙ still))
+    sym (ap (λ q. risen c.args.meter.now (attempted_of q job)) c.in-Some.ensures.same ∙ ap (risen c.args.meter.now) (attempts_none c.in-Some.light job) ∙ still))
