@@ -21,6 +21,7 @@ abbrev pub status_code : Status → ℕ
 status_code status.Done = 0
 status_code status.Told = 1
 status_code status.Misused = 2
+status_code status.Unusable = 3
 
 -- the words of a fault
 abbrev pub fault_words : Fault → List ℕ
@@ -47,6 +48,8 @@ misuse_words (misuse.Words f) = complaint f
 misuse_words misuse.NoText = codes "a word is not UTF-8 text"
 misuse_words misuse.Size = codes "SIZE must be 1400, 2000 or 4000"
 misuse_words misuse.Switches = codes "SWITCHES must be rising letters of ABCDEFG, or - for none"
+misuse_words misuse.Port = codes "PORT must be a number from 1 to 65535"
+misuse_words misuse.Count = codes "COUNT must be a number from 1 to 1000000"
 
 -- there was no memory to read the words
 abbrev pub want_of_memory : Misuse

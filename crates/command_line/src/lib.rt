@@ -8,6 +8,7 @@
 #![tactic(auto)]
 
 mod faults;
+mod ports;
 mod statuses;
 mod tasks;
 mod telling;

@@ -12,6 +12,8 @@ pub enum Status {
     Told,
     /// The words ask for nothing that the program does.
     Misused,
+    /// The bureau's file could not be used.
+    Unusable,
 }
 
 impl Status {
@@ -23,6 +25,7 @@ impl Status {
             Status::Done => 0,
             Status::Told => 1,
             Status::Misused => 2,
+            Status::Unusable => 3,
         }
     }
 }

@@ -6,9 +6,10 @@ ghost use Rattle.words.specs.Plain.{texts};
 ghost use Rattle.words.specs.declared.RowName.{RowName};
 ghost use Rattle.words.specs.declared.WordsFault.TheVariants.{Memory};
 ghost use Rattle.command_line.specs.Told.{asks_for_help, is_want_of_memory};
-ghost use Rattle.command_line.specs.Tasks.{IsMisuse, IsValueMisuse, Wants, WantsRun};
+ghost use Rattle.command_line.specs.Tasks.{IsMisuse, IsServeMisuse, IsValueMisuse, Wants, WantsRun, WantsServe};
 ghost use Rattle.command_line.specs.declared.tasks.Task.{Task};
 
+use crate::ports::{count_of, job_number, port_of};
 use core_store::Size;
 use std::alloc::{AllocError, Global};
 use std::error::Error;
@@ -48,6 +49,36 @@ pub enum Task<'a> {
         /// The path of the file for the deck.
         out: &'a str,
     },
+    /// Make a new bureau's file.
+    Init {
+        /// The path of the bureau's file.
+        file: &'a str,
+    },
+    /// Carry out a script's commands.
+    Apply {
+        /// The path of the bureau's file.
+        file: &'a str,
+        /// The path of the script.
+        script: &'a str,
+    },
+    /// Write what a job has punched and printed to files.
+    Export {
+        /// The path of the bureau's file.
+        file: &'a str,
+        /// The job's customer.
+        customer: &'a str,
+        /// The job's number, or 0 where its text is none.
+        number: u32,
+    },
+    /// Answer requests over HTTP.
+    Serve {
+        /// The path of the bureau's file.
+        file: &'a str,
+        /// The port to listen on.
+        port: u16,
+        /// How many connections are served.
+        count: u32,
+    },
 }
 
 /// Why words ask for nothing that the program does. It prints as a complaint to the caller.
@@ -61,6 +92,10 @@ pub enum Misuse<'a> {
     Size,
     /// SWITCHES names no set of sense switches.
     Switches,
+    /// PORT is no port's number.
+    Port,
+    /// COUNT is no number of connections.
+    Count,
 }
 
 impl<'a> Misuse<'a> {
@@ -96,6 +131,8 @@ impl<'a> Display for Misuse<'a> {
             Misuse::Switches => {
                 formatter.write_str("SWITCHES must be rising letters of ABCDEFG, or - for none")
             }
+            Misuse::Port => formatter.write_str("PORT must be a number from 1 to 65535"),
+            Misuse::Count => formatter.write_str("COUNT must be a number from 1 to 1000000"),
         }
     }
 }
@@ -146,6 +183,21 @@ fn run_task<'a>(deck: &'a str, size: &str, switches: &str) -> Result<Task<'a>, M
     })
 }
 
+/// The task of a row `serve`.
+fn serve_task<'a>(file: &'a str, port: &str, count: &str) -> Result<Task<'a>, Misuse<'a>>
+    ensures ok { IfOk result (WantsServe file.entry.now port.now count.now) }
+    ensures err { IfErr result (λ _. (task : Task) → ¬ WantsServe file.entry.now port.now count.now task) }
+    ensures misuse { IfErr result (IsServeMisuse port.now count.now) }
+{
+    let Some(port) = port_of(port) else {
+        return Err(Misuse::Port);
+    };
+    let Some(count) = count_of(count) else {
+        return Err(Misuse::Count);
+    };
+    Ok(Task::Serve { file, port, count })
+}
+
 /// The task that the words ask for.
 #[tactic(auto, unfolding(values::specs::Switches::letters_of))]
 pub fn task_of<'a>(alloc: Global, words: &'a [String]) -> Result<Task<'a>, Misuse<'a>>
@@ -172,6 +224,20 @@ pub fn task_of<'a>(alloc: Global, words: &'a [String]) -> Result<Task<'a>, Misus
             },
         ) => run_task(deck, size, switches),
         Ok(Words::Assemble { source, out }) => Ok(Task::Assemble { source, out }),
+        Ok(Words::Init { file }) => Ok(Task::Init { file }),
+        Ok(Words::Apply { file, script }) => Ok(Task::Apply { file, script }),
+        Ok(
+            Words::Export {
+                file,
+                customer,
+                number,
+            },
+        ) => Ok(Task::Export {
+            file,
+            customer,
+            number: job_number(number),
+        }),
+        Ok(Words::Serve { file, port, count }) => serve_task(file, port, count),
         Err(fault) => Err(Misuse::Words(fault)),
     }
 }

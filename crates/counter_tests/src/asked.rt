@@ -39,13 +39,26 @@ Ok(Version)|--version
 Err(Help(None))|help
 Err(Help(Some(Run)))|help run
 Err(Help(Some(Assemble)))|help assemble
-Err(Row)|help init
+Err(Help(Some(Init)))|help init
+Err(Row)|help migrate
 Err(Row)|help run run
 Err(Row)|Run D 4000 -
 Err(Row)|--help run
 Err(Row)|--version run
 Err(Row)|-v
-Err(Row)|init F
+Ok(Init { file: \"F\" })|init F
+Ok(Init { file: \"-F\" })|init -- -F
+Ok(Apply { file: \"F\", script: \"-\" })|apply F -
+Ok(Export { file: \"F\", customer: \"ACME\", number: \"09\" })|export F ACME 09
+Ok(Serve { file: \"F\", port: \"0\", count: \"x\" })|serve F 0 x
+Ok(Help(Some(Serve)))|serve --help
+Err(Values(Init))|init
+Err(Values(Init))|init F G
+Err(Values(Apply))|apply F
+Err(Values(Export))|export F ACME
+Err(Hyphen(\"-1\"))|export F ACME -1
+Err(Values(Serve))|serve F 80
+Err(Row)|migrate F
 Err(Row)|-- run D 4000 -
 Err(Values(Run))|run
 Err(Values(Run))|run D 4000
@@ -108,7 +121,20 @@ Err(Switches)|run D 4000 BA
 Err(Switches)|run D 4000 AA
 Err(Switches)|run D 4000 H
 Err(Switches)|run D 4000 a
-Err(Words(Row))|init F
+Ok(Init { file: \"F\" })|init F
+Ok(Apply { file: \"F\", script: \"S\" })|apply F S
+Ok(Export { file: \"F\", customer: \"acme\", number: 9 })|export F acme 9
+Ok(Export { file: \"F\", customer: \"ACME\", number: 0 })|export F ACME 09
+Ok(Export { file: \"F\", customer: \"ACME\", number: 999999999 })|export F ACME 999999999
+Ok(Export { file: \"F\", customer: \"ACME\", number: 0 })|export F ACME 1000000000
+Ok(Serve { file: \"F\", port: 1, count: 1000000 })|serve F 1 1000000
+Ok(Serve { file: \"F\", port: 65535, count: 1 })|serve F 65535 1
+Err(Port)|serve F 65536 1
+Err(Port)|serve F 0 x
+Err(Port)|serve F 080 1
+Err(Count)|serve F 80 1000001
+Err(Count)|serve F 80 0
+Err(Words(Row))|migrate F
 Err(Words(Help(None)))|help
 Err(Words(Hyphen(\"-A\")))|run D 4000 -A
 Err(Words(Values(Assemble)))|assemble S

@@ -14,4 +14,5 @@ mod replacing;
 mod running;
 
 pub use outcomes::write_out;
+pub use replacing::put_file;
 pub use running::run_source;

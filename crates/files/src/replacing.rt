@@ -57,7 +57,7 @@ fn put_by_name(
 /// Where a file that can be written is at the path, or none, it has all the bytes in the end, or it
 /// stays as it was. What is no regular file (a device, a pipe, a link to a file) is written
 /// straight, and may be left with a part of the bytes where that fails.
-pub(crate) fn put_file(rt: &HostRuntime, path: &str, bytes: &[u8]) -> io::Result<()> {
+pub fn put_file(rt: &HostRuntime, path: &str, bytes: &[u8]) -> io::Result<()> {
     match fs::symlink_metadata(rt, path) {
         Ok(found) if found.is_file() => {
             OpenOptions::new().write(true).open(rt, path)?;

@@ -1,7 +1,9 @@
 pub mod Values
 pub mod Leaf
+pub mod One
 pub mod Two
 pub mod Three
+pub mod Names
 pub mod Rows
 pub mod Taken
 pub mod Items

@@ -1,5 +1,5 @@
 -- What clap makes of the program's words: it takes no words, and those of the rows.
-use Rattle.std.proofs.Common.{◌≡◌, ◌≢◌, ◌∙◌, ◌++◌, List, [], ◌∷◌, false, codes, refl, Some, ap, ap₂, sym, append_assoc}
+use Rattle.std.proofs.Common.{◌≡◌, ◌≢◌, ◌∙◌, ◌++◌, List, [], ◌∷◌, false, refl, Some, ap, ap₂, sym, append_assoc}
 use Rattle.std.specs.Prelude.{fold, is_some}
 use Rattle.std.specs.Str.{bytes_eq}
 use Rattle.clap.specs.Walk.{finished, idle, settled, Names, Rule, Text, Walk, nothing_held, walk, walk_from, walked}
@@ -9,9 +9,10 @@ use Rattle.clap.specs.Kinds.{Kinds, or_else}
 use Rattle.clap.proofs.OnLiterals.{clap_on_literals}
 use Rattle.words.specs.Command.{bureau}
 use Rattle.words.proofs.Values.{at, or_else_none, IsValue}
-use Rattle.words.proofs.Leaf.{leaf_fault}
-use Rattle.words.proofs.Two.{two}
-use Rattle.words.proofs.Three.{three}
+use Rattle.words.specs.Asked.{name_of, places_of}
+use Rattle.words.specs.declared.row_names.RowName.{RowName}
+use Rattle.words.specs.declared.row_names.RowName.TheVariants as name
+use Rattle.words.proofs.Leaf.{leaf, leaf_fault}
 
 -- ---- after a row's name clap's own command only collects the words
 
@@ -57,13 +58,18 @@ pub record IsEntered (name : Text) (row : Shape) : Type 0 where
   pub faults : (words : List Text) → behind (collecting name words) ≡ or_else (leaf_fault row words) []
   pub found : (words : List Text) → entered top (Some (name, words)) ≡ Some (name, finished row.rules (walk row.rules [] nothing_held words).held)
 
-pub run_entered : IsEntered (codes "run") (three (codes "run"))
-unfolding clap_on_literals
-run_entered = record { stops = refl; clean = refl; faults = λ words. refl; found = λ words. refl }
+-- the row of this name, below the program's command
+abbrev pub row_shape : RowName → Shape
+row_shape row = leaf (name_of row) (places_of row)
 
-pub assemble_entered : IsEntered (codes "assemble") (two (codes "assemble"))
+pub row_entered : (row : RowName) → IsEntered (name_of row) (row_shape row)
 unfolding clap_on_literals
-assemble_entered = record { stops = refl; clean = refl; faults = λ words. refl; found = λ words. refl }
+row_entered name.Run = record { stops = refl; clean = refl; faults = λ words. refl; found = λ words. refl }
+row_entered name.Assemble = record { stops = refl; clean = refl; faults = λ words. refl; found = λ words. refl }
+row_entered name.Init = record { stops = refl; clean = refl; faults = λ words. refl; found = λ words. refl }
+row_entered name.Apply = record { stops = refl; clean = refl; faults = λ words. refl; found = λ words. refl }
+row_entered name.Export = record { stops = refl; clean = refl; faults = λ words. refl; found = λ words. refl }
+row_entered name.Serve = record { stops = refl; clean = refl; faults = λ words. refl; found = λ words. refl }
 
 row_walk : (name : Text) (row : Shape) (words : List Text) → IsEntered name row
     → walk top.top.rules (names_of top) nothing_held (name ∷ words) ≡ collecting name words
@@ -86,12 +92,16 @@ row_found name row words is = ap (λ (w : Walk). entered top w.stopped) (row_wal
 
 -- ---- any other first word
 
-stray : (w : Text) → IsValue w → bytes_eq (codes "run") w ≡ false → bytes_eq (codes "assemble") w ≡ false
-    → turn_fault top.top (names_of top) (at 1 nothing_held) w ≡ stray_fault top.top
-stray w v no_run no_assemble = rw no_run (rw no_assemble (rw v.dashes (rw v.long (rw v.short refl))))
+-- the word is the name of no row
+abbrev pub IsNoName : Text → Type 0
+IsNoName w = (row : RowName) → bytes_eq (name_of row) w ≡ false
 
-pub no_row : (w : Text) (rest : List Text) → IsValue w → bytes_eq (codes "run") w ≡ false → bytes_eq (codes "assemble") w ≡ false
-    → fault_of bureau (w ∷ rest) ≢ []
+stray : (w : Text) → IsValue w → IsNoName w
+    → turn_fault top.top (names_of top) (at 1 nothing_held) w ≡ stray_fault top.top
+stray w v none = rw (none name.Run) (rw (none name.Assemble) (rw (none name.Init) (rw (none name.Apply)
+    (rw (none name.Export) (rw (none name.Serve) (rw v.dashes (rw v.long (rw v.short refl))))))))
+
+pub no_row : (w : Text) (rest : List Text) → IsValue w → IsNoName w → fault_of bureau (w ∷ rest) ≢ []
 unfolding walk_fault
-no_row w rest v no_run no_assemble e =
-    let k = sym (or_else_none _ _ (or_else_none _ _ e)) ∙ stray w v no_run no_assemble in cc
+no_row w rest v none e =
+    let k = sym (or_else_none _ _ (or_else_none _ _ e)) ∙ stray w v none in cc

@@ -1,56 +1,110 @@
 -- The ways in which words ask for something.
-use Rattle.std.proofs.Common.{◌≡◌, Bool, List, [], ◌∷◌, true, false, codes, refl, Some, None, sym, subst, inl, inr}
+use Rattle.std.proofs.Common.{◌≡◌, ◌∙◌, Bool, List, [], ◌∷◌, true, false, codes, refl, Some, None, ap, ap₂, sym, subst, inl, inr}
 use Rattle.std.specs.Prelude.{Option, find, is_some, option_map}
 use Rattle.std.proofs.lemmas.List.Elements.{All-cons, All-head, All-nil, All-tail}
 use Rattle.clap.specs.Words.{Text}
-use Rattle.words.specs.Asked.{AreValues, Asks, HasValues, IsHelp, IsOption, IsVersion, Spells, name_of}
+use Rattle.words.specs.Asked.{Asks, HasValues, IsHelp, IsOption, IsVersion, Spells, name_of, row_of, texts_of}
+use Rattle.words.specs.declared.row_values.Values.{Values}
+use Rattle.words.specs.declared.row_values.Values.TheVariants.{One, Two, Three}
 use Rattle.words.specs.Plain.{ArePlain, is_odd, is_plain}
-use Rattle.words.specs.declared.asked.RowName.{RowName}
-use Rattle.words.specs.declared.asked.RowName.TheVariants as name
+use Rattle.words.specs.declared.row_names.RowName.{RowName}
 use Rattle.words.specs.declared.asked.Words.{Words}
 use Rattle.words.specs.declared.asked.Words.TheVariants as row
+use Rattle.words.proofs.Names.{one_name}
 
--- words with hyphens in place of a row, a row's name with `--` after it, or the words of a row as they stand
+-- words in place of a row, a row's name with `--` after it, or the words of a row as they stand
 pub data Way (words : List Text) (asked : Words) : Type 0 where
   option : IsOption words asked → Way words asked
-  dashes : (row : RowName) (values : List Text) → words ≡ name_of row ∷ codes "--" ∷ values → AreValues row values asked → Way words asked
+  dashes : (r : RowName) (values : List Text) → words ≡ name_of r ∷ codes "--" ∷ values → row_of asked ≡ Some (r, values) → Way words asked
   plain : ArePlain words → Spells words asked → Way words asked
 
-no_words_plain : (words : List Text) → words ≡ [] → ArePlain words
-no_words_plain words e = subst ArePlain (sym e) (All-nil (λ x. is_plain x ≡ true))
+with_values : (words : List Text) (asked : Words) (r : RowName) (values : List Text) → row_of asked ≡ Some (r, values)
+    → HasValues r values words → Way words asked
+with_values words asked r values e (inl has) = plain has.1 (record { row = r; values = values; asks = e; spelt = has.0 })
+with_values words asked r values e (inr has) = dashes r values has e
 
 pub way_of : (words : List Text) (asked : Words) → Asks words asked → Way words asked
-way_of words row.Standard asks = plain (no_words_plain words asks) asks
-way_of words (row.Run deck size switches) (inl asks) = plain asks.1 asks.0
-way_of words (row.Run deck size switches) (inr asks) = dashes name.Run (deck.now ∷ size.now ∷ switches.now ∷ []) asks refl
-way_of words (row.Assemble source out) (inl asks) = plain asks.1 asks.0
-way_of words (row.Assemble source out) (inr asks) = dashes name.Assemble (source.now ∷ out.now ∷ []) asks refl
+way_of words row.Standard asks = option asks
+way_of words (row.Run deck size switches) asks = with_values words _ _ _ refl asks
+way_of words (row.Assemble source out) asks = with_values words _ _ _ refl asks
+way_of words (row.Init file) asks = with_values words _ _ _ refl asks
+way_of words (row.Apply file script) asks = with_values words _ _ _ refl asks
+way_of words (row.Export file customer number) asks = with_values words _ _ _ refl asks
+way_of words (row.Serve file port count) asks = with_values words _ _ _ refl asks
 way_of words (row.Help page) asks = option asks
 way_of words row.Version asks = option asks
 
+-- the values of a row, as the words ask for it
+same_row : (words : List Text) (p : RowName × List Text) (r : RowName) (values : List Text) → Some p ≡ Some (r, values)
+    → HasValues r values words → HasValues p.0 p.1 words
+same_row words p r values e has =
+    let same : (r, values) ≡ p = cc in subst (λ (q : RowName × List Text). HasValues q.0 q.1 words) same has
+
+-- words with the values of a row ask for it
+pub asks_with : (words : List Text) (asked : Words) (r : RowName) (values : List Text) → row_of asked ≡ Some (r, values)
+    → HasValues r values words → Asks words asked
+asks_with words row.Standard r values e has = cc
+asks_with words (row.Run deck size switches) r values e has = same_row words _ r values e has
+asks_with words (row.Assemble source out) r values e has = same_row words _ r values e has
+asks_with words (row.Init file) r values e has = same_row words _ r values e has
+asks_with words (row.Apply file script) r values e has = same_row words _ r values e has
+asks_with words (row.Export file customer number) r values e has = same_row words _ r values e has
+asks_with words (row.Serve file port count) r values e has = same_row words _ r values e has
+asks_with words (row.Help page) r values e has = cc
+asks_with words row.Version r values e has = cc
+
+-- words in place of a row ask for that
+pub asks_option : (words : List Text) (asked : Words) → IsOption words asked → Asks words asked
+asks_option words row.Standard is = is
+asks_option words (row.Run deck size switches) is = absurd is
+asks_option words (row.Assemble source out) is = absurd is
+asks_option words (row.Init file) is = absurd is
+asks_option words (row.Apply file script) is = absurd is
+asks_option words (row.Export file customer number) is = absurd is
+asks_option words (row.Serve file port count) is = absurd is
+asks_option words (row.Help page) is = is
+asks_option words row.Version is = is
+
 -- plain words that spell a row ask for it
 pub spelt : (words : List Text) (asked : Words) → ArePlain words → Spells words asked → Asks words asked
-spelt words row.Standard all spells = spells
-spelt words (row.Run deck size switches) all spells = inl (spells, all)
-spelt words (row.Assemble source out) all spells = inl (spells, all)
-spelt words (row.Help page) all spells = absurd spells
-spelt words row.Version all spells = absurd spells
+spelt words asked all is = asks_with words asked is.row is.values is.asks (inl (is.spelt, all))
+
+-- what asks for a row has one value, two or three
+values_as : (p : RowName × List Text) (v : Values) (r : RowName) (values : List Text) → p.1 ≡ texts_of v → Some p ≡ Some (r, values)
+    → values ≡ texts_of v
+values_as p v r values is e = let same : p ≡ (r, values) = cc in ap (λ (q : RowName × List Text). q.1) (sym same) ∙ is
+
+pub some_values : (asked : Words) (r : RowName) (values : List Text) → row_of asked ≡ Some (r, values) → (v : Values) × (values ≡ texts_of v)
+some_values row.Standard r values e = cc
+some_values (row.Run deck size switches) r values e = (Three deck size switches, values_as _ (Three deck size switches) r values refl e)
+some_values (row.Assemble source out) r values e = (Two source out, values_as _ (Two source out) r values refl e)
+some_values (row.Init file) r values e = (One file, values_as _ (One file) r values refl e)
+some_values (row.Apply file script) r values e = (Two file script, values_as _ (Two file script) r values refl e)
+some_values (row.Export file customer number) r values e = (Three file customer number, values_as _ (Three file customer number) r values refl e)
+some_values (row.Serve file port count) r values e = (Three file port count, values_as _ (Three file port count) r values refl e)
+some_values (row.Help page) r values e = cc
+some_values row.Version r values e = cc
+
+-- plain words that ask for help or the version spell no row
+pub no_help_spelt : (words : List Text) (page : Option RowName) → Spells words (row.Help page) → ⊥
+no_help_spelt words page is = let k = is.asks in cc
+
+pub no_version_spelt : (words : List Text) → Spells words row.Version → ⊥
+no_version_spelt words is = let k = is.asks in cc
 
 -- ---- words with `--` after a row's name
 
-values_after : {a b : Text} {xs ys : List Text} → a ∷ b ∷ xs ≡ a ∷ b ∷ ys → xs ≡ ys
-values_after e = cc
+names_of : {a b c : Text} {xs ys : List Text} → a ∷ c ∷ xs ≡ b ∷ c ∷ ys → a ≡ b
+names_of e = cc
 
-other_name : {b : Text} {xs ys : List Text} → codes "run" ∷ b ∷ xs ≡ codes "assemble" ∷ b ∷ ys → ⊥
-other_name e = cc
+values_after : {a b c : Text} {xs ys : List Text} → a ∷ c ∷ xs ≡ b ∷ c ∷ ys → xs ≡ ys
+values_after e = cc
 
 -- the row and the values are given by the words
 pub same_dashes : (r s : RowName) (xs ys : List Text) (asked : Words) → name_of r ∷ codes "--" ∷ xs ≡ name_of s ∷ codes "--" ∷ ys
-    → AreValues r xs asked → AreValues s ys asked
-same_dashes name.Run name.Run xs ys asked e are = subst (λ (l : List Text). AreValues name.Run l asked) (values_after e) are
-same_dashes name.Assemble name.Assemble xs ys asked e are = subst (λ (l : List Text). AreValues name.Assemble l asked) (values_after e) are
-same_dashes name.Run name.Assemble xs ys asked e are = absurd (other_name e)
-same_dashes name.Assemble name.Run xs ys asked e are = absurd (other_name (sym e))
+    → row_of asked ≡ Some (r, xs) → row_of asked ≡ Some (s, ys)
+same_dashes r s xs ys asked e are = are
+    ∙ ap₂ (λ (x : RowName) (v : List Text). Some (x, v)) (one_name r s (names_of e)) (values_after e)
 
 pub dashes_odd : (w : Text) (ws : List Text) → ArePlain (w ∷ codes "--" ∷ ws) → ⊥
 dashes_odd w ws all =
@@ -84,39 +138,49 @@ none_none f (Some x) e = cc
 
 -- ---- words ask for one thing
 
-plain_or_dashes : (row other : RowName) (xs ys words : List Text) → (words ≡ name_of row ∷ xs) × ArePlain words
-    → words ≡ name_of other ∷ codes "--" ∷ ys → ⊥
-plain_or_dashes row other xs ys words is e = dashes_odd _ _ (subst ArePlain e is.1)
+plain_or_dashes : (r s : RowName) (xs ys words : List Text) → (words ≡ name_of r ∷ xs) × ArePlain words
+    → words ≡ name_of s ∷ codes "--" ∷ ys → ⊥
+plain_or_dashes r s xs ys words is e = dashes_odd _ _ (subst ArePlain e is.1)
 
--- of one row they are the same values
-pub same_values : (xs ys words : List Text) → HasValues name.Run xs words → HasValues name.Run ys words → xs ≡ ys
-same_values xs ys words (inl is) (inl e) = let x = is.0 in let y = e.0 in cc
-same_values xs ys words (inl is) (inr e) = absurd (plain_or_dashes name.Run name.Run xs ys words is e)
-same_values xs ys words (inr is) (inl e) = absurd (plain_or_dashes name.Run name.Run ys xs words e is)
-same_values xs ys words (inr is) (inr e) = cc
+head_is : {a b : Text} {xs ys : List Text} → a ∷ xs ≡ b ∷ ys → a ≡ b
+head_is e = cc
 
--- and of one row alone
-pub one_row : (xs ys words : List Text) → HasValues name.Run xs words → HasValues name.Assemble ys words → ⊥
-one_row xs ys words (inl is) (inl e) = let x = is.0 in let y = e.0 in cc
-one_row xs ys words (inl is) (inr e) = let x = is.0 in cc
-one_row xs ys words (inr is) (inl e) = let y = e.0 in cc
-one_row xs ys words (inr is) (inr e) = cc
+tail_is : {a b : Text} {xs ys : List Text} → a ∷ xs ≡ b ∷ ys → xs ≡ ys
+tail_is e = cc
 
-pub some_word : (row : RowName) (xs words : List Text) → HasValues row xs words → words ≡ [] → ⊥
-some_word row xs words (inl is) e = let x = is.0 in cc
-some_word row xs words (inr is) e = cc
+-- words have the values of one row alone
+pub one_row : (r s : RowName) (xs ys words : List Text) → HasValues r xs words → HasValues s ys words → (r ≡ s) × (xs ≡ ys)
+one_row r s xs ys words (inl is) (inl e) =
+    let k : name_of r ∷ xs ≡ name_of s ∷ ys = sym is.0 ∙ e.0 in (one_name r s (head_is k), tail_is k)
+one_row r s xs ys words (inl is) (inr e) = absurd (plain_or_dashes r s xs ys words is e)
+one_row r s xs ys words (inr is) (inl e) = absurd (plain_or_dashes s r ys xs words e is)
+one_row r s xs ys words (inr is) (inr e) =
+    let k : name_of r ∷ codes "--" ∷ xs ≡ name_of s ∷ codes "--" ∷ ys = sym is ∙ e in (one_name r s (names_of k), values_after k)
 
--- words of a row with two values or more are no option
-pub no_help : (row : RowName) (page : Option RowName) (a b : Text) (xs words : List Text) → HasValues row (a ∷ b ∷ xs) words → IsHelp page words → ⊥
-no_help row None a b xs words (inl is) (inl e) = let x = is.0 in cc
-no_help row None a b xs words (inl is) (inr e) = let x = is.0 in cc
-no_help row None a b xs words (inr is) (inl e) = cc
-no_help row None a b xs words (inr is) (inr e) = cc
-no_help row (Some other) a b xs words (inl is) (inl e) = let x = is.0 in cc
-no_help row (Some other) a b xs words (inl is) (inr e) = let x = is.0 in cc
-no_help row (Some other) a b xs words (inr is) (inl e) = cc
-no_help row (Some other) a b xs words (inr is) (inr e) = cc
+odd_alone : (a b : Text) → is_plain b ≡ false → ArePlain (a ∷ b ∷ []) → ⊥
+odd_alone a b odd all =
+    let k : is_plain b ≡ true = All-head (λ x. is_plain x ≡ true) b [] (All-tail (λ x. is_plain x ≡ true) a (b ∷ []) all) in cc
 
-pub no_version : (row : RowName) (a : Text) (xs words : List Text) → HasValues row (a ∷ xs) words → IsVersion words → ⊥
-no_version row a xs words (inl is) e = let x = is.0 in cc
-no_version row a xs words (inr is) e = cc
+-- words of a row with values ask for no help
+no_page : (r s : RowName) (said : Text) (v : Text) (vs words : List Text) → is_plain said ≡ false → HasValues r (v ∷ vs) words
+    → words ≡ name_of s ∷ said ∷ [] → ⊥
+no_page r s said v vs words odd (inl is) e = odd_alone _ _ odd (subst ArePlain e is.1)
+no_page r s said v vs words odd (inr is) e = let k : codes "--" ∷ v ∷ vs ≡ said ∷ [] = tail_is (sym is ∙ e) in cc
+
+-- one word is no row with values
+no_alone : (r : RowName) (said : Text) (v : Text) (vs words : List Text) → HasValues r (v ∷ vs) words → words ≡ said ∷ [] → ⊥
+no_alone r said v vs words (inl is) e = let k : v ∷ vs ≡ [] = tail_is (sym is.0 ∙ e) in cc
+no_alone r said v vs words (inr is) e = let k : codes "--" ∷ v ∷ vs ≡ [] = tail_is (sym is ∙ e) in cc
+
+pub some_word : (r : RowName) (xs words : List Text) → HasValues r xs words → words ≡ [] → ⊥
+some_word r xs words (inl is) e = let k = sym is.0 ∙ e in cc
+some_word r xs words (inr is) e = let k = sym is ∙ e in cc
+
+pub no_help : (r : RowName) (page : Option RowName) (v : Text) (vs words : List Text) → HasValues r (v ∷ vs) words → IsHelp page words → ⊥
+no_help r None v vs words has (inl e) = no_alone r _ v vs words has e
+no_help r None v vs words has (inr e) = no_alone r _ v vs words has e
+no_help r (Some other) v vs words has (inl e) = no_page r other _ v vs words refl has e
+no_help r (Some other) v vs words has (inr e) = no_page r other _ v vs words refl has e
+
+pub no_version : (r : RowName) (v : Text) (vs words : List Text) → HasValues r (v ∷ vs) words → IsVersion words → ⊥
+no_version r v vs words has e = no_alone r _ v vs words has e

@@ -23,7 +23,15 @@ IsLocal c = (out-Command c).has_globals ≡ false
 
 -- the command before it has rows: no program's name in front, and no help of clap's own
 abbrev pub named : App
-named = on_top (λ s. record s { no_binary_name = true; disable_help_flag = true; disable_help_subcommand = true }) (new_app (codes "bureau"))
+named = on_top (λ s. record s {
+  no_binary_name = true;
+  disable_help_flag = true;
+  disable_help_subcommand = true;
+}) (new_app (codes "bureau"))
+
+-- the places of one value, of two and of three
+abbrev pub one_value : List Text
+one_value = codes "first" ∷ []
 
 abbrev pub two_values : List Text
 two_values = codes "first" ∷ codes "second" ∷ []
@@ -31,6 +39,17 @@ two_values = codes "first" ∷ codes "second" ∷ []
 abbrev pub three_values : List Text
 three_values = codes "first" ∷ codes "second" ∷ codes "third" ∷ []
 
+-- the rows that know no bureau
+abbrev pub with_deck_rows : App → App
+with_deck_rows a =
+    with_row (with_row a (codes "run") three_values) (codes "assemble") two_values
+
+-- the rows of a bureau's file
+abbrev pub with_file_rows : App → App
+with_file_rows a =
+    with_row (with_row (with_row (with_row a (codes "init") one_value)
+    (codes "apply") two_values) (codes "export") three_values) (codes "serve") three_values
+
 -- the program's command
 abbrev pub bureau : App
-bureau = with_row (with_row named (codes "run") three_values) (codes "assemble") two_values
+bureau = with_file_rows (with_deck_rows named)

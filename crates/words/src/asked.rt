@@ -1,8 +1,9 @@
 //! What the words ask for, and what can be wrong with them.
 ghost use Rattle.std.specs.Prelude.{◌≡◌, Some};
-ghost use Rattle.words.specs.Asked.{complaint, is_help_fault, name_of, row_named, wish_of};
+ghost use Rattle.words.specs.Asked.{complaint, is_help_fault};
 
 use crate::help::page;
+use crate::row_names::RowName;
 use std::error::Error;
 use std::fmt;
 use std::fmt::{Display, Formatter};
@@ -28,54 +29,40 @@ pub enum Words<'a> {
         /// The path of the file for the deck.
         out: &'a str,
     },
+    /// `init FILE`: a new bureau's file.
+    Init {
+        /// The path of the bureau's file.
+        file: &'a str,
+    },
+    /// `apply FILE SCRIPT`: a script's commands, carried out by a bureau.
+    Apply {
+        /// The path of the bureau's file.
+        file: &'a str,
+        /// The path of the script.
+        script: &'a str,
+    },
+    /// `export FILE CUSTOMER NUMBER`: what a job has punched and printed, written to files.
+    Export {
+        /// The path of the bureau's file.
+        file: &'a str,
+        /// The job's customer.
+        customer: &'a str,
+        /// The job's number.
+        number: &'a str,
+    },
+    /// `serve FILE PORT COUNT`: requests over HTTP, answered by a bureau.
+    Serve {
+        /// The path of the bureau's file.
+        file: &'a str,
+        /// The port to listen on.
+        port: &'a str,
+        /// How many connections are served.
+        count: &'a str,
+    },
     /// `--help` or `-h`: alone the whole help, after a row's name the help of that row.
     Help(Option<RowName>),
     /// `--version`, alone.
     Version,
-}
-
-/// The name of a row that has values.
-#[derive(Clone, Copy, Debug, PartialEq, Eq)]
-pub enum RowName {
-    /// `run`.
-    Run,
-    /// `assemble`.
-    Assemble,
-}
-
-impl RowName {
-    /// The row's name that a word is.
-    pub(crate) fn of(word: &str) -> Option<RowName>
-        ensures { result ≡ row_named word.now }
-    {
-        if word == "run" {
-            return Some(RowName::Run);
-        }
-        if word == "assemble" {
-            return Some(RowName::Assemble);
-        }
-        None
-    }
-
-    /// The word that is the row's name.
-    pub(crate) fn word(self) -> &'static str
-        ensures { result.now ≡ name_of self }
-    {
-        match self {
-            RowName::Run => "run",
-            RowName::Assemble => "assemble",
-        }
-    }
-
-    /// What the row takes after its name.
-    fn wish(self) -> &'static str
-        ensures { result.now ≡ wish_of self }
-    {
-        match self {
-            RowName::Run => "`run` takes three words after it: DECK SIZE SWITCHES",
-            RowName::Assemble => "`assemble` takes two words after it: IN OUT",
-        }
-    }
 }
 
 /// Why words are not taken. Nothing was done then. It prints as a complaint to the caller.

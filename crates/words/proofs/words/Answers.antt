@@ -2,7 +2,7 @@ use Rattle.std.proofs.Common.{◌∙◌, sym, subst}
 use Rattle.std.proofs.lemmas.Result.{IfOk-at_ok, IfOk-weaker, IfErr-weaker}
 use Rattle.words.specs.Plain.{ArePlain, texts}
 use Rattle.words.specs.declared.asked.Words.TheVariants as row
-use Rattle.words.proofs.Ways.{all_plain, dashes_odd, none_none, none_odd, option, dashes, plain, same_dashes, some_none, spelt, way_of}
+use Rattle.words.proofs.Ways.{all_plain, dashes_odd, no_help_spelt, no_version_spelt, none_none, none_odd, option, dashes, plain, same_dashes, some_none, spelt, way_of}
 use Rattle.words.proofs.words.Goals as goal
 
 pub returns-in-None-clause-err : goal.returns-in-None-clause-err
@@ -43,13 +43,13 @@ returns-clause-err c = IfErr-weaker c.row_of.result _ _ (λ fault memory asked a
 pub returns-clause-help : goal.returns-clause-help
 returns-clause-help c page =
     let all : ArePlain (texts c.args.words.now) = all_plain _ (sym c.odd_word.ensures ∙ none_none (λ s. s.now) c.odd_word.result (sym c.if-is_some.ensures)) in (
-      λ e. absurd (IfOk-at_ok _ e c.row_of.ensures.ok all),
+      λ e. absurd (no_help_spelt _ _ (IfOk-at_ok _ e c.row_of.ensures.ok all)),
       λ is. absurd (c.in_default.ensures.none (row.Help page) is),
     )
 
 pub returns-clause-version : goal.returns-clause-version
 returns-clause-version c =
     let all : ArePlain (texts c.args.words.now) = all_plain _ (sym c.odd_word.ensures ∙ none_none (λ s. s.now) c.odd_word.result (sym c.if-is_some.ensures)) in (
-      λ e. absurd (IfOk-at_ok _ e c.row_of.ensures.ok all),
+      λ e. absurd (no_version_spelt _ (IfOk-at_ok _ e c.row_of.ensures.ok all)),
       λ is. absurd (c.in_default.ensures.none row.Version is),
     )

@@ -4,7 +4,7 @@ use Rattle.std.proofs.lemmas.List.Folds.{fold-map}
 use Rattle.std.specs.Prelude.{fold}
 use Rattle.clap.specs.Words.{App, Text, new_app, with_rule}
 use Rattle.words.specs.Command.{positional}
-use Rattle.words.proofs.row.Goals as goal
+use Rattle.words.proofs.commands.row.Goals as goal
 
 abbrev with_value : App → Text → App
 with_value a place = with_rule a (positional place)

@@ -2,7 +2,7 @@ use Rattle.std.proofs.Common.{◌≡◌, take}
 use Rattle.clap.specs.Words.{app_of, new_app, with_rule}
 use Rattle.std.specs.Prelude.{fold}
 use Rattle.words.specs.Command.{IsLocal, positional}
-use Rattle.words.proofs.row.Given as goal
+use Rattle.words.proofs.commands.row.Given as goal
 
 abbrev pub invariant-loop-place : goal.invariant-loop-place
 invariant-loop-place l = record {

@@ -1,7 +1,7 @@
 use Rattle.std.proofs.Common.{◌≡◌, length}
 use Rattle.std.specs.Prelude.{find}
 use Rattle.words.specs.Plain.{is_odd, texts}
-use Rattle.words.proofs.odd_word.Given as goal
+use Rattle.words.proofs.misreading.odd_word.Given as goal
 
 abbrev pub invariant-loop-word : goal.invariant-loop-word
 invariant-loop-word l = find is_odd (texts l.rest) ≡ find is_odd (texts l.words)
