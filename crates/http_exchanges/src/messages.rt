@@ -1,0 +1,46 @@
+//! What is written in answer to a request.
+
+ghost use Rattle.std.specs.Prelude.{◌≡◌};
+ghost use Rattle.http_replies.specs.Fixed.{fault_bytes, fault_status};
+ghost use Rattle.http_exchanges.specs.Messages.{bytes_in};
+
+use http_replies::Fault;
+
+/// Bytes to be written.
+#[derive(Drop)]
+pub(crate) enum Bytes {
+    /// Bytes that were there from the start.
+    Fixed(&'static [u8]),
+    /// Bytes that were made.
+    Made(Vec<u8>),
+}
+
+/// What is written in answer to a request.
+#[derive(Drop)]
+pub(crate) struct Message {
+    pub(crate) status: u16,
+    pub(crate) bytes: Bytes,
+}
+
+impl Bytes {
+    /// The bytes themselves.
+    pub(crate) fn as_slice(&self) -> &[u8]
+        ensures { result.now ≡ bytes_in self.now }
+    {
+        match self {
+            Bytes::Fixed(bytes) => bytes,
+            Bytes::Made(bytes) => bytes.as_slice(),
+        }
+    }
+}
+
+/// The answer of a fault.
+pub(crate) fn faulted(fault: Fault) -> Message
+    ensures status { result.status ≡ fault_status fault }
+    ensures bytes { bytes_in result.bytes ≡ fault_bytes fault }
+{
+    Message {
+        status: fault.status(),
+        bytes: Bytes::Fixed(fault.answer()),
+    }
+}

@@ -1,0 +1,78 @@
+-- requests, as targets and bodies ask for them
+use Rattle.std.specs.Prelude.{ℕ, ◌≡◌, ◌≢◌, List, string_bytes}
+use Rattle.cards.specs.Decks.{IsDeck}
+use Rattle.cards.specs.Faults.{IsFirstFault, out_of_memory}
+use Rattle.cards.specs.Files.{file_of, text_of}
+use Rattle.cards.specs.declared.faults.CardFault.{CardFault}
+use Rattle.http_heads.specs.declared.asked.Asked.{Asked}
+use Rattle.http_heads.specs.declared.asked.Asked.TheVariants as asked
+use Rattle.http_heads.specs.declared.asked.JobName.{JobName}
+use Rattle.http_heads.specs.declared.asked.Kind as head
+use Rattle.http_heads.specs.declared.asked.Kind.TheVariants.{Object, Autocoder}
+use Rattle.office.specs.declared.commands.Command.TheVariants as command
+use Rattle.office.specs.declared.commands.Contents.{Contents}
+use Rattle.office.specs.declared.commands.JobCommand.{JobCommand}
+use Rattle.office.specs.declared.commands.JobCommand.TheVariants as on
+use Rattle.office.specs.declared.commands.Kind as office
+use Rattle.office.specs.declared.commands.Kind.TheVariants as deck
+use Rattle.units.specs.declared.switches.Switches.{Switches}
+use Rattle.http_requests.specs.declared.request.Request.{Request}
+use Rattle.http_requests.specs.declared.request.Request.TheVariants as request
+
+-- the kind of a deck, as the office calls it
+abbrev pub kind_of : head.Kind → office.Kind
+kind_of Object = deck.Object
+kind_of Autocoder = deck.Autocoder
+
+-- a command names the job by this customer and this number
+abbrev pub IsNamed : JobName → List ℕ → ℕ → Type 0
+IsNamed job customer number = (customer ≡ job.customer.now) × (number ≡ job.number)
+
+-- the contents have what was asked for, and their deck is the one of this text
+pub record AreContents (kind : head.Kind) (size : ℕ) (switches : Switches) (text : List ℕ)
+    (contents : Contents) : Type 0 where
+  pub kind_is : contents.kind ≡ kind_of kind
+  pub size_is : contents.size ≡ size
+  pub switches_are : contents.switches ≡ switches
+  pub deck : IsDeck contents.deck
+  pub text_is : text ≡ text_of contents.deck
+
+-- the first fault of a text, in the form of decks' texts
+abbrev pub IsTextFault : List ℕ → CardFault → Type 0
+IsTextFault text fault = (form : _) × (text_of ≡ file_of form) × IsFirstFault form text fault
+
+-- the request is to take in this job, or the text of its deck has its first fault here
+abbrev pub IsSubmission : JobName → head.Kind → ℕ → Switches → List ℕ → Request → Type 0
+IsSubmission job kind size switches text (request.Asks (command.Submit customer number contents)) =
+    IsNamed job (string_bytes customer) number × AreContents kind size switches text contents
+IsSubmission job kind size switches text (request.BadDeck fault) = IsTextFault text fault
+IsSubmission job kind size switches text other = ⊥
+
+-- the request is this command on this job
+abbrev pub IsOnJob : JobName → JobCommand → Request → Type 0
+IsOnJob job c (request.Asks (command.Job customer number d)) =
+    IsNamed job (string_bytes customer) number × (d ≡ c)
+IsOnJob job c other = ⊥
+
+-- the request is for the jobs of this customer
+abbrev pub AsksOfJobs : List ℕ → Request → Type 0
+AsksOfJobs customer (request.Asks (command.Jobs name)) = string_bytes name ≡ customer
+AsksOfJobs customer other = ⊥
+
+-- the request is what is asked for, with this body
+abbrev pub IsAskedBy : Asked → List ℕ → Request → Type 0
+IsAskedBy (asked.Submit job kind size switches) body r = IsSubmission job kind size switches body r
+IsAskedBy (asked.Slice job limit) body r = IsOnJob job (on.Slice limit) r
+IsAskedBy (asked.Start job switches) body r = IsOnJob job (on.Start switches) r
+IsAskedBy (asked.Hold job) body r = IsOnJob job on.Hold r
+IsAskedBy (asked.Release job) body r = IsOnJob job on.Release r
+IsAskedBy (asked.Collect job) body r = IsOnJob job on.Collect r
+IsAskedBy (asked.Standing job) body r = IsOnJob job on.Standing r
+IsAskedBy (asked.Cards job) body r = IsOnJob job on.Cards r
+IsAskedBy (asked.Lines job) body r = IsOnJob job on.Lines r
+IsAskedBy (asked.Jobs customer) body r = AsksOfJobs customer.now r
+IsAskedBy asked.Queue body r = r ≡ request.Asks command.Queue
+
+-- the deck of the request has this fault, which is no want of memory
+abbrev pub IsBadDeck : CardFault → Request → Type 0
+IsBadDeck fault r = (r ≡ request.BadDeck fault) × (fault ≢ out_of_memory)

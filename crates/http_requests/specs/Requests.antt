@@ -1,0 +1,36 @@
+-- requests of given bytes
+use Rattle.std.specs.Prelude.{ℕ, ◌≡◌, ◌<◌, ◌≤◌, ◌⊎◌, List, length, take, ⊤}
+use Rattle.http_heads.specs.Heads.{AsksFor, Refuses}
+use Rattle.http_heads.specs.declared.asked.Asked.{Asked}
+use Rattle.http_requests.specs.Asking.{IsAskedBy}
+use Rattle.http_requests.specs.declared.request.Request.{Request}
+use Rattle.http_requests.specs.declared.request.Request.TheVariants as request
+
+-- a status that refuses a request alone
+abbrev pub IsRefusingStatus : ℕ → Type 0
+IsRefusingStatus status =
+    (status ≡ 400) ⊎ ((status ≡ 404) ⊎ ((status ≡ 405)
+    ⊎ ((status ≡ 411) ⊎ ((status ≡ 413) ⊎ (status ≡ 431)))))
+
+-- where the request is refused, its status is one of these
+abbrev pub HasRefusingStatus : Request → Type 0
+HasRefusingStatus (request.Refused status) = IsRefusingStatus status
+HasRefusingStatus other = ⊤
+
+-- the request is refused for the head of these bytes
+abbrev pub IsRefusedFor : List ℕ → Request → Type 0
+IsRefusedFor input (request.Refused status) = Refuses input status
+IsRefusedFor input other = ⊥
+
+-- the request is what is asked for with a body of so many bytes, which begins these; where there
+-- are fewer, it is refused
+abbrev pub IsAskedWith : Asked → ℕ → List ℕ → Request → Type 0
+IsAskedWith asked count after r =
+    ((count ≤ length after) × IsAskedBy asked (take count after) r)
+    ⊎ ((length after < count) × (r ≡ request.Refused 400))
+
+-- the bytes come to this request: it is refused for their head, or this asks for it
+abbrev pub IsRequestOf : List ℕ → Request → Type 0
+IsRequestOf input r = IsRefusedFor input r
+    ⊎ ((asked : Asked) × (count : ℕ) × (after : List ℕ) × AsksFor input asked count after
+    × IsAskedWith asked count after r)

@@ -1,0 +1,18 @@
+//! Why no request was read.
+
+use std::alloc::AllocError;
+
+/// Why no request was read.
+#[derive(Clone, Copy, Debug, PartialEq, Eq)]
+pub enum RequestFault {
+    /// There was no memory for the request.
+    NoMemory,
+    /// The reader failed before the request ended.
+    ReadFailed,
+}
+
+impl From<AllocError> for RequestFault {
+    fn from(_: AllocError) -> RequestFault {
+        RequestFault::NoMemory
+    }
+}

@@ -1,0 +1,81 @@
+//! Requests, and how one is read.
+
+ghost use Rattle.std.specs.Prelude.{◌≡◌, ◌++◌, IfOk, IfSome};
+ghost use Rattle.http_requests.specs.Requests.{HasRefusingStatus, IsAskedWith, IsRefusingStatus, IsRequestOf};
+
+use crate::asking::request_for;
+use crate::fault::RequestFault;
+use crate::routing::Routes;
+use cards::CardFault;
+use http_heads::{Asked, Body, Head, Verdict, read_body};
+use office::Command;
+use std::alloc::Global;
+use std::io::Read;
+
+/// What the bytes of a reader come to.
+#[derive(Drop)]
+pub enum Request {
+    /// They are answered with this status alone: 400, 404, 405, 411, 413 or 431.
+    Refused(u16),
+    /// They ask for a submission, and the text of its deck has this fault.
+    BadDeck(CardFault),
+    /// They ask for this command.
+    Asks(Command),
+}
+
+/// The request that is refused with this status; with 400, where this is no status that refuses a
+/// request alone.
+fn refused(status: u16) -> Request
+    ensures one { HasRefusingStatus result }
+    ensures same { IsRefusingStatus status → result ≡ Request.Refused status }
+{
+    match status {
+        404 | 405 | 411 | 413 | 431 => Request::Refused(status),
+        _ => Request::Refused(400),
+    }
+}
+
+/// The request that asks for this, with a body of so many bytes, of which the first are these and
+/// the others are read.
+fn read_with_body<R: Read>(
+    alloc: Global,
+    reader: &mut R,
+    asked: Asked<'_>,
+    count: u32,
+    begun: &[u8],
+) -> Result<Request, RequestFault>
+    ensures request { IfOk result (λ request. IfSome (R.remaining reader.old)
+        (λ rest. IsAskedWith asked.entry count (begun.now ++ rest) request)) }
+    ensures status { IfOk result HasRefusingStatus }
+{
+    match read_body(alloc, reader, begun, count)? {
+        Body::Whole(bytes) => Ok(request_for(alloc, asked, &bytes)?),
+        Body::Short => Ok(Request::Refused(400)),
+        Body::ReadFailed => Err(RequestFault::ReadFailed),
+    }
+}
+
+impl Request {
+    /// Reads a request, its head and then its body. Bytes after it may be read with it; they change
+    /// nothing. It fails for want of memory, or where the reader fails.
+    pub fn read<R: Read>(
+        alloc: Global,
+        routes: &Routes,
+        reader: &mut R,
+    ) -> Result<Request, RequestFault>
+        ensures request { IfOk result (λ request. IfSome (R.remaining reader.old)
+            (λ input. IsRequestOf input request)) }
+        ensures status { IfOk result HasRefusingStatus }
+    {
+        let head = Head::read(reader);
+        match head.verdict(&routes.router) {
+            Verdict::Refused(status) => Ok(refused(status)),
+            Verdict::Asks {
+                asked,
+                count,
+                begun,
+            } => read_with_body(alloc, reader, asked, count, begun),
+            Verdict::ReadFailed => Err(RequestFault::ReadFailed),
+        }
+    }
+}

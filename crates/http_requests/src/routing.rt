@@ -1,0 +1,23 @@
+//! The table of all paths.
+
+ghost use Rattle.std.specs.Prelude.{◌≡◌};
+ghost use Rattle.routes.specs.Paths.{paths, routed};
+
+use matchit::Router;
+use routes::{Route, router};
+use std::alloc::{AllocError, Global};
+
+/// The paths of the counter, and what each asks for.
+#[derive(Drop)]
+pub struct Routes {
+    pub(crate) router: Router<Route>,
+    ghost paths: { router ≡ routed paths },
+}
+
+impl Routes {
+    /// Makes the table of all paths. Fails for want of memory alone.
+    pub fn new(alloc: Global) -> Result<Routes, AllocError> {
+        let router = router(alloc)?;
+        Ok(Routes { router })
+    }
+}
