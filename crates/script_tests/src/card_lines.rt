@@ -1,0 +1,60 @@
+//! Cards after a submission's line.
+
+use crate::outcomes::{misread, outcome_of};
+use std::test::Fail;
+
+/// Cards that are too few, and those that end too early.
+const ENDS: &str = "\
+BadLine(2)|submit A 1 object 1 - 1;
+BadLine(3)|submit A 1 object 1 - 2;=X;
+BadLine(5)|queue;submit A 1 object 1 - 3;=X;=Y;
+BadLine(2)|submit A 1 object 1 - 1;=X^
+BadLine(3)|submit A 1 object 1 - 2;=X;=Y^
+BadLine(3)|submit A 1 object 1 - 2;=X;queue;
+BadLine(2)|submit A 1 object 1 - 2;;
+BadLine(1)|submit A 1 object 1 - 2^
+BadLine(3)|submit A 1 object 1 - 1;=X;=Y;
+BadLine(2)|submit A 1 object 1 - 0;=X;
+BadLine(4)|submit A 1 object 1 - 2;=X;=Y;queue^
+";
+
+#[test]
+fn cards_are_as_many_as_the_line_says(rt: HostRuntime) -> Result<(), Fail> {
+    assert_eq!(rt; misread(rt.alloc(), ENDS)?, "");
+    Ok(())
+}
+
+/// Cards that hold a character that is no glyph.
+const GLYPHS: &str = "\
+BadLine(2)|submit A 1 object 1 - 1;=x;
+BadLine(3)|submit A 1 object 1 - 2;=X;=Yz;
+BadLine(4)|queue;submit A 1 object 1 - 3;=X;=\t;=y;
+BadLine(1)|submit A 1 Object 1 - 1;=x;
+BadLine(2)|submit A 1 object 1 - 1;=Ä;
+";
+
+#[test]
+fn cards_are_of_glyphs(rt: HostRuntime) -> Result<(), Fail> {
+    assert_eq!(rt; misread(rt.alloc(), GLYPHS)?, "");
+    Ok(())
+}
+
+#[test]
+fn cards_have_80_columns(rt: HostRuntime) -> Result<(), Fail> {
+    let alloc = rt.alloc();
+    for (second, wanted) in [
+        (1, "BadLine(3)"),
+        (79, "BadLine(3)"),
+        (80, "A 1 Object 1 Switches(0)/X/Y;Queue;"),
+        (81, "BadLine(3)"),
+        (161, "BadLine(3)"),
+    ] {
+        let cards = format!(in alloc; "{:80}\n{:second$}\n", "X", "Y")?;
+        let script = format!(in alloc; "submit A 1 object 1 - 2\n{cards}queue\n")?;
+        assert_eq!(rt;
+            outcome_of(alloc, script.as_str().as_bytes())?.as_str(),
+            wanted
+        );
+    }
+    Ok(())
+}

@@ -1,0 +1,90 @@
+//! What scripts come to, in words.
+
+use cards::{Deck, write_text};
+use office::Command;
+use scripts::parse;
+use std::alloc::Global;
+use std::test::Fail;
+
+/// The texts of a deck's cards, without the blanks at their ends.
+fn deck_text(alloc: Global, deck: &Deck) -> Result<String, Fail> {
+    let lines = write_text(alloc, deck)?;
+    let lines = str::from_utf8(&lines).ok().ok_or("a text")?;
+    let mut text = String::new(alloc);
+    for line in lines.lines() {
+        text.push_str("/")?;
+        text.push_str(line.trim_end())?;
+    }
+    Ok(text)
+}
+
+/// A command, in words.
+fn command_text(alloc: Global, command: &Command) -> Result<String, Fail> {
+    match command {
+        Command::Submit {
+            customer,
+            number,
+            contents,
+        } => {
+            let (kind, size, switches) = (contents.kind, contents.size, contents.switches);
+            let deck = deck_text(alloc, &contents.deck)?;
+            Ok(format!(in alloc; "{customer} {number} {kind:?} {size} {switches:?}{deck}")?)
+        }
+        Command::Job {
+            customer,
+            number,
+            command,
+        } => Ok(format!(in alloc; "{customer} {number} {command:?}")?),
+        Command::Jobs { customer } => Ok(format!(in alloc; "{customer} Jobs")?),
+        Command::Queue => Ok(String::from_str(alloc, "Queue")?),
+    }
+}
+
+/// What the bytes of a script come to, in words: each command and a semicolon, or the fault.
+pub(crate) fn outcome_of(alloc: Global, bytes: &[u8]) -> Result<String, Fail> {
+    let commands = match parse(alloc, bytes) {
+        Ok(commands) => commands,
+        Err(fault) => return Ok(format!(in alloc; "{fault:?}")?),
+    };
+    let mut text = String::new(alloc);
+    for command in &commands {
+        text.push_str(command_text(alloc, command)?.as_str())?;
+        text.push_str(";")?;
+    }
+    Ok(text)
+}
+
+/// The script of lines that stand each before this character. What follows `=` on a line is filled
+/// up with blanks to 80 columns; `^` after the last line says that its line feed is missing.
+pub(crate) fn script_of(alloc: Global, lines: &str, end: char) -> Result<String, Fail> {
+    let (lines, is_whole) = match lines.strip_suffix('^') {
+        Some(lines) => (lines, false),
+        None => (lines, true),
+    };
+    let mut script = String::new(alloc);
+    for line in lines.split_terminator(end) {
+        let line = match line.strip_prefix('=') {
+            Some(text) => format!(in alloc; "{text:80}\n")?,
+            None => format!(in alloc; "{line}\n")?,
+        };
+        script.push_str(line.as_str())?;
+    }
+    if !is_whole {
+        script.pop();
+    }
+    Ok(script)
+}
+
+/// The first row of a sheet whose script comes to something other than what the row gives before
+/// it; else nothing. Each line of a script stands before a semicolon.
+pub(crate) fn misread(alloc: Global, sheet: &'static str) -> Result<&'static str, Fail> {
+    for row in sheet.lines() {
+        let (wanted, lines) = row.split_once('|').ok_or("a script")?;
+        let script = script_of(alloc, lines, ';')?;
+        let outcome = outcome_of(alloc, script.as_str().as_bytes())?;
+        if outcome.as_str() != wanted {
+            return Ok(row);
+        }
+    }
+    Ok("")
+}

@@ -1,0 +1,9 @@
+pub mod Lines
+pub mod Texts
+pub mod Words
+pub mod Commands
+pub mod Scripts
+pub mod Pieces
+pub mod Replies
+pub mod Sending
+pub mod Reading

@@ -1,0 +1,109 @@
+-- the line of each reply
+use Rattle.std.specs.Prelude.{ℕ, List, [], ◌∷◌, ◌++◌, Bool, if◌then◌else◌, codes, decimal}
+use Rattle.std.specs.List.{flat_map}
+use Rattle.autocoder.specs.declared.faults.CardFault.{CardFault}
+use Rattle.core_store.specs.declared.registers.Check.{Check}
+use Rattle.core_store.specs.declared.registers.Check.TheVariants as check
+use Rattle.layout.specs.Faults.{fault_number}
+use Rattle.office.specs.Numbers.{refusal_number}
+use Rattle.office.specs.Queued.{QueuedJob}
+use Rattle.office.specs.declared.lists.JobLine.{JobLine}
+use Rattle.office.specs.declared.refusals.Refusal.{Refusal}
+use Rattle.office.specs.declared.refusals.Refusal.TheVariants as refusal
+use Rattle.office.specs.declared.replies.Reply.{Reply}
+use Rattle.office.specs.declared.replies.Reply.TheVariants as reply
+use Rattle.office.specs.declared.standings.JobStanding.{JobStanding}
+use Rattle.office.specs.declared.standings.JobStanding.TheVariants as standing
+use Rattle.office.specs.declared.standings.Summary.{Summary}
+use Rattle.scripts.specs.declared.faults.ScriptFault.{ScriptFault}
+use Rattle.scripts.specs.declared.faults.ScriptFault.TheVariants as fault
+
+-- the words of a check
+abbrev pub check_words : Check → List ℕ
+check_words check.Address = codes "ADDRESS"
+check_words check.Instruction = codes "INSTRUCTION"
+check_words check.Data = codes "DATA"
+check_words check.Overlap = codes "OVERLAP"
+check_words check.ReaderEmpty = codes "READER EMPTY"
+check_words check.PunchFull = codes "PUNCH FULL"
+check_words check.PrinterFull = codes "PRINTER FULL"
+
+-- how a job stands, in words
+abbrev pub standing_words : JobStanding → List ℕ
+standing_words standing.Running = codes "running"
+standing_words (standing.Halted next) = codes "halted next " ++ decimal next
+standing_words (standing.Checked check at) =
+    codes "check " ++ check_words check ++ codes " at " ++ decimal at
+
+-- a truth value as a digit
+abbrev pub truth : Bool → List ℕ
+truth value = if value then codes "1" else codes "0"
+
+-- what a job was granted and has made, and its flags
+abbrev pub made_words : Summary → List ℕ
+made_words job =
+    codes " held " ++ truth job.held
+    ++ codes " collected " ++ truth job.collected
+    ++ codes " granted " ++ decimal job.granted
+    ++ codes " cards " ++ decimal job.cards
+    ++ codes " lines " ++ decimal job.lines
+
+-- how a job stands, and what it has made
+abbrev pub summary_words : Summary → List ℕ
+summary_words job = codes "standing " ++ standing_words job.standing ++ made_words job
+
+-- a job in the list of a customer's jobs
+abbrev pub job_words : JobLine → List ℕ
+job_words job = codes " " ++ decimal job.number
+
+-- a job in the queue
+abbrev pub queued_words : QueuedJob → List ℕ
+queued_words job = codes " " ++ job.customer ++ codes "/" ++ decimal job.number
+
+-- a card's fault
+abbrev pub fault_words : CardFault → List ℕ
+fault_words f = codes " " ++ decimal f.card ++ codes ":" ++ decimal (fault_number f.fault)
+
+-- why a command is refused
+abbrev pub refusal_words : Refusal → List ℕ
+refusal_words (refusal.Assembly faults) = codes "refused 16" ++ flat_map fault_words faults
+refusal_words other = codes "refused " ++ decimal (refusal_number other)
+
+-- a reply in words; cards and lines are no replies to the commands of scripts, and have none
+abbrev pub reply_words : Reply → List ℕ
+reply_words (reply.Taken cards) = codes "taken " ++ decimal cards
+reply_words (reply.Ran executed standing) =
+    codes "ran " ++ decimal executed ++ codes " " ++ standing_words standing
+reply_words reply.Started = codes "started"
+reply_words reply.Held = codes "held"
+reply_words reply.Released = codes "released"
+reply_words (reply.Collected cards lines) =
+    codes "collected " ++ decimal cards ++ codes " " ++ decimal lines
+reply_words (reply.Standing job) = summary_words job
+reply_words (reply.Cards cards) = []
+reply_words (reply.Lines lines) = []
+reply_words (reply.Jobs jobs) = codes "jobs" ++ flat_map job_words jobs
+reply_words (reply.Queue jobs) = codes "queue" ++ flat_map queued_words jobs
+reply_words (reply.Refused reason) = refusal_words reason
+
+-- a line ends with a line feed
+abbrev pub line_of : List ℕ → List ℕ
+line_of words = words ++ 10 ∷ []
+
+-- the line of a reply
+abbrev pub reply_line : Reply → List ℕ
+reply_line it = line_of (reply_words it)
+
+-- the line of a refusal
+abbrev pub refusal_line : Refusal → List ℕ
+refusal_line reason = line_of (refusal_words reason)
+
+-- the line of a fault of the bureau
+abbrev pub fault_line : ℕ → List ℕ
+fault_line number = line_of (codes "fault " ++ decimal number)
+
+-- the line for bytes that are no script
+abbrev pub bad_line : ScriptFault → List ℕ
+bad_line (fault.BadLine number) = line_of (codes "bad line " ++ decimal number)
+bad_line fault.TooLong = line_of (codes "bad size")
+bad_line fault.NoMemory = fault_line 1

@@ -1,0 +1,163 @@
+-- scripts: the commands that their bytes say, and the first line that says none
+use Rattle.std.specs.Prelude.{String, ℕ, ◌≡◌, ◌≢◌, ◌+◌, ◌<◌, ◌≤◌, ◌⊎◌, ⊤, List, [], ◌∷◌, ◌++◌, All, length}
+use Rattle.cards.specs.declared.decks.Card.{Card}
+use Rattle.std.specs.declared.alloc.Global.{Global}
+use Rattle.cards.specs.declared.faults.CardError.{CardError}
+use Rattle.cards.specs.declared.faults.CardError.TheVariants.{NoMemory}
+use Rattle.cards.specs.declared.faults.CardFault.{CardFault}
+use Rattle.cards.specs.Decks.{IsCard, IsDeck}
+use Rattle.cards.specs.Files.{text_of as deck_text}
+use Rattle.office.specs.declared.commands.Command.{Command}
+use Rattle.office.specs.declared.commands.Command.TheVariants.{Submit}
+use Rattle.office.specs.declared.commands.Contents.{Contents}
+use Rattle.scripts.specs.declared.faults.ScriptFault.{ScriptFault}
+use Rattle.scripts.specs.declared.faults.ScriptFault.TheVariants as fault
+use Rattle.scripts.specs.declared.headings.Heading.{Heading}
+use Rattle.scripts.specs.declared.said.Said.{Said}
+use Rattle.scripts.specs.declared.said.Said.TheVariants as said
+use Rattle.scripts.specs.Commands.{IsSaidBy}
+use Rattle.scripts.specs.Lines.{BeginsWithLine}
+use Rattle.scripts.specs.Words.{AreWords, words_of}
+
+-- the most bytes of a script
+abbrev pub most_bytes : ℕ
+most_bytes = 4000000
+
+-- the bytes begin with a line of words that says this, and these bytes follow
+pub record BeginsWith (bytes : List ℕ) (it : Said) (rest : List ℕ) : Type 0 where
+  pub line : List ℕ
+  pub begins : BeginsWithLine bytes line rest
+  pub words : AreWords (words_of line)
+  pub says : IsSaidBy (words_of line) it
+
+-- ---- a command
+
+-- the bytes begin with the cards of a deck of this size, and these follow
+abbrev pub BeginsWithDeck : List ℕ → List Card → ℕ → List ℕ → Type 0
+BeginsWithDeck bytes deck count rest =
+    IsDeck deck × (length deck ≡ count) × (bytes ≡ deck_text deck ++ rest)
+
+-- the heading of the submission of these contents
+abbrev pub heading_for : String Global → ℕ → Contents → Heading
+heading_for customer number contents = record {
+  customer = customer;
+  number = number;
+  kind = contents.kind;
+  size = contents.size;
+  switches = contents.switches;
+  cards = length contents.deck;
+}
+
+-- the bytes after a heading begin with the cards of its submission, which has so many lines
+abbrev pub EndsSubmission : Heading → List ℕ → Command → ℕ → List ℕ → Type 0
+EndsSubmission heading bytes (Submit customer number contents) lines rest =
+    (heading ≡ heading_for customer number contents)
+    × BeginsWithDeck bytes contents.deck heading.cards rest × (lines ≡ 1 + heading.cards)
+EndsSubmission heading bytes other lines rest = ⊥
+
+-- the bytes begin with the lines of a command, which are so many, and these follow
+abbrev pub Begins : List ℕ → Command → ℕ → List ℕ → Type 0
+Begins bytes (Submit customer number contents) lines rest =
+    (heading : Heading) × (after : List ℕ) × BeginsWith bytes (said.Heading heading) after
+    × EndsSubmission heading after (Submit customer number contents) lines rest
+Begins bytes other lines rest = BeginsWith bytes (said.Command other) rest × (lines ≡ 1)
+
+-- the bytes begin with the lines of these commands, which are so many, and these follow
+abbrev pub Leads : List ℕ → List Command → ℕ → List ℕ → Type 0
+Leads bytes [] lines rest = (lines ≡ 0) × (bytes ≡ rest)
+Leads bytes (command ∷ commands) lines rest =
+    (first : ℕ) × (others : ℕ) × (after : List ℕ) × Begins bytes command first after
+    × Leads after commands others rest × (lines ≡ first + others)
+
+-- the bytes are the lines of these commands
+abbrev pub IsScriptOf : List ℕ → List Command → Type 0
+IsScriptOf bytes commands = (lines : ℕ) × Leads bytes commands lines []
+
+-- ---- a bad line
+
+-- the number of a bad line where so many lines come before
+abbrev pub later : ℕ → ScriptFault → ScriptFault
+later lines (fault.BadLine number) = fault.BadLine (lines + number)
+later lines other = other
+
+-- the fault of a script for what is wrong with the card of this number
+abbrev pub fault_of_error : CardError → ℕ → ScriptFault
+fault_of_error NoMemory card = fault.NoMemory
+fault_of_error other card = fault.BadLine card
+
+-- no card's line stands here
+abbrev pub HasNoCard : List ℕ → Type 0
+HasNoCard bytes = (card : Card) → (rest : List ℕ) → IsCard card
+    → bytes ≢ deck_text (card ∷ []) ++ rest
+
+-- of so many cards the one of this number is missing or is none, and those before it are cards
+pub record HasBadCard (bytes : List ℕ) (count : ℕ) (number : ℕ) : Type 0 where
+  pub cards : List Card
+  pub rest : List ℕ
+  pub are : All IsCard cards
+  pub before : bytes ≡ deck_text cards ++ rest
+  pub fewer : length cards < count
+  pub none : HasNoCard rest
+  pub place : number ≡ length cards + 1
+
+-- the fault of a script for the fault of its cards
+abbrev pub fault_of : CardFault → ScriptFault
+fault_of card = fault_of_error card.error card.card
+
+-- a fault whose line is not far away
+abbrev pub IsNear : ScriptFault → Type 0
+IsNear (fault.BadLine number) = number ≤ 2001
+IsNear other = ⊤
+
+-- a fault among so many cards, the first of which has the number 1
+abbrev pub HasFaultOfCards : List ℕ → ℕ → ScriptFault → Type 0
+HasFaultOfCards bytes count (fault.BadLine number) = HasBadCard bytes count number
+HasFaultOfCards bytes count fault.TooLong = ⊥
+HasFaultOfCards bytes count fault.NoMemory = ⊤
+
+-- .. where the line of the heading comes before them
+abbrev pub HasFaultAfter : List ℕ → ℕ → ScriptFault → Type 0
+HasFaultAfter bytes count (fault.BadLine number) =
+    (card : ℕ) × (number ≡ 1 + card) × HasBadCard bytes count card
+HasFaultAfter bytes count fault.TooLong = ⊥
+HasFaultAfter bytes count fault.NoMemory = ⊤
+
+-- no line that says something stands here
+abbrev pub SaysNothing : List ℕ → Type 0
+SaysNothing bytes = (it : Said) → (rest : List ℕ) → it ≢ said.Nothing → ¬ BeginsWith bytes it rest
+
+-- the heading of a submission stands here, and a line after it is not the card that it should be
+pub record HasBadDeck (bytes : List ℕ) (number : ℕ) : Type 0 where
+  pub heading : Heading
+  pub after : List ℕ
+  pub heads : BeginsWith bytes (said.Heading heading) after
+  pub card : ℕ
+  pub bad : HasBadCard after heading.cards card
+  pub place : number ≡ 1 + card
+
+-- the line of this number is bad, and is of the first command that is left
+abbrev pub IsBadHere : List ℕ → ℕ → Type 0
+IsBadHere bytes number =
+    (bytes ≢ []) × (((number ≡ 1) × SaysNothing bytes) ⊎ HasBadDeck bytes number)
+
+-- why no command stands here
+abbrev pub IsFaultHere : List ℕ → ScriptFault → Type 0
+IsFaultHere bytes (fault.BadLine number) = IsBadHere bytes number
+IsFaultHere bytes fault.TooLong = ⊥
+IsFaultHere bytes fault.NoMemory = ⊤
+
+-- the line of this number is the first that is bad
+pub record IsBadAt (bytes : List ℕ) (number : ℕ) : Type 0 where
+  pub commands : List Command
+  pub lines : ℕ
+  pub rest : List ℕ
+  pub leads : Leads bytes commands lines rest
+  pub line : ℕ
+  pub bad : IsBadHere rest line
+  pub place : number ≡ lines + line
+
+-- why bytes are no script: a bad line, or too many bytes, or want of memory
+abbrev pub IsFaultOf : List ℕ → ScriptFault → Type 0
+IsFaultOf bytes (fault.BadLine number) = IsBadAt bytes number
+IsFaultOf bytes fault.TooLong = most_bytes < length bytes
+IsFaultOf bytes fault.NoMemory = ⊤

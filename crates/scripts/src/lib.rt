@@ -1,0 +1,38 @@
+//! Scripts: commands as lines of text, and replies as lines.
+//!
+//! [`read_script`] reads the bytes of a script, and [`parse`] gives its commands, or the number of
+//! the first line that is no part of a command. [`write_reply`] writes the line of a reply, and
+//! [`write_bad`], [`write_fault`] and [`write_refusal`] those that say what went wrong. Writing
+//! takes no memory, and adds to a count how many bytes went out. This crate knows no database.
+//!
+//! `specs/Commands.antt` says what the words of a line say, `specs/Scripts.antt` which bytes are
+//! the script of which commands and which line is bad, and `specs/Replies.antt` has the line of
+//! each reply. The contract for the layer above: `parse` answers by these definitions alone; a
+//! line goes out whole, or the writer failed and took a beginning of it.
+#![tactic(auto)]
+
+mod cuts;
+mod decks;
+mod faults;
+mod found;
+mod headings;
+mod job_words;
+mod parsing;
+mod pieces;
+mod reading;
+mod replying;
+mod said;
+mod saying;
+mod sending;
+mod texts;
+mod words;
+mod write_failed;
+
+pub use faults::ScriptFault;
+pub use headings::Heading;
+pub use parsing::{MOST_BYTES, parse};
+pub use reading::{ReadFault, read_script};
+pub use replying::{write_bad, write_fault, write_refusal, write_reply};
+pub use said::Said;
+pub use sending::Sent;
+pub use write_failed::WriteFailed;

@@ -1,0 +1,112 @@
+//! Lines in pieces, which take no memory.
+
+ghost use Rattle.std.specs.Prelude.{◌≡◌, ◌++◌};
+ghost use Rattle.std.specs.List.{flat_map};
+ghost use Rattle.scripts.specs.Pieces.{piece_bytes};
+ghost use Rattle.scripts.specs.Replies.{check_words, standing_words, truth};
+ghost use Rattle.scripts.specs.Sending.{Writes};
+
+use crate::sending::put;
+use crate::write_failed::WriteFailed;
+use core_store::Check;
+use itoa::Buffer;
+use office::JobStanding;
+use std::io::Write;
+
+/// A piece of a line.
+#[derive(Clone, Copy)]
+pub(crate) enum Piece<'a> {
+    /// A text.
+    Text(&'a str),
+    /// A number in plain decimal.
+    Number(u64),
+}
+
+/// Writes a piece.
+fn put_piece<W: Write>(
+    writer: &mut W,
+    sent: &mut usize,
+    piece: &Piece<'_>,
+) -> Result<(), WriteFailed>
+    ensures { Writes (piece_bytes piece.now) (W.contents writer.old) (W.contents writer.new)
+        sent.old sent.new result }
+{
+    match piece {
+        Piece::Text(text) => put(writer, sent, text.as_bytes()),
+        Piece::Number(number) => {
+            let mut buffer = Buffer::new();
+            put(writer, sent, buffer.format(*number).as_bytes())
+        }
+    }
+}
+
+/// Writes a text, and then pieces.
+pub(crate) fn put_all<W: Write>(
+    writer: &mut W,
+    sent: &mut usize,
+    text: &str,
+    pieces: &[Piece<'_>],
+) -> Result<(), WriteFailed>
+    ensures { Writes (text.now ++ flat_map piece_bytes pieces.now) (W.contents writer.old)
+        (W.contents writer.new) sent.old sent.new result }
+{
+    match put(writer, sent, text.as_bytes()) {
+        Ok(()) => {}
+        Err(failed) => return Err(failed),
+    }
+    for piece in pieces {
+        match put_piece(writer, sent, piece) {
+            Ok(()) => {}
+            Err(failed) => return Err(failed),
+        }
+    }
+    Ok(())
+}
+
+/// The words of a check.
+fn words_of(check: Check) -> &'static str
+    ensures { result.now ≡ check_words check }
+{
+    match check {
+        Check::Address => "ADDRESS",
+        Check::Instruction => "INSTRUCTION",
+        Check::Data => "DATA",
+        Check::Overlap => "OVERLAP",
+        Check::ReaderEmpty => "READER EMPTY",
+        Check::PunchFull => "PUNCH FULL",
+        Check::PrinterFull => "PRINTER FULL",
+    }
+}
+
+/// How a job stands.
+pub(crate) fn standing(standing: JobStanding) -> [Piece<'static>; 4]
+    ensures { flat_map piece_bytes result ≡ standing_words standing }
+{
+    match standing {
+        JobStanding::Running => [
+            Piece::Text("running"),
+            Piece::Text(""),
+            Piece::Text(""),
+            Piece::Text(""),
+        ],
+        JobStanding::Halted { next } => [
+            Piece::Text("halted next "),
+            Piece::Number(u64::from(next)),
+            Piece::Text(""),
+            Piece::Text(""),
+        ],
+        JobStanding::Checked { check, at } => [
+            Piece::Text("check "),
+            Piece::Text(words_of(check)),
+            Piece::Text(" at "),
+            Piece::Number(u64::from(at)),
+        ],
+    }
+}
+
+/// A truth value as a digit.
+pub(crate) fn truth(value: bool) -> &'static str
+    ensures { result.now ≡ truth value }
+{
+    if value { "1" } else { "0" }
+}

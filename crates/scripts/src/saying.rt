@@ -1,0 +1,130 @@
+//! What the words of a line say.
+
+ghost use Rattle.std.specs.Prelude.{List, ℕ, ◌≤◌, ◌∷◌, [], IfOk, length, map};
+ghost use Rattle.scripts.specs.Commands.{AreFound, IsSaidBy, IsSaidIn};
+
+use crate::headings::Heading;
+use crate::job_words::{plain_command, worded_command};
+use crate::said::Said;
+use crate::texts::{count_of, customer_of, kind_of, number_of, switches_of};
+use crate::words::Words;
+use office::{Command, JobCommand};
+use std::alloc::{AllocError, Global};
+
+/// What a line of one word says.
+fn lone(verb: &[u8]) -> Said
+    ensures { IsSaidBy (verb.now ∷ []) result }
+{
+    if verb == b"queue".as_slice() {
+        Said::Command(Command::Queue)
+    } else {
+        Said::Nothing
+    }
+}
+
+/// What a line of two words says.
+fn on_customer(alloc: Global, verb: &[u8], name: &[u8]) -> Result<Said, AllocError>
+    ensures { IfOk result (IsSaidBy (verb.now ∷ name.now ∷ [])) }
+{
+    if verb != b"jobs".as_slice() {
+        return Ok(Said::Nothing);
+    }
+    let customer = customer_of(alloc, name)?;
+    Ok(Said::Command(Command::Jobs { customer }))
+}
+
+/// What a line says that has this command on a job, or none.
+fn on_job(
+    alloc: Global,
+    name: &[u8],
+    number: &[u8],
+    command: Option<JobCommand>,
+) -> Result<Said, AllocError>
+    ensures { (verb : List ℕ) → (after : List (List ℕ)) → length after ≤ 1
+        → AreFound verb after command
+        → IfOk result (IsSaidBy (verb ∷ name.now ∷ number.now ∷ after)) }
+{
+    let Some(command) = command else {
+        return Ok(Said::Nothing);
+    };
+    let customer = customer_of(alloc, name)?;
+    Ok(Said::Command(Command::Job {
+        customer,
+        number: number_of(number),
+        command,
+    }))
+}
+
+/// The words of a heading, after the verb.
+#[derive(Clone, Copy)]
+struct HeadingWords<'a> {
+    name: &'a [u8],
+    number: &'a [u8],
+    kind: &'a [u8],
+    size: &'a [u8],
+    switches: &'a [u8],
+    cards: &'a [u8],
+}
+
+/// What a line of seven words says.
+fn heading(alloc: Global, verb: &[u8], words: &HeadingWords<'_>) -> Result<Said, AllocError>
+    ensures { IfOk result (IsSaidBy (verb.now ∷ words.now.name.now ∷ words.now.number.now
+        ∷ words.now.kind.now ∷ words.now.size.now ∷ words.now.switches.now
+        ∷ words.now.cards.now ∷ [])) }
+{
+    if verb != b"submit".as_slice() {
+        return Ok(Said::Nothing);
+    }
+    let Some(kind) = kind_of(words.kind) else {
+        return Ok(Said::Nothing);
+    };
+    let Some(switches) = switches_of(words.switches) else {
+        return Ok(Said::Nothing);
+    };
+    let Some(cards) = count_of(words.cards) else {
+        return Ok(Said::Nothing);
+    };
+    let customer = customer_of(alloc, words.name)?;
+    Ok(Said::Heading(Heading {
+        customer,
+        number: number_of(words.number),
+        kind,
+        size: number_of(words.size),
+        switches,
+        cards,
+    }))
+}
+
+/// What the words say.
+fn said_by(alloc: Global, words: &[&[u8]]) -> Result<Said, AllocError>
+    ensures { IfOk result (IsSaidBy (map (λ word. word.now) words.now)) }
+{
+    match words {
+        [verb] => Ok(lone(verb)),
+        [verb, name] => on_customer(alloc, verb, name),
+        [verb, name, number] => on_job(alloc, name, number, plain_command(verb)),
+        [verb, name, number, word] => { on_job(alloc, name, number, worded_command(verb, word)) }
+        [verb, name, number, kind, size, switches, cards] => {
+            let words = HeadingWords {
+                name,
+                number,
+                kind,
+                size,
+                switches,
+                cards,
+            };
+            heading(alloc, verb, &words)
+        }
+        _ => Ok(Said::Nothing),
+    }
+}
+
+/// What a line says.
+pub(crate) fn said_in(alloc: Global, line: &[u8]) -> Result<Said, AllocError>
+    ensures { IfOk result (IsSaidIn line.now) }
+{
+    match Words::of(line) {
+        Some(words) => said_by(alloc, words.as_slice()),
+        None => Ok(Said::Nothing),
+    }
+}
