@@ -1,8 +1,10 @@
 //! The program: joins the counter to the process's words, files and streams.
 //!
-//! What the words ask for, what is printed and how it ends is proved in the counter. The clauses of
-//! the kit say nothing of what a file holds, so that the right files are read and written, and that
-//! OUT is written only where a deck was made, is shown by `cases/check` and `examples/check`.
+//! What the words ask for, what is printed and how it ends is proved below, and joined here in
+//! [`answer`]. The clauses of the kit say nothing of the process's own words and streams, nor of
+//! what a file holds: so [`words_given`] and [`done`] have no contract, and that the right files
+//! are read and written, and that OUT is written only where a deck was made, is tried by
+//! `cases/check` and `examples/check`.
 #![tactic(auto)]
 
 ghost use Rattle.std.specs.Prelude.{◌≡◌, Option, IfOk, IfErr};
@@ -11,7 +13,9 @@ ghost use Rattle.counter.specs.Told.{IsTextShown, status_code};
 ghost use Rattle.words.specs.Asked.{IsHelp, IsVersion, page_of};
 ghost use Rattle.words.specs.Plain.{texts};
 ghost use Rattle.words.specs.declared.RowName.{RowName};
+ghost use Rattle.bureau.specs.Answers.{HasAnswered, HasAssembled};
 
+use bureau_rows::{apply, export, init, serve, show_outcome};
 use counter::{
     Fault, Misuse, Status, Task, assemble_deck, show_help, show_version, task_of, tell_fault,
     tell_misuse,
@@ -36,7 +40,11 @@ fn assemble<W: Write, E: Write>(
     out: &str,
     output: &mut W,
     errors: &mut E,
-) -> io::Result<Status> {
+) -> io::Result<Status>
+    ensures { IfOk result (λ status. HasAssembled status
+        (W.contents output.old) (W.contents output.new)
+        (E.contents errors.old) (E.contents errors.new)) }
+{
     let Ok(file) = File::open(rt, source) else {
         return tell_fault(errors, Fault::Device);
     };
@@ -57,6 +65,9 @@ fn answer<W: Write, E: Write>(
     ensures version { IsVersion (texts words.now)
         → IfOk result (λ status. IsTextShown VERSION.now status
         (W.contents output.old) (W.contents output.new) (E.contents errors.old) (E.contents errors.new)) }
+    ensures answered { IfOk result (λ status. HasAnswered (texts words.now) status
+        (W.contents output.old) (W.contents output.new)
+        (E.contents errors.old) (E.contents errors.new)) }
 {
     match task_of(rt.alloc(), words) {
         Ok(Task::Help(row)) => show_help(output, errors, row),
@@ -69,6 +80,21 @@ fn answer<W: Write, E: Write>(
             },
         ) => run_source(rt, deck, size, switches, output, errors),
         Ok(Task::Assemble { source, out }) => assemble(rt, source, out, output, errors),
+        Ok(Task::Init { file }) => show_outcome(errors, init(rt, file)),
+        Ok(Task::Apply { file, script }) => {
+            let outcome = apply(rt, file, script, output);
+            show_outcome(errors, outcome)
+        }
+        Ok(Task::Serve { file, port, count }) => {
+            show_outcome(errors, serve(rt, file, port, count))
+        }
+        Ok(
+            Task::Export {
+                file,
+                customer,
+                number,
+            },
+        ) => show_outcome(errors, export(rt, file, customer, number)),
         Err(misuse) => tell_misuse(errors, misuse),
     }
 }

@@ -1,0 +1,82 @@
+-- what the program does with its words
+use Rattle.std.specs.Prelude.{◌≡◌, ◌⊎◌, ℕ, List, [], ◌∷◌, ◌++◌, Option}
+use Rattle.std.specs.Io.KnownBytes.{Appends, Keeps}
+use Rattle.counter.specs.Assembling.{Assembles}
+use Rattle.counter.specs.Runs.{Tells}
+use Rattle.counter.specs.Tasks.{IsMisuse, Wants}
+use Rattle.counter.specs.Told.{IsTextShown, fault_words, misuse_message, misuse_status}
+use Rattle.command_line.specs.declared.faults.Fault.TheVariants.{Device}
+use Rattle.command_line.specs.declared.statuses.Status.{Status}
+use Rattle.command_line.specs.declared.statuses.Status.TheVariants.{Told}
+use Rattle.command_line.specs.declared.tasks.Misuse.{Misuse}
+use Rattle.command_line.specs.declared.tasks.Task.{Task}
+use Rattle.command_line.specs.declared.tasks.Task.TheVariants as task
+use Rattle.endings.specs.declared.Assembled.{Assembled}
+use Rattle.files.specs.Put.{IsPut}
+use Rattle.words.specs.Asked.{page_of}
+use Rattle.words.specs.declared.help.TheConstants.{USAGE, VERSION}
+use Rattle.bureau_rows.specs.Outcomes.{HasShown, status_of}
+use Rattle.bureau_rows.specs.declared.outcomes.Outcome.{Outcome}
+
+-- the bytes of a writer, before and after
+abbrev pub Bytes : Type 0
+Bytes = Option (List ℕ)
+
+-- some text was assembled, and what came of it was written to OUT, or that failed
+pub record HasAssembledText (status : Status) (output_old output_new errors_old errors_new : Bytes)
+    : Type 0 where
+  pub text : List ℕ
+  pub answer : Assembled
+  pub between : Bytes
+  pub assembles : Assembles text answer output_old output_new errors_old between
+  pub put : IsPut answer.status status between errors_new
+
+-- the source's file could not be opened, or its text was assembled
+abbrev pub HasAssembled : Status → Bytes → Bytes → Bytes → Bytes → Type 0
+HasAssembled status output_old output_new errors_old errors_new =
+    ((status ≡ Told) × Keeps output_old output_new
+    × Appends errors_old errors_new (fault_words Device ++ 10 ∷ []))
+    ⊎ HasAssembledText status output_old output_new errors_old errors_new
+
+-- a row of a bureau's file came to this, and it was printed
+pub record HasEnded (status : Status) (errors_old errors_new : Bytes) : Type 0 where
+  pub outcome : Outcome
+  pub status_is : status ≡ status_of outcome
+  pub shown : HasShown outcome errors_old errors_new
+
+-- a task was done
+abbrev pub HasDone : Task → Status → Bytes → Bytes → Bytes → Bytes → Type 0
+HasDone (task.Help row) status output_old output_new errors_old errors_new =
+    IsTextShown (page_of row) status output_old output_new errors_old errors_new
+HasDone task.Version status output_old output_new errors_old errors_new =
+    IsTextShown VERSION.now status output_old output_new errors_old errors_new
+HasDone (task.Run deck size switches) status output_old output_new errors_old errors_new =
+    (text : List ℕ) × Tells text size switches status output_old output_new errors_old errors_new
+HasDone (task.Assemble source out) status output_old output_new errors_old errors_new =
+    HasAssembled status output_old output_new errors_old errors_new
+HasDone (task.Apply file script) status output_old output_new errors_old errors_new =
+    HasEnded status errors_old errors_new
+HasDone other status output_old output_new errors_old errors_new =
+    Keeps output_old output_new × HasEnded status errors_old errors_new
+
+-- the task that the words ask for was done
+pub record HasDoneTask (words : List (List ℕ)) (status : Status)
+    (output_old output_new errors_old errors_new : Bytes) : Type 0 where
+  pub it : Task
+  pub asked : Wants words it
+  pub done : HasDone it status output_old output_new errors_old errors_new
+
+-- what is wrong with the words was printed
+pub record HasToldMisuse (words : List (List ℕ)) (status : Status)
+    (output_old output_new errors_old errors_new : Bytes) : Type 0 where
+  pub misuse : Misuse
+  pub is : IsMisuse words misuse
+  pub status_is : status ≡ misuse_status misuse
+  pub kept : Keeps output_old output_new
+  pub told : Appends errors_old errors_new (misuse_message USAGE.now misuse)
+
+-- the task that the words ask for was done, or what is wrong with them was printed
+abbrev pub HasAnswered : List (List ℕ) → Status → Bytes → Bytes → Bytes → Bytes → Type 0
+HasAnswered words status output_old output_new errors_old errors_new =
+    HasDoneTask words status output_old output_new errors_old errors_new
+    ⊎ HasToldMisuse words status output_old output_new errors_old errors_new

@@ -1,0 +1,46 @@
+-- what is printed of how a row of a bureau's file ends
+use Rattle.std.specs.Prelude.{ℕ, List, [], ◌∷◌, ◌++◌, Option, codes, decimal}
+use Rattle.std.specs.Io.KnownBytes.{Appends, Keeps}
+use Rattle.command_line.specs.declared.statuses.Status.{Status}
+use Rattle.command_line.specs.declared.statuses.Status.TheVariants as status
+use Rattle.tables.specs.declared.openings.OpenFault.{OpenFault}
+use Rattle.tables.specs.declared.openings.OpenFault.TheVariants as opening
+use Rattle.bureau_rows.specs.declared.outcomes.Outcome.{Outcome}
+use Rattle.bureau_rows.specs.declared.outcomes.Outcome.TheVariants as outcome
+
+-- how the program ends: with 3 where the bureau's file could not be used, with 1 after anything
+-- else that went wrong
+abbrev pub status_of : Outcome → Status
+status_of outcome.Done = status.Done
+status_of outcome.Shown = status.Told
+status_of (outcome.Stopped acknowledged) = status.Unusable
+status_of (outcome.Refused number) = status.Told
+status_of (outcome.Fault opening.NoMemory) = status.Told
+status_of (outcome.Fault opening.Store) = status.Unusable
+status_of (outcome.Fault opening.NotABureau) = status.Unusable
+status_of (outcome.Fault opening.Old) = status.Unusable
+status_of outcome.Device = status.Told
+
+-- the number of a fault: of memory, of the store, of a file that is no bureau's or a later
+-- version's, and of an earlier version's file
+abbrev pub number_of : OpenFault → ℕ
+number_of opening.NoMemory = 1
+number_of opening.Store = 2
+number_of opening.NotABureau = 50
+number_of opening.Old = 51
+
+-- one line was printed
+abbrev pub IsLine : List ℕ → Option (List ℕ) → Option (List ℕ) → Type 0
+IsLine line old new = Appends old new (line ++ 10 ∷ [])
+
+-- what was printed on the standard error: nothing, where all was done or what went wrong is on the
+-- output, and else one line
+abbrev pub HasShown : Outcome → Option (List ℕ) → Option (List ℕ) → Type 0
+HasShown outcome.Done old new = Keeps old new
+HasShown outcome.Shown old new = Keeps old new
+HasShown (outcome.Stopped acknowledged) old new =
+    IsLine (codes "acknowledged " ++ decimal acknowledged) old new
+HasShown (outcome.Refused number) old new = IsLine (codes "refused " ++ decimal number) old new
+HasShown (outcome.Fault fault) old new =
+    IsLine (codes "fault " ++ decimal (number_of fault)) old new
+HasShown outcome.Device old new = IsLine (codes "fault device") old new

@@ -1,0 +1,117 @@
+//! Writing what a job has punched and printed to files.
+
+use crate::opening::open_bureau;
+use crate::outcomes::Outcome;
+use cards::write_punched_cards;
+use files::put_file;
+use ledger::{Bureau, Fault};
+use machine::Meter;
+use office::{Command, JobCommand, Reply};
+use sqlite::Alter;
+use std::alloc::Global;
+use tables::OpenFault;
+use units::render;
+
+/// What a job has made, as the bytes of its two files.
+#[derive(Drop)]
+struct Made {
+    cards: Vec<u8>,
+    lines: Vec<u8>,
+}
+
+/// Why nothing is written for want of memory.
+const NO_MEMORY: Outcome = Outcome::Fault(OpenFault::NoMemory);
+
+/// The reply to a query of a job.
+fn ask<S: Alter>(
+    alloc: Global,
+    bureau: &mut Bureau<S>,
+    customer: &str,
+    number: u32,
+    command: JobCommand,
+) -> Result<Reply, Outcome> {
+    let Ok(customer) = String::from_str(alloc, customer) else {
+        return Err(NO_MEMORY);
+    };
+    let command = Command::Job {
+        customer,
+        number,
+        command,
+    };
+    match bureau.apply(&command, &mut Meter::new()) {
+        Ok(reply) => Ok(reply),
+        Err(Fault::NoMemory) => Err(NO_MEMORY),
+        Err(Fault::Store) => Err(Outcome::Fault(OpenFault::Store)),
+    }
+}
+
+/// The bytes of the file for a reply of cards or of lines.
+fn bytes_of(alloc: Global, reply: &Reply) -> Result<Vec<u8>, Outcome> {
+    let bytes = match reply {
+        Reply::Cards(cards) => write_punched_cards(alloc, &cards.0),
+        Reply::Lines(lines) => render(alloc, &lines.0),
+        Reply::Refused(reason) => return Err(Outcome::Refused(reason.number())),
+        _ => Ok(Vec::new(alloc)),
+    };
+    match bytes {
+        Ok(bytes) => Ok(bytes),
+        Err(_) => Err(NO_MEMORY),
+    }
+}
+
+/// What a job has made.
+fn made_by<S: Alter>(
+    alloc: Global,
+    bureau: &mut Bureau<S>,
+    customer: &str,
+    number: u32,
+) -> Result<Made, Outcome> {
+    let cards = ask(alloc, bureau, customer, number, JobCommand::Cards)?;
+    let cards = bytes_of(alloc, &cards)?;
+    let lines = ask(alloc, bureau, customer, number, JobCommand::Lines)?;
+    let lines = bytes_of(alloc, &lines)?;
+    Ok(Made { cards, lines })
+}
+
+/// Puts bytes in the place of the job's file of this kind, in the folder where the program runs.
+fn put(
+    rt: &HostRuntime,
+    customer: &str,
+    number: u32,
+    kind: &str,
+    bytes: &[u8],
+) -> Result<(), Outcome> {
+    let Ok(name) = format!(in rt.alloc(); "{customer}-{number}.{kind}") else {
+        return Err(NO_MEMORY);
+    };
+    match put_file(rt, &name, bytes) {
+        Ok(()) => Ok(()),
+        Err(_) => Err(Outcome::Device),
+    }
+}
+
+/// Writes what a job has made. Nothing is written before both of its files are made.
+fn write_made(
+    rt: &HostRuntime,
+    path: &str,
+    customer: &str,
+    number: u32,
+) -> Result<(), Outcome> {
+    let mut bureau = match open_bureau(rt, path) {
+        Ok(bureau) => bureau,
+        Err(fault) => return Err(Outcome::Fault(fault)),
+    };
+    let made = made_by(rt.alloc(), &mut bureau, customer, number)?;
+    put(rt, customer, number, "cards", &made.cards)?;
+    put(rt, customer, number, "lines", &made.lines)
+}
+
+/// Writes what a job has punched and printed to the files `CUSTOMER-NUMBER.cards` and
+/// `CUSTOMER-NUMBER.lines`, in the folder where the program runs. Files of these names are
+/// replaced, each whole or not at all; where the job is refused none is touched.
+pub fn export(rt: &HostRuntime, path: &str, customer: &str, number: u32) -> Outcome {
+    match write_made(rt, path, customer, number) {
+        Ok(()) => Outcome::Done,
+        Err(outcome) => outcome,
+    }
+}

@@ -1,0 +1,58 @@
+//! How a row of a bureau's file ends.
+
+ghost use Rattle.std.specs.Prelude.{◌≡◌, IfOk};
+ghost use Rattle.bureau_rows.specs.Outcomes.{HasShown, status_of};
+
+use command_line::Status;
+use std::io;
+use std::io::Write;
+use tables::OpenFault;
+
+/// How a row of a bureau's file ended.
+#[derive(Clone, Copy, Debug, PartialEq, Eq)]
+pub enum Outcome {
+    /// All was done.
+    Done,
+    /// What went wrong is on the output: a refusal, a bad line, or want of memory.
+    Shown,
+    /// The script ended by fault 2, after so many commands were acknowledged.
+    Stopped(usize),
+    /// The job was refused, for the reason of this number.
+    Refused(u8),
+    /// There was no memory, or the bureau's file could not be used.
+    Fault(OpenFault),
+    /// Another file, the port, or the output could not be used.
+    Device,
+}
+
+impl Outcome {
+    /// How the program ends.
+    pub fn status(self) -> Status
+        ensures { result ≡ status_of self }
+    {
+        match self {
+            Outcome::Done => Status::Done,
+            Outcome::Shown | Outcome::Refused(_) | Outcome::Device => Status::Told,
+            Outcome::Fault(OpenFault::NoMemory) => Status::Told,
+            Outcome::Fault(_) | Outcome::Stopped(_) => Status::Unusable,
+        }
+    }
+}
+
+/// Prints what went wrong, if it is not printed yet. An error is the writer's.
+pub fn show_outcome<E: Write>(errors: &mut E, outcome: Outcome) -> io::Result<Status>
+    ensures { IfOk result (λ status. (status ≡ status_of outcome)
+        × HasShown outcome (E.contents errors.old) (E.contents errors.new)) }
+{
+    match outcome {
+        Outcome::Done | Outcome::Shown => {}
+        Outcome::Stopped(acknowledged) => writeln!(errors, "acknowledged {acknowledged}")?,
+        Outcome::Refused(number) => writeln!(errors, "refused {number}")?,
+        Outcome::Fault(fault) => {
+            let number = fault.number();
+            writeln!(errors, "fault {number}")?
+        }
+        Outcome::Device => writeln!(errors, "fault device")?,
+    }
+    Ok(outcome.status())
+}

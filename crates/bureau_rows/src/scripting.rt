@@ -1,0 +1,39 @@
+//! Applying a script.
+
+use crate::opening::open_bureau;
+use crate::outcomes::Outcome;
+use ledger::Fault;
+use machine::Meter;
+use script_runs::{ScriptEnd, Scripted, script};
+use std::fs::File;
+use std::io::Write;
+use tables::OpenFault;
+
+/// What the end of a script is for the program: the line of a fault is on the output.
+fn outcome_of(scripted: &Scripted) -> Outcome {
+    match scripted.ended {
+        ScriptEnd::Whole if scripted.refused => Outcome::Shown,
+        ScriptEnd::Whole => Outcome::Done,
+        ScriptEnd::Bad | ScriptEnd::Fault(Fault::NoMemory) => Outcome::Shown,
+        ScriptEnd::Fault(Fault::Store) => Outcome::Stopped(scripted.acknowledged),
+        ScriptEnd::ReadFailed | ScriptEnd::WriteFailed => Outcome::Device,
+    }
+}
+
+/// Carries out the commands of the script at a path, in order, by the bureau whose file is at
+/// another. The line of each reply is written when its command is in the file.
+pub fn apply<W: Write>(rt: &HostRuntime, path: &str, script_path: &str, output: &mut W) -> Outcome {
+    let mut bureau = match open_bureau(rt, path) {
+        Ok(bureau) => bureau,
+        Err(fault) => return Outcome::Fault(fault),
+    };
+    let Ok(mut file) = File::open(rt, script_path) else {
+        return Outcome::Device;
+    };
+    let scripted = script(rt.alloc(), &mut file, output, &mut bureau, &mut Meter::new());
+    let outcome = outcome_of(&scripted);
+    match output.flush() {
+        Ok(()) => outcome,
+        Err(_) => Outcome::Device,
+    }
+}

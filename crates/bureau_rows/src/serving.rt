@@ -1,0 +1,96 @@
+//! Serving requests over HTTP.
+
+use crate::opening::open_bureau;
+use crate::outcomes::Outcome;
+use http_exchanges::{Exchange, exchange};
+use http_requests::Routes;
+use ledger::Bureau;
+use machine::Meter;
+use sqlite::Alter;
+use std::alloc::Global;
+use std::io::Read;
+use std::net::{Ipv4Addr, Net, Shutdown, SocketAddrV4, TcpListener, TcpStream};
+use std::time::Duration;
+use tables::OpenFault;
+
+/// For how many seconds a client may send or take nothing.
+const PATIENCE: u64 = 10;
+
+/// How often what a client still sends is read, before its connection is closed.
+const MOST_READS: usize = 128;
+
+/// Sets how long a client may send or take nothing. Whether that could be set.
+fn set_patience(stream: &TcpStream) -> bool {
+    let patience = Some(Duration::from_secs(PATIENCE));
+    stream.set_read_timeout(patience).is_ok() && stream.set_write_timeout(patience).is_ok()
+}
+
+/// Ends the answer, and reads what the client still sends, up to a limit: a connection that is
+/// closed over bytes that nobody read may lose its answer.
+fn close(stream: &TcpStream) {
+    if stream.shutdown(Shutdown::Write).is_err() {
+        return;
+    }
+    let mut rest = [0u8; 4096];
+    for _ in 0..MOST_READS {
+        match (&mut &*stream).read(&mut rest) {
+            Ok(0) | Err(_) => return,
+            Ok(_) => {}
+        }
+    }
+}
+
+/// Serves one connection: one request.
+fn serve_one<S: Alter>(
+    alloc: Global,
+    routes: &Routes,
+    bureau: &mut Bureau<S>,
+    stream: &TcpStream,
+    meter: &mut Meter,
+) {
+    if !set_patience(stream) {
+        return;
+    }
+    match exchange(alloc, routes, &mut &*stream, &mut &*stream, bureau, meter) {
+        Exchange::Answered { .. } => close(stream),
+        Exchange::ReadFailed | Exchange::WriteFailed { .. } => {}
+    }
+}
+
+/// Serves so many connections, one after the other. A faulty one is dropped. After fault 2 no more
+/// are served.
+pub fn serve_connections<S: Alter>(
+    alloc: Global,
+    routes: &Routes,
+    bureau: &mut Bureau<S>,
+    listener: &TcpListener,
+    count: u32,
+) -> Outcome {
+    let mut meter = Meter::new();
+    for stream in listener.incoming().take(count as usize) {
+        if let Ok(stream) = stream {
+            serve_one(alloc, routes, bureau, &stream, &mut meter);
+        }
+        if bureau.broken() {
+            return Outcome::Fault(OpenFault::Store);
+        }
+    }
+    Outcome::Done
+}
+
+/// Serves so many connections from the bureau's file at a path, on a port of 127.0.0.1, one after
+/// the other, with one request each.
+pub fn serve(rt: &HostRuntime, path: &str, port: u16, count: u32) -> Outcome {
+    let mut bureau = match open_bureau(rt, path) {
+        Ok(bureau) => bureau,
+        Err(fault) => return Outcome::Fault(fault),
+    };
+    let Ok(routes) = Routes::new(rt.alloc()) else {
+        return Outcome::Fault(OpenFault::NoMemory);
+    };
+    let address = SocketAddrV4::new(Ipv4Addr::LOCALHOST, port);
+    match TcpListener::bind(rt, address) {
+        Ok(listener) => serve_connections(rt.alloc(), &routes, &mut bureau, &listener, count),
+        Err(_) => Outcome::Device,
+    }
+}
