@@ -1,0 +1,3 @@
+pub mod WholeRows
+pub mod Meters
+pub mod Shifting

@@ -1,0 +1,43 @@
+-- what the rows of a job at a halt hold
+use Rattle.std.specs.Prelude.{◌≡◌, ℕ, List, map, filter}
+use Rattle.std.specs.List.{AllByRecursion}
+use Rattle.cards.specs.declared.decks.Card.{Card}
+use Rattle.machine.specs.Run.{State, loaded}
+use Rattle.units.specs.declared.printer.Line.{Line}
+use Rattle.units.specs.declared.switches.Switches.{Switches}
+use Rattle.office.specs.Jobs.{loaded_deck, switches_of, IsAtHalt, CanRunItsSource, program_begun}
+use Rattle.office.specs.Office.{Entry, Office}
+use Rattle.office.specs.Whole.{Whole}
+use Rattle.pictures.specs.Columns.{line_cells}
+use Rattle.sqlite.specs.Effect.{Database}
+use Rattle.tables.specs.Tables.{cells, is_row_of, placed, card_row, line_row}
+
+-- the rows of this job in the tables of cards and of lines are of these, in order from place 1 on
+pub record HasMade (db : Database) (customer : List ℕ) (number : ℕ) (cards : List Card)
+    (lines : List Line) : Type 0 where
+  pub card_rows : filter (is_row_of customer number) (cells (db.trees 7))
+      ≡ placed (card_row customer number) 1 (map (λ card. card.0) cards)
+  pub line_rows : filter (is_row_of customer number) (cells (db.trees 9))
+      ≡ placed (line_row customer number) 1 (map line_cells lines)
+
+-- the whole run from this beginning with these starts makes these cards and lines, and no others
+pub record RunMakes (begin : Switches → State) (starts : List Switches) (cards : List Card)
+    (lines : List Line) : Type 0 where
+  pub holds : Whole begin starts cards lines
+  pub only : (others : List Card) (other_lines : List Line)
+      → Whole begin starts others other_lines → (others ≡ cards) × (other_lines ≡ lines)
+
+-- the rows of a job are of the cards and lines that one uninterrupted run over its whole deck makes
+-- with its starts; and, if it can run its source, one from the start of its source's program
+pub record HasWholeRows (db : Database) (e : Entry) : Type 0 where
+  pub cards : List Card
+  pub lines : List Line
+  pub rows : HasMade db e.customer e.number cards lines
+  pub from_deck :
+      RunMakes (loaded (loaded_deck e.job) e.job.size) (switches_of e.job) cards lines
+  pub from_source : CanRunItsSource e.job
+      → RunMakes (program_begun e.job.deck e.job.size) (switches_of e.job) cards lines
+
+-- each job of the office that stands at a halt has such rows
+abbrev pub HaveWholeRows : Database → Office → Type 0
+HaveWholeRows db = AllByRecursion (λ e. IsAtHalt e.job → HasWholeRows db e)

@@ -1,0 +1,16 @@
+//! The law of kept offices.
+
+ghost use Rattle.office.specs.Office.{Office};
+ghost use Rattle.sqlite.specs.Effect.{Database};
+ghost use Rattle.ledger.specs.Standing.{Rows};
+ghost use Rattle.ledger_shifts.specs.WholeRows.{HaveWholeRows};
+
+use office::offices_run_whole;
+
+/// The law of kept offices: each job at a halt has in its rows the cards and lines of one
+/// uninterrupted run over its whole deck with its starts, and of no other.
+pub fn kept_offices_run_whole()
+    ensures { (db : Database) (office : Office) → Rows db office → HaveWholeRows db office }
+{
+    offices_run_whole();
+}

@@ -1,0 +1,2 @@
+pub mod Customers
+pub mod Repeats

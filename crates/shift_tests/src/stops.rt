@@ -1,0 +1,217 @@
+//! A shift one of whose disks fails from a call on, each call in turn, and its files opened again.
+
+use crate::disks::{ask, copy, new_disks};
+use crate::sheets::{Sheet, THREE_CARDS, TWO_LINES, commands_of, on_job};
+use ledger::Bureau;
+use ledger_shifts::shift;
+use machine::Meter;
+use office::{Command, JobCommand};
+use sqlite::{Alter, Connection, FileStore, Files, Options};
+use sqlite_disk::{Fuse, Memory};
+use std::alloc::Global;
+use std::test::Fail;
+
+/// How many calls of each disk do not fail.
+#[derive(Clone, Copy, Debug, Drop)]
+struct Calls {
+    log: u64,
+    db: u64,
+}
+
+/// The disk that fails.
+#[derive(Clone, Copy, Debug, Drop)]
+enum Failing {
+    Log,
+    Database,
+}
+
+impl Failing {
+    /// This disk fails after so many calls, the other one never.
+    fn after(self, calls: u64) -> Calls {
+        let (log, db) = match self {
+            Failing::Log => (calls, u64::MAX),
+            Failing::Database => (u64::MAX, calls),
+        };
+        Calls { log, db }
+    }
+}
+
+/// After how many stops the command that was not acknowledged was lost, and after how many it was
+/// kept.
+#[derive(Clone, Copy, Debug, Drop)]
+struct Stops {
+    lost: u32,
+    kept: u32,
+}
+
+/// What a shift over failing disks leaves of the first command that was not acknowledged.
+#[derive(Clone, Copy, Debug, Drop)]
+enum Left {
+    Lost,
+    Kept,
+    /// Every command was acknowledged.
+    Ended,
+}
+
+/// A shift by a sheet over some disks: its commands, and the query for the job.
+#[derive(Drop)]
+struct Trial<'a> {
+    disks: &'a Files<Memory>,
+    sheet: &'a Sheet,
+    commands: &'a [Command],
+    query: &'a Command,
+}
+
+/// How many commands of a shift are acknowledged.
+// It has no clause, so that the proof of a test does not carry the state of each call.
+fn work<S: Alter>(alloc: Global, bureau: &mut Bureau<S>, commands: &[Command]) -> usize {
+    shift(alloc, bureau, commands, &mut Meter::new()).acknowledged
+}
+
+/// The connection of a bureau after a shift, of which so many commands are acknowledged.
+fn worked<S: Alter + Drop>(
+    alloc: Global,
+    conn: Connection<S>,
+    commands: &[Command],
+    acknowledged: &mut usize,
+) -> Connection<S> {
+    match Bureau::adopt(alloc, conn) {
+        Ok(mut bureau) => {
+            *acknowledged = work(alloc, &mut bureau, commands);
+            bureau.into_connection()
+        }
+        Err((_, conn)) => conn,
+    }
+}
+
+/// The files after a shift over a connection, of which so many commands are acknowledged.
+fn files_after(
+    alloc: Global,
+    conn: Connection<FileStore<Fuse<Memory>>>,
+    commands: &[Command],
+    acknowledged: &mut usize,
+) -> Files<Fuse<Memory>> {
+    worked(alloc, conn, commands, acknowledged)
+        .into_store()
+        .close()
+}
+
+/// The same over copies of disks, after so many calls of which each fails. The log is copied into
+/// the database file often.
+fn run(
+    alloc: Global,
+    disks: &Files<Memory>,
+    calls: Calls,
+    commands: &[Command],
+    acknowledged: &mut usize,
+) -> Result<Files<Fuse<Memory>>, Fail> {
+    let files = Files {
+        log: Fuse::new(copy(alloc, &disks.log)?, calls.log),
+        db: Fuse::new(copy(alloc, &disks.db)?, calls.db),
+    };
+    let mut options = Options::new(1);
+    options.checkpoint_frames = 3;
+    match Connection::open_files(alloc, files, options) {
+        Ok(conn) => Ok(files_after(alloc, conn, commands, acknowledged)),
+        Err((_, left)) => Ok(left.into_files()),
+    }
+}
+
+/// How many commands are acknowledged, and what is then on the disks.
+fn run_to_its_end(
+    alloc: Global,
+    disks: &Files<Memory>,
+    calls: Calls,
+    commands: &[Command],
+) -> Result<(usize, Files<Memory>), Fail> {
+    let mut acknowledged = 0;
+    let files = run(alloc, disks, calls, commands, &mut acknowledged)?;
+    let log = copy(alloc, files.log.inner())?;
+    let db = copy(alloc, files.db.inner())?;
+    Ok((acknowledged, Files { log, db }))
+}
+
+/// What is left where so many commands were acknowledged, and this is replied.
+fn left_by(sheet: &Sheet, acknowledged: usize, replies: &str) -> Result<Left, Fail> {
+    if replies == *sheet.lost.get(acknowledged).ok_or("a command")? {
+        return Ok(Left::Lost);
+    }
+    if replies == *sheet.kept.get(acknowledged).ok_or("a command")? {
+        return Ok(Left::Kept);
+    }
+    Err("another beginning")?
+}
+
+/// What is on the disks of a trial of which so many commands were acknowledged: the job is asked
+/// for, the next command is given again, and the job is asked for.
+fn left_on(
+    alloc: Global,
+    trial: &Trial,
+    acknowledged: usize,
+    disks: &Files<Memory>,
+) -> Result<Left, Fail> {
+    if let Some(command) = trial.commands.get(acknowledged) {
+        let replies = ask(alloc, disks, &[trial.query, command, trial.query])?;
+        return left_by(trial.sheet, acknowledged, replies.as_str());
+    }
+    let replies = ask(alloc, disks, &[trial.query])?;
+    if replies.as_str() != trial.sheet.end {
+        return Err("another end")?;
+    }
+    Ok(Left::Ended)
+}
+
+/// What is left after a trial in which so many calls do not fail.
+fn left_after(alloc: Global, trial: &Trial, calls: Calls) -> Result<Left, Fail> {
+    let (acknowledged, disks) = run_to_its_end(alloc, trial.disks, calls, trial.commands)?;
+    left_on(alloc, trial, acknowledged, &disks)
+}
+
+/// Stops a trial at each call of a disk in turn.
+fn stop_each(alloc: Global, trial: &Trial, failing: Failing) -> Result<Stops, Fail> {
+    let mut stops = Stops { lost: 0, kept: 0 };
+    for calls in 0..1000 {
+        match left_after(alloc, trial, failing.after(calls))? {
+            Left::Lost => stops.lost = stops.lost.saturating_add(1),
+            Left::Kept => stops.kept = stops.kept.saturating_add(1),
+            Left::Ended => return Ok(stops),
+        }
+    }
+    Err("no end")?
+}
+
+/// The stops of the shift of a sheet.
+fn stops_of(alloc: Global, sheet: &Sheet, failing: Failing) -> Result<String, Fail> {
+    let disks = new_disks(alloc)?;
+    let commands = commands_of(alloc, sheet)?;
+    let query = on_job(alloc, JobCommand::Standing)?;
+    let trial = Trial {
+        disks: &disks,
+        sheet,
+        commands: commands.as_slice(),
+        query: &query,
+    };
+    let stops = stop_each(alloc, &trial, failing)?;
+    Ok(format!(in alloc; "{} lost, {} kept", stops.lost, stops.kept)?)
+}
+
+/// The stops of both jobs.
+fn stops_of_both(alloc: Global, failing: Failing) -> Result<String, Fail> {
+    let lines = stops_of(alloc, &TWO_LINES, failing)?;
+    let cards = stops_of(alloc, &THREE_CARDS, failing)?;
+    Ok(format!(in alloc; "{lines}; {cards}")?)
+}
+
+#[test]
+fn the_log_fails_in_a_shift(rt: HostRuntime) -> Result<(), Fail> {
+    let stops = stops_of_both(rt.alloc(), Failing::Log)?;
+    assert_eq!(rt; stops.as_str(), "154 lost, 3 kept; 139 lost, 2 kept");
+    Ok(())
+}
+
+#[test]
+fn the_database_fails_in_a_shift(rt: HostRuntime) -> Result<(), Fail> {
+    let stops = stops_of_both(rt.alloc(), Failing::Database)?;
+    assert_eq!(rt; stops.as_str(), "36 lost, 0 kept; 30 lost, 0 kept");
+    Ok(())
+}
