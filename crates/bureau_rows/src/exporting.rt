@@ -91,12 +91,7 @@ fn put(
 }
 
 /// Writes what a job has made. Nothing is written before both of its files are made.
-fn write_made(
-    rt: &HostRuntime,
-    path: &str,
-    customer: &str,
-    number: u32,
-) -> Result<(), Outcome> {
+fn write_made(rt: &HostRuntime, path: &str, customer: &str, number: u32) -> Result<(), Outcome> {
     let mut bureau = match open_bureau(rt, path) {
         Ok(bureau) => bureau,
         Err(fault) => return Err(Outcome::Fault(fault)),

@@ -30,7 +30,13 @@ pub fn apply<W: Write>(rt: &HostRuntime, path: &str, script_path: &str, output: 
     let Ok(mut file) = File::open(rt, script_path) else {
         return Outcome::Device;
     };
-    let scripted = script(rt.alloc(), &mut file, output, &mut bureau, &mut Meter::new());
+    let scripted = script(
+        rt.alloc(),
+        &mut file,
+        output,
+        &mut bureau,
+        &mut Meter::new(),
+    );
     let outcome = outcome_of(&scripted);
     match output.flush() {
         Ok(()) => outcome,

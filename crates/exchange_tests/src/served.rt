@@ -55,7 +55,14 @@ fn two_connections_are_served(rt: HostRuntime) -> Result<(), Fail> {
     assert!(rt; serve_from(&rt, path, &listener, 2)? == Outcome::Done);
     let queue = "{\"queue\":[],\"reply\":\"queue\"}";
     assert!(rt; is_answered(&rt, first, "HTTP/1.1 200 OK\r\n", queue)?);
-    assert!(rt; is_answered(&rt, second, "HTTP/1.1 404 Not Found\r\n", "{\"refusal\":20}")?);
+    assert!(rt;
+        is_answered(
+            &rt,
+            second,
+            "HTTP/1.1 404 Not Found\r\n",
+            "{\"refusal\":20}"
+        )?
+    );
     fs::remove_file(&rt, path)?;
     fs::remove_file(&rt, "served.bureau-wal")?;
     Ok(())
