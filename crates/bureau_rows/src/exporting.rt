@@ -91,22 +91,36 @@ fn put(
 }
 
 /// Writes what a job has made. Nothing is written before both of its files are made.
-fn write_made(rt: &HostRuntime, path: &str, customer: &str, number: u32) -> Result<(), Outcome> {
-    let mut bureau = match open_bureau(rt, path) {
-        Ok(bureau) => bureau,
-        Err(fault) => return Err(Outcome::Fault(fault)),
-    };
-    let made = made_by(rt.alloc(), &mut bureau, customer, number)?;
+fn write_made<S: Alter>(
+    rt: &HostRuntime,
+    bureau: &mut Bureau<S>,
+    customer: &str,
+    number: u32,
+) -> Result<(), Outcome> {
+    let made = made_by(rt.alloc(), bureau, customer, number)?;
     put(rt, customer, number, "cards", &made.cards)?;
     put(rt, customer, number, "lines", &made.lines)
+}
+
+/// Writes what a job of the bureau has made, and returns how that ended.
+fn export_job<S: Alter>(
+    rt: &HostRuntime,
+    bureau: &mut Bureau<S>,
+    customer: &str,
+    number: u32,
+) -> Outcome {
+    match write_made(rt, bureau, customer, number) {
+        Ok(()) => Outcome::Done,
+        Err(outcome) => outcome,
+    }
 }
 
 /// Writes what a job has punched and printed to the files `CUSTOMER-NUMBER.cards` and
 /// `CUSTOMER-NUMBER.lines`, in the folder where the program runs. Files of these names are
 /// replaced, each whole or not at all; where the job is refused none is touched.
 pub fn export(rt: &HostRuntime, path: &str, customer: &str, number: u32) -> Outcome {
-    match write_made(rt, path, customer, number) {
-        Ok(()) => Outcome::Done,
-        Err(outcome) => outcome,
+    match open_bureau(rt, path) {
+        Ok(mut bureau) => export_job(rt, &mut bureau, customer, number),
+        Err(fault) => Outcome::Fault(fault),
     }
 }

@@ -2,7 +2,8 @@
 
 use crate::outcomes::Outcome;
 use ledger::{Bureau, Fault};
-use sqlite::{Connection, Unknown};
+use sqlite::{Alter, Connection, Unknown};
+use std::alloc::Global;
 use std::fs;
 use std::io::ErrorKind;
 use tables::OpenFault;
@@ -18,17 +19,24 @@ fn fault_of(fault: Fault) -> OpenFault {
     }
 }
 
+/// Makes a bureau on a connection to a file that holds nothing.
+fn create_on<S: Alter + Drop>(
+    alloc: Global,
+    conn: Connection<S>,
+) -> Result<Connection<S>, OpenFault> {
+    match Bureau::create(alloc, conn) {
+        Ok(bureau) => Ok(bureau.into_connection()),
+        Err((fault, _conn)) => Err(fault_of(fault)),
+    }
+}
+
 /// Makes a bureau in a file at a path where there is none, and closes it: then all of it is in
 /// this one file.
 fn make_closed(rt: &HostRuntime, path: &str) -> Result<(), OpenFault> {
     let Ok(conn) = Connection::open_from(rt, path, false, Unknown) else {
         return Err(OpenFault::Store);
     };
-    let bureau = match Bureau::create(rt.alloc(), conn) {
-        Ok(bureau) => bureau,
-        Err((fault, _conn)) => return Err(fault_of(fault)),
-    };
-    match bureau.into_connection().close() {
+    match create_on(rt.alloc(), conn)?.close() {
         Ok(()) => Ok(()),
         Err(_) => Err(OpenFault::Store),
     }

@@ -2,9 +2,10 @@
 
 use crate::opening::open_bureau;
 use crate::outcomes::Outcome;
-use ledger::Fault;
+use ledger::{Bureau, Fault};
 use machine::Meter;
 use script_runs::{ScriptEnd, Scripted, script};
+use sqlite::Alter;
 use std::fs::File;
 use std::io::Write;
 use tables::OpenFault;
@@ -20,26 +21,30 @@ fn outcome_of(scripted: &Scripted) -> Outcome {
     }
 }
 
-/// Carries out the commands of the script at a path, in order, by the bureau whose file is at
-/// another. The line of each reply is written when its command is in the file.
-pub fn apply<W: Write>(rt: &HostRuntime, path: &str, script_path: &str, output: &mut W) -> Outcome {
-    let mut bureau = match open_bureau(rt, path) {
-        Ok(bureau) => bureau,
-        Err(fault) => return Outcome::Fault(fault),
-    };
+/// Carries out the commands of the script at a path, in order.
+fn apply_script<W: Write, S: Alter>(
+    rt: &HostRuntime,
+    bureau: &mut Bureau<S>,
+    script_path: &str,
+    output: &mut W,
+) -> Outcome {
     let Ok(mut file) = File::open(rt, script_path) else {
         return Outcome::Device;
     };
-    let scripted = script(
-        rt.alloc(),
-        &mut file,
-        output,
-        &mut bureau,
-        &mut Meter::new(),
-    );
+    let mut meter = Meter::new();
+    let scripted = script(rt.alloc(), &mut file, output, bureau, &mut meter);
     let outcome = outcome_of(&scripted);
     match output.flush() {
         Ok(()) => outcome,
         Err(_) => Outcome::Device,
+    }
+}
+
+/// Carries out the commands of the script at a path, in order, by the bureau whose file is at
+/// another. The line of each reply is written when its command is in the file.
+pub fn apply<W: Write>(rt: &HostRuntime, path: &str, script_path: &str, output: &mut W) -> Outcome {
+    match open_bureau(rt, path) {
+        Ok(mut bureau) => apply_script(rt, &mut bureau, script_path, output),
+        Err(fault) => Outcome::Fault(fault),
     }
 }

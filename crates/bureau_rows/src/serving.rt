@@ -78,19 +78,22 @@ pub fn serve_connections<S: Alter>(
     Outcome::Done
 }
 
-/// Serves so many connections from the bureau's file at a path, on a port of 127.0.0.1, one after
-/// the other, with one request each.
-pub fn serve(rt: &HostRuntime, path: &str, port: u16, count: u32) -> Outcome {
-    let mut bureau = match open_bureau(rt, path) {
-        Ok(bureau) => bureau,
-        Err(fault) => return Outcome::Fault(fault),
-    };
+/// Serves so many connections from a bureau, on a port of 127.0.0.1.
+fn serve_on<S: Alter>(rt: &HostRuntime, bureau: &mut Bureau<S>, port: u16, count: u32) -> Outcome {
     let Ok(routes) = Routes::new(rt.alloc()) else {
         return Outcome::Fault(OpenFault::NoMemory);
     };
-    let address = SocketAddrV4::new(Ipv4Addr::LOCALHOST, port);
-    match TcpListener::bind(rt, address) {
-        Ok(listener) => serve_connections(rt.alloc(), &routes, &mut bureau, &listener, count),
+    match TcpListener::bind(rt, SocketAddrV4::new(Ipv4Addr::LOCALHOST, port)) {
+        Ok(listener) => serve_connections(rt.alloc(), &routes, bureau, &listener, count),
         Err(_) => Outcome::Device,
+    }
+}
+
+/// Serves so many connections from the bureau's file at a path, on a port of 127.0.0.1, one after
+/// the other, with one request each.
+pub fn serve(rt: &HostRuntime, path: &str, port: u16, count: u32) -> Outcome {
+    match open_bureau(rt, path) {
+        Ok(mut bureau) => serve_on(rt, &mut bureau, port, count),
+        Err(fault) => Outcome::Fault(fault),
     }
 }
