@@ -1,5 +1,6 @@
 //! Tests of the bureau: what is replied to sheets of commands and the rows that are there then;
-//! and, below it, the rows of its tables and the pictures of machines in them.
+//! disks that fail and memory that is refused; shifts; and, below it, the rows of its tables and
+//! the pictures of machines in them.
 //!
 //! They are one crate, since each crate over `sqlite` takes a minute to start.
 #![tactic(auto)]
@@ -27,6 +28,8 @@ mod opened_files;
 #[cfg(test)]
 mod refusals;
 #[cfg(test)]
+mod refused_memory;
+#[cfg(test)]
 mod replies;
 #[cfg(test)]
 mod rows;
@@ -34,6 +37,8 @@ mod rows;
 mod runs;
 #[cfg(test)]
 mod sessions;
+#[cfg(test)]
+mod shift_stops;
 #[cfg(test)]
 mod stops;
 #[cfg(test)]

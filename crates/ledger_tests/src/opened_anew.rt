@@ -76,7 +76,10 @@ pub(crate) fn open(
 }
 
 /// The connection of a new bureau.
-fn created<S: Alter + Drop>(alloc: Global, conn: Connection<S>) -> Result<Connection<S>, Fail> {
+pub(crate) fn created<S: Alter + Drop>(
+    alloc: Global,
+    conn: Connection<S>,
+) -> Result<Connection<S>, Fail> {
     match Bureau::create(alloc, conn) {
         Ok(bureau) => Ok(bureau.into_connection()),
         Err(_) => Err("not made")?,

@@ -1,7 +1,7 @@
 //! A bureau's file, made, closed and opened at its path.
 
 use crate::commands::misanswered;
-use ledger::Bureau;
+use crate::opened_anew::created;
 use ledger_files::open_from;
 use machine::Meter;
 use sqlite::{Connection, Unknown};
@@ -9,7 +9,7 @@ use std::fs;
 use std::test::Fail;
 
 /// The number that a file is opened with as a bureau's, 0 where it is one.
-fn opening(rt: &HostRuntime, path: &str) -> u8 {
+pub(crate) fn opening(rt: &HostRuntime, path: &str) -> u8 {
     match open_from(rt, path, Unknown) {
         Ok(_bureau) => 0,
         Err((fault, _kept)) => fault.number(),
@@ -17,18 +17,22 @@ fn opening(rt: &HostRuntime, path: &str) -> u8 {
 }
 
 /// Makes a bureau's tables in a file.
-fn create(rt: &HostRuntime, path: &str) -> Result<(), Fail> {
+pub(crate) fn create(rt: &HostRuntime, path: &str) -> Result<(), Fail> {
     let Ok(conn) = Connection::open_from(rt, path, false, Unknown) else {
         return Err("not opened")?;
     };
-    match Bureau::create(rt.alloc(), conn) {
-        Ok(_bureau) => Ok(()),
-        Err(_) => Err("not made")?,
+    match created(rt.alloc(), conn) {
+        Ok(_conn) => Ok(()),
+        Err(fail) => Err(fail),
     }
 }
 
 /// The first line of a sheet that the bureau of a file answers otherwise; else nothing.
-fn misanswered_at(rt: &HostRuntime, path: &str, sheet: &'static str) -> Result<&'static str, Fail> {
+pub(crate) fn misanswered_at(
+    rt: &HostRuntime,
+    path: &str,
+    sheet: &'static str,
+) -> Result<&'static str, Fail> {
     match open_from(rt, path, Unknown) {
         Ok(mut bureau) => misanswered(rt.alloc(), &mut bureau, &mut Meter::new(), sheet),
         Err(_) => Err("not opened")?,
@@ -36,13 +40,13 @@ fn misanswered_at(rt: &HostRuntime, path: &str, sheet: &'static str) -> Result<&
 }
 
 /// A job is handed in and run in part.
-const BEFORE: &str = "\
+pub(crate) const BEFORE: &str = "\
 taken 6|submit|ACME|9|4000|A|two lines
 ran 34, running|slice|ACME|9|34
 ";
 
 /// It is there, and goes on.
-const AFTER: &str = "\
+pub(crate) const AFTER: &str = "\
 queue ACME/9|queue|
 running, false false 34 0 2|standing|ACME|9|
 lines 2 HELLO/WORLD/|lines|ACME|9|
@@ -60,5 +64,32 @@ fn a_file_is_opened_again(rt: HostRuntime) -> Result<(), Fail> {
     assert_eq!(rt; misanswered_at(&rt, path, AFTER)?, "");
     fs::remove_file(&rt, path)?;
     fs::remove_file(&rt, "opened_again.db-wal")?;
+    Ok(())
+}
+
+/// A job is handed in.
+const HANDED_IN: &str = "taken 6|submit|ACME|9|4000|A|two lines\n";
+
+/// One instruction of it, after which it goes on.
+const ONE_MORE: &str = "ran 1, running|slice|ACME|9|1\n";
+
+/// The last one, after which it has printed its lines.
+const LAST_ONE: &str = "\
+ran 1, halted, next 361|slice|ACME|9|1
+halted, next 361, false false 35 0 2|standing|ACME|9|
+lines 2 HELLO/WORLD/|lines|ACME|9|
+";
+
+#[test]
+fn slices_of_one_instruction_from_a_file(rt: HostRuntime) -> Result<(), Fail> {
+    let path = "by_ones.db";
+    create(&rt, path)?;
+    assert_eq!(rt; misanswered_at(&rt, path, HANDED_IN)?, "");
+    for _ in 0..34 {
+        assert_eq!(rt; misanswered_at(&rt, path, ONE_MORE)?, "");
+    }
+    assert_eq!(rt; misanswered_at(&rt, path, LAST_ONE)?, "");
+    fs::remove_file(&rt, path)?;
+    fs::remove_file(&rt, "by_ones.db-wal")?;
     Ok(())
 }

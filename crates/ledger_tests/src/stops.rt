@@ -8,34 +8,34 @@ use crate::sessions::{adopted, rows_of};
 use ledger::{Bureau, Fault};
 use machine::Meter;
 use office::{Command, Reply};
-use sqlite::{Connection, FileStore, Files, Options};
+use sqlite::{Alter, Connection, FileStore, Files, Options};
 use sqlite_disk::{Fuse, Memory};
 use std::alloc::Global;
 use std::test::Fail;
 
 /// How many calls of each disk do not fail.
 #[derive(Clone, Copy, Debug, Drop)]
-struct Calls {
-    log: u64,
-    db: u64,
+pub(crate) struct Calls {
+    pub(crate) log: u64,
+    pub(crate) db: u64,
 }
 
 /// None fails.
-const ALL: Calls = Calls {
+pub(crate) const ALL: Calls = Calls {
     log: u64::MAX,
     db: u64::MAX,
 };
 
 /// The disk that fails.
 #[derive(Clone, Copy, Debug, Drop)]
-enum Failing {
+pub(crate) enum Failing {
     Log,
     Database,
 }
 
 impl Failing {
     /// This disk fails after so many calls, the other one never.
-    fn after(self, calls: u64) -> Calls {
+    pub(crate) fn after(self, calls: u64) -> Calls {
         match self {
             Failing::Log => Calls { log: calls, ..ALL },
             Failing::Database => Calls { db: calls, ..ALL },
@@ -78,6 +78,22 @@ fn office_on(alloc: Global, disks: &Files<Memory>) -> Result<String, Fail> {
     rows_of(alloc, adopted(alloc, open(alloc, disks)?)?)
 }
 
+/// The connection of a bureau after a command, to which there is this reply.
+fn worked<S: Alter + Drop>(
+    alloc: Global,
+    conn: Connection<S>,
+    command: &Command,
+    reply: &mut Result<Reply, Fault>,
+) -> Connection<S> {
+    match Bureau::adopt(alloc, conn) {
+        Ok(mut bureau) => {
+            *reply = apply(&mut bureau, command, &mut Meter::new());
+            bureau.into_connection()
+        }
+        Err((_, conn)) => conn,
+    }
+}
+
 /// The files after a command to the bureau over a connection, to which there is this reply.
 fn files_after(
     alloc: Global,
@@ -85,13 +101,7 @@ fn files_after(
     command: &Command,
     reply: &mut Result<Reply, Fault>,
 ) -> Files<Fuse<Memory>> {
-    match Bureau::adopt(alloc, conn) {
-        Ok(mut bureau) => {
-            *reply = apply(&mut bureau, command, &mut Meter::new());
-            bureau.into_connection().into_store().close()
-        }
-        Err((_, conn)) => conn.into_store().close(),
-    }
+    worked(alloc, conn, command, reply).into_store().close()
 }
 
 /// The same over copies of disks, after so many calls of which each fails. The log is copied into

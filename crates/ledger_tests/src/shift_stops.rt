@@ -1,40 +1,72 @@
 //! A shift one of whose disks fails from a call on, each call in turn, and its files opened again.
 
-use crate::disks::{ask, copy, new_disks};
-use crate::sheets::{Sheet, THREE_CARDS, TWO_LINES, commands_of, on_job};
+use crate::commands::command_of;
+use crate::opened_anew::{apply, copy, new_disks, open};
+use crate::replies::reply_text;
+use crate::stops::{Calls, Failing};
 use ledger::Bureau;
 use ledger_shifts::shift;
 use machine::Meter;
-use office::{Command, JobCommand};
+use office::Command;
 use sqlite::{Alter, Connection, FileStore, Files, Options};
 use sqlite_disk::{Fuse, Memory};
 use std::alloc::Global;
 use std::test::Fail;
 
-/// How many calls of each disk do not fail.
-#[derive(Clone, Copy, Debug, Drop)]
-struct Calls {
-    log: u64,
-    db: u64,
+/// A shift on job 9 of ACME.
+struct Sheet {
+    /// Its commands, as lines.
+    commands: &'static [&'static str],
+    /// For each command, where it was lost: the job, the reply to the command given again, and the
+    /// job after that.
+    lost: &'static [&'static str],
+    /// The same where the command was kept.
+    kept: &'static [&'static str],
+    /// The job after all commands.
+    end: &'static str,
 }
 
-/// The disk that fails.
-#[derive(Clone, Copy, Debug, Drop)]
-enum Failing {
-    Log,
-    Database,
-}
+/// A job that prints two lines.
+const TWO_LINES: Sheet = Sheet {
+    commands: &[
+        "submit|ACME|9|4000|A|two lines",
+        "slice|ACME|9|34",
+        "slice|ACME|9|2000",
+    ],
+    lost: &[
+        "refused 20; taken 6; running, false false 0 0 0",
+        "running, false false 0 0 0; ran 34, running; running, false false 34 0 2",
+        "running, false false 34 0 2; ran 1, halted, next 361; \
+        halted, next 361, false false 2034 0 2",
+    ],
+    kept: &[
+        "running, false false 0 0 0; taken 6; running, false false 0 0 0",
+        "running, false false 34 0 2; ran 1, halted, next 361; \
+        halted, next 361, false false 68 0 2",
+        "halted, next 361, false false 2034 0 2; refused 23; \
+        halted, next 361, false false 2034 0 2",
+    ],
+    end: "halted, next 361, false false 2034 0 2",
+};
 
-impl Failing {
-    /// This disk fails after so many calls, the other one never.
-    fn after(self, calls: u64) -> Calls {
-        let (log, db) = match self {
-            Failing::Log => (calls, u64::MAX),
-            Failing::Database => (u64::MAX, calls),
-        };
-        Calls { log, db }
-    }
-}
+/// A job that punches three cards.
+const THREE_CARDS: Sheet = Sheet {
+    commands: &["submit|ACME|9|1400|-|three cards", "slice|ACME|9|2000"],
+    lost: &[
+        "refused 20; taken 1; running, false false 0 0 0",
+        "running, false false 0 0 0; ran 8, halted, next 33; \
+        halted, next 33, false false 2000 3 0",
+    ],
+    kept: &[
+        "running, false false 0 0 0; taken 1; running, false false 0 0 0",
+        "halted, next 33, false false 2000 3 0; refused 23; \
+        halted, next 33, false false 2000 3 0",
+    ],
+    end: "halted, next 33, false false 2000 3 0",
+};
+
+/// Asks for job 9 of ACME.
+const QUERY: &str = "standing|ACME|9|";
 
 /// After how many stops the command that was not acknowledged was lost, and after how many it was
 /// kept.
@@ -60,6 +92,43 @@ struct Trial<'a> {
     sheet: &'a Sheet,
     commands: &'a [Command],
     query: &'a Command,
+}
+
+/// The replies of a bureau to some commands, in words.
+fn replies<S: Alter>(
+    alloc: Global,
+    bureau: &mut Bureau<S>,
+    commands: &[&Command],
+) -> Result<String, Fail> {
+    let mut text = String::new(alloc);
+    for command in commands {
+        if !text.is_empty() {
+            text.push_str("; ")?;
+        }
+        let reply = reply_text(alloc, &apply(bureau, command, &mut Meter::new()))?;
+        text.push_str(reply.as_str())?;
+    }
+    Ok(text)
+}
+
+/// The same, by a bureau over the tables that a connection finds.
+fn replies_over<S: Alter + Drop>(
+    alloc: Global,
+    conn: Connection<S>,
+    commands: &[&Command],
+) -> Result<String, Fail> {
+    match Bureau::adopt(alloc, conn) {
+        Ok(mut bureau) => replies(alloc, &mut bureau, commands),
+        Err(_) => Err("not adopted")?,
+    }
+}
+
+/// The replies of the bureau on these disks, which stay as they are.
+fn ask(alloc: Global, disks: &Files<Memory>, commands: &[&Command]) -> Result<String, Fail> {
+    match open(alloc, disks) {
+        Ok(conn) => replies_over(alloc, conn, commands),
+        Err(fail) => Err(fail),
+    }
 }
 
 /// How many commands of a shift are acknowledged.
@@ -180,11 +249,20 @@ fn stop_each(alloc: Global, trial: &Trial, failing: Failing) -> Result<Stops, Fa
     Err("no end")?
 }
 
+/// The commands of lines.
+fn commands_of(alloc: Global, lines: &[&str]) -> Result<Vec<Command>, Fail> {
+    let mut commands = Vec::new(alloc);
+    for line in lines {
+        commands.push(command_of(alloc, line)?)?;
+    }
+    Ok(commands)
+}
+
 /// The stops of the shift of a sheet.
 fn stops_of(alloc: Global, sheet: &Sheet, failing: Failing) -> Result<String, Fail> {
     let disks = new_disks(alloc)?;
-    let commands = commands_of(alloc, sheet)?;
-    let query = on_job(alloc, JobCommand::Standing)?;
+    let commands = commands_of(alloc, sheet.commands)?;
+    let query = command_of(alloc, QUERY)?;
     let trial = Trial {
         disks: &disks,
         sheet,

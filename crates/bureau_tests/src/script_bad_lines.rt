@@ -1,6 +1,7 @@
 //! Scripts that are none, and the one that is empty.
 
-use crate::sessions::{comes_to, has_no_job, in_memory};
+use crate::bureaus::in_memory;
+use crate::script_sessions::{comes_to, has_no_job};
 use script_runs::ScriptEnd;
 use std::test::Fail;
 

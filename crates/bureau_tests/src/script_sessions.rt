@@ -3,18 +3,10 @@
 use ledger::Bureau;
 use machine::Meter;
 use script_runs::{ScriptEnd, Scripted, script};
-use sqlite::{Alter, Connection, MemStore};
+use sqlite::Alter;
 use std::alloc::Global;
 use std::io::Read;
 use std::test::Fail;
-
-/// A bureau without jobs, in memory.
-pub(crate) fn in_memory(alloc: Global) -> Result<Bureau<MemStore>, Fail> {
-    match Bureau::create(alloc, Connection::open_in_memory(alloc)?) {
-        Ok(bureau) => Ok(bureau),
-        Err(_) => Err("not made")?,
-    }
-}
 
 /// Whether a script writes this output, and comes to so many replies, a refusal or none, and this
 /// end.

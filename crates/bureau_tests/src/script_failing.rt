@@ -1,8 +1,9 @@
 //! Scripts whose reader or writer gives and takes little, or fails.
 
+use crate::bureaus::in_memory;
 use crate::devices::{Dripping, Narrow};
-use crate::sessions::{comes_to, has_no_job, in_memory};
-use crate::sheets::{output_of, script_of};
+use crate::script_sessions::{comes_to, has_no_job};
+use crate::script_sheets::{output_of, script_of};
 use machine::Meter;
 use script_runs::{ScriptEnd, Scripted, script};
 use std::alloc::Global;

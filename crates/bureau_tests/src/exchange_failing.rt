@@ -1,8 +1,8 @@
 //! Exchanges whose reader or writer gives and takes little, or fails.
 
+use crate::bureaus::in_memory;
 use crate::devices::{Dripping, Narrow};
 use crate::requests::request_of;
-use crate::sessions::in_memory;
 use http_exchanges::{Exchange, exchange};
 use http_requests::Routes;
 use machine::Meter;

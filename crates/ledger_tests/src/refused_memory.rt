@@ -1,13 +1,39 @@
-//! What each call leaves where memory is wanted.
+//! What each call leaves where memory is refused: fault 1 leaves what was there before.
+//!
+//! In the gate all memory is there, and each call succeeds. `rt try ledger_tests --test --fail-alloc N`
+//! runs the tests with the N-th request for memory refused: then a test may end with the error of its
+//! own preparations, but no assertion here may fail.
 
-use crate::bureaus::{contents, in_memory, slice, submission};
+use crate::commands::command_of;
+use crate::opened_files::{AFTER, BEFORE, create, misanswered_at, opening};
+use crate::sessions::in_memory;
 use ledger::{Bureau, Fault};
 use machine::Meter;
 use office::Command;
-use sqlite::{Connection, MemStore};
+use sqlite::{Alter, Connection, MemStore};
 use std::alloc::Global;
+use std::fs;
 use std::test::Fail;
 use tables::OpenFault;
+
+/// Hands in a job that punches three cards.
+const SUBMIT: &str = "submit|ACME|9|1400|-|three cards";
+
+/// Runs it to its halt.
+const SLICE: &str = "slice|ACME|9|2000";
+
+/// How many jobs there are, how many stretches have instructions granted, and how many cards were
+/// punched, as one number.
+fn contents<S: Alter>(conn: &mut Connection<S>) -> Result<i64, Fail> {
+    let jobs: i64 = conn.query_row("SELECT count(*) FROM jobs", &[])?.get(0)?;
+    let granted: i64 = conn
+        .query_row("SELECT count(*) FROM stretches WHERE granted > 0", &[])?
+        .get(0)?;
+    let cards: i64 = conn.query_row("SELECT count(*) FROM cards", &[])?.get(0)?;
+    let hundreds = jobs.wrapping_mul(100);
+    let tens = granted.wrapping_mul(10);
+    Ok(hundreds.wrapping_add(tens).wrapping_add(cards))
+}
 
 /// Whether a command is applied, or leaves the tables as they were.
 fn is_applied_or_not(
@@ -28,7 +54,7 @@ fn is_applied_or_not(
 /// A bureau with one job that has not run.
 fn with_a_job(alloc: Global) -> Result<Bureau<MemStore>, Fail> {
     let mut bureau = in_memory(alloc)?;
-    match bureau.apply(&submission(alloc)?, &mut Meter::new()) {
+    match bureau.apply(&command_of(alloc, SUBMIT)?, &mut Meter::new()) {
         Ok(_) => Ok(bureau),
         Err(_) => Err("not taken")?,
     }
@@ -63,12 +89,24 @@ fn create_makes_a_bureau_or_nothing(rt: HostRuntime) -> Result<(), Fail> {
 
 /// Whether a submission is taken, or not.
 fn is_taken_or_not(alloc: Global) -> Result<bool, Fail> {
-    is_applied_or_not(alloc, in_memory(alloc)?, &submission(alloc)?, 0, 100)
+    is_applied_or_not(
+        alloc,
+        in_memory(alloc)?,
+        &command_of(alloc, SUBMIT)?,
+        0,
+        100,
+    )
 }
 
 /// Whether a slice is run, or not.
 fn is_run_or_not(alloc: Global) -> Result<bool, Fail> {
-    is_applied_or_not(alloc, with_a_job(alloc)?, &slice(alloc)?, 100, 113)
+    is_applied_or_not(
+        alloc,
+        with_a_job(alloc)?,
+        &command_of(alloc, SLICE)?,
+        100,
+        113,
+    )
 }
 
 #[test]
@@ -86,5 +124,22 @@ fn apply_runs_a_slice_or_keeps_the_tables(rt: HostRuntime) -> Result<(), Fail> {
 #[test]
 fn adopt_keeps_the_tables(rt: HostRuntime) -> Result<(), Fail> {
     assert!(rt; is_adopted_or_not(rt.alloc())?);
+    Ok(())
+}
+
+/// Where the file is not opened for want of memory, it is opened afterwards, and its job goes on.
+#[test]
+fn open_from_keeps_the_file(rt: HostRuntime) -> Result<(), Fail> {
+    let path = "refused_memory.db";
+    create(&rt, path)?;
+    if !misanswered_at(&rt, path, BEFORE)?.is_empty() {
+        return Err("not run")?;
+    }
+    let number = opening(&rt, path);
+    assert!(rt; number <= 1);
+    let line = misanswered_at(&rt, path, AFTER)?;
+    assert!(rt; number == 0 || line.is_empty());
+    fs::remove_file(&rt, path)?;
+    fs::remove_file(&rt, "refused_memory.db-wal")?;
     Ok(())
 }

@@ -1,7 +1,8 @@
 //! A job from its submission to its lines.
 
+use crate::bureaus::in_memory;
 use crate::decks::two_lines;
-use crate::sessions::{in_memory, misanswered};
+use crate::exchange_sessions::misanswered;
 use machine::Meter;
 use std::test::Fail;
 

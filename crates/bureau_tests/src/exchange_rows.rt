@@ -1,7 +1,8 @@
 //! Requests to a bureau without jobs.
 
+use crate::bureaus::in_memory;
 use crate::decks::two_lines;
-use crate::sessions::{in_memory, misanswered};
+use crate::exchange_sessions::misanswered;
 use machine::Meter;
 use std::test::Fail;
 

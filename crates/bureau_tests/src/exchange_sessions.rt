@@ -5,17 +5,9 @@ use http_exchanges::{Exchange, exchange};
 use http_requests::Routes;
 use ledger::Bureau;
 use machine::Meter;
-use sqlite::{Alter, Connection, MemStore};
+use sqlite::Alter;
 use std::alloc::Global;
 use std::test::Fail;
-
-/// A bureau without jobs, in memory.
-pub(crate) fn in_memory(alloc: Global) -> Result<Bureau<MemStore>, Fail> {
-    match Bureau::create(alloc, Connection::open_in_memory(alloc)?) {
-        Ok(bureau) => Ok(bureau),
-        Err(_) => Err("not made")?,
-    }
-}
 
 /// Whether a request is answered with these bytes, which begin with this status.
 fn is_answered<S: Alter>(

@@ -1,7 +1,7 @@
 //! A job from its submission to its lines.
 
-use crate::sessions::in_memory;
-use crate::sheets::{output_of, script_of};
+use crate::bureaus::in_memory;
+use crate::script_sheets::{output_of, script_of};
 use machine::Meter;
 use script_runs::{ScriptEnd, Scripted, script};
 use std::test::Fail;
