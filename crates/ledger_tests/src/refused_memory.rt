@@ -1,8 +1,8 @@
 //! What each call leaves where memory is refused: fault 1 leaves what was there before.
 //!
-//! In the gate all memory is there, and each call succeeds. `rt try ledger_tests --test --fail-alloc N`
-//! runs the tests with the N-th request for memory refused: then a test may end with the error of its
-//! own preparations, but no assertion here may fail.
+//! In the gate all memory is there, and each call succeeds. `tools/refuse-memory N` runs these tests
+//! with the N-th request for memory refused: then a test may end with the error of its own
+//! preparations, but no assertion may fail.
 
 use crate::commands::command_of;
 use crate::opened_files::{AFTER, BEFORE, create, misanswered_at, opening};
