@@ -1,0 +1,6 @@
+//! Laws of requests over HTTP: bytes come to one request.
+#![tactic(auto)]
+
+mod heads;
+
+pub use heads::{one_head, one_refusal};
