@@ -1,8 +1,12 @@
 -- what is the same of two that bytes come to
-use Rattle.std.specs.Prelude.{ℕ, ◌≡◌, ◌⊎◌, ⊤}
+use Rattle.std.specs.Prelude.{ℕ, ◌≡◌, ◌⊎◌, ⊤, string_bytes}
 use Rattle.http_heads.specs.declared.asked.Asked.{Asked}
 use Rattle.http_heads.specs.declared.asked.Asked.TheVariants as asked
 use Rattle.http_heads.specs.declared.asked.JobName.{JobName}
+use Rattle.office.specs.declared.commands.Command.{Command}
+use Rattle.office.specs.declared.commands.Command.TheVariants as command
+use Rattle.http_requests.specs.declared.request.Request.{Request}
+use Rattle.http_requests.specs.declared.request.Request.TheVariants as request
 
 -- a status of bytes that begin with no head, or with one that is too large
 abbrev pub IsHeadless : ℕ → Type 0
@@ -31,3 +35,20 @@ IsSameAsked (asked.Lines job) (asked.Lines name) = IsSameJob job name
 IsSameAsked (asked.Jobs customer) (asked.Jobs name) = customer.now ≡ name.now
 IsSameAsked asked.Queue asked.Queue = ⊤
 IsSameAsked one other = ⊥
+
+-- both are one command, with one text of the customer
+abbrev pub IsSameCommand : Command → Command → Type 0
+IsSameCommand (command.Submit customer number contents) (command.Submit name place deck) =
+    (string_bytes customer ≡ string_bytes name) × (number ≡ place) × (contents ≡ deck)
+IsSameCommand (command.Job customer number c) (command.Job name place d) =
+    (string_bytes customer ≡ string_bytes name) × (number ≡ place) × (c ≡ d)
+IsSameCommand (command.Jobs customer) (command.Jobs name) = string_bytes customer ≡ string_bytes name
+IsSameCommand command.Queue command.Queue = ⊤
+IsSameCommand one other = ⊥
+
+-- both are refused with the same status, have the same fault in their decks, or ask for the same
+abbrev pub IsSameRequest : Request → Request → Type 0
+IsSameRequest (request.Refused status) (request.Refused other) = IsSameStatus status other
+IsSameRequest (request.BadDeck fault) (request.BadDeck other) = fault ≡ other
+IsSameRequest (request.Asks one) (request.Asks other) = IsSameCommand one other
+IsSameRequest one other = ⊥
