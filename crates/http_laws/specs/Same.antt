@@ -8,11 +8,11 @@ use Rattle.office.specs.declared.commands.Command.TheVariants as command
 use Rattle.http_requests.specs.declared.request.Request.{Request}
 use Rattle.http_requests.specs.declared.request.Request.TheVariants as request
 
--- a status of bytes that begin with no head, or with one that is too large
+-- a status of bytes that begin with no head, or with none that is as short as a head may be
 abbrev pub IsHeadless : ℕ → Type 0
 IsHeadless status = (status ≡ 400) ⊎ (status ≡ 431)
 
--- both are one status, or each says that there is no head, or one that is too large
+-- both are one status, or each is one of bytes without a head
 abbrev pub IsSameStatus : ℕ → ℕ → Type 0
 IsSameStatus one other = (one ≡ other) ⊎ (IsHeadless one × IsHeadless other)
 
@@ -20,12 +20,13 @@ IsSameStatus one other = (one ≡ other) ⊎ (IsHeadless one × IsHeadless other
 abbrev pub IsSameJob : JobName → JobName → Type 0
 IsSameJob one other = (one.customer.now ≡ other.customer.now) × (one.number ≡ other.number)
 
--- both ask for the same, in texts and numbers
+-- both ask for the same: the texts of the customers, the numbers and the switches are equal
 abbrev pub IsSameAsked : Asked → Asked → Type 0
-IsSameAsked (asked.Submit job kind size switches) (asked.Submit name form positions on) =
-    IsSameJob job name × (kind ≡ form) × (size ≡ positions) × (switches ≡ on)
+IsSameAsked (asked.Submit job kind size switches) (asked.Submit name form positions up) =
+    IsSameJob job name × (kind ≡ form) × (size ≡ positions) × (switches ≡ up)
 IsSameAsked (asked.Slice job limit) (asked.Slice name most) = IsSameJob job name × (limit ≡ most)
-IsSameAsked (asked.Start job switches) (asked.Start name on) = IsSameJob job name × (switches ≡ on)
+IsSameAsked (asked.Start job switches) (asked.Start name up) =
+    IsSameJob job name × (switches ≡ up)
 IsSameAsked (asked.Hold job) (asked.Hold name) = IsSameJob job name
 IsSameAsked (asked.Release job) (asked.Release name) = IsSameJob job name
 IsSameAsked (asked.Collect job) (asked.Collect name) = IsSameJob job name
@@ -36,13 +37,14 @@ IsSameAsked (asked.Jobs customer) (asked.Jobs name) = customer.now ≡ name.now
 IsSameAsked asked.Queue asked.Queue = ⊤
 IsSameAsked one other = ⊥
 
--- both are one command, with one text of the customer
+-- both are the same command: the texts of the customers, the numbers and all else are equal
 abbrev pub IsSameCommand : Command → Command → Type 0
-IsSameCommand (command.Submit customer number contents) (command.Submit name place deck) =
-    (string_bytes customer ≡ string_bytes name) × (number ≡ place) × (contents ≡ deck)
+IsSameCommand (command.Submit customer number contents) (command.Submit name place handed) =
+    (string_bytes customer ≡ string_bytes name) × (number ≡ place) × (contents ≡ handed)
 IsSameCommand (command.Job customer number c) (command.Job name place d) =
     (string_bytes customer ≡ string_bytes name) × (number ≡ place) × (c ≡ d)
-IsSameCommand (command.Jobs customer) (command.Jobs name) = string_bytes customer ≡ string_bytes name
+IsSameCommand (command.Jobs customer) (command.Jobs name) =
+    string_bytes customer ≡ string_bytes name
 IsSameCommand command.Queue command.Queue = ⊤
 IsSameCommand one other = ⊥
 
