@@ -107,10 +107,19 @@ one_refusal h s t (inl a) (inr b) = let none = b.0 in cc
 one_refusal h s t (inr a) (inl b) = let none = a.0 in cc
 one_refusal h s t (inr a) (inr b) = a.1 ∙ sym b.1
 
-pub one_of_head : (input : List ℕ) (h : RequestHead) (s t : ℕ) → BeginsWith input h → Refuses input s → Refuses input t → s ≡ t
-one_of_head input h s t begins (inl unread) b = absurd (is_read input h s begins unread)
-one_of_head input h s t begins (inr a) (inl unread) = absurd (is_read input h t begins unread)
-one_of_head input h s t begins (inr (k, on, a)) (inr (l, too, b)) =
+-- bytes with a head, which may be too large, are unread for its size alone
+too_large : (input : List ℕ) (h : RequestHead) (rest : List ℕ) (status : ℕ) → ReadsRequest input h rest → IsUnread input status → status ≡ 431
+too_large input h rest status reads (inl (inl (front, more, same, short, never), is)) =
+    absurd (never more h rest (subst (λ (i : List ℕ). ReadsRequest i h rest) same reads))
+too_large input h rest status reads (inl (inr early, is)) = absurd (early.0 h rest reads)
+too_large input h rest status reads (inr (large, is)) = is
+
+pub one_of_head : (input : List ℕ) (h : RequestHead) (rest : List ℕ) (s t : ℕ) → ReadsRequest input h rest
+    → Refuses input s → Refuses input t → s ≡ t
+one_of_head input h rest s t reads (inl a) (inl b) = too_large input h rest s reads a ∙ sym (too_large input h rest t reads b)
+one_of_head input h rest s t reads (inl a) (inr (k, on, b)) = absurd (is_read input k s on a)
+one_of_head input h rest s t reads (inr (k, on, a)) (inl b) = absurd (is_read input k t on b)
+one_of_head input h rest s t reads (inr (k, on, a)) (inr (l, too, b)) =
     one_refusal k s t a (subst (λ (x : RequestHead). IsRefused x t) (same_head input l k too on).0 b)
 
 unread_status : (input : List ℕ) (s : ℕ) → IsUnread input s → IsHeadless s
@@ -119,5 +128,5 @@ unread_status input s (inr a) = inr a.1
 
 pub one_status : (input : List ℕ) (s t : ℕ) → Refuses input s → Refuses input t → IsSameStatus s t
 one_status input s t (inl a) (inl b) = inr (unread_status input s a, unread_status input t b)
-one_status input s t (inl a) (inr (k, on, b)) = inl (one_of_head input k s t on (inl a) (inr (k, on, b)))
-one_status input s t (inr (k, on, a)) b = inl (one_of_head input k s t on (inr (k, on, a)) b)
+one_status input s t (inl a) (inr (k, on, b)) = inl (one_of_head input k on.rest s t on.reads (inl a) (inr (k, on, b)))
+one_status input s t (inr (k, on, a)) b = inl (one_of_head input k on.rest s t on.reads (inr (k, on, a)) b)

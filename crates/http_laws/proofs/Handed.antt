@@ -6,12 +6,12 @@ use Rattle.cards.specs.Files.{column_of, file_of, text_of}
 use Rattle.cards.specs.declared.decks.Card.{Card}
 use Rattle.cards.specs.declared.faults.CardFault.{CardFault}
 use Rattle.units.specs.declared.switches.Switches.{Switches}
-use Rattle.http_heads.specs.Heads.{AsksFor, BeginsWith}
+use Rattle.http_heads.specs.Heads.{AsksFor}
 use Rattle.http_heads.specs.declared.asked.Asked.{Asked}
 use Rattle.http_heads.specs.declared.asked.Asked.TheVariants as asked
 use Rattle.http_heads.specs.declared.asked.JobName.{JobName}
 use Rattle.http_heads.specs.declared.asked.Kind.{Kind}
-use Rattle.httparse.specs.Grammar.{RequestHead}
+use Rattle.httparse.specs.Grammar.{ReadsRequest, RequestHead}
 use Rattle.office.specs.declared.commands.Command.TheVariants as command
 use Rattle.office.specs.declared.commands.Contents.{Contents}
 use Rattle.office.specs.declared.commands.JobCommand.{JobCommand}
@@ -150,10 +150,10 @@ short_status : (a : Asked) (count : ℕ) (after : List ℕ) (status : ℕ) → I
 short_status a count after status (inl whole) = absurd (no_refusal a (take count after) status whole.1)
 short_status a count after status (inr short) = let is = short.1 in cc
 
-pub same_refusal : (input : List ℕ) (h : RequestHead) (s t : ℕ) → BeginsWith input h
+pub same_refusal : (input : List ℕ) (h : RequestHead) (rest : List ℕ) (s t : ℕ) → ReadsRequest input h rest
     → IsRequestOf input (request.Refused s) → IsRequestOf input (request.Refused t) → s ≡ t
-same_refusal input h s t begins (inl x) (inl y) = one_of_head input h s t begins x y
-same_refusal input h s t begins (inl x) (inr (b, count, after, asks, with_body)) = absurd (not_both input s b count after asks x)
-same_refusal input h s t begins (inr (a, count, after, asks, with_body)) (inl y) = absurd (not_both input t a count after asks y)
-same_refusal input h s t begins (inr (a, n, after, asks, with_body)) (inr (b, m, rest, also, too)) =
-    short_status a n after s with_body ∙ sym (short_status b m rest t too)
+same_refusal input h rest s t reads (inl x) (inl y) = one_of_head input h rest s t reads x y
+same_refusal input h rest s t reads (inl x) (inr (b, count, after, asks, with_body)) = absurd (not_both input s b count after asks x)
+same_refusal input h rest s t reads (inr (a, count, after, asks, with_body)) (inl y) = absurd (not_both input t a count after asks y)
+same_refusal input h rest s t reads (inr (a, n, after, asks, with_body)) (inr (b, m, left, also, too)) =
+    short_status a n after s with_body ∙ sym (short_status b m left t too)

@@ -8,11 +8,11 @@ use Rattle.office.specs.declared.commands.Command.TheVariants as command
 use Rattle.http_requests.specs.declared.request.Request.{Request}
 use Rattle.http_requests.specs.declared.request.Request.TheVariants as request
 
--- a status of bytes that begin with no head, or with none that is as short as a head may be
+-- a status with which bytes are refused that begin with no head
 abbrev pub IsHeadless : ℕ → Type 0
 IsHeadless status = (status ≡ 400) ⊎ (status ≡ 431)
 
--- both are one status, or each is one of bytes without a head
+-- both are the same status, or each is one of bytes that begin with no head
 abbrev pub IsSameStatus : ℕ → ℕ → Type 0
 IsSameStatus one other = (one ≡ other) ⊎ (IsHeadless one × IsHeadless other)
 
@@ -48,7 +48,8 @@ IsSameCommand (command.Jobs customer) (command.Jobs name) =
 IsSameCommand command.Queue command.Queue = ⊤
 IsSameCommand one other = ⊥
 
--- both are refused with the same status, have the same fault in their decks, or ask for the same
+-- both are refused with the same status, or have the same fault in the text of their deck, or ask
+-- for the same command
 abbrev pub IsSameRequest : Request → Request → Type 0
 IsSameRequest (request.Refused status) (request.Refused other) = IsSameStatus status other
 IsSameRequest (request.BadDeck fault) (request.BadDeck other) = fault ≡ other

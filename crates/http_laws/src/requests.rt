@@ -1,8 +1,7 @@
 //! The law of requests.
 
 ghost use Rattle.std.specs.Prelude.{◌≡◌, ℕ, List};
-ghost use Rattle.httparse.specs.Grammar.{RequestHead};
-ghost use Rattle.http_heads.specs.Heads.{BeginsWith};
+ghost use Rattle.httparse.specs.Grammar.{ReadsRequest, RequestHead};
 ghost use Rattle.http_requests.specs.Requests.{IsRequestOf};
 ghost use Rattle.http_requests.specs.declared.request.Request.{Request};
 ghost use Rattle.http_laws.specs.Same.{IsSameRequest};
@@ -15,9 +14,9 @@ use cards::one_reading;
 pub fn one_request()
     ensures same { (input : List ℕ) (one other : Request) →
         IsRequestOf input one → IsRequestOf input other → IsSameRequest one other }
-    ensures of_head { (input : List ℕ) (h : RequestHead) (one other : ℕ) → BeginsWith input h →
-        IsRequestOf input (Request.Refused one) → IsRequestOf input (Request.Refused other) →
-        one ≡ other }
+    ensures of_head { (input : List ℕ) (h : RequestHead) (rest : List ℕ) (one other : ℕ) →
+        ReadsRequest input h rest → IsRequestOf input (Request.Refused one) →
+        IsRequestOf input (Request.Refused other) → one ≡ other }
 {
     one_reading();
 }
