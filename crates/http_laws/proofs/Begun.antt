@@ -24,10 +24,10 @@ same_head input h k one other = request_unique input h k one.rest other.rest one
 -- ---- a head with more fields than there may be
 
 -- the start of a head, and then some bytes
-abbrev started : RequestHead → List ℕ → List ℕ
+abbrev pub started : RequestHead → List ℕ → List ℕ
 started h more = print_blank h.blank ++ (h.method ++ 32 ∷ (h.target ++ 32 ∷ (print_version h.minor ++ (print_end h.line_end ++ more))))
 
-started-append : (h : RequestHead) (more rest : List ℕ) → started h more ++ rest ≡ started h (more ++ rest)
+pub started-append : (h : RequestHead) (more rest : List ℕ) → started h more ++ rest ≡ started h (more ++ rest)
 started-append h more rest = simp (append_assoc, cons-append)
 
 starts : (h : RequestHead) (input more : List ℕ) → IsRequestHead h → input ≡ started h more

@@ -1,3 +1,4 @@
 pub mod Begun
 pub mod Spelled
 pub mod Handed
+pub mod Unended

@@ -11,7 +11,7 @@ ghost use Rattle.http_laws.specs.Same.{IsSameAsked};
 pub fn one_asking()
     ensures of_target { (target : List ℕ) (one other : Asked) →
         Asks target one → Asks target other → IsSameAsked one other }
-    ensures of_bytes { (input : List ℕ) (one other : Asked) (count length : ℕ)
-        (after rest : List ℕ) → AsksFor input one count after → AsksFor input other length rest →
-        IsSameAsked one other × (count ≡ length) × (after ≡ rest) }
+    ensures of_bytes { (input : List ℕ) (one other : Asked) (count size : ℕ)
+        (after rest : List ℕ) → AsksFor input one count after → AsksFor input other size rest →
+        IsSameAsked one other × (count ≡ size) × (after ≡ rest) }
 {}

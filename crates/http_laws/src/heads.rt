@@ -14,7 +14,8 @@ pub fn one_head()
 
 /// The law of refusals: bytes that ask for something are not refused. Bytes that begin with a head,
 /// which may be too large, are refused with one status at most. Other bytes may be refused with 400
-/// and with 431, where more than one thing is wrong with them.
+/// and with 431, as those are that end after too many header fields; so not all bytes have one
+/// status.
 pub fn one_refusal()
     ensures not_both { (input : List ℕ) (status : ℕ) (asked : Asked) (count : ℕ)
         (after : List ℕ) → AsksFor input asked count after → Refuses input status → ⊥ }
@@ -22,4 +23,6 @@ pub fn one_refusal()
         ReadsRequest input h rest → Refuses input one → Refuses input other → one ≡ other }
     ensures of_any { (input : List ℕ) (one other : ℕ) →
         Refuses input one → Refuses input other → IsSameStatus one other }
+    ensures not_one { ((input : List ℕ) (one other : ℕ) →
+        Refuses input one → Refuses input other → one ≡ other) → ⊥ }
 {}

@@ -1,11 +1,11 @@
 //! Laws of requests over HTTP: bytes come to one request.
 //!
-//! What the bytes of a reader come to is a relation of `http_requests`, which takes the first test
-//! that a head doesn't pass from `http_heads` and the grammar from `httparse`. That there is one
-//! request of given bytes is proved here, step by step: one head ([`one_head`]), one status or
-//! something asked for and not both ([`one_refusal`]), one thing that is asked for
-//! ([`one_asking`]), and so one request ([`one_request`]). The laws speak of the definitions
-//! alone.
+//! `http_requests` says by a relation what the bytes of a reader come to. Here it is proved that
+//! this is one request, in four laws over the definitions alone, which are called for the proof
+//! alone. Bytes begin with one head ([`one_head`]). They ask for something or are refused, and not
+//! both; one status refuses those that begin with a head, and 400 or 431 any others
+//! ([`one_refusal`]). They ask for one thing ([`one_asking`]). And so they come to one request
+//! ([`one_request`]).
 #![tactic(auto)]
 
 mod asking;
