@@ -1,0 +1,4 @@
+pub mod Begun
+pub mod Spelled
+pub mod Handed
+pub mod Unended
