@@ -1,6 +1,7 @@
 //! Storage as a plane of codes and a plane of marks.
 
-ghost use Rattle.std.specs.Prelude.{◌≡◌, ◌≢◌, ◌+◌, ◌-◌, ◌<◌, ◌≤◌, ℕ, All, List, Bool, true, false, length, slice_index, MatchOption, IfOk};
+ghost use Rattle.std.specs.Prelude.{◌≡◌, ◌≢◌, ◌+◌, ◌-◌, ◌<◌, ◌≤◌, ℕ, All, List, Bool, true, false, length, slice_index, slice_index_or, MatchOption, IfOk};
+ghost use Rattle.std.specs.List.{SameBelow, SameFrom};
 ghost use Rattle.core_store.specs.Planes.{IsLastMark, joined_planes};
 ghost use Rattle.core_store.specs.Storage.{largest_size};
 
@@ -64,6 +65,20 @@ fn last_mark(marks: &[u8], place: usize) -> Option<usize>
     None
 }
 
+/// Writes a value at the places from one up to another.
+#[inline(always)]
+fn fill<T: Copy>(plane: &mut [T], first: usize, end: usize, value: T)
+    requires order { first ≤ end }
+    requires room { end ≤ length plane.old }
+    ensures size { length plane.new ≡ length plane.old }
+    ensures filled { (k : ℕ) (d : T) → first ≤ k → k < end → slice_index_or plane.new k d ≡ value }
+    ensures kept { SameBelow plane.old plane.new first × SameFrom plane.old plane.new end }
+{
+    for place in first..end {
+        plane[place] = value;
+    }
+}
+
 #[tactic(auto, using(crate::proofs::PlaneLemmas::planes))]
 impl Core for PlaneCore {
     ghost cells = { λ core. joined_planes core.codes.items core.marks.items };
@@ -101,6 +116,25 @@ impl Core for PlaneCore {
 
     fn clear_mark(&mut self, position: u16) {
         self.marks[position as usize] = 0;
+    }
+
+    fn move_codes(&mut self, from: u16, to: u16, count: u16) {
+        let count = count as usize;
+        let (from, to) = (from as usize + 1 - count, to as usize + 1 - count);
+        self.codes.copy_within(from..from + count, to);
+    }
+
+    fn move_cells(&mut self, from: u16, to: u16, count: u16) {
+        let count = count as usize;
+        let (from, to) = (from as usize + 1 - count, to as usize + 1 - count);
+        self.codes.copy_within(from..from + count, to);
+        self.marks.copy_within(from..from + count, to);
+    }
+
+    fn clear(&mut self, first: u16, last: u16) {
+        let (first, end) = (first as usize, last as usize + 1);
+        fill(&mut self.codes, first, end, Code::blank());
+        fill(&mut self.marks, first, end, 0);
     }
 
     fn mark_at_or_below(&self, position: u16) -> Option<u16> {

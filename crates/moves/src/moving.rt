@@ -5,7 +5,7 @@ ghost use Rattle.core_store.specs.Storage.{Storage, put_codes, largest_size};
 ghost use Rattle.core_store.specs.declared.registers.Registers.{Registers};
 ghost use Rattle.moves.specs.Moved.{least_of, move_length, moved_codes, moved, IsMoved};
 
-use core_store::{Check, Core, Registers, are_inside, field_length};
+use core_store::{Check, Core, Registers, are_inside, field_length, overlaps};
 
 /// The smaller of two counts, where there is one at all.
 #[inline(always)]
@@ -71,9 +71,9 @@ fn have_room(a: u16, b: u16, count: u16) -> bool
     count <= a + 1 && count <= b + 1
 }
 
-/// Copies the characters up to A to the positions up to B, from the right.
+/// Copies the characters up to A to the positions up to B, one by one from the right.
 #[tactic(auto, using(crate::proofs::Moves::move_none))]
-fn copy_codes<C: Core>(core: &mut C, a: u16, b: u16, count: u16)
+fn ripple<C: Core>(core: &mut C, a: u16, b: u16, count: u16)
     requires a_in { a < length (C.cells core.old) }
     requires b_in { b < length (C.cells core.old) }
     requires a_from { count ≤ a + 1 }
@@ -83,6 +83,22 @@ fn copy_codes<C: Core>(core: &mut C, a: u16, b: u16, count: u16)
     for i in 0..count {
         let code = core.get(a - i);
         core.put(b - i, code);
+    }
+}
+
+/// The same, all at once where no character is written over before it is copied.
+#[tactic(auto, using(crate::proofs::Moves::moved_apart))]
+fn copy_codes<C: Core>(core: &mut C, a: u16, b: u16, count: u16)
+    requires a_in { a < length (C.cells core.old) }
+    requires b_in { b < length (C.cells core.old) }
+    requires a_from { count ≤ a + 1 }
+    requires b_from { count ≤ b + 1 }
+    ensures { C.cells core.new ≡ put_codes (C.cells core.old) (b + 1 - count) (moved_codes (C.cells core.old) a b count) }
+{
+    if overlaps(a, b, count) {
+        ripple(core, a, b, count);
+    } else {
+        core.move_codes(a, b, count);
     }
 }
 
