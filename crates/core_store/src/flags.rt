@@ -90,6 +90,15 @@ impl Core for FlagCore {
         None
     }
 
+    fn near_length(&self, position: u16) -> u16 {
+        for count in 0..16 {
+            if self.is_marked(position - count) {
+                return count + 1;
+            }
+        }
+        17
+    }
+
     fn mark_after(&self, position: u16) -> Option<u16> {
         let size = self.size();
         let end = size.min(position + 9);

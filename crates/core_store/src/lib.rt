@@ -18,7 +18,7 @@ mod sizes;
 
 ghost use Rattle.std.specs.Prelude.{◌≡◌, ◌+◌, ◌-◌, ◌<◌, ◌≤◌, ℕ, List, Bool, true, false, length, replicate, IfOk, IfSome};
 ghost use Rattle.core_store.specs.Storage.{blank_cell, blank_storage, cells_ending, code_at, codes_ending, is_marked, put, put_cells, put_codes, with_mark, greatest_mark, largest_size, least_mark, GreatestMark, LeastMark, Storage, positions_of};
-ghost use Rattle.core_store.specs.Operands.{is_overlapping};
+ghost use Rattle.core_store.specs.Operands.{is_overlapping, near_length};
 
 use bcd::Code;
 pub use flags::FlagCore;
@@ -105,6 +105,14 @@ pub trait Core: Sized + Drop {
         requires { position < length (cells self.now) }
         ensures mark { result ≡ greatest_mark (cells self.now) position }
         ensures within { IfSome result (λ found. found ≤ position) };
+
+    /// How many characters there are from the nearest mark at or below a position up to it, and 17
+    /// where no mark is among the last sixteen of them.
+    fn near_length(&self, position: u16) -> u16
+        requires within { position < length (cells self.now) }
+        requires room { 15 ≤ position }
+        ensures length { result ≡ near_length (cells self.now) position }
+        ensures some { 1 ≤ result };
 
     /// The least marked one of the next eight positions, where an instruction ends.
     fn mark_after(&self, position: u16) -> Option<u16>
