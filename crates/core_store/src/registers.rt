@@ -36,11 +36,7 @@ pub fn lowered(register: u16, count: u16) -> u16
     requires count { count ≤ largest_size }
     ensures { result ≡ lowered register count }
 {
-    if register >= count {
-        register - count
-    } else {
-        register + LARGEST_SIZE - count
-    }
+    (register + LARGEST_SIZE - count) % LARGEST_SIZE
 }
 
 impl Registers {
