@@ -1,11 +1,14 @@
 -- planes of codes and marks
-use Rattle.std.proofs.Common.{◌≡◌, ◌≢◌, ℕ, zero, suc, ◌+◌, ◌<◌, ◌≤◌, ◌∙◌, Bool, true, false, not, eqb, ltb, List, [], ◌∷◌, Option, Some, None, get_or, set, length, replicate, map, ap, sym, refl, arith}
+use Rattle.std.proofs.Common.{◌≡◌, ◌≢◌, ℕ, zero, suc, ◌+◌, ◌-◌, ◌<◌, ◌≤◌, ◌∙◌, Bool, true, false, not, eqb, ltb, List, [], ◌∷◌, Option, Some, None, get_or, set, length, replicate, map, ap, sym, refl, arith}
 use Rattle.std.proofs.lemmas.Bool.{eqb-true, lt-ltb}
 use Rattle.std.specs.Simd.Lanes.{mask_l, chunk}
 use Rattle.std.proofs.lemmas.Simd.{none_from_empty_mask, length-chunk, get_or-chunk, trailing_mask_l, run_in_chunk_le, run_in_chunk_fails, run_in_chunk_stops}
 use lib.Count.{count_trailing_zeros}
 use Rattle.std.specs.List.{prefix_len}
 use Rattle.core_store.specs.Storage.{is_marked, put, with_mark, greatest_mark, least_mark}
+use Rattle.core_store.specs.Operands.{near_length}
+use Rattle.core_store.proofs.Near.{Bare, near_marked, near_unmarked}
+use Rattle.std.proofs.Math.Decide.{dec_lt}
 use Rattle.core_store.proofs.Marks.{none_below, greatest_is, least_is, none_among}
 use Rattle.core_store.specs.Planes.{joined_planes, IsLastMark}
 
@@ -54,10 +57,10 @@ mark-joined codes marks p mark h = joined-set_mark codes marks p mark h ∙ ap (
 
 pub ruleset planes = (length-joined, cell-joined, joined-blank, put-joined, mark-joined)
 
-mark-joined_at : (codes marks : List ℕ) (k : ℕ) → length codes ≡ length marks → is_marked (joined_planes codes marks) k ≡ ltb 0 (get_or marks k 0)
+pub mark-joined_at : (codes marks : List ℕ) (k : ℕ) → length codes ≡ length marks → is_marked (joined_planes codes marks) k ≡ ltb 0 (get_or marks k 0)
 mark-joined_at codes marks k h = ap (λ (c : ℕ × Bool). c.1) (cell-joined codes marks k h)
 
-unmarked : (codes marks : List ℕ) (k : ℕ) → length codes ≡ length marks → get_or marks k 0 ≡ 0 → is_marked (joined_planes codes marks) k ≡ false
+pub unmarked : (codes marks : List ℕ) (k : ℕ) → length codes ≡ length marks → get_or marks k 0 ≡ 0 → is_marked (joined_planes codes marks) k ≡ false
 unmarked codes marks k h zero_there = mark-joined_at codes marks k h ∙ ap (ltb 0) zero_there
 
 -- the last byte that is not 0 is the greatest mark
@@ -134,3 +137,19 @@ module _ (codes marks slice : List ℕ) (same : slice ≡ marks) (p run : ℕ) (
 
   pub no_next_mark : run ≡ 8 → least_mark (joined_planes codes marks) (p + 1) 8 ≡ None
   no_next_mark all = none_among (joined_planes codes marks) (p + 1) 8 (λ k le lt. none_before k le (omega arith))
+
+-- the last of sixteen bytes that is not 0 is the nearest mark
+pub near_joined : (codes marks slice : List ℕ) → slice ≡ marks → (p run : ℕ) → length codes ≡ length marks → 15 ≤ p → run ≤ 16 →
+    ((k : ℕ) → k < run → get_or slice (p - k) 0 ≡ 0) → (run < 16 → get_or slice (p - run) 0 ≢ 0) → run + 1 ≡ near_length (joined_planes codes marks) p
+near_joined codes marks slice same p run even room most after stops =
+    elim (dec_lt run 16) [
+      | yes short ↦
+          let here : get_or slice (p - run) 0 ≡ get_or marks (p - run) 0 = ap (λ l. get_or l (p - run) 0) same in
+          let some : 0 < get_or marks (p - run) 0 = omega (arith, stops short, here) in
+          near_marked (joined_planes codes marks) p run short room (mark-joined_at codes marks (p - run) even ∙ lt-ltb 0 (get_or marks (p - run) 0) some) bare
+      | no whole ↦
+          let all : run ≡ 16 = omega arith in
+          ap (λ n. n + 1) all ∙ near_unmarked (joined_planes codes marks) p room (λ k lt. bare k (omega arith))
+    ] where
+      bare : Bare (joined_planes codes marks) p run
+      bare k lt = unmarked codes marks (p - k) even (ap (λ l. get_or l (p - k) 0) (sym same) ∙ after k lt)

@@ -1,5 +1,5 @@
 -- where operations find their operands
-use Rattle.std.specs.Prelude.{ℕ, ◌+◌, ◌-◌, ◌%◌, nat_lt, nat_le, List, length, Bool, true, false, ◌&&◌, if◌then◌else◌, Option, Some, None}
+use Rattle.std.specs.Prelude.{ℕ, ◌+◌, ◌-◌, ◌%◌, nat_lt, nat_le, min, List, length, Bool, true, false, ◌&&◌, if◌then◌else◌, Option, Some, None}
 use Rattle.std.specs.Option.{option_map}
 use Rattle.bcd.specs.declared.Zone.{Zone}
 use Rattle.bcd.specs.declared.Zone.TheVariants.{Bare, A, B, AB}
@@ -26,6 +26,15 @@ is_overlapping a b count = nat_lt b a && nat_lt (a - b) count
 abbrev pub is_within : Option ℕ → ℕ → Bool
 is_within (Some count) limit = nat_le count limit
 is_within None limit = false
+
+-- a length that is sought no further than 16
+abbrev pub sought_near : Option ℕ → ℕ
+sought_near (Some count) = min 17 count
+sought_near None = 17
+
+-- how many characters the field at p has, or 17 where they are more than 16 or there is no field
+unfoldable pub near_length : Storage → ℕ → ℕ
+near_length s p = sought_near (field_length s p)
 
 -- how many characters are read at p where at most a limit are wanted: the field at p where it is no longer, else as many
 -- as are wanted, which must not pass position 0

@@ -60,6 +60,26 @@ impl Core for FlagCore {
         self.cells[position as usize].1 = false;
     }
 
+    fn move_codes(&mut self, from: u16, to: u16, count: u16) {
+        for i in 0..count {
+            let code = self.get(from - i);
+            self.put(to - i, code);
+        }
+    }
+
+    fn move_cells(&mut self, from: u16, to: u16, count: u16) {
+        for i in 0..count {
+            let cell = self.cells[(from - i) as usize];
+            self.cells[(to - i) as usize] = cell;
+        }
+    }
+
+    fn clear(&mut self, first: u16, last: u16) {
+        for p in (first as usize..last as usize + 1).rev() {
+            self.cells[p] = (Code::blank(), false);
+        }
+    }
+
     fn mark_at_or_below(&self, position: u16) -> Option<u16> {
         for p in (0..position as usize + 1).rev() {
             let p = p as u16;
@@ -68,6 +88,15 @@ impl Core for FlagCore {
             }
         }
         None
+    }
+
+    fn near_length(&self, position: u16) -> u16 {
+        for count in 0..16 {
+            if self.is_marked(position - count) {
+                return count + 1;
+            }
+        }
+        17
     }
 
     fn mark_after(&self, position: u16) -> Option<u16> {

@@ -16,8 +16,9 @@ mod planes;
 mod registers;
 mod sizes;
 
-ghost use Rattle.std.specs.Prelude.{◌≡◌, ◌+◌, ◌<◌, ◌≤◌, ℕ, List, Bool, true, false, length, IfOk, IfSome};
-ghost use Rattle.core_store.specs.Storage.{blank_storage, code_at, is_marked, put, with_mark, greatest_mark, largest_size, least_mark, GreatestMark, LeastMark, Storage, positions_of};
+ghost use Rattle.std.specs.Prelude.{◌≡◌, ◌+◌, ◌-◌, ◌<◌, ◌≤◌, ℕ, List, Bool, true, false, length, replicate, IfOk, IfSome};
+ghost use Rattle.core_store.specs.Storage.{blank_cell, blank_storage, cells_ending, code_at, codes_ending, is_marked, put, put_cells, put_codes, with_mark, greatest_mark, largest_size, least_mark, GreatestMark, LeastMark, Storage, positions_of};
+ghost use Rattle.core_store.specs.Operands.{is_overlapping, near_length};
 
 use bcd::Code;
 pub use flags::FlagCore;
@@ -74,11 +75,44 @@ pub trait Core: Sized + Drop {
         requires { position < length (cells self.old) }
         ensures { cells self.new ≡ with_mark (cells self.old) position false };
 
+    /// Copies so many characters, which end at one position, to as many that end at another. Marks
+    /// stay. None of the characters is written over before it is copied.
+    fn move_codes(&mut self, from: u16, to: u16, count: u16)
+        requires from_in { from < length (cells self.old) }
+        requires to_in { to < length (cells self.old) }
+        requires from_room { count ≤ from + 1 }
+        requires to_room { count ≤ to + 1 }
+        requires apart { is_overlapping from to count ≡ false }
+        ensures { cells self.new ≡ put_codes (cells self.old) (to + 1 - count) (codes_ending (cells self.old) from count) };
+
+    /// The same of characters and marks.
+    fn move_cells(&mut self, from: u16, to: u16, count: u16)
+        requires from_in { from < length (cells self.old) }
+        requires to_in { to < length (cells self.old) }
+        requires from_room { count ≤ from + 1 }
+        requires to_room { count ≤ to + 1 }
+        requires apart { is_overlapping from to count ≡ false }
+        ensures { cells self.new ≡ put_cells (cells self.old) (to + 1 - count) (cells_ending (cells self.old) from count) };
+
+    /// Makes the positions from one to another blank without marks.
+    fn clear(&mut self, first: u16, last: u16)
+        requires order { first ≤ last }
+        requires inside { last < length (cells self.old) }
+        ensures { cells self.new ≡ put_cells (cells self.old) first (replicate (last + 1 - first) blank_cell) };
+
     /// The greatest marked position not above a position, where the field that ends there begins.
     fn mark_at_or_below(&self, position: u16) -> Option<u16>
         requires { position < length (cells self.now) }
         ensures mark { result ≡ greatest_mark (cells self.now) position }
         ensures within { IfSome result (λ found. found ≤ position) };
+
+    /// How many characters there are from the nearest mark at or below a position up to it, and 17
+    /// where no mark is among the last sixteen of them.
+    fn near_length(&self, position: u16) -> u16
+        requires within { position < length (cells self.now) }
+        requires room { 15 ≤ position }
+        ensures length { result ≡ near_length (cells self.now) position }
+        ensures some { 1 ≤ result };
 
     /// The least marked one of the next eight positions, where an instruction ends.
     fn mark_after(&self, position: u16) -> Option<u16>

@@ -27,23 +27,28 @@ pub fn overlaps(a: u16, b: u16, count: u16) -> bool
 
 /// How many characters the field at a position has, if a mark begins it.
 #[inline(always)]
-#[tactic(auto, unfolding(crate::specs::Storage::field_length))]
+#[tactic(auto, unfolding(crate::specs::Storage::field_length), using(crate::proofs::Near::near_is_field))]
 pub fn field_length<C: Core>(core: &C, position: u16) -> Option<u16>
     requires within { position < length (C.cells core.now) }
     requires below { position < largest_size }
     ensures length { result ≡ field_length (C.cells core.now) position }
     ensures within { IfSome result (λ count. (1 ≤ count) × (count ≤ position + 1)) }
 {
+    if position >= 15 {
+        let near = core.near_length(position);
+        if near <= 16 {
+            return Some(near);
+        }
+    }
     match core.mark_at_or_below(position) {
         Some(first) => Some(position + 1 - first),
         None => None,
     }
 }
 
-/// How many characters are read at a position where at most a limit are wanted. No mark is sought
-/// beyond these.
-#[inline(always)]
-pub fn cut_length<C: Core>(core: &C, position: u16, limit: u16) -> Option<u16>
+/// How many characters are read at a position where at most a limit are wanted, each of them
+/// looked at.
+fn cut_by_steps<C: Core>(core: &C, position: u16, limit: u16) -> Option<u16>
     requires within { position < length (C.cells core.now) }
     requires below { position < largest_size }
     requires some { 1 ≤ limit }
@@ -59,6 +64,24 @@ pub fn cut_length<C: Core>(core: &C, position: u16, limit: u16) -> Option<u16>
         }
     }
     Some(limit)
+}
+
+/// How many characters are read at a position where at most a limit are wanted. No mark is sought
+/// beyond these.
+#[inline(always)]
+#[tactic(auto, using(crate::proofs::Near::cut_is_near))]
+pub fn cut_length<C: Core>(core: &C, position: u16, limit: u16) -> Option<u16>
+    requires within { position < length (C.cells core.now) }
+    requires below { position < largest_size }
+    requires some { 1 ≤ limit }
+    ensures length { result ≡ cut_length (C.cells core.now) position limit }
+    ensures within { IfSome result (λ count. (1 ≤ count) × (count ≤ limit) × (count ≤ position + 1)) }
+{
+    if position >= 15 && limit <= 16 {
+        let near = core.near_length(position);
+        return Some(near.min(limit));
+    }
+    cut_by_steps(core, position, limit)
 }
 
 /// Whether the field whose units stand at a position is minus.

@@ -1,6 +1,7 @@
 //! Storage as a plane of codes and a plane of marks.
 
-ghost use Rattle.std.specs.Prelude.{◌≡◌, ◌≢◌, ◌+◌, ◌-◌, ◌<◌, ◌≤◌, ℕ, All, List, Bool, true, false, length, slice_index, MatchOption, IfOk};
+ghost use Rattle.std.specs.Prelude.{◌≡◌, ◌≢◌, ◌+◌, ◌-◌, ◌<◌, ◌≤◌, ℕ, All, List, Bool, true, false, length, slice_index, slice_index_or, MatchOption, IfOk};
+ghost use Rattle.std.specs.List.{SameBelow, SameFrom};
 ghost use Rattle.core_store.specs.Planes.{IsLastMark, joined_planes};
 ghost use Rattle.core_store.specs.Storage.{largest_size};
 
@@ -19,14 +20,14 @@ pub struct PlaneCore {
     ghost bits: { All (λ mark. mark ≤ 1) marks.items },
 }
 
-/// Whether one of the 32 bytes from a place on is not 0.
+/// Whether one of the 64 bytes from a place on is not 0.
 fn has_mark(marks: &[u8], at: usize) -> bool
-    requires { at + 32 ≤ length marks.now }
-    ensures unmarked { result ≡ false → (k : ℕ) → at ≤ k → k < at + 32 → slice_index marks.now k ≡ 0 }
-    ensures marked { result ≡ true → (k : ℕ) × (at ≤ k) × (k < at + 32) × (slice_index marks.now k ≢ 0) }
+    requires { at + 64 ≤ length marks.now }
+    ensures unmarked { result ≡ false → (k : ℕ) → at ≤ k → k < at + 64 → slice_index marks.now k ≡ 0 }
+    ensures marked { result ≡ true → (k : ℕ) × (at ≤ k) × (k < at + 64) × (slice_index marks.now k ≢ 0) }
 {
-    let lanes = u8x32::from_slice(&marks[at..]);
-    lanes.simd_ne(u8x32::splat(0)).to_bitmask() != 0
+    let lanes = u8x64::from_slice(&marks[at..]);
+    lanes.simd_ne(u8x64::splat(0)).to_bitmask() != 0
 }
 
 /// How many of the 8 bytes from a place on come before the first that is not 0.
@@ -46,14 +47,39 @@ fn unmarked_run(marks: &[u8], at: usize) -> usize
     }
 }
 
-/// The last byte up to a place that is not 0: 32 bytes at a time, and the rest one by one.
+/// How many of the 16 bytes up to a place come after the last of them that is not 0.
+#[inline(always)]
+fn unmarked_before(marks: &[u8], place: usize) -> usize
+    requires within { place < length marks.now }
+    requires room { 15 ≤ place }
+    ensures most { result ≤ 16 }
+    ensures after { (k : ℕ) → k < result → slice_index marks.now (place - k) ≡ 0 }
+    ensures stops { result < 16 → slice_index marks.now (place - result) ≢ 0 }
+{
+    let lanes = u8x16::from_slice(&marks[place - 15..]);
+    let mask = lanes.simd_ne(u8x16::splat(0)).to_bitmask();
+    if mask == 0 {
+        16
+    } else {
+        mask.leading_zeros() as usize - 48
+    }
+}
+
+/// The last byte up to a place that is not 0: 64 bytes at a time, then 16, and the rest one by one.
 fn last_mark(marks: &[u8], place: usize) -> Option<usize>
     requires { place < length marks.now }
     ensures { IsLastMark marks.now place result }
 {
     let mut end = place + 1;
-    while end >= 32 && !has_mark(marks, end - 32) {
-        end -= 32;
+    while end >= 64 && !has_mark(marks, end - 64) {
+        end -= 64;
+    }
+    while end >= 16 {
+        let run = unmarked_before(marks, end - 1);
+        if run < 16 {
+            return Some(end - 1 - run);
+        }
+        end -= 16;
     }
     while end > 0 {
         end -= 1;
@@ -62,6 +88,20 @@ fn last_mark(marks: &[u8], place: usize) -> Option<usize>
         }
     }
     None
+}
+
+/// Writes a value at the places from one up to another.
+#[inline(always)]
+fn fill<T: Copy>(plane: &mut [T], first: usize, end: usize, value: T)
+    requires order { first ≤ end }
+    requires room { end ≤ length plane.old }
+    ensures size { length plane.new ≡ length plane.old }
+    ensures filled { (k : ℕ) (d : T) → first ≤ k → k < end → slice_index_or plane.new k d ≡ value }
+    ensures kept { SameBelow plane.old plane.new first × SameFrom plane.old plane.new end }
+{
+    for place in first..end {
+        plane[place] = value;
+    }
 }
 
 #[tactic(auto, using(crate::proofs::PlaneLemmas::planes))]
@@ -79,28 +119,53 @@ impl Core for PlaneCore {
         self.marks.copy_from_slice(&other.marks);
     }
 
+    #[inline(always)]
     fn size(&self) -> u16 {
         self.codes.len() as u16
     }
 
+    #[inline(always)]
     fn get(&self, position: u16) -> Code {
         self.codes[position as usize]
     }
 
+    #[inline(always)]
     fn is_marked(&self, position: u16) -> bool {
         self.marks[position as usize] > 0
     }
 
+    #[inline(always)]
     fn put(&mut self, position: u16, code: Code) {
         self.codes[position as usize] = code;
     }
 
+    #[inline(always)]
     fn set_mark(&mut self, position: u16) {
         self.marks[position as usize] = 1;
     }
 
+    #[inline(always)]
     fn clear_mark(&mut self, position: u16) {
         self.marks[position as usize] = 0;
+    }
+
+    fn move_codes(&mut self, from: u16, to: u16, count: u16) {
+        let count = count as usize;
+        let (from, to) = (from as usize + 1 - count, to as usize + 1 - count);
+        self.codes.copy_within(from..from + count, to);
+    }
+
+    fn move_cells(&mut self, from: u16, to: u16, count: u16) {
+        let count = count as usize;
+        let (from, to) = (from as usize + 1 - count, to as usize + 1 - count);
+        self.codes.copy_within(from..from + count, to);
+        self.marks.copy_within(from..from + count, to);
+    }
+
+    fn clear(&mut self, first: u16, last: u16) {
+        let (first, end) = (first as usize, last as usize + 1);
+        fill(&mut self.codes, first, end, Code::blank());
+        fill(&mut self.marks, first, end, 0);
     }
 
     fn mark_at_or_below(&self, position: u16) -> Option<u16> {
@@ -108,6 +173,11 @@ impl Core for PlaneCore {
             Some(found) => Some(found as u16),
             None => None,
         }
+    }
+
+    #[inline(always)]
+    fn near_length(&self, position: u16) -> u16 {
+        unmarked_before(&self.marks, position as usize) as u16 + 1
     }
 
     fn mark_after(&self, position: u16) -> Option<u16> {

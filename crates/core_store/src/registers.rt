@@ -36,7 +36,11 @@ pub fn lowered(register: u16, count: u16) -> u16
     requires count { count ≤ largest_size }
     ensures { result ≡ lowered register count }
 {
-    (register + LARGEST_SIZE - count) % LARGEST_SIZE
+    if register >= count {
+        register - count
+    } else {
+        register + LARGEST_SIZE - count
+    }
 }
 
 impl Registers {

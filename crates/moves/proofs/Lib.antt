@@ -2,8 +2,6 @@ pub mod Starting
 pub mod Copying
 pub mod Edits
 pub mod Moves
-pub mod Clears
-pub mod Loads
 pub mod Positions
 pub mod Shown
 pub mod Read

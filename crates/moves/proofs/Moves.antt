@@ -1,10 +1,12 @@
 -- characters that are moved one by one from the right
-use Rattle.std.proofs.Common.{◌≡◌, ℕ, zero, suc, ◌+◌, ◌-◌, ◌%◌, ◌<◌, ◌≤◌, refl, sym, ◌∙◌, ap, arith, length, get_or, add-one, if◌then◌else◌}
+use Rattle.std.proofs.Common.{◌≡◌, ◌∷◌, false, ℕ, zero, suc, ◌+◌, ◌-◌, ◌%◌, ◌<◌, ◌≤◌, refl, sym, ◌∙◌, ap, arith, length, get_or, add-one, if◌then◌else◌}
 use Rattle.std.proofs.Math.Nat.{mod-eq_of_lt, mod-eq-sub-mod}
 use Rattle.std.proofs.Math.Decide.{dec_lt}
 use Rattle.std.proofs.lemmas.Bool.{le-leb, lt-leb}
-use Rattle.core_store.specs.Storage.{Storage, code_at, put, put_codes}
-use Rattle.core_store.proofs.Fields.{cell-put_codes_below, cell-put_codes_above, code_at-put_codes}
+use Rattle.core_store.specs.Storage.{Storage, code_at, put, put_codes, codes_ending}
+use Rattle.core_store.specs.Operands.{is_overlapping}
+use Rattle.core_store.proofs.Cuts.{not_overlapping}
+use Rattle.core_store.proofs.Fields.{cell-put_codes_below, cell-put_codes_above, code_at-put_codes, codes_ending-none, codes_ending_more}
 use Rattle.moves.specs.Moved.{source, moved_codes}
 
 pub length-moved_codes : (s : Storage) (a b count : ℕ) → length (moved_codes s a b count) ≡ count
@@ -70,3 +72,27 @@ pub moved_on : (s : Storage) (a b count i : ℕ) → count ≤ a + 1 → b < len
     (new : Storage) → new ≡ put now (b - i) code → new ≡ put_codes s (b + 1 - (i + 1)) (moved_codes s a b (i + 1))
 moved_on s a b count i a_from b_in b_from i_in now is code code_is new new_is =
     new_is ∙ ap (put now (b - i)) code_is ∙ move_step s a b i (omega arith) (omega arith) b_in now is
+
+-- ---- characters that are not written over before they are read
+
+source_apart : (a b count i : ℕ) → i < count → is_overlapping a b count ≡ false → source a b i ≡ a - i
+source_apart a b count i lt apart =
+    elim (dec_lt b a) [
+      | no before ↦ source_before a b i (omega arith)
+      | yes after ↦
+          let far : i < a - b = omega (arith, not_overlapping a b count apart) in
+          source_after a b i after ∙ ap (λ n. a - n) (mod-eq_of_lt far)
+    ]
+
+moved_are_ending : (s : Storage) (a b count i : ℕ) → a < length s → count ≤ a + 1 → is_overlapping a b count ≡ false → i ≤ count → codes_ending s a i ≡ moved_codes s a b i
+unfolding moved_codes
+moved_are_ending s a b count zero a_in a_from apart le = codes_ending-none s a
+moved_are_ending s a b count (suc i) a_in a_from apart le =
+    ap (codes_ending s a) (sym (add-one i)) ∙ codes_ending_more s a i a_in (omega arith)
+    ∙ ap (λ p. code_at s p ∷ codes_ending s a i) (sym (source_apart a b count i (omega arith) apart))
+    ∙ ap (λ codes. code_at s (source a b i) ∷ codes) (moved_are_ending s a b count i a_in a_from apart (omega arith))
+
+pub moved_apart : (s : Storage) (a b count : ℕ) → a < length s → count ≤ a + 1 → is_overlapping a b count ≡ false → (new : Storage) →
+    new ≡ put_codes s (b + 1 - count) (codes_ending s a count) → new ≡ put_codes s (b + 1 - count) (moved_codes s a b count)
+moved_apart s a b count a_in a_from apart new new_is =
+    new_is ∙ ap (put_codes s (b + 1 - count)) (moved_are_ending s a b count count a_in a_from apart (omega arith))

@@ -1,10 +1,8 @@
 //! Word marks set and cleared, and storage cleared.
 
-ghost use Rattle.std.specs.Prelude.{◌≡◌, ◌+◌, ◌-◌, ◌<◌, ◌≤◌, ℕ, length, replicate, true, false, slice_set, OnOk, OnErr, IfErr, Ok, Err};
-ghost use Rattle.core_store.specs.Storage.{put_cells, blank_cell, largest_size};
+ghost use Rattle.std.specs.Prelude.{◌≡◌, true, false, OnOk, OnErr, IfErr, Ok, Err};
 ghost use Rattle.moves.specs.Marks.{marks_put, storage_cleared};
 
-use bcd::Code;
 use core_store::{Check, Core, Registers, are_inside, lowered};
 
 /// Sets word marks at A and B.
@@ -41,29 +39,6 @@ pub fn clear_mark<C: Core>(core: &mut C, registers: &mut Registers) -> Result<()
     Ok(())
 }
 
-/// Makes a position blank without a mark.
-#[inline(always)]
-#[tactic(auto, using(crate::proofs::Clears::cleared_cell))]
-fn clear_cell<C: Core>(core: &mut C, position: u16)
-    requires { position < length (C.cells core.old) }
-    ensures { C.cells core.new ≡ slice_set (C.cells core.old) position blank_cell }
-{
-    core.put(position, Code::blank());
-    core.clear_mark(position);
-}
-
-/// Makes the positions from one to another blank without marks.
-fn clear_cells<C: Core>(core: &mut C, first: u16, last: u16)
-    requires order { first ≤ last }
-    requires inside { last < length (C.cells core.old) }
-    requires below { last < largest_size }
-    ensures { C.cells core.new ≡ put_cells (C.cells core.old) first (replicate (last + 1 - first) blank_cell) }
-{
-    for position in (first..last + 1).rev() {
-        clear_cell(core, position);
-    }
-}
-
 /// Clears characters and marks from B down to the nearest hundred.
 #[tactic(auto, unfolding(crate::specs::Marks::storage_cleared))]
 pub fn clear_storage<C: Core>(core: &mut C, registers: &mut Registers) -> Result<(), Check>
@@ -76,7 +51,7 @@ pub fn clear_storage<C: Core>(core: &mut C, registers: &mut Registers) -> Result
         return Err(Check::Address);
     }
     let first = last / 100 * 100;
-    clear_cells(core, first, last);
+    core.clear(first, last);
     registers.b = lowered(first, 1);
     Ok(())
 }

@@ -5,7 +5,7 @@ ghost use Rattle.core_store.specs.Storage.{Storage, put_codes, largest_size};
 ghost use Rattle.core_store.specs.declared.registers.Registers.{Registers};
 ghost use Rattle.moves.specs.Moved.{least_of, move_length, moved_codes, moved, IsMoved};
 
-use core_store::{Check, Core, Registers, are_inside, field_length};
+use core_store::{Check, Core, Registers, are_inside, field_length, overlaps};
 
 /// The smaller of two counts, where there is one at all.
 #[inline(always)]
@@ -19,29 +19,23 @@ fn least_of(first: Option<u16>, second: Option<u16>) -> Option<u16>
     }
 }
 
-/// So many positions of two fields are looked through together, before the mark of each is sought.
-const TOGETHER: u16 = 32;
-
-/// How many characters a move takes, where one of the fields is short and neither passes position
-/// 000 in it. Both are looked through together, so that a far mark of the other is not sought.
+/// How many characters a move takes, where they are sixteen at most and neither field is near
+/// position 000. A far mark of the other field is not sought.
 #[inline(always)]
-fn shared_length<C: Core>(core: &C, a: u16, b: u16) -> Option<u16>
+#[tactic(auto, using(crate::proofs::Shared::near_shared))]
+fn near_shared<C: Core>(core: &C, a: u16, b: u16) -> Option<u16>
     requires a_in { a < length (C.cells core.now) }
     requires b_in { b < length (C.cells core.now) }
-    requires a_below { a < largest_size }
-    requires b_below { b < largest_size }
     ensures length { IfSome result (λ count. move_length (C.cells core.now) a b ≡ Some count) }
 {
-    let room = (a.min(b) + 1).min(TOGETHER);
-    for count in 0..room {
-        if core.is_marked(a - count) {
-            return Some(count + 1);
-        }
-        if core.is_marked(b - count) {
-            return Some(count + 1);
-        }
+    if a < 15 || b < 15 {
+        return None;
     }
-    None
+    let count = core.near_length(a).min(core.near_length(b));
+    if count > 16 {
+        return None;
+    }
+    Some(count)
 }
 
 /// How many characters a move takes: up to the first mark in either field.
@@ -54,7 +48,7 @@ fn move_length<C: Core>(core: &C, a: u16, b: u16) -> Option<u16>
     requires b_below { b < largest_size }
     ensures { result ≡ move_length (C.cells core.now) a b }
 {
-    match shared_length(core, a, b) {
+    match near_shared(core, a, b) {
         Some(count) => Some(count),
         None => least_of(field_length(core, a), field_length(core, b)),
     }
@@ -71,9 +65,9 @@ fn have_room(a: u16, b: u16, count: u16) -> bool
     count <= a + 1 && count <= b + 1
 }
 
-/// Copies the characters up to A to the positions up to B, from the right.
+/// Copies the characters up to A to the positions up to B, one by one from the right.
 #[tactic(auto, using(crate::proofs::Moves::move_none))]
-fn copy_codes<C: Core>(core: &mut C, a: u16, b: u16, count: u16)
+fn ripple<C: Core>(core: &mut C, a: u16, b: u16, count: u16)
     requires a_in { a < length (C.cells core.old) }
     requires b_in { b < length (C.cells core.old) }
     requires a_from { count ≤ a + 1 }
@@ -83,6 +77,22 @@ fn copy_codes<C: Core>(core: &mut C, a: u16, b: u16, count: u16)
     for i in 0..count {
         let code = core.get(a - i);
         core.put(b - i, code);
+    }
+}
+
+/// The same, all at once where no character is written over before it is copied.
+#[tactic(auto, using(crate::proofs::Moves::moved_apart))]
+fn copy_codes<C: Core>(core: &mut C, a: u16, b: u16, count: u16)
+    requires a_in { a < length (C.cells core.old) }
+    requires b_in { b < length (C.cells core.old) }
+    requires a_from { count ≤ a + 1 }
+    requires b_from { count ≤ b + 1 }
+    ensures { C.cells core.new ≡ put_codes (C.cells core.old) (b + 1 - count) (moved_codes (C.cells core.old) a b count) }
+{
+    if overlaps(a, b, count) {
+        ripple(core, a, b, count);
+    } else {
+        core.move_codes(a, b, count);
     }
 }
 

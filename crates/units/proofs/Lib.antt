@@ -3,3 +3,4 @@ pub mod Together
 pub mod Listings
 pub mod Outcomes
 pub mod InRange
+pub mod Shown

@@ -1,8 +1,8 @@
 -- listings that grow line by line
-use Rattle.std.proofs.Common.{List, [], ◌∷◌, ◌++◌, ◌≡◌, ◌≢◌, ◌⊎◌, inl, inr, ℕ, zero, suc, ◌+◌, ◌-◌, ◌<◌, ◌≤◌, max, map, take, length, get_or, replicate, Bool, true, false, cond, eqb, ◌&&◌, Option, Some, None, refl, sym, ◌∙◌, ap, subst, arith}
+use Rattle.std.proofs.Common.{set, length-set, get_or-set_other, List, [], ◌∷◌, ◌++◌, ◌≡◌, ◌≢◌, ◌⊎◌, inl, inr, ℕ, zero, suc, ◌+◌, ◌-◌, ◌<◌, ◌≤◌, max, map, take, length, get_or, replicate, Bool, true, false, cond, eqb, ◌&&◌, Option, Some, None, refl, sym, ◌∙◌, ap, subst, arith}
 use Rattle.std.specs.List.{AllAdjacentBelow, fold, filter, find, flat_map, join_with_byte, dedup_from, range_with_len}
 use Rattle.std.specs.Option.{option_or}
-use Rattle.std.proofs.lemmas.List.{length-map, get_or-map, take-map, take_all, take_more, append-nil, append_assoc, map-append}
+use Rattle.std.proofs.lemmas.List.{length-replicate, get_or-replicate, take_more_set, map_more, length-map, get_or-map, take-map, take_more, append-nil, append_assoc, map-append}
 use Rattle.std.proofs.lemmas.List.Concat.{flat_map-append}
 use Rattle.std.proofs.lemmas.List.Elements.{filter-append}
 use Rattle.std.proofs.lemmas.List.Folds.{find-append}
@@ -25,12 +25,40 @@ text_is codes n within rest last =
     let left : length text - (length text - n) ≡ n = omega arith in
     ap (λ k. take (length text - k) text) cut ∙ ap (λ k. take k text) left ∙ take-map shown n codes
 
--- a line pushed character by character
-pub line_pushed : (old now new codes : List ℕ) (n i : ℕ) → now ≡ old ++ map shown (take i (take n codes)) → length (take n codes) ≤ i → new ≡ now ++ line_feed ∷ [] →
-    text_of codes ≡ map shown (take n codes) → new ≡ old ++ (text_of codes ++ line_feed ∷ [])
-line_pushed old now new codes n i is all pushed text =
-    let whole : map shown (take i (take n codes)) ≡ text_of codes = ap (map shown) (take_all i (take n codes) all) ∙ sym text in
-    pushed ∙ ap (λ r. r ++ line_feed ∷ []) (is ∙ ap (λ r. old ++ r) whole) ∙ append_assoc old (text_of codes) (line_feed ∷ [])
+-- a line that was filled up to a place: what follows is its end
+pub record IsFilled (codes : List ℕ) (place : ℕ) (line : List ℕ) : Type 0 where
+  pub within : place ≤ 132
+  pub shows : take place line ≡ map shown (take place codes)
+  pub rest : (k : ℕ) → place ≤ k → k < 133 → get_or line k 0 ≡ line_feed
+  pub size : length line ≡ 133
+
+pub filled_none : (codes : List ℕ) → IsFilled codes 0 (replicate 133 line_feed)
+filled_none codes =
+    record { within = omega arith; shows = refl; rest = λ k le lt. get_or-replicate 133 k line_feed 0 lt; size = length-replicate 133 line_feed }
+
+pub filled_step : (codes line : List ℕ) (place code byte : ℕ) → place < length codes → place < 132 → code ≡ get_or codes place code → byte ≡ shown code →
+    IsFilled codes place line → IsFilled codes (place + 1) (set line place byte)
+filled_step codes line place code byte inside room code_is byte_is before =
+    let here : place < length line = omega (arith, before.size) in
+    record {
+      within = omega arith;
+      shows =
+          take_more_set line place byte here
+          ∙ ap (λ xs. xs ++ byte ∷ []) before.shows
+          ∙ ap (λ x. map shown (take place codes) ++ x ∷ []) (byte_is ∙ ap shown code_is)
+          ∙ sym (map_more shown codes place code inside);
+      rest = λ k le lt. let other : k ≢ place = omega arith in get_or-set_other line place k byte 0 other ∙ before.rest k (omega arith) lt;
+      size = length-set line place byte ∙ before.size;
+    }
+
+-- a filled line pushed with its end
+pub line_pushed : (old new codes line : List ℕ) (n : ℕ) → n ≤ 132 → IsFilled codes n line → text_of codes ≡ map shown (take n codes) → new ≡ old ++ take (n + 1) line →
+    new ≡ old ++ (text_of codes ++ line_feed ∷ [])
+line_pushed old new codes line n le filled text new_is =
+    let here : n < length line = omega (arith, filled.size) in
+    new_is
+    ∙ ap (λ xs. old ++ xs)
+    (take_more line n 0 here ∙ ap (λ x. take n line ++ x ∷ []) (filled.rest n (omega arith) (omega arith)) ∙ ap (λ xs. xs ++ line_feed ∷ []) (filled.shows ∙ sym text))
 
 -- ---- the lines of a form
 

@@ -11,16 +11,16 @@ const LINE_FEED: u8 = 10;
 
 const FORM_FEED: u8 = 12;
 
-/// What the printer shows of a character: thirteen of them are not on its chain.
-#[tactic(auto, unfolding(crate::specs::Listing::shown))]
+/// What the printer shows of each character: thirteen of them are not on its chain.
+const SHOWN: [u8; 64] = *b" 1234567890#@    /STUVWXYZ|,%   -JKLMNOPQR!$*   &ABCDEFGHI?.)   ";
+
+/// What the printer shows of a character.
+#[inline(always)]
+#[tactic(auto, using(crate::proofs::Shown::shown_at))]
 fn shown(code: Code) -> u8
     ensures { result ≡ shown code }
 {
-    match code.glyph() {
-        b':' | b'>' | b'"' | b'^' | b'=' | b'\\' | b'+' | b']' | b';' | b'_' | b'[' | b'<' | b'}' =>
-            b' ',
-        glyph => glyph,
-    }
+    SHOWN[code.number() as usize]
 }
 
 /// How many characters there are without the trailing blanks.
@@ -40,13 +40,15 @@ fn length_shown(codes: &[Code]) -> usize
 }
 
 /// Adds what a line shows, without trailing blanks, and its end.
-fn push_line(text: &mut Vec<u8>, codes: &[Code]) -> Result<(), AllocError>
+fn push_line(text: &mut Vec<u8>, codes: &[Code; 132]) -> Result<(), AllocError>
     ensures { OnOk result (text.new.items ≡ text.old.items ++ (text_of codes.now ++ line_feed ∷ [])) }
 {
-    for code in &codes[..length_shown(codes)] {
-        text.push(shown(*code))?;
+    let length = length_shown(codes);
+    let mut line = [LINE_FEED; 133];
+    for place in 0..length {
+        line[place] = shown(codes[place]);
     }
-    text.push(LINE_FEED)?;
+    text.extend_from_slice(&line[..length + 1])?;
     Ok(())
 }
 

@@ -1,8 +1,21 @@
-use Rattle.std.proofs.Common.{arith}
-use Rattle.units.proofs.Listings.{line_pushed}
+use Rattle.std.proofs.Common.{◌≡◌, ◌<◌, length, sym, ◌∙◌, ap, subst, arith}
+use Rattle.units.specs.Listing.{shown}
+use Rattle.units.proofs.Listings.{IsFilled, filled_none, filled_step, line_pushed}
 use Rattle.units.proofs.listing.push_line.Goals as goal
+
+pub loop-place-init : goal.loop-place-init
+loop-place-init c = filled_none c.args.codes.now
+
+pub loop-place-preserved : goal.loop-place-preserved
+loop-place-preserved c =
+    let room : c.loop-place.place < 132 = omega (arith, c.type_inv.codes, c.length_shown-length.ensures.within) in
+    let within : c.loop-place.place < length c.args.codes.now = omega (arith, c.type_inv.codes) in
+    filled_step c.args.codes.now c.loop-place.line c.loop-place.place c.index-codes-place.result c.shown.result within room c.index-codes-place.is
+    (c.shown.ensures ∙ ap shown (sym c.index-codes-place.is)) c.loop-place.invariant
 
 pub returns : goal.returns
 returns c =
-    line_pushed c.args.text.now.items c.loop-code.text.items c.push-2.new.self.items c.args.codes.now c.length_shown.result c.loop-code.code-index
-    c.loop-code.invariant (omega arith) c.in_ok-push-2.ensures.items c.length_shown.ensures.text
+    let n = c.length_shown-length.result in
+    let end : c.loop-place.place ≡ n = omega arith in
+    line_pushed c.args.text.now.items c.extend_from_slice.new.self.items c.args.codes.now c.loop-place.line n (omega (arith, c.loop-place.invariant.within))
+    (subst (λ place. IsFilled c.args.codes.now place c.loop-place.line) end c.loop-place.invariant) c.length_shown-length.ensures.text c.in_ok-extend_from_slice.ensures.items

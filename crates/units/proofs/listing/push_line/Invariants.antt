@@ -1,6 +1,5 @@
-use Rattle.std.proofs.Common.{◌≡◌, ◌++◌, map, take}
-use Rattle.units.specs.Listing.{shown}
+use Rattle.units.proofs.Listings.{IsFilled}
 use Rattle.units.proofs.listing.push_line.Given as goal
 
-abbrev pub invariant-loop-code : goal.invariant-loop-code
-invariant-loop-code l = l.text.items ≡ l.initial.text.items ++ map shown (take l.code-index l.code-items)
+abbrev pub invariant-loop-place : goal.invariant-loop-place
+invariant-loop-place l = IsFilled l.codes l.place l.line

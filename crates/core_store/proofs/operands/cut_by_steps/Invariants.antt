@@ -1,6 +1,6 @@
 use Rattle.std.proofs.Common.{◌≤◌, ◌+◌}
 use Rattle.core_store.proofs.Cuts.{Unmarked}
-use Rattle.core_store.proofs.operands.cut_length.Given as goal
+use Rattle.core_store.proofs.operands.cut_by_steps.Given as goal
 
 abbrev pub invariant-loop-count : goal.invariant-loop-count
 invariant-loop-count g l = record {

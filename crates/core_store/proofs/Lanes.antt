@@ -1,0 +1,105 @@
+-- the last of sixteen bytes that is not 0
+use Rattle.std.proofs.Common.{◌≡◌, ◌≢◌, ℕ, suc, ◌+◌, ◌-◌, ◌/◌, ◌%◌, ◌^◌, ◌<◌, ◌≤◌, ◌∙◌, Bool, true, false, cond, List, get_or, length, map, ap, sym, refl, arith}
+use Rattle.std.specs.Simd.Lanes.{mask_l, chunk}
+use Rattle.std.specs.Int.Count.{count_leading_zeros}
+use Rattle.std.proofs.Math.Decide.{dec_lt}
+use Rattle.std.proofs.Math.Pow.{pow_mono}
+use Rattle.std.proofs.Math.Nat.{div-eq_of_lt, div-eq_of_lt-le, pow-suc}
+use Rattle.std.proofs.lemmas.Nat.{leading_top}
+use Rattle.std.proofs.lemmas.List.{get_or-map, length-map}
+use Rattle.std.proofs.lemmas.Simd.{none_from_empty_mask, length-chunk, get_or-chunk, mask_l-lt, bit_mask_l}
+use Rattle.core_store.proofs.PlaneLemmas.{is_some, not_zero, some_is}
+
+set_bit : (b : Bool) (n : ℕ) → n ≡ cond b 1 0 → n ≡ 1 → b ≡ true
+set_bit true n is h = refl
+set_bit false n is h = absurd (omega arith)
+
+clear_bit : (b : Bool) (n : ℕ) → n ≡ cond b 1 0 → n ≡ 0 → b ≡ false
+clear_bit true n is h = absurd (omega arith)
+clear_bit false n is h = refl
+
+-- the bits of a mask above its value are clear
+above_mask : (ms : List Bool) (i : ℕ) → mask_l ms < 2 ^ i → get_or ms i false ≡ false
+above_mask ms i lt =
+    clear_bit (get_or ms i false) (mask_l ms / 2 ^ i % 2) (bit_mask_l ms i) (ap (λ n. n % 2) (div-eq_of_lt lt))
+
+-- and its top bit is set
+top_of_mask : (ms : List Bool) (j : ℕ) → 2 ^ j ≤ mask_l ms → mask_l ms < 2 ^ suc j → get_or ms j false ≡ true
+top_of_mask ms j le lt =
+    let one : mask_l ms / 2 ^ j ≡ 1 = div-eq_of_lt-le {k = 1} (2 ^ j) (omega arith) (omega (arith, pow-suc 2 j)) in
+    set_bit (get_or ms j false) (mask_l ms / 2 ^ j % 2) (bit_mask_l ms j) (ap (λ n. n % 2) one)
+
+module _ (marks : List ℕ) (place mask : ℕ) (within : place < length marks) (room : 15 ≤ place) (is : mask ≡ mask_l (map is_some (chunk (place - 15) 16 marks))) where
+  long : length (chunk (place - 15) 16 marks) ≡ 16
+  long = length-chunk (place - 15) 16 marks (omega arith)
+
+  byte : (i : ℕ) → i < 16 → get_or (map is_some (chunk (place - 15) 16 marks)) i false ≡ is_some (get_or marks (place - 15 + i) 0)
+  byte i lt = get_or-map is_some (chunk (place - 15) 16 marks) i 0 false (omega (arith, long)) ∙ ap is_some (get_or-chunk (place - 15) 16 marks i 0 lt)
+
+  pub none_before : mask ≡ 0 → (k : ℕ) → k < 16 → get_or marks (place - k) 0 ≡ 0
+  none_before none k lt =
+      not_zero (get_or marks (place - k) 0) (none_from_empty_mask is_some marks (place - 15) 16 0 (omega arith) (sym is ∙ none) (place - k) (omega arith) (omega arith))
+
+  small : mask < 2 ^ 16
+  small =
+      let size : length (map is_some (chunk (place - 15) 16 marks)) ≡ 16 = length-map (chunk (place - 15) 16 marks) is_some ∙ long in
+      let bound : mask_l (map is_some (chunk (place - 15) 16 marks)) < 2 ^ 16 = rw size at (mask_l-lt (map is_some (chunk (place - 15) 16 marks))) in
+      omega (arith, bound, is)
+
+  -- the top bit of the mask
+  record Top : Type 0 where
+    pub at : ℕ
+    pub near : at < 16
+    pub zeros : count_leading_zeros 64 mask + suc at ≡ 64
+    pub least : 2 ^ at ≤ mask
+    pub below : mask < 2 ^ suc at
+
+  top : mask ≢ 0 → Top
+  top some =
+      let wide : mask < 2 ^ 64 = omega (arith, small, pow_mono {i = 16} {j = 64} (omega arith)) in
+      let (j, zeros, least, below) = leading_top 64 mask (omega (arith, some)) wide in
+      record {
+        at = j;
+        near =
+            elim (dec_lt j 16) [
+              | yes lt ↦ lt
+              | no ge ↦ absurd (omega (arith, small, least, pow_mono {i = 16} {j = j} (omega arith)))
+            ];
+        zeros = zeros;
+        least = least;
+        below = below;
+      }
+
+  pub count_most : mask ≢ 0 → count_leading_zeros 64 mask - 48 ≤ 16
+  count_most some = omega (arith, (top some).zeros)
+
+  pub count_room : mask ≢ 0 → 48 ≤ count_leading_zeros 64 mask
+  count_room some = omega (arith, (top some).zeros, (top some).near)
+
+  pub count_after : mask ≢ 0 → (k : ℕ) → k < count_leading_zeros 64 mask - 48 → get_or marks (place - k) 0 ≡ 0
+  count_after some k lt =
+      let t = top some in
+      let above : t.at < 15 - k = omega (arith, t.zeros, t.near) in
+      let bound : mask_l (map is_some (chunk (place - 15) 16 marks)) < 2 ^ (15 - k) = omega (arith, is, t.below, pow_mono {i = suc t.at} {j = 15 - k} (omega arith)) in
+      let here : place - 15 + (15 - k) ≡ place - k = omega arith in
+      not_zero (get_or marks (place - k) 0)
+      (ap (λ n. is_some (get_or marks n 0)) (sym here) ∙ sym (byte (15 - k) (omega arith)) ∙ above_mask (map is_some (chunk (place - 15) 16 marks)) (15 - k) bound)
+
+  pub count_stops : mask ≢ 0 → get_or marks (place - (count_leading_zeros 64 mask - 48)) 0 ≢ 0
+  count_stops some =
+      let t = top some in
+      let here : place - 15 + t.at ≡ place - (count_leading_zeros 64 mask - 48) = omega (arith, t.zeros, t.near) in
+      some_is (get_or marks (place - (count_leading_zeros 64 mask - 48)) 0)
+      (ap (λ n. is_some (get_or marks n 0)) (sym here) ∙ sym (byte t.at t.near)
+      ∙ top_of_mask (map is_some (chunk (place - 15) 16 marks)) t.at (omega (arith, is, t.least)) (omega (arith, is, t.below)))
+
+-- what was passed over on the way to a mark
+pub passed_over : (marks : List ℕ) (end run place : ℕ) → ((k : ℕ) → k < run → get_or marks (end - 1 - k) 0 ≡ 0) → ((k : ℕ) → end ≤ k → k ≤ place → get_or marks k 0 ≡ 0) →
+    (k : ℕ) → end ≤ k + run → k ≤ place → get_or marks k 0 ≡ 0
+passed_over marks end run place after none k from upto =
+    elim (dec_lt k end) [
+      | yes before ↦
+          let back : k ≡ end - 1 - (end - 1 - k) = omega arith in
+          ap (λ n. get_or marks n 0) back ∙ after (end - 1 - k) (omega arith)
+      | no past ↦ none k (omega arith) upto
+    ]
