@@ -3,14 +3,14 @@ use Rattle.std.proofs.Common.{◌≡◌, ℕ, Bool, false, List, [], length, ref
 use Rattle.std.specs.Prelude.{Option}
 use Rattle.cards.specs.declared.decks.Card.{Card}
 use Rattle.core_store.specs.declared.sizes.Size.{Size}
-use Rattle.layout.specs.Source.{Line, has_end, lines_of, size_of, source_of}
-use Rattle.layout.specs.Literals.{Characters, literals_of}
-use Rattle.layout.specs.Slots.{slots_from}
-use Rattle.layout.specs.Layout.{Laid, fills_of, layout_of, slots_of}
-use Rattle.layout.specs.declared.slots.Slot.{Slot}
-use Rattle.layout.specs.declared.cells.Cell.{Cell}
-use Rattle.layout.specs.declared.faults.SourceFault.{SourceFault}
-use Rattle.layout.proofs.Layouts.{length-layout_of, slots_of-layout_of}
+use Rattle.autocoder_layout.specs.Source.{Line, has_end, lines_of, size_of, source_of}
+use Rattle.autocoder_layout.specs.Literals.{Characters, literals_of}
+use Rattle.autocoder_layout.specs.Slots.{slots_from}
+use Rattle.autocoder_layout.specs.Layout.{Laid, fills_of, layout_of, slots_of}
+use Rattle.autocoder_layout.specs.declared.slots.Slot.{Slot}
+use Rattle.autocoder_layout.specs.declared.cells.Cell.{Cell}
+use Rattle.autocoder_layout.specs.declared.faults.SourceFault.{SourceFault}
+use Rattle.autocoder_layout.proofs.Layouts.{length-layout_of, slots_of-layout_of}
 use Rattle.autocoder.specs.Image.{image_of}
 use Rattle.autocoder.specs.Tables.{Stands, cells_in}
 use Rattle.autocoder.specs.Telling.{faults_from, faults_of, told_to_end, last_fault}

@@ -6,16 +6,16 @@ use Rattle.std.proofs.lemmas.List.{at_drop_more, at_drop_all, append-nil}
 use Rattle.std.proofs.lemmas.List.Sums.{suffix_len_is}
 use Rattle.std.proofs.lemmas.Bool.{eq-eqb, ne_eqb}
 use Rattle.cards.specs.declared.decks.Card.{Card}
-use Rattle.layout.specs.Source.{Line, source_of, lines_of}
-use Rattle.layout.specs.Slots.{place_after}
-use Rattle.layout.specs.Literals.{Characters, characters, texts, literal_in, uses_in, uses_of, firsts, is_used, literals_of}
-use Rattle.layout.specs.Layout.{slots_of}
-use Rattle.layout.proofs.Firsts.{length-texts}
-use Rattle.statements.specs.declared.operands.Operand.{Operand}
-use Rattle.statements.specs.declared.operands.Operand.TheVariants as operand
-use Rattle.statements.specs.declared.reading.Statement.TheVariants as statement
-use Rattle.layout.specs.declared.literals.Literal.{Literal}
-use Rattle.layout.specs.declared.slots.Slot.{Slot}
+use Rattle.autocoder_layout.specs.Source.{Line, source_of, lines_of}
+use Rattle.autocoder_layout.specs.Slots.{place_after}
+use Rattle.autocoder_layout.specs.Literals.{Characters, characters, texts, literal_in, uses_in, uses_of, firsts, is_used, literals_of}
+use Rattle.autocoder_layout.specs.Layout.{slots_of}
+use Rattle.autocoder_layout.proofs.Firsts.{length-texts}
+use Rattle.autocoder_statements.specs.declared.operands.Operand.{Operand}
+use Rattle.autocoder_statements.specs.declared.operands.Operand.TheVariants as operand
+use Rattle.autocoder_statements.specs.declared.reading.Statement.TheVariants as statement
+use Rattle.autocoder_layout.specs.declared.literals.Literal.{Literal}
+use Rattle.autocoder_layout.specs.declared.slots.Slot.{Slot}
 use Rattle.autocoder.specs.Listing.{blank, line_feed, listed, card_line, card_lines, literal_line, literal_lines, listing_of, listing_of_source, listing_for}
 use Rattle.autocoder.specs.Programs.{layout_for, IsProgramOf}
 use Rattle.autocoder.specs.Assembly.{Assembly}

@@ -6,35 +6,35 @@ use Rattle.std.specs.Option.{is_some, option_map_or}
 use Rattle.std.specs.Prelude.{find}
 use Rattle.std.proofs.lemmas.List.Elements.{All-nil, All-cons, All-head, All-tail, All-append, All-from_get_or}
 use Rattle.std.proofs.lemmas.Bool.{leb-false, ltb-false, eqb-true}
-use Rattle.layout.specs.declared.cells.Cell.{Cell}
-use Rattle.layout.specs.declared.cells.TheConstants.{FIRST_FREE}
+use Rattle.autocoder_layout.specs.declared.cells.Cell.{Cell}
+use Rattle.autocoder_layout.specs.declared.cells.TheConstants.{FIRST_FREE}
 use Rattle.cards.specs.declared.decks.Card.{Card}
 use Rattle.core_store.specs.Storage.{positions_of}
 use Rattle.core_store.specs.declared.sizes.Size.{Size}
 use Rattle.core_store.specs.declared.sizes.Size.TheVariants.{Positions1400, Positions2000, Positions4000}
-use Rattle.statements.specs.Constants.{constant_length}
-use Rattle.statements.specs.Mnemonics.{instruction_length}
-use Rattle.statements.specs.declared.names.Name.{Name}
-use Rattle.statements.specs.declared.expressions.Expression.{Expression}
-use Rattle.statements.specs.declared.operations.Instruction as instruction
-use Rattle.statements.specs.declared.faults.StatementFault.{StatementFault}
-use Rattle.statements.specs.declared.reading.Statement.TheVariants as statement
-use Rattle.layout.specs.Source.{Line, silent, has_end, size_of, lines_of}
-use Rattle.layout.specs.Names.{address_of, value_in, IsValueWithin}
-use Rattle.layout.specs.Slots.{is_instruction, is_open, place_after, place_behind, stays, takes, with_label, labelled, moved_to, equal_to, equated, end_fault, ends, constant, slot_of}
-use Rattle.layout.specs.Literals.{Characters, literals_of}
-use Rattle.layout.specs.Cells.{position_in, instruction_codes, field, row, cells_of}
-use Rattle.layout.specs.Judging.{fault_by, fault_of, fault_or, names_unknown, names_outside, passes_outside, fills_outside, fills_reserved, is_beyond, is_overlapping}
-use Rattle.layout.specs.Layout.{Laid, Satisfies, IsLayout, fills_of, slots_of, nothing, layout_of}
-use Rattle.layout.specs.declared.names.Value.{Value}
-use Rattle.layout.specs.declared.names.Value.TheVariants.{Unknown, Outside, At}
-use Rattle.layout.specs.declared.faults.SourceFault.{SourceFault}
-use Rattle.layout.specs.declared.faults.SourceFault.TheVariants as fault
-use Rattle.layout.specs.declared.slots.Kind.{Kind}
-use Rattle.layout.specs.declared.slots.Kind.TheVariants.{Instruction, Constant, Passing}
-use Rattle.layout.specs.declared.slots.Slot.{Slot}
-use Rattle.layout.proofs.Layouts.{there_is_one}
-use Rattle.layout.proofs.Bounds.{value_is_within}
+use Rattle.autocoder_statements.specs.Constants.{constant_length}
+use Rattle.autocoder_statements.specs.Mnemonics.{instruction_length}
+use Rattle.autocoder_statements.specs.declared.names.Name.{Name}
+use Rattle.autocoder_statements.specs.declared.expressions.Expression.{Expression}
+use Rattle.autocoder_statements.specs.declared.operations.Instruction as instruction
+use Rattle.autocoder_statements.specs.declared.faults.StatementFault.{StatementFault}
+use Rattle.autocoder_statements.specs.declared.reading.Statement.TheVariants as statement
+use Rattle.autocoder_layout.specs.Source.{Line, silent, has_end, size_of, lines_of}
+use Rattle.autocoder_layout.specs.Names.{address_of, value_in, IsValueWithin}
+use Rattle.autocoder_layout.specs.Slots.{is_instruction, is_open, place_after, place_behind, stays, takes, with_label, labelled, moved_to, equal_to, equated, end_fault, ends, constant, slot_of}
+use Rattle.autocoder_layout.specs.Literals.{Characters, literals_of}
+use Rattle.autocoder_layout.specs.Cells.{position_in, instruction_codes, field, row, cells_of}
+use Rattle.autocoder_layout.specs.Judging.{fault_by, fault_of, fault_or, names_unknown, names_outside, passes_outside, fills_outside, fills_reserved, is_beyond, is_overlapping}
+use Rattle.autocoder_layout.specs.Layout.{Laid, Satisfies, IsLayout, fills_of, slots_of, nothing, layout_of}
+use Rattle.autocoder_layout.specs.declared.names.Value.{Value}
+use Rattle.autocoder_layout.specs.declared.names.Value.TheVariants.{Unknown, Outside, At}
+use Rattle.autocoder_layout.specs.declared.faults.SourceFault.{SourceFault}
+use Rattle.autocoder_layout.specs.declared.faults.SourceFault.TheVariants as fault
+use Rattle.autocoder_layout.specs.declared.slots.Kind.{Kind}
+use Rattle.autocoder_layout.specs.declared.slots.Kind.TheVariants.{Instruction, Constant, Passing}
+use Rattle.autocoder_layout.specs.declared.slots.Slot.{Slot}
+use Rattle.autocoder_layout.proofs.Layouts.{there_is_one}
+use Rattle.autocoder_layout.proofs.Bounds.{value_is_within}
 use Rattle.autocoder.proofs.Standing.{or_parts}
 use Rattle.autocoder.specs.Image.{cell_at, cons_some, cells_from, image_of}
 use Rattle.autocoder.specs.Loadable.{IsLoadable, IsRising, CanBeLoaded}

@@ -3,17 +3,17 @@ use Rattle.std.proofs.Common.{◌≡◌, ℕ, ◌+◌, ◌-◌, ◌<◌, ◌≤�
 use Rattle.std.specs.Bool.{if◌then◌else◌}
 use Rattle.std.proofs.lemmas.List.{at_drop_more, at_drop_all, take_more, append-nil, get_or_at}
 use Rattle.cards.specs.declared.decks.Card.{Card}
-use Rattle.layout.specs.Source.{Line, silent, is_control, line_on, lines_of}
-use Rattle.layout.specs.Slots.{origin, slots_from}
-use Rattle.layout.specs.Literals.{Characters, literals_of}
-use Rattle.layout.specs.Cells.{cells_of}
-use Rattle.layout.specs.Judging.{fault_by, fault_of, fault_or, names_unknown, names_outside, passes_outside, fills_outside, fills_reserved, is_beyond, is_overlapping, IsCut}
-use Rattle.layout.specs.Layout.{Laid, fills_of, nothing, laid_by, layout_of}
-use Rattle.layout.specs.declared.slots.Slot.{Slot}
-use Rattle.layout.specs.declared.cells.Cell.{Cell}
-use Rattle.layout.specs.declared.faults.SourceFault.{SourceFault}
-use Rattle.layout.specs.declared.faults.SourceFault.TheVariants.{UnknownName, Outside, Reserved, Filled}
-use Rattle.layout.proofs.Layouts.{layout_of-at, length-layout_of}
+use Rattle.autocoder_layout.specs.Source.{Line, silent, is_control, line_on, lines_of}
+use Rattle.autocoder_layout.specs.Slots.{origin, slots_from}
+use Rattle.autocoder_layout.specs.Literals.{Characters, literals_of}
+use Rattle.autocoder_layout.specs.Cells.{cells_of}
+use Rattle.autocoder_layout.specs.Judging.{fault_by, fault_of, fault_or, names_unknown, names_outside, passes_outside, fills_outside, fills_reserved, is_beyond, is_overlapping, IsCut}
+use Rattle.autocoder_layout.specs.Layout.{Laid, fills_of, nothing, laid_by, layout_of}
+use Rattle.autocoder_layout.specs.declared.slots.Slot.{Slot}
+use Rattle.autocoder_layout.specs.declared.cells.Cell.{Cell}
+use Rattle.autocoder_layout.specs.declared.faults.SourceFault.{SourceFault}
+use Rattle.autocoder_layout.specs.declared.faults.SourceFault.TheVariants.{UnknownName, Outside, Reserved, Filled}
+use Rattle.autocoder_layout.proofs.Layouts.{layout_of-at, length-layout_of}
 use Rattle.autocoder.specs.declared.faults.CardFault.{CardFault}
 use Rattle.autocoder.specs.Image.{cell_at}
 use Rattle.autocoder.specs.Tables.{Stands, is_taken, filled_table}

@@ -6,8 +6,8 @@ use Rattle.std.proofs.lemmas.Bool.{leb-false, ne_eqb}
 use Rattle.std.proofs.lemmas.Bool.Decides.{eqb_tells}
 use Rattle.std.specs.Option.{is_some}
 use Rattle.std.specs.List.{All}
-use Rattle.layout.specs.declared.cells.Cell.{Cell}
-use Rattle.layout.specs.Judging.{is_filled, fills_outside, is_overlapping, IsCut}
+use Rattle.autocoder_layout.specs.declared.cells.Cell.{Cell}
+use Rattle.autocoder_layout.specs.Judging.{is_filled, fills_outside, is_overlapping, IsCut}
 use Rattle.autocoder.specs.Image.{cell_at, cells_from, cons_some}
 use Rattle.autocoder.specs.Tables.{Stands, filled_with, filled_table, cells_in, is_taken}
 

@@ -1,9 +1,9 @@
 -- what a source is assembled to
 use Rattle.std.specs.Prelude.{ℕ, List}
 use Rattle.core_store.specs.declared.sizes.Size.{Size}
-use Rattle.layout.specs.declared.cells.Cell.{Cell}
-use Rattle.layout.specs.declared.slots.Slot.{Slot}
-use Rattle.layout.specs.Literals.{Characters}
+use Rattle.autocoder_layout.specs.declared.cells.Cell.{Cell}
+use Rattle.autocoder_layout.specs.declared.slots.Slot.{Slot}
+use Rattle.autocoder_layout.specs.Literals.{Characters}
 
 -- a program: the size of its machine, the positions that it fills, where it starts, the number of the card that ends its
 -- source, where each card of the source stands, and the literals in the order of their places

@@ -1,7 +1,7 @@
 -- the image of a layout: the filled positions, rising
 use Rattle.std.specs.Prelude.{ℕ, zero, suc, ◌+◌, nat_eq, if◌then◌else◌, List, [], ◌∷◌, Option, Some, None}
-use Rattle.layout.specs.Layout.{Laid, fills_of}
-use Rattle.layout.specs.declared.cells.Cell.{Cell}
+use Rattle.autocoder_layout.specs.Layout.{Laid, fills_of}
+use Rattle.autocoder_layout.specs.declared.cells.Cell.{Cell}
 
 abbrev pub cell_or : Cell → ℕ → Option Cell → Option Cell
 cell_or c position rest = if nat_eq c.position position then Some c else rest

@@ -3,14 +3,14 @@ use Rattle.std.specs.Prelude.{ℕ, ◌+◌, ◌-◌, ◌==◌, Bool, true, false
 use Rattle.std.specs.List.{suffix_len}
 use Rattle.bcd.specs.Table.{glyph_of, byte}
 use Rattle.cards.specs.declared.decks.Card.{Card}
-use Rattle.layout.specs.Source.{source_of, lines_of}
-use Rattle.layout.specs.Slots.{place_after}
-use Rattle.layout.specs.Literals.{Characters, literals_of}
-use Rattle.layout.specs.Layout.{slots_of}
+use Rattle.autocoder_layout.specs.Source.{source_of, lines_of}
+use Rattle.autocoder_layout.specs.Slots.{place_after}
+use Rattle.autocoder_layout.specs.Literals.{Characters, literals_of}
+use Rattle.autocoder_layout.specs.Layout.{slots_of}
 use Rattle.autocoder.specs.Programs.{layout_for}
-use Rattle.layout.specs.declared.slots.Kind.{Kind}
-use Rattle.layout.specs.declared.slots.Kind.TheVariants.{Instruction, Constant}
-use Rattle.layout.specs.declared.slots.Slot.{Slot}
+use Rattle.autocoder_layout.specs.declared.slots.Kind.{Kind}
+use Rattle.autocoder_layout.specs.declared.slots.Kind.TheVariants.{Instruction, Constant}
+use Rattle.autocoder_layout.specs.declared.slots.Slot.{Slot}
 
 abbrev pub blank : ℕ
 blank = byte (codes " ")

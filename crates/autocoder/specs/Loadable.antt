@@ -2,8 +2,8 @@
 use Rattle.std.specs.Prelude.{ℕ, ◌<◌, ◌≤◌, List, length}
 use Rattle.std.specs.List.{All, AllAdjacentBelow}
 use Rattle.core_store.specs.Storage.{positions_of}
-use Rattle.layout.specs.declared.cells.Cell.{Cell}
-use Rattle.layout.specs.Judging.{first_free}
+use Rattle.autocoder_layout.specs.declared.cells.Cell.{Cell}
+use Rattle.autocoder_layout.specs.Judging.{first_free}
 use Rattle.autocoder.specs.Assembly.{Assembly}
 
 -- positions that cards can load: none is among those that hold the card, and all lie below the size, as does the start

@@ -3,16 +3,16 @@ use Rattle.std.specs.Prelude.{ℕ, ◌≡◌, ◌≢◌, ◌-◌, false, List, [
 use Rattle.std.specs.Option.{option_map_or}
 use Rattle.cards.specs.declared.decks.Card.{Card}
 use Rattle.core_store.specs.Storage.{positions_of}
-use Rattle.statements.specs.Statements.{statement_on}
-use Rattle.statements.specs.declared.reading.Statement.TheVariants as statement
-use Rattle.layout.specs.Source.{Line, silent, size_of, has_end, lines_of}
-use Rattle.layout.specs.Names.{value_in}
-use Rattle.layout.specs.Slots.{is_instruction}
-use Rattle.layout.specs.Cells.{position_in}
-use Rattle.layout.specs.Literals.{literals_of}
-use Rattle.layout.specs.Layout.{Laid, slots_of, layout_of}
-use Rattle.layout.specs.declared.cells.Cell.{Cell}
-use Rattle.layout.specs.declared.slots.Slot.{Slot}
+use Rattle.autocoder_statements.specs.Statements.{statement_on}
+use Rattle.autocoder_statements.specs.declared.reading.Statement.TheVariants as statement
+use Rattle.autocoder_layout.specs.Source.{Line, silent, size_of, has_end, lines_of}
+use Rattle.autocoder_layout.specs.Names.{value_in}
+use Rattle.autocoder_layout.specs.Slots.{is_instruction}
+use Rattle.autocoder_layout.specs.Cells.{position_in}
+use Rattle.autocoder_layout.specs.Literals.{literals_of}
+use Rattle.autocoder_layout.specs.Layout.{Laid, slots_of, layout_of}
+use Rattle.autocoder_layout.specs.declared.cells.Cell.{Cell}
+use Rattle.autocoder_layout.specs.declared.slots.Slot.{Slot}
 use Rattle.autocoder.specs.Image.{image_of}
 use Rattle.autocoder.specs.Telling.{faults_of}
 use Rattle.autocoder.specs.declared.faults.Faults.{Faults}

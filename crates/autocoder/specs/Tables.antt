@@ -1,7 +1,7 @@
 -- a table of the filled positions
 use Rattle.std.specs.Prelude.{ℕ, ◌≡◌, ◌<◌, Bool, if◌then◌else◌, List, [], ◌∷◌, Option, Some, None, is_some, slice_index_or, slice_set}
 use Rattle.std.specs.List.{list_any}
-use Rattle.layout.specs.declared.cells.Cell.{Cell}
+use Rattle.autocoder_layout.specs.declared.cells.Cell.{Cell}
 use Rattle.autocoder.specs.Image.{cell_at, cons_some}
 
 -- a table that stands for what is filled: each position below the size has its cell

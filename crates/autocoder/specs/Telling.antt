@@ -1,8 +1,8 @@
 -- the faults of a source, in card order
 use Rattle.std.specs.Prelude.{ℕ, ◌+◌, ◌-◌, Bool, if◌then◌else◌, List, [], ◌∷◌, ◌++◌, length, Option, Some, None, slice_index_or}
-use Rattle.layout.specs.Layout.{Laid, nothing}
-use Rattle.layout.specs.declared.faults.SourceFault.{SourceFault}
-use Rattle.layout.specs.declared.faults.SourceFault.TheVariants as source
+use Rattle.autocoder_layout.specs.Layout.{Laid, nothing}
+use Rattle.autocoder_layout.specs.declared.faults.SourceFault.{SourceFault}
+use Rattle.autocoder_layout.specs.declared.faults.SourceFault.TheVariants as source
 use Rattle.autocoder.specs.declared.faults.Faults.{Faults}
 use Rattle.autocoder.specs.declared.faults.Faults.TheVariants as faults
 use Rattle.autocoder.specs.declared.faults.CardFault.{CardFault}

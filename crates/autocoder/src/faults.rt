@@ -3,7 +3,7 @@
 ghost use Rattle.std.specs.Prelude.{◌≡◌, ◌≢◌, ◌++◌, [], IsTrue, IsFalse, OnOk};
 ghost use Rattle.autocoder.specs.Telling.{fault_list, fault_then, told_to_end};
 
-use layout::SourceFault;
+use autocoder_layout::SourceFault;
 use std::alloc::AllocError;
 
 /// The lowest fault of a card.

@@ -3,21 +3,21 @@
 ghost use Rattle.std.specs.Prelude.{◌≡◌, ◌≤◌, ◌||◌, [], length, false, IfOk, OnOk};
 ghost use Rattle.core_store.specs.Storage.{largest_size};
 ghost use Rattle.cards.specs.Decks.{largest_deck};
-ghost use Rattle.layout.specs.Bounds.{IsWithin};
-ghost use Rattle.layout.specs.Source.{is_control, lines_of};
-ghost use Rattle.layout.specs.Slots.{place_after, slots_from};
-ghost use Rattle.layout.specs.Literals.{texts, literals_of};
-ghost use Rattle.layout.specs.Layout.{fills_of, layout_of};
+ghost use Rattle.autocoder_layout.specs.Bounds.{IsWithin};
+ghost use Rattle.autocoder_layout.specs.Source.{is_control, lines_of};
+ghost use Rattle.autocoder_layout.specs.Slots.{place_after, slots_from};
+ghost use Rattle.autocoder_layout.specs.Literals.{texts, literals_of};
+ghost use Rattle.autocoder_layout.specs.Layout.{fills_of, layout_of};
 ghost use Rattle.autocoder.specs.Tables.{Stands};
 ghost use Rattle.autocoder.specs.Telling.{faults_from, last_fault};
 
 use crate::faults::{CardFault, tell};
 use crate::tables::{fill, is_taken};
-use cards::Card;
-use layout::{
+use autocoder_layout::{
     Cell, FARTHEST, Literal, MOST_LITERALS, Slot, SourceFault, cells_of, fault_by, is_control,
     line_on,
 };
+use cards::Card;
 use std::alloc::{AllocError, Global};
 
 /// Whether a card that told the size is behind, where one more card is read.

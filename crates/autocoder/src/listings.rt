@@ -2,16 +2,16 @@
 
 ghost use Rattle.std.specs.Prelude.{◌≡◌, ◌≤◌, ◌++◌, ◌∷◌, [], length, take, replicate, IfOk, OnOk};
 ghost use Rattle.cards.specs.Decks.{largest_deck};
-ghost use Rattle.layout.specs.Literals.{texts};
-ghost use Rattle.layout.specs.Source.{source_of};
+ghost use Rattle.autocoder_layout.specs.Literals.{texts};
+ghost use Rattle.autocoder_layout.specs.Source.{source_of};
 ghost use Rattle.autocoder.specs.Listing.{line_feed, right, fills, place_field, glyphs_of, card_line, literal_line, listed, card_lines, literal_lines, listing_for};
 ghost use Rattle.autocoder.specs.Programs.{IsProgramOf};
 
 use crate::program::Program;
+use autocoder_layout::{Kind, Literal, MOST_LITERALS, Slot, place_after, source_of};
 use bcd::Code;
 use cards::{Card, Deck};
 use itoa::Buffer;
-use layout::{Kind, Literal, MOST_LITERALS, Slot, place_after, source_of};
 use std::alloc::{AllocError, Global};
 
 const LINE_FEED: u8 = 10;

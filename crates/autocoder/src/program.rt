@@ -1,22 +1,22 @@
 //! A program, assembled.
 
 ghost use Rattle.std.specs.Prelude.{◌≡◌, IfOk, IfErr, OnOk};
-ghost use Rattle.layout.specs.Bounds.{IsWithin};
-ghost use Rattle.layout.specs.Literals.{texts};
-ghost use Rattle.layout.specs.Source.{IsInRange, source_of};
+ghost use Rattle.autocoder_layout.specs.Bounds.{IsWithin};
+ghost use Rattle.autocoder_layout.specs.Literals.{texts};
+ghost use Rattle.autocoder_layout.specs.Source.{IsInRange, source_of};
 ghost use Rattle.autocoder.specs.Loadable.{CanBeLoaded, IsRising};
 ghost use Rattle.autocoder.specs.Programs.{start_by, last_line, IsProgramOf, IsFaultless, AreFaults};
 
 use crate::faults::{Faults, has_some, tell_no_end};
 use crate::judging::judge;
 use crate::tables::{cells_in, empty_table};
-use cards::{Card, Deck};
-use core_store::Size;
-use layout::{
+use autocoder_layout::{
     Cell, FARTHEST, Line, Literal, Slot, Value, first_instruction, has_end, lay_out, literals_of,
     size_of, source_of, value_in,
 };
-use statements::{Statement, read};
+use autocoder_statements::{Statement, read};
+use cards::{Card, Deck};
+use core_store::Size;
 use std::alloc::Global;
 use std::marker::Model;
 
@@ -39,7 +39,7 @@ pub struct Program {
 
 impl Model for Program {
     ghost use Rattle.core_store.specs.Storage.{positions_of};
-    ghost use Rattle.layout.specs.Literals.{texts};
+    ghost use Rattle.autocoder_layout.specs.Literals.{texts};
     ghost use Rattle.autocoder.specs.Assembly.{Assembly};
     ghost use Rattle.autocoder.specs.Loadable.{IsLoadable, IsRising};
 

@@ -3,7 +3,7 @@
 ghost use Rattle.std.specs.Prelude.{◌≡◌, [], length, None, is_some, slice_index_or, IfOk};
 ghost use Rattle.autocoder.specs.Tables.{Stands, is_taken, filled_with, filled_table, cells_in};
 
-use layout::Cell;
+use autocoder_layout::Cell;
 use std::alloc::{AllocError, Global};
 
 /// A table of so many positions, none of them filled.

@@ -1,9 +1,9 @@
 //! Cards and decks as on a coding sheet: a line for each card, which has its label, its operation
 //! and its operands, each with a bar after it.
 
+use autocoder_layout::Cell;
 use bcd::Code;
 use cards::{COLUMNS, Card, Deck};
-use layout::Cell;
 use std::alloc::Global;
 use std::test::Fail;
 

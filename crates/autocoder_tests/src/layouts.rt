@@ -1,16 +1,16 @@
 //! One small source: the places of its cards, what they fill, and their faults.
 
 ghost use Rattle.std.specs.Prelude.{IfSome};
-ghost use Rattle.statements.specs.Ranges.{IsExpressionInRange};
+ghost use Rattle.autocoder_statements.specs.Ranges.{IsExpressionInRange};
 
 use crate::coding_sheets::{columns_of, deck_of, image_told, push_glyphs};
-use bcd::Code;
-use cards::{COLUMNS, Card};
-use layout::{
+use autocoder_layout::{
     Cell, FARTHEST, Slot, SourceFault, cells_of, fault_by, first_instruction, has_end, is_control,
     lay_out, line_on, literals_of, place_after, size_of, source_of, value_in,
 };
-use statements::{Expression, Statement, StatementFault, read};
+use autocoder_statements::{Expression, Statement, StatementFault, read};
+use bcd::Code;
+use cards::{COLUMNS, Card};
 use std::alloc::Global;
 use std::test::Fail;
 

@@ -2,12 +2,12 @@
 
 use crate::coding_sheets::{columns_of, push_glyphs};
 use addresses::IndexLocation;
-use bcd::Code;
-use cards::{COLUMNS, Card};
-use statements::{
+use autocoder_statements::{
     Adjustment, Base, Constant, Expression, Instruction, Name, Operand, Operation, Statement,
     is_comment, operation_of, read,
 };
+use bcd::Code;
+use cards::{COLUMNS, Card};
 use std::alloc::Global;
 use std::test::Fail;
 

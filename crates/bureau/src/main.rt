@@ -10,9 +10,9 @@
 ghost use Rattle.std.specs.Prelude.{◌≡◌, Option, IfOk, IfErr};
 ghost use Rattle.std.specs.Process.{exit_status};
 ghost use Rattle.counter.specs.Told.{IsTextShown, status_code};
-ghost use Rattle.words.specs.Asked.{IsHelp, IsVersion, page_of};
-ghost use Rattle.words.specs.Plain.{texts};
-ghost use Rattle.words.specs.declared.RowName.{RowName};
+ghost use Rattle.counter_words.specs.Asked.{IsHelp, IsVersion, page_of};
+ghost use Rattle.counter_words.specs.Plain.{texts};
+ghost use Rattle.counter_words.specs.declared.RowName.{RowName};
 ghost use Rattle.bureau.specs.Answers.{HasAnswered, HasAssembled};
 
 use bureau_rows::{apply, export, init, serve, show_outcome};
@@ -20,12 +20,12 @@ use counter::{
     Fault, Misuse, Status, Task, assemble_deck, show_help, show_version, task_of, tell_fault,
     tell_misuse,
 };
-use files::{run_source, write_out};
+use counter_files::{run_source, write_out};
+use counter_words::VERSION;
 use std::fs::File;
 use std::io::Write;
 use std::process::ExitCode;
 use std::{env, io};
-use words::VERSION;
 
 /// The words, with the program's name in front.
 fn words_given(rt: &HostRuntime) -> Result<Vec<String>, Misuse<'static>> {

@@ -1,10 +1,10 @@
 -- what is printed of how a row of a bureau's file ends
 use Rattle.std.specs.Prelude.{ℕ, List, [], ◌∷◌, ◌++◌, Option, codes, decimal}
 use Rattle.std.specs.Io.KnownBytes.{Appends, Keeps}
-use Rattle.command_line.specs.declared.statuses.Status.{Status}
-use Rattle.command_line.specs.declared.statuses.Status.TheVariants as status
-use Rattle.tables.specs.declared.openings.OpenFault.{OpenFault}
-use Rattle.tables.specs.declared.openings.OpenFault.TheVariants as opening
+use Rattle.counter_tasks.specs.declared.statuses.Status.{Status}
+use Rattle.counter_tasks.specs.declared.statuses.Status.TheVariants as status
+use Rattle.ledger_tables.specs.declared.openings.OpenFault.{OpenFault}
+use Rattle.ledger_tables.specs.declared.openings.OpenFault.TheVariants as opening
 use Rattle.bureau_rows.specs.declared.outcomes.Outcome.{Outcome}
 use Rattle.bureau_rows.specs.declared.outcomes.Outcome.TheVariants as outcome
 

@@ -3,13 +3,13 @@
 use crate::opening::open_bureau;
 use crate::outcomes::Outcome;
 use cards::write_punched_cards;
-use files::put_file;
+use counter_files::put_file;
 use ledger::{Bureau, Fault};
+use ledger_tables::OpenFault;
 use machine::Meter;
 use office::{Command, JobCommand, Reply};
 use sqlite::Alter;
 use std::alloc::Global;
-use tables::OpenFault;
 use units::render;
 
 /// What a job has made, as the bytes of its two files.

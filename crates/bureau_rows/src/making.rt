@@ -2,11 +2,11 @@
 
 use crate::outcomes::Outcome;
 use ledger::{Bureau, Fault};
+use ledger_tables::OpenFault;
 use sqlite::{Alter, Connection, Unknown};
 use std::alloc::Global;
 use std::fs;
 use std::io::ErrorKind;
-use tables::OpenFault;
 
 /// How many names are tried for the other file.
 const MOST_NAMES: u16 = 1000;

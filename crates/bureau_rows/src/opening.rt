@@ -2,11 +2,11 @@
 
 use ledger::Bureau;
 use ledger_files::open_from;
+use ledger_tables::OpenFault;
 use sqlite::{FileFrom, FileStore, Unknown};
 use std::fs;
 use std::fs::File;
 use std::io::{ErrorKind, Read};
-use tables::OpenFault;
 
 /// How the file of a database begins.
 const BEGINNING: [u8; 16] = *b"SQLite format 3\0";

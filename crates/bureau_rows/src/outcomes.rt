@@ -3,10 +3,10 @@
 ghost use Rattle.std.specs.Prelude.{◌≡◌, IfOk};
 ghost use Rattle.bureau_rows.specs.Outcomes.{HasShown, status_of};
 
-use command_line::Status;
+use counter_tasks::Status;
+use ledger_tables::OpenFault;
 use std::io;
 use std::io::Write;
-use tables::OpenFault;
 
 /// How a row of a bureau's file ended.
 #[derive(Clone, Copy, Debug, PartialEq, Eq)]

@@ -3,12 +3,12 @@
 use crate::opening::open_bureau;
 use crate::outcomes::Outcome;
 use ledger::{Bureau, Fault};
+use ledger_tables::OpenFault;
 use machine::Meter;
 use script_runs::{ScriptEnd, Scripted, script};
 use sqlite::Alter;
 use std::fs::File;
 use std::io::Write;
-use tables::OpenFault;
 
 /// What the end of a script is for the program: the line of a fault is on the output.
 fn outcome_of(scripted: &Scripted) -> Outcome {

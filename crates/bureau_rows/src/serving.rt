@@ -5,13 +5,13 @@ use crate::outcomes::Outcome;
 use http_exchanges::{Exchange, exchange};
 use http_requests::Routes;
 use ledger::Bureau;
+use ledger_tables::OpenFault;
 use machine::Meter;
 use sqlite::Alter;
 use std::alloc::Global;
 use std::io::Read;
 use std::net::{Ipv4Addr, Net, Shutdown, SocketAddrV4, TcpListener, TcpStream};
 use std::time::Duration;
-use tables::OpenFault;
 
 /// For how many seconds a client may send or take nothing.
 const PATIENCE: u64 = 10;

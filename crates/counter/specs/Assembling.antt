@@ -4,17 +4,17 @@ use Rattle.cards.specs.declared.Card.{Card}
 use Rattle.cards.specs.Decks.{largest_deck, IsDeck}
 use Rattle.cards.specs.Faults.{out_of_memory}
 use Rattle.cards.specs.Files.{text_of}
-use Rattle.layout.specs.Source.{has_end, source_of}
+use Rattle.autocoder_layout.specs.Source.{has_end, source_of}
 use Rattle.autocoder.specs.Listing.{listing_for}
 use Rattle.autocoder.specs.Programs.{IsFaultless, layout_for}
 use Rattle.autocoder.specs.Telling.{faults_of, no_memory}
 use Rattle.autocoder.specs.declared.faults.CardFault.{CardFault}
 use Rattle.loader.specs.Decks.{runnable_deck}
-use Rattle.command_line.specs.declared.faults.Fault.{Fault}
-use Rattle.command_line.specs.declared.faults.Fault.TheVariants as fault
-use Rattle.endings.specs.Endings.{Ending, IsTold, Made, assembled, faulty, hindered}
-use Rattle.endings.specs.declared.showing.Assembled.{Assembled}
-use Rattle.runs.specs.Runs.{IsTextFault}
+use Rattle.counter_tasks.specs.declared.faults.Fault.{Fault}
+use Rattle.counter_tasks.specs.declared.faults.Fault.TheVariants as fault
+use Rattle.counter_endings.specs.Endings.{Ending, IsTold, Made, assembled, faulty, hindered}
+use Rattle.counter_endings.specs.declared.showing.Assembled.{Assembled}
+use Rattle.counter_runs.specs.Runs.{IsTextFault}
 
 -- ---- what is made of a deck
 

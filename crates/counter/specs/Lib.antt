@@ -1,7 +1,7 @@
-pub use Rattle.values.specs.Switches
-pub use Rattle.command_line.specs.Told
-pub use Rattle.command_line.specs.Tasks
-pub use Rattle.runs.specs.Reports
-pub use Rattle.runs.specs.Runs
-pub use Rattle.endings.specs.Endings
+pub use Rattle.counter_values.specs.Switches
+pub use Rattle.counter_tasks.specs.Told
+pub use Rattle.counter_tasks.specs.Tasks
+pub use Rattle.counter_runs.specs.Reports
+pub use Rattle.counter_runs.specs.Runs
+pub use Rattle.counter_endings.specs.Endings
 pub mod Assembling

@@ -2,19 +2,19 @@
 
 ghost use Rattle.std.specs.Prelude.{◌≡◌, ◌≢◌, ◌≤◌, ◌<◌, ◌⊎◌, List, ℕ, length, IfOk, IfErr};
 ghost use Rattle.cards.specs.Decks.{largest_deck};
-ghost use Rattle.layout.specs.Source.{source_of};
+ghost use Rattle.autocoder_layout.specs.Source.{source_of};
 ghost use Rattle.autocoder.specs.Programs.{IsProgramOf};
 ghost use Rattle.loader.specs.Decks.{runnable_deck};
-ghost use Rattle.runs.specs.Runs.{Reads};
-ghost use Rattle.endings.specs.Endings.{ending_by, made_by};
+ghost use Rattle.counter_runs.specs.Runs.{Reads};
+ghost use Rattle.counter_endings.specs.Endings.{ending_by, made_by};
 ghost use Rattle.counter.specs.Assembling.{Assembles, Ends, IsMadeOf, made_of};
 
 use autocoder::{Program, assemble, listing};
 use cards::{Deck, read_text, write_text};
-use command_line::Fault;
-use endings::{Assembled, Hindrance, Product, hinder, show_hindrance, show_product};
+use counter_endings::{Assembled, Hindrance, Product, hinder, show_hindrance, show_product};
+use counter_runs::text_in;
+use counter_tasks::Fault;
 use loader::runnable_deck;
-use runs::text_in;
 use std::alloc::Global;
 use std::io;
 use std::io::{Read, Write};

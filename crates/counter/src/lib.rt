@@ -14,9 +14,11 @@
 mod assembling;
 
 pub use assembling::assemble_deck;
-pub use command_line::{
+pub use counter_endings::Assembled;
+pub use counter_runs::{
+    MOST_BYTES, MOST_INSTRUCTIONS, Report, Stand, no_deck_is_cut_off, run_deck,
+};
+pub use counter_tasks::{
     Fault, Misuse, Source, Status, Task, show_help, show_version, task_of, tell_fault, tell_misuse,
 };
-pub use endings::Assembled;
-pub use runs::{MOST_BYTES, MOST_INSTRUCTIONS, Report, Stand, no_deck_is_cut_off, run_deck};
-pub use values::{size_of, switches_of};
+pub use counter_values::{size_of, switches_of};

@@ -1,9 +1,9 @@
 //! What the words of a call ask for.
 
 use counter::task_of;
+use counter_words::words;
 use std::alloc::{AllocError, Global};
 use std::test::Fail;
-use words::words;
 
 /// The words of a line.
 fn words_of(alloc: Global, line: &str) -> Result<Vec<String>, AllocError> {

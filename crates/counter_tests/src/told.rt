@@ -2,9 +2,9 @@
 
 use crate::devices::Unflushed;
 use counter::{Misuse, Status, show_help, show_version, tell_misuse};
+use counter_words::{RowName, WordsFault};
 use std::alloc::{AllocError, Global};
 use std::test::Fail;
-use words::{RowName, WordsFault};
 
 /// The status that a misuse ends with, and what it writes.
 fn told_of(alloc: Global, misuse: Misuse<'_>) -> Result<(u8, Vec<u8>), Fail> {

@@ -1,12 +1,12 @@
 -- what a target asks for, by its path and by the texts that stand in it
 use Rattle.std.specs.Prelude.{ℕ, ◌≡◌, ◌≢◌, ◌<◌, ◌^◌, ◌⊎◌, List, decimal, Some}
-use Rattle.routes.specs.Parts.{part}
-use Rattle.routes.specs.Paths.{route_at}
-use Rattle.routes.specs.declared.paths.Route.{Route}
-use Rattle.routes.specs.declared.paths.Route.TheVariants as route
+use Rattle.http_routes.specs.Parts.{part}
+use Rattle.http_routes.specs.Paths.{route_at}
+use Rattle.http_routes.specs.declared.paths.Route.{Route}
+use Rattle.http_routes.specs.declared.paths.Route.TheVariants as route
 use Rattle.units.specs.Switches.{AreSeven}
 use Rattle.units.specs.declared.Switches.{Switches}
-use Rattle.values.specs.Switches.{text_of}
+use Rattle.counter_values.specs.Switches.{text_of}
 use Rattle.http_heads.specs.declared.asked.Asked.{Asked}
 use Rattle.http_heads.specs.declared.asked.Asked.TheVariants as asked
 use Rattle.http_heads.specs.declared.asked.JobName.{JobName}

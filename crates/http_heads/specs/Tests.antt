@@ -3,9 +3,9 @@ use Rattle.std.specs.Prelude.{ℕ, ◌==◌, ◌||◌, nat_le, not, Bool, true, 
 use Rattle.std.specs.Str.{bytes_eq}
 use Rattle.httparse.specs.Grammar.{RequestHead}
 use Rattle.httparse.specs.Spans.{name_and_value}
-use Rattle.routes.specs.Paths.{route_at}
-use Rattle.routes.specs.declared.paths.Route.{Route}
-use Rattle.routes.specs.declared.paths.Route.TheVariants as route
+use Rattle.http_routes.specs.Paths.{route_at}
+use Rattle.http_routes.specs.declared.paths.Route.{Route}
+use Rattle.http_routes.specs.declared.paths.Route.TheVariants as route
 use Rattle.http_heads.specs.Fields.{Field, body_length, values_of}
 use Rattle.http_heads.specs.declared.lengths.BodyLength.{BodyLength}
 use Rattle.http_heads.specs.declared.lengths.BodyLength.TheVariants.{Unsaid, Bytes, Bad}

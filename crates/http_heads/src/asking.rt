@@ -1,17 +1,17 @@
 //! What a target asks for.
 
 ghost use Rattle.std.specs.Prelude.{◌≡◌, Some, IfSome, IfNone};
-ghost use Rattle.routes.specs.Parts.{part};
-ghost use Rattle.routes.specs.Paths.{route_at};
-ghost use Rattle.routes.specs.declared.paths.Route.TheVariants as route;
+ghost use Rattle.http_routes.specs.Parts.{part};
+ghost use Rattle.http_routes.specs.Paths.{route_at};
+ghost use Rattle.http_routes.specs.declared.paths.Route.TheVariants as route;
 ghost use Rattle.units.specs.declared.Switches.{Switches};
 ghost use Rattle.http_heads.specs.Asked.{AreSwitchesOf, Asks, IsJobOf, IsNumberOf, path_of};
 ghost use Rattle.http_heads.specs.declared.asked.Asked.{Asked};
 
 use crate::asked::{Asked, JobName, Kind};
-use routes::{Route, part};
+use counter_values::{number_of, switches_of};
+use http_routes::{Route, part};
 use units::Switches;
-use values::{number_of, switches_of};
 
 /// The number in a part of a target, or 0 where its text is none.
 fn number_at(target: &str, place: usize) -> u32

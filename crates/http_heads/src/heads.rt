@@ -3,7 +3,7 @@
 ghost use Rattle.std.specs.Prelude.{◌≡◌, ◌≤◌, List, ℕ, drop, length, take};
 ghost use Rattle.httparse.specs.Grammar.{RequestHead};
 ghost use Rattle.httparse.specs.Spans.{IsRequestAt, IsRequestWithin};
-ghost use Rattle.routes.specs.Paths.{paths, routed};
+ghost use Rattle.http_routes.specs.Paths.{paths, routed};
 ghost use Rattle.http_heads.specs.Heads.{IsReadOf, IsVerdictOn, Judges, ReadsHead};
 
 use crate::asking::asked_at;
@@ -13,9 +13,9 @@ use crate::lengths::BodyLength;
 use crate::reading::{Outcome, read_head};
 use crate::tests::refusal;
 use crate::verdicts::Verdict;
+use http_routes::{Route, route_at};
 use httparse::spans::{EMPTY_HEADER_SPAN, HeaderSpan, RequestSpans};
 use matchit::Router;
-use routes::{Route, route_at};
 use std::io::Read;
 
 /// What a whole head comes to.

@@ -6,8 +6,8 @@ ghost use Rattle.http_heads.specs.Tests.{first_failed, length_tests, method_of, 
 
 use crate::fields::{body_length, count_named};
 use crate::lengths::BodyLength;
+use http_routes::Route;
 use httparse::spans::HeaderSpan;
-use routes::Route;
 
 /// The most bytes of a body.
 const MOST_BYTES: u32 = 200_000;

@@ -6,11 +6,11 @@ use Rattle.std.specs.Str.{bytes_eq}
 use Rattle.std.proofs.lemmas.Bool.{eqb-true}
 use Rattle.std.proofs.lemmas.Fmt.{decimal_injective}
 use Rattle.bcd.proofs.Tables.{at_each}
-use Rattle.routes.specs.declared.paths.Route.{Route}
-use Rattle.routes.specs.declared.paths.Route.TheVariants as route
-use Rattle.routes.specs.Paths.{route_at}
+use Rattle.http_routes.specs.declared.paths.Route.{Route}
+use Rattle.http_routes.specs.declared.paths.Route.TheVariants as route
+use Rattle.http_routes.specs.Paths.{route_at}
 use Rattle.units.specs.declared.Switches.{Switches}
-use Rattle.values.specs.Switches.{letters_of, risen, text_of_bits}
+use Rattle.counter_values.specs.Switches.{letters_of, risen, text_of_bits}
 use Rattle.http_heads.specs.Asked.{AreSwitchesOf, Asks, IsJobOf, IsNumberOf, path_of}
 use Rattle.http_heads.specs.Fields.{body_length}
 use Rattle.http_heads.specs.Heads.{AsksFor}

@@ -9,7 +9,7 @@ use Rattle.cards.specs.declared.faults.CardFault as deck
 use Rattle.core_store.specs.declared.registers.Check.{Check}
 use Rattle.core_store.specs.declared.registers.Check.TheVariants as check
 use Rattle.json.specs.Print.{quoted}
-use Rattle.layout.specs.Faults.{fault_number}
+use Rattle.autocoder_layout.specs.Faults.{fault_number}
 use Rattle.office.specs.Numbers.{refusal_number}
 use Rattle.office.specs.Queued.{QueuedJob}
 use Rattle.office.specs.declared.lists.JobLine.{JobLine}

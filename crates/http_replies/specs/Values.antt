@@ -3,7 +3,7 @@ use Rattle.std.specs.Prelude.{ℕ, List, Bool, codes}
 use Rattle.autocoder.specs.declared.faults.CardFault.{CardFault}
 use Rattle.cards.specs.Numbers.{card_error_number}
 use Rattle.cards.specs.declared.faults.CardFault as deck
-use Rattle.layout.specs.Faults.{fault_number}
+use Rattle.autocoder_layout.specs.Faults.{fault_number}
 use Rattle.office.specs.Queued.{QueuedJob}
 use Rattle.office.specs.declared.lists.JobLine.{JobLine}
 use Rattle.office.specs.declared.standings.JobStanding.{JobStanding}

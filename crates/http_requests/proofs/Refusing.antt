@@ -1,7 +1,7 @@
 -- the statuses that refuse a request alone
 use Rattle.std.proofs.Common.{◌≡◌, ℕ, List, [], ◌∷◌, Bool, true, false, Option, Some, None, inl, inr, refl, sym, subst}
 use Rattle.std.specs.List.{AllByRecursion}
-use Rattle.routes.specs.declared.paths.Route.{Route}
+use Rattle.http_routes.specs.declared.paths.Route.{Route}
 use Rattle.http_heads.specs.Fields.{Field}
 use Rattle.http_heads.specs.Heads.{Refuses}
 use Rattle.http_heads.specs.Tests.{first_failed, status_on, tests}

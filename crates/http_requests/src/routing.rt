@@ -1,10 +1,10 @@
 //! The table of all paths.
 
 ghost use Rattle.std.specs.Prelude.{◌≡◌};
-ghost use Rattle.routes.specs.Paths.{paths, routed};
+ghost use Rattle.http_routes.specs.Paths.{paths, routed};
 
+use http_routes::{Route, router};
 use matchit::Router;
-use routes::{Route, router};
 use std::alloc::{AllocError, Global};
 
 /// The paths of the counter, and what each asks for.

@@ -2,11 +2,11 @@
 
 use crate::answers::{answer_of, is_answered};
 use autocoder::CardFault;
+use autocoder_layout::SourceFault;
+use autocoder_statements::StatementFault;
 use cards::read_text;
 use http_replies::{Fault, deck_fault, refused};
-use layout::SourceFault;
 use office::{Refusal, Reply, SourceFaults};
-use statements::StatementFault;
 use std::alloc::Global;
 use std::test::Fail;
 

@@ -1,7 +1,7 @@
 //! What heads come to, in words.
 
 use http_heads::{Asked, Head, JobName, Verdict};
-use routes::router;
+use http_routes::router;
 use std::alloc::Global;
 use std::io::Read;
 use std::test::Fail;

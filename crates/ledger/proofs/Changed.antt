@@ -12,11 +12,11 @@ use Rattle.office.specs.Kept.{Kept, kept_of, changed, changed_job}
 use Rattle.office.specs.Office.{Entry, Office, is_entry, job_of, with_job}
 use Rattle.office.specs.declared.commands.JobCommand.{JobCommand}
 use Rattle.office.specs.declared.commands.JobCommand.TheVariants.{Slice, Start}
-use Rattle.pictures.specs.Columns.{picture_cells, line_cells, HoldsCharacters, IsLine}
+use Rattle.ledger_rows.specs.Columns.{picture_cells, line_cells, HoldsCharacters, IsLine}
 use Rattle.sqlite.specs.Effect.{Database}
 use Rattle.sqlite.specs.State as store
-use Rattle.tables.specs.Tables.{NamedJob, Holds, AreDistinct, is_job, at_job, with_cards, with_lines, with_stretches, with_picture}
-use Rattle.tables.proofs.Behind.{name_is, name_yes}
+use Rattle.ledger_tables.specs.Tables.{NamedJob, Holds, AreDistinct, is_job, at_job, with_cards, with_lines, with_stretches, with_picture}
+use Rattle.ledger_tables.proofs.Behind.{name_is, name_yes}
 use Rattle.units.specs.declared.switches.Switches.{Switches}
 use Rattle.ledger.specs.Saving.{HadMade}
 use Rattle.ledger.specs.Standing.{named, job_cells, stretch_row, stretches_of, picture_of, cards_of, tables_of, CanBeKept, Rows, StandsIn}

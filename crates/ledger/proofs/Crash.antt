@@ -3,7 +3,7 @@ use Rattle.std.proofs.Common.{◌≡◌, ◌⊎◌, inl, inr, false, IsTrue, sym
 use Rattle.sqlite.specs.Tree.{Trees}
 use Rattle.sqlite.specs.Effect.{Database}
 use Rattle.sqlite.specs.State.{State, HasCleanDisk, Shows, IsRolledBack, KeepsCommit, Survives}
-use Rattle.tables.specs.Schema.{bureau_schema}
+use Rattle.ledger_tables.specs.Schema.{bureau_schema}
 use Rattle.office.specs.Office.{Office}
 use Rattle.ledger.specs.Standing.{Rows, StandsIn, LeftAs, Stands}
 

@@ -4,10 +4,10 @@ use Rattle.std.specs.List.{AllByRecursion}
 use Rattle.std.proofs.Math.Path.{fun_ext}
 use Rattle.office.specs.Jobs.{Job, IsJob}
 use Rattle.office.specs.Office.{Entry, Office, is_entry, job_of, with_job}
-use Rattle.pictures.specs.Columns.{truth}
+use Rattle.ledger_rows.specs.Columns.{truth}
 use Rattle.sqlite.specs.Effect.{Database}
-use Rattle.tables.specs.Tables.{NamedJob, AreDistinct, Holds, is_job, flagged, with_flags}
-use Rattle.tables.proofs.Behind.{name_is}
+use Rattle.ledger_tables.specs.Tables.{NamedJob, AreDistinct, Holds, is_job, flagged, with_flags}
+use Rattle.ledger_tables.proofs.Behind.{name_is}
 use Rattle.ledger.specs.Saving.{flagged_job}
 use Rattle.ledger.specs.Standing.{named, stretches_of, picture_of, cards_of, lines_of, tables_of, CanBeKept, Rows}
 use Rattle.ledger.proofs.Changed.{all_with}

@@ -6,9 +6,9 @@ use Rattle.std.proofs.lemmas.Bool.Decides.{nat_tests}
 use Rattle.std.proofs.lemmas.List.{map-append}
 use Rattle.std.specs.List.{All, AllByRecursion}
 use Rattle.sqlite.specs.Effect.{Database}
-use Rattle.tables.specs.Cells.{JobCells}
-use Rattle.tables.specs.Tables.{Holds, job_named, at_job, with_stretches, with_picture}
-use Rattle.tables.specs.Tables as tables
+use Rattle.ledger_tables.specs.Cells.{JobCells}
+use Rattle.ledger_tables.specs.Tables.{Holds, job_named, at_job, with_stretches, with_picture}
+use Rattle.ledger_tables.specs.Tables as tables
 use Rattle.cards.specs.declared.decks.Card.{Card}
 use Rattle.cards.specs.Decks.{deck_bytes, IsCard, IsDeck}
 use Rattle.core_store.specs.Storage.{positions_of}
@@ -21,12 +21,12 @@ use Rattle.office.specs.New.{size_numbered, deck_refusal, new_job, job_unless_re
 use Rattle.office.specs.Office.{Entry, Office, is_entry, job_of, and_job}
 use Rattle.office.specs.declared.commands.Contents.{Contents}
 use Rattle.office.specs.declared.refusals.Refusal.{Refusal}
-use Rattle.pictures.specs.Columns.{picture_cells, line_cells, truth, HoldsCharacters, IsLine}
+use Rattle.ledger_rows.specs.Columns.{picture_cells, line_cells, truth, HoldsCharacters, IsLine}
 use Rattle.ledger.specs.Saving.{new_cells}
 use Rattle.ledger.specs.Standing.{named, job_cells, kind_number, stretch_row, stretches_of, picture_of, cards_of, tables_of, CanBeKept, Rows}
 use Rattle.ledger.specs.Standing as standing
 use Rattle.units.specs.Switches.{seven}
-use Rattle.tables.proofs.Behind.{name_is, name_yes, all_push}
+use Rattle.ledger_tables.proofs.Behind.{name_is, name_yes, all_push}
 use Rattle.ledger.proofs.ReadBack.{picture_deck}
 use Rattle.ledger.proofs.Saved.{at_job_same, told_of, same_tables}
 

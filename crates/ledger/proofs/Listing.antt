@@ -11,13 +11,13 @@ use Rattle.office.specs.Kept.{told_at, goes_on}
 use Rattle.office.specs.Office.{Entry, Office, is_entry, job_of, own, free_jobs, by_number, by_name, queued_job, runs}
 use Rattle.office.specs.Orders.{put_among, in_order}
 use Rattle.office.specs.Queued.{QueuedJob}
-use Rattle.pictures.specs.Columns.{truth}
-use Rattle.tables.proofs.Behind.{name_is, name_yes}
-use Rattle.tables.proofs.Ordered.{in_order-map}
-use Rattle.tables.specs.Listed.{name_row, names_of, queued_name, names_queued, is_free}
-use Rattle.tables.specs.Listed as listed
-use Rattle.tables.specs.Orders as orders
-use Rattle.tables.specs.Tables.{NamedJob, AreDistinct, is_job}
+use Rattle.ledger_rows.specs.Columns.{truth}
+use Rattle.ledger_tables.proofs.Behind.{name_is, name_yes}
+use Rattle.ledger_tables.proofs.Ordered.{in_order-map}
+use Rattle.ledger_tables.specs.Listed.{name_row, names_of, queued_name, names_queued, is_free}
+use Rattle.ledger_tables.specs.Listed as listed
+use Rattle.ledger_tables.specs.Orders as orders
+use Rattle.ledger_tables.specs.Tables.{NamedJob, AreDistinct, is_job}
 use Rattle.ledger.specs.Listed.{IsHis, IsIts}
 use Rattle.ledger.specs.Standing.{named}
 

@@ -3,14 +3,14 @@ use Rattle.std.proofs.Common.{◌≡◌, ℕ, List, [], ◌∷◌, map, Option, 
 use Rattle.std.specs.List.{AllByRecursion}
 use Rattle.std.specs.Option.{option_map}
 use Rattle.sqlite.specs.State.{State, IsUnchanged}
-use Rattle.tables.specs.Tables.{NamedJob, job_named}
+use Rattle.ledger_tables.specs.Tables.{NamedJob, job_named}
 use Rattle.office.specs.Jobs.{Job, picture}
 use Rattle.office.specs.Kept.{Kept, kept_of}
 use Rattle.office.specs.Office.{Entry, Office, is_entry, entry_of, job_of}
 use Rattle.office.specs.declared.stretches.Stretch.{Stretch}
 use Rattle.ledger.specs.Standing.{CanBeKept, Rows, StandsIn, named, job_cells}
 use Rattle.machine.specs.Run as run
-use Rattle.tables.specs.Cells.{JobCells}
+use Rattle.ledger_tables.specs.Cells.{JobCells}
 
 -- what was read changed nothing
 pub still : (old new : State) (office : Office) → IsUnchanged old new → StandsIn old office → StandsIn new office

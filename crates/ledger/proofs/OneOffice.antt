@@ -9,13 +9,13 @@ use Rattle.office.specs.Jobs.{HasSwitches}
 use Rattle.office.specs.Office.{Entry, Office, job_of}
 use Rattle.office.specs.declared.commands.Kind.{Kind}
 use Rattle.office.specs.declared.commands.Kind.TheVariants.{Object, Autocoder}
-use Rattle.pictures.proofs.Bytes.{same_deck}
-use Rattle.pictures.proofs.Rows.{same_things}
-use Rattle.pictures.specs.Columns.{truth}
+use Rattle.ledger_rows.proofs.Bytes.{same_deck}
+use Rattle.ledger_rows.proofs.Rows.{same_things}
+use Rattle.ledger_rows.specs.Columns.{truth}
 use Rattle.sqlite.specs.Effect.{Database}
-use Rattle.tables.specs.Tables.{job_row, placed}
-use Rattle.tables.specs.Tables as tables
-use Rattle.tables.specs.declared.rows.StretchRow.{StretchRow}
+use Rattle.ledger_tables.specs.Tables.{job_row, placed}
+use Rattle.ledger_tables.specs.Tables as tables
+use Rattle.ledger_tables.specs.declared.rows.StretchRow.{StretchRow}
 use Rattle.ledger.specs.Listed.{IsIts}
 use Rattle.ledger.specs.Standing.{named, kind_number, stretch_row, stretches_of, CanBeKept, Rows}
 use Rattle.ledger.proofs.Listing.{all_its}

@@ -5,8 +5,8 @@ use Rattle.std.proofs.lemmas.List.Elements.{recursion_from_All}
 use Rattle.machine.specs.Run.{State, started, after}
 use Rattle.office.specs.Jobs.{Job, resumed, picture, loaded_deck, HasSwitches}
 use Rattle.office.specs.declared.stretches.Stretch.{Stretch}
-use Rattle.pictures.proofs.Rows.{AreTold}
-use Rattle.tables.specs.declared.rows.StretchRow.{StretchRow}
+use Rattle.ledger_rows.proofs.Rows.{AreTold}
+use Rattle.ledger_tables.specs.declared.rows.StretchRow.{StretchRow}
 use Rattle.units.specs.Switches.{seven, AreSeven}
 use Rattle.units.specs.declared.switches.Switches.{Switches}
 use Rattle.ledger.specs.Standing.{stretch_row}

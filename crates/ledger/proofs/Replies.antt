@@ -15,8 +15,8 @@ use Rattle.office.specs.declared.refusals.Refusal.TheVariants as refusal
 use Rattle.office.specs.declared.replies.Reply.{Reply}
 use Rattle.office.specs.declared.replies.Reply.TheVariants.{Taken, Refused}
 use Rattle.sqlite.specs.State.{State}
-use Rattle.tables.specs.Tables as tables
-use Rattle.tables.specs.declared.names.JobName.{JobName}
+use Rattle.ledger_tables.specs.Tables as tables
+use Rattle.ledger_tables.specs.declared.names.JobName.{JobName}
 use Rattle.ledger.specs.Saving.{job_in, IsAfter}
 use Rattle.ledger.specs.Standing.{StandsIn, Served, named}
 use Rattle.ledger.proofs.Changed.{same_job}

@@ -5,15 +5,15 @@ use Rattle.std.proofs.lemmas.List.{map-append, take_more, length-map, length-tak
 use Rattle.std.specs.List.{All}
 use Rattle.std.proofs.lemmas.List.Elements.{All-more}
 use Rattle.sqlite.specs.Effect.{Database}
-use Rattle.tables.specs.Cells.{LineCells, PictureCells}
-use Rattle.tables.specs.Named.{granted_last}
-use Rattle.tables.specs.Tables.{NamedJob, ByJob, Tables, Holds, at_job, with_cards, with_lines, with_stretches}
-use Rattle.tables.specs.declared.rows.StretchRow.{StretchRow}
+use Rattle.ledger_tables.specs.Cells.{LineCells, PictureCells}
+use Rattle.ledger_tables.specs.Named.{granted_last}
+use Rattle.ledger_tables.specs.Tables.{NamedJob, ByJob, Tables, Holds, at_job, with_cards, with_lines, with_stretches}
+use Rattle.ledger_tables.specs.declared.rows.StretchRow.{StretchRow}
 use Rattle.office.specs.Jobs.{Job, granted_more}
 use Rattle.office.specs.Office.{Entry, Office, job_of, is_entry}
 use Rattle.office.specs.declared.stretches.Stretch.{Stretch}
 use Rattle.ledger.specs.Standing.{stretch_row}
-use Rattle.tables.proofs.Behind.{name_is, name_yes}
+use Rattle.ledger_tables.proofs.Behind.{name_is, name_yes}
 
 -- ---- what holds where nothing failed
 

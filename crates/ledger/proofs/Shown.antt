@@ -8,7 +8,7 @@ use Rattle.office.specs.declared.commands.JobCommand.{JobCommand}
 use Rattle.office.specs.declared.refusals.Refusal.{Refusal}
 use Rattle.office.specs.declared.standings.JobStanding.{JobStanding}
 use Rattle.office.specs.declared.standings.Summary.{Summary}
-use Rattle.pictures.specs.Progress.{progress_of}
+use Rattle.ledger_rows.specs.Progress.{progress_of}
 use Rattle.ledger.specs.Light.{command_of}
 use Rattle.ledger.specs.Saving.{flagged_job}
 use Rattle.ledger.specs.declared.light_commands.LightCommand.{LightCommand}

@@ -5,10 +5,10 @@ use Rattle.sqlite.specs.Held.{Held, state}
 use Rattle.sqlite.specs.Listing.{understood}
 use Rattle.sqlite.specs.State.{HasCleanDisk}
 use Rattle.sqlite_trees.specs.declared.store.Store.{Ghosts}
-use Rattle.tables.specs.Schema.{bureau_schema}
-use Rattle.tables.specs.Schema.{own_version}
-use Rattle.tables.specs.Versions.{select_version, versions_in, IsKnown}
-use Rattle.tables.specs.declared.openings.OpenFault.{OpenFault}
+use Rattle.ledger_tables.specs.Schema.{bureau_schema}
+use Rattle.ledger_tables.specs.Schema.{own_version}
+use Rattle.ledger_tables.specs.Versions.{select_version, versions_in, IsKnown}
+use Rattle.ledger_tables.specs.declared.openings.OpenFault.{OpenFault}
 use Rattle.office.specs.Office.{Office}
 use Rattle.ledger.specs.Standing.{Stands}
 

@@ -3,16 +3,16 @@ use Rattle.std.specs.Prelude.{◌≡◌, ℕ, All, List, ◌∷◌, map, Option,
 use Rattle.cards.specs.Decks.{deck_bytes, IsCard, IsDeck}
 use Rattle.machine.specs.Run.{State}
 use Rattle.units.specs.declared.switches.Switches.{Switches}
-use Rattle.pictures.specs.declared.parts.Media.{Media}
+use Rattle.ledger_rows.specs.declared.parts.Media.{Media}
 use Rattle.office.specs.Jobs.{Job, loaded_deck, picture, granted}
 use Rattle.office.specs.Kept.{Kept, kept_of, told, summary_of}
 use Rattle.office.specs.declared.standings.JobStanding.{JobStanding}
 use Rattle.office.specs.declared.standings.Summary.{Summary}
 use Rattle.office.specs.declared.stretches.Stretch.{Stretch}
-use Rattle.pictures.specs.Columns.{IsLine}
-use Rattle.pictures.specs.Progress.{progress_of}
-use Rattle.pictures.specs.declared.progress.Progress.{Progress}
-use Rattle.tables.specs.Cells.{JobCells}
+use Rattle.ledger_rows.specs.Columns.{IsLine}
+use Rattle.ledger_rows.specs.Progress.{progress_of}
+use Rattle.ledger_rows.specs.declared.progress.Progress.{Progress}
+use Rattle.ledger_tables.specs.Cells.{JobCells}
 use Rattle.ledger.specs.declared.reading.Handed.{Handed}
 use Rattle.ledger.specs.Standing.{job_cells}
 

@@ -6,9 +6,9 @@ use Rattle.office.specs.Queued.{QueuedJob}
 use Rattle.office.specs.declared.lists.JobLine.{JobLine}
 use Rattle.office.specs.declared.replies.Reply.{Reply}
 use Rattle.office.specs.declared.replies.Reply.TheVariants as reply
-use Rattle.tables.specs.Cells.{QueuedName}
-use Rattle.tables.specs.Listed.{name_row, queued_name}
-use Rattle.tables.specs.declared.rows.NameRow.{NameRow}
+use Rattle.ledger_tables.specs.Cells.{QueuedName}
+use Rattle.ledger_tables.specs.Listed.{name_row, queued_name}
+use Rattle.ledger_tables.specs.declared.rows.NameRow.{NameRow}
 use Rattle.ledger.specs.Standing.{named}
 
 -- ---- a customer's jobs

@@ -5,9 +5,9 @@ use Rattle.sqlite.specs.Held.{Held, state}
 use Rattle.sqlite.specs.State.{HasCleanDisk}
 use Rattle.sqlite.specs.Tree.{Trees}
 use Rattle.sqlite_trees.specs.declared.store.Store.{Ghosts}
-use Rattle.tables.specs.Schema.{no_schema}
-use Rattle.tables.specs.declared.faults.Fault.{Fault}
-use Rattle.tables.specs.declared.faults.Fault.TheVariants.{NoMemory}
+use Rattle.ledger_tables.specs.Schema.{no_schema}
+use Rattle.ledger_tables.specs.declared.faults.Fault.{Fault}
+use Rattle.ledger_tables.specs.declared.faults.Fault.TheVariants.{NoMemory}
 use Rattle.office.specs.Meters.{RisenAtMost}
 use Rattle.office.specs.Office.{Office}
 use Rattle.office.specs.declared.replies.Reply.{Reply}

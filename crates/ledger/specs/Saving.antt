@@ -10,11 +10,11 @@ use Rattle.office.specs.Office.{Office, job_of, with_job, and_job}
 use Rattle.office.specs.declared.commands.Contents.{Contents}
 use Rattle.office.specs.declared.commands.JobCommand.{JobCommand}
 use Rattle.office.specs.declared.stretches.Stretch.{Stretch}
-use Rattle.pictures.specs.Columns.{line_cells, picture_cells, truth}
-use Rattle.tables.specs.Cells.{JobCells}
-use Rattle.tables.specs.Named.{of_job, with_picture_of, with_new_job}
-use Rattle.tables.specs.Tables.{Tables, with_stretches, with_cards, with_lines}
-use Rattle.tables.specs.declared.names.JobName.{JobName}
+use Rattle.ledger_rows.specs.Columns.{line_cells, picture_cells, truth}
+use Rattle.ledger_tables.specs.Cells.{JobCells}
+use Rattle.ledger_tables.specs.Named.{of_job, with_picture_of, with_new_job}
+use Rattle.ledger_tables.specs.Tables.{Tables, with_stretches, with_cards, with_lines}
+use Rattle.ledger_tables.specs.declared.names.JobName.{JobName}
 use Rattle.units.specs.declared.printer.Line.{Line}
 use Rattle.units.specs.declared.units.Units.{Units}
 use Rattle.ledger.specs.declared.saving.Made.{Made}

@@ -6,7 +6,7 @@ use Rattle.office.specs.Office.{Office, added, submitted, submitted_as, commande
 use Rattle.office.specs.declared.commands.Contents.{Contents}
 use Rattle.office.specs.declared.commands.JobCommand.{JobCommand}
 use Rattle.office.specs.declared.replies.Reply.{Reply}
-use Rattle.tables.specs.declared.names.JobName.{JobName}
+use Rattle.ledger_tables.specs.declared.names.JobName.{JobName}
 use Rattle.ledger.specs.Saving.{job_in}
 
 -- one job more, unless its customer has as many as one may have

@@ -10,14 +10,14 @@ use Rattle.office.specs.declared.commands.Kind.{Kind}
 use Rattle.office.specs.declared.commands.Kind.TheVariants.{Object, Autocoder}
 use Rattle.office.specs.declared.replies.Reply.{Reply}
 use Rattle.office.specs.declared.stretches.Stretch.{Stretch}
-use Rattle.pictures.specs.Columns.{truth, picture_cells, line_cells, HoldsCharacters, IsLine}
+use Rattle.ledger_rows.specs.Columns.{truth, picture_cells, line_cells, HoldsCharacters, IsLine}
 use Rattle.sqlite.specs.Effect.{Database}
 use Rattle.sqlite.specs.Tree.{Trees}
 use Rattle.sqlite.specs.State as store
-use Rattle.tables.specs.Cells.{JobCells, PictureCells, LineCells}
-use Rattle.tables.specs.Schema.{bureau_schema}
-use Rattle.tables.specs.Tables.{NamedJob, Tables, Holds}
-use Rattle.tables.specs.declared.rows.StretchRow.{StretchRow}
+use Rattle.ledger_tables.specs.Cells.{JobCells, PictureCells, LineCells}
+use Rattle.ledger_tables.specs.Schema.{bureau_schema}
+use Rattle.ledger_tables.specs.Tables.{NamedJob, Tables, Holds}
+use Rattle.ledger_tables.specs.declared.rows.StretchRow.{StretchRow}
 
 -- the number of a kind
 abbrev pub kind_number : Kind → ℕ

@@ -2,9 +2,9 @@
 use Rattle.std.specs.Prelude.{◌≡◌, ℕ, IsTrue, Result, IfOk, OnOk, OnErr}
 use Rattle.machine.specs.Run.{risen}
 use Rattle.sqlite_trees.specs.declared.store.Store.{Ghosts}
-use Rattle.tables.specs.declared.faults.Fault.{Fault}
-use Rattle.tables.specs.declared.open_tables.OpenTables.{OpenTables}
-use Rattle.tables.specs.Steps.{Inside}
+use Rattle.ledger_tables.specs.declared.faults.Fault.{Fault}
+use Rattle.ledger_tables.specs.declared.open_tables.OpenTables.{OpenTables}
+use Rattle.ledger_tables.specs.Steps.{Inside}
 use Rattle.office.specs.Meters.{RisenAtMost}
 use Rattle.office.specs.Office.{Office}
 use Rattle.office.specs.declared.replies.Reply.{Reply}

@@ -4,7 +4,7 @@ ghost use Rattle.std.specs.Prelude.{◌≡◌, ◌⊎◌, ◌≤◌, [], false, 
 ghost use Rattle.sqlite.specs.Held.{state};
 ghost use Rattle.sqlite.specs.State.{HasCleanDisk};
 ghost use Rattle.sqlite.specs.View.{doubt};
-ghost use Rattle.tables.specs.Schema.{no_schema};
+ghost use Rattle.ledger_tables.specs.Schema.{no_schema};
 ghost use Rattle.office.specs.Meters.{RisenAtMost};
 ghost use Rattle.office.specs.Office.{served, take, attempted_by, attempted, limit_of};
 ghost use Rattle.ledger.specs.Adopting.{StandsStill, IsNoFaultOfTables, HasOwnVersion};
@@ -12,11 +12,11 @@ ghost use Rattle.ledger.specs.Replying.{Replies, Rises, RisesAtMost, KeepsOffice
 ghost use Rattle.ledger.specs.Standing.{Stands, IsAsBefore};
 
 use crate::serving::{early_refusal, serve};
+use ledger_tables::{Fault, OpenFault, OpenTables};
 use machine::Meter;
 use office::{Command, Reply};
 use sqlite::{Alter, Connection};
 use std::alloc::Global;
-use tables::{Fault, OpenFault, OpenTables};
 
 /// A bureau over a connection to its tables.
 pub struct Bureau<S: Alter> {

@@ -5,7 +5,7 @@ ghost use Rattle.machine.specs.Run.{risen};
 ghost use Rattle.office.specs.Jobs.{Job as KnownJob};
 ghost use Rattle.office.specs.Kept.{kept_of, attempted_on, limit_of};
 ghost use Rattle.office.specs.Meters.{RisenAtMost};
-ghost use Rattle.tables.specs.Steps.{IsStep, IsOpenStep};
+ghost use Rattle.ledger_tables.specs.Steps.{IsStep, IsOpenStep};
 ghost use Rattle.ledger.specs.Saving.{job_in};
 ghost use Rattle.ledger.specs.Serving.{with_commanded, attempted_as};
 ghost use Rattle.ledger.specs.Steps.{Serves, ServesWhere, Ticks, TicksAtMost};
@@ -14,10 +14,10 @@ use crate::light_commands::{LightCommand, command_lightly};
 use crate::reading::find_whole;
 use crate::saving::{Made, save};
 use core_store::FlagCore;
+use ledger_tables::{Fault, JobName, OpenTables};
 use machine::Meter;
 use office::{Job, JobCommand, Refusal, Reply, commands_act_on_pictures, commands_keep_jobs};
 use sqlite::Alter;
-use tables::{Fault, JobName, OpenTables};
 
 /// Carries out a command on a job that was found, and notes what came of it.
 fn carry_out<S: Alter>(

@@ -24,4 +24,4 @@ mod summaries;
 
 pub use bureau::Bureau;
 pub use laws::tables_represent_one_office;
-pub use tables::Fault;
+pub use ledger_tables::Fault;

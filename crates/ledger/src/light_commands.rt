@@ -3,7 +3,7 @@
 ghost use Rattle.std.specs.Prelude.{◌≡◌, Some, None, IfSome};
 ghost use Rattle.office.specs.Jobs.{Job as KnownJob};
 ghost use Rattle.office.specs.Kept.{kept_of, summary_of, job_refusal};
-ghost use Rattle.tables.specs.Steps.{IsStep, IsOpenStep};
+ghost use Rattle.ledger_tables.specs.Steps.{IsStep, IsOpenStep};
 ghost use Rattle.ledger.specs.Light.{command_of, light_of};
 ghost use Rattle.ledger.specs.Saving.{job_in};
 ghost use Rattle.ledger.specs.Serving.{with_commanded};
@@ -11,9 +11,9 @@ ghost use Rattle.ledger.specs.Steps.{Serves, ServesWhere};
 
 use crate::saving::note_flags;
 use crate::summaries::find_summary;
+use ledger_tables::{Fault, JobName, OpenTables};
 use office::{JobCommand, Refusal, Reply, Summary};
 use sqlite::Alter;
-use tables::{Fault, JobName, OpenTables};
 
 /// A command that needs no more of a job than is shown of it.
 #[derive(Clone, Copy)]

@@ -3,15 +3,15 @@
 ghost use Rattle.std.specs.Prelude.{◌≡◌, ◌++◌, []};
 ghost use Rattle.office.specs.Office.{jobs_told, queue_told};
 ghost use Rattle.office.specs.declared.replies.Reply.{Reply};
-ghost use Rattle.tables.specs.Steps.{IsStep, IsOpenStep};
+ghost use Rattle.ledger_tables.specs.Steps.{IsStep, IsOpenStep};
 ghost use Rattle.ledger.specs.Listed.{HasLine, HasLines, IsQueued, AreQueued, with_jobs_told, with_queue_told};
 ghost use Rattle.ledger.specs.Steps.{FindsIn, Serves};
 
 use crate::summaries::find_standing;
+use ledger_rows::read_truth;
+use ledger_tables::{Fault, JobName, NameRow, OpenTables, QueuedRow};
 use office::{JobLine, JobList, QueueLine, QueueList, Reply};
-use pictures::read_truth;
 use sqlite::Alter;
-use tables::{Fault, JobName, NameRow, OpenTables, QueuedRow};
 
 /// What the list of a customer's jobs shows of the job of this row.
 fn find_line<S: Alter>(

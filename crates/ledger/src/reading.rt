@@ -7,20 +7,20 @@ ghost use Rattle.machine.specs.Run.{State};
 ghost use Rattle.office.specs.Jobs.{HasSwitches};
 ghost use Rattle.office.specs.Kept.{IsJobInRange};
 ghost use Rattle.office.specs.declared.stretches.Stretch.{Stretch};
-ghost use Rattle.pictures.specs.Columns.{line_cells, picture_cells, HoldsCharacters, IsLine};
-ghost use Rattle.tables.specs.Steps.{IsOpenStep};
+ghost use Rattle.ledger_rows.specs.Columns.{line_cells, picture_cells, HoldsCharacters, IsLine};
+ghost use Rattle.ledger_tables.specs.Steps.{IsOpenStep};
 ghost use Rattle.ledger.specs.Found.{IsMediaOf, IsFoundAs, IsHandedAs, ShowsMedia, HasStretches, HasMedia, HasMachine, HasMachineWith, HasKept, BeganWith};
 ghost use Rattle.ledger.specs.Saving.{job_in};
 ghost use Rattle.ledger.specs.Standing.{stretch_row};
 ghost use Rattle.ledger.specs.Steps.{FindsIn};
 
 use core_store::Core;
+use ledger_rows::{Media, read_deck, read_picture, read_rows, read_switches, read_truth};
+use ledger_tables::{CardRow, Fault, JobName, JobRow, LineRow, OpenTables, PictureRow, StretchRow};
 use machine::{Parts, runs_only_add};
 use office::{Job, JobParts, Stretch, commands_keep_jobs};
-use pictures::{Media, read_deck, read_picture, read_rows, read_switches, read_truth};
 use sqlite::Alter;
 use std::alloc::{AllocError, Global};
-use tables::{CardRow, Fault, JobName, JobRow, LineRow, OpenTables, PictureRow, StretchRow};
 use units::Switches;
 
 /// The stretch of a row.

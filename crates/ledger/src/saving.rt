@@ -7,9 +7,9 @@ ghost use Rattle.machine.specs.Run.{lines_of};
 ghost use Rattle.office.specs.Jobs.{Job as KnownJob};
 ghost use Rattle.office.specs.declared.commands.JobCommand.{JobCommand};
 ghost use Rattle.units.specs.declared.switches.Switches.{Switches};
-ghost use Rattle.pictures.specs.Columns.{HoldsCharacters, IsLine};
-ghost use Rattle.tables.specs.Named.{HasNoJob, HasNoPicture, HasPicture};
-ghost use Rattle.tables.specs.Steps.{Changes, IsStep};
+ghost use Rattle.ledger_rows.specs.Columns.{HoldsCharacters, IsLine};
+ghost use Rattle.ledger_tables.specs.Named.{HasNoJob, HasNoPicture, HasPicture};
+ghost use Rattle.ledger_tables.specs.Steps.{Changes, IsStep};
 ghost use Rattle.ledger.specs.Saving.{job_in, HasFirstCards, with_all_cards, HasFirstLines, with_all_lines, HasFirst, with_made, HasFewerGranted, HasOneLess, with_all_stretches, with_machine, with_progress, with_start, HasNotStarted, new_cells, with_handed, HadMade, IsAfter, with_after, IsFlagged, with_flagged, IsFreeName, IsTakenAs, with_new};
 ghost use Rattle.ledger.specs.declared.saving.TheConstants.{MOST_MADE};
 ghost use Rattle.ledger.specs.Standing.{kind_number};
@@ -17,12 +17,12 @@ ghost use Rattle.ledger.specs.Steps.{Saves};
 
 use cards::{Card, Deck};
 use core_store::Core;
+use ledger_rows::{card_bytes, deck_bytes, line_row, picture_row, switches_number, truth};
+use ledger_tables::{Fault, JobName, JobRow, OpenTables, StretchRow};
 use machine::{Parts, runs_only_add};
 use office::{Contents, Job, JobCommand, Kind, Stretch, commands_keep_jobs};
-use pictures::{card_bytes, deck_bytes, line_row, picture_row, switches_number, truth};
 use sqlite::Alter;
 use std::alloc::{AllocError, Global};
-use tables::{Fault, JobName, JobRow, OpenTables, StretchRow};
 use units::{Line, Units};
 
 /// No job has more cards or lines than this.

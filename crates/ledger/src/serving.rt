@@ -3,16 +3,16 @@
 ghost use Rattle.std.specs.Prelude.{◌≡◌, None};
 ghost use Rattle.office.specs.Meters.{RisenAtMost};
 ghost use Rattle.office.specs.Office.{name_refusal, limit_refusal, customer_refusal, early_refusal, served, attempted_by, limit_of};
-ghost use Rattle.tables.specs.Steps.{IsOpenStep};
+ghost use Rattle.ledger_tables.specs.Steps.{IsOpenStep};
 ghost use Rattle.ledger.specs.Steps.{Serves, Ticks, TicksAtMost};
 
 use crate::job_commands::command_job;
 use crate::lists::{list_jobs, list_queue};
 use crate::submissions::submit;
+use ledger_tables::{Fault, JobName, OpenTables};
 use machine::Meter;
 use office::{Command, JobCommand, Refusal, Reply, is_customer, is_limit, is_number};
 use sqlite::Alter;
-use tables::{Fault, JobName, OpenTables};
 
 /// Why a job may not have this name, if so.
 fn name_refusal(customer: &str, number: u32) -> Option<Refusal>

@@ -5,7 +5,7 @@ ghost use Rattle.cards.specs.Decks.{IsDeck};
 ghost use Rattle.office.specs.Jobs.{Job as KnownJob};
 ghost use Rattle.office.specs.Office.{has_most_jobs, is_same_kind, is_of, repeated};
 ghost use Rattle.office.specs.declared.commands.Kind.{Kind};
-ghost use Rattle.tables.specs.Steps.{IsStep, IsOpenStep};
+ghost use Rattle.ledger_tables.specs.Steps.{IsStep, IsOpenStep};
 ghost use Rattle.ledger.specs.Found.{IsFirst};
 ghost use Rattle.ledger.specs.Saving.{IsFreeName, IsTakenAs};
 ghost use Rattle.ledger.specs.Serving.{with_added, with_taken, with_submitted};
@@ -17,12 +17,12 @@ use crate::saving::save_new;
 use bitflags::Flags;
 use cards::COLUMNS;
 use core_store::{Core, FlagCore};
+use ledger_rows::deck_bytes;
+use ledger_tables::{Fault, JobName, OpenTables};
 use machine::runs_only_add;
 use office::{Contents, Job, Kind, NewFault, Refusal, Reply, new_job};
-use pictures::deck_bytes;
 use sqlite::Alter;
 use std::alloc::{AllocError, Global};
-use tables::{Fault, JobName, OpenTables};
 
 /// A customer has at most so many jobs.
 const MOST_JOBS: usize = 200;

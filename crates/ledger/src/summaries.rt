@@ -4,17 +4,17 @@
 ghost use Rattle.std.specs.Prelude.{◌≡◌, ◌-◌, ◌^◌, min};
 ghost use Rattle.office.specs.Jobs.{granted};
 ghost use Rattle.office.specs.Kept.{told_at};
-ghost use Rattle.tables.specs.Steps.{IsOpenStep};
+ghost use Rattle.ledger_tables.specs.Steps.{IsOpenStep};
 ghost use Rattle.ledger.specs.Found.{HasProgress, HasStanding, HasGranted, HasSummary};
 ghost use Rattle.ledger.specs.Saving.{job_in};
 ghost use Rattle.ledger.specs.Steps.{FindsIn};
 
 use crate::reading::find_stretches;
+use ledger_rows::{Progress, read_progress, read_truth};
+use ledger_tables::{Fault, JobName, JobRow, OpenTables};
 use machine::Standing;
 use office::{JobStanding, Stretch, Summary, commands_keep_jobs};
-use pictures::{Progress, read_progress, read_truth};
 use sqlite::Alter;
-use tables::{Fault, JobName, JobRow, OpenTables};
 
 /// How a machine stands that has come so far.
 fn standing_of(progress: Progress) -> JobStanding

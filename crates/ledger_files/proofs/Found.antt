@@ -4,7 +4,7 @@ use Rattle.sqlite.specs.Tree.{Trees}
 use Rattle.sqlite.specs.Effect.{Database}
 use Rattle.sqlite.specs.State.{State, Opens, IsLive}
 use Rattle.sqlite_catalog.proofs.ReadLemmas.{lists_once}
-use Rattle.tables.specs.Schema.{bureau_schema}
+use Rattle.ledger_tables.specs.Schema.{bureau_schema}
 use Rattle.office.specs.Office.{Office}
 use Rattle.ledger.specs.Standing.{Rows, LeftAs, Stands}
 

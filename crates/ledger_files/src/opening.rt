@@ -5,15 +5,15 @@ ghost use Rattle.sqlite.specs.Held.{state};
 ghost use Rattle.sqlite.specs.Files.{file_state};
 ghost use Rattle.sqlite.specs.State.{HasCleanDisk, Opens, IsLive};
 ghost use Rattle.sqlite.specs.WalFiles.{image_at};
-ghost use Rattle.tables.specs.Versions.{IsKnown};
+ghost use Rattle.ledger_tables.specs.Versions.{IsKnown};
 ghost use Rattle.office.specs.Office.{Office};
 ghost use Rattle.ledger.specs.Standing.{LeftAs, Stands};
 ghost use Rattle.ledger_files.specs.Opening.{AreOf, KeptStands, IsCleanKept};
 
 use crate::kept::Kept;
 use ledger::Bureau;
+use ledger_tables::OpenFault;
 use sqlite::{Alter, Connection, Error, ErrorCode, FileFrom, FileStore, Start};
-use tables::OpenFault;
 
 /// A connection that was just opened represents the office of its trees. It is called for its
 /// clause alone.

@@ -14,9 +14,9 @@ ghost use Rattle.ledger_files.specs.Opening.{AreOf, AreRounds, Found, IsCleanKep
 use crate::kept::Kept;
 use crate::opening::open_from;
 use ledger::Bureau;
+use ledger_tables::OpenFault;
 use sqlite::{FileFrom, FileStore, Start};
 use sqlite_disk::Disk;
-use tables::OpenFault;
 
 /// The store as a crash at this moment finds it.
 pub fn stop<D: Disk + Drop>(bureau: Bureau<FileStore<D>>) -> FileStore<D>

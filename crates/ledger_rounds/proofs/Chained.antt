@@ -8,7 +8,7 @@ use Rattle.sqlite.specs.Tree.{Trees}
 use Rattle.office.specs.Office as office
 use Rattle.office.specs.Office.{Office, fold, IsLeft}
 use Rattle.office.specs.declared.commands.Command.{Command}
-use Rattle.tables.specs.Schema.{bureau_schema}
+use Rattle.ledger_tables.specs.Schema.{bureau_schema}
 use Rattle.ledger.specs.Standing.{Rows, LeftAs}
 use Rattle.ledger_files.specs.Opening.{AreOf, Found}
 use Rattle.ledger_shifts.specs.WholeRows.{HaveWholeRows}

@@ -10,8 +10,8 @@ ghost use Rattle.sqlite.specs.View.{IsClean, doubt};
 ghost use Rattle.sqlite.specs.WalFiles.{image_at};
 ghost use Rattle.office.specs.Meters.{RisenAtMost};
 ghost use Rattle.office.specs.Office.{Office, fold};
-ghost use Rattle.tables.specs.Versions.{IsKnown};
-ghost use Rattle.tables.specs.declared.faults.Fault.{Fault};
+ghost use Rattle.ledger_tables.specs.Versions.{IsKnown};
+ghost use Rattle.ledger_tables.specs.declared.faults.Fault.{Fault};
 ghost use Rattle.ledger_files.specs.Opening.{AreOf, Found, IsCleanKept, KeptStands};
 ghost use Rattle.ledger_shifts.specs.Shifting.{given, limit_of_all};
 ghost use Rattle.ledger_rounds.specs.Rounds.{HoldsOneOf, LeadsBy, Round, AreRounds, AreLeftWhole};
@@ -19,11 +19,11 @@ ghost use Rattle.ledger_rounds.specs.Rounds.{HoldsOneOf, LeadsBy, Round, AreRoun
 use ledger::Bureau;
 use ledger_files::{Kept, open_from};
 use ledger_shifts::{Shift, kept_offices_run_whole, shift};
+use ledger_tables::OpenFault;
 use machine::Meter;
 use office::Command;
 use sqlite::{FileFrom, FileStore, Start};
 use sqlite_disk::Disk;
-use tables::OpenFault;
 
 /// The store as a crash at this moment finds it, whatever the tables represent.
 pub fn hand_out<D: Disk + Drop>(bureau: Bureau<FileStore<D>>) -> FileStore<D>

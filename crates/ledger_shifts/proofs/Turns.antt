@@ -10,9 +10,9 @@ use Rattle.office.specs.declared.commands.Command.{Command}
 use Rattle.office.specs.declared.replies.Reply.{Reply}
 use Rattle.sqlite.specs.Effect.{Database}
 use Rattle.sqlite.specs.Tree.{Trees}
-use Rattle.tables.specs.Schema.{bureau_schema}
-use Rattle.tables.specs.declared.faults.Fault.{Fault}
-use Rattle.tables.specs.declared.faults.Fault.TheVariants.{NoMemory, Store}
+use Rattle.ledger_tables.specs.Schema.{bureau_schema}
+use Rattle.ledger_tables.specs.declared.faults.Fault.{Fault}
+use Rattle.ledger_tables.specs.declared.faults.Fault.TheVariants.{NoMemory, Store}
 use Rattle.ledger.specs.Standing.{Rows, LeftAs}
 use Rattle.ledger_shifts.specs.Meters.{RisenWithin, attempted_by_all}
 use Rattle.ledger_shifts.specs.Shifting.{limit_of_all, LeavesWhole}

@@ -6,7 +6,7 @@ use Rattle.units.specs.declared.switches.Switches.{Switches}
 use Rattle.office.specs.Jobs.{Job, HaltsBetween, IsAtHalt, RunsWhole, HasRunWhole, switches_of, cards_by, lines_by}
 use Rattle.office.specs.Office.{Entry, Office}
 use Rattle.sqlite.specs.Effect.{Database}
-use Rattle.tables.specs.Tables.{Holds, placed, card_row, line_row}
+use Rattle.ledger_tables.specs.Tables.{Holds, placed, card_row, line_row}
 use Rattle.ledger.specs.Listed.{IsIts}
 use Rattle.ledger.specs.Standing.{CanBeKept, Rows, tables_of, cards_of, lines_of}
 use Rattle.ledger.proofs.Listing.{all_its}

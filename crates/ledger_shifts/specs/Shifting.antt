@@ -7,9 +7,9 @@ use Rattle.sqlite.specs.Held.{Held, state}
 use Rattle.sqlite.specs.State.{HasCleanDisk}
 use Rattle.sqlite.specs.Tree.{Trees}
 use Rattle.sqlite_trees.specs.declared.store.Store.{Ghosts}
-use Rattle.tables.specs.Schema.{bureau_schema}
-use Rattle.tables.specs.declared.faults.Fault.{Fault}
-use Rattle.tables.specs.declared.faults.Fault.TheVariants.{Store}
+use Rattle.ledger_tables.specs.Schema.{bureau_schema}
+use Rattle.ledger_tables.specs.declared.faults.Fault.{Fault}
+use Rattle.ledger_tables.specs.declared.faults.Fault.TheVariants.{Store}
 use Rattle.ledger.specs.Standing.{Stands, LeftAs}
 use Rattle.ledger_shifts.specs.Meters.{RisenWithin, attempted_by_all}
 use Rattle.ledger_shifts.specs.WholeRows.{HaveWholeRows}

@@ -8,9 +8,9 @@ use Rattle.units.specs.declared.switches.Switches.{Switches}
 use Rattle.office.specs.Jobs.{loaded_deck, switches_of, IsAtHalt, CanRunItsSource, program_begun}
 use Rattle.office.specs.Office.{Entry, Office}
 use Rattle.office.specs.Whole.{Whole}
-use Rattle.pictures.specs.Columns.{line_cells}
+use Rattle.ledger_rows.specs.Columns.{line_cells}
 use Rattle.sqlite.specs.Effect.{Database}
-use Rattle.tables.specs.Tables.{cells, is_row_of, placed, card_row, line_row}
+use Rattle.ledger_tables.specs.Tables.{cells, is_row_of, placed, card_row, line_row}
 
 -- the rows of this job in the tables of cards and of lines are of these, in order from place 1 on
 pub record HasMade (db : Database) (customer : List ℕ) (number : ℕ) (cards : List Card)

@@ -1,10 +1,10 @@
 //! What the lists show of a few jobs, before and after their flags are set.
 
 use crate::rows::picture;
+use ledger_tables::{Fault, JobName, JobRow, OpenTables, PictureRow, StretchRow};
 use sqlite::{Alter, Connection};
 use std::alloc::Global;
 use std::test::Fail;
-use tables::{Fault, JobName, JobRow, OpenTables, PictureRow, StretchRow};
 
 const NINE: JobName<'static> = JobName {
     customer: "ACME",

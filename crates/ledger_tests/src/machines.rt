@@ -2,14 +2,14 @@
 
 use crate::decks::deck_named;
 use core_store::{FlagCore, Size};
-use machine::{Machine, Meter, Parts};
-use pictures::{
+use ledger_rows::{
     Media, deck_bytes, line_row, picture_row, read_deck, read_picture, read_rows, read_switches,
     switches_number,
 };
+use ledger_tables::{LineRow, PictureRow};
+use machine::{Machine, Meter, Parts};
 use std::alloc::Global;
 use std::test::Fail;
-use tables::{LineRow, PictureRow};
 use units::{Line, Switches, render};
 
 /// Runs a machine for so many instructions at most.

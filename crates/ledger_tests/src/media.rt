@@ -2,10 +2,10 @@
 
 use bcd::Code;
 use cards::{COLUMNS, Card, Deck};
-use pictures::{card_bytes, deck_bytes, line_row, read_deck, read_rows};
+use ledger_rows::{card_bytes, deck_bytes, line_row, read_deck, read_rows};
+use ledger_tables::{CardRow, LineRow};
 use std::alloc::Global;
 use std::test::Fail;
-use tables::{CardRow, LineRow};
 use units::Line;
 
 /// A deck with a card of each of these characters, which stands in all its columns.

@@ -4,13 +4,13 @@ use crate::decks::deck_named;
 use bcd::Code;
 use bitflags::Flags;
 use core_store::{Core, FlagCore, Size};
-use machine::{Machine, Parts};
-use pictures::{
+use ledger_rows::{
     Media, picture_row, read_picture, read_switches, read_truth, switches_number, truth,
 };
+use ledger_tables::PictureRow;
+use machine::{Machine, Parts};
 use std::alloc::Global;
 use std::test::Fail;
-use tables::PictureRow;
 use units::Switches;
 
 /// A row with these numbers and this storage, of a machine that has read a card and made nothing.

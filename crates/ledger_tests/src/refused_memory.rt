@@ -8,13 +8,13 @@ use crate::commands::command_of;
 use crate::opened_files::{AFTER, BEFORE, create, misanswered_at, opening};
 use crate::sessions::in_memory;
 use ledger::{Bureau, Fault};
+use ledger_tables::OpenFault;
 use machine::Meter;
 use office::Command;
 use sqlite::{Alter, Connection, MemStore};
 use std::alloc::Global;
 use std::fs;
 use std::test::Fail;
-use tables::OpenFault;
 
 /// Hands in a job that punches three cards.
 const SUBMIT: &str = "submit|ACME|9|1400|-|three cards";

@@ -1,10 +1,10 @@
 //! A row of each table.
 
 use crate::sessions::number;
+use ledger_tables::{Fault, JobName, JobRow, LineRow, OpenTables, PictureRow, StretchRow};
 use sqlite::{Alter, Connection, MemStore};
 use std::alloc::Global;
 use std::test::Fail;
-use tables::{Fault, JobName, JobRow, LineRow, OpenTables, PictureRow, StretchRow};
 
 const NAME: JobName<'static> = JobName {
     customer: "ACME",

@@ -1,10 +1,10 @@
 //! Which versions of the tables are found.
 
 use crate::sessions::in_memory;
+use ledger_tables::OpenTables;
 use sqlite::{Alter, Connection};
 use std::alloc::Global;
 use std::test::Fail;
-use tables::OpenTables;
 
 /// What is found of the version: 0 where it is the bureau's own, else the number of the reason.
 fn found<S: Alter>(alloc: Global, conn: &mut Connection<S>) -> Result<u8, Fail> {

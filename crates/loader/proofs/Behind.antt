@@ -3,7 +3,7 @@ use Rattle.std.proofs.Common.{◌+◌, ◌≤◌, ℕ, List, Some, None, length,
 use Rattle.std.specs.Prelude.{Option}
 use Rattle.std.proofs.lemmas.List.{length-take}
 use Rattle.cards.specs.declared.Card.{Card}
-use Rattle.layout.specs.Source.{end_of, source_of, up_to}
+use Rattle.autocoder_layout.specs.Source.{end_of, source_of, up_to}
 
 up_to_within : (deck : List Card) (end : Option ℕ) → length (up_to deck end) ≤ length deck
 up_to_within deck None = omega arith

@@ -6,7 +6,7 @@ use Rattle.core_store.specs.Storage.{Storage, code_at, is_marked, with_mark, fie
 use Rattle.core_store.proofs.Marks.{greatest_is}
 use Rattle.core_store.proofs.Fields.{length-cells_ending, nth-cells_ending}
 use Rattle.units.specs.declared.switches.Switches.{Switches}
-use Rattle.layout.specs.declared.cells.Cell.{Cell}
+use Rattle.autocoder_layout.specs.declared.cells.Cell.{Cell}
 use Rattle.machine.specs.Word.{word_length}
 use Rattle.machine.specs.Run.{State, step, after}
 use Rattle.loader.specs.Cards.{load_card, last_position}

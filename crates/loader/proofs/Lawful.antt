@@ -3,7 +3,7 @@ use Rattle.std.proofs.Common.{◌≡◌, ℕ, ◌+◌, ◌*◌, ◌-◌, ◌≤�
 use Rattle.std.specs.List.{concat}
 use Rattle.std.proofs.lemmas.Bool.{leb-true}
 use Rattle.std.proofs.lemmas.List.Folds.{concat-append}
-use Rattle.layout.specs.declared.cells.Cell.{Cell}
+use Rattle.autocoder_layout.specs.declared.cells.Cell.{Cell}
 use Rattle.loader.specs.declared.stretches.TheConstants.{MOST_CHARACTERS, MOST_MARKS, MOST_MARKS_UNMARKED}
 use Rattle.loader.specs.Stretches.{is_contiguous, marks_of, mark_limit, is_lawful}
 use Rattle.loader.specs.Cards.{clearing, marking, three, unused}

@@ -6,7 +6,7 @@ use Rattle.std.proofs.Math.Decide.{dec_lt}
 use Rattle.std.specs.List.{concat}
 use Rattle.core_store.specs.Storage.{Storage, code_at, with_mark, put_cells}
 use Rattle.core_store.proofs.Fields.{length-put_cells}
-use Rattle.layout.specs.declared.cells.Cell.{Cell}
+use Rattle.autocoder_layout.specs.declared.cells.Cell.{Cell}
 use Rattle.loader.specs.Stretches.{is_contiguous, is_lawful, marks_of, mark_limit}
 use Rattle.loader.specs.Cards.{instruction, unused, clearing, marking, filled_places}
 use Rattle.loader.specs.Loading.{filled_with}

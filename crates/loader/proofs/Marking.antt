@@ -5,7 +5,7 @@ use Rattle.std.specs.List.{filter, position, position_or_len}
 use Rattle.std.proofs.lemmas.List.Quantifiers.{position-Some}
 use Rattle.std.proofs.lemmas.List.Sums.{fails_before_first}
 use Rattle.std.proofs.lemmas.Bool.Decides.{nat_tests}
-use Rattle.layout.specs.declared.cells.Cell.{Cell}
+use Rattle.autocoder_layout.specs.declared.cells.Cell.{Cell}
 use Rattle.loader.specs.Stretches.{marks_of}
 use Rattle.loader.specs.Cards.{instruction, marking}
 use Rattle.loader.proofs.Stretching.{no_cell}

@@ -4,7 +4,7 @@ use Rattle.std.specs.List.{All}
 use Rattle.std.proofs.lemmas.List.{append-nil}
 use Rattle.std.proofs.lemmas.List.Elements.{All-drop}
 use Rattle.core_store.specs.declared.TheConstants.{LARGEST_SIZE}
-use Rattle.layout.specs.declared.cells.Cell.{Cell}
+use Rattle.autocoder_layout.specs.declared.cells.Cell.{Cell}
 use Rattle.cards.specs.declared.decks.Card.{Card}
 use Rattle.loader.specs.Stretches.{stretches_of}
 use Rattle.loader.specs.Cards.{load_card}

@@ -4,7 +4,7 @@ use Rattle.std.specs.List.{flat_map}
 use Rattle.std.proofs.lemmas.Bool.{le-leb}
 use Rattle.std.proofs.lemmas.List.{append-nil}
 use Rattle.std.proofs.lemmas.List.Sums.{sum_by-append}
-use Rattle.layout.specs.declared.cells.Cell.{Cell}
+use Rattle.autocoder_layout.specs.declared.cells.Cell.{Cell}
 use Rattle.loader.specs.declared.stretches.TheConstants.{MOST_CHARACTERS}
 use Rattle.loader.specs.Stretches.{is_contiguous, marks_of, mark_limit, is_lawful, IsSplit, stretches_from, stretches_of}
 use Rattle.loader.proofs.Lawful.{both, lawful_contiguous, lawful_length, lawful_marks}

@@ -3,7 +3,7 @@ use Rattle.std.proofs.Common.{◌≡◌, ℕ, ◌+◌, ◌-◌, ◌<◌, ◌≤�
 use Rattle.std.specs.List.{filter, count_by}
 use Rattle.std.proofs.lemmas.List.{at_drop_more, length-drop, length-map, drop_all, take_all}
 use Rattle.std.proofs.lemmas.List.Sums.{length-filter}
-use Rattle.layout.specs.declared.cells.Cell.{Cell}
+use Rattle.autocoder_layout.specs.declared.cells.Cell.{Cell}
 use Rattle.loader.specs.declared.stretches.TheConstants.{MOST_MARKS, MOST_MARKS_UNMARKED}
 use Rattle.loader.specs.Stretches.{is_contiguous, marks_of, is_lawful, stretches_from, stretches_of}
 use Rattle.loader.proofs.Lists.{take_next}

@@ -4,7 +4,7 @@ use Rattle.std.proofs.lemmas.List.{length-replicate, length-map, get_or_append_l
 use Rattle.std.proofs.Math.Seq.{drop-append_seam, take-append_seam}
 use Rattle.core_store.specs.Storage.{blank_cell}
 use Rattle.addresses.specs.Addresses.{encoded, written}
-use Rattle.layout.specs.declared.cells.Cell.{Cell}
+use Rattle.autocoder_layout.specs.declared.cells.Cell.{Cell}
 use Rattle.loader.specs.Cards.{text, padded, instruction, unused, reading, moving, three, filled_places, load_card, start_card}
 use Rattle.loader.proofs.Orders.{Order, words_of, orders_of, order_words, Three}
 

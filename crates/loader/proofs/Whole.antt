@@ -11,7 +11,7 @@ use Rattle.core_store.proofs.Fields.{length-put_cells, cell-put_cells, cell-put_
 use Rattle.addresses.specs.Addresses.{written}
 use Rattle.units.specs.declared.switches.Switches.{Switches}
 use Rattle.units.specs.declared.units.Units.{Units}
-use Rattle.layout.specs.declared.cells.Cell.{Cell}
+use Rattle.autocoder_layout.specs.declared.cells.Cell.{Cell}
 use Rattle.machine.specs.declared.parts.Standing.TheVariants.{Running}
 use Rattle.machine.specs.Run.{State, step, after, loaded}
 use Rattle.machine.proofs.Steps.{after-after}

@@ -6,7 +6,7 @@ use Rattle.addresses.specs.Addresses.{encoded}
 use Rattle.addresses.specs.Digits.{code_of}
 use Rattle.cards.specs.declared.decks.Card.{Card}
 use Rattle.cards.specs.Decks.{card_columns}
-use Rattle.layout.specs.declared.cells.Cell.{Cell}
+use Rattle.autocoder_layout.specs.declared.cells.Cell.{Cell}
 use Rattle.loader.specs.Stretches.{most_characters, marks_of, stretches_of}
 
 -- the characters of a text

@@ -1,7 +1,7 @@
 -- the deck that runs the program of a deck's source
 use Rattle.std.specs.Prelude.{List, ◌++◌, length, drop}
 use Rattle.cards.specs.declared.decks.Card.{Card}
-use Rattle.layout.specs.Source.{source_of}
+use Rattle.autocoder_layout.specs.Source.{source_of}
 use Rattle.autocoder.specs.Programs.{image_for, start_for}
 use Rattle.loader.specs.Cards.{loading_cards}
 

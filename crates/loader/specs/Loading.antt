@@ -9,7 +9,7 @@ use Rattle.machine.specs.Run.{State, after, loaded}
 use Rattle.machine.specs.declared.parts.Standing.TheVariants.{Running}
 use Rattle.units.specs.declared.switches.Switches.{Switches}
 use Rattle.units.specs.Switches.{seven}
-use Rattle.layout.specs.declared.cells.Cell.{Cell}
+use Rattle.autocoder_layout.specs.declared.cells.Cell.{Cell}
 use Rattle.autocoder.specs.Assembly.{Assembly}
 use Rattle.loader.specs.Stretches.{stretches_of}
 use Rattle.loader.specs.Cards.{loading_cards}

@@ -1,7 +1,7 @@
 -- the positions of an image, in the stretches that a card carries
 use Rattle.std.specs.Prelude.{ℕ, ◌≡◌, ◌≢◌, ◌+◌, ◌<◌, nat_le, ◌==◌, ◌&&◌, Bool, true, false, if◌then◌else◌, List, [], ◌∷◌, ◌++◌, length, map, take, drop, filter, slice_index_or}
 use Rattle.std.specs.List.{flat_map}
-use Rattle.layout.specs.declared.cells.Cell.{Cell}
+use Rattle.autocoder_layout.specs.declared.cells.Cell.{Cell}
 
 -- the most characters that a loading card carries
 abbrev pub most_characters : ℕ

@@ -4,7 +4,7 @@ ghost use Rattle.std.specs.Prelude.{◌≡◌, ◌++◌, ◌+◌, ◌*◌, ◌�
 ghost use Rattle.cards.specs.declared.decks.Card.{Card};
 ghost use Rattle.core_store.specs.Storage.{positions_of};
 ghost use Rattle.core_store.specs.declared.sizes.Size.{Size};
-ghost use Rattle.layout.specs.declared.cells.Cell.{Cell};
+ghost use Rattle.autocoder_layout.specs.declared.cells.Cell.{Cell};
 ghost use Rattle.machine.specs.Run.{after, loaded};
 ghost use Rattle.units.specs.declared.switches.Switches.{Switches};
 ghost use Rattle.autocoder.specs.Loadable.{IsLoadable};

@@ -3,7 +3,7 @@
 ghost use Rattle.std.specs.Prelude.{◌≡◌, ◌<◌, ◌≤◌, ◌++◌, length, map, All, IfOk, OnOk, IsErrOf};
 ghost use Rattle.core_store.specs.Storage.{largest_size};
 ghost use Rattle.cards.specs.Decks.{largest_deck};
-ghost use Rattle.layout.specs.Source.{source_of};
+ghost use Rattle.autocoder_layout.specs.Source.{source_of};
 ghost use Rattle.autocoder.specs.Programs.{IsProgramOf};
 ghost use Rattle.loader.specs.Stretches.{stretches_of};
 ghost use Rattle.loader.specs.Cards.{load_card, loading_cards};
@@ -13,8 +13,8 @@ ghost use Rattle.loader.specs.Loading.{Loads};
 use crate::pieces::{boot_card, load_card, start_card};
 use crate::stretches::longest;
 use autocoder::Program;
+use autocoder_layout::Cell;
 use cards::{Card, Deck, DeckFault};
-use layout::Cell;
 use std::alloc::Global;
 
 /// Adds a card for each stretch of some positions.

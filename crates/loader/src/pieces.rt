@@ -9,8 +9,8 @@ ghost use Rattle.loader.specs.Cards.{boot_card, moving, load_card, start_card};
 use crate::columns::{Columns, INSTRUCTION_LENGTH};
 use crate::places::punch_places;
 use crate::stretches::MOST_CHARACTERS;
+use autocoder_layout::Cell;
 use cards::Card;
-use layout::Cell;
 
 /// What the boot card holds: it sets the marks that the cards behind it need, and reads the first
 /// of them.

@@ -9,7 +9,7 @@ ghost use Rattle.loader.specs.Cards.{clearing, marking, filled_places, three, un
 
 use crate::columns::{Columns, INSTRUCTION_LENGTH};
 use crate::stretches::behind_first;
-use layout::Cell;
+use autocoder_layout::Cell;
 
 /// How many places for them a card has.
 const PLACES: usize = 3;

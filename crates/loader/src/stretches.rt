@@ -3,7 +3,7 @@
 ghost use Rattle.std.specs.Prelude.{◌≡◌, ◌+◌, ◌<◌, ◌≤◌, ◌==◌, ◌∷◌, true, length, count_by, take, drop};
 ghost use Rattle.loader.specs.Stretches.{is_contiguous, mark_limit, is_lawful, stretches_of};
 
-use layout::Cell;
+use autocoder_layout::Cell;
 
 /// How many characters a card carries at most.
 pub const MOST_CHARACTERS: usize = 39;

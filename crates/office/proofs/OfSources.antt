@@ -5,14 +5,14 @@ use Rattle.std.specs.List.{AllByRecursion}
 use Rattle.cards.specs.declared.decks.Card.{Card}
 use Rattle.core_store.specs.Storage.{positions_of}
 use Rattle.core_store.specs.declared.sizes.Size.{Size}
-use Rattle.layout.specs.declared.cells.Cell.{Cell}
+use Rattle.autocoder_layout.specs.declared.cells.Cell.{Cell}
 use Rattle.autocoder.specs.Loadable.{IsLoadable}
 use Rattle.loader.specs.Cards.{loading_cards}
 use Rattle.loader.specs.Loading.{at_the_start}
 use Rattle.machine.specs.Run.{loaded, lines_of}
 use Rattle.units.specs.declared.printer.Line.{Line}
 use Rattle.units.specs.declared.switches.Switches.{Switches}
-use Rattle.layout.specs.Source.{source_of}
+use Rattle.autocoder_layout.specs.Source.{source_of}
 use Rattle.autocoder.specs.Programs.{IsFaultless, size_for}
 use Rattle.office.specs.declared.commands.Kind.{Kind}
 use Rattle.office.specs.declared.commands.Kind.TheVariants.{Autocoder}

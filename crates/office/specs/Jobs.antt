@@ -5,7 +5,7 @@ use Rattle.cards.specs.declared.decks.Card.{Card}
 use Rattle.cards.specs.Decks.{IsDeck}
 use Rattle.core_store.specs.Storage.{positions_of}
 use Rattle.core_store.specs.declared.sizes.Size.{Size}
-use Rattle.layout.specs.Source.{source_of}
+use Rattle.autocoder_layout.specs.Source.{source_of}
 use Rattle.autocoder.specs.Programs.{image_for, size_for, start_for, IsFaultless}
 use Rattle.loader.specs.Decks.{data_of, runnable_deck}
 use Rattle.loader.specs.Loading.{at_the_start}

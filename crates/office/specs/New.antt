@@ -3,7 +3,7 @@ use Rattle.std.specs.Prelude.{◌≡◌, ℕ, ◌<◌, ◌==◌, nat_lt, if◌th
 use Rattle.cards.specs.declared.decks.Card.{Card}
 use Rattle.core_store.specs.declared.sizes.Size.{Size}
 use Rattle.core_store.specs.declared.sizes.Size.TheVariants.{Positions1400, Positions2000, Positions4000}
-use Rattle.layout.specs.Source.{has_end, source_of}
+use Rattle.autocoder_layout.specs.Source.{has_end, source_of}
 use Rattle.autocoder.specs.Programs.{layout_for}
 use Rattle.autocoder.specs.Telling.{faults_of}
 use Rattle.autocoder.specs.declared.faults.CardFault.{CardFault}

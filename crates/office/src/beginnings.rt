@@ -8,7 +8,7 @@ ghost use Rattle.autocoder.specs.Loadable.{IsLoadable};
 ghost use Rattle.machine.specs.Run.{loaded};
 ghost use Rattle.units.specs.declared.printer.Line.{Line};
 ghost use Rattle.units.specs.declared.switches.Switches.{Switches};
-ghost use Rattle.layout.specs.declared.cells.Cell.{Cell};
+ghost use Rattle.autocoder_layout.specs.declared.cells.Cell.{Cell};
 ghost use Rattle.loader.specs.Cards.{loading_cards};
 ghost use Rattle.loader.specs.Loading.{at_the_start};
 ghost use Rattle.office.specs.Whole.{Whole};

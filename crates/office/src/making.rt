@@ -2,7 +2,7 @@
 
 ghost use Rattle.std.specs.Prelude.{◌≡◌, ◌≤◌, ◌<◌, ◌++◌, [], length, None, IfOk, IfErr, OnOk, IsErrOf};
 ghost use Rattle.cards.specs.Decks.{largest_deck};
-ghost use Rattle.layout.specs.Source.{source_of};
+ghost use Rattle.autocoder_layout.specs.Source.{source_of};
 ghost use Rattle.autocoder.specs.Programs.{IsProgramOf};
 ghost use Rattle.office.specs.Limits.{most_loaded};
 ghost use Rattle.office.specs.Jobs.{loaded_of};

@@ -19,8 +19,8 @@ use Rattle.scripts.specs.Replies.{reply_line}
 use Rattle.scripts.specs.Sending.{Writes, WritesPart, counted}
 use Rattle.scripts.specs.declared.write_failed.WriteFailed.{WriteFailed}
 use Rattle.scripts.proofs.Sendings.{part_after}
-use Rattle.tables.specs.declared.faults.Fault.{Fault}
-use Rattle.tables.specs.declared.faults.Fault.TheVariants.{NoMemory, Store}
+use Rattle.ledger_tables.specs.declared.faults.Fault.{Fault}
+use Rattle.ledger_tables.specs.declared.faults.Fault.TheVariants.{NoMemory, Store}
 use Rattle.script_runs.specs.Running.{RisenWithin, SendsBegun, attempted_by_all, office_after, replies_to, reply_lines}
 use Rattle.script_runs.specs.Steps.{Sends, SendsSome, is_refusal}
 

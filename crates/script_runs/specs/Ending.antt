@@ -12,7 +12,7 @@ use Rattle.script_runs.specs.declared.endings.ScriptEnd.TheVariants as ended
 use Rattle.script_runs.specs.declared.endings.Scripted.{Scripted}
 use Rattle.sqlite.specs.Held.{Held}
 use Rattle.sqlite_trees.specs.declared.store.Store.{Ghosts}
-use Rattle.tables.specs.declared.faults.Fault.TheVariants.{NoMemory}
+use Rattle.ledger_tables.specs.declared.faults.Fault.TheVariants.{NoMemory}
 
 -- the bytes of a reader, up to the 4,000,001st, are the script of these commands
 abbrev pub ReadAs : Option (List ℕ) → List Command → Type 0

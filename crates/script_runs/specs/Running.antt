@@ -17,8 +17,8 @@ use Rattle.sqlite.specs.Held.{Held, state}
 use Rattle.sqlite.specs.State.{HasCleanDisk}
 use Rattle.sqlite.specs.Tree.{Trees}
 use Rattle.sqlite_trees.specs.declared.store.Store.{Ghosts}
-use Rattle.tables.specs.Faults.{fault_number}
-use Rattle.tables.specs.declared.faults.Fault.TheVariants.{Store}
+use Rattle.ledger_tables.specs.Faults.{fault_number}
+use Rattle.ledger_tables.specs.declared.faults.Fault.TheVariants.{Store}
 
 -- the lines of replies
 abbrev pub reply_lines : List Reply → List ℕ

@@ -14,8 +14,8 @@ use Rattle.script_runs.specs.declared.steps.Step.TheVariants as step
 use Rattle.sqlite.specs.Held.{Held, state}
 use Rattle.sqlite.specs.State.{HasCleanDisk}
 use Rattle.sqlite_trees.specs.declared.store.Store.{Ghosts}
-use Rattle.tables.specs.Faults.{fault_number}
-use Rattle.tables.specs.declared.faults.Fault.TheVariants.{Store}
+use Rattle.ledger_tables.specs.Faults.{fault_number}
+use Rattle.ledger_tables.specs.declared.faults.Fault.TheVariants.{Store}
 
 -- whether a reply is a refusal
 abbrev pub is_refusal : Reply → Bool

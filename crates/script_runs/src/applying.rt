@@ -4,7 +4,7 @@ ghost use Rattle.std.specs.Prelude.{◌≡◌, ◌≤◌, ◌⊎◌, ◌||◌, I
 ghost use Rattle.script_runs.specs.Running.{LeavesBeginning, Runs, Ticks};
 ghost use Rattle.sqlite.specs.Held.{state};
 ghost use Rattle.sqlite.specs.View.{doubt};
-ghost use Rattle.tables.specs.declared.faults.Fault.TheVariants.{Store};
+ghost use Rattle.ledger_tables.specs.declared.faults.Fault.TheVariants.{Store};
 
 use crate::endings::{ScriptEnd, Scripted};
 use crate::steps::{Step, carry_out};

@@ -4,7 +4,7 @@ ghost use Rattle.std.specs.Prelude.{◌≡◌, ◌≤◌, ◌⊎◌, IsTrue};
 ghost use Rattle.script_runs.specs.Ending.{Ends, GivesUp, HasNoReply, TurnsDown};
 ghost use Rattle.sqlite.specs.Held.{state};
 ghost use Rattle.sqlite.specs.View.{doubt};
-ghost use Rattle.tables.specs.declared.faults.Fault.TheVariants.{Store};
+ghost use Rattle.ledger_tables.specs.declared.faults.Fault.TheVariants.{Store};
 
 use crate::applying::apply_all;
 use crate::endings::{ScriptEnd, Scripted};

@@ -5,7 +5,7 @@ ghost use Rattle.office.specs.Office.{attempted, take};
 ghost use Rattle.ledger.specs.Replying.{LeavesEither};
 ghost use Rattle.script_runs.specs.Steps.{SendsSome, StepsTo, TicksTo, is_refusal};
 ghost use Rattle.scripts.specs.Replies.{fault_line};
-ghost use Rattle.tables.specs.Faults.{fault_number};
+ghost use Rattle.ledger_tables.specs.Faults.{fault_number};
 ghost use Rattle.sqlite.specs.Held.{state};
 ghost use Rattle.sqlite.specs.View.{doubt};
 

@@ -2,10 +2,10 @@
 
 use crate::written::is_written;
 use autocoder::CardFault;
+use autocoder_layout::SourceFault;
+use autocoder_statements::StatementFault;
 use core_store::Check;
-use layout::SourceFault;
 use office::{JobLine, JobList, JobStanding, QueueLine, QueueList, Refusal, Reply, SourceFaults};
-use statements::StatementFault;
 use std::alloc::Global;
 use std::test::Fail;
 

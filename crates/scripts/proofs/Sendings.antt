@@ -9,7 +9,7 @@ use Rattle.std.proofs.KnownBytes.{Appends-trans}
 use Rattle.std.specs.Io.KnownBytes.{Appends}
 use Rattle.std.specs.Prelude.{Option}
 use Rattle.autocoder.specs.declared.faults.CardFault.{CardFault}
-use Rattle.layout.specs.Faults.{fault_number}
+use Rattle.autocoder_layout.specs.Faults.{fault_number}
 use Rattle.office.specs.Queued.{QueuedJob}
 use Rattle.office.specs.declared.standings.Summary.{Summary}
 use Rattle.scripts.specs.Replies.{fault_words, line_of, made_words, queued_words, truth}

@@ -4,7 +4,7 @@ use Rattle.std.specs.List.{flat_map}
 use Rattle.autocoder.specs.declared.faults.CardFault.{CardFault}
 use Rattle.core_store.specs.declared.registers.Check.{Check}
 use Rattle.core_store.specs.declared.registers.Check.TheVariants as check
-use Rattle.layout.specs.Faults.{fault_number}
+use Rattle.autocoder_layout.specs.Faults.{fault_number}
 use Rattle.office.specs.Numbers.{refusal_number}
 use Rattle.office.specs.Queued.{QueuedJob}
 use Rattle.office.specs.declared.lists.JobLine.{JobLine}

@@ -5,7 +5,7 @@ use Rattle.office.specs.declared.commands.Kind.{Kind}
 use Rattle.office.specs.declared.commands.Kind.TheVariants.{Object, Autocoder}
 use Rattle.units.specs.Switches.{AreSeven}
 use Rattle.units.specs.declared.Switches.{Switches}
-use Rattle.values.specs.Switches as values
+use Rattle.counter_values.specs.Switches as values
 
 -- the text of a word; a word that is not UTF-8 counts as the empty text, which is no name
 abbrev pub text_of : List ℕ → List ℕ

@@ -34,7 +34,7 @@ pub(crate) fn customer_of(alloc: Global, word: &[u8]) -> Result<String, AllocErr
 pub(crate) fn number_of(word: &[u8]) -> u32
     ensures { IsNumberOf word.now result }
 {
-    match values::number_of(text_of(word)) {
+    match counter_values::number_of(text_of(word)) {
         Some(number) => number,
         None => 0,
     }
@@ -45,7 +45,7 @@ pub(crate) fn switches_of(word: &[u8]) -> Option<Switches>
     ensures some { IfSome result (AreSwitchesOf word.now) }
     ensures none { IfNone result ((switches : Switches) → ¬ AreSwitchesOf word.now switches) }
 {
-    values::switches_of(text_of(word))
+    counter_values::switches_of(text_of(word))
 }
 
 /// The kind of a deck in a word.

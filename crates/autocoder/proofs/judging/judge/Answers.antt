@@ -1,13 +1,13 @@
 use Rattle.std.proofs.Common.{◌≡◌, ◌≤◌, ◌+◌, ◌<◌, ◌∙◌, ◌++◌, length, sym, ap, refl, subst, take, drop, ◌-◌, length-drop, get_or, None, arith, false}
 use Rattle.std.proofs.lemmas.List.{get_or_default, take_all, append-nil}
-use Rattle.layout.specs.Source.{lines_of}
-use Rattle.layout.specs.Slots.{origin}
-use Rattle.layout.specs.Literals.{texts}
-use Rattle.layout.specs.Judging.{fault_by}
-use Rattle.layout.specs.Layout.{fills_of, layout_of}
-use Rattle.layout.specs.declared.slots.Slot.{Slot}
-use Rattle.layout.specs.declared.slots.TheConstants.{FARTHEST}
-use Rattle.layout.proofs.Layouts.{length-layout_of}
+use Rattle.autocoder_layout.specs.Source.{lines_of}
+use Rattle.autocoder_layout.specs.Slots.{origin}
+use Rattle.autocoder_layout.specs.Literals.{texts}
+use Rattle.autocoder_layout.specs.Judging.{fault_by}
+use Rattle.autocoder_layout.specs.Layout.{fills_of, layout_of}
+use Rattle.autocoder_layout.specs.declared.slots.Slot.{Slot}
+use Rattle.autocoder_layout.specs.declared.slots.TheConstants.{FARTHEST}
+use Rattle.autocoder_layout.proofs.Layouts.{length-layout_of}
 use Rattle.autocoder.specs.Image.{cell_at}
 use Rattle.autocoder.specs.Tables.{is_taken, filled_table}
 use Rattle.autocoder.specs.Telling.{faults_from, last_fault}

@@ -1,6 +1,6 @@
 use Rattle.std.proofs.Common.{◌≡◌, ◌+◌, ◌++◌, drop, take, length, false}
-use Rattle.layout.specs.Source.{lines_of}
-use Rattle.layout.specs.Layout.{fills_of, layout_of}
+use Rattle.autocoder_layout.specs.Source.{lines_of}
+use Rattle.autocoder_layout.specs.Layout.{fills_of, layout_of}
 use Rattle.autocoder.specs.Tables.{Stands}
 use Rattle.autocoder.specs.Telling.{faults_from, last_fault}
 use Rattle.autocoder.proofs.judging.judge.Given as goal

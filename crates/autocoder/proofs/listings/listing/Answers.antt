@@ -1,6 +1,6 @@
 use Rattle.std.proofs.Common.{◌∙◌, length, ap, arith}
-use Rattle.layout.specs.Source.{source_of}
-use Rattle.layout.proofs.Firsts.{length-texts}
+use Rattle.autocoder_layout.specs.Source.{source_of}
+use Rattle.autocoder_layout.proofs.Firsts.{length-texts}
 use Rattle.autocoder.proofs.Lines.{few_literals, listing_is}
 use Rattle.autocoder.proofs.listings.listing.Goals as goal
 

@@ -1,5 +1,5 @@
 use Rattle.std.proofs.Common.{◌≡◌, ◌+◌, ◌*◌, ◌≤◌, ◌++◌, drop}
-use Rattle.layout.specs.Literals.{texts}
+use Rattle.autocoder_layout.specs.Literals.{texts}
 use Rattle.autocoder.specs.Listing.{literal_lines}
 use Rattle.autocoder.proofs.listings.push_literals.Given as goal
 

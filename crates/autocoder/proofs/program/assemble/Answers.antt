@@ -1,10 +1,10 @@
 use Rattle.std.proofs.Common.{◌≡◌, ◌∙◌, length, ap, sym, subst, arith, false, refl}
 use Rattle.std.proofs.lemmas.List.{with_items_is}
 use Rattle.core_store.specs.Storage.{positions_of}
-use Rattle.layout.specs.Source.{source_of, has_end, lines_of}
-use Rattle.layout.specs.Literals.{texts, literals_of}
+use Rattle.autocoder_layout.specs.Source.{source_of, has_end, lines_of}
+use Rattle.autocoder_layout.specs.Literals.{texts, literals_of}
 use Rattle.autocoder.specs.Assembly.{Assembly}
-use Rattle.layout.specs.Layout.{fills_of, layout_of, slots_of}
+use Rattle.autocoder_layout.specs.Layout.{fills_of, layout_of, slots_of}
 use Rattle.autocoder.specs.Tables.{Stands}
 use Rattle.autocoder.specs.Telling.{faults_of}
 use Rattle.autocoder.specs.Programs.{size_for, layout_for, start_by, IsProgramOf}

@@ -1,7 +1,7 @@
 use Rattle.std.proofs.Common.{◌≡◌, [], ap, subst, arith, rules, IsTrue}
 use Rattle.sqlite.specs.State.{HasCleanDisk}
 use Rattle.sqlite.specs.Held.{state}
-use Rattle.tables.specs.Tables.{Holds, no_rows}
+use Rattle.ledger_tables.specs.Tables.{Holds, no_rows}
 use Rattle.ledger.specs.Standing.{StandsIn, Stands}
 use Rattle.ledger.proofs.Crash.{committed_stands}
 use Rattle.ledger.proofs.bureau.make.Goals as goal

@@ -1,6 +1,6 @@
 use Rattle.std.proofs.Common.{length, sym, ap, ◌∙◌}
 use Rattle.machine.specs.Run.{lines_of}
-use Rattle.tables.specs.Steps.{seen}
+use Rattle.ledger_tables.specs.Steps.{seen}
 use Rattle.office.specs.Kept.{Kept, kept_of, take_kept}
 use Rattle.ledger.specs.Saving.{HadMade}
 use Rattle.ledger.proofs.Offices.{job_is}

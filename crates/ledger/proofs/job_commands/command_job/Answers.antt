@@ -1,7 +1,7 @@
 use Rattle.std.proofs.Common.{◌≡◌, sym, ap, ◌∙◌, rules}
 use Rattle.machine.specs.Run.{risen}
 use Rattle.office.specs.Office.{attempted_of}
-use Rattle.tables.proofs.Stepping.{on_any}
+use Rattle.ledger_tables.proofs.Stepping.{on_any}
 use Rattle.ledger.specs.Saving.{job_in}
 use Rattle.ledger.proofs.Shown.{attempts_none}
 use Rattle.ledger.proofs.job_commands.command_job.Goals as goal

@@ -1,7 +1,7 @@
 use Rattle.std.proofs.Common.{◌≡◌, None, sym, ap, subst, ◌∙◌}
 use Rattle.office.specs.Kept.{kept_of, summary_of, job_refusal, answered, changed_job}
 use Rattle.office.specs.declared.replies.Reply.TheVariants as reply
-use Rattle.tables.specs.Steps.{seen}
+use Rattle.ledger_tables.specs.Steps.{seen}
 use Rattle.ledger.specs.Light.{command_of}
 use Rattle.ledger.proofs.Changed.{unchanged_saved}
 use Rattle.ledger.proofs.Replies.{command_done}

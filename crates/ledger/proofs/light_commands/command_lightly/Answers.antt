@@ -1,6 +1,6 @@
 use Rattle.std.proofs.Common.{arith}
 use Rattle.sqlite.specs.State.{HasCleanDisk}
-use Rattle.tables.specs.Steps.{seen}
+use Rattle.ledger_tables.specs.Steps.{seen}
 use Rattle.ledger.specs.Light.{command_of}
 use Rattle.ledger.specs.Standing.{tables_of}
 use Rattle.ledger.proofs.Offices.{still, if_ok_each, if_ok_then, row_found, row_none}

@@ -1,6 +1,6 @@
 use Rattle.std.proofs.Common.{sym, ap, ◌∙◌}
 use Rattle.office.specs.Kept.{kept_of, job_refusal}
-use Rattle.tables.specs.Steps.{seen}
+use Rattle.ledger_tables.specs.Steps.{seen}
 use Rattle.ledger.specs.Light.{command_of}
 use Rattle.ledger.proofs.Replies.{command_refused}
 use Rattle.ledger.proofs.Shown.{refused_with}

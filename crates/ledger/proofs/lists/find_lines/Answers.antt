@@ -3,9 +3,9 @@ use Rattle.std.proofs.lemmas.List.{get_or_default, length-map, map-append, take_
 use Rattle.office.specs.Office.{Entry, job_line}
 use Rattle.office.specs.declared.lists.JobLine.{JobLine}
 use Rattle.sqlite.specs.State.{HasCleanDisk}
-use Rattle.tables.proofs.Stepping.{of_open, step_still, step_then, step_ends}
-use Rattle.tables.specs.Listed.{name_row}
-use Rattle.tables.specs.Steps.{seen}
+use Rattle.ledger_tables.proofs.Stepping.{of_open, step_still, step_then, step_ends}
+use Rattle.ledger_tables.specs.Listed.{name_row}
+use Rattle.ledger_tables.specs.Steps.{seen}
 use Rattle.ledger.specs.Listed.{IsHis}
 use Rattle.ledger.specs.Standing.{named}
 use Rattle.ledger.proofs.Listing.{at_row}

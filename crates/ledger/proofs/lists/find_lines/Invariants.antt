@@ -1,9 +1,9 @@
 use Rattle.std.proofs.Common.{◌≡◌, map, take}
 use Rattle.std.specs.List.{AllByRecursion}
 use Rattle.office.specs.Office.{Entry, Office, job_line}
-use Rattle.tables.proofs.Stepping.{HasStepped}
-use Rattle.tables.specs.Listed.{name_row}
-use Rattle.tables.specs.Steps.{Inside}
+use Rattle.ledger_tables.proofs.Stepping.{HasStepped}
+use Rattle.ledger_tables.specs.Listed.{name_row}
+use Rattle.ledger_tables.specs.Steps.{Inside}
 use Rattle.ledger.specs.Listed.{IsHis}
 use Rattle.ledger.specs.Standing.{named, StandsIn}
 use Rattle.ledger.proofs.lists.find_lines.Given as goal

@@ -2,9 +2,9 @@ use Rattle.std.proofs.Common.{◌≤◌, ◌+◌, [], ◌∷◌, ◌++◌, lengt
 use Rattle.std.proofs.lemmas.List.{length-map, take_all}
 use Rattle.office.specs.Office.{Entry, Office, queued_job, runs}
 use Rattle.sqlite.specs.State.{HasCleanDisk}
-use Rattle.tables.proofs.Stepping.{of_open, step_still, step_then, step_ends}
-use Rattle.tables.specs.Listed.{queued_name}
-use Rattle.tables.specs.Steps.{seen}
+use Rattle.ledger_tables.proofs.Stepping.{of_open, step_still, step_then, step_ends}
+use Rattle.ledger_tables.specs.Listed.{queued_name}
+use Rattle.ledger_tables.specs.Steps.{seen}
 use Rattle.ledger.specs.Listed.{IsIts}
 use Rattle.ledger.specs.Standing.{named}
 use Rattle.ledger.proofs.Listing.{at_row, passed_on}

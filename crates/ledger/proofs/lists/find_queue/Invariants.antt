@@ -1,9 +1,9 @@
 use Rattle.std.proofs.Common.{◌≡◌, map, filter, take}
 use Rattle.std.specs.List.{AllByRecursion}
 use Rattle.office.specs.Office.{Entry, Office, queued_job, runs}
-use Rattle.tables.proofs.Stepping.{HasStepped}
-use Rattle.tables.specs.Listed.{queued_name}
-use Rattle.tables.specs.Steps.{Inside}
+use Rattle.ledger_tables.proofs.Stepping.{HasStepped}
+use Rattle.ledger_tables.specs.Listed.{queued_name}
+use Rattle.ledger_tables.specs.Steps.{Inside}
 use Rattle.ledger.specs.Listed.{IsIts}
 use Rattle.ledger.specs.Standing.{named, StandsIn}
 use Rattle.ledger.proofs.lists.find_queue.Given as goal

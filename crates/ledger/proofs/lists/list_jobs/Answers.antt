@@ -3,7 +3,7 @@ use Rattle.office.specs.Office.{own, by_number}
 use Rattle.office.specs.Orders.{in_order}
 use Rattle.office.specs.declared.replies.Reply.TheVariants.{Jobs}
 use Rattle.sqlite.specs.State.{HasCleanDisk}
-use Rattle.tables.specs.Steps.{seen}
+use Rattle.ledger_tables.specs.Steps.{seen}
 use Rattle.ledger.specs.Standing.{tables_of}
 use Rattle.ledger.proofs.Listing.{all_his, names_told}
 use Rattle.ledger.proofs.Offices.{still}

@@ -3,7 +3,7 @@ use Rattle.office.specs.Jobs.{picture}
 use Rattle.office.specs.Kept.{told, goes_on}
 use Rattle.office.specs.Office.{job_of, queued_job, runs}
 use Rattle.office.specs.Queued.{QueuedJob}
-use Rattle.tables.specs.Cells.{QueuedName}
+use Rattle.ledger_tables.specs.Cells.{QueuedName}
 use Rattle.ledger.proofs.Listing.{running_goes_on, runs_so, queued_is}
 use Rattle.ledger.proofs.lists.queue_running.Goals as goal
 

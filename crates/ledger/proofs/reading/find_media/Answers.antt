@@ -1,7 +1,7 @@
 use Rattle.std.proofs.Common.{sym, ap, subst, ◌∙◌, arith}
 use Rattle.cards.specs.Decks.{deck_bytes, IsDeck}
 use Rattle.sqlite.specs.State.{HasCleanDisk}
-use Rattle.tables.specs.Steps.{seen}
+use Rattle.ledger_tables.specs.Steps.{seen}
 use Rattle.office.specs.Jobs.{picture}
 use Rattle.ledger.specs.Standing.{tables_of, cards_of, lines_of}
 use Rattle.ledger.proofs.Offices.{still, if_ok_then, job_is}

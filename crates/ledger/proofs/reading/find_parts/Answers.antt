@@ -1,7 +1,7 @@
 use Rattle.std.proofs.Common.{◌≡◌, length, get_or, ◌-◌, sym, ap, subst, ◌∙◌, arith}
 use Rattle.sqlite.specs.State.{HasCleanDisk}
-use Rattle.tables.specs.Steps.{seen}
-use Rattle.tables.specs.Cells.{JobCells}
+use Rattle.ledger_tables.specs.Steps.{seen}
+use Rattle.ledger_tables.specs.Cells.{JobCells}
 use Rattle.ledger.proofs.Offices.{job_is, kept_is}
 use Rattle.ledger.proofs.ReadBack.{some_is, picture_switches}
 use Rattle.ledger.proofs.reading.find_parts.Goals as goal

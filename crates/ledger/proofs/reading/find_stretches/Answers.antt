@@ -1,5 +1,5 @@
 use Rattle.std.proofs.Common.{ap, ◌∙◌}
-use Rattle.tables.specs.Steps.{seen}
+use Rattle.ledger_tables.specs.Steps.{seen}
 use Rattle.ledger.specs.Standing.{tables_of, stretches_of}
 use Rattle.ledger.proofs.Offices.{still, job_is}
 use Rattle.ledger.proofs.reading.find_stretches.Goals as goal

@@ -1,6 +1,6 @@
 use Rattle.std.proofs.Common.{arith}
 use Rattle.sqlite.specs.State.{HasCleanDisk}
-use Rattle.tables.specs.Steps.{seen}
+use Rattle.ledger_tables.specs.Steps.{seen}
 use Rattle.ledger.specs.Standing.{tables_of}
 use Rattle.ledger.proofs.Offices.{still, row_found, row_none}
 use Rattle.ledger.proofs.reading.find_whole.Goals as goal

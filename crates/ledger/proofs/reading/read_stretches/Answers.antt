@@ -1,6 +1,6 @@
 use Rattle.std.proofs.Common.{◌∷◌, [], ◌++◌, ap, ◌∙◌, refl, arith}
 use Rattle.std.proofs.lemmas.List.{get_or_default, take_all}
-use Rattle.pictures.proofs.Rows.{made_from, one_more, same_things}
+use Rattle.ledger_rows.proofs.Rows.{made_from, one_more, same_things}
 use Rattle.office.specs.Jobs.{HasSwitches}
 use Rattle.ledger.specs.Standing.{stretch_row}
 use Rattle.ledger.proofs.ReadBack.{stretches_told}

@@ -4,9 +4,9 @@ use Rattle.std.specs.List.{All}
 use Rattle.cards.specs.declared.decks.Card.{Card}
 use Rattle.cards.specs.Decks.{IsCard}
 use Rattle.sqlite.specs.State.{HasCleanDisk}
-use Rattle.tables.specs.Steps.{seen}
-use Rattle.tables.specs.Tables.{Holds, with_cards}
-use Rattle.tables.proofs.Stepping.{step_still, step_then, step_ends}
+use Rattle.ledger_tables.specs.Steps.{seen}
+use Rattle.ledger_tables.specs.Tables.{Holds, with_cards}
+use Rattle.ledger_tables.proofs.Stepping.{step_still, step_then, step_ends}
 use Rattle.ledger.proofs.Saved.{one_more_row, all_more, rows_before, cards_still, cards_place, card_pushed}
 use Rattle.ledger.proofs.saving.insert_cards.Goals as goal
 

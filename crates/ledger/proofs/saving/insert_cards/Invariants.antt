@@ -1,10 +1,10 @@
 use Rattle.std.proofs.Common.{◌≡◌, All, map, take}
 use Rattle.cards.specs.declared.decks.Card.{Card}
 use Rattle.cards.specs.Decks.{IsCard}
-use Rattle.tables.specs.Named.{of_job}
-use Rattle.tables.specs.Steps.{Inside}
-use Rattle.tables.specs.Tables.{Tables, Holds}
-use Rattle.tables.proofs.Stepping.{HasStepped}
+use Rattle.ledger_tables.specs.Named.{of_job}
+use Rattle.ledger_tables.specs.Steps.{Inside}
+use Rattle.ledger_tables.specs.Tables.{Tables, Holds}
+use Rattle.ledger_tables.proofs.Stepping.{HasStepped}
 use Rattle.ledger.specs.Saving.{with_all_cards}
 use Rattle.ledger.proofs.saving.insert_cards.Given as goal
 

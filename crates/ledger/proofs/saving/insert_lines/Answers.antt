@@ -1,11 +1,11 @@
 use Rattle.std.proofs.Common.{arith, subst, ◌+◌, map, take}
 use Rattle.std.proofs.lemmas.List.{take_all}
 use Rattle.std.specs.List.{All}
-use Rattle.pictures.specs.Columns.{line_cells, IsLine}
+use Rattle.ledger_rows.specs.Columns.{line_cells, IsLine}
 use Rattle.sqlite.specs.State.{HasCleanDisk}
-use Rattle.tables.specs.Steps.{seen}
-use Rattle.tables.specs.Tables.{Holds, with_lines}
-use Rattle.tables.proofs.Stepping.{step_still, step_then, step_ends}
+use Rattle.ledger_tables.specs.Steps.{seen}
+use Rattle.ledger_tables.specs.Tables.{Holds, with_lines}
+use Rattle.ledger_tables.proofs.Stepping.{step_still, step_then, step_ends}
 use Rattle.ledger.proofs.Saved.{one_more_row, all_more, rows_before, lines_still, lines_place, line_pushed}
 use Rattle.ledger.proofs.saving.insert_lines.Goals as goal
 

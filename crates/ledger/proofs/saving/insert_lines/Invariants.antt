@@ -1,9 +1,9 @@
 use Rattle.std.proofs.Common.{◌≡◌, All, map, take}
-use Rattle.pictures.specs.Columns.{line_cells, IsLine}
-use Rattle.tables.specs.Named.{of_job}
-use Rattle.tables.specs.Steps.{Inside}
-use Rattle.tables.specs.Tables.{Tables, Holds}
-use Rattle.tables.proofs.Stepping.{HasStepped}
+use Rattle.ledger_rows.specs.Columns.{line_cells, IsLine}
+use Rattle.ledger_tables.specs.Named.{of_job}
+use Rattle.ledger_tables.specs.Steps.{Inside}
+use Rattle.ledger_tables.specs.Tables.{Tables, Holds}
+use Rattle.ledger_tables.proofs.Stepping.{HasStepped}
 use Rattle.ledger.specs.Saving.{with_all_lines}
 use Rattle.ledger.proofs.saving.insert_lines.Given as goal
 

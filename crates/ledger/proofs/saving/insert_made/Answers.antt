@@ -1,8 +1,8 @@
 use Rattle.std.proofs.Common.{◌≡◌, arith, rules}
 use Rattle.sqlite.specs.State.{HasCleanDisk}
-use Rattle.tables.specs.Steps.{seen}
-use Rattle.tables.proofs.Frames.{on_ok_then}
-use Rattle.tables.proofs.Stepping.{on_any}
+use Rattle.ledger_tables.specs.Steps.{seen}
+use Rattle.ledger_tables.proofs.Frames.{on_ok_then}
+use Rattle.ledger_tables.proofs.Stepping.{on_any}
 use Rattle.ledger.specs.Saving.{with_all_cards}
 use Rattle.ledger.proofs.saving.insert_made.Goals as goal
 

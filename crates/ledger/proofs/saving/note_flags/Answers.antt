@@ -1,5 +1,5 @@
-use Rattle.tables.proofs.Frames.{on_ok_then}
-use Rattle.tables.specs.Steps.{seen}
+use Rattle.ledger_tables.proofs.Frames.{on_ok_then}
+use Rattle.ledger_tables.specs.Steps.{seen}
 use Rattle.ledger.specs.Standing.{tables_of}
 use Rattle.ledger.proofs.Flagged.{flags_saved}
 use Rattle.ledger.proofs.Offices.{job_is}

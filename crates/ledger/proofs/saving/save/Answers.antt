@@ -1,6 +1,6 @@
 use Rattle.std.proofs.Common.{true, false, ap}
-use Rattle.tables.specs.Steps.{seen}
-use Rattle.tables.proofs.Frames.{on_ok_then}
+use Rattle.ledger_tables.specs.Steps.{seen}
+use Rattle.ledger_tables.proofs.Frames.{on_ok_then}
 use Rattle.office.specs.Kept.{changed_job}
 use Rattle.ledger.proofs.Changed.{unchanged_saved}
 use Rattle.ledger.proofs.saving.save.Goals as goal

@@ -1,6 +1,6 @@
 use Rattle.std.proofs.Common.{ap, subst, ◌∙◌}
-use Rattle.tables.specs.Steps.{seen}
-use Rattle.tables.proofs.Frames.{on_ok_then}
+use Rattle.ledger_tables.specs.Steps.{seen}
+use Rattle.ledger_tables.proofs.Frames.{on_ok_then}
 use Rattle.office.specs.Kept.{Kept}
 use Rattle.ledger.specs.Saving.{with_flagged}
 use Rattle.ledger.specs.Standing.{StandsIn}

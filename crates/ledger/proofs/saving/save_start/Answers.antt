@@ -1,7 +1,7 @@
 use Rattle.std.proofs.Common.{◌≡◌, ap, arith, rules, is_some}
 use Rattle.sqlite.specs.State.{HasCleanDisk}
-use Rattle.tables.specs.Steps.{seen}
-use Rattle.tables.proofs.Frames.{on_ok_then}
+use Rattle.ledger_tables.specs.Steps.{seen}
+use Rattle.ledger_tables.proofs.Frames.{on_ok_then}
 use Rattle.office.specs.Kept.{Kept}
 use Rattle.units.specs.Switches.{seven}
 use Rattle.ledger.specs.Saving.{with_machine}

@@ -1,5 +1,5 @@
 use Rattle.std.proofs.Common.{◌≡◌, ◌<◌, ◌-◌, length, get_or, rules}
-use Rattle.tables.proofs.Frames.{on_ok_then}
+use Rattle.ledger_tables.proofs.Frames.{on_ok_then}
 use Rattle.ledger.proofs.Saved.{last_granted}
 use Rattle.ledger.proofs.saving.set_last_granted.Goals as goal
 

@@ -1,7 +1,7 @@
 use Rattle.std.proofs.Common.{◌≡◌, arith, rules}
 use Rattle.sqlite.specs.State.{HasCleanDisk}
-use Rattle.tables.specs.Steps.{seen}
-use Rattle.tables.proofs.Frames.{on_ok_then}
+use Rattle.ledger_tables.specs.Steps.{seen}
+use Rattle.ledger_tables.proofs.Frames.{on_ok_then}
 use Rattle.ledger.specs.Saving.{with_machine}
 use Rattle.ledger.proofs.saving.set_progress.Goals as goal
 

@@ -1,6 +1,6 @@
 use Rattle.std.proofs.Common.{length, sym, ap, ◌∙◌, arith}
 use Rattle.sqlite.specs.State.{HasCleanDisk}
-use Rattle.tables.specs.Steps.{seen}
+use Rattle.ledger_tables.specs.Steps.{seen}
 use Rattle.office.specs.Kept.{Kept}
 use Rattle.office.specs.declared.replies.Reply.TheVariants.{Taken}
 use Rattle.ledger.proofs.ReadBack.{picture_deck}

@@ -1,5 +1,5 @@
 use Rattle.std.proofs.Common.{nat_le, ap, ◌∙◌}
-use Rattle.tables.specs.Steps.{seen}
+use Rattle.ledger_tables.specs.Steps.{seen}
 use Rattle.ledger.specs.Standing.{tables_of}
 use Rattle.ledger.proofs.Offices.{still}
 use Rattle.ledger.proofs.Replies.{jobs_named}

@@ -3,7 +3,7 @@ use Rattle.cards.specs.Decks.{deck_bytes}
 use Rattle.office.specs.Jobs.{loaded_deck}
 use Rattle.office.specs.Office.{is_of}
 use Rattle.office.specs.declared.replies.Reply.TheVariants.{Taken}
-use Rattle.tables.specs.Cells.{JobCells}
+use Rattle.ledger_tables.specs.Cells.{JobCells}
 use Rattle.ledger.proofs.Replies.{cards_counted}
 use Rattle.ledger.proofs.submissions.repeated.Goals as goal
 

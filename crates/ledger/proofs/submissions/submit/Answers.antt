@@ -1,6 +1,6 @@
 use Rattle.std.proofs.Common.{arith}
 use Rattle.sqlite.specs.State.{HasCleanDisk}
-use Rattle.tables.specs.Steps.{seen}
+use Rattle.ledger_tables.specs.Steps.{seen}
 use Rattle.ledger.proofs.Offices.{if_ok_then, job_is}
 use Rattle.ledger.proofs.Replies.{served_again, served_new}
 use Rattle.ledger.proofs.submissions.submit.Goals as goal

@@ -1,5 +1,5 @@
 use Rattle.std.proofs.Common.{ap, ◌∙◌}
-use Rattle.tables.specs.Steps.{seen}
+use Rattle.ledger_tables.specs.Steps.{seen}
 use Rattle.office.specs.declared.replies.Reply.TheVariants.{Refused}
 use Rattle.ledger.proofs.Offices.{if_ok_then}
 use Rattle.ledger.proofs.Replies.{not_new, new_taken}

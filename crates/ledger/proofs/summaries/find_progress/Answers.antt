@@ -1,9 +1,9 @@
 use Rattle.std.proofs.Common.{◌≡◌, ◌<◌, ◌^◌, sym, ap, ◌∙◌, arith}
 use Rattle.std.specs.Option.{option_map}
 use Rattle.office.specs.Jobs.{picture}
-use Rattle.pictures.specs.Columns.{picture_cells}
-use Rattle.tables.specs.Listed.{progress_row}
-use Rattle.tables.specs.Steps.{seen}
+use Rattle.ledger_rows.specs.Columns.{picture_cells}
+use Rattle.ledger_tables.specs.Listed.{progress_row}
+use Rattle.ledger_tables.specs.Steps.{seen}
 use Rattle.ledger.specs.Standing.{tables_of, picture_of}
 use Rattle.ledger.proofs.Offices.{still, job_is}
 use Rattle.ledger.proofs.ReadBack.{some_is}

@@ -1,9 +1,9 @@
 use Rattle.std.proofs.Common.{sym, ap, ◌∙◌, arith}
 use Rattle.sqlite.specs.State.{HasCleanDisk}
 use Rattle.office.specs.Kept.{told_at}
-use Rattle.pictures.specs.declared.progress.Progress.{Progress}
-use Rattle.tables.specs.Cells.{JobCells}
-use Rattle.tables.specs.Steps.{seen}
+use Rattle.ledger_rows.specs.declared.progress.Progress.{Progress}
+use Rattle.ledger_tables.specs.Cells.{JobCells}
+use Rattle.ledger_tables.specs.Steps.{seen}
 use Rattle.ledger.proofs.ReadBack.{some_is}
 use Rattle.ledger.proofs.Shown.{summary_is}
 use Rattle.ledger.proofs.summaries.find_summary.Goals as goal

@@ -4,7 +4,7 @@ use Rattle.sqlite_disk.specs.Modelled.{start_of}
 use Rattle.sqlite.specs.State.{HasCleanDisk}
 use Rattle.sqlite.specs.Tree.{Trees}
 use Rattle.sqlite.specs.Files.{file_state, HoldsDatabase}
-use Rattle.tables.specs.Versions.{IsKnown}
+use Rattle.ledger_tables.specs.Versions.{IsKnown}
 use Rattle.sqlite.specs.WalFiles.{image_at}
 use Rattle.ledger.specs.Standing.{LeftAs, Stands}
 use Rattle.ledger_files.proofs.Leftovers.{fresh_seen, fresh_left, fresh_stands}

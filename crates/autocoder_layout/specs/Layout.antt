@@ -1,0 +1,62 @@
+-- the one layout of a source
+use Rattle.std.specs.Prelude.{ℕ, ◌≡◌, ◌+◌, ◌<◌, List, [], ◌∷◌, ◌++◌, length, take, drop, map, Option, None, slice_index_or}
+use Rattle.std.specs.List.{flat_map}
+use Rattle.autocoder_layout.specs.Source.{Line, silent}
+use Rattle.autocoder_layout.specs.Slots.{origin, slot_of, slots_from}
+use Rattle.autocoder_layout.specs.Literals.{Characters, literals_of}
+use Rattle.autocoder_layout.specs.Cells.{cells_of}
+use Rattle.autocoder_layout.specs.Judging.{fault_of}
+use Rattle.autocoder_layout.specs.declared.cells.Cell.{Cell}
+use Rattle.autocoder_layout.specs.declared.faults.SourceFault.{SourceFault}
+use Rattle.autocoder_layout.specs.declared.slots.Slot.{Slot}
+
+-- ---- the relation
+
+-- what a layout gives a card
+pub record Laid : Type 0 where
+  pub slot : Slot
+  pub fills : List Cell
+  pub fault : Option SourceFault
+
+abbrev pub slots_of : List Laid → List Slot
+slots_of layout = map (λ laid. laid.slot) layout
+
+abbrev pub fills_of : List Laid → List Cell
+fills_of layout = flat_map (λ laid. laid.fills) layout
+
+-- what the rules ask of a card, by what the layout gives the cards before and behind it, and by all its names and literals
+pub record Satisfies (size : ℕ) (literals : List Characters) (layout earlier later : List Laid) (line : Line) (laid : Laid) : Type 0 where
+  pub slot : laid.slot ≡ slot_of size (slots_of earlier) line
+  pub fills : laid.fills ≡ cells_of size (slots_of layout) literals (slots_of later) laid.slot line
+  pub fault : laid.fault ≡ fault_of size (slots_of layout) (fills_of earlier) laid.slot laid.fills line
+
+abbrev pub nothing : Laid
+nothing = record { slot = origin; fills = []; fault = None }
+
+-- each card satisfies the rules, with names and literals taken from the same layout
+pub record IsLayout (size : ℕ) (lines : List Line) (layout : List Laid) : Type 0 where
+  pub one_each : length layout ≡ length lines
+  pub satisfied : (k : ℕ) → k < length lines →
+      Satisfies size (literals_of lines (slots_of layout)) layout (take k layout) (drop (k + 1) layout) (slice_index_or lines k silent) (slice_index_or layout k nothing)
+
+-- ---- the layout as a function
+
+abbrev pub laid_by : ℕ → List Slot → List Characters → List Cell → List Slot → Slot → Line → Laid
+laid_by size slots literals filled later slot line = record {
+  slot = slot;
+  fills = cells_of size slots literals later slot line;
+  fault = fault_of size slots filled slot (cells_of size slots literals later slot line) line;
+}
+
+unfoldable pub laid_from : ℕ → List Slot → List Characters → List Cell → List Slot → List Line → List Laid
+laid_from size slots literals filled here [] = []
+laid_from size slots literals filled [] (line ∷ lines) = []
+laid_from size slots literals filled (slot ∷ later) (line ∷ lines) =
+    laid_by size slots literals filled later slot line
+    ∷ laid_from size slots literals (filled ++ cells_of size slots literals later slot line) later lines
+
+abbrev pub laid_with : ℕ → List Slot → List Line → List Laid
+laid_with size slots lines = laid_from size slots (literals_of lines slots) [] slots lines
+
+unfoldable pub layout_of : ℕ → List Line → List Laid
+layout_of size lines = laid_with size (slots_from size [] lines) lines

@@ -1,0 +1,325 @@
+//! What a card fills.
+
+ghost use Rattle.std.specs.Prelude.{◌≡◌, ◌+◌, ◌≤◌, ◌<◌, ◌++◌, length, option_to_list, replicate, IfSome, Some, IfOk, OnOk};
+ghost use Rattle.core_store.specs.Storage.{largest_size};
+ghost use Rattle.autocoder_layout.specs.Bounds.{IsWithin};
+ghost use Rattle.autocoder_layout.specs.Slots.{place_after};
+ghost use Rattle.autocoder_layout.specs.Source.{IsInRange};
+ghost use Rattle.autocoder_layout.specs.Literals.{texts};
+ghost use Rattle.autocoder_layout.specs.Names.{IsValueWithin};
+ghost use Rattle.autocoder_layout.specs.Cells.{blank, row, field, literal_cells, tag, position_in, operand_codes, instruction_codes, blank_behind, constant_codes, shortened, cells_of};
+ghost use Rattle.autocoder_layout.specs.Judging.{IsCut};
+ghost use Rattle.autocoder_statements.specs.Ranges.{IsConstantInRange, IsInstructionInRange, IsOperandInRange};
+ghost use Rattle.autocoder_statements.specs.Limits.{number_limit};
+
+use crate::literals::{Literal, MOST_LITERALS, literal_end};
+use crate::names::{Value, value_in};
+use crate::slots::{FARTHEST, Slot, is_closed, place_after};
+use crate::source::Line;
+use addresses::{IndexLocation, encode_tagged};
+use autocoder_statements::{Constant, Instruction, Operand, Statement};
+use bcd::{Code, Zone};
+use core_store::LARGEST_SIZE;
+use std::alloc::{AllocError, Global};
+
+/// The first position that a source may fill: those below hold the card that loads the program.
+pub const FIRST_FREE: u32 = 81;
+
+/// What no filled position lies beyond.
+const LAST_CELL: u32 = 400_000_000;
+
+/// A filled position.
+#[derive(Clone, Copy)]
+pub struct Cell {
+    pub position: u32,
+    pub code: Code,
+    pub marked: bool,
+}
+
+/// Fills positions with characters without marks.
+fn push_row(cells: &mut Vec<Cell>, place: u32, codes: &[Code]) -> Result<(), AllocError>
+    requires place { place ≤ LAST_CELL }
+    requires length { length codes.now ≤ number_limit }
+    ensures { OnOk result (cells.new.items ≡ cells.old.items ++ row place codes.now) }
+{
+    let mut position = place;
+    for code in codes {
+        cells.push(Cell {
+            position,
+            code: *code,
+            marked: false,
+        })?;
+        position += 1;
+    }
+    Ok(())
+}
+
+/// Fills positions with characters, the leftmost with a mark or without.
+#[tactic(auto, unfolding(crate::specs::Cells::field))]
+fn push_field(
+    cells: &mut Vec<Cell>,
+    marked: bool,
+    place: u32,
+    codes: &[Code],
+) -> Result<(), AllocError>
+    requires place { place < LAST_CELL }
+    requires length { length codes.now ≤ number_limit }
+    ensures { OnOk result (cells.new.items ≡ cells.old.items ++ field marked place codes.now) }
+{
+    match codes {
+        [] => Ok(()),
+        [first, rest @ ..] => {
+            cells.push(Cell {
+                position: place,
+                code: *first,
+                marked,
+            })?;
+            push_row(cells, place + 1, rest)
+        }
+    }
+}
+
+/// The zone that names an index location.
+fn tag(index: Option<IndexLocation>) -> Zone
+    ensures { result ≡ tag index }
+{
+    match index {
+        None => Zone::Bare,
+        Some(IndexLocation::First) => Zone::A,
+        Some(IndexLocation::Second) => Zone::B,
+        Some(IndexLocation::Third) => Zone::AB,
+    }
+}
+
+/// The position that a value is. Where there is none the card has a fault.
+fn position_in(value: Value) -> u16
+    requires { IsValueWithin largest_size value }
+    ensures position { result ≡ position_in value }
+    ensures within { result < largest_size }
+{
+    match value {
+        Value::At(position) => position,
+        _ => 0,
+    }
+}
+
+/// An operand as an address of three characters.
+fn operand_codes(size: u16, slots: &[Slot], literals: &[Literal], operand: &Operand) -> [Code; 3]
+    requires size { size ≤ largest_size }
+    requires names { IsWithin FARTHEST slots.now }
+    requires count { length literals.now ≤ MOST_LITERALS }
+    requires place { place_after slots.now ≤ FARTHEST }
+    requires range { IsOperandInRange operand.now }
+    ensures { result ≡ operand_codes size slots.now (texts literals.now) (Some operand.now) }
+{
+    match operand {
+        Operand::Address(address) => {
+            let position = position_in(value_in(size, slots, address.expression));
+            encode_tagged(position, tag(address.index))
+        }
+        Operand::Literal(text) => {
+            let end = literal_end(place_after(slots), literals, text.characters());
+            encode_tagged((end % LARGEST_SIZE as u32) as u16, Zone::Bare)
+        }
+    }
+}
+
+/// Adds the characters of an operand, where there is one.
+fn push_operand(
+    codes: &mut Vec<Code>,
+    size: u16,
+    slots: &[Slot],
+    literals: &[Literal],
+    operand: &Option<Operand>,
+) -> Result<(), AllocError>
+    requires size { size ≤ largest_size }
+    requires names { IsWithin FARTHEST slots.now }
+    requires count { length literals.now ≤ MOST_LITERALS }
+    requires place { place_after slots.now ≤ FARTHEST }
+    requires range { IfSome operand.now IsOperandInRange }
+    ensures codes { OnOk result (codes.new.items ≡ codes.old.items ++ operand_codes size slots.now (texts literals.now) operand.now) }
+    ensures length { OnOk result (length codes.new.items ≤ length codes.old.items + 3) }
+{
+    let Some(operand) = operand else {
+        return Ok(());
+    };
+    let [first, second, third] = operand_codes(size, slots, literals, operand);
+    codes.push(first)?;
+    codes.push(second)?;
+    codes.push(third)?;
+    Ok(())
+}
+
+/// Literals one behind the other from a place on.
+fn push_literals(cells: &mut Vec<Cell>, place: u32, literals: &[Literal]) -> Result<(), AllocError>
+    requires place { place ≤ FARTHEST }
+    requires count { length literals.now ≤ MOST_LITERALS }
+    ensures { OnOk result (cells.new.items ≡ cells.old.items ++ literal_cells place (texts literals.now)) }
+{
+    let mut here = place;
+    for literal in literals {
+        let codes = literal.characters();
+        push_field(cells, true, here, codes)?;
+        here += codes.len() as u32;
+    }
+    Ok(())
+}
+
+/// Fills positions with blanks without marks.
+fn push_blank_row(cells: &mut Vec<Cell>, place: u32, count: u32) -> Result<(), AllocError>
+    requires place { place ≤ LAST_CELL }
+    requires count { count ≤ number_limit }
+    ensures { OnOk result (cells.new.items ≡ cells.old.items ++ row place (replicate count blank)) }
+{
+    for offset in 0..count {
+        cells.push(Cell {
+            position: place + offset,
+            code: Code::blank(),
+            marked: false,
+        })?;
+    }
+    Ok(())
+}
+
+/// Fills positions with blanks, the leftmost with a mark or without.
+#[tactic(auto, using(crate::proofs::Filling::blank_field))]
+fn push_blanks(
+    cells: &mut Vec<Cell>,
+    marked: bool,
+    place: u32,
+    count: u32,
+) -> Result<(), AllocError>
+    requires place { place < LAST_CELL }
+    requires some { 0 < count }
+    requires limit { count ≤ number_limit }
+    ensures { OnOk result (cells.new.items ≡ cells.old.items ++ field marked place (replicate count blank)) }
+{
+    cells.push(Cell {
+        position: place,
+        code: Code::blank(),
+        marked,
+    })?;
+    push_blank_row(cells, place + 1, count - 1)
+}
+
+/// The characters of an instruction: its operation, its addresses, its last character.
+#[tactic(auto, unfolding(crate::specs::Cells::instruction_codes))]
+fn instruction_codes(
+    alloc: Global,
+    size: u16,
+    slots: &[Slot],
+    literals: &[Literal],
+    spelled: &Instruction,
+) -> Result<Vec<Code>, AllocError>
+    requires size { size ≤ largest_size }
+    requires names { IsWithin FARTHEST slots.now }
+    requires count { length literals.now ≤ MOST_LITERALS }
+    requires place { place_after slots.now ≤ FARTHEST }
+    requires range { IsInstructionInRange spelled.now }
+    ensures codes { IfOk result (λ codes. codes.items ≡ instruction_codes size slots.now (texts literals.now) spelled.now) }
+    ensures length { IfOk result (λ codes. length codes.items ≤ number_limit) }
+{
+    let mut codes = Vec::new(alloc);
+    codes.push(spelled.operation)?;
+    push_operand(&mut codes, size, slots, literals, &spelled.first)?;
+    push_operand(&mut codes, size, slots, literals, &spelled.second)?;
+    push_modifier(&mut codes, spelled.modifier)?;
+    Ok(codes)
+}
+
+/// Adds the last character of an instruction, where there is one.
+fn push_modifier(codes: &mut Vec<Code>, modifier: Option<Code>) -> Result<(), AllocError>
+    ensures codes { OnOk result (codes.new.items ≡ codes.old.items ++ option_to_list modifier) }
+    ensures length { OnOk result (length codes.new.items ≤ length codes.old.items + 1) }
+{
+    let Some(code) = modifier else {
+        return Ok(());
+    };
+    codes.push(code)?;
+    Ok(())
+}
+
+/// The marked blank behind an instruction, where the next card that stands at a place ends it.
+fn push_blank_behind(cells: &mut Vec<Cell>, later: &[Slot], place: u32) -> Result<(), AllocError>
+    ensures { OnOk result (cells.new.items ≡ cells.old.items ++ blank_behind later.now place) }
+{
+    if !is_closed(later) {
+        return Ok(());
+    }
+    cells.push(Cell {
+        position: place,
+        code: Code::blank(),
+        marked: true,
+    })?;
+    Ok(())
+}
+
+/// Fills positions with a constant. Of blanks that go on past the end of the storage only the
+/// first are filled: `#99999` is no longer work than the storage is long.
+fn push_constant(
+    cells: &mut Vec<Cell>,
+    size: u16,
+    marked: bool,
+    place: u32,
+    constant: &Constant,
+) -> Result<(), AllocError>
+    requires place { place ≤ FARTHEST }
+    requires range { IsConstantInRange constant.now }
+    ensures { OnOk result (cells.new.items ≡ cells.old.items ++ field marked place (constant_codes (shortened size constant.now))) }
+{
+    match constant {
+        Constant::Characters(text) => push_field(cells, marked, place, text.characters()),
+        Constant::Blanks(count) => {
+            push_blanks(cells, marked, place, (*count).min(size as u32 + 1))
+        }
+    }
+}
+
+/// What a card fills, with names and literals of the whole source: all of it, or the beginning
+/// that shows that it goes on past the end of the storage.
+#[tactic(auto, unfolding(crate::specs::Cells::cells_of), using(crate::proofs::Cutting::uncut, crate::proofs::Cutting::constant_cut))]
+pub fn cells_of(
+    alloc: Global,
+    size: u16,
+    slots: &[Slot],
+    literals: &[Literal],
+    later: &[Slot],
+    slot: &Slot,
+    line: &Line,
+) -> Result<Vec<Cell>, AllocError>
+    requires size { size ≤ largest_size }
+    requires names { IsWithin FARTHEST slots.now }
+    requires count { length literals.now ≤ MOST_LITERALS }
+    requires place { place_after slots.now ≤ FARTHEST }
+    requires before { slot.now.before ≤ FARTHEST }
+    requires range { IsInRange line.now }
+    ensures cells { IfOk result (λ cells. IsCut size (cells_of size slots.now (texts literals.now) later.now slot.now line.now) cells.items) }
+{
+    let mut cells = Vec::new(alloc);
+    if slot.fault.is_some() {
+        return Ok(cells);
+    }
+    match line {
+        Ok(
+            Statement::Constant {
+                marked,
+                constant,
+                ..
+            },
+        ) => {
+            push_constant(&mut cells, size, *marked, slot.before, constant)?;
+            Ok(cells)
+        }
+        Ok(Statement::Instruction { instruction, .. }) => {
+            let codes = instruction_codes(alloc, size, slots, literals, instruction)?;
+            push_field(&mut cells, true, slot.before, &codes)?;
+            push_blank_behind(&mut cells, later, slot.after)?;
+            Ok(cells)
+        }
+        Ok(Statement::End { .. }) => {
+            push_literals(&mut cells, slot.before, literals)?;
+            Ok(cells)
+        }
+        _ => Ok(cells),
+    }
+}

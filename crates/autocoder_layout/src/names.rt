@@ -1,0 +1,96 @@
+//! Names and the values of addresses.
+
+ghost use Rattle.std.specs.Prelude.{◌≡◌, ◌≤◌, IfSome, find, option_copied};
+ghost use Rattle.autocoder_layout.specs.Names.{defines, address_of, within, base_number, value_in, IsValueWithin};
+ghost use Rattle.autocoder_layout.specs.Bounds.{IsWithin};
+ghost use Rattle.autocoder_statements.specs.Ranges.{IsBaseInRange, IsExpressionInRange};
+
+use crate::slots::{FARTHEST, Slot};
+use autocoder_statements::{Adjustment, Base, Expression, Name};
+
+/// What an expression stands for.
+#[derive(Clone, Copy, Debug, PartialEq, Eq)]
+pub enum Value {
+    /// Its name is not defined.
+    Unknown,
+    /// It is negative, or not below the size of storage.
+    Outside,
+    /// This position.
+    At(u16),
+}
+
+impl Slot {
+    /// Whether the card gives a name its address.
+    fn defines(&self, name: &Name) -> bool
+        ensures { result ≡ defines name.now self.now }
+    {
+        match self.defines {
+            None => false,
+            Some(definition) => definition.name == *name,
+        }
+    }
+}
+
+/// The first card that gives a name its address.
+fn defining<'a>(slots: &'a [Slot], name: &Name) -> Option<&'a Slot>
+    ensures { option_copied result ≡ find (defines name.now) slots.now }
+{
+    slots.iter().find(|slot| slot.defines(name))
+}
+
+/// The address of a name, as the first card gives it that defines the name.
+#[tactic(auto, unfolding(crate::specs::Names::address_of))]
+pub(crate) fn address_of(slots: &[Slot], name: &Name) -> Option<u32>
+    ensures { result ≡ address_of name.now slots.now }
+{
+    let slot = defining(slots, name)?;
+    Some(slot.defines?.address)
+}
+
+/// A number as a position of the storage.
+#[tactic(auto, unfolding(crate::specs::Names::within))]
+fn within(size: u16, number: u32) -> Value
+    ensures value { result ≡ within size number }
+    ensures within { IsValueWithin size result }
+{
+    if number < size as u32 {
+        Value::At(number as u16)
+    } else {
+        Value::Outside
+    }
+}
+
+/// The number that a base stands for.
+#[tactic(auto, using(crate::proofs::Bounds::address_within))]
+fn base_number(slots: &[Slot], base: Base) -> Option<u32>
+    requires names { IsWithin FARTHEST slots.now }
+    requires range { IsBaseInRange base }
+    ensures number { result ≡ base_number slots.now base }
+    ensures limit { IfSome result (λ number. number ≤ FARTHEST) }
+{
+    match base {
+        Base::Number(number) => Some(number),
+        Base::Name(name) => address_of(slots, &name),
+    }
+}
+
+/// What an expression stands for, by the cards that give names their addresses.
+#[tactic(auto, unfolding(crate::specs::Names::value_in))]
+pub fn value_in(size: u16, slots: &[Slot], expression: Expression) -> Value
+    requires names { IsWithin FARTHEST slots.now }
+    requires range { IsExpressionInRange expression }
+    ensures value { result ≡ value_in size slots.now expression }
+    ensures within { IsValueWithin size result }
+{
+    let Some(number) = base_number(slots, expression.base) else {
+        return Value::Unknown;
+    };
+    match expression.adjustment {
+        Adjustment::Nothing => within(size, number),
+        Adjustment::Plus(more) => within(size, number + more),
+        Adjustment::Minus(less) => match number.checked_sub(less) {
+            Some(number) => within(size, number),
+            None => Value::Outside,
+        },
+    }
+}

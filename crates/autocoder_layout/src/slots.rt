@@ -1,0 +1,408 @@
+//! What a card makes of the place it stands at.
+
+ghost use Rattle.std.specs.Prelude.{◌≡◌, ◌+◌, ◌≤◌, ◌<◌, [], length, false, reverse, find, option_copied, IfOk};
+ghost use Rattle.core_store.specs.Storage.{largest_size};
+ghost use Rattle.cards.specs.Decks.{largest_deck};
+ghost use Rattle.autocoder_layout.specs.Bounds.{IsWithin};
+ghost use Rattle.autocoder_layout.specs.Source.{IsInRange, lines_of};
+ghost use Rattle.autocoder_statements.specs.Ranges.{IsExpressionInRange};
+ghost use Rattle.autocoder_layout.specs.Slots.{place_after, is_nothing, is_instruction, stands, is_open, is_closed, place_behind, stays, takes, with_label, labelled, moved_to, equal_to, has_start, end_fault, ended, run, constant, area, instruction, equated, slot_of, slots_from};
+
+use crate::faults::SourceFault;
+use crate::names::{Value, address_of, value_in};
+use crate::source::{Line, either, is_control, line_on};
+use autocoder_statements::{Expression, Name, Statement, StatementFault};
+use cards::Card;
+use std::alloc::{AllocError, Global};
+
+/// Where the first card stands.
+pub const FIRST_PLACE: u32 = 333;
+
+/// What no place lies beyond: each of 2,000 cards takes fewer than 100,000 positions.
+pub const FARTHEST: u32 = 300_000_000;
+
+/// What no place in front of a card lies beyond.
+pub const LAST_PLACE: u32 = 299_000_000;
+
+/// A name and its address.
+#[derive(Clone, Copy)]
+pub struct Definition {
+    pub name: Name,
+    /// The address, which may lie outside the storage.
+    pub address: u32,
+}
+
+/// What a card does at its place.
+#[derive(Clone, Copy, Debug, PartialEq, Eq)]
+pub enum Kind {
+    /// It stands at no place: a comment, or what counts as one.
+    Nothing,
+    /// It fills positions with an instruction.
+    Instruction,
+    /// It fills positions with a constant.
+    Constant,
+    /// It passes positions without filling them, or goes on elsewhere, or ends the source.
+    Passing,
+}
+
+/// Where a card stands and what it defines, or the fault for which it does neither.
+#[derive(Clone, Copy)]
+pub struct Slot {
+    /// The card's first position.
+    pub before: u32,
+    /// The position behind the card's last.
+    pub after: u32,
+    /// What its label means.
+    pub defines: Option<Definition>,
+    pub fault: Option<SourceFault>,
+    pub kind: Kind,
+    /// Whether the card ends an instruction before it, behind which a marked blank is placed.
+    pub closes: bool,
+}
+
+impl Kind {
+    /// Whether the card stands at no place.
+    fn is_nothing(self) -> bool
+        ensures { result ≡ is_nothing self }
+    {
+        match self {
+            Kind::Nothing => true,
+            _ => false,
+        }
+    }
+
+    /// Whether the card is an instruction.
+    pub fn is_instruction(self) -> bool
+        ensures { result ≡ is_instruction self }
+    {
+        match self {
+            Kind::Instruction => true,
+            _ => false,
+        }
+    }
+}
+
+impl Slot {
+    /// Whether the card stands at a place.
+    fn stands(&self) -> bool
+        ensures { result ≡ stands self.now }
+    {
+        !self.kind.is_nothing()
+    }
+}
+
+/// Where the cards so far end.
+pub fn place_after(slots: &[Slot]) -> u32
+    ensures { result ≡ place_after slots.now }
+{
+    if slots.is_empty() {
+        return FIRST_PLACE;
+    }
+    slots[slots.len() - 1].after
+}
+
+/// The last card that stands at a place.
+fn last_standing(slots: &[Slot]) -> Option<&Slot>
+    ensures { option_copied result ≡ find stands (reverse slots.now) }
+{
+    slots.iter().rev().find(|slot| slot.stands())
+}
+
+/// The first card that stands at a place.
+fn first_standing(slots: &[Slot]) -> Option<&Slot>
+    ensures { option_copied result ≡ find stands slots.now }
+{
+    slots.iter().find(|slot| slot.stands())
+}
+
+/// Whether the last card that stands at a place is an instruction.
+#[tactic(auto, unfolding(crate::specs::Slots::is_open))]
+fn is_open(earlier: &[Slot]) -> bool
+    ensures { result ≡ is_open earlier.now }
+{
+    let Some(slot) = last_standing(earlier) else {
+        return false;
+    };
+    slot.kind.is_instruction()
+}
+
+/// Whether the next card that stands at a place ends an instruction before it.
+#[tactic(auto, unfolding(crate::specs::Slots::is_closed))]
+pub(crate) fn is_closed(later: &[Slot]) -> bool
+    ensures { result ≡ is_closed later.now }
+{
+    let Some(slot) = first_standing(later) else {
+        return false;
+    };
+    slot.closes
+}
+
+/// The first instruction.
+pub fn first_instruction(slots: &[Slot]) -> Option<&Slot>
+    ensures { option_copied result ≡ find (λ slot. is_instruction slot.kind) slots.now }
+{
+    slots.iter().find(|slot| slot.kind.is_instruction())
+}
+
+/// Where a card begins that ends an instruction before it.
+#[tactic(auto, unfolding(crate::specs::Slots::place_behind))]
+fn place_behind(earlier: &[Slot]) -> u32
+    requires { place_after earlier.now < FARTHEST }
+    ensures place { result ≡ place_behind earlier.now }
+    ensures limit { result ≤ place_after earlier.now + 1 }
+{
+    if is_open(earlier) {
+        place_after(earlier) + 1
+    } else {
+        place_after(earlier)
+    }
+}
+
+/// A card that places and defines nothing.
+fn stays(earlier: &[Slot], fault: Option<SourceFault>) -> Slot
+    ensures { result ≡ stays earlier.now fault }
+{
+    let place = place_after(earlier);
+    Slot {
+        before: place,
+        after: place,
+        defines: None,
+        fault,
+        kind: Kind::Nothing,
+        closes: false,
+    }
+}
+
+/// A card that takes the positions from one place up to another.
+fn takes(kind: Kind, closes: bool, before: u32, after: u32) -> Slot
+    ensures { result ≡ takes kind closes before after }
+{
+    Slot {
+        before,
+        after,
+        defines: None,
+        fault: None,
+        kind,
+        closes,
+    }
+}
+
+impl Slot {
+    /// The same with a label.
+    fn with_label(&self, name: Name, address: u32) -> Slot
+        ensures { result ≡ with_label self.now name address }
+    {
+        Slot {
+            before: self.before,
+            after: self.after,
+            defines: Some(Definition { name, address }),
+            fault: self.fault,
+            kind: self.kind,
+            closes: self.closes,
+        }
+    }
+
+    /// The card with the label that it may have, which no earlier card may define.
+    #[tactic(auto, unfolding(crate::specs::Slots::labelled))]
+    fn labelled(&self, earlier: &[Slot], label: Option<Name>, address: u32) -> Slot
+        ensures { result ≡ labelled earlier.now label address self.now }
+    {
+        let Some(name) = label else {
+            return *self;
+        };
+        if address_of(earlier, &name).is_some() {
+            return stays(earlier, Some(SourceFault::TakenLabel));
+        }
+        self.with_label(name, address)
+    }
+}
+
+/// A card that goes on at a position.
+fn moved_to(earlier: &[Slot], value: Value) -> Slot
+    requires { place_after earlier.now < FARTHEST }
+    ensures { result ≡ moved_to earlier.now value }
+{
+    match value {
+        Value::Unknown => stays(earlier, Some(SourceFault::UnknownName)),
+        Value::Outside => stays(earlier, Some(SourceFault::Outside)),
+        Value::At(position) => takes(
+            Kind::Passing,
+            is_open(earlier),
+            place_behind(earlier),
+            position as u32,
+        ),
+    }
+}
+
+/// A card that gives a name an address.
+fn equal_to(earlier: &[Slot], name: Name, value: Value) -> Slot
+    ensures { result ≡ equal_to earlier.now name value }
+{
+    match value {
+        Value::Unknown => stays(earlier, Some(SourceFault::UnknownName)),
+        Value::Outside => stays(earlier, Some(SourceFault::Outside)),
+        Value::At(position) => stays(earlier, None).with_label(name, position as u32),
+    }
+}
+
+/// Whether the program has a start: an address, or else an instruction.
+fn has_start(earlier: &[Slot], start: Option<Expression>) -> bool
+    ensures { result ≡ has_start earlier.now start }
+{
+    match start {
+        Some(_) => true,
+        None => first_instruction(earlier).is_some(),
+    }
+}
+
+/// What is wrong with an `END`: its program has no start, or it has a label.
+fn end_fault(earlier: &[Slot], start: Option<Expression>, labelled: bool) -> Option<StatementFault>
+    ensures { result ≡ end_fault earlier.now start labelled }
+{
+    if !has_start(earlier, start) {
+        return Some(StatementFault::Operand);
+    }
+    if labelled {
+        return Some(StatementFault::Label);
+    }
+    None
+}
+
+/// A card that ends the source.
+fn ended(earlier: &[Slot], start: Option<Expression>, labelled: bool) -> Slot
+    requires { place_after earlier.now < FARTHEST }
+    ensures { result ≡ ended earlier.now start labelled }
+{
+    if let Some(fault) = end_fault(earlier, start, labelled) {
+        return stays(earlier, Some(SourceFault::Statement(fault)));
+    }
+    let place = place_behind(earlier);
+    takes(Kind::Passing, is_open(earlier), place, place)
+}
+
+/// A card that takes so many positions from a place on, its label being the last of them.
+fn run(
+    earlier: &[Slot],
+    label: Option<Name>,
+    kind: Kind,
+    closes: bool,
+    place: u32,
+    count: u32,
+) -> Slot
+    requires some { 0 < count }
+    requires limit { place + count ≤ FARTHEST }
+    ensures { result ≡ run earlier.now label kind closes place count }
+{
+    takes(kind, closes, place, place + count).labelled(earlier, label, place + count - 1)
+}
+
+/// A constant. One without a mark ends an instruction before it.
+fn constant(earlier: &[Slot], label: Option<Name>, marked: bool, count: u32) -> Slot
+    requires some { 0 < count }
+    requires limit { place_after earlier.now + 1 + count ≤ FARTHEST }
+    ensures { result ≡ constant earlier.now label marked count }
+{
+    if marked {
+        let place = place_after(earlier);
+        run(earlier, label, Kind::Constant, false, place, count)
+    } else {
+        let place = place_behind(earlier);
+        run(
+            earlier,
+            label,
+            Kind::Constant,
+            is_open(earlier),
+            place,
+            count,
+        )
+    }
+}
+
+/// Positions that a card passes.
+fn area(earlier: &[Slot], label: Option<Name>, count: u32) -> Slot
+    requires some { 0 < count }
+    requires limit { place_after earlier.now + 1 + count ≤ FARTHEST }
+    ensures { result ≡ area earlier.now label count }
+{
+    let place = place_behind(earlier);
+    run(
+        earlier,
+        label,
+        Kind::Passing,
+        is_open(earlier),
+        place,
+        count,
+    )
+}
+
+/// An instruction. Its label is its first position.
+fn instruction(earlier: &[Slot], label: Option<Name>, count: u16) -> Slot
+    requires { place_after earlier.now + count ≤ FARTHEST }
+    ensures { result ≡ instruction earlier.now label count }
+{
+    let place = place_after(earlier);
+    takes(Kind::Instruction, false, place, place + count as u32).labelled(earlier, label, place)
+}
+
+/// What a name and its expression make of the cards so far.
+fn equated(size: u16, earlier: &[Slot], label: Name, expression: Expression) -> Slot
+    requires names { IsWithin FARTHEST earlier.now }
+    requires range { IsExpressionInRange expression }
+    ensures { result ≡ equated size earlier.now label expression }
+{
+    if address_of(earlier, &label).is_some() {
+        return stays(earlier, Some(SourceFault::TakenLabel));
+    }
+    equal_to(earlier, label, value_in(size, earlier, expression))
+}
+
+/// What the earlier cards make of a card. No name of a later card counts here.
+#[tactic(auto, unfolding(crate::specs::Slots::slot_of), using(crate::proofs::Bounds::constant_length_in_range))]
+fn slot_of(size: u16, earlier: &[Slot], line: Line) -> Slot
+    requires names { IsWithin FARTHEST earlier.now }
+    requires place { place_after earlier.now ≤ LAST_PLACE }
+    requires range { IsInRange line }
+    ensures { result ≡ slot_of size earlier.now line }
+{
+    let statement = match line {
+        Ok(statement) => statement,
+        Err(fault) => return stays(earlier, Some(SourceFault::Statement(fault))),
+    };
+    match statement {
+        Statement::Comment => stays(earlier, None),
+        Statement::Job => stays(earlier, None),
+        Statement::Control(_) => stays(earlier, None),
+        Statement::Origin(expression) => moved_to(earlier, value_in(size, earlier, expression)),
+        Statement::Equate { label, expression } => equated(size, earlier, label, expression),
+        Statement::Constant {
+            label,
+            marked,
+            constant: text,
+        } => constant(earlier, label, marked, text.length()),
+        Statement::Area { label, positions } => area(earlier, label, positions),
+        Statement::End { start, labelled } => ended(earlier, start, labelled),
+        Statement::Instruction {
+            label,
+            instruction: spelled,
+        } => instruction(earlier, label, spelled.length()),
+    }
+}
+
+/// The slot of each card of a source.
+pub fn lay_out(alloc: Global, size: u16, source: &[Card]) -> Result<Vec<Slot>, AllocError>
+    requires count { length source.now ≤ largest_deck }
+    requires size { size ≤ largest_size }
+    ensures slots { IfOk result (λ slots. slots.items ≡ slots_from size [] (lines_of false source.now)) }
+    ensures within { IfOk result (λ slots. IsWithin FARTHEST slots.items) }
+    ensures count { IfOk result (λ slots. length slots.items ≡ length source.now) }
+    ensures place { IfOk result (λ slots. place_after slots.items ≤ FARTHEST) }
+{
+    let mut slots = Vec::new(alloc);
+    let mut told = false;
+    for card in source {
+        let slot = slot_of(size, &slots, line_on(told, card));
+        slots.push(slot)?;
+        told = either(told, is_control(card));
+    }
+    Ok(slots)
+}

@@ -1,0 +1,7 @@
+use Rattle.std.proofs.Common.{◌∙◌, ap}
+use Rattle.autocoder_statements.specs.Mnemonics.{entry}
+use Rattle.autocoder_statements.proofs.Rows.{orders_are}
+use Rattle.autocoder_statements.proofs.operations.order_named.Goals as goal
+
+pub returns : goal.returns
+returns c = c.entry.ensures ∙ ap (λ table. entry table c.args.word.now) orders_are

@@ -1,0 +1,161 @@
+-- what stands in the operation field: the orders to the assembler and the mnemonics of instructions
+use Rattle.std.specs.Prelude.{ℕ, ◌+◌, ◌*◌, ◌-◌, ◌==◌, if◌then◌else◌, List, [], ◌∷◌, ◌++◌, length, replicate, Option, Some, None, option_map, unwrap_or, codes, position}
+use Rattle.bcd.specs.Table.{glyphs, byte}
+use Rattle.autocoder_statements.specs.Characters.{begins}
+use Rattle.autocoder_statements.specs.Operands.{operands}
+use Rattle.autocoder_statements.specs.declared.forms.Form.{Form}
+use Rattle.autocoder_statements.specs.declared.forms.Form.TheVariants.{Empty, Modifier, One, OneAndModifier, Two, TwoAndModifier}
+use Rattle.autocoder_statements.specs.declared.forms.Kind.TheVariants.{Branch, Field}
+use Rattle.autocoder_statements.specs.declared.forms.Modifiers.TheVariants.{Any, Switches, ZonesAndMarks, Carriage}
+use Rattle.autocoder_statements.specs.declared.operands.Operands.{Operands}
+use Rattle.autocoder_statements.specs.declared.operations.Forms.{Forms}
+use Rattle.autocoder_statements.specs.declared.operations.Mnemonic.{Mnemonic}
+use Rattle.autocoder_statements.specs.declared.operations.Operation.{Operation}
+use Rattle.autocoder_statements.specs.declared.operations.Operation.TheVariants as operation
+use Rattle.autocoder_statements.specs.declared.operations.Instruction.{Instruction}
+
+-- ---- the table
+
+-- a name with blanks up to the five columns of the operation field
+abbrev pub named : List ℕ → List ℕ
+named name = name ++ replicate (5 - length name) (byte (codes " "))
+
+abbrev pub one_form : Form → Forms
+one_form form = record { form = form; other = None; third = None }
+
+abbrev pub two_forms : Form → Form → Forms
+two_forms form other = record { form = form; other = Some other; third = None }
+
+abbrev pub three_forms : Form → Form → Form → Forms
+three_forms form other third = record { form = form; other = Some other; third = Some third }
+
+-- name, operation, the fixed last character, forms
+abbrev pub Row : Type 0
+Row = List ℕ × (ℕ × Option ℕ × Forms)
+
+abbrev pub plain : List ℕ → List ℕ → Forms → Row
+plain name operation forms = (named name, (byte operation, None, forms))
+
+abbrev pub fixed : List ℕ → List ℕ → List ℕ → Forms → Row
+fixed name operation last forms = (named name, (byte operation, Some (byte last), forms))
+
+abbrev pub none_or_branch : Forms
+none_or_branch = two_forms Empty (One Branch)
+
+abbrev pub none_or_two : Forms
+none_or_two = two_forms Empty (Two Field Field)
+
+abbrev pub none_one_or_two : Forms
+none_one_or_two = three_forms Empty (One Field) (Two Field Field)
+
+abbrev pub branch : Forms
+branch = one_form (One Branch)
+
+unfoldable pub mnemonics : List Row
+mnemonics =
+    plain (codes "A") (codes "A") none_one_or_two
+    ∷ plain (codes "S") (codes "S") none_one_or_two
+    ∷ plain (codes "ZA") (codes "?") none_one_or_two
+    ∷ plain (codes "ZS") (codes "!") none_one_or_two
+    ∷ plain (codes "MCW") (codes "M") none_or_two
+    ∷ plain (codes "LCA") (codes "L") none_or_two
+    ∷ plain (codes "MN") (codes "D") none_or_two
+    ∷ plain (codes "MZ") (codes "Y") none_or_two
+    ∷ plain (codes "MCS") (codes "Z") none_or_two
+    ∷ plain (codes "MCE") (codes "E") none_or_two
+    ∷ plain (codes "C") (codes "C") none_or_two
+    ∷ plain (codes "MA") (codes "#") (one_form (Two Field Field))
+    ∷ plain (codes "SW") (codes ",") (two_forms (One Field) (Two Field Field))
+    ∷ plain (codes "CW") (codes ")") (two_forms (One Field) (Two Field Field))
+    ∷ plain (codes "CS") (codes "/") (three_forms Empty (One Field) (Two Branch Field))
+    ∷ plain (codes "B") (codes "B") branch
+    ∷ fixed (codes "BLC") (codes "B") (codes "A") branch
+    ∷ fixed (codes "BCV") (codes "B") (codes "@") branch
+    ∷ fixed (codes "BU") (codes "B") (codes "/") branch
+    ∷ fixed (codes "BE") (codes "B") (codes "S") branch
+    ∷ fixed (codes "BL") (codes "B") (codes "T") branch
+    ∷ fixed (codes "BH") (codes "B") (codes "U") branch
+    ∷ fixed (codes "BAV") (codes "B") (codes "Z") branch
+    ∷ plain (codes "BSS") (codes "B") (one_form (OneAndModifier Branch Switches))
+    ∷ plain (codes "BCE") (codes "B") (one_form (TwoAndModifier Branch Field Any))
+    ∷ plain (codes "BWZ") (codes "V") (one_form (TwoAndModifier Branch Field ZonesAndMarks))
+    ∷ fixed (codes "BW") (codes "V") (codes "1") (one_form (Two Branch Field))
+    ∷ plain (codes "R") (codes "1") none_or_branch
+    ∷ plain (codes "W") (codes "2") none_or_branch
+    ∷ plain (codes "WR") (codes "3") none_or_branch
+    ∷ plain (codes "P") (codes "4") none_or_branch
+    ∷ plain (codes "RP") (codes "5") none_or_branch
+    ∷ plain (codes "WP") (codes "6") none_or_branch
+    ∷ plain (codes "WRP") (codes "7") none_or_branch
+    ∷ plain (codes "CC") (codes "F") (one_form (Modifier Carriage))
+    ∷ plain (codes "H") (codes ".") none_or_branch
+    ∷ plain (codes "SBR") (codes "H") (one_form (One Field))
+    ∷ plain (codes "SAR") (codes "Q") (one_form (One Field))
+    ∷ plain (codes "NOP") (codes "N") (one_form Empty)
+    ∷ []
+
+unfoldable pub orders : List (List ℕ × Operation)
+orders =
+    (named (codes "JOB"), operation.Job)
+    ∷ (named (codes "CTL"), operation.Control)
+    ∷ (named (codes "ORG"), operation.Origin)
+    ∷ (named (codes "EQU"), operation.Equate)
+    ∷ (named (codes "DCW"), operation.MarkedConstant)
+    ∷ (named (codes "DC"), operation.Constant)
+    ∷ (named (codes "DS"), operation.Area)
+    ∷ (named (codes "END"), operation.End)
+    ∷ []
+
+-- ---- what a word names
+
+-- what the first row has that the word begins with
+unfoldable pub entry : {A : Type 0} → List (List ℕ × A) → List ℕ → Option A
+entry [] word = None
+entry (row ∷ rows) word = if begins row.0 word then Some row.1 else entry rows word
+
+abbrev pub or_else : {A : Type 0} → Option A → Option A → Option A
+or_else (Some x) other = Some x
+or_else None other = other
+
+abbrev pub mnemonic_of : (ℕ × Option ℕ × Forms) → Mnemonic
+mnemonic_of row = record { operation = row.0; modifier = row.1; forms = row.2 }
+
+-- the operation that a word of five characters names
+unfoldable pub operation_named : List ℕ → Option Operation
+operation_named word = or_else (entry orders word) (option_map (λ row. operation.Instruction (mnemonic_of row)) (entry mnemonics word))
+
+-- ---- the instruction of a mnemonic
+
+-- the character of a glyph
+unfoldable pub code_of : ℕ → ℕ
+code_of glyph = unwrap_or (position (λ g. g == glyph) glyphs) 0
+
+-- what the field holds in a form, where there is one
+abbrev pub operands_if : Option Form → List ℕ → Option Operands
+operands_if None text = None
+operands_if (Some form) text = operands form text
+
+-- what the field holds, in the first form that it has
+unfoldable pub operands_in : Forms → List ℕ → Option Operands
+operands_in forms text = or_else (operands forms.form text) (or_else (operands_if forms.other text) (operands_if forms.third text))
+
+abbrev pub built : Mnemonic → Operands → Instruction
+built mnemonic operands = record {
+  operation = code_of mnemonic.operation;
+  first = operands.first;
+  second = operands.second;
+  modifier = or_else operands.modifier (option_map code_of mnemonic.modifier);
+}
+
+-- the instruction of a mnemonic with a whole operand field
+unfoldable pub instruction : Mnemonic → List ℕ → Option Instruction
+instruction mnemonic text = option_map (built mnemonic) (operands_in mnemonic.forms text)
+
+-- 1 where something is there
+abbrev pub present : {A : Type 0} → Option A → ℕ
+present None = 0
+present (Some x) = 1
+
+-- how many positions an instruction takes: the operation, three for each address, the last character
+abbrev pub instruction_length : Instruction → ℕ
+instruction_length instruction = 1 + 3 * present instruction.first + 3 * present instruction.second + present instruction.modifier

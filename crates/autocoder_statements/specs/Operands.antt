@@ -1,0 +1,78 @@
+-- the operand field of an instruction, by the forms that it may have
+use Rattle.std.specs.Prelude.{ℕ, ◌+◌, ◌==◌, Bool, not, if◌then◌else◌, List, [], ◌∷◌, drop, Option, Some, None, option_map, codes}
+use Rattle.std.specs.List.{list_any}
+use Rattle.bcd.specs.Table.{glyph_of}
+use Rattle.autocoder_statements.specs.Characters.{begins, is_blank, is_ended}
+use Rattle.autocoder_statements.specs.Expressions.{◌>>=◌, address}
+use Rattle.autocoder_statements.specs.Constants.{literal}
+use Rattle.autocoder_statements.specs.declared.forms.Kind.{Kind}
+use Rattle.autocoder_statements.specs.declared.forms.Kind.TheVariants.{Branch, Field}
+use Rattle.autocoder_statements.specs.declared.forms.Modifiers.{Modifiers}
+use Rattle.autocoder_statements.specs.declared.forms.Modifiers.TheVariants.{Any, Switches, ZonesAndMarks, Carriage}
+use Rattle.autocoder_statements.specs.declared.forms.Form.{Form}
+use Rattle.autocoder_statements.specs.declared.forms.Form.TheVariants.{Empty, Modifier, One, OneAndModifier, Two, TwoAndModifier}
+use Rattle.autocoder_statements.specs.declared.operands.Operand.{Operand}
+use Rattle.autocoder_statements.specs.declared.operands.Operand.TheVariants.{Address, Literal}
+use Rattle.autocoder_statements.specs.declared.operands.Operands.{Operands}
+
+-- the text begins as a literal does, and no address does
+abbrev pub begins_literal : List ℕ → Bool
+begins_literal text = list_any (λ glyph. begins (glyph ∷ []) text) (codes "@&-")
+
+-- an operand of a kind: an address, or a literal that stands for the address of a field
+unfoldable pub operand : Kind → List ℕ → Option (Operand × ℕ)
+operand Branch text = option_map (λ found. (Address found.0, found.1)) (address text)
+operand Field text =
+    if begins_literal text then option_map (λ found. (Literal found.0, found.1)) (literal text)
+    else option_map (λ found. (Address found.0, found.1)) (address text)
+
+-- the same behind a comma
+unfoldable pub next_operand : Kind → List ℕ → Option (Operand × ℕ)
+next_operand kind text =
+    if begins (codes ",") text then option_map (λ found. (found.0, 1 + found.1)) (operand kind (drop 1 text))
+    else None
+
+abbrev pub is_among : List ℕ → ℕ → Bool
+is_among glyphs code = list_any (λ glyph. glyph == glyph_of code) glyphs
+
+-- the characters that may be the last of an instruction
+unfoldable pub is_modifier : Modifiers → ℕ → Bool
+is_modifier Any code = not (is_blank code)
+is_modifier Switches code = is_among (codes "BCDEFG") code
+is_modifier ZonesAndMarks code = is_among (codes "12BKS3CLT") code
+is_modifier Carriage code = is_among (codes "JKL/ST1A") code
+
+-- the one character that ends the field
+unfoldable pub modifier : Modifiers → List ℕ → Option ℕ
+modifier modifiers [] = None
+modifier modifiers (code ∷ text) = if is_modifier modifiers code then (if is_ended text then Some code else None) else None
+
+-- the same behind a comma
+unfoldable pub next_modifier : Modifiers → List ℕ → Option ℕ
+next_modifier modifiers text = if begins (codes ",") text then modifier modifiers (drop 1 text) else None
+
+abbrev pub with_modifier : Option Operand → Option Operand → ℕ → Operands
+with_modifier first second code = record { first = first; second = second; modifier = Some code }
+
+-- operands behind which the field is ended
+abbrev pub ended : Option Operand → Option Operand → List ℕ → Option Operands
+ended first second text = if is_ended text then Some (record { first = first; second = second; modifier = None }) else None
+
+-- the whole field in a form
+unfoldable pub operands : Form → List ℕ → Option Operands
+operands Empty text = ended None None text
+operands (Modifier modifiers) text = option_map (with_modifier None None) (modifier modifiers text)
+operands (One kind) text = do
+  first ← operand kind text
+  ended (Some first.0) None (drop first.1 text)
+operands (OneAndModifier kind modifiers) text = do
+  first ← operand kind text
+  option_map (with_modifier (Some first.0) None) (next_modifier modifiers (drop first.1 text))
+operands (Two kind other) text = do
+  first ← operand kind text
+  second ← next_operand other (drop first.1 text)
+  ended (Some first.0) (Some second.0) (drop second.1 (drop first.1 text))
+operands (TwoAndModifier kind other modifiers) text = do
+  first ← operand kind text
+  second ← next_operand other (drop first.1 text)
+  option_map (with_modifier (Some first.0) (Some second.0)) (next_modifier modifiers (drop second.1 (drop first.1 text)))

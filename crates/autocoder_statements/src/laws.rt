@@ -1,0 +1,26 @@
+//! Laws of numbers, of the tables and of the forms.
+
+ghost use Rattle.std.specs.Prelude.{◌≡◌, ◌<◌, ◌≤◌, ◌^◌, ◌++◌, ℕ, List, Some, true, false};
+ghost use Rattle.autocoder_statements.specs.Expressions.{digit_run, most_digits, number};
+ghost use Rattle.autocoder_statements.specs.Laws.{IsOneOperation, digits_of, fits};
+ghost use Rattle.autocoder_statements.specs.declared.forms.Form.TheVariants.{Empty, One, Two};
+ghost use Rattle.autocoder_statements.specs.declared.forms.Kind.{Kind};
+
+/// The law of numbers: what is spelled in one to five digits is read, where no digit follows.
+pub fn a_number_is_read()
+    ensures { (count n : ℕ) (rest : List ℕ) → 0 < count → count ≤ most_digits → n < 10 ^ count →
+        digit_run rest ≡ 0 → number (digits_of count n ++ rest) ≡ Some (n, count) }
+{}
+
+/// The law of names: a word is the name of one operation at most.
+pub fn a_word_names_one_operation()
+    ensures { (word : List ℕ) → IsOneOperation word }
+{}
+
+/// The law of forms: of the forms without a last character a field has at most one. So it does
+/// not matter in which order the forms of a mnemonic are tried.
+pub fn a_field_has_one_form()
+    ensures none_or_one { (kind : Kind) (text : List ℕ) → fits Empty text ≡ true → fits (One kind) text ≡ false }
+    ensures none_or_two { (kind other : Kind) (text : List ℕ) → fits Empty text ≡ true → fits (Two kind other) text ≡ false }
+    ensures one_or_two { (kind other third : Kind) (text : List ℕ) → fits (One kind) text ≡ true → fits (Two other third) text ≡ false }
+{}

@@ -1,0 +1,372 @@
+//! What stands in the operation field: the orders to the assembler and the mnemonics of
+//! instructions.
+
+ghost use Rattle.std.specs.Prelude.{◌≡◌, ◌≤◌, length, IfSome, option_map};
+ghost use Rattle.autocoder_statements.specs.Characters.{begins};
+ghost use Rattle.autocoder_statements.specs.Mnemonics.{orders, mnemonics, entry, operation_named, code_of, operands_if, operands_in, instruction, or_else, present, instruction_length};
+ghost use Rattle.autocoder_statements.specs.Ranges.{AreOperandsInRange, IsInstructionInRange};
+ghost use Rattle.autocoder_statements.specs.Limits.{longest_text};
+
+use crate::characters::begins;
+use crate::forms::{Form, Kind, Modifiers};
+use crate::operands::{Operand, Operands};
+use bcd::Code;
+
+/// How many columns the operation field has.
+pub const LONGEST_OPERATION: usize = 5;
+
+/// One to three forms.
+#[derive(Clone, Copy)]
+pub struct Forms {
+    /// The form that is tried first.
+    pub form: Form,
+    /// The one that is tried then.
+    pub other: Option<Form>,
+    /// The one that is tried last.
+    pub third: Option<Form>,
+}
+
+/// What a mnemonic stands for.
+#[derive(Clone, Copy)]
+pub struct Mnemonic {
+    /// The glyph of the operation.
+    pub operation: u8,
+    /// The glyph of the last character, where it is fixed.
+    pub modifier: Option<u8>,
+    /// The forms of its operand field.
+    pub forms: Forms,
+}
+
+/// What a card is for.
+#[derive(Clone, Copy)]
+pub enum Operation {
+    /// A heading.
+    Job,
+    /// The size of storage.
+    Control,
+    /// Where the next cards are placed.
+    Origin,
+    /// A name for an address.
+    Equate,
+    /// A constant with a word mark.
+    MarkedConstant,
+    /// A constant without a word mark.
+    Constant,
+    /// Positions that stay as they are.
+    Area,
+    /// The end of the source.
+    End,
+    /// An instruction.
+    Instruction(Mnemonic),
+}
+
+/// An instruction as its card spells it.
+#[derive(Clone, Copy)]
+pub struct Instruction {
+    /// The operation's character.
+    pub operation: Code,
+    /// The first address.
+    pub first: Option<Operand>,
+    /// The second address.
+    pub second: Option<Operand>,
+    /// The last character.
+    pub modifier: Option<Code>,
+}
+
+/// The orders to the assembler by their names.
+const ORDERS: [([u8; LONGEST_OPERATION], Operation); 8] = [
+    (*b"JOB  ", Operation::Job),
+    (*b"CTL  ", Operation::Control),
+    (*b"ORG  ", Operation::Origin),
+    (*b"EQU  ", Operation::Equate),
+    (*b"DCW  ", Operation::MarkedConstant),
+    (*b"DC   ", Operation::Constant),
+    (*b"DS   ", Operation::Area),
+    (*b"END  ", Operation::End),
+];
+
+/// Two fields.
+const FIELDS: Form = Form::Two(Kind::Field, Kind::Field);
+
+/// A field.
+const FIELD: Form = Form::One(Kind::Field);
+
+/// A place to go on at.
+const PLACE: Form = Form::One(Kind::Branch);
+
+/// Nothing.
+const NONE: Forms = Forms {
+    form: Form::Empty,
+    other: None,
+    third: None,
+};
+
+/// A place to go on at.
+const BRANCH: Forms = Forms {
+    form: PLACE,
+    other: None,
+    third: None,
+};
+
+/// Nothing, or a place to go on at.
+const NONE_OR_BRANCH: Forms = Forms {
+    form: Form::Empty,
+    other: Some(PLACE),
+    third: None,
+};
+
+/// Nothing, or two fields.
+const NONE_OR_TWO: Forms = Forms {
+    form: Form::Empty,
+    other: Some(FIELDS),
+    third: None,
+};
+
+/// Nothing, a field, or two fields.
+const NONE_ONE_OR_TWO: Forms = Forms {
+    form: Form::Empty,
+    other: Some(FIELD),
+    third: Some(FIELDS),
+};
+
+/// A field, or two fields.
+const ONE_OR_TWO: Forms = Forms {
+    form: FIELD,
+    other: Some(FIELDS),
+    third: None,
+};
+
+/// A field.
+const ONE: Forms = Forms {
+    form: FIELD,
+    other: None,
+    third: None,
+};
+
+/// Two fields.
+const TWO: Forms = Forms {
+    form: FIELDS,
+    other: None,
+    third: None,
+};
+
+/// Nothing, a field, or a place to go on at and a field.
+const CLEAR: Forms = Forms {
+    form: Form::Empty,
+    other: Some(FIELD),
+    third: Some(Form::Two(Kind::Branch, Kind::Field)),
+};
+
+/// A place to go on at and a sense switch.
+const SWITCH: Forms = Forms {
+    form: Form::OneAndModifier(Kind::Branch, Modifiers::Switches),
+    other: None,
+    third: None,
+};
+
+/// A place to go on at, a field and a character.
+const CHARACTER: Forms = Forms {
+    form: Form::TwoAndModifier(Kind::Branch, Kind::Field, Modifiers::Any),
+    other: None,
+    third: None,
+};
+
+/// A place to go on at, a field and a test of it.
+const ZONE: Forms = Forms {
+    form: Form::TwoAndModifier(Kind::Branch, Kind::Field, Modifiers::ZonesAndMarks),
+    other: None,
+    third: None,
+};
+
+/// A place to go on at and a field.
+const MARK: Forms = Forms {
+    form: Form::Two(Kind::Branch, Kind::Field),
+    other: None,
+    third: None,
+};
+
+/// An order to the carriage.
+const CARRIAGE: Forms = Forms {
+    form: Form::Modifier(Modifiers::Carriage),
+    other: None,
+    third: None,
+};
+
+/// The mnemonics: name, operation, the fixed last character, forms of the operand field.
+const MNEMONICS: [([u8; LONGEST_OPERATION], (u8, Option<u8>, Forms)); 39] = [
+    (*b"A    ", (b'A', None, NONE_ONE_OR_TWO)),
+    (*b"S    ", (b'S', None, NONE_ONE_OR_TWO)),
+    (*b"ZA   ", (b'?', None, NONE_ONE_OR_TWO)),
+    (*b"ZS   ", (b'!', None, NONE_ONE_OR_TWO)),
+    (*b"MCW  ", (b'M', None, NONE_OR_TWO)),
+    (*b"LCA  ", (b'L', None, NONE_OR_TWO)),
+    (*b"MN   ", (b'D', None, NONE_OR_TWO)),
+    (*b"MZ   ", (b'Y', None, NONE_OR_TWO)),
+    (*b"MCS  ", (b'Z', None, NONE_OR_TWO)),
+    (*b"MCE  ", (b'E', None, NONE_OR_TWO)),
+    (*b"C    ", (b'C', None, NONE_OR_TWO)),
+    (*b"MA   ", (b'#', None, TWO)),
+    (*b"SW   ", (b',', None, ONE_OR_TWO)),
+    (*b"CW   ", (b')', None, ONE_OR_TWO)),
+    (*b"CS   ", (b'/', None, CLEAR)),
+    (*b"B    ", (b'B', None, BRANCH)),
+    (*b"BLC  ", (b'B', Some(b'A'), BRANCH)),
+    (*b"BCV  ", (b'B', Some(b'@'), BRANCH)),
+    (*b"BU   ", (b'B', Some(b'/'), BRANCH)),
+    (*b"BE   ", (b'B', Some(b'S'), BRANCH)),
+    (*b"BL   ", (b'B', Some(b'T'), BRANCH)),
+    (*b"BH   ", (b'B', Some(b'U'), BRANCH)),
+    (*b"BAV  ", (b'B', Some(b'Z'), BRANCH)),
+    (*b"BSS  ", (b'B', None, SWITCH)),
+    (*b"BCE  ", (b'B', None, CHARACTER)),
+    (*b"BWZ  ", (b'V', None, ZONE)),
+    (*b"BW   ", (b'V', Some(b'1'), MARK)),
+    (*b"R    ", (b'1', None, NONE_OR_BRANCH)),
+    (*b"W    ", (b'2', None, NONE_OR_BRANCH)),
+    (*b"WR   ", (b'3', None, NONE_OR_BRANCH)),
+    (*b"P    ", (b'4', None, NONE_OR_BRANCH)),
+    (*b"RP   ", (b'5', None, NONE_OR_BRANCH)),
+    (*b"WP   ", (b'6', None, NONE_OR_BRANCH)),
+    (*b"WRP  ", (b'7', None, NONE_OR_BRANCH)),
+    (*b"CC   ", (b'F', None, CARRIAGE)),
+    (*b"H    ", (b'.', None, NONE_OR_BRANCH)),
+    (*b"SBR  ", (b'H', None, ONE)),
+    (*b"SAR  ", (b'Q', None, ONE)),
+    (*b"NOP  ", (b'N', None, NONE)),
+];
+
+/// Whether a word is this name.
+fn is_named(word: &[Code], name: [u8; LONGEST_OPERATION]) -> bool
+    ensures { result ≡ begins name word.now }
+{
+    begins(word, &name)
+}
+
+/// The entry of a table that a word names.
+fn entry<T: Copy>(table: &[([u8; LONGEST_OPERATION], T)], word: &[Code]) -> Option<T>
+    ensures { result ≡ entry table.now word.now }
+{
+    for index in 0..table.len() {
+        let (name, found) = table[index];
+        if is_named(word, name) {
+            return Some(found);
+        }
+    }
+    None
+}
+
+/// The order that a word names.
+fn order_named(word: &[Code]) -> Option<Operation>
+    ensures { result ≡ entry orders word.now }
+{
+    entry(&ORDERS, word)
+}
+
+/// What the table of mnemonics has for a word.
+fn row_named(word: &[Code]) -> Option<(u8, Option<u8>, Forms)>
+    ensures { result ≡ entry mnemonics word.now }
+{
+    entry(&MNEMONICS, word)
+}
+
+/// The operation that a word of five characters names.
+#[tactic(auto, unfolding(crate::specs::Mnemonics::operation_named))]
+pub fn operation_named(word: &[Code]) -> Option<Operation>
+    ensures { result ≡ operation_named word.now }
+{
+    if let Some(operation) = order_named(word) {
+        return Some(operation);
+    }
+    let (operation, modifier, forms) = row_named(word)?;
+    Some(Operation::Instruction(Mnemonic {
+        operation,
+        modifier,
+        forms,
+    }))
+}
+
+/// The character of a glyph.
+fn code_of(glyph: u8) -> Code
+    ensures { result ≡ code_of glyph }
+{
+    match Code::from_glyph(glyph) {
+        Some(code) => {
+            // This shows that it is one of the 64.
+            let _number = code.number();
+            code
+        }
+        None => Code::blank(),
+    }
+}
+
+/// The last character: the one that was read, or else the fixed one.
+fn last(read: Option<Code>, fixed: Option<u8>) -> Option<Code>
+    ensures { result ≡ or_else read (option_map code_of fixed) }
+{
+    if read.is_some() {
+        return read;
+    }
+    Some(code_of(fixed?))
+}
+
+/// What an operand field holds in a form, where there is one.
+fn operands_if(form: Option<Form>, text: &[Code]) -> Option<Operands>
+    requires { length text.now ≤ longest_text }
+    ensures operands { result ≡ operands_if form text.now }
+    ensures range { IfSome result (λ found. AreOperandsInRange found) }
+{
+    form?.read(text)
+}
+
+impl Forms {
+    /// What an operand field holds, in the first form that it has.
+    #[tactic(auto, unfolding(crate::specs::Mnemonics::operands_in))]
+    fn read(&self, text: &[Code]) -> Option<Operands>
+        requires { length text.now ≤ longest_text }
+        ensures operands { result ≡ operands_in self.now text.now }
+        ensures range { IfSome result (λ found. AreOperandsInRange found) }
+    {
+        if let Some(operands) = self.form.read(text) {
+            return Some(operands);
+        }
+        if let Some(operands) = operands_if(self.other, text) {
+            return Some(operands);
+        }
+        operands_if(self.third, text)
+    }
+}
+
+impl Mnemonic {
+    /// The instruction with a whole operand field.
+    #[tactic(auto, unfolding(crate::specs::Mnemonics::instruction))]
+    pub fn instruction(&self, text: &[Code]) -> Option<Instruction>
+        requires { length text.now ≤ longest_text }
+        ensures instruction { result ≡ instruction self.now text.now }
+        ensures range { IfSome result (λ found. IsInstructionInRange found) }
+    {
+        let operands = self.forms.read(text)?;
+        Some(Instruction {
+            operation: code_of(self.operation),
+            first: operands.first,
+            second: operands.second,
+            modifier: last(operands.modifier, self.modifier),
+        })
+    }
+}
+
+/// 1 where something is there.
+fn present<T: Copy>(part: Option<T>) -> u16
+    ensures present { result ≡ present part }
+    ensures most { result ≤ 1 }
+{
+    if part.is_some() { 1 } else { 0 }
+}
+
+impl Instruction {
+    /// How many positions the instruction takes.
+    pub fn length(&self) -> u16
+        ensures { result ≡ instruction_length self.now }
+    {
+        1 + 3 * present(self.first) + 3 * present(self.second) + present(self.modifier)
+    }
+}

@@ -1,0 +1,28 @@
+//! The lines that are put out of a source's faults.
+
+ghost use Rattle.std.specs.Prelude.{OnOk};
+ghost use Rattle.std.specs.Io.KnownBytes.{Appends};
+ghost use Rattle.counter_endings.specs.Endings.{fault_line, fault_lines};
+
+use autocoder::CardFault;
+use std::io;
+use std::io::Write;
+
+/// Puts the line of a source's fault out.
+fn put_fault_line<W: Write>(output: &mut W, fault: CardFault) -> io::Result<()>
+    ensures { OnOk result (Appends (W.contents output.old) (W.contents output.new) (fault_line fault)) }
+{
+    let card = fault.card;
+    let number = fault.fault.number();
+    writeln!(output, "card {card} fault {number}")
+}
+
+/// Puts the lines of a source's faults out.
+pub(crate) fn put_fault_lines<W: Write>(output: &mut W, faults: &[CardFault]) -> io::Result<()>
+    ensures { OnOk result (Appends (W.contents output.old) (W.contents output.new) (fault_lines faults.now)) }
+{
+    for fault in faults {
+        put_fault_line(output, *fault)?;
+    }
+    output.flush()
+}

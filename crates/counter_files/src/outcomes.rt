@@ -1,0 +1,38 @@
+//! What is written to OUT.
+
+ghost use Rattle.std.specs.Prelude.{◌≡◌, None, IfOk, Ok};
+ghost use Rattle.std.specs.Io.KnownBytes.{Keeps};
+ghost use Rattle.counter_endings.specs.Endings.{out_in};
+ghost use Rattle.counter_files.specs.Put.{IsPut};
+
+use crate::replacing::put_file;
+use counter_endings::Assembled;
+use counter_tasks::{Fault, Status, tell_fault};
+use std::io;
+use std::io::Write;
+
+/// Writes what an assembling gave for OUT, if it gave bytes, and answers how the program ends. A
+/// file that cannot be written is told as the fault of a device. An error is one of the writer, to
+/// which nothing can be told.
+pub fn write_out<E: Write>(
+    rt: &HostRuntime,
+    out: &str,
+    answer: Assembled,
+    errors: &mut E,
+) -> io::Result<Status>
+    ensures stays { out_in answer ≡ None → result ≡ Ok answer.status }
+    ensures quiet { out_in answer ≡ None → Keeps (E.contents errors.old) (E.contents errors.new) }
+    ensures put { IfOk result (λ status. IsPut answer.status status
+        (E.contents errors.old) (E.contents errors.new)) }
+{
+    match answer {
+        Assembled {
+            status,
+            out: Some(deck),
+        } => match put_file(rt, out, &deck) {
+            Ok(()) => Ok(status),
+            Err(_) => tell_fault(errors, Fault::Device),
+        },
+        Assembled { status, out: None } => Ok(status),
+    }
+}

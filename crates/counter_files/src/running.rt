@@ -1,0 +1,36 @@
+//! Runs of decks from files.
+
+ghost use Rattle.std.specs.Prelude.{List, ℕ, IfOk};
+ghost use Rattle.counter_runs.specs.Runs.{Tells};
+
+use core_store::Size;
+use counter_runs::run_deck;
+use counter_tasks::{Fault, Source, Status, tell_fault};
+use std::fs::File;
+use std::io;
+use std::io::Write;
+use units::Switches;
+
+/// Runs the deck of the standard input, or that in a file, as `runs` does. A file that cannot be
+/// opened is told as the fault of a device. An error is one of the second writer, to which nothing
+/// can be told.
+pub fn run_source<W: Write, E: Write>(
+    rt: &HostRuntime,
+    deck: Source<'_>,
+    size: Size,
+    switches: Switches,
+    output: &mut W,
+    errors: &mut E,
+) -> io::Result<Status>
+    ensures { IfOk result (λ status. (text : List ℕ) × Tells text size switches status
+        (W.contents output.old) (W.contents output.new)
+        (E.contents errors.old) (E.contents errors.new)) }
+{
+    match deck {
+        Source::Input => run_deck(rt.alloc(), rt.stdin(), output, errors, size, switches),
+        Source::File(path) => match File::open(rt, path) {
+            Ok(file) => run_deck(rt.alloc(), file, output, errors, size, switches),
+            Err(_) => tell_fault(errors, Fault::Device),
+        },
+    }
+}

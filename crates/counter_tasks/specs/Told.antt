@@ -1,0 +1,88 @@
+-- What is told, and how the program ends.
+use Rattle.std.specs.Prelude.{◌≡◌, ◌⊎◌, ℕ, List, [], ◌∷◌, ◌++◌, Bool, true, false, if◌then◌else◌, Option, codes, decimal}
+use Rattle.std.specs.Io.KnownBytes.{Appends, Keeps}
+use Rattle.std.specs.declared.io.ErrorKind.{ErrorKind}
+use Rattle.std.specs.declared.io.ErrorKind.TheVariants.{OutOfMemory}
+use Rattle.cards.specs.Faults.{out_of_memory}
+use Rattle.cards.specs.Numbers.{card_error_number}
+use Rattle.cards.specs.declared.faults.DeckFault.{DeckFault}
+use Rattle.cards.specs.declared.faults.DeckFault.TheVariants as deck
+use Rattle.counter_words.specs.Asked.{complaint, is_help_fault}
+use Rattle.counter_words.specs.declared.WordsFault.TheVariants.{Memory}
+use Rattle.counter_tasks.specs.declared.tasks.Misuse.{Misuse}
+use Rattle.counter_tasks.specs.declared.tasks.Misuse.TheVariants as misuse
+use Rattle.counter_tasks.specs.declared.faults.Fault.{Fault}
+use Rattle.counter_tasks.specs.declared.faults.Fault.TheVariants as fault
+use Rattle.counter_tasks.specs.declared.statuses.Status.{Status}
+use Rattle.counter_tasks.specs.declared.statuses.Status.TheVariants as status
+
+-- the exit status of how the program ends
+abbrev pub status_code : Status → ℕ
+status_code status.Done = 0
+status_code status.Told = 1
+status_code status.Misused = 2
+status_code status.Unusable = 3
+
+-- the words of a fault
+abbrev pub fault_words : Fault → List ℕ
+fault_words (fault.Card f) = codes "card " ++ decimal f.card ++ codes " column " ++ decimal f.column ++ codes " fault "
+    ++ decimal (card_error_number f.error)
+fault_words fault.Empty = codes "refused 13"
+fault_words fault.TooManyCards = codes "fault 33"
+fault_words fault.Memory = codes "fault 1"
+fault_words fault.Device = codes "fault device"
+
+-- the text of a deck can't be read for want of memory, or because its reader failed
+abbrev pub reading_fault : ErrorKind → Fault
+reading_fault OutOfMemory = fault.Card out_of_memory
+reading_fault _ = fault.Device
+
+-- what is told where a deck takes no further card
+abbrev pub fault_of_deck : DeckFault → Fault
+fault_of_deck deck.TooManyCards = fault.TooManyCards
+fault_of_deck deck.NoMemory = fault.Memory
+
+-- what is wrong with the words
+abbrev pub misuse_words : Misuse → List ℕ
+misuse_words (misuse.Words f) = complaint f
+misuse_words misuse.NoText = codes "a word is not UTF-8 text"
+misuse_words misuse.Size = codes "SIZE must be 1400, 2000 or 4000"
+misuse_words misuse.Switches = codes "SWITCHES must be rising letters of ABCDEFG, or - for none"
+misuse_words misuse.Port = codes "PORT must be a number from 1 to 65535"
+misuse_words misuse.Count = codes "COUNT must be a number from 1 to 1000000"
+
+-- there was no memory to read the words
+abbrev pub want_of_memory : Misuse
+want_of_memory = misuse.Words Memory
+
+-- what an error of the process says of its words
+abbrev pub misuse_of : ErrorKind → Misuse
+misuse_of OutOfMemory = want_of_memory
+misuse_of _ = misuse.NoText
+
+-- whether there was no memory to read the words
+abbrev pub is_want_of_memory : Misuse → Bool
+is_want_of_memory (misuse.Words Memory) = true
+is_want_of_memory _ = false
+
+-- the words ask for help, without hyphens
+abbrev pub asks_for_help : Misuse → Bool
+asks_for_help (misuse.Words f) = is_help_fault f
+asks_for_help _ = false
+
+-- a complaint and the line on how the program is called; want of memory is a fault, and no misuse;
+-- and in place of a complaint the help that the words ask for
+abbrev pub misuse_message : List ℕ → Misuse → List ℕ
+misuse_message usage m = if is_want_of_memory m then fault_words fault.Memory ++ 10 ∷ []
+    else (if asks_for_help m then misuse_words m
+    else codes "bureau: " ++ misuse_words m ++ 10 ∷ usage ++ 10 ∷ [])
+
+-- how the program ends after a misuse
+abbrev pub misuse_status : Misuse → Status
+misuse_status m = if is_want_of_memory m then status.Told else status.Misused
+
+-- the text went out, or the output failed
+abbrev pub IsTextShown : List ℕ → Status → Option (List ℕ) → Option (List ℕ) → Option (List ℕ) → Option (List ℕ) → Type 0
+IsTextShown text ended output_old output_new errors_old errors_new =
+    ((ended ≡ status.Done) × Appends output_old output_new text × Keeps errors_old errors_new)
+    ⊎ ((ended ≡ status.Told) × Appends errors_old errors_new (fault_words fault.Device ++ 10 ∷ []))

@@ -1,0 +1,44 @@
+//! The numbers in the words of rows of a bureau's file.
+
+ghost use Rattle.std.specs.Prelude.{◌≡◌, ◌≢◌, ℕ, IfSome, IfNone, decimal};
+ghost use Rattle.counter_tasks.specs.Tasks.{IsCount, IsNumberOf, IsPort};
+
+use counter_values::number_of;
+
+/// The number of a port, from 1 to 65535.
+pub(crate) fn port_of(text: &str) -> Option<u16>
+    ensures some { IfSome result (λ port. IsPort port × (text.now ≡ decimal port)) }
+    ensures none { IfNone result ((port : ℕ) → IsPort port → text.now ≢ decimal port) }
+{
+    let Some(number) = number_of(text) else {
+        return None;
+    };
+    if number > 65_535 {
+        return None;
+    }
+    Some(number as u16)
+}
+
+/// How many connections are to be served, from 1 to 1,000,000.
+pub(crate) fn count_of(text: &str) -> Option<u32>
+    ensures some { IfSome result (λ count. IsCount count × (text.now ≡ decimal count)) }
+    ensures none { IfNone result ((count : ℕ) → IsCount count → text.now ≢ decimal count) }
+{
+    let Some(number) = number_of(text) else {
+        return None;
+    };
+    if number > 1_000_000 {
+        return None;
+    }
+    Some(number)
+}
+
+/// The number of a job, or 0 where the text is none.
+pub(crate) fn job_number(text: &str) -> u32
+    ensures { IsNumberOf text.now result }
+{
+    match number_of(text) {
+        Some(number) => number,
+        None => 0,
+    }
+}

@@ -1,0 +1,107 @@
+//! The words after the program's name.
+//!
+//! A call of the program is one of a few rows: no words at all, or a row's name and its values by
+//! their places. Words with hyphens that ask for the help or the version are looked for first, and
+//! then a row whose values come after `--`: those values are taken as they are. Of all other words
+//! none may begin with a hyphen, but for `-` alone. clap judges these. Its command knows the rows
+//! alone, each with as many required values as the row has, and has no help of its own. What the
+//! values say (a size, the switches) is judged above, before any file is opened.
+//!
+//! The contract that the layer above uses is that of [`words`]: an `Ok` is what the words ask for,
+//! words that ask for something fail for memory alone, and else the fault is what is wrong with
+//! them.
+#![tactic(auto)]
+
+ghost use Rattle.std.specs.Prelude.{◌≡◌, ◌≢◌, ◌↔◌, ◌⊎◌, Option, [], IfOk, IfErr, Ok};
+ghost use Rattle.clap.specs.Words.{fault_of, subcommand_of, subcommand_rows_of};
+ghost use Rattle.counter_words.specs.declared.asked.Words.{Words};
+ghost use Rattle.counter_words.specs.declared.row_names.RowName.{RowName};
+ghost use Rattle.counter_words.specs.Asked.{Asks, IsHelp, IsVersion, Spells, misreading, misreading_by};
+ghost use Rattle.counter_words.specs.Command.{bureau};
+ghost use Rattle.counter_words.specs.Plain.{ArePlain, texts};
+
+mod asked;
+mod commands;
+mod found;
+mod help;
+mod misreading;
+mod options;
+mod row_names;
+mod row_values;
+
+use crate::commands::bureau_command;
+use crate::found::row_in;
+use crate::misreading::{misread, odd_word};
+use crate::options::{after_dashes, option_in};
+use crate::row_values::row_of_words;
+pub use asked::{Words, WordsFault};
+use clap::ArgMatches;
+use clap::error::ErrorKind;
+pub use help::{HELP, USAGE, VERSION, page};
+pub use row_names::RowName;
+use std::alloc::Global;
+
+/// What clap makes of the words.
+fn parsed<'a>(alloc: Global, words: &'a [String]) -> Result<ArgMatches<'a>, WordsFault<'a>>
+    ensures ok { IfOk result (λ m. (fault_of bureau (texts words.entry.now) ≡ [])
+        × (subcommand_rows_of m ≡ subcommand_of bureau (texts words.entry.now))) }
+    ensures err { IfErr result (λ fault. (fault ≡ WordsFault.Memory)
+        ⊎ ((fault_of bureau (texts words.entry.now) ≢ []) × (misreading_by fault ≡ misreading (texts words.entry.now)))) }
+{
+    let Ok(command) = bureau_command(alloc) else {
+        return Err(WordsFault::Memory);
+    };
+    match command.try_get_matches_from(words) {
+        Ok(matches) => Ok(matches),
+        Err(error) => {
+            if error.kind() == ErrorKind::OutOfMemory {
+                Err(WordsFault::Memory)
+            } else {
+                Err(misread(words))
+            }
+        }
+    }
+}
+
+/// The row that clap reads in the words.
+fn row_of<'a>(alloc: Global, words: &'a [String]) -> Result<Words<'a>, WordsFault<'a>>
+    ensures ok { IfOk result (λ asked. ArePlain (texts words.entry.now) → Spells (texts words.entry.now) asked) }
+    ensures err { IfErr result (λ fault. ArePlain (texts words.entry.now)
+        → (asked : Words) → Spells (texts words.entry.now) asked → fault ≡ WordsFault.Memory) }
+    ensures fault { IfErr result (λ fault. (fault ≡ WordsFault.Memory)
+        ⊎ (misreading_by fault ≡ misreading (texts words.entry.now))) }
+{
+    let matches = match parsed(alloc, words) {
+        Ok(matches) => matches,
+        Err(fault) => return Err(fault),
+    };
+    match row_in(&matches) {
+        Some(row) => Ok(row),
+        None => Err(misread(words)),
+    }
+}
+
+/// What the words ask for.
+pub fn words<'a>(alloc: Global, words: &'a [String]) -> Result<Words<'a>, WordsFault<'a>>
+    ensures ok { IfOk result (Asks (texts words.entry.now)) }
+    ensures err { IfErr result (λ fault. (asked : Words) → Asks (texts words.entry.now) asked
+        → fault ≡ WordsFault.Memory) }
+    ensures help { (row : Option RowName) → (result ≡ Ok (Words.Help row)) ↔ IsHelp row (texts words.entry.now) }
+    ensures version { (result ≡ Ok Words.Version) ↔ IsVersion (texts words.entry.now) }
+    ensures fault { IfErr result (λ fault. (fault ≡ WordsFault.Memory)
+        ⊎ (misreading_by fault ≡ misreading (texts words.entry.now))) }
+{
+    if let Some(asked) = option_in(words) {
+        return Ok(asked);
+    }
+    if let Some((row, values)) = after_dashes(words) {
+        return match row_of_words(row, values) {
+            Some(asked) => Ok(asked),
+            None => Err(misread(words)),
+        };
+    }
+    if odd_word(words).is_some() {
+        return Err(misread(words));
+    }
+    row_of(alloc, words)
+}

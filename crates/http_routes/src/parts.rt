@@ -1,0 +1,39 @@
+//! The parts of a text between its slashes.
+
+ghost use Rattle.std.specs.Prelude.{◌≡◌};
+ghost use Rattle.std.specs.List.{before_first, after_first};
+ghost use Rattle.http_routes.specs.Parts.{is_slash, part};
+
+/// What comes after the first slash of a text, or nothing.
+fn after_slash(text: &str) -> &str
+    ensures { result.now ≡ after_first is_slash text.now }
+{
+    match text.split_once('/') {
+        Some((_, after)) => after,
+        None => "",
+    }
+}
+
+/// What comes before the first slash of a text, or all of it.
+fn before_slash(text: &str) -> &str
+    ensures { result.now ≡ before_first is_slash text.now }
+{
+    match text.split_once('/') {
+        Some((before, _)) => before,
+        None => text,
+    }
+}
+
+/// The part of a text with this place, from 0 on. After the last part all are empty.
+#[tactic(auto, using(crate::proofs::Steps::part_next, crate::proofs::Steps::part_last))]
+pub fn part(text: &str, place: usize) -> &str
+    ensures { result.now ≡ part place text.now }
+{
+    let mut rest = text;
+    let mut left = place;
+    while left > 0 {
+        rest = after_slash(rest);
+        left -= 1;
+    }
+    before_slash(rest)
+}

@@ -1,0 +1,90 @@
+-- what the columns of the tables say of cards, lines and machines
+use Rattle.std.specs.Prelude.{ℕ, ◌≡◌, ◌+◌, ◌<◌, Bool, true, false, if◌then◌else◌, List, map, flat_map, length, All, Option, Some, None}
+use Rattle.cards.specs.declared.decks.Card.{Card}
+use Rattle.cards.specs.Decks.{AreCharacters}
+use Rattle.core_store.specs.Storage.{Storage}
+use Rattle.core_store.specs.declared.registers.Check.{Check}
+use Rattle.core_store.specs.declared.registers.Check.TheVariants.{Address, Instruction, Data, Overlap, ReaderEmpty, PunchFull, PrinterFull}
+use Rattle.core_store.specs.declared.registers.Compared.{Compared}
+use Rattle.core_store.specs.declared.registers.Compared.TheVariants.{Equal, Low, High}
+use Rattle.machine.specs.declared.parts.Standing.{Standing}
+use Rattle.machine.specs.declared.parts.Standing.TheVariants.{Running, Halted, Checked}
+use Rattle.units.specs.declared.printer.Line.{Line}
+use Rattle.units.specs.declared.carriage.Motion.{Motion}
+use Rattle.units.specs.declared.carriage.Motion.TheVariants.{Space, DoubleSpace, TripleSpace, SkipToChannel1}
+use Rattle.machine.specs.Run.{State}
+use Rattle.ledger_tables.specs.Cells.{PictureCells, LineCells}
+
+-- cards joined, a byte a column
+abbrev pub deck_bytes : List Card → List ℕ
+deck_bytes = flat_map (λ card. card.0)
+
+-- a byte a position: the number of its character, and 64 more where it is marked
+abbrev pub storage_bytes : Storage → List ℕ
+storage_bytes = map (λ cell. if cell.1 then 64 + cell.0 else cell.0)
+
+-- 1 for what holds, else 0
+abbrev pub truth : Bool → ℕ
+truth false = 0
+truth true = 1
+
+-- the number of a comparison
+abbrev pub compare_number : Compared → ℕ
+compare_number Equal = 0
+compare_number Low = 1
+compare_number High = 2
+
+-- the number of the carriage's motion that waits, if one does
+abbrev pub waiting_number : Option Motion → ℕ
+waiting_number None = 0
+waiting_number (Some Space) = 1
+waiting_number (Some DoubleSpace) = 2
+waiting_number (Some TripleSpace) = 3
+waiting_number (Some SkipToChannel1) = 4
+
+-- the number of a check
+abbrev pub check_number : Check → ℕ
+check_number Address = 2
+check_number Instruction = 3
+check_number Data = 4
+check_number Overlap = 5
+check_number ReaderEmpty = 6
+check_number PunchFull = 7
+check_number PrinterFull = 8
+
+-- the number of how a machine stands
+abbrev pub standing_number : Standing → ℕ
+standing_number Running = 0
+standing_number Halted = 1
+standing_number (Checked check) = check_number check
+
+-- the columns of a printed line
+abbrev pub line_cells : Line → LineCells
+line_cells l = record { form = l.form; line = l.line; image = l.codes }
+
+-- the picture of a machine
+abbrev pub picture_cells : State → PictureCells
+picture_cells m = record {
+  storage = storage_bytes m.works.storage;
+  i = m.works.registers.i;
+  a = m.works.registers.a;
+  b = m.works.registers.b;
+  compare = compare_number m.works.registers.compare;
+  overflow = truth m.works.registers.overflow;
+  channel = truth m.works.units.printer.carriage.channel_12;
+  waiting = waiting_number m.works.units.printer.carriage.waiting;
+  form = m.works.units.printer.carriage.form;
+  line = m.works.units.printer.carriage.line;
+  taken = m.works.units.hopper.taken;
+  cards = length m.works.units.punch;
+  lines = length m.works.units.printer.lines;
+  standing = standing_number m.standing;
+}
+
+-- each position holds one of the 64 characters
+abbrev pub HoldsCharacters : Storage → Type 0
+HoldsCharacters s = All (λ cell. cell.0 < 64) s
+
+-- a printed line of 132 characters
+abbrev pub IsLine : Line → Type 0
+IsLine l = (length l.codes ≡ 132) × AreCharacters l.codes × (l.line < 256)

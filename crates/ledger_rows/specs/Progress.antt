@@ -1,0 +1,24 @@
+-- how far a machine has come
+use Rattle.std.specs.Prelude.{length}
+use Rattle.machine.specs.Run.{State}
+use Rattle.ledger_rows.specs.Columns.{standing_number}
+use Rattle.ledger_rows.specs.declared.progress.Progress.{Progress}
+use Rattle.ledger_tables.specs.declared.rows.ProgressRow.{ProgressRow}
+
+-- the columns that hold it
+abbrev pub progress_cells : Progress → ProgressRow
+progress_cells it = record {
+  i = it.i;
+  cards = it.cards;
+  lines = it.lines;
+  standing = standing_number it.standing;
+}
+
+-- how far this machine has come
+abbrev pub progress_of : State → Progress
+progress_of m = record {
+  standing = m.standing;
+  i = m.works.registers.i;
+  cards = length m.works.units.punch;
+  lines = length m.works.units.printer.lines;
+}

@@ -1,0 +1,49 @@
+//! Printed lines as rows.
+
+ghost use Rattle.std.specs.Prelude.{◌≡◌, IfOk};
+ghost use Rattle.ledger_rows.specs.Columns.{line_cells, IsLine};
+
+use crate::codes::{read_codes, write_numbers};
+use crate::from_cells::FromCells;
+use bcd::Code;
+use ledger_tables::LineRow;
+use std::alloc::{AllocError, Global};
+use units::Line;
+
+/// A printed line as a row.
+pub fn line_row(alloc: Global, line: &Line) -> Result<LineRow, AllocError>
+    ensures row { IfOk result (λ row. row ≡ line_cells line.now) }
+    ensures line { IfOk result (λ row. IsLine line.now) }
+{
+    let mut image = [0; 132];
+    write_numbers(&line.codes, &mut image);
+    Ok(LineRow {
+        form: line.form,
+        line: line.line as u32,
+        image: Vec::from_slice(alloc, &image)?,
+    })
+}
+
+impl FromCells<LineRow> for Line {
+    ghost cells = { line_cells };
+
+    ghost IsHeld = { IsLine };
+
+    fn from_cells(row: &LineRow) -> Option<Line> {
+        if row.image.len() != 132 {
+            return None;
+        }
+        let mut codes = [Code::blank(); 132];
+        if !read_codes(&row.image, &mut codes) {
+            return None;
+        }
+        let Ok(line) = u8::try_from(row.line) else {
+            return None;
+        };
+        Some(Line {
+            form: row.form,
+            line,
+            codes,
+        })
+    }
+}

@@ -1,0 +1,149 @@
+//! Indicators, orders, standings and switches as numbers.
+
+ghost use Rattle.std.specs.Prelude.{◌≡◌, ◌<◌, Bool, Option, Some, IfSome};
+ghost use Rattle.core_store.specs.declared.registers.Compared.{Compared};
+ghost use Rattle.machine.specs.declared.parts.Standing.{Standing};
+ghost use Rattle.units.specs.declared.carriage.Motion.{Motion};
+ghost use Rattle.units.specs.declared.switches.Switches.{Switches};
+ghost use Rattle.units.specs.Switches.{AreSeven};
+ghost use Rattle.ledger_rows.specs.Columns.{truth, compare_number, waiting_number, check_number, standing_number};
+
+use bitflags::Flags;
+use core_store::{Check, Compared};
+use machine::Standing;
+use units::{Motion, Switches};
+
+/// The switches as a number, A the lowest bit and G the seventh.
+pub fn switches_number(switches: Switches) -> u32
+    ensures number { result ≡ switches.0 }
+{
+    switches.bits() as u32
+}
+
+/// The switches of a number: the sum of their bits, below 128.
+pub fn read_switches(number: u32) -> Option<Switches>
+    ensures all { (switches : Switches) → AreSeven switches → number ≡ switches.0
+        → result ≡ Some switches }
+    ensures only { IfSome result (λ switches. (switches.0 ≡ number) × AreSeven switches) }
+{
+    let Ok(bits) = u8::try_from(number) else {
+        return None;
+    };
+    let switches = Switches::from_bits_retain(bits);
+    if switches.are_seven() {
+        Some(switches)
+    } else {
+        None
+    }
+}
+
+/// Whether something holds, as a number: 1 where it does, else 0.
+pub fn truth(value: bool) -> u32
+    ensures { result ≡ truth value }
+{
+    if value { 1 } else { 0 }
+}
+
+/// What `truth` told by a number.
+pub fn read_truth(number: u32) -> Option<bool>
+    ensures all { (value : Bool) → number ≡ truth value → result ≡ Some value }
+    ensures only { IfSome result (λ value. truth value ≡ number) }
+{
+    match number {
+        0 => Some(false),
+        1 => Some(true),
+        _ => None,
+    }
+}
+
+pub fn compare_number(compare: Compared) -> u32
+    ensures { result ≡ compare_number compare }
+{
+    match compare {
+        Compared::Equal => 0,
+        Compared::Low => 1,
+        Compared::High => 2,
+    }
+}
+
+pub fn read_compare(number: u32) -> Option<Compared>
+    ensures all { (compare : Compared) → number ≡ compare_number compare → result ≡ Some compare }
+    ensures only { IfSome result (λ compare. compare_number compare ≡ number) }
+{
+    match number {
+        0 => Some(Compared::Equal),
+        1 => Some(Compared::Low),
+        2 => Some(Compared::High),
+        _ => None,
+    }
+}
+
+pub fn waiting_number(waiting: Option<Motion>) -> u32
+    ensures { result ≡ waiting_number waiting }
+{
+    match waiting {
+        None => 0,
+        Some(Motion::Space) => 1,
+        Some(Motion::DoubleSpace) => 2,
+        Some(Motion::TripleSpace) => 3,
+        Some(Motion::SkipToChannel1) => 4,
+    }
+}
+
+pub fn read_waiting(number: u32) -> Option<Option<Motion>>
+    ensures all { (waiting : Option Motion) → number ≡ waiting_number waiting
+        → result ≡ Some waiting }
+    ensures only { IfSome result (λ waiting. waiting_number waiting ≡ number) }
+{
+    match number {
+        0 => Some(None),
+        1 => Some(Some(Motion::Space)),
+        2 => Some(Some(Motion::DoubleSpace)),
+        3 => Some(Some(Motion::TripleSpace)),
+        4 => Some(Some(Motion::SkipToChannel1)),
+        _ => None,
+    }
+}
+
+fn check_number(check: Check) -> u32
+    ensures { result ≡ check_number check }
+{
+    match check {
+        Check::Address => 2,
+        Check::Instruction => 3,
+        Check::Data => 4,
+        Check::Overlap => 5,
+        Check::ReaderEmpty => 6,
+        Check::PunchFull => 7,
+        Check::PrinterFull => 8,
+    }
+}
+
+pub fn standing_number(standing: Standing) -> u32
+    ensures { result ≡ standing_number standing }
+{
+    match standing {
+        Standing::Running => 0,
+        Standing::Halted => 1,
+        Standing::Checked(check) => check_number(check),
+    }
+}
+
+pub fn read_standing(number: u32) -> Option<Standing>
+    ensures all { (standing : Standing) → number ≡ standing_number standing
+        → result ≡ Some standing }
+    ensures only { IfSome result (λ standing. standing_number standing ≡ number) }
+{
+    match number {
+        0 => Some(Standing::Running),
+        1 => Some(Standing::Halted),
+        2 => Some(Standing::Checked(Check::Address)),
+        3 => Some(Standing::Checked(Check::Instruction)),
+        4 => Some(Standing::Checked(Check::Data)),
+        5 => Some(Standing::Checked(Check::Overlap)),
+        6 => Some(Standing::Checked(Check::ReaderEmpty)),
+        7 => Some(Standing::Checked(Check::PunchFull)),
+        8 => Some(Standing::Checked(Check::PrinterFull)),
+        _ => None,
+    }
+}

@@ -1,0 +1,184 @@
+-- What the texts mean that read the tables or change a row.
+use Rattle.std.proofs.Common.{◌≡◌, ℕ, pos, List, [], ◌∷◌, codes, refl, false}
+use Rattle.sqlite.specs.declared.types.Value.TheVariants.{Int}
+use Rattle.sqlite.specs.Query.{Query}
+use Rattle.sqlite.specs.Term.{Term, col, op2, lit}
+use Rattle.sqlite_sql.specs.declared.ops.BinaryOp.TheVariants.{Compare}
+use Rattle.sqlite_sql.specs.declared.ops.CompareOp.TheVariants.{Eq}
+use Rattle.sqlite.specs.Collation.TheVariants.{Binary}
+use Rattle.sqlite.specs.Command.TheVariants.{Update, Select}
+use Rattle.sqlite_tied.specs.Compute.{everything}
+use Rattle.sqlite.specs.Listing.{understood, reads_listing}
+use Rattle.sqlite_value.specs.Keys.{ascending}
+use Rattle.sqlite_value.specs.declared.keys.Key.{Key}
+use Rattle.ledger_tables.specs.Schema.{bureau_schema}
+use Rattle.ledger_tables.specs.Versions.{select_version}
+use Rattle.ledger_tables.proofs.Inserting.{Means}
+use Rattle.ledger_tables.proofs.Selecting.{plain_query, ordered_query}
+use Rattle.ledger_tables.proofs.Ordered.{sorting_query}
+
+-- the text means this query, which does not read the listing of tables
+abbrev pub Selects : List ℕ → Query → List (List ℕ) → Type 0
+Selects sql query names = Means bureau_schema sql (Select (record { lets = []; body = query }) names) × (reads_listing bureau_schema sql ≡ false)
+
+-- the row's customer is the first parameter
+abbrev pub is_customer : List Term
+is_customer = op2 (Compare Eq Binary) (col 1 1) (col 0 0) ∷ []
+
+-- .. and its number the second
+abbrev pub is_key : List Term
+is_key = op2 (Compare Eq Binary) (col 1 1) (col 0 0) ∷ op2 (Compare Eq Binary) (col 1 2) (col 0 1) ∷ []
+
+-- .. and its place the third
+abbrev pub is_place : List Term
+is_place = op2 (Compare Eq Binary) (col 1 1) (col 0 0) ∷ op2 (Compare Eq Binary) (col 1 2) (col 0 1) ∷ op2 (Compare Eq Binary) (col 1 3) (col 0 2) ∷ []
+
+-- ---- the version
+
+abbrev pub version_terms : List Term
+version_terms = col 1 2 ∷ []
+
+pub select_version_is : Selects select_version (plain_query 0 [] version_terms) (codes "version" ∷ [])
+unfolding understood everything
+select_version_is = ((refl, (refl, refl)), refl)
+
+-- ---- jobs
+
+abbrev pub select_job : List ℕ
+select_job = codes "SELECT kind, size, deck, loaded, held, collected FROM jobs WHERE customer = ?1 AND number = ?2"
+
+abbrev pub job_terms : List Term
+job_terms = col 1 3 ∷ col 1 4 ∷ col 1 5 ∷ col 1 6 ∷ col 1 7 ∷ col 1 8 ∷ []
+
+pub select_job_is : Selects select_job (plain_query 1 is_key job_terms) (codes "kind" ∷ codes "size" ∷ codes "deck" ∷ codes "loaded" ∷ codes "held" ∷ codes "collected" ∷ [])
+unfolding understood everything
+select_job_is = ((refl, (refl, refl)), refl)
+
+abbrev pub select_numbers : List ℕ
+select_numbers = codes "SELECT number FROM jobs WHERE customer = ?1"
+
+abbrev pub number_terms : List Term
+number_terms = col 1 2 ∷ []
+
+pub select_numbers_is : Selects select_numbers (plain_query 1 is_customer number_terms) (codes "number" ∷ [])
+unfolding understood everything
+select_numbers_is = ((refl, (refl, refl)), refl)
+
+abbrev pub select_names : List ℕ
+select_names = codes "SELECT number, held, collected FROM jobs WHERE customer = ?1 ORDER BY number"
+
+abbrev pub name_terms : List Term
+name_terms = col 1 2 ∷ col 1 7 ∷ col 1 8 ∷ []
+
+abbrev pub by_number : List (Term × Key)
+by_number = (col 1 2, ascending Binary) ∷ []
+
+pub select_names_is : Selects select_names (sorting_query 1 is_customer name_terms by_number) (codes "number" ∷ codes "held" ∷ codes "collected" ∷ [])
+unfolding understood everything
+select_names_is = ((refl, (refl, refl)), refl)
+
+abbrev pub select_queued : List ℕ
+select_queued = codes "SELECT customer, number FROM jobs WHERE held = 0 ORDER BY customer, number"
+
+-- the row's job is not held
+abbrev pub is_free : List Term
+is_free = op2 (Compare Eq Binary) (col 1 7) (lit (Int (pos 0))) ∷ []
+
+abbrev pub queued_terms : List Term
+queued_terms = col 1 1 ∷ col 1 2 ∷ []
+
+abbrev pub by_name : List (Term × Key)
+by_name = (col 1 1, ascending Binary) ∷ (col 1 2, ascending Binary) ∷ []
+
+pub select_queued_is : Selects select_queued (sorting_query 1 is_free queued_terms by_name) (codes "customer" ∷ codes "number" ∷ [])
+unfolding understood everything
+select_queued_is = ((refl, (refl, refl)), refl)
+
+abbrev pub update_flags : List ℕ
+update_flags = codes "UPDATE jobs SET held = ?3, collected = ?4 WHERE customer = ?1 AND number = ?2"
+
+abbrev pub flag_terms : List Term
+flag_terms = col 1 0 ∷ col 1 0 ∷ col 1 1 ∷ col 1 2 ∷ col 1 3 ∷ col 1 4 ∷ col 1 5 ∷ col 1 6 ∷ col 0 2 ∷ col 0 3 ∷ []
+
+pub update_flags_is : Means bureau_schema update_flags (Update 1 (record { lets = []; body = plain_query 1 is_key flag_terms }))
+unfolding understood everything
+update_flags_is = (refl, (refl, refl))
+
+-- ---- stretches
+
+abbrev pub select_stretches : List ℕ
+select_stretches = codes "SELECT switches, granted FROM stretches WHERE customer = ?1 AND number = ?2 ORDER BY place"
+
+abbrev pub stretch_terms : List Term
+stretch_terms = col 1 4 ∷ col 1 5 ∷ []
+
+pub select_stretches_is : Selects select_stretches (ordered_query 3 is_key stretch_terms (col 1 3)) (codes "switches" ∷ codes "granted" ∷ [])
+unfolding understood everything
+select_stretches_is = ((refl, (refl, refl)), refl)
+
+abbrev pub update_granted : List ℕ
+update_granted = codes "UPDATE stretches SET granted = ?4 WHERE customer = ?1 AND number = ?2 AND place = ?3"
+
+abbrev pub granted_terms : List Term
+granted_terms = col 1 0 ∷ col 1 0 ∷ col 1 1 ∷ col 1 2 ∷ col 1 3 ∷ col 1 4 ∷ col 0 3 ∷ []
+
+pub update_granted_is : Means bureau_schema update_granted (Update 2 (record { lets = []; body = plain_query 3 is_place granted_terms }))
+unfolding understood everything
+update_granted_is = (refl, (refl, refl))
+
+-- ---- pictures
+
+abbrev pub select_picture : List ℕ
+select_picture = codes "SELECT storage, i, a, b, compare, overflow, channel, waiting, form, line, taken, cards, lines, standing FROM pictures WHERE customer = ?1 AND number = ?2"
+
+abbrev pub picture_terms : List Term
+picture_terms = col 1 3 ∷ col 1 4 ∷ col 1 5 ∷ col 1 6 ∷ col 1 7 ∷ col 1 8 ∷ col 1 9 ∷ col 1 10 ∷ col 1 11 ∷ col 1 12 ∷ col 1 13 ∷ col 1 14 ∷ col 1 15 ∷ col 1 16 ∷ []
+
+pub select_picture_is : Selects select_picture (plain_query 5 is_key picture_terms)
+    (codes "storage" ∷ codes "i" ∷ codes "a" ∷ codes "b" ∷ codes "compare" ∷ codes "overflow" ∷ codes "channel" ∷ codes "waiting" ∷ codes "form" ∷ codes "line" ∷ codes "taken" ∷ codes "cards" ∷ codes "lines" ∷ codes "standing" ∷ [])
+unfolding understood everything
+select_picture_is = ((refl, (refl, refl)), refl)
+
+abbrev pub select_progress : List ℕ
+select_progress = codes "SELECT i, cards, lines, standing FROM pictures WHERE customer = ?1 AND number = ?2"
+
+abbrev pub progress_terms : List Term
+progress_terms = col 1 4 ∷ col 1 14 ∷ col 1 15 ∷ col 1 16 ∷ []
+
+pub select_progress_is : Selects select_progress (plain_query 5 is_key progress_terms) (codes "i" ∷ codes "cards" ∷ codes "lines" ∷ codes "standing" ∷ [])
+unfolding understood everything
+select_progress_is = ((refl, (refl, refl)), refl)
+
+abbrev pub update_picture : List ℕ
+update_picture = codes "UPDATE pictures SET storage = ?3, i = ?4, a = ?5, b = ?6, compare = ?7, overflow = ?8, channel = ?9, waiting = ?10, form = ?11, line = ?12, taken = ?13, cards = ?14, lines = ?15, standing = ?16 WHERE customer = ?1 AND number = ?2"
+
+abbrev pub new_picture_terms : List Term
+new_picture_terms = col 1 0 ∷ col 1 0 ∷ col 1 1 ∷ col 1 2 ∷ col 0 2 ∷ col 0 3 ∷ col 0 4 ∷ col 0 5 ∷ col 0 6 ∷ col 0 7 ∷ col 0 8 ∷ col 0 9 ∷ col 0 10 ∷ col 0 11 ∷ col 0 12 ∷ col 0 13 ∷ col 0 14 ∷ col 0 15 ∷ []
+
+pub update_picture_is : Means bureau_schema update_picture (Update 3 (record { lets = []; body = plain_query 5 is_key new_picture_terms }))
+unfolding understood everything
+update_picture_is = (refl, (refl, refl))
+
+-- ---- cards
+
+abbrev pub select_cards : List ℕ
+select_cards = codes "SELECT card FROM cards WHERE customer = ?1 AND number = ?2 ORDER BY place"
+
+abbrev pub card_terms : List Term
+card_terms = col 1 4 ∷ []
+
+pub select_cards_is : Selects select_cards (ordered_query 7 is_key card_terms (col 1 3)) (codes "card" ∷ [])
+unfolding understood everything
+select_cards_is = ((refl, (refl, refl)), refl)
+
+-- ---- lines
+
+abbrev pub select_lines : List ℕ
+select_lines = codes "SELECT form, line, image FROM lines WHERE customer = ?1 AND number = ?2 ORDER BY place"
+
+abbrev pub line_terms : List Term
+line_terms = col 1 4 ∷ col 1 5 ∷ col 1 6 ∷ []
+
+pub select_lines_is : Selects select_lines (ordered_query 9 is_key line_terms (col 1 3)) (codes "form" ∷ codes "line" ∷ codes "image" ∷ [])
+unfolding understood everything
+select_lines_is = ((refl, (refl, refl)), refl)

@@ -1,0 +1,95 @@
+-- What the texts of the statements mean.
+use Rattle.std.proofs.Common.{ℕ, List, [], ◌∷◌, codes, refl}
+use Rattle.sqlite.specs.declared.types.Value.TheVariants.{Null}
+use Rattle.sqlite.specs.Term.{lit, col}
+use Rattle.sqlite.specs.Source.TheVariants.{Values}
+use Rattle.sqlite.specs.Command.TheVariants.{Insert}
+use Rattle.sqlite_tied.specs.Compute.{everything}
+use Rattle.sqlite.specs.Listing.{understood}
+use Rattle.ledger_tables.specs.Schema.{bureau, jobs, stretches, pictures, cards, lines, no_schema, up_to_bureau, up_to_jobs, up_to_stretches, up_to_pictures, up_to_cards, bureau_schema}
+use Rattle.ledger_tables.proofs.Creating.{Creates}
+use Rattle.ledger_tables.proofs.Inserting.{Means}
+
+abbrev pub create_bureau : List ℕ
+create_bureau = codes "CREATE TABLE bureau (id INTEGER NOT NULL PRIMARY KEY, version INTEGER NOT NULL) STRICT"
+
+pub create_bureau_is : Creates no_schema create_bureau bureau
+unfolding understood everything
+create_bureau_is = ((refl, (refl, refl)), refl, refl)
+
+abbrev pub create_jobs : List ℕ
+create_jobs = codes "CREATE TABLE jobs (customer TEXT NOT NULL, number INTEGER NOT NULL, kind INTEGER NOT NULL, size INTEGER NOT NULL, deck BLOB NOT NULL, loaded BLOB NOT NULL, held INTEGER NOT NULL, collected INTEGER NOT NULL, PRIMARY KEY (customer, number)) STRICT"
+
+pub create_jobs_is : Creates up_to_bureau create_jobs jobs
+unfolding understood everything
+create_jobs_is = ((refl, (refl, refl)), refl, refl)
+
+abbrev pub create_stretches : List ℕ
+create_stretches = codes "CREATE TABLE stretches (customer TEXT NOT NULL, number INTEGER NOT NULL, place INTEGER NOT NULL, switches INTEGER NOT NULL, granted INTEGER NOT NULL, PRIMARY KEY (customer, number, place), FOREIGN KEY (customer, number) REFERENCES jobs (customer, number)) STRICT"
+
+pub create_stretches_is : Creates up_to_jobs create_stretches stretches
+unfolding understood everything
+create_stretches_is = ((refl, (refl, refl)), refl, refl)
+
+abbrev pub create_pictures : List ℕ
+create_pictures = codes "CREATE TABLE pictures (customer TEXT NOT NULL, number INTEGER NOT NULL, storage BLOB NOT NULL, i INTEGER NOT NULL, a INTEGER NOT NULL, b INTEGER NOT NULL, compare INTEGER NOT NULL, overflow INTEGER NOT NULL, channel INTEGER NOT NULL, waiting INTEGER NOT NULL, form INTEGER NOT NULL, line INTEGER NOT NULL, taken INTEGER NOT NULL, cards INTEGER NOT NULL, lines INTEGER NOT NULL, standing INTEGER NOT NULL, PRIMARY KEY (customer, number), FOREIGN KEY (customer, number) REFERENCES jobs (customer, number)) STRICT"
+
+pub create_pictures_is : Creates up_to_stretches create_pictures pictures
+unfolding understood everything
+create_pictures_is = ((refl, (refl, refl)), refl, refl)
+
+abbrev pub create_cards : List ℕ
+create_cards = codes "CREATE TABLE cards (customer TEXT NOT NULL, number INTEGER NOT NULL, place INTEGER NOT NULL, card BLOB NOT NULL, PRIMARY KEY (customer, number, place), FOREIGN KEY (customer, number) REFERENCES jobs (customer, number)) STRICT"
+
+pub create_cards_is : Creates up_to_pictures create_cards cards
+unfolding understood everything
+create_cards_is = ((refl, (refl, refl)), refl, refl)
+
+abbrev pub create_lines : List ℕ
+create_lines = codes "CREATE TABLE lines (customer TEXT NOT NULL, number INTEGER NOT NULL, place INTEGER NOT NULL, form INTEGER NOT NULL, line INTEGER NOT NULL, image BLOB NOT NULL, PRIMARY KEY (customer, number, place), FOREIGN KEY (customer, number) REFERENCES jobs (customer, number)) STRICT"
+
+pub create_lines_is : Creates up_to_cards create_lines lines
+unfolding understood everything
+create_lines_is = ((refl, (refl, refl)), refl, refl)
+
+abbrev pub insert_bureau : List ℕ
+insert_bureau = codes "INSERT INTO bureau (id, version) VALUES (?1, ?2)"
+
+pub insert_bureau_is : Means bureau_schema insert_bureau (Insert 0 (Values (col 0 0 ∷ lit Null ∷ col 0 1 ∷ []) 3))
+unfolding understood everything
+insert_bureau_is = (refl, (refl, refl))
+
+abbrev pub insert_jobs : List ℕ
+insert_jobs = codes "INSERT INTO jobs (customer, number, kind, size, deck, loaded, held, collected) VALUES (?1, ?2, ?3, ?4, ?5, ?6, ?7, ?8)"
+
+pub insert_jobs_is : Means bureau_schema insert_jobs (Insert 1 (Values (lit Null ∷ col 0 0 ∷ col 0 1 ∷ col 0 2 ∷ col 0 3 ∷ col 0 4 ∷ col 0 5 ∷ col 0 6 ∷ col 0 7 ∷ []) 9))
+unfolding understood everything
+insert_jobs_is = (refl, (refl, refl))
+
+abbrev pub insert_stretches : List ℕ
+insert_stretches = codes "INSERT INTO stretches (customer, number, place, switches, granted) VALUES (?1, ?2, ?3, ?4, ?5)"
+
+pub insert_stretches_is : Means bureau_schema insert_stretches (Insert 2 (Values (lit Null ∷ col 0 0 ∷ col 0 1 ∷ col 0 2 ∷ col 0 3 ∷ col 0 4 ∷ []) 6))
+unfolding understood everything
+insert_stretches_is = (refl, (refl, refl))
+
+abbrev pub insert_pictures : List ℕ
+insert_pictures = codes "INSERT INTO pictures (customer, number, storage, i, a, b, compare, overflow, channel, waiting, form, line, taken, cards, lines, standing) VALUES (?1, ?2, ?3, ?4, ?5, ?6, ?7, ?8, ?9, ?10, ?11, ?12, ?13, ?14, ?15, ?16)"
+
+pub insert_pictures_is : Means bureau_schema insert_pictures (Insert 3 (Values (lit Null ∷ col 0 0 ∷ col 0 1 ∷ col 0 2 ∷ col 0 3 ∷ col 0 4 ∷ col 0 5 ∷ col 0 6 ∷ col 0 7 ∷ col 0 8 ∷ col 0 9 ∷ col 0 10 ∷ col 0 11 ∷ col 0 12 ∷ col 0 13 ∷ col 0 14 ∷ col 0 15 ∷ []) 17))
+unfolding understood everything
+insert_pictures_is = (refl, (refl, refl))
+
+abbrev pub insert_cards : List ℕ
+insert_cards = codes "INSERT INTO cards (customer, number, place, card) VALUES (?1, ?2, ?3, ?4)"
+
+pub insert_cards_is : Means bureau_schema insert_cards (Insert 4 (Values (lit Null ∷ col 0 0 ∷ col 0 1 ∷ col 0 2 ∷ col 0 3 ∷ []) 5))
+unfolding understood everything
+insert_cards_is = (refl, (refl, refl))
+
+abbrev pub insert_lines : List ℕ
+insert_lines = codes "INSERT INTO lines (customer, number, place, form, line, image) VALUES (?1, ?2, ?3, ?4, ?5, ?6)"
+
+pub insert_lines_is : Means bureau_schema insert_lines (Insert 5 (Values (lit Null ∷ col 0 0 ∷ col 0 1 ∷ col 0 2 ∷ col 0 3 ∷ col 0 4 ∷ col 0 5 ∷ []) 7))
+unfolding understood everything
+insert_lines_is = (refl, (refl, refl))

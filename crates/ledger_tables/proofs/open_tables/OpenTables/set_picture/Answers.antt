@@ -1,0 +1,19 @@
+use Rattle.std.proofs.Common.{subst, OnOk}
+use Rattle.ledger_tables.specs.Cells.{PictureCells}
+use Rattle.ledger_tables.specs.Reading.{Runs}
+use Rattle.ledger_tables.specs.Steps.{seen}
+use Rattle.ledger_tables.specs.Tables.{Holds, with_picture}
+use Rattle.ledger_tables.proofs.Frames.{on_ok_then}
+use Rattle.ledger_tables.proofs.Inserting.{bind, no_more}
+use Rattle.ledger_tables.proofs.ReadTexts.{update_picture}
+use Rattle.ledger_tables.proofs.Updating.{picture_in_place}
+use Rattle.ledger_tables.proofs.open_tables.OpenTables.set_picture.Goals as goal
+
+pub returns-clause-set : goal.returns-clause-set
+returns-clause-set g c clean inside =
+    let old = seen g.S.Store c.args.self.now in
+    let new = seen g.S.Store c.run.new.self in
+    let bound = subst (λ params. OnOk c.run.result (Runs update_picture params old new)) (bind _ _ _ _ c.params-to_sql.ensures (bind _ _ _ _ c.params-to_sql-2.ensures (bind _ _ _ _ c.params-to_sql-3.ensures (bind _ _ _ _ c.params-to_sql-4.ensures (bind _ _ _ _ c.params-to_sql-5.ensures (bind _ _ _ _ c.params-to_sql-6.ensures (bind _ _ _ _ c.params-to_sql-7.ensures (bind _ _ _ _ c.params-to_sql-8.ensures (bind _ _ _ _ c.params-to_sql-9.ensures (bind _ _ _ _ c.params-to_sql-10.ensures (bind _ _ _ _ c.params-to_sql-11.ensures (bind _ _ _ _ c.params-to_sql-12.ensures (bind _ _ _ _ c.params-to_sql-13.ensures (bind _ _ _ _ c.params-to_sql-14.ensures (bind _ _ _ _ c.params-to_sql-15.ensures (bind _ _ _ _ c.params-to_sql-16.ensures no_more)))))))))))))))) (c.run.ensures.ran clean inside) in
+    let p : PictureCells = record { storage = c.picture.inside.storage.items; i = c.picture.inside.i; a = c.picture.inside.a; b = c.picture.inside.b; compare = c.picture.inside.compare; overflow = c.picture.inside.overflow; channel = c.picture.inside.channel; waiting = c.picture.inside.waiting; form = c.picture.inside.form; line = c.picture.inside.line; taken = c.picture.inside.taken; cards = c.picture.inside.cards; lines = c.picture.inside.lines; standing = c.picture.inside.standing } in
+    on_ok_then c.run.result _ _ (λ ran t holds was.
+    subst (λ it. Holds new.now (with_picture c.args.name.customer.now c.args.name.number it t)) c.picture.view_is (picture_in_place c.args.name.customer.now c.args.name.number p old new ran.0 ran.1.0 t holds was)) bound

@@ -1,0 +1,120 @@
+//! The making of the tables.
+//!
+//! Every table but `bureau` and `jobs` refers to its job by a foreign key. All columns are NOT
+//! NULL, and the tables are STRICT.
+
+ghost use Rattle.std.specs.Prelude.{◌≡◌, OnOk};
+ghost use Rattle.ledger_tables.specs.Schema.{no_schema, up_to_bureau, up_to_jobs, up_to_stretches, up_to_pictures, up_to_cards, bureau_schema};
+ghost use Rattle.ledger_tables.specs.Making.{AreMade, Makes};
+ghost use Rattle.ledger_tables.specs.Steps.{Inside, IsStep};
+ghost use Rattle.ledger_tables.specs.Tables.{Holds, no_rows};
+
+use crate::faults::Fault;
+use crate::open_tables::OpenTables;
+use crate::openings::VERSION;
+use sqlite::{Alter, params};
+
+impl<S: Alter> OpenTables<'_, '_, S> {
+    fn make_bureau(&mut self) -> Result<(), Fault>
+        ensures step { IsStep S.Store self.old self.new result }
+        ensures made { Makes S.Store self.old self.new result no_schema up_to_bureau }
+    {
+        self.run(
+            "CREATE TABLE bureau (id INTEGER NOT NULL PRIMARY KEY, version INTEGER NOT NULL) STRICT",
+            &[],
+        )
+    }
+
+    fn make_jobs(&mut self) -> Result<(), Fault>
+        ensures step { IsStep S.Store self.old self.new result }
+        ensures made { Makes S.Store self.old self.new result up_to_bureau up_to_jobs }
+    {
+        self.run(
+            "CREATE TABLE jobs (customer TEXT NOT NULL, number INTEGER NOT NULL, kind INTEGER NOT NULL, size INTEGER NOT NULL, deck BLOB NOT NULL, loaded BLOB NOT NULL, held INTEGER NOT NULL, collected INTEGER NOT NULL, PRIMARY KEY (customer, number)) STRICT",
+            &[],
+        )
+    }
+
+    fn make_stretches(&mut self) -> Result<(), Fault>
+        ensures step { IsStep S.Store self.old self.new result }
+        ensures made { Makes S.Store self.old self.new result up_to_jobs up_to_stretches }
+    {
+        self.run(
+            "CREATE TABLE stretches (customer TEXT NOT NULL, number INTEGER NOT NULL, place INTEGER NOT NULL, switches INTEGER NOT NULL, granted INTEGER NOT NULL, PRIMARY KEY (customer, number, place), FOREIGN KEY (customer, number) REFERENCES jobs (customer, number)) STRICT",
+            &[],
+        )
+    }
+
+    fn make_pictures(&mut self) -> Result<(), Fault>
+        ensures step { IsStep S.Store self.old self.new result }
+        ensures made { Makes S.Store self.old self.new result up_to_stretches up_to_pictures }
+    {
+        self.run(
+            "CREATE TABLE pictures (customer TEXT NOT NULL, number INTEGER NOT NULL, storage BLOB NOT NULL, i INTEGER NOT NULL, a INTEGER NOT NULL, b INTEGER NOT NULL, compare INTEGER NOT NULL, overflow INTEGER NOT NULL, channel INTEGER NOT NULL, waiting INTEGER NOT NULL, form INTEGER NOT NULL, line INTEGER NOT NULL, taken INTEGER NOT NULL, cards INTEGER NOT NULL, lines INTEGER NOT NULL, standing INTEGER NOT NULL, PRIMARY KEY (customer, number), FOREIGN KEY (customer, number) REFERENCES jobs (customer, number)) STRICT",
+            &[],
+        )
+    }
+
+    fn make_cards(&mut self) -> Result<(), Fault>
+        ensures step { IsStep S.Store self.old self.new result }
+        ensures made { Makes S.Store self.old self.new result up_to_pictures up_to_cards }
+    {
+        self.run(
+            "CREATE TABLE cards (customer TEXT NOT NULL, number INTEGER NOT NULL, place INTEGER NOT NULL, card BLOB NOT NULL, PRIMARY KEY (customer, number, place), FOREIGN KEY (customer, number) REFERENCES jobs (customer, number)) STRICT",
+            &[],
+        )
+    }
+
+    fn make_lines(&mut self) -> Result<(), Fault>
+        ensures step { IsStep S.Store self.old self.new result }
+        ensures made { Makes S.Store self.old self.new result up_to_cards bureau_schema }
+    {
+        self.run(
+            "CREATE TABLE lines (customer TEXT NOT NULL, number INTEGER NOT NULL, place INTEGER NOT NULL, form INTEGER NOT NULL, line INTEGER NOT NULL, image BLOB NOT NULL, PRIMARY KEY (customer, number, place), FOREIGN KEY (customer, number) REFERENCES jobs (customer, number)) STRICT",
+            &[],
+        )
+    }
+
+    /// Notes the version of the tables.
+    fn insert_version(&mut self) -> Result<(), Fault>
+        ensures step { IsStep S.Store self.old self.new result }
+        ensures made { Inside S.Store self.old self.new
+            (λ old new. OnOk result (AreMade old.now bureau_schema → Holds new.now no_rows)) }
+    {
+        self.run(
+            "INSERT INTO bureau (id, version) VALUES (?1, ?2)",
+            params![1u32, VERSION],
+        )
+    }
+
+    /// The tables of the jobs themselves.
+    fn make_upper(&mut self) -> Result<(), Fault>
+        ensures step { IsStep S.Store self.old self.new result }
+        ensures made { Makes S.Store self.old self.new result no_schema up_to_stretches }
+    {
+        self.make_bureau()?;
+        self.make_jobs()?;
+        self.make_stretches()
+    }
+
+    /// The tables of what the machine does.
+    fn make_lower(&mut self) -> Result<(), Fault>
+        ensures step { IsStep S.Store self.old self.new result }
+        ensures made { Makes S.Store self.old self.new result up_to_stretches bureau_schema }
+    {
+        self.make_pictures()?;
+        self.make_cards()?;
+        self.make_lines()
+    }
+
+    /// Makes the tables of a bureau without jobs, in a database without tables.
+    pub fn make(&mut self) -> Result<(), Fault>
+        ensures step { IsStep S.Store self.old self.new result }
+        ensures made { Inside S.Store self.old self.new
+            (λ old new. OnOk result (old.now.schema ≡ no_schema → Holds new.now no_rows)) }
+    {
+        self.make_upper()?;
+        self.make_lower()?;
+        self.insert_version()
+    }
+}

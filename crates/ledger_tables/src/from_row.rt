@@ -1,0 +1,168 @@
+//! Rows of answers, read as values.
+
+ghost use Rattle.std.specs.Prelude.{◌≡◌, ◌≢◌, List, Option, map, IfOk, IfErr, IsErrOf};
+ghost use Rattle.std.specs.Option.{option_to_list};
+ghost use Rattle.sqlite.specs.Order.{Row as Values};
+ghost use Rattle.sqlite.specs.declared.error.ErrorCode.TheVariants.{OutOfMemory};
+ghost use Rattle.ledger_tables.specs.Reading.{AreReadable, CanRead};
+ghost use Rattle.ledger_tables.specs.Shown.{shown_job, shown_name, shown_queued, shown_stretch, shown_picture, shown_progress, shown_card, shown_line};
+
+use crate::faults::{Fault, fault_of};
+use crate::rows::{
+    CardRow, JobRow, LineRow, NameRow, PictureRow, ProgressRow, QueuedRow, StretchRow,
+};
+use sqlite::{Error, Row};
+use std::alloc::Global;
+
+/// A value that a row of an answer shows.
+pub trait FromRow: Drop {
+    // The row that shows a value.
+    ghost shown: { Self → Values };
+
+    /// Reads the value. Where the row shows one that can be read, it fails for want of memory
+    /// alone.
+    fn from_row(row: &Row) -> Result<Self, Error>
+        ensures read { IfOk result (λ read. (it : Self) → row.now ≡ shown it → read ≡ it) }
+        ensures none { IfErr result (λ error. error ≢ Error.SqliteFailure OutOfMemory
+            → (it : Self) → AreReadable (shown it) → row.now ≢ shown it) };
+}
+
+impl FromRow for JobRow {
+    ghost shown = { shown_job };
+
+    fn from_row(row: &Row) -> Result<JobRow, Error> {
+        Ok(JobRow {
+            kind: row.get(0)?,
+            size: row.get(1)?,
+            deck: row.get(2)?,
+            loaded: row.get(3)?,
+            held: row.get(4)?,
+            collected: row.get(5)?,
+        })
+    }
+}
+
+impl FromRow for NameRow {
+    ghost shown = { shown_name };
+
+    fn from_row(row: &Row) -> Result<NameRow, Error> {
+        Ok(NameRow {
+            number: row.get(0)?,
+            held: row.get(1)?,
+            collected: row.get(2)?,
+        })
+    }
+}
+
+impl FromRow for QueuedRow {
+    ghost shown = { shown_queued };
+
+    fn from_row(row: &Row) -> Result<QueuedRow, Error> {
+        Ok(QueuedRow {
+            customer: row.get(0)?,
+            number: row.get(1)?,
+        })
+    }
+}
+
+impl FromRow for StretchRow {
+    ghost shown = { shown_stretch };
+
+    fn from_row(row: &Row) -> Result<StretchRow, Error> {
+        Ok(StretchRow {
+            switches: row.get(0)?,
+            granted: row.get(1)?,
+        })
+    }
+}
+
+impl FromRow for PictureRow {
+    ghost shown = { shown_picture };
+
+    fn from_row(row: &Row) -> Result<PictureRow, Error> {
+        Ok(PictureRow {
+            storage: row.get(0)?,
+            i: row.get(1)?,
+            a: row.get(2)?,
+            b: row.get(3)?,
+            compare: row.get(4)?,
+            overflow: row.get(5)?,
+            channel: row.get(6)?,
+            waiting: row.get(7)?,
+            form: row.get(8)?,
+            line: row.get(9)?,
+            taken: row.get(10)?,
+            cards: row.get(11)?,
+            lines: row.get(12)?,
+            standing: row.get(13)?,
+        })
+    }
+}
+
+impl FromRow for ProgressRow {
+    ghost shown = { shown_progress };
+
+    fn from_row(row: &Row) -> Result<ProgressRow, Error> {
+        Ok(ProgressRow {
+            i: row.get(0)?,
+            cards: row.get(1)?,
+            lines: row.get(2)?,
+            standing: row.get(3)?,
+        })
+    }
+}
+
+impl FromRow for CardRow {
+    ghost shown = { shown_card };
+
+    fn from_row(row: &Row) -> Result<CardRow, Error> {
+        Ok(CardRow { card: row.get(0)? })
+    }
+}
+
+impl FromRow for LineRow {
+    ghost shown = { shown_line };
+
+    fn from_row(row: &Row) -> Result<LineRow, Error> {
+        Ok(LineRow {
+            form: row.get(0)?,
+            line: row.get(1)?,
+            image: row.get(2)?,
+        })
+    }
+}
+
+/// The values that the rows show. Where each shows one that can be read, it fails for want of
+/// memory alone.
+pub(crate) fn read_all<T: FromRow>(alloc: Global, rows: &[Row]) -> Result<Vec<T>, Fault>
+    ensures read { IfOk result (λ read. (all : List T)
+        → rows.now ≡ map T.shown all → read.items ≡ all) }
+    ensures none { IsErrOf result Fault.Store → (all : List T) → CanRead T.shown all
+        → rows.now ≢ map T.shown all }
+{
+    let mut read = Vec::with_capacity(alloc, rows.len())?;
+    for row in rows {
+        match T::from_row(row) {
+            Ok(it) => read.push_reserved(it),
+            Err(error) => return Err(fault_of(error)),
+        }
+    }
+    Ok(read)
+}
+
+/// The value that the first row shows, if there is a row. Where it shows one that can be read, it
+/// fails for want of memory alone.
+pub(crate) fn read_first<T: FromRow>(rows: &[Row]) -> Result<Option<T>, Fault>
+    ensures read { IfOk result (λ found. (it : Option T)
+        → rows.now ≡ map T.shown (option_to_list it) → found ≡ it) }
+    ensures none { IsErrOf result Fault.Store → (all : List T) → CanRead T.shown all
+        → rows.now ≢ map T.shown all }
+{
+    let Some(row) = rows.first() else {
+        return Ok(None);
+    };
+    match T::from_row(row) {
+        Ok(it) => Ok(Some(it)),
+        Err(error) => Err(fault_of(error)),
+    }
+}

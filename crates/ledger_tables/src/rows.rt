@@ -1,0 +1,142 @@
+//! The rows of the tables, without the job that they name and their place.
+
+use std::marker::Model;
+
+/// A row of `jobs`.
+#[derive(Drop)]
+pub struct JobRow {
+    /// 0 for a deck that is loaded as it is.
+    pub kind: u32,
+    /// How many positions of storage.
+    pub size: u32,
+    /// The deck that was handed in: 80 bytes a card, each the number of a character.
+    pub deck: Vec<u8>,
+    /// The deck in the card reader, likewise.
+    pub loaded: Vec<u8>,
+    /// 0 or 1.
+    pub held: u32,
+    /// 0 or 1.
+    pub collected: u32,
+}
+
+impl Model for JobRow {
+    ghost use Rattle.ledger_tables.specs.Cells.{JobCells};
+
+    ghost Value = { JobCells };
+
+    ghost view = { λ row. record { kind = row.kind; size = row.size; deck = row.deck.items; loaded = row.loaded.items; held = row.held; collected = row.collected } };
+}
+
+/// Of a row of `jobs`: what the list of a customer's jobs shows.
+#[derive(Clone, Copy)]
+pub struct NameRow {
+    pub number: u32,
+    /// 0 or 1.
+    pub held: u32,
+    /// 0 or 1.
+    pub collected: u32,
+}
+
+/// Of a row of `jobs`: its name.
+#[derive(Drop)]
+pub struct QueuedRow {
+    pub customer: String,
+    pub number: u32,
+}
+
+impl Model for QueuedRow {
+    ghost use Rattle.std.specs.Prelude.{string_bytes};
+    ghost use Rattle.ledger_tables.specs.Cells.{QueuedName};
+
+    ghost Value = { QueuedName };
+
+    ghost view = { λ row. record { customer = string_bytes row.customer; number = row.number } };
+}
+
+/// A row of `stretches`.
+#[derive(Clone, Copy, PartialEq, Eq)]
+pub struct StretchRow {
+    /// Switch A the lowest bit, G the seventh.
+    pub switches: u32,
+    /// How many instructions were granted, all grants together.
+    pub granted: u32,
+}
+
+/// A row of `pictures`.
+#[derive(Debug, Drop)]
+pub struct PictureRow {
+    /// A byte a position: the number of its character, and 64 more where it is marked.
+    pub storage: Vec<u8>,
+    pub i: u32,
+    pub a: u32,
+    pub b: u32,
+    /// 0 equal, 1 B low, 2 B high.
+    pub compare: u32,
+    /// 0 or 1.
+    pub overflow: u32,
+    /// 0 or 1.
+    pub channel: u32,
+    /// 0 none, 1 to 3 spaces, 4 skip.
+    pub waiting: u32,
+    pub form: u32,
+    pub line: u32,
+    /// How many cards were read.
+    pub taken: u32,
+    /// How many cards were punched.
+    pub cards: u32,
+    /// How many lines were printed.
+    pub lines: u32,
+    /// 0 running, 1 halted, 2 to 8 the checks.
+    pub standing: u32,
+}
+
+impl Model for PictureRow {
+    ghost use Rattle.ledger_tables.specs.Cells.{PictureCells};
+
+    ghost Value = { PictureCells };
+
+    ghost view = { λ row. record { storage = row.storage.items; i = row.i; a = row.a; b = row.b; compare = row.compare; overflow = row.overflow; channel = row.channel; waiting = row.waiting; form = row.form; line = row.line; taken = row.taken; cards = row.cards; lines = row.lines; standing = row.standing } };
+}
+
+/// Of a row of `pictures`: how far the job has come.
+#[derive(Clone, Copy)]
+pub struct ProgressRow {
+    pub i: u32,
+    /// How many cards were punched.
+    pub cards: u32,
+    /// How many lines were printed.
+    pub lines: u32,
+    /// 0 running, 1 halted, 2 to 8 the checks.
+    pub standing: u32,
+}
+
+/// A row of `cards`: 80 bytes, each the number of a character.
+#[derive(Drop)]
+pub struct CardRow {
+    pub card: Vec<u8>,
+}
+
+impl Model for CardRow {
+    ghost use Rattle.std.specs.Prelude.{ℕ, List};
+
+    ghost Value = { List ℕ };
+
+    ghost view = { λ row. row.card.items };
+}
+
+/// A row of `lines`.
+#[derive(Drop)]
+pub struct LineRow {
+    pub form: u32,
+    pub line: u32,
+    /// 132 bytes, each the number of a character.
+    pub image: Vec<u8>,
+}
+
+impl Model for LineRow {
+    ghost use Rattle.ledger_tables.specs.Cells.{LineCells};
+
+    ghost Value = { LineCells };
+
+    ghost view = { λ row. record { form = row.form; line = row.line; image = row.image.items } };
+}

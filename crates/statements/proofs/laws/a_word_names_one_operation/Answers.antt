@@ -1,5 +1,0 @@
-use Rattle.statements.proofs.NameLemmas.{one_operation}
-use Rattle.statements.proofs.laws.a_word_names_one_operation.Goals as goal
-
-pub returns : goal.returns
-returns c = one_operation

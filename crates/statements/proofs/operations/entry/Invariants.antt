@@ -1,6 +1,0 @@
-use Rattle.std.proofs.Common.{◌≡◌, drop}
-use Rattle.statements.specs.Mnemonics.{entry}
-use Rattle.statements.proofs.operations.entry.Given as goal
-
-abbrev pub invariant-loop-index : goal.invariant-loop-index
-invariant-loop-index g l = entry (drop l.index l.table) l.word ≡ entry l.table l.word

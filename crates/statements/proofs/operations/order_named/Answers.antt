@@ -1,7 +1,0 @@
-use Rattle.std.proofs.Common.{◌∙◌, ap}
-use Rattle.statements.specs.Mnemonics.{entry}
-use Rattle.statements.proofs.Rows.{orders_are}
-use Rattle.statements.proofs.operations.order_named.Goals as goal
-
-pub returns : goal.returns
-returns c = c.entry.ensures ∙ ap (λ table. entry table c.args.word.now) orders_are

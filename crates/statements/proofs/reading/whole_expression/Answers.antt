@@ -1,6 +1,0 @@
-use Rattle.statements.specs.Ranges.{IsExpressionInRange}
-use Rattle.statements.proofs.Wholes.{whole_keeps}
-use Rattle.statements.proofs.reading.whole_expression.Goals as goal
-
-pub returns-clause-range : goal.returns-clause-range
-returns-clause-range c = rw c.whole.ensures (whole_keeps IsExpressionInRange c.args.field.now c.read_expression.result c.read_expression.ensures.range)
