@@ -5,10 +5,10 @@ ghost use Rattle.units.specs.declared.Switches.{Switches};
 ghost use Rattle.scripts.specs.Texts.{AreSwitchesOf, IsCountOf, IsKindOf, IsNumberOf, text_of};
 ghost use Rattle.office.specs.declared.commands.Kind.{Kind};
 
+use counter_values;
 use office::Kind;
 use std::alloc::{AllocError, Global};
 use units::Switches;
-use values;
 
 /// The most cards of a submission.
 const MOST_CARDS: u32 = 2_000;
