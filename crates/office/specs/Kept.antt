@@ -91,7 +91,7 @@ is_at_halt (Checked check at) = false
 
 -- ---- what is refused
 
--- whether a command only asks for something of a job: `Tell`, `Cards` and `Lines`
+-- whether a command only asks for something of a job: `Standing`, `Cards` and `Lines`
 abbrev pub is_query : JobCommand → Bool
 is_query (Slice limit) = false
 is_query (Start switches) = false

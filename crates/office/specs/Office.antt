@@ -235,7 +235,7 @@ fold (command ∷ commands) office =
     let done : Office × Reply = take command office in
     replied_first done.1 (fold commands done.0)
 
--- this office is the one after a first part of the commands that has every acknowledged one in it
+-- this is the office after a beginning of the commands that holds every acknowledged one
 abbrev pub IsLeft : Office → List Command → ℕ → Office → Type 0
 IsLeft office commands acknowledged left =
     (taken : ℕ) × (acknowledged ≤ taken) × (taken ≤ length commands)
