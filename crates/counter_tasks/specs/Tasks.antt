@@ -35,7 +35,7 @@ WantsServe file port count (Serve path p c) =
     (file ≡ path.now) × (port ≡ decimal p) × (count ≡ decimal c) × IsPort p × IsCount c
 WantsServe file port count _ = ⊥
 
--- the number that a text of 1 to 9 digits with no zero in front is; any other text is 0
+-- the number of a text: its value if it has 1 to 9 digits with no zero in front, else 0
 abbrev pub IsNumberOf : List ℕ → ℕ → Type 0
 IsNumberOf text number =
     ((0 < number) × (number < 10 ^ 9) × (text ≡ decimal number))

@@ -13,13 +13,13 @@ use Rattle.http_heads.specs.declared.asked.JobName.{JobName}
 use Rattle.http_heads.specs.declared.asked.Kind.{Kind}
 use Rattle.http_heads.specs.declared.asked.Kind.TheVariants.{Object, Autocoder}
 
--- the number that a text of 1 to 9 digits with no zero in front is; any other text is 0
+-- the number of a text: its value if it has 1 to 9 digits with no zero in front, else 0
 abbrev pub IsNumberOf : List ℕ → ℕ → Type 0
 IsNumberOf text number =
     ((0 < number) × (number < 10 ^ 9) × (text ≡ decimal number))
     ⊎ ((number ≡ 0) × ((other : ℕ) → 0 < other → other < 10 ^ 9 → text ≢ decimal other))
 
--- the switches that a text gives as on
+-- the switches that a text sets on, by their letters, or a hyphen for none
 abbrev pub AreSwitchesOf : List ℕ → Switches → Type 0
 AreSwitchesOf text switches = AreSeven switches × (text ≡ text_of switches)
 

@@ -11,7 +11,7 @@ use Rattle.http_heads.specs.declared.lengths.BodyLength.TheVariants.{Unsaid, Byt
 abbrev pub Field : Type 0
 Field = List ℕ × List ℕ
 
--- whether a header field has this name, in capital or small letters
+-- whether a header field has this name, without regard to case
 unfoldable pub has_name : List ℕ → Field → Bool
 has_name name field = str_eq_ignore_ascii_case field.0 name
 

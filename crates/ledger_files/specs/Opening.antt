@@ -37,7 +37,7 @@ module _ {D : Type 0} {g : Ghosts D} where
   KeptStands has_sums (kept.Left rest) office = LeftStands has_sums rest office
   KeptStands has_sums kept.Nothing office = ⊤
 
-  -- the disks of what is handed back have returned what was written so far
+  -- so far the disks of what is handed back have returned what was written to them
   abbrev pub IsCleanKept : Kept D g → Type 0
   IsCleanKept (kept.Connection conn) = HasCleanDisk (file_state conn)
   IsCleanKept (kept.Left rest) = IsCleanLeft rest
@@ -53,7 +53,7 @@ Found = Bool × Image
 abbrev pub Leads : Found → Found → Type 0
 Leads before after = (office : Office) → AreOf before.0 before.1 office → AreOf after.0 after.1 office
 
--- each of these files represent the office that the files before them represent
+-- each pair of files represents whatever office the pair before it represents
 abbrev pub AreRounds : Found → List Found → Type 0
 AreRounds first [] = ⊤
 AreRounds first (next ∷ more) = Leads first next × AreRounds next more

@@ -43,7 +43,7 @@ loaded_of Autocoder deck = runnable_deck deck
 abbrev pub loaded_deck : Job → List Card
 loaded_deck job = loaded_of job.kind job.deck
 
--- ---- where a job's machine is
+-- ---- the state of a job's machine
 
 -- a machine after these stretches: in each it is started with the stretch's switches, and then runs
 -- for as many instructions as were granted
@@ -63,7 +63,7 @@ beginning job = loaded (loaded_deck job) job.size all_off
 abbrev pub picture : Job → State
 picture job = resumed (beginning job) job.stretches
 
--- a job's machine stands at a halt
+-- a job's machine is at a halt
 abbrev pub IsAtHalt : Job → Type 0
 IsAtHalt job = (picture job).standing ≡ Halted
 

@@ -52,7 +52,7 @@ pub record IsJobInRange (k : Kept) : Type 0 where
   pub stretches : AreStretches k.stretches
   pub machine : IsInRange k.machine
 
--- ---- how a job stands
+-- ---- the standing of a job
 
 -- the standing of a job: running, at a halt with the position of the next instruction, or at a
 -- check with the position of the instruction that met it

@@ -1,4 +1,4 @@
--- how customers and jobs are named, and how much a slice may ask for
+-- the names of customers and jobs, and the limit of a slice
 use Rattle.std.specs.Prelude.{ℕ, Bool, List, ◌&&◌, ◌==◌, nat_le, length, codes}
 use Rattle.std.specs.List.{list_all, list_any}
 use Rattle.office.specs.Limits.{longest_name, largest_number, largest_limit}

@@ -105,7 +105,7 @@ pub record HasBadCard (bytes : List ℕ) (count : ℕ) (number : ℕ) : Type 0 w
 abbrev pub fault_of : CardFault → ScriptFault
 fault_of card = fault_of_error card.error card.card
 
--- the fault is a bad line, no further on than 2001 lines, as many as a heading and a full deck have
+-- the fault is a bad line among the first 2001, as many as a heading and a full deck have
 abbrev pub IsNear : ScriptFault → Type 0
 IsNear (fault.BadLine number) = number ≤ 2001
 IsNear other = ⊤

@@ -11,13 +11,13 @@ use Rattle.counter_values.specs.Switches as values
 abbrev pub text_of : List ℕ → List ℕ
 text_of word = if is_utf8 word then word else []
 
--- the number that a word of 1 to 9 digits with no zero in front is; any other word is 0
+-- the number of a word: its value if it has 1 to 9 digits with no zero in front, else 0
 abbrev pub IsNumberOf : List ℕ → ℕ → Type 0
 IsNumberOf word number =
     ((0 < number) × (number < 10 ^ 9) × (text_of word ≡ decimal number))
     ⊎ ((number ≡ 0) × ((other : ℕ) → 0 < other → other < 10 ^ 9 → text_of word ≢ decimal other))
 
--- the switches that a word gives as on
+-- the switches that a word sets on, by their letters, or a hyphen for none
 abbrev pub AreSwitchesOf : List ℕ → Switches → Type 0
 AreSwitchesOf word switches = AreSeven switches × (text_of word ≡ values.text_of switches)
 
