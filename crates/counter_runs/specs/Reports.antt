@@ -8,7 +8,7 @@ use Rattle.counter_tasks.specs.declared.statuses.Status.{Status}
 use Rattle.counter_tasks.specs.declared.statuses.Status.TheVariants as status
 use Rattle.counter_runs.specs.declared.reports.Report.{Report}
 
--- the exit status after a run that ended with this standing: done at a halt, else 1
+-- the exit status after a run that ended with this standing: 0 at a halt, else 1
 abbrev pub status_at : Standing → Status
 status_at standing.Halted = status.Done
 status_at standing.Running = status.Told

@@ -47,7 +47,7 @@ ComesOfBroken input status bytes =
 abbrev pub EndsBroken : Option (List ℕ) → Option (List ℕ) → Option (List ℕ) → Exchange → Type 0
 EndsBroken input = EndsWith (ComesOfBroken input) ⊤
 
--- the end of the exchange may be that of the answer for this fault
+-- the exchange may have ended with the answer for this fault
 abbrev pub MayEndWith : Fault → Exchange → Type 0
 MayEndWith f (exchange.Answered status sent) =
     (status ≡ fault_status f) × (sent ≡ length (fault_bytes f))

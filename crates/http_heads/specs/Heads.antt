@@ -26,7 +26,7 @@ pub record BeginsWith (input : List ℕ) (h : RequestHead) : Type 0 where
   pub short : length (print_request h) ≤ most_bytes
   pub few : length h.fields ≤ most_fields
 
--- the bytes have a beginning, no longer than a head may be, that no head has
+-- the bytes begin as no head does, within as many bytes as a head may have
 abbrev pub IsNoHead : List ℕ → Type 0
 IsNoHead input = (front : List ℕ) × (rest : List ℕ) × (input ≡ front ++ rest) × (length front ≤ most_bytes) × NeverHasRequest front
 
@@ -48,8 +48,8 @@ IsUnread input status =
     ((IsNoHead input ⊎ EndsEarly input) × (status ≡ 400))
     ⊎ ((HasManyFields input ⊎ IsTooLong input) × (status ≡ 431))
 
--- a head is refused with this status: by one of the tests, or with 400 if its switches are no
--- switches
+-- a head is refused with this status: by one of the tests, or with 400 if its switches cannot be
+-- read
 abbrev pub IsRefused : RequestHead → ℕ → Type 0
 IsRefused h status =
     (status_of h ≡ Some status)

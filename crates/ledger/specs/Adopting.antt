@@ -18,7 +18,7 @@ module _ {S : Type 0} (g : Ghosts S) (old new : Held S) where
   StandsStill = HasCleanDisk (state g new) → (office : Office) → Stands (state g old) office
       → Stands (state g new) office
 
-  -- if the tables represented an office, the fault is one that says nothing against the tables
+  -- if the tables represented an office, the fault is not that they are no bureau's or an old one's
   abbrev pub IsNoFaultOfTables : OpenFault → Type 0
   IsNoFaultOfTables fault = HasCleanDisk (state g new) → (office : Office)
       → Stands (state g old) office → IsKnown fault

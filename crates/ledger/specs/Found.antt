@@ -51,7 +51,7 @@ HasStretches here found = (job : Job) → here ≡ Some job → found ≡ job.st
 abbrev pub BeganWith : Option Job → Switches → Type 0
 BeganWith here found = (job : Job) → here ≡ Some job → IsFirst found job.stretches
 
--- if there is the job, and this is its loaded deck and these are its last switches, these are its
+-- if there is the job, and these are its loaded deck and its machine's switches, these are its
 -- machine's deck, switches, cards and lines
 abbrev pub HasMedia : Option Job → List ℕ → Switches → Media → Type 0
 HasMedia here loaded switches found =
@@ -64,8 +64,8 @@ abbrev pub HasMachineWith : Option Job → Media → State → Type 0
 HasMachineWith here media found =
     (job : Job) → here ≡ Some job → IsMediaOf media (picture job) → found ≡ picture job
 
--- if there is the job, and this is its loaded deck and these are its last switches, this is the
--- state of its machine
+-- if there is the job, and these are its loaded deck and its machine's switches, this is the state
+-- of its machine
 abbrev pub HasMachine : Option Job → List ℕ → Switches → State → Type 0
 HasMachine here loaded switches found =
     (job : Job) → here ≡ Some job → loaded ≡ deck_bytes (loaded_deck job)

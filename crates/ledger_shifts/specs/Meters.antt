@@ -4,7 +4,7 @@ use Rattle.machine.specs.Run.{risen}
 use Rattle.office.specs.Office.{Office, take, attempted}
 use Rattle.office.specs.declared.commands.Command.{Command}
 
--- the meter has risen from the old count to the new by between so many and so many ticks
+-- the meter has risen from the old count to the new by `fewest` ticks at least and `limit` at most
 pub record RisenWithin (fewest limit old new : ℕ) : Type 0 where
   pub ticks : ℕ
   pub least : fewest ≤ ticks

@@ -77,8 +77,8 @@ granted = sum_by (λ s. s.granted)
 abbrev pub HasSwitches : Stretch → Type 0
 HasSwitches s = AreSeven s.switches
 
--- the stretches that a job may have: one at least, all with switches that exist, and no more
--- instructions granted in all than a job may have
+-- the stretches that a job may have: at least one, all with switches that exist, and in all at most
+-- 1,000,000,000 instructions granted
 pub record AreStretches (stretches : List Stretch) : Type 0 where
   pub begun : 0 < length stretches
   pub switches : All HasSwitches stretches

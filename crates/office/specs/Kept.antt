@@ -22,7 +22,7 @@ use Rattle.office.specs.declared.refusals.Refusal.TheVariants as refusal
 use Rattle.office.specs.declared.replies.Reply.{Reply}
 use Rattle.office.specs.declared.replies.Reply.TheVariants as reply
 
--- a job with its machine: the stretches, the flags and the machine's state, whatever that is
+-- a job with its machine: the stretches, the flags and the machine's state, which may be any
 pub record Kept : Type 0 where
   pub stretches : List Stretch
   pub held : Bool

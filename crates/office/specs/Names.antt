@@ -7,7 +7,7 @@ use Rattle.office.specs.Limits.{longest_name, largest_number, largest_limit}
 abbrev pub is_letter_or_digit : ℕ → Bool
 is_letter_or_digit byte = list_any (λ c. c == byte) (codes "ABCDEFGHIJKLMNOPQRSTUVWXYZ0123456789")
 
--- whether a name may have so many characters: 1 to the most
+-- whether a customer's name may have so many characters: 1 to 12
 abbrev pub is_name_length : ℕ → Bool
 is_name_length length = nat_le 1 length && nat_le length longest_name
 
@@ -15,10 +15,10 @@ is_name_length length = nat_le 1 length && nat_le length longest_name
 abbrev pub is_customer : List ℕ → Bool
 is_customer name = is_name_length (length name) && list_all is_letter_or_digit name
 
--- whether a job may have this number: 1 to the largest
+-- whether a job may have this number: 1 to 999,999
 abbrev pub is_number : ℕ → Bool
 is_number number = nat_le 1 number && nat_le number largest_number
 
--- whether a slice may have this limit: one instruction to the most
+-- whether a slice may have this limit: 1 to 2,000 instructions
 abbrev pub is_limit : ℕ → Bool
 is_limit limit = nat_le 1 limit && nat_le limit largest_limit

@@ -38,15 +38,14 @@ attempted_by_all [] office = 0
 attempted_by_all (command ∷ commands) office =
     attempted command office + attempted_by_all commands (take command office).0
 
--- the meter has risen from the old count to the new by between so many and so many ticks
+-- the meter has risen from the old count to the new by `fewest` ticks at least and `limit` at most
 pub record RisenWithin (fewest limit old new : ℕ) : Type 0 where
   pub ticks : ℕ
   pub least : fewest ≤ ticks
   pub most : ticks ≤ limit
   pub is : new ≡ risen old ticks
 
--- the commands that were given, by the count of replies: one more than these if that one met a
--- fault
+-- the commands that were given: those that were replied to, and one more if it met a fault
 abbrev pub given_by : ScriptEnd → ℕ → List Command → List Command
 given_by (ended.Fault fault) count commands = beginning_of (count + 1) commands
 given_by other count commands = beginning_of count commands
