@@ -37,8 +37,8 @@ sought_near None = 17
 unfoldable pub near_length : Storage → ℕ → ℕ
 near_length s p = sought_near (field_length s p)
 
--- how many characters are read at p if at most `limit` are required: those of the field, or `limit`
--- if the field is longer and position 0 is not passed
+-- how many characters are read at p if at most `limit` are required: the field's, or `limit` if it
+-- is longer or there is none, unless that passes position 0
 unfoldable pub cut_length : Storage → ℕ → ℕ → Option ℕ
 cut_length s p limit =
     if is_within (field_length s p) limit then field_length s p

@@ -23,8 +23,8 @@ use Rattle.machine.specs.Branches.{condition_of, test_of}
 abbrev pub ending_in : Storage → ℕ → ℕ → Option ℕ
 ending_in s i count = if nat_le (i + count) (length s) then Some count else None
 
--- how many characters the instruction at i has: up to the next word mark among eight, but for Set
--- Word Mark seven at most, after which no mark is required
+-- how many characters the instruction at i has: those before the next word mark, at most eight; Set
+-- Word Mark, `,`, has at most seven and requires no mark after them
 unfoldable pub word_length : Storage → ℕ → Option ℕ
 word_length s i =
     if is_marked s i then

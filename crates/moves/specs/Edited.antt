@@ -41,8 +41,8 @@ filled (code ∷ control) amount minus =
 unfoldable pub through_zero : List ℕ → ℕ
 through_zero control = length control - leading (is_any (codes "0")) (reverse control)
 
--- the control field with the amount, and with a blank for each `0` and comma up to the rightmost
--- `0` of the control field, unless a digit 1 to 9 comes before
+-- the control field with the amount, and with a blank for each `0` and comma up to the control
+-- field's rightmost `0`, but not after a digit 1 to 9
 unfoldable pub edited : List ℕ → List ℕ → Bool → List ℕ
 edited control amount minus = blanked (min (through_zero control) (leading (ends Digit) (filled control amount minus))) (filled control amount minus)
 
@@ -54,8 +54,8 @@ is_minus amount = is_minus_zone (zone_of (from_right amount 0))
 abbrev pub is_sharing : ℕ → ℕ → ℕ → ℕ → Bool
 is_sharing a a_count b b_count = nat_lt a (b + a_count) && nat_lt b (a + b_count)
 
--- storage and registers after editing the amount at A by the control field at B, whose mark is
--- cleared: it has a character for each digit place, at least one, or fewer if a mark ends it
+-- storage and registers after the amount at A is edited by the control field at B, whose mark is
+-- cleared; as many characters are read as there are digit places, at least one, or up to a mark
 unfoldable pub field_edited : Storage → Registers → Result (Storage × Registers) Check
 field_edited s r =
     require (are_inside s r.a r.b) Address

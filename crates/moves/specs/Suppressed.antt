@@ -15,8 +15,8 @@ unfoldable pub unmarked : Storage → ℕ → ℕ → Storage
 unmarked s first zero = s
 unmarked s first (suc count) = with_mark (unmarked s (first + 1) count) first false
 
--- the characters with a blank for each `0` and comma before the first that is neither these nor a
--- blank
+-- the characters with a blank for each `0` and comma before the first that is neither of these nor
+-- a blank
 unfoldable pub suppressed : List ℕ → List ℕ
 suppressed codes = blanked (leading (ends Other) codes) codes
 
