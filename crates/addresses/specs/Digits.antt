@@ -1,14 +1,14 @@
--- the characters that are digits, under each zone
+-- the characters of the digits under each zone
 use Rattle.std.specs.Prelude.{ℕ, ◌==◌, List, codes, slice_index, position, unwrap_or}
 use Rattle.bcd.specs.Table.{glyphs}
 use Rattle.bcd.specs.declared.Zone.{Zone}
 use Rattle.bcd.specs.declared.Zone.TheVariants.{Bare, A, B, AB}
 
--- the character that a glyph stands for
+-- the number of the character with this glyph, 64 if there is none
 unfoldable pub code_of : ℕ → ℕ
 code_of glyph = unwrap_or (position (λ g. g == glyph) glyphs) 64
 
--- the digits 0 to 9 as they are written under a zone
+-- the glyphs of the digits 0 to 9 under a zone
 abbrev pub digits_under : Zone → List ℕ
 digits_under Bare = codes "0123456789"
 digits_under A = codes "|/STUVWXYZ"

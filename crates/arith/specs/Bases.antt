@@ -1,4 +1,4 @@
--- how addresses in storage are modified
+-- the operation Modify Address
 use Rattle.std.specs.Prelude.{◌+◌, ◌-◌, ◌%◌, ◌&&◌, Result, Ok}
 use Rattle.bcd.specs.Table.{zone_of}
 use Rattle.core_store.specs.Storage.{Storage, code_at, put_codes}
@@ -11,7 +11,8 @@ use Rattle.addresses.specs.Effective.{base_ending}
 use Rattle.addresses.specs.Stored.{has_three}
 use Rattle.core_store.specs.Operands.{lowered}
 
--- the base at A added to the base at B, modulo 16000, and written at B, where the tag is kept
+-- storage and registers after Modify Address: the address at A is added to that at B modulo 16000,
+-- and B's tag is kept
 unfoldable pub modified : Storage → Registers → Result (Storage × Registers) Check
 modified s r =
     require (has_three s r.a && has_three s r.b) Address

@@ -10,8 +10,8 @@ use Rattle.core_store.specs.declared.registers.Compared.TheVariants.{Equal, Low,
 use Rattle.core_store.specs.Operands.{lowered}
 use Rattle.arith.specs.Operands.{counts_at}
 
--- how the second of two lists of one length stands to the first: the first place from the left where the ranks differ
--- decides
+-- how the second of two lists of one length compares with the first, by the ranks at the first
+-- place from the left where they differ
 unfoldable pub order : List ℕ → List ℕ → Compared
 order [] ys = Equal
 order (x ∷ xs) [] = Equal
@@ -19,22 +19,24 @@ order (x ∷ xs) (y ∷ ys) =
     if nat_lt (rank_of y) (rank_of x) then Low
     else (if nat_lt (rank_of x) (rank_of y) then High else order xs ys)
 
--- at a place the ranks differ, and they are the same at each place to its left
+-- the first place at which two lists may differ: the ranks at each place to its left are the same
 pub record IsFirstDifference (a b : List ℕ) (place : ℕ) : Type 0 where
   pub inside : place < length a
   pub same : (k : ℕ) → k < place → rank_of (slice_index a k) ≡ rank_of (slice_index b k)
 
--- what makes an order that of two lists
+-- this is how the second of two lists compares with the first, by the ranks of their characters
 abbrev pub IsOrder : List ℕ → List ℕ → Compared → Type 0
 IsOrder a b Equal = (k : ℕ) → k < length a → rank_of (slice_index a k) ≡ rank_of (slice_index b k)
 IsOrder a b Low = (place : ℕ) × IsFirstDifference a b place × (rank_of (slice_index b place) < rank_of (slice_index a place))
 IsOrder a b High = (place : ℕ) × IsFirstDifference a b place × (rank_of (slice_index a place) < rank_of (slice_index b place))
 
--- the compare indicator: a shorter A makes B high, whatever the characters are
+-- the compare indicator for the fields A and B: a shorter A makes B high, whatever the characters
+-- are
 abbrev pub comparison : List ℕ → List ℕ → Compared
 comparison a b = if nat_lt (length a) (length b) then High else order a b
 
--- the cut at A compared with the B field
+-- the registers after Compare: the A field, cut to the length of the B field, is compared with the
+-- B field
 unfoldable pub compared : Storage → Registers → Result (Storage × Registers) Check
 compared s r =
     and_then (counts_at s r.a r.b) (λ counts.

@@ -1,12 +1,12 @@
--- what a source is assembled to
+-- the program that a source is assembled to
 use Rattle.std.specs.Prelude.{ℕ, List}
 use Rattle.core_store.specs.declared.sizes.Size.{Size}
 use Rattle.autocoder_layout.specs.declared.cells.Cell.{Cell}
 use Rattle.autocoder_layout.specs.declared.slots.Slot.{Slot}
 use Rattle.autocoder_layout.specs.Literals.{Characters}
 
--- a program: the size of its machine, the positions that it fills, where it starts, the number of the card that ends its
--- source, where each card of the source stands, and the literals in the order of their places
+-- a program: its machine's size, the filled positions, its start, the number of its END card, the
+-- slots of its cards, and its literals in the order of their places
 pub record Assembly : Type 0 where
   pub size : Size
   pub image : List Cell

@@ -19,7 +19,7 @@ use Rattle.autocoder.specs.declared.faults.Faults.{Faults}
 use Rattle.autocoder.specs.declared.faults.Faults.TheVariants.{Source, NoMemory}
 use Rattle.autocoder.specs.Assembly.{Assembly}
 
--- the size of storage for a source, as a number of positions
+-- how many positions of storage the machine of a source has
 abbrev pub size_for : List Card → ℕ
 size_for source = positions_of (size_of source)
 
@@ -27,25 +27,26 @@ size_for source = positions_of (size_of source)
 abbrev pub layout_for : List Card → List Laid
 layout_for source = layout_of (size_for source) (lines_of false source)
 
--- where a program starts whose source ends with this line: at its address, or else at the first instruction
+-- the start of a program whose source ends with this line: the address on END, or else the first
+-- instruction
 abbrev pub start_by : ℕ → List Slot → Line → ℕ
 start_by size slots (Ok (statement.End (Some expression) labelled)) = position_in (value_in size slots expression)
 start_by size slots (Ok (statement.End None labelled)) = option_map_or (λ slot. slot.before) (find (λ slot. is_instruction slot.kind) slots) 0
 start_by size slots line = 0
 
--- what the last card of a source says
+-- the line of the last card of a source
 unfoldable pub last_line : List Card → Line
 last_line source = slice_index_or (map statement_on source) (length source - 1) silent
 
--- the positions that the program of a source fills, by its one layout
+-- the image of a source's program: the positions that it fills
 abbrev pub image_for : List Card → List Cell
 image_for source = image_of (size_for source) (layout_for source)
 
--- where the program of a source starts
+-- the position at which the program of a source starts
 abbrev pub start_for : List Card → ℕ
 start_for source = start_by (size_for source) (slots_of (layout_for source)) (last_line source)
 
--- a program is that of a source, by the source's layout
+-- this is the program of the source, by the source's one layout
 pub record IsProgramOf (source : List Card) (program : Assembly) : Type 0 where
   pub size : program.size ≡ size_of source
   pub image : program.image ≡ image_for source
@@ -54,11 +55,11 @@ pub record IsProgramOf (source : List Card) (program : Assembly) : Type 0 where
   pub slots : program.slots ≡ slots_of (layout_for source)
   pub literals : program.literals ≡ literals_of (lines_of false source) (slots_of (layout_for source))
 
--- the source that a deck begins with has no faults
+-- a source has no faults
 abbrev pub IsFaultless : List Card → Type 0
 IsFaultless source = faults_of (has_end source) (layout_for source) ≡ []
 
--- the faults are those of the source, and there are some; or there was no memory
+-- these are the faults of the source, at least one; or memory ran out
 abbrev pub AreFaults : List Card → Faults → Type 0
 AreFaults source (Source faults) = (faults.items ≡ faults_of (has_end source) (layout_for source)) × (faults.items ≢ [])
 AreFaults source NoMemory = Unit {0}

@@ -1,4 +1,4 @@
--- the faults of a source, in card order
+-- the faults of a source, in the order of its cards
 use Rattle.std.specs.Prelude.{ℕ, ◌+◌, ◌-◌, Bool, if◌then◌else◌, List, [], ◌∷◌, ◌++◌, length, Option, Some, None, slice_index_or}
 use Rattle.autocoder_layout.specs.Layout.{Laid, nothing}
 use Rattle.autocoder_layout.specs.declared.faults.SourceFault.{SourceFault}
@@ -7,11 +7,12 @@ use Rattle.autocoder.specs.declared.faults.Faults.{Faults}
 use Rattle.autocoder.specs.declared.faults.Faults.TheVariants as faults
 use Rattle.autocoder.specs.declared.faults.CardFault.{CardFault}
 
+-- a list of faults with that of a card in front, if it has one
 abbrev pub fault_then : ℕ → Option SourceFault → List CardFault → List CardFault
 fault_then card None rest = rest
 fault_then card (Some fault) rest = record { card = card; fault = fault } ∷ rest
 
--- the faults of cards that are numbered from this card on
+-- the faults of cards that are numbered from this number on
 unfoldable pub faults_from : ℕ → List Laid → List CardFault
 faults_from card [] = []
 faults_from card (laid ∷ layout) = fault_then card laid.fault (faults_from (card + 1) layout)
@@ -20,24 +21,24 @@ faults_from card (laid ∷ layout) = fault_then card laid.fault (faults_from (ca
 unfoldable pub last_fault : List Laid → Option SourceFault
 last_fault layout = (slice_index_or layout (length layout - 1) nothing).fault
 
--- a source without end tells it at its last card, where that has no fault of its own
+-- the fault that a source has no END, which its last card is given unless it has a fault of its own
 abbrev pub no_end_behind : Option SourceFault → ℕ → List CardFault
 no_end_behind None card = record { card = card; fault = source.NoEnd } ∷ []
 no_end_behind (Some fault) card = []
 
--- the faults of cards, and that of a source without end
+-- the faults of the cards, and after them that of a source without END
 abbrev pub told_to_end : Bool → List CardFault → Option SourceFault → ℕ → List CardFault
 told_to_end ended faults last card = if ended then faults else faults ++ no_end_behind last card
 
--- want of memory as a list of faults: one that is of no card
+-- want of memory as a list of faults: one with the card number 0
 abbrev pub no_memory : List CardFault
 no_memory = record { card = 0; fault = source.NoMemory } ∷ []
 
--- what is wrong, as a list of faults
+-- the faults as a list
 abbrev pub fault_list : Faults → List CardFault
 fault_list (faults.Source told) = told.items
 fault_list faults.NoMemory = no_memory
 
--- the faults of a source with an end or without
+-- all faults of a source with or without END, in the order of its cards
 unfoldable pub faults_of : Bool → List Laid → List CardFault
 faults_of ended layout = told_to_end ended (faults_from 1 layout) (last_fault layout) (length layout)

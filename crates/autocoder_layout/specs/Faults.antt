@@ -1,9 +1,10 @@
--- the numbers by which faults are told
+-- the numbers of a source's faults
 use Rattle.std.specs.Prelude.{ℕ}
 use Rattle.autocoder_statements.specs.Statements as statement
 use Rattle.autocoder_layout.specs.declared.faults.SourceFault.{SourceFault}
 use Rattle.autocoder_layout.specs.declared.faults.SourceFault.TheVariants.{NoMemory, Statement, TakenLabel, UnknownName, Outside, Reserved, Filled, NoEnd}
 
+-- the number of a fault of a source
 abbrev pub fault_number : SourceFault → ℕ
 fault_number NoMemory = 1
 fault_number (Statement fault) = statement.fault_number fault

@@ -1,4 +1,4 @@
--- where each card stands and what it defines
+-- the place of each card, and the name that it defines
 use Rattle.std.specs.Prelude.{ℕ, ◌+◌, ◌-◌, Bool, true, false, not, if◌then◌else◌, List, [], ◌∷◌, ◌++◌, length, reverse, find, Option, Some, None, Ok, Err, is_some, slice_index_or}
 use Rattle.autocoder_statements.specs.Constants.{constant_length}
 use Rattle.autocoder_statements.specs.Mnemonics.{instruction_length}
@@ -17,63 +17,68 @@ use Rattle.autocoder_layout.specs.declared.slots.Kind.{Kind}
 use Rattle.autocoder_layout.specs.declared.slots.Kind.TheVariants.{Nothing, Instruction, Constant, Passing}
 use Rattle.autocoder_layout.specs.declared.slots.Slot.{Slot}
 
--- where a source begins that has no ORG: after the print area
+-- the place of the first card of a source without ORG: the position after the print area
 abbrev pub first_place : ℕ
 first_place = 333
 
 -- ---- the cards before
 
--- what stands in front of the first card
+-- the slot before that of the first card
 abbrev pub origin : Slot
 origin = record { before = first_place; after = first_place; defines = None; fault = None; kind = Nothing; closes = false }
 
--- where the cards so far end
+-- the place after the last of these cards
 abbrev pub place_after : List Slot → ℕ
 place_after slots = (slice_index_or slots (length slots - 1) origin).after
 
+-- whether a slot is of a card without a place
 abbrev pub is_nothing : Kind → Bool
 is_nothing Nothing = true
 is_nothing other = false
 
+-- whether a slot is of an instruction
 abbrev pub is_instruction : Kind → Bool
 is_instruction Instruction = true
 is_instruction other = false
 
--- the card stands at a place
+-- whether a card has a place
 abbrev pub stands : Slot → Bool
 stands slot = not (is_nothing slot.kind)
 
+-- whether there is a slot and it is of an instruction
 abbrev pub is_an_instruction : Option Slot → Bool
 is_an_instruction None = false
 is_an_instruction (Some slot) = is_instruction slot.kind
 
--- the last card that stands at a place is an instruction
+-- whether the last card with a place is an instruction
 unfoldable pub is_open : List Slot → Bool
 is_open earlier = is_an_instruction (find stands (reverse earlier))
 
+-- whether there is a slot and it requires a marked blank after an instruction before it
 abbrev pub does_close : Option Slot → Bool
 does_close None = false
 does_close (Some slot) = slot.closes
 
--- the next card that stands at a place ends an instruction before it
+-- whether the next card with a place requires a marked blank after an instruction before it
 unfoldable pub is_closed : List Slot → Bool
 is_closed later = does_close (find stands later)
 
--- where a card begins that ends an instruction before it: behind the marked blank, if one is placed
+-- the place of a card that requires a marked blank after an instruction: after that blank, if the
+-- last card is an instruction
 unfoldable pub place_behind : List Slot → ℕ
 place_behind earlier = if is_open earlier then place_after earlier + 1 else place_after earlier
 
 -- ---- a card
 
--- a card that places and defines nothing
+-- the slot of a card that takes no positions and defines no name, with its fault if it has one
 abbrev pub stays : List Slot → Option SourceFault → Slot
 stays earlier fault = record { before = place_after earlier; after = place_after earlier; defines = None; fault = fault; kind = Nothing; closes = false }
 
--- a card that takes the positions from one place up to another
+-- the slot of a card that takes the positions from one place up to another
 abbrev pub takes : Kind → Bool → ℕ → ℕ → Slot
 takes kind closes before after = record { before = before; after = after; defines = None; fault = None; kind = kind; closes = closes }
 
--- the same with a label
+-- the slot with a name that it defines
 abbrev pub with_label : Slot → Name → ℕ → Slot
 with_label slot name address = record {
   before = slot.before;
@@ -84,67 +89,69 @@ with_label slot name address = record {
   closes = slot.closes;
 }
 
--- a card with the label that it may have, which no earlier card may define
+-- the slot of a card that may have a label, or with a fault if an earlier card defines the name
 unfoldable pub labelled : List Slot → Option Name → ℕ → Slot → Slot
 labelled earlier None address slot = slot
 labelled earlier (Some name) address slot =
     if is_some (address_of name earlier) then stays earlier (Some fault.TakenLabel) else with_label slot name address
 
--- a card that goes on at a position
+-- the slot of an ORG card, after which the next card's place is this value
 abbrev pub moved_to : List Slot → Value → Slot
 moved_to earlier Unknown = stays earlier (Some fault.UnknownName)
 moved_to earlier Outside = stays earlier (Some fault.Outside)
 moved_to earlier (At position) = takes Passing (is_open earlier) (place_behind earlier) position
 
--- a card that gives a name an address
+-- the slot of an EQU card, which defines a name as this value
 abbrev pub equal_to : List Slot → Name → Value → Slot
 equal_to earlier name Unknown = stays earlier (Some fault.UnknownName)
 equal_to earlier name Outside = stays earlier (Some fault.Outside)
 equal_to earlier name (At position) = with_label (stays earlier None) name position
 
--- the program has a start: an address, or else an instruction
+-- whether a program has a start: an address on the END card, or else an instruction
 abbrev pub has_start : List Slot → Option Expression → Bool
 has_start earlier (Some start) = true
 has_start earlier None = is_some (find (λ slot. is_instruction slot.kind) earlier)
 
--- what is wrong with an END, the lowest first: its program has no start, or it has a label
+-- the lowest fault of an END card: its program has no start, or it has a label
 abbrev pub end_fault : List Slot → Option Expression → Bool → Option StatementFault
 end_fault earlier start labelled =
     if not (has_start earlier start) then Some statement_fault.Operand
     else (if labelled then Some statement_fault.Label else None)
 
--- a card that ends the source; one at fault has no place
+-- the slot of an END card, which has no place if it has a fault
 abbrev pub ends : List Slot → Option StatementFault → Slot
 ends earlier (Some told) = stays earlier (Some (fault.Statement told))
 ends earlier None = takes Passing (is_open earlier) (place_behind earlier) (place_behind earlier)
 
+-- the slot of an END card with this operand, with or without a label
 abbrev pub ended : List Slot → Option Expression → Bool → Slot
 ended earlier start labelled = ends earlier (end_fault earlier start labelled)
 
--- a card that takes so many positions from a place on, its label being the last of them
+-- the slot of a card that takes so many positions from a place on, with its label for the last of
+-- them
 abbrev pub run : List Slot → Option Name → Kind → Bool → ℕ → ℕ → Slot
 run earlier label kind closes place count = labelled earlier label (place + count - 1) (takes kind closes place (place + count))
 
--- a constant; one without a mark ends an instruction before it
+-- the slot of a constant; one without a word mark requires a marked blank after an instruction
 abbrev pub constant : List Slot → Option Name → Bool → ℕ → Slot
 constant earlier label true count = run earlier label Constant false (place_after earlier) count
 constant earlier label false count = run earlier label Constant (is_open earlier) (place_behind earlier) count
 
--- positions that a card passes
+-- the slot of a DS card, which passes so many positions
 abbrev pub area : List Slot → Option Name → ℕ → Slot
 area earlier label count = run earlier label Passing (is_open earlier) (place_behind earlier) count
 
--- an instruction, its label being its first position
+-- the slot of an instruction, with its label for its first position
 abbrev pub instruction : List Slot → Option Name → ℕ → Slot
 instruction earlier label count = labelled earlier label (place_after earlier) (takes Instruction false (place_after earlier) (place_after earlier + count))
 
--- a card that gives a name that no earlier card may define the value of an expression
+-- the slot of an EQU card with this expression, or with a fault if an earlier card defines the name
 abbrev pub equated : ℕ → List Slot → Name → Expression → Slot
 equated size earlier label expression =
     if is_some (address_of label earlier) then stays earlier (Some fault.TakenLabel)
     else equal_to earlier label (value_in size earlier expression)
 
--- what the earlier cards make of a card; no name of a later card counts here
+-- the slot of a card by those of the earlier cards; names that later cards define do not count here
 unfoldable pub slot_of : ℕ → List Slot → Line → Slot
 slot_of size earlier (Err told) = stays earlier (Some (fault.Statement told))
 slot_of size earlier (Ok statement.Comment) = stays earlier None
@@ -157,7 +164,7 @@ slot_of size earlier (Ok (statement.Area label positions)) = area earlier label 
 slot_of size earlier (Ok (statement.End start labelled)) = ended earlier start labelled
 slot_of size earlier (Ok (statement.Instruction label spelled)) = instruction earlier label (instruction_length spelled)
 
--- the slots of the cards behind those that have theirs
+-- the slots of all cards, given those of the first of them
 unfoldable pub slots_from : ℕ → List Slot → List Line → List Slot
 slots_from size earlier [] = earlier
 slots_from size earlier (line ∷ lines) = slots_from size (earlier ++ slot_of size earlier line ∷ []) lines

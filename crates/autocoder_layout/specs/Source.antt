@@ -1,4 +1,4 @@
--- the cards of a source, and what each says
+-- the cards of a source, and the statement on each
 use Rattle.std.specs.Prelude.{ℕ, ◌+◌, ◌<◌, Bool, true, false, ◌&&◌, ◌||◌, if◌then◌else◌, List, [], ◌∷◌, length, take, find, position, Option, Some, None, Result, Ok, Err, IfOk, is_some, slice_index_or}
 use Rattle.cards.specs.declared.decks.Card.{Card}
 use Rattle.core_store.specs.declared.sizes.Size.{Size}
@@ -12,78 +12,87 @@ use Rattle.autocoder_statements.specs.declared.operations.Operation.TheVariants 
 use Rattle.autocoder_statements.specs.declared.reading.Statement.{Statement}
 use Rattle.autocoder_statements.specs.declared.reading.Statement.TheVariants as statement
 
--- what a card says, or its lowest fault
+-- the statement on a card, or its lowest fault
 abbrev pub Line : Type 0
 Line = Result Statement StatementFault
 
 -- ---- where the source ends
 
+-- whether an operation is END
 abbrev pub is_the_end : Option Operation → Bool
 is_the_end (Some operation.End) = true
 is_the_end other = false
 
--- the card ends the source, whatever its faults
+-- whether a card ends the source, whatever its faults
 unfoldable pub is_end : Card → Bool
 is_end card = is_the_end (operation_of card)
 
+-- the number of the first END card, counted from 0, if there is one
 abbrev pub end_of : List Card → Option ℕ
 end_of cards = position is_end cards
 
+-- whether there is an END card
 abbrev pub has_end : List Card → Bool
 has_end cards = is_some (end_of cards)
 
+-- the cards up to and including the one of this number, or all
 abbrev pub up_to : List Card → Option ℕ → List Card
 up_to cards None = cards
 up_to cards (Some end) = take (end + 1) cards
 
--- the source: the cards up to the first that ends it, and with it
+-- the source of a deck: its cards up to and including the first END card
 unfoldable pub source_of : List Card → List Card
 source_of cards = up_to cards (end_of cards)
 
 -- ---- the size
 
+-- whether an operation is CTL
 abbrev pub is_the_control : Option Operation → Bool
 is_the_control (Some operation.Control) = true
 is_the_control other = false
 
--- the card tells the size of storage, whatever its faults
+-- whether a card is a CTL card, which has the size of storage, whatever its faults
 unfoldable pub is_control : Card → Bool
 is_control card = is_the_control (operation_of card)
 
--- the size that a good card tells, else 4000
+-- the size of storage on a CTL card; 4000 if the card has a fault
 abbrev pub size_in : Line → Size
 size_in (Ok (statement.Control size)) = size
 size_in other = Positions4000
 
+-- the size of storage by the first CTL card, or 4000 if there is none
 abbrev pub size_by : Option Card → Size
 size_by None = Positions4000
 size_by (Some card) = size_in (statement_on card)
 
--- the size by the first card of the source that is there to tell it
+-- the size of storage of a source, by its first CTL card
 unfoldable pub size_of : List Card → Size
 size_of source = size_by (find is_control source)
 
--- ---- what each card says
+-- ---- the statement on each card
 
--- a further card that tells the size is at fault, though broken fields are told first
+-- a further CTL card: a fault of its operand, unless its fields are broken
 abbrev pub further : Line → Line
 further (Err fault.BrokenField) = Err fault.BrokenField
 further other = Err fault.Operand
 
--- what a card says, where an earlier one told the size or none did
+-- the statement on a card or its lowest fault, by whether an earlier card was a CTL card
 unfoldable pub line_on : Bool → Card → Line
 line_on told card = if told && is_control card then further (statement_on card) else statement_on card
 
+-- the statement on each card or its lowest fault, by whether an earlier card was a CTL card
 unfoldable pub lines_of : Bool → List Card → List Line
 lines_of told [] = []
 lines_of told (card ∷ cards) = line_on told card ∷ lines_of (told || is_control card) cards
 
--- a line that says nothing
+-- the line of a comment
 abbrev pub silent : Line
 silent = Ok statement.Comment
 
+-- the numbers and texts of a line's statement are in range
 abbrev pub IsInRange : Line → Type 0
 IsInRange line = IfOk line IsStatementInRange
 
+-- the numbers and texts of all lines' statements are in range
 abbrev pub AreInRange : List Line → Type 0
 AreInRange lines = (k : ℕ) → k < length lines → IsInRange (slice_index_or lines k silent)

@@ -1,4 +1,4 @@
--- literals and constants as a text begins with them: what was read, and how many characters it takes
+-- the literal or the constant that a text begins with, and how many characters it takes
 use Rattle.std.specs.Prelude.{ℕ, ◌+◌, ◌-◌, ◌==◌, if◌then◌else◌, List, length, take, drop, slice_index, slice_set, Option, Some, None, option_map, codes}
 use Rattle.bcd.specs.declared.Zone.{Zone}
 use Rattle.bcd.specs.declared.Zone.TheVariants.{Bare, B, AB}
@@ -9,36 +9,37 @@ use Rattle.autocoder_statements.specs.declared.characters.Class.TheVariants.{Quo
 use Rattle.autocoder_statements.specs.declared.constants.Constant.{Constant}
 use Rattle.autocoder_statements.specs.declared.constants.Constant.TheVariants.{Characters, Blanks}
 
--- how many characters stand between an @ and the next one, or the end of the field
+-- how many characters are between an @ at the beginning of a text and the next @ or the field's end
 unfoldable pub quoted_run : List ℕ → ℕ
 quoted_run text = if begins (codes "@") text then run Quoted (drop 1 text) else 0
 
--- one or more characters between two @
+-- one or more characters between two @, without these
 unfoldable pub quoted : List ℕ → Option (List ℕ × ℕ)
 quoted text =
     if quoted_run text == 0 then None
     else (if begins (codes "@") (drop (1 + quoted_run text) text) then Some (take (quoted_run text) (drop 1 text), 2 + quoted_run text)
     else None)
 
--- the zone that a sign gives to the last digit
+-- the zone that a sign puts over the last digit of a number
 abbrev pub sign_zone : List ℕ → Zone
 sign_zone text = if begins (codes "&") text then AB else (if begins (codes "-") text then B else Bare)
 
--- digits, the last of them under a zone
+-- these digits with a zone over the last of them
 unfoldable pub zoned : Zone → List ℕ → List ℕ
 zoned zone digits = slice_set digits (length digits - 1) (digit_under zone (digit_value (slice_index digits (length digits - 1))))
 
--- a sign and one or more digits
+-- a sign and one or more digits, as digits with the sign's zone over the last
 unfoldable pub signed : List ℕ → Option (List ℕ × ℕ)
 signed text =
     if signed_run text == 0 then None
     else Some (zoned (sign_zone text) (take (signed_run text) (drop 1 text)), 1 + signed_run text)
 
--- what stands for the address of a field: its characters
+-- a literal: characters between two @, or digits with a sign, in place of the address of a field
+-- that holds them
 unfoldable pub literal : List ℕ → Option (List ℕ × ℕ)
 literal text = if begins (codes "@") text then quoted text else signed text
 
--- what a constant is made of: so many blanks, digits with a sign or without, or characters between two @
+-- a constant: a number of blanks, digits with a sign or without, or characters between two @
 unfoldable pub constant : List ℕ → Option (Constant × ℕ)
 constant text =
     if begins (codes "#") text then option_map (λ found. (Blanks found.0, 1 + found.1)) (positive (drop 1 text))

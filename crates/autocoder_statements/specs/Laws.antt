@@ -1,4 +1,4 @@
--- what is true of the tables and of the forms
+-- what holds of the tables of operations and of the operand forms
 use Rattle.std.specs.Prelude.{ℕ, zero, suc, ◌/◌, ◌%◌, ◌^◌, ◌≡◌, ◌<◌, Bool, true, List, [], ◌∷◌, ◌++◌, length, map, slice_index_or, is_some}
 use Rattle.bcd.specs.declared.Zone.TheVariants.{Bare}
 use Rattle.addresses.specs.Digits.{digit_under}
@@ -7,21 +7,21 @@ use Rattle.autocoder_statements.specs.Operands.{operands}
 use Rattle.autocoder_statements.specs.Mnemonics.{orders, mnemonics}
 use Rattle.autocoder_statements.specs.declared.forms.Form.{Form}
 
--- the names of all operations
+-- the names of all operations, orders and mnemonics
 unfoldable pub names : List (List ℕ)
 names = map (λ row. row.0) orders ++ map (λ row. row.0) mnemonics
 
--- a word is the name of one operation at most
+-- no word is the name of two operations
 abbrev pub IsOneOperation : List ℕ → Type 0
 IsOneOperation word =
     (i j : ℕ) → i < length names → j < length names →
     begins (slice_index_or names i []) word ≡ true → begins (slice_index_or names j []) word ≡ true → i ≡ j
 
--- the field has the form
+-- whether an operand field has this form
 abbrev pub fits : Form → List ℕ → Bool
 fits form text = is_some (operands form text)
 
--- a number in so many digits
+-- a number in so many digits, the highest first
 unfoldable pub digits_of : ℕ → ℕ → List ℕ
 digits_of zero n = []
 digits_of (suc count) n = digit_under Bare (n / 10 ^ count % 10) ∷ digits_of count n

@@ -1,4 +1,4 @@
--- what stands in the operation field: the orders to the assembler and the mnemonics of instructions
+-- the names in the operation field: orders to the assembler, and mnemonics of instructions
 use Rattle.std.specs.Prelude.{ℕ, ◌+◌, ◌*◌, ◌-◌, ◌==◌, if◌then◌else◌, List, [], ◌∷◌, ◌++◌, length, replicate, Option, Some, None, option_map, unwrap_or, codes, position}
 use Rattle.bcd.specs.Table.{glyphs, byte}
 use Rattle.autocoder_statements.specs.Characters.{begins}
@@ -16,41 +16,52 @@ use Rattle.autocoder_statements.specs.declared.operations.Instruction.{Instructi
 
 -- ---- the table
 
--- a name with blanks up to the five columns of the operation field
+-- a name with blanks after it, as wide as the five columns of the operation field
 abbrev pub named : List ℕ → List ℕ
 named name = name ++ replicate (5 - length name) (byte (codes " "))
 
+-- the operand forms of an operation that has one form
 abbrev pub one_form : Form → Forms
 one_form form = record { form = form; other = None; third = None }
 
+-- the operand forms of an operation that has either of two
 abbrev pub two_forms : Form → Form → Forms
 two_forms form other = record { form = form; other = Some other; third = None }
 
+-- the operand forms of an operation that has any of three
 abbrev pub three_forms : Form → Form → Form → Forms
 three_forms form other third = record { form = form; other = Some other; third = Some third }
 
--- name, operation, the fixed last character, forms
+-- a row of the table of mnemonics: name, operation character, last character if it is fixed,
+-- operand forms
 abbrev pub Row : Type 0
 Row = List ℕ × (ℕ × Option ℕ × Forms)
 
+-- the row of a mnemonic without a fixed last character
 abbrev pub plain : List ℕ → List ℕ → Forms → Row
 plain name operation forms = (named name, (byte operation, None, forms))
 
+-- the row of a mnemonic with a fixed last character, the instruction's d-character
 abbrev pub fixed : List ℕ → List ℕ → List ℕ → Forms → Row
 fixed name operation last forms = (named name, (byte operation, Some (byte last), forms))
 
+-- the forms with no operand, or with an address to branch to
 abbrev pub none_or_branch : Forms
 none_or_branch = two_forms Empty (One Branch)
 
+-- the forms with no operand, or with two fields
 abbrev pub none_or_two : Forms
 none_or_two = two_forms Empty (Two Field Field)
 
+-- the forms with no operand, or with one field or two
 abbrev pub none_one_or_two : Forms
 none_one_or_two = three_forms Empty (One Field) (Two Field Field)
 
+-- the form with an address to branch to
 abbrev pub branch : Forms
 branch = one_form (One Branch)
 
+-- the table of mnemonics
 unfoldable pub mnemonics : List Row
 mnemonics =
     plain (codes "A") (codes "A") none_one_or_two
@@ -94,6 +105,7 @@ mnemonics =
     ∷ plain (codes "NOP") (codes "N") (one_form Empty)
     ∷ []
 
+-- the table of orders to the assembler
 unfoldable pub orders : List (List ℕ × Operation)
 orders =
     (named (codes "JOB"), operation.Job)
@@ -106,39 +118,43 @@ orders =
     ∷ (named (codes "END"), operation.End)
     ∷ []
 
--- ---- what a word names
+-- ---- the operation that a word names
 
--- what the first row has that the word begins with
+-- the entry of the first row whose name a word begins with, if there is one
 unfoldable pub entry : {A : Type 0} → List (List ℕ × A) → List ℕ → Option A
 entry [] word = None
 entry (row ∷ rows) word = if begins row.0 word then Some row.1 else entry rows word
 
+-- the first of two things if it is there, else the second
 abbrev pub or_else : {A : Type 0} → Option A → Option A → Option A
 or_else (Some x) other = Some x
 or_else None other = other
 
+-- the mnemonic of a row's operation character, last character and operand forms
 abbrev pub mnemonic_of : (ℕ × Option ℕ × Forms) → Mnemonic
 mnemonic_of row = record { operation = row.0; modifier = row.1; forms = row.2 }
 
--- the operation that a word of five characters names
+-- the operation that a word of five characters names, if it names one
 unfoldable pub operation_named : List ℕ → Option Operation
 operation_named word = or_else (entry orders word) (option_map (λ row. operation.Instruction (mnemonic_of row)) (entry mnemonics word))
 
 -- ---- the instruction of a mnemonic
 
--- the character of a glyph
+-- the number of the character with this glyph
 unfoldable pub code_of : ℕ → ℕ
 code_of glyph = unwrap_or (position (λ g. g == glyph) glyphs) 0
 
--- what the field holds in a form, where there is one
+-- the operands in a field, if there is a form and the field has it
 abbrev pub operands_if : Option Form → List ℕ → Option Operands
 operands_if None text = None
 operands_if (Some form) text = operands form text
 
--- what the field holds, in the first form that it has
+-- the operands in a field, by the first of the forms that it has
 unfoldable pub operands_in : Forms → List ℕ → Option Operands
 operands_in forms text = or_else (operands forms.form text) (or_else (operands_if forms.other text) (operands_if forms.third text))
 
+-- the instruction of a mnemonic with these operands; its last character is the field's, or else the
+-- mnemonic's own
 abbrev pub built : Mnemonic → Operands → Instruction
 built mnemonic operands = record {
   operation = code_of mnemonic.operation;
@@ -151,11 +167,12 @@ built mnemonic operands = record {
 unfoldable pub instruction : Mnemonic → List ℕ → Option Instruction
 instruction mnemonic text = option_map (built mnemonic) (operands_in mnemonic.forms text)
 
--- 1 where something is there
+-- how many there are: 1, or 0 if there is none
 abbrev pub present : {A : Type 0} → Option A → ℕ
 present None = 0
 present (Some x) = 1
 
--- how many positions an instruction takes: the operation, three for each address, the last character
+-- how many positions an instruction takes: 1 for the operation, 3 for each address, and 1 for the
+-- last character if there is one
 abbrev pub instruction_length : Instruction → ℕ
 instruction_length instruction = 1 + 3 * present instruction.first + 3 * present instruction.second + present instruction.modifier

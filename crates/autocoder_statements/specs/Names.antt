@@ -4,7 +4,7 @@ use Rattle.autocoder_statements.specs.Characters.{run, begins, begins_with_lette
 use Rattle.autocoder_statements.specs.declared.characters.Class.TheVariants.{LetterOrDigit}
 use Rattle.autocoder_statements.specs.declared.names.Name.{Name}
 
--- the most letters and digits of a name
+-- the most letters and digits of a name in a source
 abbrev pub longest_name : ℕ
 longest_name = 6
 
@@ -12,11 +12,12 @@ longest_name = 6
 abbrev pub name_run : List ℕ → ℕ
 name_run text = run LetterOrDigit text
 
--- the names of the index locations, which are no others
+-- whether a word is the name of an index location, X1, X2 or X3, and so not one that a label may
+-- have
 abbrev pub is_index_name : List ℕ → Bool
 is_index_name word = (length word == 2) && (begins (codes "X1") word || (begins (codes "X2") word || begins (codes "X3") word))
 
--- one to six letters and digits, a letter first
+-- whether a word is a name: one to six letters and digits, a letter first
 abbrev pub is_name : List ℕ → Bool
 is_name word = begins_with_letter word && ((name_run word == length word) && (nat_le (length word) longest_name && not (is_index_name word)))
 

@@ -15,50 +15,52 @@ use Rattle.autocoder_statements.specs.declared.operands.Operand.{Operand}
 use Rattle.autocoder_statements.specs.declared.operands.Operand.TheVariants.{Address, Literal}
 use Rattle.autocoder_statements.specs.declared.operands.Operands.{Operands}
 
--- the text begins as a literal does, and no address does
+-- whether a text begins as literals do, and addresses do not: with @, & or -
 abbrev pub begins_literal : List ℕ → Bool
 begins_literal text = list_any (λ glyph. begins (glyph ∷ []) text) (codes "@&-")
 
--- an operand of a kind: an address, or a literal that stands for the address of a field
+-- an operand of this kind: an address, or for a field also a literal
 unfoldable pub operand : Kind → List ℕ → Option (Operand × ℕ)
 operand Branch text = option_map (λ found. (Address found.0, found.1)) (address text)
 operand Field text =
     if begins_literal text then option_map (λ found. (Literal found.0, found.1)) (literal text)
     else option_map (λ found. (Address found.0, found.1)) (address text)
 
--- the same behind a comma
+-- an operand of this kind after a comma
 unfoldable pub next_operand : Kind → List ℕ → Option (Operand × ℕ)
 next_operand kind text =
     if begins (codes ",") text then option_map (λ found. (found.0, 1 + found.1)) (operand kind (drop 1 text))
     else None
 
+-- whether a character's glyph is one of these
 abbrev pub is_among : List ℕ → ℕ → Bool
 is_among glyphs code = list_any (λ glyph. glyph == glyph_of code) glyphs
 
--- the characters that may be the last of an instruction
+-- whether a character may be the last of an instruction that takes these
 unfoldable pub is_modifier : Modifiers → ℕ → Bool
 is_modifier Any code = not (is_blank code)
 is_modifier Switches code = is_among (codes "BCDEFG") code
 is_modifier ZonesAndMarks code = is_among (codes "12BKS3CLT") code
 is_modifier Carriage code = is_among (codes "JKL/ST1A") code
 
--- the one character that ends the field
+-- the last character of an instruction, alone at the end of the field
 unfoldable pub modifier : Modifiers → List ℕ → Option ℕ
 modifier modifiers [] = None
 modifier modifiers (code ∷ text) = if is_modifier modifiers code then (if is_ended text then Some code else None) else None
 
--- the same behind a comma
+-- the last character of an instruction, after a comma at the end of the field
 unfoldable pub next_modifier : Modifiers → List ℕ → Option ℕ
 next_modifier modifiers text = if begins (codes ",") text then modifier modifiers (drop 1 text) else None
 
+-- the operands of an instruction with a last character
 abbrev pub with_modifier : Option Operand → Option Operand → ℕ → Operands
 with_modifier first second code = record { first = first; second = second; modifier = Some code }
 
--- operands behind which the field is ended
+-- the operands of an instruction without a last character, if the field ends here
 abbrev pub ended : Option Operand → Option Operand → List ℕ → Option Operands
 ended first second text = if is_ended text then Some (record { first = first; second = second; modifier = None }) else None
 
--- the whole field in a form
+-- the operands of a whole operand field in this form
 unfoldable pub operands : Form → List ℕ → Option Operands
 operands Empty text = ended None None text
 operands (Modifier modifiers) text = option_map (with_modifier None None) (modifier modifiers text)

@@ -19,85 +19,91 @@ use Rattle.autocoder_statements.specs.declared.operations.Operation.TheVariants 
 use Rattle.autocoder_statements.specs.declared.reading.Statement.{Statement}
 use Rattle.autocoder_statements.specs.declared.reading.Statement.TheVariants as statement
 
--- the columns of the operation field, 16 to 20
+-- the number of columns of the operation field, 16 to 20
 abbrev pub operation_columns : ℕ
 operation_columns = 5
 
 -- ---- the fields of a card
 
--- the columns from the first to the last, which are numbered from 1
+-- the characters of a card in the columns from the first to the last, numbered from 1
 abbrev pub columns : ℕ → ℕ → Card → List ℕ
 columns first last card = take (last + 1 - first) (drop (first - 1) card.0)
 
+-- the label field of a card, columns 6 to 15
 abbrev pub label_field : Card → List ℕ
 label_field card = columns 6 15 card
 
+-- the operation field of a card, columns 16 to 20
 abbrev pub operation_field : Card → List ℕ
 operation_field card = columns 16 20 card
 
+-- the operand field of a card, columns 21 to 72
 abbrev pub operand_field : Card → List ℕ
 operand_field card = columns 21 72 card
 
+-- whether a card is a comment: column 6 has an asterisk
 unfoldable pub is_comment : Card → Bool
 is_comment card = begins (codes "*") (label_field card)
 
--- what stands in a field before its first blank
+-- how many characters a field has before its first blank
 abbrev pub word_run : List ℕ → ℕ
 word_run field = run Filled field
 
+-- the word of a field: its characters before its first blank
 abbrev pub word : List ℕ → List ℕ
 word field = take (word_run field) field
 
--- something stands behind the first blank
+-- whether a field has a character after its first blank that is not blank
 unfoldable pub is_broken : List ℕ → Bool
 is_broken field = not (list_all is_blank (drop (word_run field) field))
 
--- the operation that the word in an operation field names
+-- the operation that the word of an operation field names
 unfoldable pub operation_in : List ℕ → Option Operation
 operation_in field = operation_named (padded operation_columns (word field))
 
--- the operation of a card, also of one with another fault than an unknown operation
+-- the operation of a card, whatever other faults the card has
 unfoldable pub operation_of : Card → Option Operation
 operation_of card = if is_comment card then None else operation_in (operation_field card)
 
 -- ---- labels
 
 infixl 10 ◌>>=◌
+-- the rest of the reading on what was read so far, or its fault
 abbrev pub ◌>>=◌ : {A B : Type 0} → Result A StatementFault → (A → Result B StatementFault) → Result B StatementFault
 Ok x >>= rest = rest x
 Err fault >>= rest = Err fault
 
--- what is there, else the fault
+-- what was found, or this fault if there is nothing
 abbrev pub or_fault : {A : Type 0} → StatementFault → Option A → Result A StatementFault
 or_fault fault (Some x) = Ok x
 or_fault fault None = Err fault
 
--- the label of a card that must have one
+-- the label of a card that must have one, or the fault of a label
 unfoldable pub must_label : List ℕ → Result Name StatementFault
 must_label field = or_fault fault.Label (name_of (word field))
 
--- the label of a card that may have one
+-- the label of a card that may have one, or the fault of a label
 unfoldable pub may_label : List ℕ → Result (Option Name) StatementFault
 may_label field = if word_run field == 0 then Ok None else (do
   name ← must_label field
   Ok (Some name))
 
--- whether a card has a label
+-- whether a label field is not blank
 abbrev pub is_labelled : List ℕ → Bool
 is_labelled field = not (word_run field == 0)
 
--- a statement of a card that must not have a label
+-- the statement of a card that must not have a label, or the fault of a label
 unfoldable pub unlabelled : List ℕ → Statement → Result Statement StatementFault
 unlabelled field statement = if word_run field == 0 then Ok statement else Err fault.Label
 
 -- ---- operand fields
 
--- what a field begins with, where nothing follows
+-- what was read at the beginning of a field, if the field ends there
 unfoldable pub whole : {A : Type 0} → List ℕ → Option (A × ℕ) → Option A
 whole field None = None
 whole field (Some found) = if is_ended (drop found.1 field) then Some found.0 else None
 
--- the size that a digit tells
+-- the size of storage by its digit in a CTL card: 1, 2 or 3
 unfoldable pub size : List ℕ → Option (Size × ℕ)
 size text =
     if begins (codes "1") text then Some (Positions1400, 1)
@@ -105,14 +111,15 @@ size text =
     else (if begins (codes "3") text then Some (Positions4000, 1)
     else None))
 
--- where a program starts: nowhere told, or an expression
+-- where the program starts by the operand field of END: an expression, or nothing given if it is
+-- blank
 unfoldable pub start : List ℕ → Option (Option Expression)
 start field = if is_ended field then Some None else option_map Some (whole field (expression field))
 
 -- ---- statements
 
--- an operand field of another form is told before a wrong label; whether an END may have its label is judged with the
--- whole source
+-- the statement of an operation with this label and operand field, or its fault, the operand
+-- field's first; whether END may have its label depends on the whole source
 unfoldable pub statement_of : Operation → List ℕ → List ℕ → Result Statement StatementFault
 statement_of operation.Job label field = unlabelled label statement.Job
 statement_of operation.Control label field = do
@@ -145,7 +152,7 @@ statement_of (operation.Instruction mnemonic) label field = do
   name ← may_label label
   Ok (statement.Instruction name instruction)
 
--- the statement of a card, or its lowest fault
+-- the statement on a card, or the fault with the lowest number
 unfoldable pub statement_on : Card → Result Statement StatementFault
 statement_on card =
     if is_comment card then Ok statement.Comment
@@ -154,7 +161,7 @@ statement_on card =
       operation ← or_fault fault.UnknownOperation (operation_in (operation_field card))
       statement_of operation (label_field card) (operand_field card)))
 
--- the numbers by which faults are told
+-- the number of a statement's fault
 abbrev pub fault_number : StatementFault → ℕ
 fault_number fault.BrokenField = 40
 fault_number fault.UnknownOperation = 41

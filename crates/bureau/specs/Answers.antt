@@ -1,4 +1,4 @@
--- what the program does with its words
+-- what the program does by its words
 use Rattle.std.specs.Prelude.{◌≡◌, ◌⊎◌, ℕ, List, [], ◌∷◌, ◌++◌, Option}
 use Rattle.std.specs.Io.KnownBytes.{Appends, Keeps}
 use Rattle.counter.specs.Assembling.{Assembles}
@@ -18,11 +18,11 @@ use Rattle.counter_words.specs.declared.help.TheConstants.{USAGE, VERSION}
 use Rattle.bureau_rows.specs.Outcomes.{HasShown, status_of}
 use Rattle.bureau_rows.specs.declared.outcomes.Outcome.{Outcome}
 
--- the bytes of a writer, before and after
+-- the bytes that a writer has, if they are known
 abbrev pub Bytes : Type 0
 Bytes = Option (List ℕ)
 
--- some text was assembled, and what came of it was written to OUT, or that failed
+-- a text was assembled, and its bytes for OUT were written or that failed
 pub record HasAssembledText (status : Status) (output_old output_new errors_old errors_new : Bytes)
     : Type 0 where
   pub text : List ℕ
@@ -31,20 +31,20 @@ pub record HasAssembledText (status : Status) (output_old output_new errors_old 
   pub assembles : Assembles text answer output_old output_new errors_old between
   pub put : IsPut answer.status status between errors_new
 
--- the source's file could not be opened, or its text was assembled
+-- the source's text was assembled, or its file could not be opened
 abbrev pub HasAssembled : Status → Bytes → Bytes → Bytes → Bytes → Type 0
 HasAssembled status output_old output_new errors_old errors_new =
     ((status ≡ Told) × Keeps output_old output_new
     × Appends errors_old errors_new (fault_words Device ++ 10 ∷ []))
     ⊎ HasAssembledText status output_old output_new errors_old errors_new
 
--- a row of a bureau's file came to this, and it was printed
+-- a row for a bureau's file had this exit status, and its outcome was printed
 pub record HasEnded (status : Status) (errors_old errors_new : Bytes) : Type 0 where
   pub outcome : Outcome
   pub status_is : status ≡ status_of outcome
   pub shown : HasShown outcome errors_old errors_new
 
--- a task was done
+-- the task was done, with this exit status and with what it prints
 abbrev pub HasDone : Task → Status → Bytes → Bytes → Bytes → Bytes → Type 0
 HasDone (task.Help row) status output_old output_new errors_old errors_new =
     IsTextShown (page_of row) status output_old output_new errors_old errors_new
@@ -66,7 +66,7 @@ pub record HasDoneTask (words : List (List ℕ)) (status : Status)
   pub asked : Wants words it
   pub done : HasDone it status output_old output_new errors_old errors_new
 
--- what is wrong with the words was printed
+-- the misuse in the words was printed
 pub record HasToldMisuse (words : List (List ℕ)) (status : Status)
     (output_old output_new errors_old errors_new : Bytes) : Type 0 where
   pub misuse : Misuse
@@ -75,7 +75,7 @@ pub record HasToldMisuse (words : List (List ℕ)) (status : Status)
   pub kept : Keeps output_old output_new
   pub told : Appends errors_old errors_new (misuse_message USAGE.now misuse)
 
--- the task that the words ask for was done, or what is wrong with them was printed
+-- the task that the words ask for was done, or the misuse in them was printed
 abbrev pub HasAnswered : List (List ℕ) → Status → Bytes → Bytes → Bytes → Bytes → Type 0
 HasAnswered words status output_old output_new errors_old errors_new =
     HasDoneTask words status output_old output_new errors_old errors_new

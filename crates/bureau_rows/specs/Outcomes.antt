@@ -1,4 +1,4 @@
--- what is printed of how a row of a bureau's file ends
+-- the outcomes of the rows for a bureau's file
 use Rattle.std.specs.Prelude.{ℕ, List, [], ◌∷◌, ◌++◌, Option, codes, decimal}
 use Rattle.std.specs.Io.KnownBytes.{Appends, Keeps}
 use Rattle.counter_tasks.specs.declared.statuses.Status.{Status}
@@ -8,8 +8,8 @@ use Rattle.ledger_tables.specs.declared.openings.OpenFault.TheVariants as openin
 use Rattle.bureau_rows.specs.declared.outcomes.Outcome.{Outcome}
 use Rattle.bureau_rows.specs.declared.outcomes.Outcome.TheVariants as outcome
 
--- how the program ends: with 3 where the bureau's file could not be used, with 1 after anything
--- else that went wrong
+-- the exit status of an outcome: 3 if the bureau's file could not be used, 1 if anything else went
+-- wrong
 abbrev pub status_of : Outcome → Status
 status_of outcome.Done = status.Done
 status_of outcome.Shown = status.Told
@@ -21,20 +21,20 @@ status_of (outcome.Fault opening.NotABureau) = status.Unusable
 status_of (outcome.Fault opening.Old) = status.Unusable
 status_of outcome.Device = status.Told
 
--- the number of a fault: of memory, of the store, of a file that is no bureau's or a later
--- version's, and of an earlier version's file
+-- the number of a fault at opening: of memory, of the store, of a file that is no bureau's or a
+-- later version's, or of an earlier version's
 abbrev pub number_of : OpenFault → ℕ
 number_of opening.NoMemory = 1
 number_of opening.Store = 2
 number_of opening.NotABureau = 50
 number_of opening.Old = 51
 
--- one line was printed
+-- this line was printed, with a line feed
 abbrev pub IsLine : List ℕ → Option (List ℕ) → Option (List ℕ) → Type 0
 IsLine line old new = Appends old new (line ++ 10 ∷ [])
 
--- what was printed on the standard error: nothing, where all was done or what went wrong is on the
--- output, and else one line
+-- what was printed on the standard error: one line, but nothing if all was done or the output has
+-- what went wrong
 abbrev pub HasShown : Outcome → Option (List ℕ) → Option (List ℕ) → Type 0
 HasShown outcome.Done old new = Keeps old new
 HasShown outcome.Shown old new = Keeps old new

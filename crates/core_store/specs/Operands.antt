@@ -1,4 +1,4 @@
--- where operations find their operands
+-- the positions of operands, and the registers after them
 use Rattle.std.specs.Prelude.{ℕ, ◌+◌, ◌-◌, ◌%◌, nat_lt, nat_le, min, List, length, Bool, true, false, ◌&&◌, if◌then◌else◌, Option, Some, None}
 use Rattle.std.specs.Option.{option_map}
 use Rattle.bcd.specs.declared.Zone.{Zone}
@@ -6,48 +6,49 @@ use Rattle.bcd.specs.declared.Zone.TheVariants.{Bare, A, B, AB}
 use Rattle.core_store.specs.Storage.{Storage, field_length, codes_ending, largest_size}
 use Rattle.core_store.specs.declared.registers.Registers.{Registers}
 
--- a register so many positions lower, modulo 16000
+-- a register lowered by so many positions, modulo 16000
 abbrev pub lowered : ℕ → ℕ → ℕ
 lowered register count = (register + largest_size - count) % largest_size
 
--- the registers with A and B so many positions lower
+-- the registers with A and B each lowered by so many positions
 abbrev pub lowered_by : Registers → ℕ → ℕ → Registers
 lowered_by r a_count b_count = record r { a = lowered r.a a_count; b = lowered r.b b_count }
 
--- whether both are positions of the storage
+-- whether both are positions of storage
 abbrev pub are_inside : Storage → ℕ → ℕ → Bool
 are_inside s a b = nat_lt a (length s) && nat_lt b (length s)
 
--- whether the characters read at a are written over by those put at b before they are read
+-- whether characters read at a, from right to left, are written over by those put at b before they
+-- are read
 abbrev pub is_overlapping : ℕ → ℕ → ℕ → Bool
 is_overlapping a b count = nat_lt b a && nat_lt (a - b) count
 
--- whether there is a number and it is at most a limit
+-- whether there is a number and it is at most this limit
 abbrev pub is_within : Option ℕ → ℕ → Bool
 is_within (Some count) limit = nat_le count limit
 is_within None limit = false
 
--- a length that is sought no further than 16
+-- a length, or 17 if it is more than 16 or there is none
 abbrev pub sought_near : Option ℕ → ℕ
 sought_near (Some count) = min 17 count
 sought_near None = 17
 
--- how many characters the field at p has, or 17 where they are more than 16 or there is no field
+-- how many characters the field at p has, or 17 if it has more than 16 or there is no field
 unfoldable pub near_length : Storage → ℕ → ℕ
 near_length s p = sought_near (field_length s p)
 
--- how many characters are read at p where at most a limit are wanted: the field at p where it is no longer, else as many
--- as are wanted, which must not pass position 0
+-- how many characters are read at p if at most `limit` are required: the field's, or `limit` if it
+-- is longer or there is none, unless that passes position 0
 unfoldable pub cut_length : Storage → ℕ → ℕ → Option ℕ
 cut_length s p limit =
     if is_within (field_length s p) limit then field_length s p
     else (if nat_le limit (p + 1) then Some limit else None)
 
--- the characters that are read at p where at most a limit are wanted
+-- the characters that are read at p if at most `limit` are required
 unfoldable pub cut : Storage → ℕ → ℕ → Option (List ℕ)
 cut s p limit = option_map (codes_ending s p) (cut_length s p limit)
 
--- zone B alone, which makes a field minus at its units position
+-- whether a zone in the units position makes a field minus: B alone does
 abbrev pub is_minus_zone : Zone → Bool
 is_minus_zone Bare = false
 is_minus_zone A = false

@@ -1,4 +1,4 @@
--- What the assembling of a deck comes to, and what of it goes out.
+-- the assembly of a deck, and what is printed of it
 use Rattle.std.specs.Prelude.{◌≡◌, ◌⊎◌, ◌++◌, ◌∷◌, [], ℕ, List, Option, Some, None, option_map, codes, decimal}
 use Rattle.std.specs.List.{flat_map}
 use Rattle.std.specs.Io.KnownBytes.{Appends, Keeps}
@@ -15,76 +15,79 @@ use Rattle.counter_endings.specs.declared.showing.Hindrance.{Hindrance}
 use Rattle.counter_endings.specs.declared.showing.Hindrance.TheVariants as hindrance
 use Rattle.counter_endings.specs.declared.showing.Product.{Product}
 
--- a listing, and what is written to OUT
+-- what an assembly makes: the listing, and the text for the file OUT
 pub record Made : Type 0 where
   pub listing : List ℕ
   pub out : List ℕ
 
--- what the assembling comes to: what is made, the faults of the source, or a fault in their place
+-- the end of an assembly: what it made, the faults of the source, or a fault that kept it from
+-- either
 pub data Ending : Type 0 where
   assembled : Made → Ending
   faulty : List CardFault → Ending
   hindered : Fault → Ending
 
--- what a product holds
+-- the listing and the text for OUT that a product has
 abbrev pub made_by : Product → Made
 made_by product = record { listing = product.listing.items; out = product.out.items }
 
--- what a hindrance comes to
+-- the end of an assembly that a hindrance kept from making anything
 abbrev pub ending_by : Hindrance → Ending
 ending_by (hindrance.Source told) = faulty (fault_list told)
 ending_by (hindrance.Fault f) = hindered f
 
--- ---- what goes out
+-- ---- what is printed
 
--- the line of a card's fault
+-- the line for a fault of a source: the card's number and the fault's number
 abbrev pub fault_line : CardFault → List ℕ
 fault_line f = codes "card " ++ decimal f.card ++ codes " fault " ++ decimal (fault_number f.fault) ++ 10 ∷ []
 
--- the lines of some faults
+-- the lines for the faults of a source
 abbrev pub fault_lines : List CardFault → List ℕ
 fault_lines told = flat_map fault_line told
 
--- how the program ends after it
+-- the exit status after an assembly that ended so
 abbrev pub status_of : Ending → Status
 status_of (assembled made) = status.Done
 status_of (faulty told) = status.Told
 status_of (hindered f) = status.Told
 
--- what is for OUT
+-- the text for OUT, if the assembly made one
 abbrev pub out_of : Ending → Option (List ℕ)
 out_of (assembled made) = Some made.out
 out_of (faulty told) = None
 out_of (hindered f) = None
 
--- what goes out: the listing or the faults; or nothing, but for the fault of a device, which may be the output
+-- what is printed on the output: the listing or the faults; or nothing, unless the device that
+-- failed is the output
 abbrev pub Outputs : Ending → Option (List ℕ) → Option (List ℕ) → Type 0
 Outputs (assembled made) old new = Appends old new made.listing
 Outputs (faulty told) old new = Appends old new (fault_lines told)
 Outputs (hindered f) old new = (f ≡ fault.Device) ⊎ Keeps old new
 
--- what is told on the second writer: a fault in place of all else
+-- what is printed on the standard error: a fault that kept the assembly from its end, or nothing
 abbrev pub Complains : Ending → Option (List ℕ) → Option (List ℕ) → Type 0
 Complains (assembled made) old new = Keeps old new
 Complains (faulty told) old new = Keeps old new
 Complains (hindered f) old new = Appends old new (fault_words f ++ 10 ∷ [])
 
--- the bytes that an answer gives for OUT
+-- the bytes for OUT in an answer, if there are any
 abbrev pub out_in : Assembled → Option (List ℕ)
 out_in answer = option_map (λ bytes. bytes.items) answer.out
 
--- a fault was told in place of all else
+-- the answer for a fault: exit status 1, no bytes for OUT, and the fault was printed
 abbrev pub IsHindrance : Fault → Assembled → Option (List ℕ) → Option (List ℕ) → Type 0
 IsHindrance f answer old new = (answer.status ≡ status.Told) × (out_in answer ≡ None) × Appends old new (fault_words f ++ 10 ∷ [])
 
--- the assembling came to this; the writers have it, and the bytes for OUT are given
+-- the assembly ended so: its listing or faults were printed, and the answer has its status and
+-- bytes for OUT
 pub record IsTold (ending : Ending) (answer : Assembled) (output_old output_new errors_old errors_new : Option (List ℕ)) : Type 0 where
   pub status : answer.status ≡ status_of ending
   pub out : out_in answer ≡ out_of ending
   pub output : Outputs ending output_old output_new
   pub errors : Complains ending errors_old errors_new
 
--- this was told, or the fault of a device
+-- the assembly's end was printed and answered, or a device's fault was
 abbrev pub IsShown : Ending → Assembled → Option (List ℕ) → Option (List ℕ) → Option (List ℕ) → Option (List ℕ) → Type 0
 IsShown ending answer output_old output_new errors_old errors_new =
     IsTold ending answer output_old output_new errors_old errors_new

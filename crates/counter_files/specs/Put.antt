@@ -1,4 +1,4 @@
--- What is printed of the bytes for OUT.
+-- how the bytes for OUT were written
 use Rattle.std.specs.Prelude.{◌≡◌, ◌⊎◌, ℕ, List, [], ◌∷◌, ◌++◌, Option}
 use Rattle.std.specs.Io.KnownBytes.{Appends, Keeps}
 use Rattle.counter_tasks.specs.Told.{fault_words}
@@ -6,7 +6,8 @@ use Rattle.counter_tasks.specs.declared.faults.Fault.TheVariants.{Device}
 use Rattle.counter_tasks.specs.declared.statuses.Status.{Status}
 use Rattle.counter_tasks.specs.declared.statuses.Status.TheVariants.{Told}
 
--- nothing is printed, and the program ends as was given; or the fault of a device is printed
+-- the bytes were written, nothing was printed and the exit status is the given one; or the fault of
+-- a device was printed
 abbrev pub IsPut : Status → Status → Option (List ℕ) → Option (List ℕ) → Type 0
 IsPut given ended errors_old errors_new =
     ((ended ≡ given) × Keeps errors_old errors_new)

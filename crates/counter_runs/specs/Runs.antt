@@ -1,4 +1,4 @@
--- What the run of a deck comes to, and what of it goes out.
+-- the run of a deck, and what is printed of it
 use Rattle.std.specs.Prelude.{◌≡◌, ◌⊎◌, ◌<◌, ◌++◌, ◌∷◌, [], ℕ, List, length, take, Option, Result, Ok, Err, IfSome}
 use Rattle.std.specs.Io.KnownBytes.{Appends, Keeps}
 use Rattle.cards.specs.declared.Card.{Card}
@@ -19,7 +19,7 @@ use Rattle.counter_tasks.specs.declared.statuses.Status.TheVariants as status
 use Rattle.counter_tasks.specs.Told.{fault_words}
 use Rattle.counter_runs.specs.Reports.{report_words, status_at}
 
--- the bytes that are read of a text: one more than those of the largest deck
+-- the most bytes that are read of a deck's text: one more than the longest such text has
 abbrev pub most_bytes : ℕ
 most_bytes = 162001
 
@@ -27,11 +27,11 @@ most_bytes = 162001
 abbrev pub most_instructions : ℕ
 most_instructions = 1000000
 
--- what is read of a reader's bytes, where these are known
+-- these are the bytes that are read of a reader's, if those are known
 abbrev pub Reads : Option (List ℕ) → List ℕ → Type 0
 Reads remaining text = IfSome remaining (λ bytes. text ≡ take most_bytes bytes)
 
--- how a machine stands
+-- the report of a machine: its counts of cards and lines, and its standing
 abbrev pub report_of : State → Report
 report_of m = record {
   cards = length m.works.units.punch;
@@ -39,16 +39,16 @@ report_of m = record {
   stand = record { standing = m.standing; next = m.works.registers.i };
 }
 
--- what a run gives: a listing, and how the machine stands
+-- what a run gives: the listing of its lines, and the report
 pub record Shown : Type 0 where
   pub listing : List ℕ
   pub report : Report
 
--- what a machine gives: the listing of its lines, and how it stands
+-- what this machine gives: the listing of its lines, and the report
 abbrev pub shown_by : State → Shown
 shown_by m = record { listing = rendered (lines_of m); report = report_of m }
 
--- the text is that of a deck with a card, and this is what the machine gives that ran it
+-- the text is that of a deck with a card, and this is given by the machine that ran the deck
 pub record IsRunOf (text : List ℕ) (size : Size) (switches : Switches) (shown : Shown) : Type 0 where
   pub deck : List Card
   pub is_deck : IsDeck deck
@@ -56,11 +56,11 @@ pub record IsRunOf (text : List ℕ) (size : Size) (switches : Switches) (shown 
   pub is_text : text ≡ text_of deck
   pub gives : shown ≡ shown_by (after (loaded deck size switches) most_instructions)
 
--- the first fault of a text, in the form of decks' texts
+-- the first fault of a text as a deck
 abbrev pub IsTextFault : List ℕ → CardFault → Type 0
 IsTextFault text f = (form : _) × (text_of ≡ file_of form) × IsFault form text f
 
--- what a fault says of the text; memory and devices may fail at any
+-- why a text is not run: a fault in it, no card, or a failure of memory or of a device
 abbrev pub Refuses : List ℕ → Fault → Type 0
 Refuses text (fault.Card f) = (f ≡ out_of_memory) ⊎ IsTextFault text f
 Refuses text fault.Empty = text ≡ []
@@ -68,42 +68,44 @@ Refuses text fault.TooManyCards = ⊥
 Refuses text fault.Memory = Unit {0}
 Refuses text fault.Device = Unit {0}
 
+-- what an outcome gives: its listing and its report
 abbrev pub shown_of : Outcome → Shown
 shown_of outcome = record { listing = outcome.listing.items; report = outcome.report }
 
--- what a run comes to
+-- how the run of a text ends: with what the machine gives, or with a fault
 abbrev pub Ends : List ℕ → Size → Switches → Result Shown Fault → Type 0
 Ends text size switches (Ok shown) = IsRunOf text size switches shown
 Ends text size switches (Err f) = Refuses text f
 
--- how the program ends after it
+-- the exit status after a run that ended so
 abbrev pub status_of : Result Shown Fault → Status
 status_of (Ok shown) = status_at shown.report.stand.standing
 status_of (Err f) = status.Told
 
--- what is told of it
+-- the line on the standard error after a run that ended so: the report, or the fault
 abbrev pub message_of : Result Shown Fault → List ℕ
 message_of (Ok shown) = report_words shown.report ++ 10 ∷ []
 message_of (Err f) = fault_words f ++ 10 ∷ []
 
--- what goes out: the listing, or nothing beside a fault, but for that of a device, which may be the output
+-- what is printed on the output: the listing, or after a fault nothing, unless the device that
+-- failed is the output
 abbrev pub Outputs : Result Shown Fault → Option (List ℕ) → Option (List ℕ) → Type 0
 Outputs (Ok shown) old new = Appends old new shown.listing
 Outputs (Err f) old new = (f ≡ fault.Device) ⊎ Keeps old new
 
--- the run came to this, and the writers have it
+-- the run ended so: this is its exit status, and its listing and message were printed
 pub record IsTold (ending : Result Shown Fault) (ended : Status) (output_old output_new errors_old errors_new : Option (List ℕ)) : Type 0 where
   pub status : ended ≡ status_of ending
   pub output : Outputs ending output_old output_new
   pub errors : Appends errors_old errors_new (message_of ending)
 
--- the writers have what the run gave, or the device's fault
+-- what the run gave was printed, or the fault of a device
 abbrev pub IsShown : Shown → Status → Option (List ℕ) → Option (List ℕ) → Option (List ℕ) → Option (List ℕ) → Type 0
 IsShown shown ended output_old output_new errors_old errors_new =
     IsTold (Ok shown) ended output_old output_new errors_old errors_new
     ⊎ IsTold (Err fault.Device) ended output_old output_new errors_old errors_new
 
--- the writers have what the text's run came to
+-- the run of the text ended in some way, and what it gave was printed
 abbrev pub Tells : List ℕ → Size → Switches → Status → Option (List ℕ) → Option (List ℕ) → Option (List ℕ) → Option (List ℕ) → Type 0
 Tells text size switches ended output_old output_new errors_old errors_new = (ending : Result Shown Fault)
     × Ends text size switches ending × IsTold ending ended output_old output_new errors_old errors_new

@@ -1,4 +1,4 @@
--- What words ask for, with their values read.
+-- the tasks that words ask for, with their values read
 use Rattle.std.specs.Prelude.{◌≡◌, ◌≢◌, ◌⊎◌, ◌<◌, ◌≤◌, ◌^◌, ℕ, List, [], ◌∷◌, codes, decimal}
 use Rattle.core_store.specs.Storage.{positions_of}
 use Rattle.core_store.specs.declared.Size.{Size}
@@ -15,33 +15,33 @@ use Rattle.counter_tasks.specs.declared.tasks.Source.TheVariants.{Input, File}
 use Rattle.counter_tasks.specs.declared.tasks.Task.{Task}
 use Rattle.counter_tasks.specs.declared.tasks.Task.TheVariants.{Apply, Assemble, Export, Help, Init, Run, Serve, Version}
 
--- the task runs the deck at this path, with the size and the switches that these texts spell
+-- the task is to run the deck at this path, with the size and the switches that these texts give
 abbrev pub WantsRun : List ℕ → List ℕ → List ℕ → Task → Type 0
 WantsRun deck size switches (Run (File path) s w) =
     (deck ≡ path.now) × (size ≡ decimal (positions_of s)) × AreSeven w × (switches ≡ text_of w)
 WantsRun deck size switches _ = ⊥
 
--- a port's number
+-- a port's number: 1 to 65535
 abbrev pub IsPort : ℕ → Type 0
 IsPort number = (0 < number) × (number ≤ 65535)
 
--- how many connections may be served
+-- a number of connections to serve: 1 to 1,000,000
 abbrev pub IsCount : ℕ → Type 0
 IsCount number = (0 < number) × (number ≤ 1000000)
 
--- the task serves the bureau of this file, with the port and the count that these texts spell
+-- the task is to serve the bureau in this file, with the port and the count that these texts give
 abbrev pub WantsServe : List ℕ → List ℕ → List ℕ → Task → Type 0
 WantsServe file port count (Serve path p c) =
     (file ≡ path.now) × (port ≡ decimal p) × (count ≡ decimal c) × IsPort p × IsCount c
 WantsServe file port count _ = ⊥
 
--- the number that a text spells by 1 to 9 digits with no zero in front; any other text counts as 0
+-- the number of a text: its value if it has 1 to 9 digits with no zero in front, else 0
 abbrev pub IsNumberOf : List ℕ → ℕ → Type 0
 IsNumberOf text number =
     ((0 < number) × (number < 10 ^ 9) × (text ≡ decimal number))
     ⊎ ((number ≡ 0) × ((other : ℕ) → 0 < other → other < 10 ^ 9 → text ≢ decimal other))
 
--- the words ask for the task
+-- the words ask for this task
 abbrev pub Wants : List (List ℕ) → Task → Type 0
 Wants words (Help row) = IsHelp row words
 Wants words Version = IsVersion words
@@ -59,8 +59,7 @@ Wants words (Serve file port count) =
     HasValues name.Serve (file.now ∷ decimal port ∷ decimal count ∷ []) words
     × IsPort port × IsCount count
 
--- what is wrong with the texts of a size and of switches: the size where it is none, and else the
--- switches
+-- what is wrong with the texts of a size and of switches: the size if it is none, else the switches
 abbrev pub IsValueMisuse : List ℕ → List ℕ → Misuse → Type 0
 IsValueMisuse size switches misuse.Size = (s : Size) → size ≢ decimal (positions_of s)
 IsValueMisuse size switches misuse.Switches =
@@ -68,15 +67,14 @@ IsValueMisuse size switches misuse.Switches =
     × ((w : Switches) → AreSeven w → switches ≢ text_of w)
 IsValueMisuse size switches _ = ⊥
 
--- what is wrong with the texts of a port and of a count: the port where it is none, and else the
--- count
+-- what is wrong with the texts of a port and of a count: the port if it is none, else the count
 abbrev pub IsServeMisuse : List ℕ → List ℕ → Misuse → Type 0
 IsServeMisuse port count misuse.Port = (p : ℕ) → IsPort p → port ≢ decimal p
 IsServeMisuse port count misuse.Count =
     ((p : ℕ) × IsPort p × (port ≡ decimal p)) × ((c : ℕ) → IsCount c → count ≢ decimal c)
 IsServeMisuse port count _ = ⊥
 
--- words of a row `run` with values that are wrong
+-- the words are those of a row `run`, with this wrong in its values
 pub record AreRunWords (words : List (List ℕ)) (m : Misuse) : Type 0 where
   pub deck : List ℕ
   pub size : List ℕ
@@ -84,7 +82,7 @@ pub record AreRunWords (words : List (List ℕ)) (m : Misuse) : Type 0 where
   pub are : HasValues name.Run (deck ∷ size ∷ switches ∷ []) words
   pub is : IsValueMisuse size switches m
 
--- words of a row `serve` with values that are wrong
+-- the words are those of a row `serve`, with this wrong in its values
 pub record AreServeWords (words : List (List ℕ)) (m : Misuse) : Type 0 where
   pub file : List ℕ
   pub port : List ℕ
@@ -92,8 +90,8 @@ pub record AreServeWords (words : List (List ℕ)) (m : Misuse) : Type 0 where
   pub are : HasValues name.Serve (file ∷ port ∷ count ∷ []) words
   pub is : IsServeMisuse port count m
 
--- what is wrong with the words: what is wrong with a row's values, or with words of no row, or
--- there was no memory to read them
+-- what is wrong with the words: a value of a row, words that ask for nothing, or no memory to read
+-- them
 abbrev pub IsMisuse : List (List ℕ) → Misuse → Type 0
 IsMisuse words (misuse.Words f) = (f ≡ Memory) ⊎ (misreading_by f ≡ misreading words)
 IsMisuse words misuse.Port = AreServeWords words misuse.Port

@@ -1,4 +1,4 @@
--- What is told, and how the program ends.
+-- what the program prints, and its exit status
 use Rattle.std.specs.Prelude.{◌≡◌, ◌⊎◌, ℕ, List, [], ◌∷◌, ◌++◌, Bool, true, false, if◌then◌else◌, Option, codes, decimal}
 use Rattle.std.specs.Io.KnownBytes.{Appends, Keeps}
 use Rattle.std.specs.declared.io.ErrorKind.{ErrorKind}
@@ -16,14 +16,14 @@ use Rattle.counter_tasks.specs.declared.faults.Fault.TheVariants as fault
 use Rattle.counter_tasks.specs.declared.statuses.Status.{Status}
 use Rattle.counter_tasks.specs.declared.statuses.Status.TheVariants as status
 
--- the exit status of how the program ends
+-- the number of an exit status, 0 to 3
 abbrev pub status_code : Status → ℕ
 status_code status.Done = 0
 status_code status.Told = 1
 status_code status.Misused = 2
 status_code status.Unusable = 3
 
--- the words of a fault
+-- the text that is printed for a fault
 abbrev pub fault_words : Fault → List ℕ
 fault_words (fault.Card f) = codes "card " ++ decimal f.card ++ codes " column " ++ decimal f.column ++ codes " fault "
     ++ decimal (card_error_number f.error)
@@ -32,17 +32,17 @@ fault_words fault.TooManyCards = codes "fault 33"
 fault_words fault.Memory = codes "fault 1"
 fault_words fault.Device = codes "fault device"
 
--- the text of a deck can't be read for want of memory, or because its reader failed
+-- the fault of a deck's text that could not be read: want of memory, or a failed device
 abbrev pub reading_fault : ErrorKind → Fault
 reading_fault OutOfMemory = fault.Card out_of_memory
 reading_fault _ = fault.Device
 
--- what is told where a deck takes no further card
+-- the fault of a deck that takes no further card
 abbrev pub fault_of_deck : DeckFault → Fault
 fault_of_deck deck.TooManyCards = fault.TooManyCards
 fault_of_deck deck.NoMemory = fault.Memory
 
--- what is wrong with the words
+-- the text that is printed for a misuse
 abbrev pub misuse_words : Misuse → List ℕ
 misuse_words (misuse.Words f) = complaint f
 misuse_words misuse.NoText = codes "a word is not UTF-8 text"
@@ -51,37 +51,37 @@ misuse_words misuse.Switches = codes "SWITCHES must be rising letters of ABCDEFG
 misuse_words misuse.Port = codes "PORT must be a number from 1 to 65535"
 misuse_words misuse.Count = codes "COUNT must be a number from 1 to 1000000"
 
--- there was no memory to read the words
+-- the misuse for want of memory to read the words
 abbrev pub want_of_memory : Misuse
 want_of_memory = misuse.Words Memory
 
--- what an error of the process says of its words
+-- the misuse by the process's error about its words
 abbrev pub misuse_of : ErrorKind → Misuse
 misuse_of OutOfMemory = want_of_memory
 misuse_of _ = misuse.NoText
 
--- whether there was no memory to read the words
+-- whether a misuse is that there was no memory to read the words
 abbrev pub is_want_of_memory : Misuse → Bool
 is_want_of_memory (misuse.Words Memory) = true
 is_want_of_memory _ = false
 
--- the words ask for help, without hyphens
+-- whether a misuse is that help was asked for without hyphens
 abbrev pub asks_for_help : Misuse → Bool
 asks_for_help (misuse.Words f) = is_help_fault f
 asks_for_help _ = false
 
--- a complaint and the line on how the program is called; want of memory is a fault, and no misuse;
--- and in place of a complaint the help that the words ask for
+-- what is printed for a misuse: the fault of memory, the help asked for, or else a complaint and
+-- the line on how to call the program
 abbrev pub misuse_message : List ℕ → Misuse → List ℕ
 misuse_message usage m = if is_want_of_memory m then fault_words fault.Memory ++ 10 ∷ []
     else (if asks_for_help m then misuse_words m
     else codes "bureau: " ++ misuse_words m ++ 10 ∷ usage ++ 10 ∷ [])
 
--- how the program ends after a misuse
+-- the exit status after a misuse
 abbrev pub misuse_status : Misuse → Status
 misuse_status m = if is_want_of_memory m then status.Told else status.Misused
 
--- the text went out, or the output failed
+-- the text was printed, or the output failed and the fault of a device was printed
 abbrev pub IsTextShown : List ℕ → Status → Option (List ℕ) → Option (List ℕ) → Option (List ℕ) → Option (List ℕ) → Type 0
 IsTextShown text ended output_old output_new errors_old errors_new =
     ((ended ≡ status.Done) × Appends output_old output_new text × Keeps errors_old errors_new)

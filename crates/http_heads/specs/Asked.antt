@@ -1,4 +1,4 @@
--- what a target asks for, by its path and by the texts that stand in it
+-- what a target asks for, by its path and by the texts in it
 use Rattle.std.specs.Prelude.{ℕ, ◌≡◌, ◌≢◌, ◌<◌, ◌^◌, ◌⊎◌, List, decimal, Some}
 use Rattle.http_routes.specs.Parts.{part}
 use Rattle.http_routes.specs.Paths.{route_at}
@@ -13,26 +13,26 @@ use Rattle.http_heads.specs.declared.asked.JobName.{JobName}
 use Rattle.http_heads.specs.declared.asked.Kind.{Kind}
 use Rattle.http_heads.specs.declared.asked.Kind.TheVariants.{Object, Autocoder}
 
--- the number that a text spells by 1 to 9 digits with no zero in front; any other text counts as 0
+-- the number of a text: its value if it has 1 to 9 digits with no zero in front, else 0
 abbrev pub IsNumberOf : List ℕ → ℕ → Type 0
 IsNumberOf text number =
     ((0 < number) × (number < 10 ^ 9) × (text ≡ decimal number))
     ⊎ ((number ≡ 0) × ((other : ℕ) → 0 < other → other < 10 ^ 9 → text ≢ decimal other))
 
--- the switches that a text spells
+-- the switches that a text sets on, by their letters, or a hyphen for none
 abbrev pub AreSwitchesOf : List ℕ → Switches → Type 0
 AreSwitchesOf text switches = AreSeven switches × (text ≡ text_of switches)
 
--- the job that a target names
+-- the job whose customer and number are in a target
 abbrev pub IsJobOf : List ℕ → JobName → Type 0
 IsJobOf target job = (job.customer.now ≡ part 2 target) × IsNumberOf (part 4 target) job.number
 
--- the path that takes in a job of this kind
+-- the route that submits a job of this kind
 abbrev pub path_of : Kind → Route
 path_of Object = route.SubmitObject
 path_of Autocoder = route.SubmitAutocoder
 
--- a target asks for this
+-- a target asks for this, by its route and the texts in its path
 abbrev pub Asks : List ℕ → Asked → Type 0
 Asks target (asked.Submit job kind size switches) =
     (route_at target ≡ Some (path_of kind)) × IsJobOf target job × IsNumberOf (part 6 target) size × AreSwitchesOf (part 7 target) switches

@@ -1,4 +1,4 @@
--- what reading the body of a request comes to
+-- how the body of a request is read
 use Rattle.std.specs.Prelude.{ℕ, ◌≡◌, ◌+◌, ◌<◌, ◌≤◌, ◌++◌, List, Option, length, take, ⊤}
 use Rattle.std.specs.Io.KnownBytes.{Consumes, IsAtEnd}
 use Rattle.http_heads.specs.declared.bodies.Body.{Body}
@@ -13,7 +13,7 @@ IsFilled old new buffer filled.Ended =
     (front : List ℕ) × (length front < length buffer) × Consumes old new front × IsAtEnd new
 IsFilled old new buffer filled.Failed = ⊤
 
--- .. after these bytes
+-- a buffer that began with these bytes was filled from a reader, or the reader ended before
 abbrev pub IsFilledAfter : List ℕ → Option (List ℕ) → Option (List ℕ) → List ℕ → Filled → Type 0
 IsFilledAfter begun old new buffer filled.Whole =
     (rest : List ℕ) × (buffer ≡ begun ++ rest) × Consumes old new rest
@@ -21,7 +21,7 @@ IsFilledAfter begun old new buffer filled.Ended =
     (front : List ℕ) × (length begun + length front < length buffer) × Consumes old new front × IsAtEnd new
 IsFilledAfter begun old new buffer filled.Failed = ⊤
 
--- the body is the first so many bytes after the head, or there are fewer
+-- the body is the first so many bytes after the head, or is too short if there are fewer
 abbrev pub IsBodyOf : List ℕ → ℕ → Body → Type 0
 IsBodyOf after count (body.Whole bytes) = (count ≤ length after) × (bytes.items ≡ take count after)
 IsBodyOf after count body.Short = length after < count

@@ -10,13 +10,13 @@ use Rattle.http_heads.specs.Fields.{Field, body_length, values_of}
 use Rattle.http_heads.specs.declared.lengths.BodyLength.{BodyLength}
 use Rattle.http_heads.specs.declared.lengths.BodyLength.TheVariants.{Unsaid, Bytes, Bad}
 
--- whether a route takes a body
+-- whether the requests of a route have a body, which those that submit a job do
 abbrev pub takes_body : Route → Bool
 takes_body route.SubmitObject = true
 takes_body route.SubmitAutocoder = true
 takes_body other = false
 
--- the method of a route
+-- the method of a route: PUT, POST or GET
 abbrev pub method_of : Route → List ℕ
 method_of route.SubmitObject = codes "PUT"
 method_of route.SubmitAutocoder = codes "PUT"
@@ -31,22 +31,22 @@ method_of route.Lines = codes "GET"
 method_of route.Jobs = codes "GET"
 method_of route.Queue = codes "GET"
 
--- whether what is said is a length, or nothing
+-- whether the length of a body is not a bad one
 abbrev pub is_length : BodyLength → Bool
 is_length Bad = false
 is_length other = true
 
--- whether a length is said
+-- whether the length of a body is given, be it a good or a bad one
 abbrev pub is_said : BodyLength → Bool
 is_said Unsaid = false
 is_said other = true
 
--- how many bytes a body has
+-- the number of bytes of a body, 0 if none is given
 abbrev pub count_of : BodyLength → ℕ
 count_of (Bytes count) = count
 count_of other = 0
 
--- the tests of the length of a body, each with the status of a head that doesn't pass it
+-- the tests of a body's length, each with the status if it fails
 abbrev pub length_tests : Route → BodyLength → List (Bool × ℕ)
 length_tests path said =
     (is_length said, 400)
@@ -55,27 +55,28 @@ length_tests path said =
     ∷ (takes_body path || count_of said == 0, 400)
     ∷ []
 
--- the tests of a head with this path
+-- the tests of a request with this route, in order, each with the status if it fails
 abbrev pub tests : Route → List ℕ → List Field → List (Bool × ℕ)
 tests path method fields =
     (bytes_eq method (method_of path), 405)
     ∷ (length (values_of (codes "Transfer-Encoding") fields) == 0, 400)
     ∷ length_tests path (body_length fields)
 
--- the status of the first test that isn't passed
+-- the status of the first test that fails, if one does
 abbrev pub first_failed : List (Bool × ℕ) → Option ℕ
 first_failed [] = None
 first_failed ((passed, status) ∷ rest) = if passed then first_failed rest else Some status
 
--- the status of a head whose target has this path, or none
+-- the status with which a request of this route is refused, if one is; 404 if there is no route
 abbrev pub status_on : Option Route → List ℕ → List Field → Option ℕ
 status_on None method fields = Some 404
 status_on (Some path) method fields = first_failed (tests path method fields)
 
--- the header fields of a head
+-- the header fields of a head, each with its name and value
 abbrev pub fields_of : RequestHead → List Field
 fields_of h = map name_and_value h.fields
 
--- the status of a head that is refused for its target, its method or its header fields
+-- the status with which a head is refused for its target, its method or its header fields, if one
+-- is
 abbrev pub status_of : RequestHead → Option ℕ
 status_of h = status_on (route_at h.target) h.method (fields_of h)

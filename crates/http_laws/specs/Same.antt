@@ -1,4 +1,4 @@
--- what is the same of two that bytes come to
+-- when two requests, or two statuses, are the same
 use Rattle.std.specs.Prelude.{ℕ, ◌≡◌, ◌⊎◌, ⊤, string_bytes}
 use Rattle.http_heads.specs.declared.asked.Asked.{Asked}
 use Rattle.http_heads.specs.declared.asked.Asked.TheVariants as asked
@@ -8,19 +8,19 @@ use Rattle.office.specs.declared.commands.Command.TheVariants as command
 use Rattle.http_requests.specs.declared.request.Request.{Request}
 use Rattle.http_requests.specs.declared.request.Request.TheVariants as request
 
--- a status with which bytes are refused that begin with no head
+-- a status with which bytes that begin with no head are refused: 400 or 431
 abbrev pub IsHeadless : ℕ → Type 0
 IsHeadless status = (status ≡ 400) ⊎ (status ≡ 431)
 
--- both are the same status, or each is one of bytes that begin with no head
+-- two statuses are equal, or both are of bytes that begin with no head
 abbrev pub IsSameStatus : ℕ → ℕ → Type 0
 IsSameStatus one other = (one ≡ other) ⊎ (IsHeadless one × IsHeadless other)
 
--- both name the same job of the same customer
+-- two names are of the same job: customers and numbers are equal
 abbrev pub IsSameJob : JobName → JobName → Type 0
 IsSameJob one other = (one.customer.now ≡ other.customer.now) × (one.number ≡ other.number)
 
--- both ask for the same: the texts of the customers, the numbers and the switches are equal
+-- two targets ask for the same: customers, numbers and switches are equal
 abbrev pub IsSameAsked : Asked → Asked → Type 0
 IsSameAsked (asked.Submit job kind size switches) (asked.Submit name form positions up) =
     IsSameJob job name × (kind ≡ form) × (size ≡ positions) × (switches ≡ up)
@@ -37,7 +37,7 @@ IsSameAsked (asked.Jobs customer) (asked.Jobs name) = customer.now ≡ name.now
 IsSameAsked asked.Queue asked.Queue = ⊤
 IsSameAsked one other = ⊥
 
--- both are the same command: the texts of the customers, the numbers and all else are equal
+-- two commands are the same: customers, numbers and all else are equal
 abbrev pub IsSameCommand : Command → Command → Type 0
 IsSameCommand (command.Submit customer number contents) (command.Submit name place handed) =
     (string_bytes customer ≡ string_bytes name) × (number ≡ place) × (contents ≡ handed)
@@ -48,8 +48,8 @@ IsSameCommand (command.Jobs customer) (command.Jobs name) =
 IsSameCommand command.Queue command.Queue = ⊤
 IsSameCommand one other = ⊥
 
--- both are refused with the same status, or have the same fault in the text of their deck, or ask
--- for the same command
+-- two requests are the same: refused with the same status, with the same fault in the deck's text,
+-- or for the same command
 abbrev pub IsSameRequest : Request → Request → Type 0
 IsSameRequest (request.Refused status) (request.Refused other) = IsSameStatus status other
 IsSameRequest (request.BadDeck fault) (request.BadDeck other) = fault ≡ other

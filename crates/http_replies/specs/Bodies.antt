@@ -22,7 +22,7 @@ use Rattle.office.specs.declared.standings.JobStanding.TheVariants as standing
 use Rattle.office.specs.declared.standings.Summary.{Summary}
 use Rattle.units.specs.Listing.{rendered}
 
--- the words of a check
+-- the name of a check, as replies print it
 abbrev pub check_words : Check → List ℕ
 check_words check.Address = codes "ADDRESS"
 check_words check.Instruction = codes "INSTRUCTION"
@@ -32,22 +32,23 @@ check_words check.ReaderEmpty = codes "READER EMPTY"
 check_words check.PunchFull = codes "PUNCH FULL"
 check_words check.PrinterFull = codes "PRINTER FULL"
 
--- how a job stands, in words
+-- the standing of a job, as replies print it: at a halt with the next position, at a check with its
+-- name and position
 abbrev pub standing_words : JobStanding → List ℕ
 standing_words standing.Running = codes "running"
 standing_words (standing.Halted next) = codes "halted next " ++ decimal next
 standing_words (standing.Checked check at) =
     codes "check " ++ check_words check ++ codes " at " ++ decimal at
 
--- a truth value
+-- a truth value in JSON
 abbrev pub truth : Bool → List ℕ
 truth value = if value then codes "true" else codes "false"
 
--- things with a comma between each two
+-- the elements of a JSON list, with a comma between each two
 abbrev pub listed : List (List ℕ) → List ℕ
 listed = join_with_byte (byte (codes ","))
 
--- a job in the list of a customer's jobs
+-- a job in the list of a customer's jobs, in JSON
 abbrev pub job_text : JobLine → List ℕ
 job_text job =
     codes "{\"collected\":" ++ truth job.collected
@@ -55,19 +56,19 @@ job_text job =
     ++ codes ",\"number\":" ++ decimal job.number
     ++ codes ",\"standing\":\"" ++ standing_words job.standing ++ codes "\"}"
 
--- a job in the queue
+-- a job in the queue, in JSON
 abbrev pub queued_text : QueuedJob → List ℕ
 queued_text job =
     codes "{\"customer\":" ++ quoted job.customer
     ++ codes ",\"number\":" ++ decimal job.number ++ codes "}"
 
--- a card's fault
+-- a fault of a source, in JSON: the card's number and the fault's number
 abbrev pub fault_text : CardFault → List ℕ
 fault_text f =
     codes "{\"card\":" ++ decimal f.card
     ++ codes ",\"fault\":" ++ decimal (fault_number f.fault) ++ codes "}"
 
--- what is told of a job
+-- the body of the reply to `standing`: the job's standing, flags and counts
 abbrev pub summary_body : Summary → List ℕ
 summary_body job =
     codes "{\"cards\":" ++ decimal job.cards
@@ -78,13 +79,13 @@ summary_body job =
     ++ codes ",\"reply\":\"standing\",\"standing\":\"" ++ standing_words job.standing
     ++ codes "\"}"
 
--- why a command is refused
+-- the body of a refusal: its number, and for a source with faults the faults
 abbrev pub refusal_body : Refusal → List ℕ
 refusal_body (refusal.Assembly faults) =
     codes "{\"faults\":[" ++ listed (map fault_text faults) ++ codes "],\"refusal\":16}"
 refusal_body other = codes "{\"refusal\":" ++ decimal (refusal_number other) ++ codes "}"
 
--- the body of a reply
+-- the body of a reply: JSON, but a punch file for cards and printed lines for lines
 abbrev pub body_of : Reply → List ℕ
 body_of (reply.Taken cards) = codes "{\"cards\":" ++ decimal cards ++ codes ",\"reply\":\"taken\"}"
 body_of (reply.Ran executed standing) =
@@ -105,7 +106,7 @@ body_of (reply.Queue jobs) =
     codes "{\"queue\":[" ++ listed (map queued_text jobs) ++ codes "],\"reply\":\"queue\"}"
 body_of (reply.Refused reason) = refusal_body reason
 
--- the body that says where a deck's text is at fault
+-- the body for a fault in a deck's text: its card, its column and its number
 abbrev pub deck_fault_body : deck.CardFault → List ℕ
 deck_fault_body f =
     codes "{\"card\":" ++ decimal f.card ++ codes ",\"column\":" ++ decimal f.column

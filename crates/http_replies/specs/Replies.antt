@@ -23,7 +23,7 @@ phrase_of status =
     if status == 503 then codes "Service Unavailable" else
     []
 
--- the head of an answer with this status and phrase, and with a body of this type and length
+-- the head of an answer with this status and reason phrase, for a body of this type and length
 abbrev pub head_bytes : ℕ → List ℕ → List ℕ → ℕ → List ℕ
 head_bytes status phrase content_type length =
     codes "HTTP/1.1 " ++ decimal status ++ codes " " ++ phrase ++ codes "\r\n"
@@ -32,12 +32,12 @@ head_bytes status phrase content_type length =
     ++ codes "Connection: close\r\n"
     ++ codes "\r\n"
 
--- an answer with this status, and with a body of this type
+-- an answer with this status and this body, with the type of the body
 abbrev pub answer_bytes : ℕ → List ℕ → List ℕ → List ℕ
 answer_bytes status content_type body =
     head_bytes status (phrase_of status) content_type (length body) ++ body
 
--- the status of a refusal
+-- the status of the answer for a refusal: 400, 404 or 409
 abbrev pub refusal_status : Refusal → ℕ
 refusal_status refusal.Customer = 400
 refusal_status refusal.Number = 400
@@ -56,31 +56,31 @@ refusal_status refusal.NotHeld = 409
 refusal_status refusal.Collected = 409
 refusal_status refusal.TooMuch = 409
 
--- the status of a reply
+-- the status of the answer with a reply: 200 unless it is a refusal
 abbrev pub status_of : Reply → ℕ
 status_of (reply.Refused reason) = refusal_status reason
 status_of other = 200
 
--- the type of a reply's body
+-- the content type of a reply's body: plain text for cards and lines, else JSON
 abbrev pub content_type_of : Reply → List ℕ
 content_type_of (reply.Cards cards) = codes "text/plain"
 content_type_of (reply.Lines lines) = codes "text/plain"
 content_type_of other = codes "application/json"
 
--- the bytes of a reply
+-- the whole answer with a reply: head and body
 abbrev pub reply_bytes : Reply → List ℕ
 reply_bytes r = answer_bytes (status_of r) (content_type_of r) (body_of r)
 
--- the lines of a reply, where it holds any, are in the order of printing
+-- the lines of a reply, if it has any, are in the order of printing
 abbrev pub HasLinesInOrder : Reply → Type 0
 HasLinesInOrder (reply.Lines lines) = IsRising lines
 HasLinesInOrder other = ⊤
 
--- the bytes that say where a deck's text is at fault
+-- the whole answer for a fault in a deck's text
 abbrev pub deck_fault_bytes : CardFault → List ℕ
 deck_fault_bytes f = answer_bytes 400 (codes "application/json") (deck_fault_body f)
 
--- the bytes that refuse a request by its status alone
+-- the whole answer to a request that is refused with this status
 abbrev pub refused_bytes : ℕ → List ℕ
 refused_bytes status =
     answer_bytes status (codes "application/json")

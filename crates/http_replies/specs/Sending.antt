@@ -4,7 +4,7 @@ use Rattle.std.specs.Io.KnownBytes.{Appends}
 use Rattle.http_replies.specs.declared.sending.Sent.{Sent}
 use Rattle.http_replies.specs.declared.sending.Sent.TheVariants as sent
 
--- all of them, or so many and not all
+-- the writer took all of the bytes, or so many of them and not all
 abbrev pub SentIs : List ℕ → Option (List ℕ) → Option (List ℕ) → Sent → Type 0
 SentIs bytes old new sent.Whole = Appends old new bytes
 SentIs bytes old new (sent.Failed count) =

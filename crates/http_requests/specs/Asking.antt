@@ -1,4 +1,4 @@
--- requests, as targets and bodies ask for them
+-- the requests that targets and bodies make
 use Rattle.std.specs.Prelude.{ℕ, ◌≡◌, ◌≢◌, List, string_bytes}
 use Rattle.cards.specs.Decks.{IsDeck}
 use Rattle.cards.specs.Faults.{IsFirstFault, out_of_memory}
@@ -19,16 +19,16 @@ use Rattle.units.specs.declared.switches.Switches.{Switches}
 use Rattle.http_requests.specs.declared.request.Request.{Request}
 use Rattle.http_requests.specs.declared.request.Request.TheVariants as request
 
--- the kind of a deck, as the office calls it
+-- the office's kind of a job for the kind that a target names
 abbrev pub kind_of : head.Kind → office.Kind
 kind_of Object = deck.Object
 kind_of Autocoder = deck.Autocoder
 
--- a command names the job by this customer and this number
+-- the customer and the number are those of this job
 abbrev pub IsNamed : JobName → List ℕ → ℕ → Type 0
 IsNamed job customer number = (customer ≡ job.customer.now) × (number ≡ job.number)
 
--- the contents have what was asked for, and their deck is the one of this text
+-- the contents have this kind, size and switches, and their deck is the one of this text
 pub record AreContents (kind : head.Kind) (size : ℕ) (switches : Switches) (text : List ℕ)
     (contents : Contents) : Type 0 where
   pub kind_is : contents.kind ≡ kind_of kind
@@ -37,11 +37,12 @@ pub record AreContents (kind : head.Kind) (size : ℕ) (switches : Switches) (te
   pub deck : IsDeck contents.deck
   pub text_is : text ≡ text_of contents.deck
 
--- the first fault of a text, in the form of decks' texts
+-- the first fault of a text as a deck
 abbrev pub IsTextFault : List ℕ → CardFault → Type 0
 IsTextFault text fault = (form : _) × (text_of ≡ file_of form) × IsFirstFault form text fault
 
--- the request is to take in this job, or the text of its deck has its first fault here
+-- the request submits this job with the deck of this text, or is refused for the first fault of the
+-- text
 abbrev pub IsSubmission : JobName → head.Kind → ℕ → Switches → List ℕ → Request → Type 0
 IsSubmission job kind size switches text (request.Asks (command.Submit customer number contents)) =
     IsNamed job (string_bytes customer) number × AreContents kind size switches text contents
@@ -54,12 +55,12 @@ IsOnJob job c (request.Asks (command.Job customer number d)) =
     IsNamed job (string_bytes customer) number × (d ≡ c)
 IsOnJob job c other = ⊥
 
--- the request is for the jobs of this customer
+-- the request is for the list of this customer's jobs
 abbrev pub AsksOfJobs : List ℕ → Request → Type 0
 AsksOfJobs customer (request.Asks (command.Jobs name)) = string_bytes name ≡ customer
 AsksOfJobs customer other = ⊥
 
--- the request is what is asked for, with this body
+-- the request is what the target asks for, with this body
 abbrev pub IsAskedBy : Asked → List ℕ → Request → Type 0
 IsAskedBy (asked.Submit job kind size switches) body r = IsSubmission job kind size switches body r
 IsAskedBy (asked.Slice job limit) body r = IsOnJob job (on.Slice limit) r
@@ -73,6 +74,6 @@ IsAskedBy (asked.Lines job) body r = IsOnJob job on.Lines r
 IsAskedBy (asked.Jobs customer) body r = AsksOfJobs customer.now r
 IsAskedBy asked.Queue body r = r ≡ request.Asks command.Queue
 
--- the deck of the request has this fault, which is no want of memory
+-- the request is refused for this fault of its deck, which is not want of memory
 abbrev pub IsBadDeck : CardFault → Request → Type 0
 IsBadDeck fault r = (r ≡ request.BadDeck fault) × (fault ≢ out_of_memory)

@@ -6,7 +6,7 @@ use Rattle.std.specs.List.{before_first, after_first}
 abbrev pub is_slash : ℕ → Bool
 is_slash byte = byte == 47
 
--- the part of a text with this place, from 0 on; after the last part all are empty
+-- the part of a text between slashes with this number, from 0 on; after the last part all are empty
 unfoldable pub part : ℕ → List ℕ → List ℕ
 part zero text = before_first is_slash text
 part (suc place) text = part place (after_first is_slash text)

@@ -1,4 +1,4 @@
--- the paths of the counter, and what each asks for
+-- the paths of the counter, each with its route
 use Rattle.std.specs.Prelude.{ℕ, List, [], ◌∷◌, Bool, false, Option, option_map, is_none, Result, Ok, Err, codes, fold}
 use Rattle.std.specs.Borrow.{Bor}
 use Rattle.matchit.specs.Order.{placed}
@@ -10,7 +10,7 @@ use Rattle.matchit.specs.declared.error.InsertError.{InsertError}
 use Rattle.http_routes.specs.declared.paths.Route.{Route}
 use Rattle.http_routes.specs.declared.paths.Route.TheVariants as route
 
--- each path, and what it asks for
+-- the twelve paths of the counter, each with its route
 abbrev pub paths : List (List ℕ × Route)
 paths =
     (codes "/c/{customer}/j/{number}/object/{size}/{switches}", route.SubmitObject)
@@ -27,32 +27,32 @@ paths =
     ∷ (codes "/queue", route.Queue)
     ∷ []
 
--- a path as a table of the code has it
+-- a path and its route, as a pair of the code's table has them
 abbrev pub path_of : Bor (List ℕ) × Route → List ℕ × Route
 path_of entry = (entry.0.now, entry.1)
 
--- the rows of a router with one more path, as it was read
+-- the rows of a router with one more, for a path that was parsed
 abbrev pub with_read : Result Scan InsertError → Route → RowsOf (RouteOf Route) → RowsOf (RouteOf Route)
 with_read (Ok scan) route rows = placed (scan.pattern, route_from scan route) rows
 with_read (Err error) route rows = rows
 
--- the rows of a router with one more path
+-- the rows of a router with one more, for this path and its route
 abbrev pub with_path : RowsOf (RouteOf Route) → List ℕ × Route → RowsOf (RouteOf Route)
 with_path rows path = with_read (parse_route path.0) path.1 rows
 
--- the rows of the router that has some paths
+-- the rows of the router that has these paths
 abbrev pub routed : List (List ℕ × Route) → RowsOf (RouteOf Route)
 routed some = fold with_path [] some
 
--- whether a path as it was read is in no conflict with some rows
+-- whether a path that was parsed is in no conflict with these rows
 abbrev pub is_free_of : Result Scan InsertError → RowsOf (RouteOf Route) → Bool
 is_free_of (Ok scan) rows = is_none (nearest scan.pattern rows)
 is_free_of (Err error) rows = false
 
--- whether a text is a path that is in no conflict with some rows
+-- whether a text is a path that is in no conflict with these rows
 abbrev pub is_free : RowsOf (RouteOf Route) → List ℕ → Bool
 is_free rows text = is_free_of (parse_route text) rows
 
--- what a target asks for by the first path that it matches, if it matches one
+-- the route of a target: that of the first path that it matches, if it matches one
 unfoldable pub route_at : List ℕ → Option Route
 route_at target = option_map (λ row. row.value) (first (routed paths) target)

@@ -1,4 +1,4 @@
--- how the contract of a call that takes up a connection is said
+-- the contract of a call that takes over an open connection
 use Rattle.std.specs.Prelude.{◌≡◌, ◌∷◌, [], pos, IsOk}
 use Rattle.sqlite.specs.declared.types.Value.TheVariants.{Int}
 use Rattle.sqlite.specs.Held.{Held, state}
@@ -13,18 +13,18 @@ use Rattle.office.specs.Office.{Office}
 use Rattle.ledger.specs.Standing.{Stands}
 
 module _ {S : Type 0} (g : Ghosts S) (old new : Held S) where
-  -- the tables represent the office that they represented, and a crash leaves it alone
+  -- if the tables represented an office, they represent the same one after the call
   abbrev pub StandsStill : Type 0
   StandsStill = HasCleanDisk (state g new) → (office : Office) → Stands (state g old) office
       → Stands (state g new) office
 
-  -- where the tables represented an office, the fault says nothing against them
+  -- if the tables represented an office, the fault is not that they are no bureau's or an old one's
   abbrev pub IsNoFaultOfTables : OpenFault → Type 0
   IsNoFaultOfTables fault = HasCleanDisk (state g new) → (office : Office)
       → Stands (state g old) office → IsKnown fault
 
-  -- the query of the version is one for these tables; and where they are a bureau's by their
-  -- schema, they have one version, its own
+  -- the version can be asked of these tables; and if their schema is a bureau's, they hold one
+  -- version, this program's own
   abbrev pub HasOwnVersion : Type 0
   HasOwnVersion = HasCleanDisk (state g new)
       → IsOk (understood (state g old).now.schema select_version)

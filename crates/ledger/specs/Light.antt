@@ -5,14 +5,14 @@ use Rattle.office.specs.declared.commands.JobCommand.TheVariants as job
 use Rattle.ledger.specs.declared.light_commands.LightCommand.{LightCommand}
 use Rattle.ledger.specs.declared.light_commands.LightCommand.TheVariants.{Hold, Release, Collect, Standing}
 
--- the command of the office
+-- the office's command that is this light one
 abbrev pub command_of : LightCommand → JobCommand
 command_of Hold = job.Hold
 command_of Release = job.Release
 command_of Collect = job.Collect
 command_of Standing = job.Standing
 
--- the command, if it is one of these
+-- the light command that is this command on a job, or none if the command needs the machine
 abbrev pub light_of : JobCommand → Option LightCommand
 light_of (job.Slice limit) = None
 light_of (job.Start switches) = None

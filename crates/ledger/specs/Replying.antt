@@ -1,4 +1,4 @@
--- how the contract of a whole command is said
+-- the contract of a whole command
 use Rattle.std.specs.Prelude.{◌≡◌, ◌⊎◌, ℕ, [], Result, IfOk, OnOk, OnErr, IsErrOf}
 use Rattle.machine.specs.Run.{risen}
 use Rattle.sqlite.specs.Held.{Held, state}
@@ -14,42 +14,42 @@ use Rattle.office.specs.declared.replies.Reply.{Reply}
 use Rattle.ledger.specs.Standing.{Stands, LeftAs}
 
 module _ {S : Type 0} (g : Ghosts S) (old new : Held S) where
-  -- on Ok, where the tables represented an office, the reply is the change's, and they represent
-  -- the changed office
+  -- on Ok, if the tables represented an office, they represent the office after the change, and the
+  -- reply is the change's
   abbrev pub Replies : Result Reply Fault → (Office → Office × Reply) → Type 0
   Replies result change = HasCleanDisk (state g new)
       → IfOk result (λ reply. (office : Office) → Stands (state g old) office
       → (reply ≡ (change office).1) × Stands (state g new) (change office).0)
 
-  -- on Ok, where the tables represented an office, the meter has ticked this often
+  -- on Ok, if the tables represented an office, the meter has risen by this many ticks
   abbrev pub Rises : Result Reply Fault → ℕ → ℕ → (Office → ℕ) → Type 0
   Rises result meter risen_meter often = HasCleanDisk (state g new)
       → OnOk result ((office : Office) → Stands (state g old) office
       → risen_meter ≡ risen meter (often office))
 
-  -- on a fault, where the tables represented an office, the meter has ticked this often at most
+  -- on a fault, if the tables represented an office, the meter has risen by this many ticks at most
   abbrev pub RisesAtMost : Result Reply Fault → ℕ → ℕ → (Office → ℕ) → Type 0
   RisesAtMost result meter risen_meter often = HasCleanDisk (state g new)
       → OnErr result ((office : Office) → Stands (state g old) office
       → RisenAtMost (often office) meter risen_meter)
 
-  -- after want of memory the tables represent the office that they represented
+  -- after a fault for want of memory, the tables represent the same office as before
   abbrev pub KeepsOffice : Result Reply Fault → Type 0
   KeepsOffice result = HasCleanDisk (state g new) → IsErrOf result NoMemory → (office : Office)
       → Stands (state g old) office → Stands (state g new) office
 
-  -- what a crash leaves represents the office before the command or the one after it
+  -- a crash leaves tables that represent the office before the command or the one after it
   abbrev pub LeavesEither : (Office → Office × Reply) → Type 0
   LeavesEither change = HasCleanDisk (state g new) → (office : Office) → Stands (state g old) office
       → (db : Trees) → (state g new).may_leave db → LeftAs db office ⊎ LeftAs db (change office).0
 
-  -- on Ok, where there were no tables, they represent the office without jobs
+  -- on Ok, if there were no tables before, the tables now represent an office without jobs
   abbrev pub MakesOffice : {X : Type 0} → Result X Fault → Type 0
   MakesOffice result = HasCleanDisk (state g new)
       → OnOk result ((state g old).now.schema ≡ no_schema → Stands (state g new) [])
 
-  -- where there were no tables, what a crash leaves is what it left before, or represents the
-  -- office without jobs
+  -- if there were no tables before, a crash leaves what it might have left before, or tables that
+  -- represent an office without jobs
   abbrev pub LeavesNone : Type 0
   LeavesNone = HasCleanDisk (state g new) → (state g old).now.schema ≡ no_schema
       → (db : Trees) → (state g new).may_leave db → (state g old).may_leave db ⊎ LeftAs db []

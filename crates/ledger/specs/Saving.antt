@@ -1,4 +1,4 @@
--- what is saved of a job
+-- what is written to the tables about a job
 use Rattle.std.specs.Prelude.{◌≡◌, ◌≤◌, ℕ, Bool, false, List, [], ◌∷◌, ◌++◌, map, take, length, Option, Some, None, Ok}
 use Rattle.cards.specs.Decks.{deck_bytes}
 use Rattle.cards.specs.declared.decks.Card.{Card}
@@ -20,70 +20,72 @@ use Rattle.units.specs.declared.units.Units.{Units}
 use Rattle.ledger.specs.declared.saving.Made.{Made}
 use Rattle.ledger.specs.Standing.{kind_number, stretch_row}
 
--- the tables have so many of these cards for the job, the first of them
+-- the job's card rows are the first so many of these cards
 pub record HasFirstCards (name : JobName) (many : ℕ) (all : List Card) (t : Tables) : Type 0 where
   pub are : of_job name t.cards ≡ map (λ card. card.0) (take many all)
   pub fit : many ≤ length all
 
--- these are the job's cards
+-- the tables with these cards as the job's card rows
 abbrev pub with_all_cards : JobName → List Card → Tables → Tables
 with_all_cards name cards = with_cards name.customer.now name.number (map (λ card. card.0) cards)
 
--- the tables have so many of these lines for the job, the first of them
+-- the job's line rows are the first so many of these lines
 pub record HasFirstLines (name : JobName) (many : ℕ) (all : List Line) (t : Tables) : Type 0 where
   pub are : of_job name t.lines ≡ map line_cells (take many all)
   pub fit : many ≤ length all
 
--- these are the job's lines
+-- the tables with these lines as the job's line rows
 abbrev pub with_all_lines : JobName → List Line → Tables → Tables
 with_all_lines name lines = with_lines name.customer.now name.number (map line_cells lines)
 
--- the tables have so many of the cards and lines that these units have made, the first of them
+-- the job's card and line rows are the first so many of the cards and lines that these units have
+-- made
 pub record HasFirst (name : JobName) (made : Made) (units : Units) (t : Tables) : Type 0 where
   pub cards : HasFirstCards name made.cards units.punch t
   pub lines : HasFirstLines name made.lines units.printer.lines t
 
--- the job has made what these units have
+-- the tables with all cards and lines that these units have made as the job's rows
 abbrev pub with_made : JobName → Units → Tables → Tables
 with_made name units t = with_all_lines name units.printer.lines (with_all_cards name units.punch t)
 
--- these are the job's stretches
+-- the tables with these stretches as the job's stretch rows
 abbrev pub with_all_stretches : JobName → List Stretch → Tables → Tables
 with_all_stretches name stretches =
     with_stretches name.customer.now name.number (map stretch_row stretches)
 
--- the tables have these stretches for the job, but for what was granted since in the last
+-- the job's stretch rows are these stretches, but for instructions that were granted since in the
+-- last
 abbrev pub HasFewerGranted : JobName → List Stretch → Tables → Type 0
 HasFewerGranted name stretches t =
     (before : List Stretch) × (limit : ℕ) × (stretches ≡ granted_more limit before)
     × (of_job name t.stretches ≡ map stretch_row before)
 
--- the job's machine is this one
+-- the tables with this machine as the job's picture
 abbrev pub with_machine : JobName → State → Tables → Tables
 with_machine name m = with_picture_of name (picture_cells m)
 
--- the tables have these stretches for the job, but for the last
+-- the job's stretch rows are these stretches without the last
 abbrev pub HasOneLess : JobName → List Stretch → Tables → Type 0
 HasOneLess name stretches t =
     (before : List Stretch) × (last : Stretch) × (stretches ≡ before ++ last ∷ [])
     × (of_job name t.stretches ≡ map stretch_row before)
 
--- the job has made this progress
+-- the tables with this job's machine and stretches, as a slice leaves them
 abbrev pub with_progress : JobName → Kept → Tables → Tables
 with_progress name kept t =
     with_all_stretches name kept.stretches (with_machine name kept.machine t)
 
--- the job starts with these stretches and this machine
+-- the tables with this job's stretches and machine, as a start leaves them
 abbrev pub with_start : JobName → Kept → Tables → Tables
 with_start name kept t =
     with_machine name kept.machine (with_all_stretches name kept.stretches t)
 
--- the job has these stretches but for the last, and no picture
+-- the job's stretch rows are these stretches without the last, and it has no picture
 pub record HasNotStarted (name : JobName) (kept : Kept) (t : Tables) : Type 0 where
   pub stretches : HasOneLess name kept.stretches t
   pub picture : of_job name t.pictures ≡ None
 
--- the columns of a job that is handed in, where this is what its machine loads
+-- the columns of a new job of these contents, with the deck that its machine loads
 abbrev pub new_cells : Contents → List Card → JobCells
 new_cells contents loaded = record {
   kind = kind_number contents.kind;
@@ -94,7 +96,7 @@ new_cells contents loaded = record {
   collected = truth false;
 }
 
--- the job of these contents is there
+-- the tables with the row of a new job of these contents
 abbrev pub with_handed : JobName → Contents → List Card → Tables → Tables
 with_handed name contents loaded = with_new_job name (new_cells contents loaded)
 
@@ -104,12 +106,12 @@ with_handed name contents loaded = with_new_job name (new_cells contents loaded)
 abbrev pub job_in : JobName → Office → Option Job
 job_in name = job_of name.customer.now name.number
 
--- the job had made so many cards and lines
+-- the job had made this many cards and lines
 pub record HadMade (made : Made) (old : Job) : Type 0 where
   pub cards : made.cards ≡ length (picture old).works.units.punch
   pub lines : made.lines ≡ length (lines_of (picture old))
 
--- there is this job, and this is what a command that was let through made of it
+-- the office has this job, and the job with its machine is what the command makes of it
 pub record IsAfter (name : JobName) (kept : Kept) (c : JobCommand) (old : Job) (office : Office)
     : Type 0 where
   pub found : job_in name office ≡ Some old
@@ -117,7 +119,7 @@ pub record IsAfter (name : JobName) (kept : Kept) (c : JobCommand) (old : Job) (
   pub is : kept ≡ kept_of (changed_job c old)
   pub job : IsJob (changed_job c old)
 
--- the job is what a command that was let through makes of it
+-- the office with the job as a command that is not refused makes it
 abbrev pub with_after : JobName → JobCommand → Job → Office → Office
 with_after name c old = with_job name.customer.now name.number (changed_job c old)
 
@@ -125,27 +127,27 @@ with_after name c old = with_job name.customer.now name.number (changed_job c ol
 abbrev pub flagged_job : Bool → Bool → Job → Job
 flagged_job held collected job = record job { held = held; collected = collected }
 
--- there is this job, and this is the same with other flags
+-- the office has this job, and the job with its machine is the same with these flags
 pub record IsFlagged (name : JobName) (kept : Kept) (held collected : Bool) (old : Job)
     (office : Office) : Type 0 where
   pub found : job_in name office ≡ Some old
   pub is : kept ≡ kept_of (flagged_job held collected old)
   pub job : IsJob (flagged_job held collected old)
 
--- the job has these flags
+-- the office with these flags of the job
 abbrev pub with_flagged : JobName → Bool → Bool → Job → Office → Office
 with_flagged name held collected old =
     with_job name.customer.now name.number (flagged_job held collected old)
 
--- no job has the name
+-- no job of the office has this name
 abbrev pub IsFreeName : JobName → Office → Type 0
 IsFreeName name office = job_in name office ≡ None
 
--- this is the job of what was handed in
+-- the contents are not refused, and these are their job and the job with its machine
 pub record IsTakenAs (contents : Contents) (kept : Kept) (job : Job) : Type 0 where
   pub taken : job_or_refusal contents ≡ Ok job
   pub kept_is : kept ≡ kept_of job
 
--- the job is the last that was taken
+-- the office with one job more, after the others
 abbrev pub with_new : JobName → Job → Office → Office
 with_new name = and_job name.customer.now name.number

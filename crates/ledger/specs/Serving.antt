@@ -1,4 +1,4 @@
--- what a command makes of the office, by the name of its job
+-- the office after a command, by the name of the command's job
 use Rattle.std.specs.Prelude.{ℕ}
 use Rattle.office.specs.Jobs.{Job}
 use Rattle.office.specs.New.{job_or_refusal}
@@ -9,25 +9,26 @@ use Rattle.office.specs.declared.replies.Reply.{Reply}
 use Rattle.ledger_tables.specs.declared.names.JobName.{JobName}
 use Rattle.ledger.specs.Saving.{job_in}
 
--- one job more, unless its customer has as many as one may have
+-- the office after a new job is added, and the reply: it is refused if its customer has as many
+-- as one may have
 abbrev pub with_added : JobName → Job → Office → Office × Reply
 with_added name job office = added name.customer.now name.number office job
 
--- a submission whose name is free
+-- the office after a submission under a free name, and the reply
 abbrev pub with_taken : JobName → Contents → Office → Office × Reply
 with_taken name contents office =
     submitted_as name.customer.now name.number office (job_or_refusal contents)
 
--- a submission
+-- the office after a submission, and the reply
 abbrev pub with_submitted : JobName → Contents → Office → Office × Reply
 with_submitted name contents office =
     submitted name.customer.now name.number contents office (job_in name office)
 
--- a command on a job
+-- the office after a command on a job, and the reply
 abbrev pub with_commanded : JobName → JobCommand → Office → Office × Reply
 with_commanded name c office =
     commanded name.customer.now name.number c office (job_in name office)
 
--- how many instructions a command on a job attempts
+-- how many instructions a command on the job of this name attempts
 abbrev pub attempted_as : JobName → JobCommand → Office → ℕ
 attempted_as name c office = attempted_of c (job_in name office)

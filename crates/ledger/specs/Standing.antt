@@ -19,12 +19,12 @@ use Rattle.ledger_tables.specs.Schema.{bureau_schema}
 use Rattle.ledger_tables.specs.Tables.{NamedJob, Tables, Holds}
 use Rattle.ledger_tables.specs.declared.rows.StretchRow.{StretchRow}
 
--- the number of a kind
+-- the number of a job's kind in its row: 0 for an object deck, 1 for Autocoder
 abbrev pub kind_number : Kind → ℕ
 kind_number Object = 0
 kind_number Autocoder = 1
 
--- the columns of a job
+-- the columns of a job's row
 abbrev pub job_cells : Job → JobCells
 job_cells job = record {
   kind = kind_number job.kind;
@@ -35,35 +35,35 @@ job_cells job = record {
   collected = truth job.collected;
 }
 
--- a job as the tables hold it
+-- a job's row, with its name
 abbrev pub named : Entry → NamedJob
 named e = record { customer = e.customer; number = e.number; cells = job_cells e.job }
 
--- the columns of a stretch
+-- the columns of a stretch's row
 abbrev pub stretch_row : Stretch → StretchRow
 stretch_row s = record { switches = s.switches.0; granted = s.granted }
 
--- the stretches of a job, if there is one
+-- the stretch rows of a job, none if there is no job
 abbrev pub stretches_of : Option Job → List StretchRow
 stretches_of None = []
 stretches_of (Some job) = map stretch_row job.stretches
 
--- the picture of a job's machine, if there is one
+-- the picture row of a job's machine, none if there is no job
 abbrev pub picture_of : Option Job → Option PictureCells
 picture_of None = None
 picture_of (Some job) = Some (picture_cells (picture job))
 
--- the cards that a job has punched, if there is one
+-- the card rows of a job, each the card's bytes, none if there is no job
 abbrev pub cards_of : Option Job → List (List ℕ)
 cards_of None = []
 cards_of (Some job) = map (λ card. card.0) (picture job).works.units.punch
 
--- the lines that a job has printed, if there is one
+-- the line rows of a job, none if there is no job
 abbrev pub lines_of : Option Job → List LineCells
 lines_of None = []
 lines_of (Some job) = map line_cells (printed_by (picture job))
 
--- what the tables of an office hold
+-- the rows of all tables that represent an office
 abbrev pub tables_of : Office → Tables
 tables_of office = record {
   jobs = map named office;
@@ -73,7 +73,8 @@ tables_of office = record {
   lines = λ customer number. lines_of (job_of customer number office);
 }
 
--- a job that the tables can hold: what its machine holds and has made are characters
+-- a job that the tables can hold: what is in its machine's storage, on its cards and in its lines
+-- are characters
 pub record CanBeKept (it : Job) : Type 0 where
   pub job : IsJob it
   pub storage : HoldsCharacters (picture it).works.storage
@@ -85,28 +86,28 @@ pub record Rows (db : Database) (office : Office) : Type 0 where
   pub tables : Holds db (tables_of office)
   pub jobs : AllByRecursion (λ e. CanBeKept e.job) office
 
--- what a connection sees is that of the office
+-- the tables that a connection sees represent this office
 abbrev pub StandsIn : store.State → Office → Type 0
 StandsIn s office = Rows s.now office
 
--- a step inside the transaction: the office and the reply are those of the change
+-- inside the transaction, the reply is the change's, and the tables represent the office after it
 pub record Served (new : store.State) (change : Office → Office × Reply) (office : Office)
     (reply : Reply) : Type 0 where
   pub reply_is : reply ≡ (change office).1
   pub stands : StandsIn new (change office).0
 
--- what a crash leaves opens to the office, and to no other
+-- a bureau's tables with these trees, as a crash may leave them, represent this office
 abbrev pub LeftAs : Trees → Office → Type 0
 LeftAs db office = Rows (record { schema = bureau_schema; trees = db }) office
 
--- between commands the tables represent the office, and a crash leaves it alone
+-- between commands: the tables represent this office, and so does all that a crash may leave
 pub record Stands (s : store.State) (office : Office) : Type 0 where
   pub outside : s.in_transaction ≡ false
   pub now : IsTrue s.is_open → StandsIn s office
   pub left : (db : Trees) → s.may_leave db → LeftAs db office
 
--- a call that changed nothing: a crash leaves no more than before the call, and an open connection
--- sees what it saw
+-- a call that changed nothing: a crash leaves nothing that it might not have left before, and an
+-- open connection sees what it saw before
 pub record IsAsBefore (old new : store.State) : Type 0 where
   pub outside : new.in_transaction ≡ false
   pub now : IsTrue new.is_open → new.now ≡ old.now

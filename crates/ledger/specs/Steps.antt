@@ -1,4 +1,4 @@
--- how the contracts of the steps of a command are said
+-- the contracts of the steps of a command, each within one transaction
 use Rattle.std.specs.Prelude.{◌≡◌, ℕ, IsTrue, Result, IfOk, OnOk, OnErr}
 use Rattle.machine.specs.Run.{risen}
 use Rattle.sqlite_trees.specs.declared.store.Store.{Ghosts}
@@ -11,46 +11,47 @@ use Rattle.office.specs.declared.replies.Reply.{Reply}
 use Rattle.ledger.specs.Standing.{StandsIn, Served}
 
 module _ {S : Type 0} (g : Ghosts S) where
-  -- on Ok, where the tables represented an office, they still do, and this was found of it
+  -- on Ok, if the tables represented an office, they represent the same one, and what was read is
+  -- that office's
   abbrev pub FindsIn : {X : Type 0} → OpenTables S → OpenTables S → Result X Fault
       → (Office → X → Type 0) → Type 0
   FindsIn old new result Is =
       Inside g old new (λ before after. IfOk result (λ found. (office : Office)
       → StandsIn before office → StandsIn after office × Is office found))
 
-  -- on Ok, where the tables represented an office that meets the premise, they represent what the
-  -- change makes of it
+  -- on Ok, if the tables represented an office that meets the premise, they represent the office
+  -- after the change
   abbrev pub Saves : {X : Type 0} → OpenTables S → OpenTables S → Result X Fault
       → (Office → Type 0) → (Office → Office) → Type 0
   Saves old new result Premise change =
       Inside g old new (λ before after. OnOk result ((office : Office) → StandsIn before office
       → Premise office → StandsIn after (change office)))
 
-  -- on Ok, where the tables represented an office that meets the premise, they represent the
-  -- changed one, and the reply is the change's
+  -- on Ok, if the tables represented an office that meets the premise, they represent the office
+  -- after the change, and the reply is the change's
   abbrev pub ServesWhere : OpenTables S → OpenTables S → Result Reply Fault → (Office → Type 0)
       → (Office → Office × Reply) → Type 0
   ServesWhere old new result Premise change =
       Inside g old new (λ before after. IfOk result (λ reply. (office : Office) → Premise office
       → StandsIn before office → Served after change office reply))
 
-  -- on Ok, where the tables represented an office, they represent the changed one, and the reply is
-  -- the change's
+  -- on Ok, if the tables represented an office, they represent the office after the change, and the
+  -- reply is the change's
   abbrev pub Serves : OpenTables S → OpenTables S → Result Reply Fault
       → (Office → Office × Reply) → Type 0
   Serves old new result change =
       Inside g old new (λ before after. IfOk result (λ reply. (office : Office)
       → StandsIn before office → Served after change office reply))
 
-  -- on Ok, where the tables represented an office, the meter has ticked this often
+  -- on Ok, if the tables represented an office, the meter has risen by this many ticks
   abbrev pub Ticks : OpenTables S → OpenTables S → Result Reply Fault → ℕ → ℕ → (Office → ℕ)
       → Type 0
   Ticks old new result meter risen_meter often =
       Inside g old new (λ before after. OnOk result ((office : Office) → StandsIn before office
       → risen_meter ≡ risen meter (often office)))
 
-  -- on a fault, where the tables represent an office as long as they are open, the meter has ticked
-  -- this often at most
+  -- on a fault, if the tables represent an office as long as they are open, the meter has risen by
+  -- this many ticks at most
   abbrev pub TicksAtMost : OpenTables S → OpenTables S → Result Reply Fault → ℕ → ℕ
       → (Office → ℕ) → Type 0
   TicksAtMost old new result meter risen_meter often =

@@ -1,4 +1,4 @@
--- what the columns of the tables say of cards, lines and machines
+-- the columns of the tables for cards, lines and machines
 use Rattle.std.specs.Prelude.{ℕ, ◌≡◌, ◌+◌, ◌<◌, Bool, true, false, if◌then◌else◌, List, map, flat_map, length, All, Option, Some, None}
 use Rattle.cards.specs.declared.decks.Card.{Card}
 use Rattle.cards.specs.Decks.{AreCharacters}
@@ -15,26 +15,27 @@ use Rattle.units.specs.declared.carriage.Motion.TheVariants.{Space, DoubleSpace,
 use Rattle.machine.specs.Run.{State}
 use Rattle.ledger_tables.specs.Cells.{PictureCells, LineCells}
 
--- cards joined, a byte a column
+-- the bytes of a deck, 80 for each card, each the number of a column's character
 abbrev pub deck_bytes : List Card → List ℕ
 deck_bytes = flat_map (λ card. card.0)
 
--- a byte a position: the number of its character, and 64 more where it is marked
+-- the bytes of storage, one for each position: its character's number, and 64 more if it has a word
+-- mark
 abbrev pub storage_bytes : Storage → List ℕ
 storage_bytes = map (λ cell. if cell.1 then 64 + cell.0 else cell.0)
 
--- 1 for what holds, else 0
+-- the number of a flag: 1 if it is set, else 0
 abbrev pub truth : Bool → ℕ
 truth false = 0
 truth true = 1
 
--- the number of a comparison
+-- the number of the result of a comparison: 0 equal, 1 low, 2 high
 abbrev pub compare_number : Compared → ℕ
 compare_number Equal = 0
 compare_number Low = 1
 compare_number High = 2
 
--- the number of the carriage's motion that waits, if one does
+-- the number of the carriage motion that waits for the next line: 0 if none does
 abbrev pub waiting_number : Option Motion → ℕ
 waiting_number None = 0
 waiting_number (Some Space) = 1
@@ -42,7 +43,7 @@ waiting_number (Some DoubleSpace) = 2
 waiting_number (Some TripleSpace) = 3
 waiting_number (Some SkipToChannel1) = 4
 
--- the number of a check
+-- the number of a check, 2 to 8
 abbrev pub check_number : Check → ℕ
 check_number Address = 2
 check_number Instruction = 3
@@ -52,17 +53,17 @@ check_number ReaderEmpty = 6
 check_number PunchFull = 7
 check_number PrinterFull = 8
 
--- the number of how a machine stands
+-- the number of a machine's standing: 0 running, 1 at a halt, 2 to 8 at a check
 abbrev pub standing_number : Standing → ℕ
 standing_number Running = 0
 standing_number Halted = 1
 standing_number (Checked check) = check_number check
 
--- the columns of a printed line
+-- the columns of a printed line's row
 abbrev pub line_cells : Line → LineCells
 line_cells l = record { form = l.form; line = l.line; image = l.codes }
 
--- the picture of a machine
+-- the columns of a machine's picture row
 abbrev pub picture_cells : State → PictureCells
 picture_cells m = record {
   storage = storage_bytes m.works.storage;
@@ -85,6 +86,6 @@ picture_cells m = record {
 abbrev pub HoldsCharacters : Storage → Type 0
 HoldsCharacters s = All (λ cell. cell.0 < 64) s
 
--- a printed line of 132 characters
+-- a printed line: 132 characters, and a line number that a byte can hold
 abbrev pub IsLine : Line → Type 0
 IsLine l = (length l.codes ≡ 132) × AreCharacters l.codes × (l.line < 256)

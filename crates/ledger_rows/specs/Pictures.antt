@@ -1,11 +1,11 @@
--- a machine as it is kept
+-- a machine as the tables keep it
 use Rattle.std.specs.Prelude.{◌≡◌}
 use Rattle.machine.specs.Run.{State}
 use Rattle.ledger_rows.specs.declared.parts.Media.{Media}
 use Rattle.ledger_rows.specs.Columns.{picture_cells}
 use Rattle.ledger_tables.specs.Cells.{PictureCells}
 
--- the row is the machine's picture, and beside it stands what the machine reads and has made
+-- the row is the machine's picture, and the media are its deck, switches, cards and lines
 pub record IsPictured (row : PictureCells) (media : Media) (m : State) : Type 0 where
   pub row_is : row ≡ picture_cells m
   pub deck : media.deck ≡ m.works.units.hopper.deck

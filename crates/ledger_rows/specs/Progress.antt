@@ -1,11 +1,11 @@
--- how far a machine has come
+-- the progress of a machine: its standing, its I register, and its counts of cards and lines
 use Rattle.std.specs.Prelude.{length}
 use Rattle.machine.specs.Run.{State}
 use Rattle.ledger_rows.specs.Columns.{standing_number}
 use Rattle.ledger_rows.specs.declared.progress.Progress.{Progress}
 use Rattle.ledger_tables.specs.declared.rows.ProgressRow.{ProgressRow}
 
--- the columns that hold it
+-- the columns of a machine's progress
 abbrev pub progress_cells : Progress → ProgressRow
 progress_cells it = record {
   i = it.i;
@@ -14,7 +14,7 @@ progress_cells it = record {
   standing = standing_number it.standing;
 }
 
--- how far this machine has come
+-- the progress of this machine
 abbrev pub progress_of : State → Progress
 progress_of m = record {
   standing = m.standing;

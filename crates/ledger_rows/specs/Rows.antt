@@ -1,4 +1,4 @@
--- the parts of a machine whose columns a row holds
+-- the parts of a machine that are columns of its picture row
 use Rattle.std.specs.Prelude.{◌≡◌, length}
 use Rattle.core_store.specs.declared.registers.Registers.{Registers}
 use Rattle.units.specs.declared.carriage.Carriage.{Carriage}
@@ -7,7 +7,7 @@ use Rattle.ledger_rows.specs.declared.parts.Media.{Media}
 use Rattle.ledger_rows.specs.Columns.{truth, compare_number, waiting_number}
 use Rattle.ledger_tables.specs.Cells.{PictureCells}
 
--- the row holds these registers
+-- the picture row has these registers
 pub record HasRegisters (row : PictureCells) (r : Registers) : Type 0 where
   pub i : row.i ≡ r.i
   pub a : row.a ≡ r.a
@@ -15,14 +15,14 @@ pub record HasRegisters (row : PictureCells) (r : Registers) : Type 0 where
   pub compare : row.compare ≡ compare_number r.compare
   pub overflow : row.overflow ≡ truth r.overflow
 
--- the row holds this carriage
+-- the picture row has this carriage
 pub record HasCarriage (row : PictureCells) (c : Carriage) : Type 0 where
   pub form : row.form ≡ c.form
   pub line : row.line ≡ c.line
   pub waiting : row.waiting ≡ waiting_number c.waiting
   pub channel : row.channel ≡ truth c.channel_12
 
--- and that have read and made what stands in the other tables
+-- the picture row and the media have these units
 pub record HasUnits (row : PictureCells) (media : Media) (u : Units) : Type 0 where
   pub deck : media.deck ≡ u.hopper.deck
   pub taken : row.taken ≡ u.hopper.taken

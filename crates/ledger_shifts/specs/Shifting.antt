@@ -1,4 +1,4 @@
--- how the contract of a shift is said
+-- the contract of a shift
 use Rattle.std.specs.Prelude.{◌≡◌, ◌≢◌, ℕ, ◌+◌, List, take as beginning_of, Option, Some, None, IsTrue}
 use Rattle.std.specs.List.{sum_by}
 use Rattle.office.specs.Office.{Office, fold, IsLeft, limit_of}
@@ -15,17 +15,17 @@ use Rattle.ledger_shifts.specs.Meters.{RisenWithin, attempted_by_all}
 use Rattle.ledger_shifts.specs.WholeRows.{HaveWholeRows}
 use Rattle.ledger_shifts.specs.declared.outcomes.Shift.{Shift}
 
--- the commands that were given: all, or those up to and with the first that met a fault
+-- the commands that were given: all, or those up to and including the first that met a fault
 abbrev pub given : List Command → ℕ → Option Fault → List Command
 given commands acknowledged None = commands
 given commands acknowledged (Some fault) = beginning_of (acknowledged + 1) commands
 
--- the most instructions that commands may attempt, whatever the office
+-- the most instructions that these commands may attempt together, whatever the office
 abbrev pub limit_of_all : List Command → ℕ
 limit_of_all = sum_by limit_of
 
--- what a crash leaves is of an office after a beginning of the commands that holds every
--- acknowledged one, and each of its jobs at a halt has whole rows
+-- a crash leaves tables of the office after a beginning of the commands that holds every
+-- acknowledged one, and the rows of each of its jobs at a halt are whole
 pub record LeavesWhole (db : Trees) (office : Office) (commands : List Command)
     (acknowledged : ℕ) : Type 0 where
   pub left : Office
@@ -35,13 +35,13 @@ pub record LeavesWhole (db : Trees) (office : Office) (commands : List Command)
 
 module _ {S : Type 0} (g : Ghosts S) (old new : Held S) (commands : List Command)
     (shift : Shift) where
-  -- where the tables represented an office, the replies are those to the acknowledged commands
+  -- if the tables represented an office, the replies are that office's to the acknowledged commands
   abbrev pub Acknowledges : Type 0
   Acknowledges = HasCleanDisk (state g new) → (office : Office) → Stands (state g old) office
       → shift.replies.items ≡ (fold (beginning_of shift.acknowledged commands) office).1
 
-  -- unless fault 2 came, the tables represent the office after the acknowledged commands, and its
-  -- jobs at a halt have whole rows
+  -- unless fault 2 came, the tables represent the office after the acknowledged commands, and the
+  -- rows of each of its jobs at a halt are whole
   abbrev pub StandsAfter : Type 0
   StandsAfter = HasCleanDisk (state g new) → shift.fault ≢ Some Store → (office : Office)
       → Stands (state g old) office →
@@ -49,14 +49,15 @@ module _ {S : Type 0} (g : Ghosts S) (old new : Held S) (commands : List Command
       Stands (state g new) next
       × (IsTrue (state g new).is_open → HaveWholeRows (state g new).now next)
 
-  -- whatever a crash leaves is of an office after a beginning of the commands that were given
+  -- whatever a crash leaves is of the office after a beginning of the given commands that holds
+  -- every acknowledged one
   abbrev pub LeavesBeginning : Type 0
   LeavesBeginning = HasCleanDisk (state g new) → (office : Office) → Stands (state g old) office
       → (db : Trees) → (state g new).may_leave db
       → LeavesWhole db office (given commands shift.acknowledged shift.fault) shift.acknowledged
 
-  -- the meter has ticked for the acknowledged commands, and for the one that met a fault at most
-  -- as often as it attempts
+  -- the meter has risen by the instructions that the acknowledged commands attempt, and by at most
+  -- those of the command that met a fault
   abbrev pub Ticks : ℕ → ℕ → Type 0
   Ticks meter risen_meter = HasCleanDisk (state g new) → (office : Office)
       → Stands (state g old) office

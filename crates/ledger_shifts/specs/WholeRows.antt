@@ -1,4 +1,4 @@
--- what the rows of a job at a halt hold
+-- the rows of a job at a halt
 use Rattle.std.specs.Prelude.{◌≡◌, ℕ, List, map, filter}
 use Rattle.std.specs.List.{AllByRecursion}
 use Rattle.cards.specs.declared.decks.Card.{Card}
@@ -12,7 +12,8 @@ use Rattle.ledger_rows.specs.Columns.{line_cells}
 use Rattle.sqlite.specs.Effect.{Database}
 use Rattle.ledger_tables.specs.Tables.{cells, is_row_of, placed, card_row, line_row}
 
--- the rows of this job in the tables of cards and of lines are of these, in order from place 1 on
+-- the job's rows in the tables of cards and of lines are these cards and lines, with places from 1
+-- on
 pub record HasMade (db : Database) (customer : List ℕ) (number : ℕ) (cards : List Card)
     (lines : List Line) : Type 0 where
   pub card_rows : filter (is_row_of customer number) (cells (db.trees 7))
@@ -27,8 +28,8 @@ pub record RunMakes (begin : Switches → State) (starts : List Switches) (cards
   pub only : (others : List Card) (other_lines : List Line)
       → Whole begin starts others other_lines → (others ≡ cards) × (other_lines ≡ lines)
 
--- the rows of a job are of the cards and lines that one uninterrupted run over its whole deck makes
--- with its starts; and, if it can run its source, one from the start of its source's program
+-- the job's rows are the cards and lines that the whole run of its deck with its starts makes, and
+-- if it can run its source, those of the whole run of its source too
 pub record HasWholeRows (db : Database) (e : Entry) : Type 0 where
   pub cards : List Card
   pub lines : List Line
@@ -38,6 +39,6 @@ pub record HasWholeRows (db : Database) (e : Entry) : Type 0 where
   pub from_source : CanRunItsSource e.job
       → RunMakes (program_begun e.job.deck e.job.size) (switches_of e.job) cards lines
 
--- each job of the office that stands at a halt has such rows
+-- the rows of each job of the office that is at a halt are whole
 abbrev pub HaveWholeRows : Database → Office → Type 0
 HaveWholeRows db = AllByRecursion (λ e. IsAtHalt e.job → HasWholeRows db e)

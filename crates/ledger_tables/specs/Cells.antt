@@ -1,7 +1,7 @@
--- what the columns of a row hold beside the job that it names and its place
+-- the columns of a row, without the job that it names and its place
 use Rattle.std.specs.Prelude.{ℕ, List}
 
--- the columns of a job
+-- the columns of a job's row: kind, size, deck, the deck that its machine loads, and flags
 pub record JobCells : Type 0 where
   pub kind : ℕ
   pub size : ℕ
@@ -10,7 +10,8 @@ pub record JobCells : Type 0 where
   pub held : ℕ
   pub collected : ℕ
 
--- the columns of the picture of a job's machine
+-- the columns of the picture row of a job's machine: storage, registers, carriage, counts and
+-- standing
 pub record PictureCells : Type 0 where
   pub storage : List ℕ
   pub i : ℕ
@@ -27,12 +28,12 @@ pub record PictureCells : Type 0 where
   pub lines : ℕ
   pub standing : ℕ
 
--- the columns of a job that are its name
+-- the columns of a job's row that are its name
 pub record QueuedName : Type 0 where
   pub customer : List ℕ
   pub number : ℕ
 
--- the columns of a printed line
+-- the columns of a printed line's row: form, line and the characters
 pub record LineCells : Type 0 where
   pub form : ℕ
   pub line : ℕ

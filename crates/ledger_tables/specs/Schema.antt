@@ -1,4 +1,4 @@
--- the tables of a bureau as the database lists them, and their version
+-- the tables of a bureau as the database's schema has them, and their version
 use Rattle.sqlite.specs.Collation.TheVariants.{Binary}
 use Rattle.std.specs.Prelude.{true, false, [], ◌∷◌, Some, None, codes, List, ℕ}
 use Rattle.sqlite.specs.declared.types.Value.TheVariants.{Null}
@@ -12,11 +12,11 @@ use Rattle.sqlite_schema.specs.declared.schema.Action.TheVariants.{NoAction}
 use Rattle.sqlite.specs.Kind.{Kind}
 use Rattle.sqlite.specs.Kind.TheVariants.{Integer, Text, Blob}
 
--- the version of the tables that this bureau makes and opens
+-- the version of the tables that this program makes and opens
 abbrev pub own_version : ℕ
 own_version = 1
 
--- a column that always has a value of this kind
+-- a column of this name that always has a value of this kind
 abbrev pub required : List ℕ → Kind → Column
 required name kind = record {
   name = name;
@@ -27,7 +27,7 @@ required name kind = record {
   collation = Binary;
 }
 
--- a row refers to the job of its customer and number
+-- the reference of a row to its job, by customer and number
 abbrev pub to_job : Reference
 to_job = record {
   columns = 1 ∷ 2 ∷ [];
@@ -38,11 +38,11 @@ to_job = record {
   is_deferred = false;
 }
 
--- there are no tables
+-- a schema without tables
 abbrev pub no_schema : Schema
 no_schema = record { tables = []; indexes = []; views = [] }
 
--- one row, with the version of the tables
+-- the table `bureau`, which has one row with the version of the tables
 abbrev pub bureau : Table
 bureau = record {
   name = codes "bureau";
@@ -59,11 +59,11 @@ bureau = record {
   is_counted = false;
 }
 
--- the first table
+-- the schema once `bureau` is created
 abbrev pub up_to_bureau : Schema
 up_to_bureau = created no_schema bureau
 
--- a row a job
+-- the table `jobs`, with a row for each job
 abbrev pub jobs : Table
 jobs = record {
   name = codes "jobs";
@@ -83,11 +83,11 @@ jobs = record {
   is_counted = false;
 }
 
--- the first two tables
+-- the schema once `bureau` and `jobs` are created
 abbrev pub up_to_jobs : Schema
 up_to_jobs = created up_to_bureau jobs
 
--- a row a stretch of a job
+-- the table `stretches`, with a row for each stretch of a job
 abbrev pub stretches : Table
 stretches = record {
   name = codes "stretches";
@@ -106,11 +106,11 @@ stretches = record {
   is_counted = false;
 }
 
--- the first three tables
+-- the schema once the first three tables, up to `stretches`, are created
 abbrev pub up_to_stretches : Schema
 up_to_stretches = created up_to_jobs stretches
 
--- a row a job, for its machine
+-- the table `pictures`, with a row for each job's machine
 abbrev pub pictures : Table
 pictures = record {
   name = codes "pictures";
@@ -134,11 +134,11 @@ pictures = record {
   is_counted = false;
 }
 
--- the first four tables
+-- the schema once the first four tables, up to `pictures`, are created
 abbrev pub up_to_pictures : Schema
 up_to_pictures = created up_to_stretches pictures
 
--- a row a card that a job has punched
+-- the table `cards`, with a row for each card that a job has punched
 abbrev pub cards : Table
 cards = record {
   name = codes "cards";
@@ -156,11 +156,11 @@ cards = record {
   is_counted = false;
 }
 
--- the first five tables
+-- the schema once the first five tables, up to `cards`, are created
 abbrev pub up_to_cards : Schema
 up_to_cards = created up_to_pictures cards
 
--- a row a line that a job has printed
+-- the table `lines`, with a row for each line that a job has printed
 abbrev pub lines : Table
 lines = record {
   name = codes "lines";
@@ -179,6 +179,6 @@ lines = record {
   is_counted = false;
 }
 
--- the six tables
+-- the schema of a bureau, with its six tables
 abbrev pub bureau_schema : Schema
 bureau_schema = created up_to_cards lines

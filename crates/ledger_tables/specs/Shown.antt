@@ -1,4 +1,4 @@
--- what is read of a row
+-- the columns that a query reads of a row
 use Rattle.std.specs.Prelude.{ℕ, pos, List, [], ◌∷◌}
 use Rattle.sqlite.specs.declared.types.Value.TheVariants.{Int, Text, Blob}
 use Rattle.sqlite.specs.Order.{Row}
@@ -8,43 +8,43 @@ use Rattle.ledger_tables.specs.declared.rows.NameRow.{NameRow}
 use Rattle.ledger_tables.specs.declared.rows.ProgressRow.{ProgressRow}
 use Rattle.ledger_tables.specs.declared.rows.StretchRow.{StretchRow}
 
--- the columns of a job, without its name
+-- the columns read of a job, without its name
 abbrev pub shown_job : JobCells → Row
 shown_job job = Int (pos job.kind) ∷ Int (pos job.size) ∷ Blob job.deck ∷ Blob job.loaded
     ∷ Int (pos job.held) ∷ Int (pos job.collected) ∷ []
 
--- the number of a job
+-- the column read of a job's number
 abbrev pub shown_number : NamedJob → Row
 shown_number job = Int (pos job.number) ∷ []
 
--- the columns of a job in its customer's list
+-- the columns read of a job for the list of a customer's jobs
 abbrev pub shown_name : NameRow → Row
 shown_name job = Int (pos job.number) ∷ Int (pos job.held) ∷ Int (pos job.collected) ∷ []
 
--- the columns of a job in the queue
+-- the columns read of a job for the queue
 abbrev pub shown_queued : QueuedName → Row
 shown_queued job = Text job.customer ∷ Int (pos job.number) ∷ []
 
--- the columns of a stretch, without its job and place
+-- the columns read of a stretch, without its job and place
 abbrev pub shown_stretch : StretchRow → Row
 shown_stretch s = Int (pos s.switches) ∷ Int (pos s.granted) ∷ []
 
--- the columns of a picture, without its job
+-- the columns read of a picture, without its job
 abbrev pub shown_picture : PictureCells → Row
 shown_picture p = Blob p.storage ∷ Int (pos p.i) ∷ Int (pos p.a) ∷ Int (pos p.b)
     ∷ Int (pos p.compare) ∷ Int (pos p.overflow) ∷ Int (pos p.channel) ∷ Int (pos p.waiting)
     ∷ Int (pos p.form) ∷ Int (pos p.line) ∷ Int (pos p.taken) ∷ Int (pos p.cards)
     ∷ Int (pos p.lines) ∷ Int (pos p.standing) ∷ []
 
--- the columns of a picture that tell how far the job has come
+-- the columns read of a picture for the job's progress
 abbrev pub shown_progress : ProgressRow → Row
 shown_progress p = Int (pos p.i) ∷ Int (pos p.cards) ∷ Int (pos p.lines)
     ∷ Int (pos p.standing) ∷ []
 
--- the column of a card, without its job and place
+-- the column read of a card, without its job and place
 abbrev pub shown_card : List ℕ → Row
 shown_card card = Blob card ∷ []
 
--- the columns of a line, without its job and place
+-- the columns read of a line, without its job and place
 abbrev pub shown_line : LineCells → Row
 shown_line l = Int (pos l.form) ∷ Int (pos l.line) ∷ Blob l.image ∷ []

@@ -13,6 +13,7 @@ loading_cards_of source = loading_cards (image_for source) (start_for source)
 abbrev pub data_of : List Card → List Card
 data_of deck = drop (length (source_of deck)) deck
 
--- the deck that runs the program of a deck's source over the deck's data
+-- the deck that loads the program of a deck's source, and has the deck's data after the loading
+-- cards
 unfoldable pub runnable_deck : List Card → List Card
 runnable_deck deck = loading_cards_of (source_of deck) ++ data_of deck

@@ -6,7 +6,7 @@ use Rattle.bcd.specs.Table.{glyphs}
 abbrev pub is_glyph : ℕ → Bool
 is_glyph glyph = is_some (position (λ g. g == glyph) glyphs)
 
--- whether each byte of a text is
+-- whether each byte of a text is the glyph of a character
 abbrev pub are_glyphs : List ℕ → Bool
 are_glyphs [] = true
 are_glyphs (glyph ∷ text) = is_glyph glyph && are_glyphs text

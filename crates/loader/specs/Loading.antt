@@ -1,4 +1,4 @@
--- what the loading cards do when they are run
+-- the machine while the loading cards are run
 use Rattle.std.specs.Prelude.{ℕ, ◌≡◌, ◌+◌, ◌*◌, ◌<◌, ◌≤◌, ◌==◌, List, [], ◌∷◌, ◌++◌, length, None, slice_set, false}
 use Rattle.std.specs.List.{list_any}
 use Rattle.cards.specs.declared.decks.Card.{Card}
@@ -14,17 +14,17 @@ use Rattle.autocoder.specs.Assembly.{Assembly}
 use Rattle.loader.specs.Stretches.{stretches_of}
 use Rattle.loader.specs.Cards.{loading_cards}
 
--- where the marks of 000 to 080 stand between two loading cards
+-- the positions of the word marks in 000 to 080 between two loading cards
 abbrev pub loading_marks : List ℕ
 loading_marks = 1 ∷ 40 ∷ 47 ∷ 54 ∷ 61 ∷ 68 ∷ 72 ∷ []
 
--- a storage once these positions are filled
+-- a storage with these positions filled
 unfoldable pub filled_with : Storage → List Cell → Storage
 filled_with s [] = s
 filled_with s (c ∷ cells) = filled_with (slice_set s c.position (c.code, c.marked)) cells
 
--- a machine at the start of a program: the image stands in a storage that is blank and unmarked otherwise, 000 to 080
--- among it; the loading cards were read and the data behind them were not; nothing was punched or printed
+-- a machine at the start of a program: the image in a storage that is else blank and unmarked, the
+-- loading cards read, the data cards not, nothing punched or printed
 abbrev pub at_the_start : List Cell → ℕ → List Card → Size → Switches → State
 at_the_start image start data_cards size switches = record {
   works = record {
@@ -40,12 +40,12 @@ at_the_start image start data_cards size switches = record {
   standing = Running;
 }
 
--- how many instructions load an image: eleven of the boot card, five of each stretch's, one of the last
+-- how many instructions load an image: 11 of the boot card, 5 of each stretch's card, 1 of the last
 abbrev pub instructions_to_load : List Cell → ℕ
 instructions_to_load image = 11 + 5 * length (stretches_of image) + 1
 
--- a machine that has loaded these positions, and no others, and has read so many cards, the last of which it is about to
--- carry out
+-- a machine between two loading cards: it has loaded these positions and no others, has read so
+-- many cards, and is about to run the instructions on the last
 pub record IsBetweenCards (placed : List Cell) (read : ℕ) (size : Size) (m : State) : Type 0 where
   pub running : m.standing ≡ Running
   pub at_the_move : m.works.registers.i ≡ 40
@@ -55,7 +55,7 @@ pub record IsBetweenCards (placed : List Cell) (read : ℕ) (size : Size) (m : S
   pub no_card : m.works.units.punch ≡ []
   pub no_line : m.works.units.printer.lines ≡ []
 
--- the cards of a deck load a program into any machine that is large enough, whatever data stand behind them
+-- the deck loads the program into any machine that is large enough, whatever data cards follow
 abbrev pub Loads : Assembly → List Card → Type 0
 Loads program deck = (size : Size) (data_cards : List Card) (switches : Switches) → positions_of program.size ≤ positions_of size →
     after (loaded (deck ++ data_cards) size switches) (instructions_to_load program.image) ≡ at_the_start program.image program.start data_cards size switches

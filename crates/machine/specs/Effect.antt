@@ -1,4 +1,4 @@
--- what an instruction does
+-- the effect of an instruction
 use Rattle.std.specs.Prelude.{ℕ, ◌+◌, ◌%◌, ◌==◌, length, nat_lt, Bool, true, false, if◌then◌else◌, Result, Ok}
 use Rattle.core_store.specs.Storage.{Storage, code_at}
 use Rattle.core_store.specs.Operands.{lowered}
@@ -33,40 +33,42 @@ use Rattle.machine.specs.declared.operations.Course.TheVariants.{GoesOn, Halts}
 use Rattle.machine.specs.Word.{word, decoded}
 use Rattle.machine.specs.Branches.{is_met, once_tested, passes}
 
--- what an instruction works on
+-- what an instruction works on: storage, registers and units
 pub record Works : Type 0 where
   pub storage : Storage
   pub registers : Registers
   pub units : Units
 
+-- this storage, these registers and these units together
 abbrev pub works_of : Storage → Registers → Units → Works
 works_of s r units = record { storage = s; registers = r; units = units }
 
--- the registers A and B as the instruction's addresses have them
+-- the registers with A and B as the instruction's addresses set them
 abbrev pub filled : Decoded → Registers → Registers
 filled d r = record r { a = d.a; b = d.b }
 
--- the registers at the next instruction
+-- the registers with I at the next instruction
 abbrev pub at : ℕ → Registers → Registers
 at next r = record r { i = next }
 
--- the registers after a branch that is taken
+-- the registers after a branch that is taken: I and A at the branch address, B at the next
+-- instruction
 abbrev pub branched : Decoded → ℕ → Registers → Registers
 branched d next r = record r { i = d.a; a = d.a; b = next }
 
--- the registers after a unit's instruction, which branches where an address stands in it
+-- the registers after an operation of the units, which branches if it has an address
 abbrev pub after_unit : Decoded → ℕ → Registers → Registers
 after_unit d next r = if d.length == 4 then branched d next r else at next r
 
--- the registers after a halt, which goes on at its own address where one stands in it
+-- the registers after a halt, which goes on at its address if it has one
 abbrev pub after_halt : Decoded → ℕ → Registers → Registers
 after_halt d next r = if d.length == 4 then record r { i = d.a; a = d.a } else at next r
 
--- the registers after clearing storage, which branches where two addresses stand in it
+-- the registers after storage is cleared, which branches if it has two addresses
 abbrev pub after_clear : Decoded → ℕ → Registers → Registers
 after_clear d next r = if d.length == 7 then branched d next r else at next r
 
--- whether a branch is taken
+-- whether a branch with this modifier is taken
 abbrev pub is_taken : Modifier → ℕ → Works → Bool
 is_taken Plain b w = true
 is_taken (OnCondition condition) b w = is_met condition w.registers w.units
@@ -74,7 +76,7 @@ is_taken (OnCharacter code) b w = code_at w.storage b == code
 is_taken (OnTest test) b w = passes test w.storage b
 is_taken (ByOrder order) b w = true
 
--- the registers once a branch has looked whether it is taken
+-- the registers after a branch has tested its condition
 abbrev pub looked_at : Modifier → Registers → Registers
 looked_at Plain r = r
 looked_at (OnCondition condition) r = once_tested condition r
@@ -82,7 +84,8 @@ looked_at (OnCharacter code) r = r
 looked_at (OnTest test) r = r
 looked_at (ByOrder order) r = r
 
--- the register B after a branch that is not taken: one that has looked at a position leaves the one below it
+-- the B register after a branch that is not taken: one below the position that was tested, or
+-- unchanged if none was
 abbrev pub passed : Modifier → ℕ → ℕ → ℕ
 passed Plain b old = old
 passed (OnCondition condition) b old = old
@@ -100,14 +103,18 @@ after_branch d next w =
     if is_taken d.modifier d.b w then branched d next (looked_at d.modifier w.registers)
     else passed_by d next (looked_at d.modifier w.registers)
 
--- the registers after one of them was stored: the other one, or it itself, stands before what was written
+-- the registers after the A register is stored: B is the position before the address that was
+-- written
 abbrev pub after_store_a : Decoded → ℕ → Registers → Registers
 after_store_a d next r = record r { i = next; b = lowered d.a 3 }
 
+-- the registers after the B register is stored: A is the position before the address that was
+-- written
 abbrev pub after_store_b : Decoded → ℕ → Registers → Registers
 after_store_b d next r = record r { i = next; a = lowered d.a 3 }
 
--- what an operation on fields does at the registers A and B
+-- storage and registers after an operation on the fields at the A and B registers, or the check
+-- that stops it
 unfoldable pub worked : FieldOperation → Storage → Registers → Result (Storage × Registers) Check
 worked Add s r = added false s r
 worked Subtract s r = added true s r
@@ -124,7 +131,7 @@ worked Edit s r = field_edited s r
 worked SetMark s r = marks_put true s r
 worked ClearMark s r = marks_put false s r
 
--- the printer after the order of an instruction
+-- the printer after the carriage order of an instruction, or the check that stops it
 abbrev pub ordered_by : Modifier → Printed → Result Printed Check
 ordered_by Plain p = Ok p
 ordered_by (OnCondition condition) p = Ok p
@@ -132,7 +139,8 @@ ordered_by (OnCharacter code) p = Ok p
 ordered_by (OnTest test) p = Ok p
 ordered_by (ByOrder order) p = carriage_moved order p
 
--- the effect of each operation, next being the position after the instruction
+-- what an operation leaves and whether it halts, or the check that stops it, where `next` is the
+-- position after the instruction
 unfoldable pub effect : Operation → Decoded → ℕ → Works → Result (Works × Course) Check
 effect (OnFields operation) d next w =
     and_then (worked operation w.storage (filled d w.registers)) (λ done.
@@ -157,11 +165,11 @@ effect StoreB d next w =
 effect Halt d next w = Ok (record w { registers = after_halt d next w.registers }, Halts)
 effect NoOperation d next w = Ok (record w { registers = at next w.registers }, GoesOn)
 
--- the position after an instruction, modulo 16000
+-- the position after an instruction of so many characters, modulo 16000
 abbrev pub next_of : ℕ → ℕ → ℕ
 next_of i count = (i + count) % 16000
 
--- the instruction at register I: the first check that applies, or its effect
+-- what the instruction at the I register leaves, or the first check that stops it
 unfoldable pub attempt : Works → Result (Works × Course) Check
 attempt w =
     require (nat_lt w.registers.i (length w.storage)) Address
@@ -169,6 +177,7 @@ attempt w =
     and_then (decoded w.storage w.registers codes) (λ d.
     effect d.operation d (next_of w.registers.i (length codes)) w)))
 
--- why an instruction was given up: its own check, or no memory for a card or a line that it would make
+-- why an instruction was given up: the check that stops it, or no memory for a card or a line that
+-- it makes
 abbrev pub Fails : Fault → Works → Result (Works × Course) Check → Type 0
 Fails fault w outcome = GivesUp (λ done. Makes w.units done.0.units) fault outcome

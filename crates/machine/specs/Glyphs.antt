@@ -1,4 +1,4 @@
--- characters by their glyphs
+-- the characters by their glyphs
 use Rattle.std.specs.Prelude.{ℕ, ◌==◌, List, Bool}
 use Rattle.bcd.specs.Table.{glyph_of, byte}
 

@@ -1,4 +1,4 @@
--- whole runs of the machine
+-- the machine, its steps and its runs
 use Rattle.std.specs.Prelude.{ℕ, zero, suc, ◌≡◌, ◌<◌, ◌+◌, ◌-◌, ◌&&◌, ◌^◌, min, Bool, true, false, if◌then◌else◌, Result, Ok, Err, List, [], ◌∷◌, None, take}
 use Rattle.cards.specs.declared.decks.Card.{Card}
 use Rattle.core_store.specs.Storage.{Storage, blank_storage, put_codes, with_mark, positions_of}
@@ -19,42 +19,46 @@ use Rattle.units.specs.Switches.{seven}
 use Rattle.units.specs.Units.{Makes}
 use Rattle.machine.specs.Effect.{Works, attempt}
 
--- what a machine works on, and how it stands
+-- a machine: its storage, registers and units, and its standing
 pub record State : Type 0 where
   pub works : Works
   pub standing : Standing
 
+-- whether a machine runs
 abbrev pub is_running : Standing → Bool
 is_running Running = true
 is_running Halted = false
 is_running (Checked check) = false
 
+-- whether a machine is at a halt
 abbrev pub is_halted : Standing → Bool
 is_halted Running = false
 is_halted Halted = true
 is_halted (Checked check) = false
 
+-- whether a machine is at a check
 abbrev pub is_checked : Standing → Bool
 is_checked Running = false
 is_checked Halted = false
 is_checked (Checked check) = true
 
+-- the standing after an instruction: at a halt after Halt, else running
 abbrev pub standing_after : Course → Standing
 standing_after GoesOn = Running
 standing_after Halts = Halted
 
--- what a step tells of where the machine then stands
+-- the event of a step, by the standing after it
 abbrev pub event_of : Standing → Event
 event_of Running = Next
 event_of Halted = Halt
 event_of (Checked check) = Stop check
 
--- the characters of a deck's first card
+-- the 80 characters of a deck's first card, none if there is no card
 abbrev pub first_card : List Card → List ℕ
 first_card [] = []
 first_card (card ∷ cards) = card.0
 
--- units that have read the first card of a deck and have made nothing
+-- the units after the load button: the first card was read, and nothing punched or printed
 abbrev pub first_units : List Card → Switches → Units
 first_units deck switches = record {
   hopper = record { deck = deck; taken = 1 };
@@ -63,7 +67,8 @@ first_units deck switches = record {
   switches = seven switches;
 }
 
--- a machine after the load button: the first card is in the read area, marked at its left, and the machine begins there
+-- a machine after the load button: the first card is in the read area with a word mark at 001,
+-- where the machine begins
 abbrev pub loaded : List Card → Size → Switches → State
 loaded deck size switches = record {
   works = record {
@@ -74,11 +79,11 @@ loaded deck size switches = record {
   standing = Running;
 }
 
--- a machine at a halt running again with new switches
+-- a machine at a halt, started again with these switches
 abbrev pub started : State → Switches → State
 started m switches = record m { works = record m.works { units = record m.works.units { switches = seven switches } }; standing = Running }
 
--- a machine back at a checkpoint: what it has made since is taken away
+-- a machine set back to a checkpoint, without the cards and lines that it has made since
 abbrev pub restored : State → Storage → Checkpoint → State
 restored m storage c = record {
   works = record {
@@ -93,38 +98,40 @@ restored m storage c = record {
   standing = c.standing;
 }
 
--- a check changes nothing but the standing
+-- a machine after an attempt; a check changes nothing but its standing
 abbrev pub attempted : State → Result (Works × Course) Check → State
 attempted m (Ok (works, course)) = record { works = works; standing = standing_after course }
 attempted m (Err check) = record m { standing = Checked check }
 
--- one attempted instruction; a machine at a halt or check stays as it is
+-- a machine after one step: an instruction attempted if it is running, else nothing
 unfoldable pub step : State → State
 step m = if is_running m.standing then attempted m (attempt m.works) else m
 
--- so many steps
+-- a machine after so many steps
 unfoldable pub after : State → ℕ → State
 after m zero = m
 after m (suc count) = after (step m) count
 
--- how many of them are attempts, from a running machine
+-- how many of so many steps are attempts of an instruction
 unfoldable pub attempts : State → ℕ → ℕ
 attempts m zero = 0
 attempts m (suc count) = (if is_running m.standing then 1 else 0) + attempts (step m) count
 
--- the same without one that ended in a check
+-- how many instructions are executed in so many steps: the attempts without one that ended in a
+-- check
 unfoldable pub executed : State → ℕ → ℕ
 executed m count = attempts m count - (if is_running m.standing && is_checked (after m count).standing then 1 else 0)
 
+-- the lines that a machine has printed
 abbrev pub lines_of : State → List Line
 lines_of m = m.works.units.printer.lines
 
--- a count that rises and stays at the greatest that 64 bits hold
+-- a count risen by so many, which stays at the greatest that 64 bits hold
 abbrev pub risen : ℕ → ℕ → ℕ
 risen ticks more = ticks + min more (2 ^ 64 - 1 - ticks)
 
--- a run that was given up for want of memory: some instructions were done before the one that makes a card or a line, and
--- the meter has ticked once for each of them
+-- a run given up for want of memory, at an instruction that makes a card or a line; the meter has
+-- risen by the instructions before it
 pub record IsGivenUp (m : State) (limit old_ticks ticks : ℕ) : Type 0 where
   pub done : ℕ
   pub below : done < limit

@@ -1,4 +1,4 @@
--- how an instruction is read
+-- how an instruction is read from storage
 use Rattle.std.specs.Prelude.{ℕ, ◌≡◌, ◌≤◌, ◌⊎◌, ◌+◌, ◌-◌, ◌<◌, ◌==◌, ◌||◌, nat_le, nat_lt, min, List, length, Bool, true, false, if◌then◌else◌, Option, Some, None, Result, Ok, unwrap_or, slice_index, codes}
 use Rattle.std.specs.Option.{option_map, option_or}
 use Rattle.core_store.specs.Storage.{Storage, IsLeastMark, is_marked, code_at, least_mark, codes_from}
@@ -19,12 +19,12 @@ use Rattle.units.specs.Carriages.{order_of}
 use Rattle.machine.specs.Glyphs.{is_glyph}
 use Rattle.machine.specs.Branches.{condition_of, test_of}
 
--- a count of characters from i on that does not pass the end of the storage
+-- a count of characters from position i on, if that many positions are in storage
 abbrev pub ending_in : Storage → ℕ → ℕ → Option ℕ
 ending_in s i count = if nat_le (i + count) (length s) then Some count else None
 
--- how many characters the instruction at i has: up to the next mark among eight, and for a comma seven at most, which
--- needs no mark behind them
+-- how many characters the instruction at i has: those before the next word mark, at most eight; Set
+-- Word Mark, `,`, has at most seven and requires no mark after them
 unfoldable pub word_length : Storage → ℕ → Option ℕ
 word_length s i =
     if is_marked s i then
@@ -32,25 +32,25 @@ word_length s i =
     else option_map (λ end. end - i) (least_mark s (i + 1) 8))
     else None
 
--- where an instruction ends: before the first mark among the eight positions after its own; one with a comma has seven
--- characters at most, and exactly seven where no mark comes earlier
+-- where an instruction ends: before the first word mark in the next eight positions; Set Word Mark,
+-- `,`, has seven characters if no mark comes earlier
 abbrev pub EndsAt : Bool → Storage → ℕ → ℕ → Type 0
 EndsAt false s i count = IsLeastMark s (i + 1) 8 (i + count)
 EndsAt true s i count =
     ((count < 7) × IsLeastMark s (i + 1) 8 (i + count))
     ⊎ ((count ≡ 7) × ((p : ℕ) → i < p → p < i + 7 → is_marked s p ≡ false))
 
--- an instruction of so many characters begins at i and ends inside the storage
+-- an instruction of so many characters begins at i and ends within storage
 pub record IsInstruction (s : Storage) (i count : ℕ) : Type 0 where
   pub begins : is_marked s i ≡ true
   pub ends : EndsAt (is_glyph (code_at s i) (codes ",")) s i count
   pub inside : i + count ≤ length s
 
--- the characters of the instruction at i
+-- the characters of the instruction at i, if there is one
 unfoldable pub word : Storage → ℕ → Option (List ℕ)
 word s i = option_map (codes_from s i) (word_length s i)
 
--- the operation on fields that a character names
+-- the operation on fields that a character names, if it names one
 unfoldable pub field_operation_of : ℕ → Option FieldOperation
 field_operation_of code =
     if is_glyph code (codes "A") then Some Add
@@ -68,11 +68,11 @@ field_operation_of code =
     else (if is_glyph code (codes ",") then Some SetMark
     else (if is_glyph code (codes ")") then Some ClearMark else None)))))))))))))
 
--- units by the sum of their numbers: the reader is 1, the printer 2, the punch 4
+-- the units of an operation, by the sum of their numbers: reader 1, printer 2, punch 4
 abbrev pub devices : ℕ → Devices
 devices sum = record { 0 = sum }
 
--- any other operation that a character names
+-- the operation not on fields that a character names, if it names one
 unfoldable pub other_operation_of : ℕ → Option Operation
 other_operation_of code =
     if is_glyph code (codes "/") then Some ClearStorage
@@ -91,7 +91,7 @@ other_operation_of code =
     else (if is_glyph code (codes ".") then Some Halt
     else (if is_glyph code (codes "N") then Some NoOperation else None))))))))))))))
 
--- the operation that an instruction's first character names
+-- the operation that an instruction's first character names, if it names one
 unfoldable pub operation_of : ℕ → Option Operation
 operation_of code = option_or (option_map (λ operation. OnFields operation) (field_operation_of code)) (other_operation_of code)
 
@@ -125,8 +125,8 @@ has_form StoreB count = count == 4
 has_form Halt count = count == 1 || count == 4
 has_form NoOperation count = count == 1 || (count == 2 || (count == 4 || (count == 5 || (count == 7 || count == 8))))
 
--- what the last character of a form says: the condition of a branch of five, the character that one of eight looks for,
--- the test of a branch on word mark or zone, or the order to the carriage. Nothing where it lists none such
+-- what an instruction's last character means by operation and length: the condition or test of a
+-- branch, the character it compares, an order to the carriage, or none
 unfoldable pub modifier_of : Operation → ℕ → ℕ → Option Modifier
 modifier_of Branch count last =
     if count == 5 then option_map (λ condition. OnCondition condition) (condition_of last)
@@ -135,20 +135,22 @@ modifier_of BranchOnMarkOrZone count last = option_map (λ test. OnTest test) (t
 modifier_of MoveCarriage count last = option_map (λ order. ByOrder order) (order_of last)
 modifier_of _ count last = Some Plain
 
--- how many addresses a form of so many characters holds
+-- how many addresses an instruction of so many characters has
 abbrev pub address_count : ℕ → ℕ
 address_count count = if nat_lt count 4 then 0 else (if nat_lt count 7 then 1 else 2)
 
--- how many of them are read: a no operation reads none
+-- how many addresses of an instruction are read: those that it has, but of No Operation none
 unfoldable pub addresses_in : Operation → ℕ → ℕ
 addresses_in NoOperation count = 0
 addresses_in _ count = address_count count
 
--- the position that the three characters from a place of the instruction on stand for
+-- the position that the three address characters from this place of the instruction on name, or the
+-- check
 abbrev pub operand_at : Storage → List ℕ → ℕ → Result ℕ Check
 operand_at s codes place = operand s (slice_index codes place) (slice_index codes (place + 1)) (slice_index codes (place + 2))
 
--- where the operation works: at the registers A and B where no address stands, both at a single address, else at the two
+-- the addresses that an operation works at: the registers A and B if the instruction has none, a
+-- single one for both, else its two
 unfoldable pub operands_of : Storage → ℕ → Registers → List ℕ → Result (ℕ × ℕ) Check
 operands_of s count r codes =
     if count == 0 then Ok (r.a, r.b)
@@ -156,7 +158,8 @@ operands_of s count r codes =
     if count == 1 then Ok (first, first)
     else and_then (operand_at s codes 4) (λ second. Ok (first, second)))
 
--- an instruction of so many characters: an unknown operation, form or last character is told before an address at fault
+-- an instruction of so many characters, decoded, or its check: an unknown operation, length or last
+-- character before a wrong address
 unfoldable pub decoded_of : Storage → ℕ → Registers → List ℕ → Result Decoded Check
 decoded_of s count r codes =
     find_or (operation_of (slice_index codes 0)) Instruction (λ operation.
@@ -165,10 +168,11 @@ decoded_of s count r codes =
     and_then (operands_of s (addresses_in operation count) r codes) (λ operands.
     Ok (record { operation = operation; length = count; a = operands.0; b = operands.1; modifier = modifier })))))
 
+-- an instruction's characters, decoded, or the check
 abbrev pub decoded : Storage → Registers → List ℕ → Result Decoded Check
 decoded s r codes = decoded_of s (length codes) r codes
 
--- a modifier that looks at the position B wants two addresses
+-- a modifier that tests the position B requires an instruction with two addresses
 abbrev pub WantsTwo : Modifier → ℕ → Type 0
 WantsTwo Plain count = Unit {0}
 WantsTwo (OnCondition condition) count = Unit {0}
@@ -176,7 +180,7 @@ WantsTwo (OnCharacter code) count = 1 < count
 WantsTwo (OnTest test) count = 1 < count
 WantsTwo (ByOrder order) count = Unit {0}
 
--- where a modifier looks at the position B, that lies below a size
+-- a modifier that tests the position B does so within a storage of this size
 abbrev pub LooksInside : Modifier → ℕ → ℕ → Type 0
 LooksInside Plain b size = Unit {0}
 LooksInside (OnCondition condition) b size = Unit {0}

@@ -1,4 +1,4 @@
--- what editing makes of a control field and the data
+-- the operation Move Characters and Edit
 use Rattle.std.specs.Prelude.{ℕ, suc, ◌≡◌, ◌<◌, ◌≤◌, ◌+◌, ◌-◌, nat_lt, nat_le, not, ◌&&◌, ◌==◌, min, max, reverse, drop, slice_index, List, [], ◌∷◌, length, Bool, false, if◌then◌else◌, Result, Ok, codes}
 use Rattle.bcd.specs.Table.{zone_of}
 use Rattle.core_store.specs.Storage.{Storage, field_length, codes_ending, put_codes, with_mark}
@@ -11,17 +11,17 @@ use Rattle.moves.specs.declared.blanking.Stop.TheVariants.{Digit}
 use Rattle.moves.specs.Characters.{is_any, blank, bare_units, from_right}
 use Rattle.moves.specs.Blanked.{ends, leading, blanked}
 
--- a digit place of a control is a blank or a `0`
+-- whether a character of the control field is a digit place: a blank or a `0`
 unfoldable pub is_place : ℕ → Bool
 is_place code = is_any (codes "0 ") code
 
--- how many digit places a control has
+-- how many digit places a control field has
 unfoldable pub places : List ℕ → ℕ
 places [] = 0
 places (code ∷ codes) = if is_place code then suc (places codes) else places codes
 
--- what is made of a character of the control with so many digit places to its right: minus is the sign of the amount,
--- count how many characters the amount has, and digit the one for the next place
+-- the edited character for one of the control field, by the amount's sign and length, the number of
+-- digit places to its right, and the digit for its place
 unfoldable pub filled_code : Bool → ℕ → ℕ → ℕ → ℕ → ℕ
 filled_code minus count right digit code =
     if is_place code then digit
@@ -30,31 +30,32 @@ filled_code minus count right digit code =
     else (if is_any (codes ",") code && nat_le count right then blank
     else code)))
 
--- the control with the amount in its digit places, counted from the right
+-- the control field with the amount in its digit places, counted from the right
 unfoldable pub filled : List ℕ → List ℕ → Bool → List ℕ
 filled [] amount minus = []
 filled (code ∷ control) amount minus =
     filled_code minus (length amount) (places control) (from_right amount (places control)) code ∷ filled control amount minus
 
--- how many characters of a control stand up to its rightmost `0`; none where it has no `0`
+-- how many characters a control field has up to and including its rightmost `0`, none if it has no
+-- `0`
 unfoldable pub through_zero : List ℕ → ℕ
 through_zero control = length control - leading (is_any (codes "0")) (reverse control)
 
--- the control with the amount, and blank for each `0` and comma up to the place of the rightmost `0`, but none from the
--- first digit of 1 to 9 on
+-- the control field with the amount, and with a blank for each `0` and comma up to the control
+-- field's rightmost `0`, but not after a digit 1 to 9
 unfoldable pub edited : List ℕ → List ℕ → Bool → List ℕ
 edited control amount minus = blanked (min (through_zero control) (leading (ends Digit) (filled control amount minus))) (filled control amount minus)
 
--- an amount is minus where the zone of its units character is B alone
+-- whether an amount is minus: the zone of its units character is B alone
 abbrev pub is_minus : List ℕ → Bool
 is_minus amount = is_minus_zone (zone_of (from_right amount 0))
 
--- whether the a_count positions up to a and the b_count up to b have one in common
+-- whether the a_count positions up to a and the b_count positions up to b have one in common
 abbrev pub is_sharing : ℕ → ℕ → ℕ → ℕ → Bool
 is_sharing a a_count b b_count = nat_lt a (b + a_count) && nat_lt b (a + b_count)
 
--- the data at A, an amount, edited by the control field at B, whose mark is cleared: as many characters are read as the
--- control has digit places, at least one, or fewer where a mark ends them
+-- storage and registers after the amount at A is edited by the control field at B, whose mark is
+-- cleared; as many characters are read as there are digit places, at least one, or up to a mark
 unfoldable pub field_edited : Storage → Registers → Result (Storage × Registers) Check
 field_edited s r =
     require (are_inside s r.a r.b) Address
@@ -68,12 +69,12 @@ field_edited s r =
       lowered_by r a_count b_count,
     )))))
 
--- how many digit places stand to the right of a place of the control
+-- how many digit places are to the right of this place of a control field
 abbrev pub places_after : List ℕ → ℕ → ℕ
 places_after control place = places (drop (place + 1) control)
 
--- at a digit place with so many others to its right stands the character of the amount with as many to its right, or
--- blank where the amount has no more
+-- at a digit place is the character of the amount that has as many characters to its right as the
+-- place has digit places, or a blank if there is none
 pub record IsShown (control amount : List ℕ) (minus : Bool) (place : ℕ) : Type 0 where
   pub shown : places_after control place < length amount →
       slice_index (filled control amount minus) place ≡ slice_index amount (length amount - 1 - places_after control place)

@@ -1,4 +1,4 @@
--- a field laid down with its word mark
+-- the operation Load Characters to A Word Mark
 use Rattle.std.specs.Prelude.{ℕ, ◌≡◌, ◌<◌, ◌≤◌, ◌+◌, ◌-◌, nat_le, not, true, false, Result, Ok}
 use Rattle.core_store.specs.Storage.{Storage, cell_at, code_at, is_marked, put_cells, cells_ending, field_length}
 use Rattle.core_store.specs.Operands.{are_inside, is_overlapping, lowered_by}
@@ -7,8 +7,8 @@ use Rattle.core_store.specs.declared.registers.Registers.{Registers}
 use Rattle.core_store.specs.declared.registers.Check.{Check}
 use Rattle.core_store.specs.declared.registers.Check.TheVariants.{Address}
 
--- the field at A laid down at B with its mark, and no other mark among its positions: it must not pass position 0, and
--- must not write over its mark before that is met
+-- storage and registers after the field at A is loaded at B with its word mark and no other; it
+-- must not pass position 0, nor write over its mark before that is read
 unfoldable pub field_loaded : Storage → Registers → Result (Storage × Registers) Check
 field_loaded s r =
     require (are_inside s r.a r.b) Address
@@ -17,7 +17,7 @@ field_loaded s r =
     (require (not (is_overlapping r.a r.b count)) Address
     (Ok (put_cells s (r.b + 1 - count) (cells_ending s r.a count), lowered_by r count count)))))
 
--- a storage where so many characters of the field at a were laid down at b, position by position
+-- a storage in which so many characters of the field at a were loaded at b, position by position
 pub record IsLoaded (s : Storage) (a b count : ℕ) (new : Storage) : Type 0 where
   pub codes : (i : ℕ) → i < count → code_at new (b - i) ≡ code_at s (a - i)
   pub first : is_marked new (b + 1 - count) ≡ true

@@ -1,4 +1,4 @@
--- word marks set and cleared, and storage cleared
+-- the operations Set Word Mark, Clear Word Mark and Clear Storage
 use Rattle.std.specs.Prelude.{ℕ, ◌+◌, ◌-◌, ◌*◌, ◌/◌, nat_lt, length, Bool, replicate, Result, Ok}
 use Rattle.core_store.specs.Storage.{Storage, with_mark, put_cells, blank_cell}
 use Rattle.core_store.specs.Operands.{are_inside, lowered, lowered_by}
@@ -7,16 +7,17 @@ use Rattle.core_store.specs.declared.registers.Registers.{Registers}
 use Rattle.core_store.specs.declared.registers.Check.{Check}
 use Rattle.core_store.specs.declared.registers.Check.TheVariants.{Address}
 
--- word marks set at A and B, or cleared
+-- storage and registers after word marks are set at A and B, or cleared
 unfoldable pub marks_put : Bool → Storage → Registers → Result (Storage × Registers) Check
 marks_put marked s r =
     require (are_inside s r.a r.b) Address (Ok (with_mark (with_mark s r.a marked) r.b marked, lowered_by r 1 1))
 
--- the nearest hundred not above a position
+-- the nearest hundred at or below a position
 abbrev pub hundred_of : ℕ → ℕ
 hundred_of p = p / 100 * 100
 
--- blanks without marks from B down to the nearest hundred
+-- storage and registers after Clear Storage: blanks without word marks from B down to the nearest
+-- hundred
 unfoldable pub storage_cleared : Storage → Registers → Result (Storage × Registers) Check
 storage_cleared s r =
     require (nat_lt r.b (length s)) Address

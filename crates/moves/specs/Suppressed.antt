@@ -1,4 +1,4 @@
--- a field moved without its leading zeros
+-- the operation Move Characters and Suppress Zeros
 use Rattle.std.specs.Prelude.{ℕ, zero, suc, ◌+◌, ◌-◌, nat_le, not, List, false, Result, Ok}
 use Rattle.core_store.specs.Storage.{Storage, field_length, codes_ending, put_codes, with_mark}
 use Rattle.core_store.specs.Operands.{are_inside, is_overlapping, lowered_by}
@@ -10,16 +10,18 @@ use Rattle.moves.specs.declared.blanking.Stop.TheVariants.{Other}
 use Rattle.moves.specs.Characters.{bare_units}
 use Rattle.moves.specs.Blanked.{ends, leading, blanked}
 
--- the storage with the marks of the count positions from first on cleared
+-- the storage with the word marks of the count positions from the first on cleared
 unfoldable pub unmarked : Storage → ℕ → ℕ → Storage
 unmarked s first zero = s
 unmarked s first (suc count) = with_mark (unmarked s (first + 1) count) first false
 
--- the characters with each `0`, blank and comma blank up to the first other character
+-- the characters with a blank for each `0` and comma before the first that is neither of these nor
+-- a blank
 unfoldable pub suppressed : List ℕ → List ℕ
 suppressed codes = blanked (leading (ends Other) codes) codes
 
--- the field at A moved to B, its units without zone, and its leading zeros suppressed; marks at B are cleared
+-- storage and registers after the field at A is moved to B without the zone of its units and
+-- without leading zeros; word marks at B are cleared
 unfoldable pub zeros_suppressed : Storage → Registers → Result (Storage × Registers) Check
 zeros_suppressed s r =
     require (are_inside s r.a r.b) Address

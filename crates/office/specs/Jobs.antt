@@ -1,4 +1,4 @@
--- jobs, and where their machines are
+-- jobs, and the states of their machines
 use Rattle.std.specs.Prelude.{◌≡◌, ℕ, ◌+◌, ◌<◌, ◌≤◌, Bool, List, [], ◌∷◌, ◌++◌, length, map, take}
 use Rattle.std.specs.List.{All, sum_by}
 use Rattle.cards.specs.declared.decks.Card.{Card}
@@ -20,7 +20,7 @@ use Rattle.office.specs.declared.commands.Kind.{Kind}
 use Rattle.office.specs.declared.commands.Kind.TheVariants.{Object, Autocoder}
 use Rattle.office.specs.declared.stretches.Stretch.{Stretch}
 
--- what was handed in, the operator's starts, and two flags
+-- a job: what the customer handed in, its stretches, and its two flags
 pub record Job : Type 0 where
   pub kind : Kind
   pub size : Size
@@ -33,64 +33,66 @@ pub record Job : Type 0 where
 
 -- ---- the deck in the card reader
 
--- an object deck itself, or the cards that load the program of a source and then its data
+-- the cards that are loaded for a deck: an object deck itself, or for a source its loading cards
+-- and then its data
 abbrev pub loaded_of : Kind → List Card → List Card
 loaded_of Object deck = deck
 loaded_of Autocoder deck = runnable_deck deck
 
--- the deck that a job's machine loads
+-- the cards that a job's machine reads
 abbrev pub loaded_deck : Job → List Card
 loaded_deck job = loaded_of job.kind job.deck
 
--- ---- where a job's machine is
+-- ---- the state of a job's machine
 
--- the machine through its stretches: each time it is started with the switches, and runs for what
--- was granted
+-- a machine after these stretches: in each it is started with the stretch's switches, and then runs
+-- for as many instructions as were granted
 unfoldable pub resumed : State → List Stretch → State
 resumed m [] = m
 resumed m (s ∷ stretches) = resumed (after (started m s.switches) s.granted) stretches
 
--- no switch is on
+-- the seven sense switches, all off
 abbrev pub all_off : Switches
 all_off = record { 0 = 0 }
 
--- a job's machine before its first start
+-- a job's machine after the load button, before its first start
 abbrev pub beginning : Job → State
 beginning job = loaded (loaded_deck job) job.size all_off
 
--- where a job's machine is, by its contents and what was granted, and by nothing else
+-- the state of a job's machine, which follows from the job's contents and stretches alone
 abbrev pub picture : Job → State
 picture job = resumed (beginning job) job.stretches
 
--- a job's machine stands at a halt
+-- a job's machine is at a halt
 abbrev pub IsAtHalt : Job → Type 0
 IsAtHalt job = (picture job).standing ≡ Halted
 
 -- ---- what a job is
 
--- how much was granted in all
+-- the number of instructions granted in these stretches together
 abbrev pub granted : List Stretch → ℕ
 granted = sum_by (λ s. s.granted)
 
--- the switches of a stretch are no others than the seven
+-- the switches of a stretch are among the seven
 abbrev pub HasSwitches : Stretch → Type 0
 HasSwitches s = AreSeven s.switches
 
--- the stretches of a job: there is one, and in all not too much is granted
+-- the stretches that a job may have: at least one, all with switches that exist, and in all at most
+-- 1,000,000,000 instructions granted
 pub record AreStretches (stretches : List Stretch) : Type 0 where
   pub begun : 0 < length stretches
   pub switches : All HasSwitches stretches
   pub most : granted stretches ≤ most_granted
 
--- a job with its first n stretches alone
+-- the job as it was with its first n stretches alone
 abbrev pub up_to : ℕ → Job → Job
 up_to n job = record job { stretches = take n job.stretches }
 
--- each stretch but the last ends at a halt
+-- after each stretch but the last, the job's machine is at a halt
 abbrev pub HaltsBetween : Job → Type 0
 HaltsBetween job = (n : ℕ) → 0 < n → n < length job.stretches → IsAtHalt (up_to n job)
 
--- what any job may hold
+-- what holds of each job in an office: its deck, its source and its stretches are ones it may have
 pub record IsJob (job : Job) : Type 0 where
   pub deck : IsDeck job.deck
   pub card : 0 < length job.deck
@@ -101,27 +103,27 @@ pub record IsJob (job : Job) : Type 0 where
 
 -- ---- what changes a job's stretches
 
--- so much more in the last stretch
+-- these stretches, with so many instructions more granted in the last
 abbrev pub granted_more : ℕ → List Stretch → List Stretch
 granted_more limit [] = []
 granted_more limit (s ∷ []) = (record s { granted = s.granted + limit }) ∷ []
 granted_more limit (s ∷ t ∷ stretches) = s ∷ granted_more limit (t ∷ stretches)
 
--- one stretch more, in which nothing is granted yet
+-- these stretches and after them another, with these switches and nothing granted yet
 abbrev pub one_more : Switches → List Stretch → List Stretch
 one_more switches stretches = stretches ++ (record { switches = switches; granted = 0 }) ∷ []
 
--- a job to which so much more was granted
+-- the job, with so many instructions more granted in its last stretch
 abbrev pub sliced_job : ℕ → Job → Job
 sliced_job limit job = record job { stretches = granted_more limit job.stretches }
 
--- a job that was started once more
+-- the job after another start with these switches
 abbrev pub started_job : Switches → Job → Job
 started_job switches job = record job { stretches = one_more switches job.stretches }
 
 -- ---- what a job has made
 
--- the switches of a job's starts
+-- the switches of each start of a job, in order
 abbrev pub switches_of : Job → List Switches
 switches_of job = map (λ s. s.switches) job.stretches
 
@@ -146,22 +148,22 @@ pub record CanRunItsSource (job : Job) : Type 0 where
   pub faultless : IsFaultless (source_of job.deck)
   pub large : size_for (source_of job.deck) ≤ positions_of job.size
 
--- the machine at the start of the program of a deck's source, the data after the source unread
+-- the machine at the start of the program of a deck's source, with the data after the source unread
 abbrev pub program_begun : List Card → Size → Switches → State
 program_begun deck size switches =
     let source : List Card = source_of deck in
     at_the_start (image_for source) (start_for source) (data_of deck) size switches
 
--- a job has run whole from the load button
+-- a job has made what the whole run of its deck makes, begun by the load button
 abbrev pub HasRunFromItsDeck : Job → Type 0
 HasRunFromItsDeck job = HasRunWhole (loaded (loaded_deck job) job.size) job
 
--- a job has run whole from the start of its source's program
+-- a job has made what the whole run of its source makes, begun at the program's start
 abbrev pub HasRunFromItsSource : Job → Type 0
 HasRunFromItsSource job = HasRunWhole (program_begun job.deck job.size) job
 
--- what an office owes each of its jobs: one that stands at a halt has run whole from the load
--- button, and from the start of its program if it can run its source
+-- what holds of each job of an office: at a halt it has run whole from the load button, and from
+-- the start of its program if it can run its source
 abbrev pub RunsWhole : Job → Type 0
 RunsWhole job =
     IsAtHalt job → HasRunFromItsDeck job × (CanRunItsSource job → HasRunFromItsSource job)

@@ -1,4 +1,4 @@
--- a job as its machine's picture and its stretches show it, and what a command makes of it
+-- a job with its machine, and the job that a command makes of it
 use Rattle.std.specs.Prelude.{◌≡◌, ℕ, ◌+◌, ◌&&◌, nat_lt, Bool, true, false, not, List, [], length, Option, Some, None, if◌then◌else◌}
 use Rattle.cards.specs.declared.decks.Card.{Card}
 use Rattle.core_store.specs.declared.sizes.Size.{Size}
@@ -22,14 +22,14 @@ use Rattle.office.specs.declared.refusals.Refusal.TheVariants as refusal
 use Rattle.office.specs.declared.replies.Reply.{Reply}
 use Rattle.office.specs.declared.replies.Reply.TheVariants as reply
 
--- what of a job a command works on; its machine may be anywhere
+-- a job with its machine: the stretches, the flags and the machine's state, which may be any
 pub record Kept : Type 0 where
   pub stretches : List Stretch
   pub held : Bool
   pub collected : Bool
   pub machine : State
 
--- a job with its machine where its grants have left it
+-- a job with its machine in the state that its stretches lead to
 abbrev pub kept_of : Job → Kept
 kept_of job = record {
   stretches = job.stretches;
@@ -38,7 +38,7 @@ kept_of job = record {
   machine = picture job;
 }
 
--- a job whose machine has just loaded a deck
+-- a job just submitted: its machine after the load button with this deck, size and switches
 abbrev pub loaded_kept : List Card → Size → Switches → Kept
 loaded_kept deck size switches = record {
   stretches = one_more (seven switches) [];
@@ -47,24 +47,26 @@ loaded_kept deck size switches = record {
   machine = loaded deck size (seven switches);
 }
 
--- what may be kept of a job, wherever its machine is
+-- the stretches are ones that a job may have, and the machine's state is in range
 pub record IsJobInRange (k : Kept) : Type 0 where
   pub stretches : AreStretches k.stretches
   pub machine : IsInRange k.machine
 
--- ---- how a job stands
+-- ---- the standing of a job
 
--- a standing, with the place of the next instruction or of the one in a check
+-- the standing of a job: running, at a halt with the position of the next instruction, or at a
+-- check with the position of the instruction that met it
 abbrev pub told_at : Standing → ℕ → JobStanding
 told_at standing.Running i = Running
 told_at standing.Halted i = Halted i
 told_at (standing.Checked check) i = Checked check i
 
--- how a machine stands, as it is told
+-- the standing of a job whose machine is in this state
 abbrev pub told : State → JobStanding
 told m = told_at m.standing m.works.registers.i
 
--- what is told of a job: how it stands, its flags, what was granted and what it has made
+-- the summary of a job: its standing, its flags, the instructions granted, and how many cards and
+-- lines it has made
 abbrev pub summary_of : Kept → Summary
 summary_of k = record {
   standing = told k.machine;
@@ -75,13 +77,13 @@ summary_of k = record {
   lines = length (lines_of k.machine);
 }
 
--- the machine has something left to run
+-- whether a job with this standing is running
 abbrev pub goes_on : JobStanding → Bool
 goes_on Running = true
 goes_on (Halted next) = false
 goes_on (Checked check at) = false
 
--- the machine may be started
+-- whether a job with this standing is at a halt, and so may be started
 abbrev pub is_at_halt : JobStanding → Bool
 is_at_halt Running = false
 is_at_halt (Halted next) = true
@@ -89,7 +91,7 @@ is_at_halt (Checked check at) = false
 
 -- ---- what is refused
 
--- a command that only asks
+-- whether a command only asks for something of a job: `Standing`, `Cards` and `Lines`
 abbrev pub is_query : JobCommand → Bool
 is_query (Slice limit) = false
 is_query (Start switches) = false
@@ -100,7 +102,7 @@ is_query Tell = true
 is_query Cards = true
 is_query Lines = true
 
--- a command that is for a job that isn't held
+-- whether a command is refused for a held job: `Slice`, `Start` and `Collect`
 abbrev pub is_for_free : JobCommand → Bool
 is_for_free (Slice limit) = true
 is_for_free (Start switches) = true
@@ -111,18 +113,19 @@ is_for_free Tell = false
 is_for_free Cards = false
 is_for_free Lines = false
 
--- the reason, where the test holds
+-- this refusal if the test holds, else none
 abbrev pub refused_if : Bool → Refusal → Option Refusal
 refused_if true reason = Some reason
 refused_if false reason = None
 
--- why a slice is refused to a job that is free: it doesn't run, or too much would be granted
+-- why a slice is refused for a job that is not held: its machine does not run, or more instructions
+-- would be granted than a job may have
 abbrev pub slice_refusal : ℕ → Summary → Option Refusal
 slice_refusal limit job =
     if not (goes_on job.standing) then Some refusal.NotRunning else
     refused_if (nat_lt most_granted (job.granted + limit)) refusal.TooMuch
 
--- the last tests of each command
+-- why a command is refused by the last of its tests, which each sort of command has for itself
 abbrev pub last_refusal : JobCommand → Summary → Option Refusal
 last_refusal (Slice limit) job = slice_refusal limit job
 last_refusal (Start switches) job = refused_if (not (is_at_halt job.standing)) refusal.NotAtHalt
@@ -133,7 +136,7 @@ last_refusal Tell job = None
 last_refusal Cards job = None
 last_refusal Lines job = None
 
--- the first of these tests that fails; a query is never refused
+-- why a command on a job is refused, by the first test that fails; a query is never refused
 abbrev pub job_refusal : JobCommand → Summary → Option Refusal
 job_refusal c job =
     if is_query c then None else
@@ -143,7 +146,7 @@ job_refusal c job =
 
 -- ---- what a command makes of a job
 
--- a job after a command that isn't refused
+-- a job after a command that is not refused
 abbrev pub changed : JobCommand → Kept → Kept
 changed (Slice limit) k = record k {
   stretches = granted_more limit k.stretches;
@@ -160,7 +163,7 @@ changed Tell k = k
 changed Cards k = k
 changed Lines k = k
 
--- the reply to a command that isn't refused
+-- the reply to a command that is not refused
 abbrev pub answered : JobCommand → Kept → Reply
 answered (Slice limit) k = reply.Ran (executed k.machine limit) (told (after k.machine limit))
 answered (Start switches) k = reply.Started
@@ -171,16 +174,16 @@ answered Tell k = reply.Standing (summary_of k)
 answered Cards k = reply.Cards k.machine.works.units.punch
 answered Lines k = reply.Lines (lines_of k.machine)
 
--- a refusal changes nothing
+-- the job and the reply: a refusal changes nothing and is itself the reply
 abbrev pub taken_unless : JobCommand → Kept → Option Refusal → Kept × Reply
 taken_unless c k (Some reason) = (k, reply.Refused reason)
 taken_unless c k None = (changed c k, answered c k)
 
--- a job after a command, and the reply
+-- a job with its machine after a command, and the reply
 abbrev pub take_kept : JobCommand → Kept → Kept × Reply
 take_kept c k = taken_unless c k (job_refusal c (summary_of k))
 
--- the same change of a job that knows no machine
+-- a job after a command that is not refused, without a machine: its stretches and flags
 abbrev pub changed_job : JobCommand → Job → Job
 changed_job (Slice limit) job = sliced_job limit job
 changed_job (Start switches) job = started_job (seven switches) job
@@ -191,7 +194,7 @@ changed_job Tell job = job
 changed_job Cards job = job
 changed_job Lines job = job
 
--- a refusal changes nothing
+-- a job after a command: a refusal changes nothing
 abbrev pub job_unless : JobCommand → Job → Option Refusal → Job
 job_unless c job (Some reason) = job
 job_unless c job None = changed_job c job
@@ -202,7 +205,7 @@ job_after c job = job_unless c job (job_refusal c (summary_of (kept_of job)))
 
 -- ---- what a command attempts
 
--- the instructions that a command attempts where it isn't refused
+-- how many instructions a command attempts if it is not refused
 abbrev pub attempts_of : JobCommand → Kept → ℕ
 attempts_of (Slice limit) k = attempts k.machine limit
 attempts_of (Start switches) k = 0
@@ -213,12 +216,12 @@ attempts_of Tell k = 0
 attempts_of Cards k = 0
 attempts_of Lines k = 0
 
--- a refused command attempts nothing
+-- how many instructions a command attempts: none if it is refused
 abbrev pub attempts_unless : JobCommand → Kept → Option Refusal → ℕ
 attempts_unless c k (Some reason) = 0
 attempts_unless c k None = attempts_of c k
 
--- how many instructions a command on a job attempts
+-- how many instructions a command on this job attempts
 abbrev pub attempted_on : JobCommand → Kept → ℕ
 attempted_on c k = attempts_unless c k (job_refusal c (summary_of k))
 
@@ -233,9 +236,10 @@ limit_of Tell = 0
 limit_of Cards = 0
 limit_of Lines = 0
 
--- ---- where memory may be wanted
+-- ---- when memory may run out
 
--- a command that makes something: a card or a line, a stretch, or a copy of what was made
+-- a command makes something that takes memory: a card or a line, a stretch, or a copy of what
+-- was made
 abbrev pub MakesOn : JobCommand → Kept → Type 0
 MakesOn (Slice limit) k = Makes k.machine.works.units (after k.machine limit).works.units
 MakesOn (Start switches) k = Unit {0}
@@ -246,7 +250,7 @@ MakesOn Tell k = ⊥
 MakesOn Cards k = Unit {0}
 MakesOn Lines k = Unit {0}
 
--- memory may be wanted by a command that isn't refused and makes something
+-- the command may run out of memory: it is not refused, and makes something that takes memory
 pub record MayWant (c : JobCommand) (k : Kept) : Type 0 where
   pub let_through : job_refusal c (summary_of k) ≡ None
   pub makes : MakesOn c k

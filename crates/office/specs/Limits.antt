@@ -1,7 +1,7 @@
 -- the numbers of the profile
 use Rattle.std.specs.Prelude.{ℕ}
 
--- the longest name of a customer
+-- the most characters of a customer's name
 abbrev pub longest_name : ℕ
 longest_name = 12
 
@@ -9,7 +9,7 @@ longest_name = 12
 abbrev pub largest_number : ℕ
 largest_number = 999999
 
--- the largest limit of a slice
+-- the largest limit of a slice, in instructions
 abbrev pub largest_limit : ℕ
 largest_limit = 2000
 
@@ -17,7 +17,7 @@ largest_limit = 2000
 abbrev pub most_jobs : ℕ
 most_jobs = 200
 
--- the most instructions that are granted to a job, over all its stretches
+-- the most instructions that may be granted to a job, over all its stretches
 abbrev pub most_granted : ℕ
 most_granted = 1000000000
 

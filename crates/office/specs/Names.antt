@@ -1,24 +1,24 @@
--- how customers and jobs are named, and how much a slice may ask for
+-- the names of customers and jobs, and the limit of a slice
 use Rattle.std.specs.Prelude.{ℕ, Bool, List, ◌&&◌, ◌==◌, nat_le, length, codes}
 use Rattle.std.specs.List.{list_all, list_any}
 use Rattle.office.specs.Limits.{longest_name, largest_number, largest_limit}
 
--- a character of a customer's name
+-- whether a byte is a capital letter or a digit, as the characters of a customer's name are
 abbrev pub is_letter_or_digit : ℕ → Bool
 is_letter_or_digit byte = list_any (λ c. c == byte) (codes "ABCDEFGHIJKLMNOPQRSTUVWXYZ0123456789")
 
--- a name has a character at least, and not too many
+-- whether a customer's name may have so many characters: 1 to 12
 abbrev pub is_name_length : ℕ → Bool
 is_name_length length = nat_le 1 length && nat_le length longest_name
 
--- a customer's name is of capital letters and digits
+-- whether this is a customer's name: 1 to 12 capital letters and digits
 abbrev pub is_customer : List ℕ → Bool
 is_customer name = is_name_length (length name) && list_all is_letter_or_digit name
 
--- jobs are numbered from 1 on
+-- whether a job may have this number: 1 to 999,999
 abbrev pub is_number : ℕ → Bool
 is_number number = nat_le 1 number && nat_le number largest_number
 
--- a slice runs one instruction at least
+-- whether a slice may have this limit: 1 to 2,000 instructions
 abbrev pub is_limit : ℕ → Bool
 is_limit limit = nat_le 1 limit && nat_le limit largest_limit

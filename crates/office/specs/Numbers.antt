@@ -1,9 +1,9 @@
--- the numbers by which refusals are told
+-- the numbers of the refusals
 use Rattle.std.specs.Prelude.{ℕ}
 use Rattle.office.specs.declared.refusals.Refusal.{Refusal}
 use Rattle.office.specs.declared.refusals.Refusal.TheVariants.{Customer, Number, Size, Deck, OtherContents, TooManyJobs, Assembly, NoJob, Limit, Held, NotRunning, NotAtHalt, AlreadyHeld, NotHeld, Collected, TooMuch}
 
--- each refusal has a number of its own
+-- the number that a refusal is printed with, 10 to 28; no two refusals have the same
 abbrev pub refusal_number : Refusal → ℕ
 refusal_number Customer = 10
 refusal_number Number = 11

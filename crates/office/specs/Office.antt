@@ -30,19 +30,19 @@ use Rattle.office.specs.declared.replies.Reply.{Reply}
 use Rattle.office.specs.declared.replies.Reply.TheVariants as reply
 use Rattle.office.specs.declared.stretches.Stretch.{Stretch}
 
--- a job by its customer and number
+-- a job with its name: a customer and a number
 pub record Entry : Type 0 where
   pub customer : List ℕ
   pub number : ℕ
   pub job : Job
 
--- the jobs in the order in which they were taken; no two have one name
+-- an office: its jobs in the order in which they were taken; no two have the same name
 abbrev pub Office : Type 0
 Office = List Entry
 
 -- ---- one job among all
 
--- the entry of this name
+-- whether an entry has this name
 abbrev pub is_entry : List ℕ → ℕ → Entry → Bool
 is_entry customer number e = bytes_eq e.customer customer && (e.number == number)
 
@@ -54,59 +54,60 @@ entry_of customer number = find (is_entry customer number)
 abbrev pub job_of : List ℕ → ℕ → Office → Option Job
 job_of customer number office = option_map (λ e. e.job) (entry_of customer number office)
 
--- a customer's own part of the office
+-- a customer's jobs
 abbrev pub own : List ℕ → Office → Office
 own customer = filter (λ e. bytes_eq e.customer customer)
 
--- no job has this name
+-- no job of the office has this name
 abbrev pub IsFree : List ℕ → ℕ → Office → Type 0
 IsFree customer number = AllByRecursion (λ e. is_entry customer number e ≡ false)
 
--- no two jobs have one name
+-- no two jobs of the office have the same name
 abbrev pub AreDistinct : Office → Type 0
 AreDistinct [] = Unit {0}
 AreDistinct (e ∷ office) = IsFree e.customer e.number office × AreDistinct office
 
--- another job in the place of the one of this name
+-- the office with another job in the place of the one of this name
 abbrev pub with_job : List ℕ → ℕ → Job → Office → Office
 with_job customer number job =
     map (λ e. if is_entry customer number e then record e { job = job } else e)
 
 -- ---- a submission
 
--- one job more, after the others
+-- the office with one job more, after the others
 abbrev pub and_job : List ℕ → ℕ → Job → Office → Office
 and_job customer number job office =
     office ++ (record { customer = customer; number = number; job = job }) ∷ []
 
--- the customer has as many jobs as one may have
+-- whether the customer has as many jobs as one may have
 abbrev pub has_most_jobs : List ℕ → Office → Bool
 has_most_jobs customer office = nat_le most_jobs (length (own customer office))
 
--- a job is taken, unless its customer has too many
+-- the office after a new job is added, and the reply: it is refused if its customer has as many
+-- as one may have
 abbrev pub added : List ℕ → ℕ → Office → Job → Office × Reply
 added customer number office job =
     if has_most_jobs customer office then (office, reply.Refused refusal.TooManyJobs) else
     (and_job customer number job office, reply.Taken (length (loaded_deck job)))
 
--- a submission, where this is its job or why there is none
+-- the office after a submission under a free name, and the reply, by its job or its refusal
 abbrev pub submitted_as : List ℕ → ℕ → Office → Result Job Refusal → Office × Reply
 submitted_as customer number office (Ok job) = added customer number office job
 submitted_as customer number office (Err reason) = (office, reply.Refused reason)
 
--- the switches of the submission are those of the first stretch
+-- whether the first stretch has these switches
 abbrev pub began_with : Switches → List Stretch → Bool
 began_with switches [] = false
 began_with switches (s ∷ stretches) = s.switches.0 == switches.0
 
--- the kinds are one
+-- whether two kinds are the same
 abbrev pub is_same_kind : Kind → Kind → Bool
 is_same_kind Object Object = true
 is_same_kind Object Autocoder = false
 is_same_kind Autocoder Object = false
 is_same_kind Autocoder Autocoder = true
 
--- the job was submitted with these contents
+-- whether the job was submitted with these contents
 abbrev pub is_of : Contents → Job → Bool
 is_of contents job =
     is_same_kind job.kind contents.kind
@@ -114,13 +115,14 @@ is_of contents job =
     && began_with (seven contents.switches) job.stretches
     && bytes_eq (deck_bytes job.deck) (deck_bytes contents.deck)
 
--- the reply to a submission of a name that is taken: that of the first, for equal contents
+-- the reply to a submission under a name that a job has: the first reply again if the contents are
+-- the same, else a refusal
 abbrev pub repeated : Contents → Job → Reply
 repeated contents job =
     if is_of contents job then reply.Taken (length (loaded_deck job)) else
     reply.Refused refusal.OtherContents
 
--- a submission, where this is the job of that name so far
+-- the office after a submission, and the reply, by the job that has the name already, if any
 abbrev pub submitted : List ℕ → ℕ → Contents → Office → Option Job → Office × Reply
 submitted customer number contents office None =
     submitted_as customer number office (job_or_refusal contents)
@@ -128,7 +130,7 @@ submitted customer number contents office (Some job) = (office, repeated content
 
 -- ---- a command on a job
 
--- a command, where this is the job of that name
+-- the office after a command on a job, and the reply, by the job of that name, if any
 abbrev pub commanded : List ℕ → ℕ → JobCommand → Office → Option Job → Office × Reply
 commanded customer number c office None = (office, reply.Refused refusal.NoJob)
 commanded customer number c office (Some job) =
@@ -136,7 +138,7 @@ commanded customer number c office (Some job) =
 
 -- ---- lists of jobs
 
--- what the list of a customer's jobs shows of one
+-- a row of the list of a customer's jobs: number, flags and standing
 abbrev pub job_line : Entry → JobLine
 job_line e = record {
   number = e.number;
@@ -145,19 +147,19 @@ job_line e = record {
   standing = told (picture e.job);
 }
 
--- by number alone
+-- two jobs compared by their numbers
 abbrev pub by_number : Entry → Entry → Ordering
 by_number a b = nat_cmp a.number b.number
 
--- a customer's jobs, by number
+-- the list of a customer's jobs, in the order of their numbers
 abbrev pub jobs_told : List ℕ → Office → List JobLine
 jobs_told customer office = map job_line (in_order by_number (own customer office))
 
--- what the queue shows of a job
+-- a row of the queue: the job's customer and number
 abbrev pub queued_job : Entry → QueuedJob
 queued_job e = record { customer = e.customer; number = e.number }
 
--- by the bytes of the customer, and then by number
+-- two jobs compared by the bytes of their customers, and then by their numbers
 abbrev pub by_name : Entry → Entry → Ordering
 by_name a b = ordering_then (slice_cmp nat_cmp a.customer b.customer) (nat_cmp a.number b.number)
 
@@ -165,34 +167,34 @@ by_name a b = ordering_then (slice_cmp nat_cmp a.customer b.customer) (nat_cmp a
 abbrev pub free_jobs : Office → Office
 free_jobs = filter (λ e. not e.job.held)
 
--- the machine of a job has something left to run
+-- whether the job's machine is running
 abbrev pub runs : Entry → Bool
 runs e = is_running (picture e.job).standing
 
--- the jobs that are not held, by name, and of these the running
+-- the queue: the jobs that are running and not held, in the order of their names
 abbrev pub queue_told : Office → List QueuedJob
 queue_told office = map queued_job (filter runs (in_order by_name (free_jobs office)))
 
 -- ---- any command
 
--- a name that no job can have
+-- why no job can have this name: its customer or its number is not a valid one
 abbrev pub name_refusal : List ℕ → ℕ → Option Refusal
 name_refusal customer number =
     if not (is_customer customer) then Some refusal.Customer else
     if not (is_number number) then Some refusal.Number else
     None
 
--- a limit that no slice can have, after what is refused of the name
+-- why a command is refused for its name, or else for a slice's limit out of range
 abbrev pub limit_refusal : JobCommand → Option Refusal → Option Refusal
 limit_refusal c (Some reason) = Some reason
 limit_refusal (Slice limit) None = if is_limit limit then None else Some refusal.Limit
 limit_refusal c None = None
 
--- a name that no customer can have
+-- why no customer can have this name
 abbrev pub customer_refusal : List ℕ → Option Refusal
 customer_refusal customer = if is_customer customer then None else Some refusal.Customer
 
--- what is refused before any job is looked at
+-- why a command is refused before any job is looked at
 abbrev pub early_refusal : Command → Option Refusal
 early_refusal (Submit customer number contents) = name_refusal (string_bytes customer) number
 early_refusal (OnJob customer number c) =
@@ -200,7 +202,7 @@ early_refusal (OnJob customer number c) =
 early_refusal (Jobs customer) = customer_refusal (string_bytes customer)
 early_refusal Queue = None
 
--- a command that is not refused so early
+-- the office after a command that is not refused early, and the reply
 abbrev pub served : Command → Office → Office × Reply
 served (Submit customer number contents) office =
     let name : List ℕ = string_bytes customer in
@@ -211,7 +213,7 @@ served (OnJob customer number c) office =
 served (Jobs customer) office = (office, reply.Jobs (jobs_told (string_bytes customer) office))
 served Queue office = (office, reply.Queue (queue_told office))
 
--- a refusal changes nothing
+-- the office and the reply: an early refusal changes nothing
 abbrev pub taken : Command → Office → Option Refusal → Office × Reply
 taken command office (Some reason) = (office, reply.Refused reason)
 taken command office None = served command office
@@ -222,7 +224,7 @@ take command office = taken command office (early_refusal command)
 
 -- ---- many commands
 
--- what is left at last, and this reply before the others
+-- the office and the replies of the later commands, with this reply put first
 abbrev pub replied_first : Reply → Office × List Reply → Office × List Reply
 replied_first reply rest = (rest.0, reply ∷ rest.1)
 
@@ -233,7 +235,7 @@ fold (command ∷ commands) office =
     let done : Office × Reply = take command office in
     replied_first done.1 (fold commands done.0)
 
--- an office after a beginning of the commands that holds every acknowledged one
+-- this is the office after a beginning of the commands that holds every acknowledged one
 abbrev pub IsLeft : Office → List Command → ℕ → Office → Type 0
 IsLeft office commands acknowledged left =
     (taken : ℕ) × (acknowledged ≤ taken) × (taken ≤ length commands)
@@ -241,12 +243,12 @@ IsLeft office commands acknowledged left =
 
 -- ---- what a command attempts
 
--- what a command on a job attempts, if there is such a job
+-- how many instructions a command on this job attempts, none if there is no job
 abbrev pub attempted_of : JobCommand → Option Job → ℕ
 attempted_of c None = 0
 attempted_of c (Some job) = attempted_on c (kept_of job)
 
--- what a command that is not refused early attempts
+-- how many instructions a command attempts if it is not refused early
 abbrev pub attempted_by : Command → Office → ℕ
 attempted_by (Submit customer number contents) office = 0
 attempted_by (OnJob customer number c) office =
@@ -254,12 +256,12 @@ attempted_by (OnJob customer number c) office =
 attempted_by (Jobs customer) office = 0
 attempted_by Queue office = 0
 
--- a refused command attempts nothing
+-- how many instructions a command attempts: none if it is refused early
 abbrev pub attempted_unless : Command → Office → Option Refusal → ℕ
 attempted_unless command office (Some reason) = 0
 attempted_unless command office None = attempted_by command office
 
--- how many instructions a command attempts
+-- how many instructions a command attempts in this office
 abbrev pub attempted : Command → Office → ℕ
 attempted command office = attempted_unless command office (early_refusal command)
 

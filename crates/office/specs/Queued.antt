@@ -1,7 +1,7 @@
--- what the queue shows of a job
+-- a row of the queue
 use Rattle.std.specs.Prelude.{ℕ, List}
 
--- a job by its customer and number
+-- a job in the queue: its customer and number
 pub record QueuedJob : Type 0 where
   pub customer : List ℕ
   pub number : ℕ

@@ -4,18 +4,18 @@ use Rattle.office.specs.declared.commands.Command.{Command}
 use Rattle.office.specs.declared.commands.Command.TheVariants.{Submit, Job as OnJob, Jobs, Queue}
 use Rattle.office.specs.declared.replies.Reply.{Reply}
 
--- the command names this customer; the queue is the operator's
+-- whether a command is of this customer; the queue is asked for by the operator, of no customer
 abbrev pub names : List ℕ → Command → Bool
 names customer (Submit name number contents) = bytes_eq (string_bytes name) customer
 names customer (OnJob name number c) = bytes_eq (string_bytes name) customer
 names customer (Jobs name) = bytes_eq (string_bytes name) customer
 names customer Queue = false
 
--- a customer's commands
+-- the commands of this customer among all, in order
 abbrev pub commands_of : List ℕ → List Command → List Command
 commands_of customer = filter (names customer)
 
--- of the replies to commands, those to a customer's
+-- the replies to this customer's commands, among the replies to all
 abbrev pub replies_to : List ℕ → List Command → List Reply → List Reply
 replies_to customer [] replies = []
 replies_to customer (command ∷ commands) [] = []

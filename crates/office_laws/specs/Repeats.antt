@@ -4,14 +4,14 @@ use Rattle.office.specs.Office.{Office, job_of, has_most_jobs}
 use Rattle.office.specs.declared.commands.Command.{Command}
 use Rattle.office.specs.declared.commands.Command.TheVariants.{Submit, Job as OnJob, Jobs, Queue}
 
--- both commands hand in the same contents, for one name
+-- both commands are submissions of the same contents under the same name
 abbrev pub IsRepeatOf : Command → Command → Type 0
 IsRepeatOf (Submit customer number contents) (Submit again_customer again_number again_contents) =
     (string_bytes again_customer ≡ string_bytes customer) × (again_number ≡ number)
     × (again_contents ≡ contents)
 IsRepeatOf first again = ⊥
 
--- the number that the submission is for was free, and is not any more
+-- the submission's name was free before, and a job has it after
 abbrev pub IsNumberTaken : Command → Office → Office → Type 0
 IsNumberTaken (Submit customer number contents) before after =
     (job_of (string_bytes customer) number before ≡ None)
@@ -20,7 +20,7 @@ IsNumberTaken (OnJob customer number c) before after = ⊥
 IsNumberTaken (Jobs customer) before after = ⊥
 IsNumberTaken Queue before after = ⊥
 
--- the customer had a place left for a job, and has none any more
+-- the submission's customer could have one job more before, and has the most after
 abbrev pub IsLastPlaceTaken : Command → Office → Office → Type 0
 IsLastPlaceTaken (Submit customer number contents) before after =
     (has_most_jobs (string_bytes customer) before ≡ false)

@@ -1,4 +1,4 @@
--- what the commands of a script come to
+-- the run of a script's commands
 use Rattle.std.specs.Prelude.{◌≡◌, ◌≢◌, ◌+◌, ◌<◌, ◌≤◌, ℕ, List, [], ◌∷◌, ◌++◌, Option, length, take as beginning_of}
 use Rattle.std.specs.List.{flat_map, list_any}
 use Rattle.machine.specs.Run.{risen}
@@ -20,7 +20,7 @@ use Rattle.sqlite_trees.specs.declared.store.Store.{Ghosts}
 use Rattle.ledger_tables.specs.Faults.{fault_number}
 use Rattle.ledger_tables.specs.declared.faults.Fault.TheVariants.{Store}
 
--- the lines of replies
+-- the lines of these replies, one after the other
 abbrev pub reply_lines : List Reply → List ℕ
 reply_lines = flat_map reply_line
 
@@ -32,43 +32,44 @@ replies_to count commands office = (fold (beginning_of count commands) office).1
 abbrev pub office_after : ℕ → List Command → Office → Office
 office_after count commands office = (fold (beginning_of count commands) office).0
 
--- how many instructions a list of commands attempts
+-- how many instructions a list of commands attempts together
 unfoldable pub attempted_by_all : List Command → Office → ℕ
 attempted_by_all [] office = 0
 attempted_by_all (command ∷ commands) office =
     attempted command office + attempted_by_all commands (take command office).0
 
--- the meter has ticked at least and at most so many times
+-- the meter has risen from the old count to the new by `fewest` ticks at least and `limit` at most
 pub record RisenWithin (fewest limit old new : ℕ) : Type 0 where
   pub ticks : ℕ
   pub least : fewest ≤ ticks
   pub most : ticks ≤ limit
   pub is : new ≡ risen old ticks
 
--- the first so many commands, and one more where it met a fault
+-- the commands that were given: those that were replied to, and one more if it met a fault
 abbrev pub given_by : ScriptEnd → ℕ → List Command → List Command
 given_by (ended.Fault fault) count commands = beginning_of (count + 1) commands
 given_by other count commands = beginning_of count commands
 
--- the commands up to and with the first that met a fault
+-- the commands up to and including the last that was replied to or that met a fault
 abbrev pub given_to : Scripted → List Command → List Command
 given_to it = given_by it.ended it.acknowledged
 
--- all of the first bytes went out, and a beginning of the others or all; and were counted
+-- the first bytes were written whole and then a beginning of the second, and the bytes were counted
 abbrev pub SendsBegun : List ℕ → List ℕ → Option (List ℕ) → Option (List ℕ) → ℕ → ℕ → Type 0
 SendsBegun front back old new before after =
     (count : ℕ) × (count ≤ length back) × Appends old new (front ++ beginning_of count back)
     × (after ≡ counted (before + (length front + count)))
 
--- what went out: the lines of all replies; after them the line of a fault, or a beginning of it;
--- or a part of the lines where the writer failed
+-- the bytes written: the lines of all replies, and after a fault its line or a beginning of it; or
+-- only a part of the lines, if the writer failed
 abbrev pub HasWritten : ScriptEnd → List ℕ → Option (List ℕ) → Option (List ℕ) → ℕ → ℕ → Type 0
 HasWritten ended.WriteFailed lines old new before after = WritesPart lines old new before after
 HasWritten (ended.Fault fault) lines old new before after =
     SendsBegun lines (fault_line (fault_number fault)) old new before after
 HasWritten other lines old new before after = Sends lines old new before after
 
--- how many commands were replied to
+-- how many commands were replied to: all, fewer if one met a fault, or at most all if the writer
+-- failed
 abbrev pub IsCount : ScriptEnd → ℕ → ℕ → Type 0
 IsCount ended.Whole count all = count ≡ all
 IsCount (ended.Fault fault) count all = count < all
@@ -76,8 +77,8 @@ IsCount ended.WriteFailed count all = count ≤ all
 IsCount other count all = ⊥
 
 module _ {S : Type 0} (g : Ghosts S) (old new : Held S) where
-  -- the replies are those of the office, and unless fault 2 came the tables represent the office
-  -- after the commands that were replied to
+  -- the run in an office: the replies are that office's, their lines were written, and unless fault
+  -- 2 came the tables represent the office after the commands that were replied to
   pub record RunsFrom (commands : List Command) (it : Scripted) (office : Office)
       (written now : Option (List ℕ)) : Type 0 where
     pub count : IsCount it.ended it.acknowledged (length commands)
@@ -88,20 +89,20 @@ module _ {S : Type 0} (g : Ghosts S) (old new : Held S) where
         HasWritten it.ended (reply_lines (replies_to it.acknowledged commands office)) written now
         0 it.sent
 
-  -- .. where the tables represented an office
+  -- if the tables represented an office, this is the run in that office
   abbrev pub Runs : List Command → Scripted → Option (List ℕ) → Option (List ℕ) → Type 0
   Runs commands it written now = HasCleanDisk (state g new) → (office : Office)
       → Stands (state g old) office → RunsFrom commands it office written now
 
-  -- what a crash leaves represents an office after a beginning of the commands that were given,
-  -- which holds all that were replied to
+  -- a crash leaves tables of the office after a beginning of the given commands that holds every
+  -- one that was replied to
   abbrev pub LeavesBeginning : List Command → Scripted → Type 0
   LeavesBeginning commands it = HasCleanDisk (state g new) → (office : Office)
       → Stands (state g old) office → (db : Trees) → (state g new).may_leave db
       → (left : Office) × LeftAs db left × IsLeft office (given_to it commands) it.acknowledged left
 
-  -- the meter has ticked for the commands that were replied to, and for the one that met a fault at
-  -- most as often as it attempts
+  -- the meter has risen by the instructions that the commands with replies attempt, and by at most
+  -- those of the command that met a fault
   abbrev pub Ticks : List Command → Scripted → ℕ → ℕ → Type 0
   Ticks commands it meter risen_meter = HasCleanDisk (state g new) → (office : Office)
       → Stands (state g old) office

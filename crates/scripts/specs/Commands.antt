@@ -1,4 +1,4 @@
--- what a line says: a command, or the heading of a submission
+-- what a line of a script says
 use Rattle.std.specs.Prelude.{ℕ, ◌≡◌, List, [], ◌∷◌, Option, Some, None, codes, string_bytes}
 use Rattle.office.specs.declared.commands.Command.{Command}
 use Rattle.office.specs.declared.commands.Command.TheVariants.{Submit, Job as OnJob, Jobs, Queue}
@@ -10,7 +10,7 @@ use Rattle.scripts.specs.declared.headings.Heading.{Heading}
 use Rattle.scripts.specs.Texts.{AreSwitchesOf, IsCountOf, IsKindOf, IsNumberOf, text_of}
 use Rattle.scripts.specs.Words.{AreWords, words_of}
 
--- the verb of a command on a job, and the words after the job's number
+-- the verb and the words after the job's number are those of this command on a job
 abbrev pub AreJobWords : List ℕ → List (List ℕ) → JobCommand → Type 0
 AreJobWords verb after (Slice limit) =
     (verb ≡ codes "slice") × (word : List ℕ) × (after ≡ word ∷ []) × IsNumberOf word limit
@@ -23,12 +23,12 @@ AreJobWords verb after Standing = (verb ≡ codes "standing") × (after ≡ [])
 AreJobWords verb after Cards = ⊥
 AreJobWords verb after Lines = ⊥
 
--- the command that a verb and the words after the job's number are, or none
+-- the command on a job with this verb and these words after the job's number, or none
 abbrev pub AreFound : List ℕ → List (List ℕ) → Option JobCommand → Type 0
 AreFound verb after (Some command) = AreJobWords verb after command
 AreFound verb after None = (command : JobCommand) → ¬ AreJobWords verb after command
 
--- the words of a command on a job: the verb, the customer, the number, and others
+-- the words of a line are a verb, a customer, a number and the command's other words
 pub record SaysJob (words : List (List ℕ)) (customer : List ℕ) (number : ℕ)
     (command : JobCommand) : Type 0 where
   pub verb : List ℕ
@@ -40,7 +40,7 @@ pub record SaysJob (words : List (List ℕ)) (customer : List ℕ) (number : ℕ
   pub number_is : IsNumberOf numeral number
   pub command_is : AreJobWords verb after command
 
--- the words of a line say a command, other than a submission
+-- the words of a line are this command, which is no submission
 abbrev pub Says : List (List ℕ) → Command → Type 0
 Says words (Submit customer number contents) = ⊥
 Says words (OnJob customer number command) = SaysJob words (string_bytes customer) number command
@@ -48,7 +48,8 @@ Says words (Jobs customer) =
     (name : List ℕ) × (words ≡ codes "jobs" ∷ name ∷ []) × (string_bytes customer ≡ text_of name)
 Says words Queue = words ≡ codes "queue" ∷ []
 
--- the words of a line are the heading of a submission
+-- the words of a line are the heading of a submission: customer, number, kind, size, switches and
+-- the number of cards
 pub record IsHeading (words : List (List ℕ)) (heading : Heading) : Type 0 where
   pub name : List ℕ
   pub numeral : List ℕ
@@ -64,14 +65,14 @@ pub record IsHeading (words : List (List ℕ)) (heading : Heading) : Type 0 wher
   pub switches_are : AreSwitchesOf switches heading.switches
   pub count_is : IsCountOf count heading.cards
 
--- what the words of a line say; nothing, where they are neither
+-- what the words of a line say: a command, a heading, or nothing if they are neither
 abbrev pub IsSaidBy : List (List ℕ) → Said → Type 0
 IsSaidBy words (said.Command command) = Says words command
 IsSaidBy words (said.Heading heading) = IsHeading words heading
 IsSaidBy words said.Nothing =
     ((command : Command) → ¬ Says words command) × ((heading : Heading) → ¬ IsHeading words heading)
 
--- what a line says, whose words are parted by one blank each
+-- what a line says by its words, which are separated by one blank each
 abbrev pub IsSaidIn : List ℕ → Said → Type 0
 IsSaidIn line said.Nothing = AreWords (words_of line) → IsSaidBy (words_of line) said.Nothing
 IsSaidIn line it = AreWords (words_of line) × IsSaidBy (words_of line) it

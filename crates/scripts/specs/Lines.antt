@@ -1,7 +1,7 @@
 -- the lines of a script
 use Rattle.std.specs.Prelude.{ℕ, ◌≡◌, ◌≢◌, List, ◌∷◌, ◌++◌, All}
 
--- the byte stands nowhere in the bytes
+-- the byte is not among these bytes
 abbrev pub IsWithout : ℕ → List ℕ → Type 0
 IsWithout byte = All (λ other. other ≢ byte)
 
@@ -9,6 +9,6 @@ IsWithout byte = All (λ other. other ≢ byte)
 abbrev pub line_feed : ℕ
 line_feed = 10
 
--- the bytes begin with a line and its line feed, and these follow
+-- the bytes begin with a line and its line feed, and the rest follows
 abbrev pub BeginsWithLine : List ℕ → List ℕ → List ℕ → Type 0
 BeginsWithLine bytes line rest = IsWithout line_feed line × (bytes ≡ line ++ line_feed ∷ rest)

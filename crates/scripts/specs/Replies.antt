@@ -18,7 +18,7 @@ use Rattle.office.specs.declared.standings.Summary.{Summary}
 use Rattle.scripts.specs.declared.faults.ScriptFault.{ScriptFault}
 use Rattle.scripts.specs.declared.faults.ScriptFault.TheVariants as fault
 
--- the words of a check
+-- the name of a check, as replies print it
 abbrev pub check_words : Check → List ℕ
 check_words check.Address = codes "ADDRESS"
 check_words check.Instruction = codes "INSTRUCTION"
@@ -28,18 +28,20 @@ check_words check.ReaderEmpty = codes "READER EMPTY"
 check_words check.PunchFull = codes "PUNCH FULL"
 check_words check.PrinterFull = codes "PRINTER FULL"
 
--- how a job stands, in words
+-- the standing of a job, as replies print it: at a halt with the next position, at a check with its
+-- name and position
 abbrev pub standing_words : JobStanding → List ℕ
 standing_words standing.Running = codes "running"
 standing_words (standing.Halted next) = codes "halted next " ++ decimal next
 standing_words (standing.Checked check at) =
     codes "check " ++ check_words check ++ codes " at " ++ decimal at
 
--- a truth value as a digit
+-- a flag as a digit: 1 if it is set, else 0
 abbrev pub truth : Bool → List ℕ
 truth value = if value then codes "1" else codes "0"
 
--- what a job was granted and has made, and its flags
+-- a job's flags, the instructions granted and the counts of its cards and lines, as a reply prints
+-- them
 abbrev pub made_words : Summary → List ℕ
 made_words job =
     codes " held " ++ truth job.held
@@ -48,28 +50,29 @@ made_words job =
     ++ codes " cards " ++ decimal job.cards
     ++ codes " lines " ++ decimal job.lines
 
--- how a job stands, and what it has made
+-- the reply to `standing`: the job's standing, flags and counts
 abbrev pub summary_words : Summary → List ℕ
 summary_words job = codes "standing " ++ standing_words job.standing ++ made_words job
 
--- a job in the list of a customer's jobs
+-- a job in the list of a customer's jobs: a blank and its number
 abbrev pub job_words : JobLine → List ℕ
 job_words job = codes " " ++ decimal job.number
 
--- a job in the queue
+-- a job in the queue: a blank, its customer, a slash and its number
 abbrev pub queued_words : QueuedJob → List ℕ
 queued_words job = codes " " ++ job.customer ++ codes "/" ++ decimal job.number
 
--- a card's fault
+-- a fault of a source: a blank, the card's number, a colon and the fault's number
 abbrev pub fault_words : CardFault → List ℕ
 fault_words f = codes " " ++ decimal f.card ++ codes ":" ++ decimal (fault_number f.fault)
 
--- why a command is refused
+-- a refusal: its number, and for a source with faults the faults
 abbrev pub refusal_words : Refusal → List ℕ
 refusal_words (refusal.Assembly faults) = codes "refused 16" ++ flat_map fault_words faults
 refusal_words other = codes "refused " ++ decimal (refusal_number other)
 
--- a reply in words; cards and lines are no replies to the commands of scripts, and have none
+-- a reply as a script's run prints it; cards and lines are replies to no command of a script, and
+-- empty
 abbrev pub reply_words : Reply → List ℕ
 reply_words (reply.Taken cards) = codes "taken " ++ decimal cards
 reply_words (reply.Ran executed standing) =
@@ -86,23 +89,23 @@ reply_words (reply.Jobs jobs) = codes "jobs" ++ flat_map job_words jobs
 reply_words (reply.Queue jobs) = codes "queue" ++ flat_map queued_words jobs
 reply_words (reply.Refused reason) = refusal_words reason
 
--- a line ends with a line feed
+-- these words with a line feed after them
 abbrev pub line_of : List ℕ → List ℕ
 line_of words = words ++ 10 ∷ []
 
--- the line of a reply
+-- the line that a reply is printed on
 abbrev pub reply_line : Reply → List ℕ
 reply_line it = line_of (reply_words it)
 
--- the line of a refusal
+-- the line that a refusal is printed on
 abbrev pub refusal_line : Refusal → List ℕ
 refusal_line reason = line_of (refusal_words reason)
 
--- the line of a fault of the bureau
+-- the line that a fault of the bureau is printed on, with its number
 abbrev pub fault_line : ℕ → List ℕ
 fault_line number = line_of (codes "fault " ++ decimal number)
 
--- the line for bytes that are no script
+-- the line that is printed for bytes that are no script
 abbrev pub bad_line : ScriptFault → List ℕ
 bad_line (fault.BadLine number) = line_of (codes "bad line " ++ decimal number)
 bad_line fault.TooLong = line_of (codes "bad size")

@@ -1,4 +1,4 @@
--- scripts: the commands that their bytes say, and the first line that says none
+-- scripts: the commands in their bytes, and the first line that has none
 use Rattle.std.specs.Prelude.{String, ℕ, ◌≡◌, ◌≢◌, ◌+◌, ◌<◌, ◌≤◌, ◌⊎◌, ⊤, List, [], ◌∷◌, ◌++◌, All, length}
 use Rattle.cards.specs.declared.decks.Card.{Card}
 use Rattle.std.specs.declared.alloc.Global.{Global}
@@ -23,7 +23,7 @@ use Rattle.scripts.specs.Words.{AreWords, words_of}
 abbrev pub most_bytes : ℕ
 most_bytes = 4000000
 
--- the bytes begin with a line of words that says this, and these bytes follow
+-- the bytes begin with a line that says this, and the rest follows
 pub record BeginsWith (bytes : List ℕ) (it : Said) (rest : List ℕ) : Type 0 where
   pub line : List ℕ
   pub begins : BeginsWithLine bytes line rest
@@ -32,7 +32,7 @@ pub record BeginsWith (bytes : List ℕ) (it : Said) (rest : List ℕ) : Type 0 
 
 -- ---- a command
 
--- the bytes begin with the cards of a deck of this size, and these follow
+-- the bytes begin with the text of a deck of so many cards, and the rest follows
 abbrev pub BeginsWithDeck : List ℕ → List Card → ℕ → List ℕ → Type 0
 BeginsWithDeck bytes deck count rest =
     IsDeck deck × (length deck ≡ count) × (bytes ≡ deck_text deck ++ rest)
@@ -48,49 +48,50 @@ heading_for customer number contents = record {
   cards = length contents.deck;
 }
 
--- the bytes after a heading begin with the cards of its submission, which has so many lines
+-- the bytes after a heading begin with the cards of its submission, and the rest follows; heading
+-- and cards are so many lines
 abbrev pub EndsSubmission : Heading → List ℕ → Command → ℕ → List ℕ → Type 0
 EndsSubmission heading bytes (Submit customer number contents) lines rest =
     (heading ≡ heading_for customer number contents)
     × BeginsWithDeck bytes contents.deck heading.cards rest × (lines ≡ 1 + heading.cards)
 EndsSubmission heading bytes other lines rest = ⊥
 
--- the bytes begin with the lines of a command, which are so many, and these follow
+-- the bytes begin with a command, which takes so many lines, and the rest follows
 abbrev pub Begins : List ℕ → Command → ℕ → List ℕ → Type 0
 Begins bytes (Submit customer number contents) lines rest =
     (heading : Heading) × (after : List ℕ) × BeginsWith bytes (said.Heading heading) after
     × EndsSubmission heading after (Submit customer number contents) lines rest
 Begins bytes other lines rest = BeginsWith bytes (said.Command other) rest × (lines ≡ 1)
 
--- the bytes begin with the lines of these commands, which are so many, and these follow
+-- the bytes begin with these commands, which take so many lines, and the rest follows
 abbrev pub Leads : List ℕ → List Command → ℕ → List ℕ → Type 0
 Leads bytes [] lines rest = (lines ≡ 0) × (bytes ≡ rest)
 Leads bytes (command ∷ commands) lines rest =
     (first : ℕ) × (others : ℕ) × (after : List ℕ) × Begins bytes command first after
     × Leads after commands others rest × (lines ≡ first + others)
 
--- the bytes are the lines of these commands
+-- the bytes are a script of these commands
 abbrev pub IsScriptOf : List ℕ → List Command → Type 0
 IsScriptOf bytes commands = (lines : ℕ) × Leads bytes commands lines []
 
 -- ---- a bad line
 
--- the number of a bad line where so many lines come before
+-- a fault with the number of its line raised by the number of lines before it
 abbrev pub later : ℕ → ScriptFault → ScriptFault
 later lines (fault.BadLine number) = fault.BadLine (lines + number)
 later lines other = other
 
--- the fault of a script for what is wrong with the card of this number
+-- the fault of a script for an error in the card of this number
 abbrev pub fault_of_error : CardError → ℕ → ScriptFault
 fault_of_error NoMemory card = fault.NoMemory
 fault_of_error other card = fault.BadLine card
 
--- no card's line stands here
+-- the bytes do not begin with the text of a card
 abbrev pub HasNoCard : List ℕ → Type 0
 HasNoCard bytes = (card : Card) → (rest : List ℕ) → IsCard card
     → bytes ≢ deck_text (card ∷ []) ++ rest
 
--- of so many cards the one of this number is missing or is none, and those before it are cards
+-- of so many cards the one of this number is missing or faulty, and all before it are cards
 pub record HasBadCard (bytes : List ℕ) (count : ℕ) (number : ℕ) : Type 0 where
   pub cards : List Card
   pub rest : List ℕ
@@ -100,33 +101,33 @@ pub record HasBadCard (bytes : List ℕ) (count : ℕ) (number : ℕ) : Type 0 w
   pub none : HasNoCard rest
   pub place : number ≡ length cards + 1
 
--- the fault of a script for the fault of its cards
+-- the fault of a script for a fault among its cards
 abbrev pub fault_of : CardFault → ScriptFault
 fault_of card = fault_of_error card.error card.card
 
--- a fault whose line is not far away
+-- the fault is a bad line among the first 2001, as many as a heading and a full deck have
 abbrev pub IsNear : ScriptFault → Type 0
 IsNear (fault.BadLine number) = number ≤ 2001
 IsNear other = ⊤
 
--- a fault among so many cards, the first of which has the number 1
+-- the fault among so many cards, by its card's number from 1, or want of memory
 abbrev pub HasFaultOfCards : List ℕ → ℕ → ScriptFault → Type 0
 HasFaultOfCards bytes count (fault.BadLine number) = HasBadCard bytes count number
 HasFaultOfCards bytes count fault.TooLong = ⊥
 HasFaultOfCards bytes count fault.NoMemory = ⊤
 
--- .. where the line of the heading comes before them
+-- the fault among the so many cards of a submission, by its line, where the heading is line 1
 abbrev pub HasFaultAfter : List ℕ → ℕ → ScriptFault → Type 0
 HasFaultAfter bytes count (fault.BadLine number) =
     (card : ℕ) × (number ≡ 1 + card) × HasBadCard bytes count card
 HasFaultAfter bytes count fault.TooLong = ⊥
 HasFaultAfter bytes count fault.NoMemory = ⊤
 
--- no line that says something stands here
+-- the bytes do not begin with a line that is a command or a heading
 abbrev pub SaysNothing : List ℕ → Type 0
 SaysNothing bytes = (it : Said) → (rest : List ℕ) → it ≢ said.Nothing → ¬ BeginsWith bytes it rest
 
--- the heading of a submission stands here, and a line after it is not the card that it should be
+-- the bytes begin with the heading of a submission, and the card on the line of this number is bad
 pub record HasBadDeck (bytes : List ℕ) (number : ℕ) : Type 0 where
   pub heading : Heading
   pub after : List ℕ
@@ -135,18 +136,18 @@ pub record HasBadDeck (bytes : List ℕ) (number : ℕ) : Type 0 where
   pub bad : HasBadCard after heading.cards card
   pub place : number ≡ 1 + card
 
--- the line of this number is bad, and is of the first command that is left
+-- the line of this number, which belongs to the first command in the bytes, is bad
 abbrev pub IsBadHere : List ℕ → ℕ → Type 0
 IsBadHere bytes number =
     (bytes ≢ []) × (((number ≡ 1) × SaysNothing bytes) ⊎ HasBadDeck bytes number)
 
--- why no command stands here
+-- why the bytes do not begin with a command: a bad line, or want of memory
 abbrev pub IsFaultHere : List ℕ → ScriptFault → Type 0
 IsFaultHere bytes (fault.BadLine number) = IsBadHere bytes number
 IsFaultHere bytes fault.TooLong = ⊥
 IsFaultHere bytes fault.NoMemory = ⊤
 
--- the line of this number is the first that is bad
+-- the line of this number is the first bad one of the bytes
 pub record IsBadAt (bytes : List ℕ) (number : ℕ) : Type 0 where
   pub commands : List Command
   pub lines : ℕ
@@ -156,7 +157,7 @@ pub record IsBadAt (bytes : List ℕ) (number : ℕ) : Type 0 where
   pub bad : IsBadHere rest line
   pub place : number ≡ lines + line
 
--- why bytes are no script: a bad line, or too many bytes, or want of memory
+-- why the bytes are no script: a bad line, too many bytes, or want of memory
 abbrev pub IsFaultOf : List ℕ → ScriptFault → Type 0
 IsFaultOf bytes (fault.BadLine number) = IsBadAt bytes number
 IsFaultOf bytes fault.TooLong = most_bytes < length bytes

@@ -1,27 +1,27 @@
--- what a writer took of some bytes, and the count of the bytes that went out
+-- what a writer took of some bytes, and the count of the bytes that were written
 use Rattle.std.specs.Prelude.{ℕ, ◌≡◌, ◌+◌, ◌-◌, ◌<◌, ◌^◌, List, Option, Result, Ok, Err, length, min, take}
 use Rattle.std.specs.Io.KnownBytes.{Appends}
 use Rattle.scripts.specs.declared.sending.Sent.{Sent}
 use Rattle.scripts.specs.declared.sending.Sent.TheVariants as sent
 use Rattle.scripts.specs.declared.write_failed.WriteFailed.{WriteFailed}
 
--- all of them, or so many and not all
+-- the writer took all of the bytes, or so many of them and not all
 abbrev pub SentIs : List ℕ → Option (List ℕ) → Option (List ℕ) → Sent → Type 0
 SentIs bytes old new sent.Whole = Appends old new bytes
 SentIs bytes old new (sent.Failed count) =
     (count < length bytes) × Appends old new (take count bytes)
 
--- a count of bytes; the most that is counted is 2^64 - 1
+-- a count of bytes, at most 2^64 - 1
 abbrev pub counted : ℕ → ℕ
 counted count = min count (2 ^ 64 - 1)
 
--- so many of the bytes went out and not all, and were counted
+-- a part of the bytes was written, and counted
 abbrev pub WritesPart : List ℕ → Option (List ℕ) → Option (List ℕ) → ℕ → ℕ → Type 0
 WritesPart bytes old new before after =
     (count : ℕ) × (count < length bytes) × Appends old new (take count bytes)
     × (after ≡ counted (before + count))
 
--- all of the bytes went out and were counted; or a part of them, where the writer failed
+-- all of the bytes were written and counted; or a part of them, if the writer failed
 abbrev pub Writes : {T : Type 0} → List ℕ → Option (List ℕ) → Option (List ℕ) → ℕ → ℕ
     → Result T WriteFailed → Type 0
 Writes bytes old new before after (Ok done) =

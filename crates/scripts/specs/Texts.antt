@@ -1,4 +1,4 @@
--- what the words of a line spell
+-- what the words of a line mean
 use Rattle.std.specs.Prelude.{ℕ, ◌≡◌, ◌≢◌, ◌<◌, ◌≤◌, ◌^◌, ◌⊎◌, List, [], if◌then◌else◌, codes, decimal}
 use Rattle.std.specs.Str.{is_utf8}
 use Rattle.office.specs.declared.commands.Kind.{Kind}
@@ -7,25 +7,25 @@ use Rattle.units.specs.Switches.{AreSeven}
 use Rattle.units.specs.declared.Switches.{Switches}
 use Rattle.counter_values.specs.Switches as values
 
--- the text of a word; a word that is not UTF-8 counts as the empty text, which is no name
+-- the text of a word; a word that is not UTF-8 is the empty text, which is no name
 abbrev pub text_of : List ℕ → List ℕ
 text_of word = if is_utf8 word then word else []
 
--- the number that a word spells by 1 to 9 digits with no zero in front; any other counts as 0
+-- the number of a word: its value if it has 1 to 9 digits with no zero in front, else 0
 abbrev pub IsNumberOf : List ℕ → ℕ → Type 0
 IsNumberOf word number =
     ((0 < number) × (number < 10 ^ 9) × (text_of word ≡ decimal number))
     ⊎ ((number ≡ 0) × ((other : ℕ) → 0 < other → other < 10 ^ 9 → text_of word ≢ decimal other))
 
--- the switches that a word spells
+-- the switches that a word sets on, by their letters, or a hyphen for none
 abbrev pub AreSwitchesOf : List ℕ → Switches → Type 0
 AreSwitchesOf word switches = AreSeven switches × (text_of word ≡ values.text_of switches)
 
--- the word of each kind of deck
+-- the word for a kind of deck: `object` or `autocoder`
 abbrev pub IsKindOf : List ℕ → Kind → Type 0
 IsKindOf word Object = word ≡ codes "object"
 IsKindOf word Autocoder = word ≡ codes "autocoder"
 
--- a count of cards, from 0 to 2,000, in plain decimal
+-- a number of cards, 0 to 2,000, in decimal without leading zeros
 abbrev pub IsCountOf : List ℕ → ℕ → Type 0
 IsCountOf word count = (count ≤ 2000) × (text_of word ≡ decimal count)

@@ -1,21 +1,21 @@
 -- the words of a line
 use Rattle.std.specs.Prelude.{ℕ, ◌≢◌, ◌≤◌, ◌==◌, List, [], ◌∷◌, All, if◌then◌else◌, length}
 
--- the byte that parts two words
+-- the byte between two words
 abbrev pub blank : ℕ
 blank = 32
 
--- a byte in front of the first word
+-- the words with one more byte at the beginning of the first
 abbrev pub in_front : ℕ → List (List ℕ) → List (List ℕ)
 in_front byte [] = (byte ∷ []) ∷ []
 in_front byte (word ∷ words) = (byte ∷ word) ∷ words
 
--- what stands before, between and after the blanks of a line
+-- the words of a line: the bytes before, between and after its blanks
 unfoldable pub words_of : List ℕ → List (List ℕ)
 words_of [] = [] ∷ []
 words_of (byte ∷ line) = if byte == blank then [] ∷ words_of line else in_front byte (words_of line)
 
--- each word has a byte at least
+-- no word is empty
 abbrev pub AreWords : List (List ℕ) → Type 0
 AreWords = All (λ word. word ≢ [])
 

@@ -1,9 +1,9 @@
--- what the printer has made
+-- the printer
 use Rattle.std.specs.Prelude.{List}
 use Rattle.units.specs.declared.carriage.Carriage.{Carriage}
 use Rattle.units.specs.declared.printer.Line.{Line}
 
--- its lines in order, and where the carriage stands
+-- a printer: the lines that it has printed, in order, and its carriage
 pub record Printed : Type 0 where
   pub lines : List Line
   pub carriage : Carriage

@@ -1,4 +1,4 @@
--- what the units of a picture may hold, and what they keep of it
+-- what is in range for the units, and what an operation keeps of them
 use Rattle.std.specs.Prelude.{◌<◌, ◌≤◌, ◌≡◌, ◌⊎◌, List, [], ◌∷◌, ◌++◌, length, map, take}
 use Rattle.units.specs.declared.carriage.Carriage.{Carriage}
 use Rattle.units.specs.Carriages.{lines_of_form, last_form}
@@ -10,53 +10,57 @@ use Rattle.units.specs.declared.units.Units.{Units}
 use Rattle.units.specs.Printed.{Printed}
 use Rattle.units.specs.Switches.{AreSeven}
 
--- where a line was printed
+-- the form and line at which a line was printed
 abbrev pub line_place : Line → Place
 line_place l = record { form = l.form; line = l.line }
 
--- where the carriage stands
+-- the form and line at which the carriage is
 abbrev pub carriage_place : Carriage → Place
 carriage_place c = record { form = c.form; line = c.line }
 
--- a line of one of the forms
+-- a place is at one of the lines of one of the forms
 abbrev pub IsOnForm : Place → Type 0
 IsOnForm p = (1 ≤ p.form) × (p.form ≤ last_form) × (1 ≤ p.line) × (p.line ≤ lines_of_form)
 
--- a line of one of the forms, on a later form than the place above it or further down on the same one
+-- a place is at a line of a form, and below another: on a later form, or further down on the same
+-- one
 abbrev pub IsBelow : Place → Place → Type 0
 IsBelow above p = IsOnForm p × ((above.form < p.form) ⊎ ((above.form ≡ p.form) × (above.line < p.line)))
 
--- each place is below the one before it
+-- each of these places is below the one before it
 abbrev pub AreRising : Place → List Place → Type 0
 AreRising above [] = Unit {0}
 AreRising above (p ∷ places) = IsBelow above p × AreRising p places
 
--- where the lines were printed, and behind them where the carriage stands
+-- the places of the printed lines, and then that of the carriage
 abbrev pub places_then : Place → List Line → List Place
 places_then carriage lines = map line_place lines ++ carriage ∷ []
 
--- above the first form
+-- the place above the first form
 abbrev pub the_top : Place
 the_top = record { form = 0; line = 0 }
 
--- what the printer may have made
+-- the printer's lines and carriage are in range: not too many, each line below the one before, the
+-- carriage below all
 pub record HasPrinted (p : Printed) : Type 0 where
   pub most : length p.lines ≤ most_lines
   pub places : AreRising the_top (places_then (carriage_place p.carriage) p.lines)
 
--- how many cards may have been read: the first one at least, which the load button reads
+-- the reader's count of cards is in range: at least the one that the load button reads, at most the
+-- deck's
 pub record HasRead (h : Hopper) : Type 0 where
   pub some : 1 ≤ h.taken
   pub most : h.taken ≤ length h.deck
 
--- what the units may hold
+-- all units and the switches are in range
 pub record AreUnits (u : Units) : Type 0 where
   pub reader : HasRead u.hopper
   pub punch : length u.punch ≤ most_cards
   pub printer : HasPrinted u.printer
   pub switches : AreSeven u.switches
 
--- the deck and the switches stay, and the cards and lines that were there are the first of those that are there after it
+-- an operation keeps the deck and the switches, and the cards and lines there were as the first of
+-- those after it
 pub record OnlyAdds (u after : Units) : Type 0 where
   pub deck : after.hopper.deck ≡ u.hopper.deck
   pub switches : after.switches ≡ u.switches

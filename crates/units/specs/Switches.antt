@@ -2,10 +2,10 @@
 use Rattle.std.specs.Prelude.{◌%◌, ◌<◌}
 use Rattle.units.specs.declared.switches.Switches.{Switches}
 
--- the set that a byte represents: A is the lowest bit and G the seventh; the eighth is no switch
+-- the seven switches without the eighth bit, which is no switch: A is the lowest bit, G the seventh
 abbrev pub seven : Switches → Switches
 seven switches = record { 0 = switches.0 % 128 }
 
--- no bit is on that is no switch
+-- no bit is set that is not a switch
 abbrev pub AreSeven : Switches → Type 0
 AreSeven switches = switches.0 < 128

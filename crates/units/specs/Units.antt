@@ -1,4 +1,4 @@
--- what the reader, the punch and the printer do with the storage
+-- the operations of the reader, the punch and the printer
 use Rattle.std.specs.Prelude.{ℕ, ◌+◌, ◌<◌, ◌≡◌, nat_lt, ◌&&◌, ◌==◌, ◌⊎◌, if◌then◌else◌, ◌++◌, List, [], ◌∷◌, length, Bool, Result, Ok, Err, slice_get}
 use Rattle.std.specs.Int.RustNames.{bit_and}
 use Rattle.cards.specs.declared.decks.Card.{Card}
@@ -16,45 +16,48 @@ use Rattle.units.specs.declared.units.Units.{Units}
 use Rattle.units.specs.Carriages.{after_line}
 use Rattle.units.specs.Printed.{Printed}
 
--- the most lines that the printer prints
+-- the most lines that the printer prints for a job
 abbrev pub most_lines : ℕ
 most_lines = 20000
 
--- the most cards that the punch punches
+-- the most cards that the punch punches for a job
 abbrev pub most_cards : ℕ
 most_cards = 10000
 
--- where the areas of the storage begin
+-- the first position of the read area
 abbrev pub read_area : ℕ
 read_area = 1
 
+-- the first position of the punch area
 abbrev pub punch_area : ℕ
 punch_area = 101
 
+-- the first position of the print area
 abbrev pub print_area : ℕ
 print_area = 201
 
--- how many characters stand on a line
+-- the number of characters of a printed line
 abbrev pub characters_of_line : ℕ
 characters_of_line = 132
 
--- the next card in the read area, 001 to 080, whose marks stay
+-- storage with the next card in the read area, 001 to 080, and the reader after it; word marks stay
 unfoldable pub card_read : Storage → Hopper → Result (Storage × Hopper) Check
 card_read s h =
     find_or (slice_get h.deck h.taken) ReaderEmpty (λ card.
     Ok (put_codes s read_area card.0, record h { taken = h.taken + 1 }))
 
--- switch A is on and the last card was read
+-- whether switch A is on and the last card was read
 abbrev pub is_last_card : Switches → Hopper → Bool
 is_last_card switches h = bit_and switches.0 1 == 1 && h.taken == length h.deck
 
--- the punch area, 101 to 180, as one more card
+-- the punched cards with one more, of the characters in the punch area, 101 to 180
 unfoldable pub card_punched : Storage → List Card → Result (List Card) Check
 card_punched s cards =
     require (nat_lt (length cards) most_cards) PunchFull
     (Ok (cards ++ (record { 0 = codes_from s punch_area card_columns }) ∷ []))
 
--- the print area, 201 to 332, printed where the carriage stands
+-- the printer with one more line, of the characters in the print area, 201 to 332, at the
+-- carriage's place
 unfoldable pub line_printed : Storage → Printed → Result Printed Check
 line_printed s p =
     require (nat_lt (length p.lines) most_lines) PrinterFull
@@ -64,41 +67,45 @@ line_printed s p =
       carriage = carriage;
     })))
 
--- why work was given up: its own check, or no memory for what it would have made
+-- why an operation was given up: the check that stops it, or no memory for what it would have made
 abbrev pub GivesUp : {T : Type 0} → (T → Type 0) → Fault → Result T Check → Type 0
 GivesUp Made (Stopped check) outcome = outcome ≡ Err check
 GivesUp Made NoMemory (Ok after) = Made after
 GivesUp Made NoMemory (Err check) = ⊥
 
--- why no card was punched
+-- why no card was punched: a check, or no memory for the card
 abbrev pub PunchFails : Fault → List Card → Result (List Card) Check → Type 0
 PunchFails fault cards outcome = GivesUp (λ after. length cards < length after) fault outcome
 
--- why no line was printed
+-- why no line was printed: a check, or no memory for the line
 abbrev pub PrintFails : Fault → Printed → Result Printed Check → Type 0
 PrintFails fault p outcome = GivesUp (λ after. length p.lines < length after.lines) fault outcome
 
--- which units take part in an operation
+-- whether the reader takes part in an operation
 abbrev pub reads : Devices → Bool
 reads devices = bit_and devices.0 1 == 1
 
+-- whether the printer takes part in an operation
 abbrev pub prints : Devices → Bool
 prints devices = bit_and devices.0 2 == 2
 
+-- whether the punch takes part in an operation
 abbrev pub punches : Devices → Bool
 punches devices = bit_and devices.0 4 == 4
 
--- what each unit does in an operation: its work, where it takes part
+-- storage and the reader after an operation, in which a card is read if the reader takes part
 unfoldable pub reader_works : Devices → Storage → Hopper → Result (Storage × Hopper) Check
 reader_works devices s h = if reads devices then card_read s h else Ok (s, h)
 
+-- the punched cards after an operation, one more if the punch takes part
 unfoldable pub punch_works : Devices → Storage → List Card → Result (List Card) Check
 punch_works devices s cards = if punches devices then card_punched s cards else Ok cards
 
+-- the printer after an operation, which prints a line if the printer takes part
 unfoldable pub printer_works : Devices → Storage → Printed → Result Printed Check
 printer_works devices s p = if prints devices then line_printed s p else Ok p
 
--- the three together: the first check, or storage and units after it
+-- storage and units after the reader, the punch and the printer, or the first check in this order
 abbrev pub together : Units → Result (Storage × Hopper) Check → Result (List Card) Check → Result Printed Check → Result (Storage × Units) Check
 together u reader punch printer =
     and_then reader (λ read.
@@ -106,14 +113,14 @@ together u reader punch printer =
     and_then printer (λ printed.
     Ok (read.0, record u { hopper = read.1; punch = cards; printer = printed }))))
 
--- one operation of the units, each of which works from the storage as it was
+-- storage and units after an operation of the units, each of which works from storage as it was
 unfoldable pub operated : Devices → Storage → Units → Result (Storage × Units) Check
 operated devices s u = together u (reader_works devices s u.hopper) (punch_works devices s u.punch) (printer_works devices s u.printer)
 
--- one more card or line was made
+-- an operation has made one more card or line
 abbrev pub Makes : Units → Units → Type 0
 Makes u after = (length u.punch < length after.punch) ⊎ (length u.printer.lines < length after.printer.lines)
 
--- why nothing was done
+-- why an operation of the units was given up: a check, or no memory for a card or a line
 abbrev pub OperationFails : Fault → Units → Result (Storage × Units) Check → Type 0
 OperationFails fault u outcome = GivesUp (λ done. Makes u done.1) fault outcome
