@@ -11,16 +11,13 @@ use Rattle.autocoder.specs.Programs.{layout_for}
 use Rattle.autocoder_layout.specs.declared.slots.Kind.{Kind}
 use Rattle.autocoder_layout.specs.declared.slots.Kind.TheVariants.{Instruction, Constant}
 use Rattle.autocoder_layout.specs.declared.slots.Slot.{Slot}
+use Rattle.cards.specs.Files.{line_feed}
 
 abbrev pub blank : ℕ
 blank = byte (codes " ")
 
 abbrev pub zero_digit : ℕ
 zero_digit = byte (codes "0")
-
--- the byte that ends a line
-abbrev pub line_feed : ℕ
-line_feed = 10
 
 -- a number in a field of so many places, with fillers in front
 abbrev pub right : ℕ → ℕ → ℕ → List ℕ
