@@ -6,20 +6,6 @@ ghost use Rattle.addresses.specs.Digits.{digit_under};
 
 use bcd::{Code, Zone};
 
-/// The bits B and A as a number.
-#[inline(always)]
-fn zone_number(zone: Zone) -> u8
-    ensures number { result ≡ zone_number zone }
-    ensures most { result ≤ 3 }
-{
-    match zone {
-        Zone::Bare => 0,
-        Zone::A => 1,
-        Zone::B => 2,
-        Zone::AB => 3,
-    }
-}
-
 /// The numeric part of a digit: a 0 is part 10.
 #[inline(always)]
 fn part_of(digit: u8) -> u8
@@ -38,5 +24,5 @@ pub fn digit_under(zone: Zone, digit: u8) -> Code
     ensures value { digit_of result ≡ Some digit }
     ensures zone { zone_of result ≡ zone }
 {
-    Code::from_number(16 * zone_number(zone) + part_of(digit)).unwrap()
+    Code::from_number(16 * zone.bits() + part_of(digit)).unwrap()
 }

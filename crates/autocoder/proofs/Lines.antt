@@ -16,7 +16,8 @@ use Rattle.autocoder_statements.specs.declared.operands.Operand.TheVariants as o
 use Rattle.autocoder_statements.specs.declared.reading.Statement.TheVariants as statement
 use Rattle.autocoder_layout.specs.declared.literals.Literal.{Literal}
 use Rattle.autocoder_layout.specs.declared.slots.Slot.{Slot}
-use Rattle.autocoder.specs.Listing.{blank, line_feed, listed, card_line, card_lines, literal_line, literal_lines, listing_of, listing_of_source, listing_for}
+use Rattle.autocoder.specs.Listing.{blank, listed, card_line, card_lines, literal_line, literal_lines, listing_of, listing_of_source, listing_for}
+use Rattle.cards.specs.Files.{line_feed}
 use Rattle.autocoder.specs.Programs.{layout_for, IsProgramOf}
 use Rattle.autocoder.specs.Assembly.{Assembly}
 use Rattle.autocoder.proofs.Passes.{length-lines_of}

@@ -11,6 +11,7 @@ use Rattle.autocoder.specs.Programs.{layout_for}
 use Rattle.autocoder_layout.specs.declared.slots.Kind.{Kind}
 use Rattle.autocoder_layout.specs.declared.slots.Kind.TheVariants.{Instruction, Constant}
 use Rattle.autocoder_layout.specs.declared.slots.Slot.{Slot}
+use Rattle.cards.specs.Files.{line_feed}
 
 -- the byte of a blank
 abbrev pub blank : ℕ
@@ -19,10 +20,6 @@ blank = byte (codes " ")
 -- the byte of the digit 0
 abbrev pub zero_digit : ℕ
 zero_digit = byte (codes "0")
-
--- the byte that ends a line
-abbrev pub line_feed : ℕ
-line_feed = 10
 
 -- a number at the right of a field of this width, with fillers before it
 abbrev pub right : ℕ → ℕ → ℕ → List ℕ

@@ -4,17 +4,16 @@ ghost use Rattle.std.specs.Prelude.{◌≡◌, ◌≤◌, ◌++◌, ◌∷◌, [
 ghost use Rattle.cards.specs.Decks.{largest_deck};
 ghost use Rattle.autocoder_layout.specs.Literals.{texts};
 ghost use Rattle.autocoder_layout.specs.Source.{source_of};
-ghost use Rattle.autocoder.specs.Listing.{line_feed, right, fills, place_field, glyphs_of, card_line, literal_line, listed, card_lines, literal_lines, listing_for};
+ghost use Rattle.autocoder.specs.Listing.{right, fills, place_field, glyphs_of, card_line, literal_line, listed, card_lines, literal_lines, listing_for};
+ghost use Rattle.cards.specs.Files.{line_feed};
 ghost use Rattle.autocoder.specs.Programs.{IsProgramOf};
 
 use crate::program::Program;
 use autocoder_layout::{Kind, Literal, MOST_LITERALS, Slot, place_after, source_of};
 use bcd::Code;
-use cards::{Card, Deck};
+use cards::{Card, Deck, LINE_FEED};
 use itoa::Buffer;
 use std::alloc::{AllocError, Global};
-
-const LINE_FEED: u8 = 10;
 
 /// Adds so many fillers.
 fn push_fillers(line: &mut Vec<u8>, filler: u8, count: usize) -> Result<(), AllocError>

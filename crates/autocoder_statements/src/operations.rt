@@ -290,11 +290,7 @@ fn code_of(glyph: u8) -> Code
     ensures { result ≡ code_of glyph }
 {
     match Code::from_glyph(glyph) {
-        Some(code) => {
-            // This shows that it is one of the 64.
-            let _number = code.number();
-            code
-        }
+        Some(code) => code,
         None => Code::blank(),
     }
 }

@@ -9,8 +9,8 @@
 //! punches and ranks each tell the 64 characters apart.
 #![tactic(auto)]
 
-ghost use Rattle.std.specs.Prelude.{◌≡◌, ◌≢◌, ◌<◌, ◌↔◌, ℕ, IsSome, IsNone, IfSome};
-ghost use Rattle.bcd.specs.Table.{glyph_of, rank_of, punches_of, digit_of, zone_of, IsOneToOne};
+ghost use Rattle.std.specs.Prelude.{◌≡◌, ◌≢◌, ◌<◌, ◌≤◌, ◌↔◌, ℕ, IsSome, IsNone, IfSome};
+ghost use Rattle.bcd.specs.Table.{glyph_of, rank_of, punches_of, digit_of, zone_of, zone_number, IsOneToOne};
 
 use std::marker::Model;
 
@@ -43,6 +43,22 @@ pub enum Zone {
     B,
     /// Both bits, punched in row 12.
     AB,
+}
+
+impl Zone {
+    /// The bits B and A as a number, 0 to 3.
+    #[inline(always)]
+    pub fn bits(self) -> u8
+        ensures bits { result ≡ zone_number self }
+        ensures most { result ≤ 3 }
+    {
+        match self {
+            Zone::Bare => 0,
+            Zone::A => 1,
+            Zone::B => 2,
+            Zone::AB => 3,
+        }
+    }
 }
 
 /// The glyphs in the order of their numbers.
@@ -142,6 +158,7 @@ impl Code {
     /// The character of a glyph, if it is the glyph of one.
     pub fn from_glyph(glyph: u8) -> Option<Self>
         ensures found { IfSome result (λ code. glyph_of code ≡ glyph) }
+        ensures below { IfSome result (λ code. code < 64) }
         ensures missing { IsNone result → (n : ℕ) → n < 64 → glyph_of n ≢ glyph }
     {
         let code = Code {
@@ -172,6 +189,7 @@ impl Code {
     /// The character of a column's punches, if they are those of one.
     pub fn of_punches(pattern: u16) -> Option<Self>
         ensures found { IfSome result (λ code. punches_of code ≡ pattern) }
+        ensures below { IfSome result (λ code. code < 64) }
         ensures missing { IsNone result → (n : ℕ) → n < 64 → punches_of n ≢ pattern }
     {
         for number in 0..64 {

@@ -2,13 +2,13 @@
 
 ghost use Rattle.std.specs.Prelude.{◌≡◌, ◌≢◌, ◌<◌, ℕ, List, ◌∷◌, ◌++◌, IfOk, IfErr, OnErr, IfSome, IsNone};
 ghost use Rattle.cards.specs.Faults.{IsCutOff, IsNoDigit, IsNoColumn, IsNoLineFeed, digits_error, column_error};
-ghost use Rattle.cards.specs.Files.{hexadecimal, BeginsWithDigit, BeginsWithColumn};
+ghost use Rattle.cards.specs.Files.{hexadecimal, line_feed, BeginsWithDigit, BeginsWithColumn};
 
 use crate::faults::CardError;
 use bcd::Code;
 
-/// What ends the line of a card.
-pub(crate) const LINE_FEED: u8 = b'\n';
+/// The byte that ends a line.
+pub const LINE_FEED: u8 = b'\n';
 
 /// How a column stands in a file.
 #[derive(Clone, Copy)]
@@ -43,11 +43,7 @@ fn split_glyph(bytes: &[u8]) -> Result<(Code, &[u8]), CardError>
 {
     let (glyph, rest) = split_byte(bytes)?;
     match Code::from_glyph(glyph) {
-        Some(code) => {
-            // This shows that it is one of the 64.
-            let _number = code.number();
-            Ok((code, rest))
-        }
+        Some(code) => Ok((code, rest)),
         None => Err(CardError::Glyph),
     }
 }
@@ -62,11 +58,7 @@ fn split_punches(bytes: &[u8]) -> Result<(Code, &[u8]), CardError>
     let (middle, rest) = split_digit(rest)?;
     let (low, rest) = split_digit(rest)?;
     match Code::of_punches(high * 256 + middle * 16 + low) {
-        Some(code) => {
-            // This shows that it is one of the 64.
-            let _number = code.number();
-            Ok((code, rest))
-        }
+        Some(code) => Ok((code, rest)),
         None => Err(CardError::Punches),
     }
 }
@@ -86,7 +78,7 @@ fn split_digit(bytes: &[u8]) -> Result<(u16, &[u8]), CardError>
 
 /// The next byte of a column, and the bytes behind it.
 fn split_byte(bytes: &[u8]) -> Result<(u8, &[u8]), CardError>
-    ensures byte { IfOk result (λ found. (found.0 ≢ LINE_FEED) × (bytes.now ≡ found.0 ∷ found.1.now)) }
+    ensures byte { IfOk result (λ found. (found.0 ≢ line_feed) × (bytes.now ≡ found.0 ∷ found.1.now)) }
     ensures none { IfErr result (λ error. (error ≡ CardError.Length) × IsCutOff bytes.now) }
 {
     match bytes.split_first() {
@@ -97,7 +89,7 @@ fn split_byte(bytes: &[u8]) -> Result<(u8, &[u8]), CardError>
 
 /// The bytes behind the line feed that the bytes begin with.
 pub(crate) fn split_line_feed(bytes: &[u8]) -> Option<&[u8]>
-    ensures found { IfSome result (λ rest. bytes.now ≡ LINE_FEED ∷ rest.now) }
+    ensures found { IfSome result (λ rest. bytes.now ≡ line_feed ∷ rest.now) }
     ensures missing { IsNone result → IsNoLineFeed bytes.now }
 {
     match bytes.split_first() {

@@ -19,6 +19,7 @@ mod writing;
 
 pub use decks::{COLUMNS, Card, Deck, LARGEST_DECK};
 pub use faults::{CardError, CardFault, DeckFault};
+pub use forms::LINE_FEED;
 pub use laws::one_reading;
 pub use reading::{read_punched, read_text};
 pub use writing::{write_punched, write_punched_cards, write_text};

@@ -8,14 +8,14 @@ use crate::from_cells::FromCells;
 use bcd::Code;
 use ledger_tables::LineRow;
 use std::alloc::{AllocError, Global};
-use units::Line;
+use units::{LINE_LENGTH, Line};
 
 /// A printed line as a row.
 pub fn line_row(alloc: Global, line: &Line) -> Result<LineRow, AllocError>
     ensures row { IfOk result (λ row. row ≡ line_cells line.now) }
     ensures line { IfOk result (λ row. IsLine line.now) }
 {
-    let mut image = [0; 132];
+    let mut image = [0; LINE_LENGTH];
     write_numbers(&line.codes, &mut image);
     Ok(LineRow {
         form: line.form,
@@ -30,10 +30,10 @@ impl FromCells<LineRow> for Line {
     ghost IsHeld = { IsLine };
 
     fn from_cells(row: &LineRow) -> Option<Line> {
-        if row.image.len() != 132 {
+        if row.image.len() != LINE_LENGTH {
             return None;
         }
-        let mut codes = [Code::blank(); 132];
+        let mut codes = [Code::blank(); LINE_LENGTH];
         if !read_codes(&row.image, &mut codes) {
             return None;
         }

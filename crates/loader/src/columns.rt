@@ -38,10 +38,7 @@ fn code_of(glyph: u8) -> Code
     requires { IsTrue (is_glyph glyph) }
     ensures { result ≡ code_of glyph }
 {
-    let code = Code::from_glyph(glyph).unwrap();
-    // This shows that it is one of the 64.
-    let _number = code.number();
-    code
+    Code::from_glyph(glyph).unwrap()
 }
 
 impl Columns {

@@ -101,24 +101,12 @@ impl Condition {
     }
 }
 
-/// The bits B and A of a zone as a number.
-fn zone_number(zone: Zone) -> u8
-    ensures { result ≡ zone_number zone }
-{
-    match zone {
-        Zone::Bare => 0,
-        Zone::A => 1,
-        Zone::B => 2,
-        Zone::AB => 3,
-    }
-}
-
 /// Whether the character at a position has a zone.
 fn has_zone<C: Core>(core: &C, position: u16, zone: Zone) -> bool
     requires { position < length (C.cells core.now) }
     ensures { result ≡ has_zone (C.cells core.now) position zone }
 {
-    zone_number(core.get(position).zone()) == zone_number(zone)
+    core.get(position).zone().bits() == zone.bits()
 }
 
 impl PositionTest {

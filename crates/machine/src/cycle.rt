@@ -3,7 +3,7 @@
 ghost use Rattle.std.specs.Prelude.{◌≡◌, ◌+◌, ◌%◌, ◌<◌, ◌≤◌, ℕ, length, Ok, IfOk, IfErr, OnErr, OnOk};
 ghost use Rattle.core_store.specs.Storage.{largest_size};
 ghost use Rattle.machine.specs.Effect.{attempt, works_of, Fails, next_of};
-ghost use Rattle.units.specs.Units.{Makes};
+ghost use Rattle.units.specs.Units.{areas_end, Makes};
 ghost use Rattle.machine.specs.Run.{step, attempts, risen, is_running, is_checked, is_halted, standing_after, event_of};
 
 use crate::decode::{Word, decode, word_length};
@@ -30,7 +30,7 @@ fn attempt<C: Core>(
     registers: &mut Registers,
     units: &mut Units,
 ) -> Result<Course, Fault>
-    requires { 333 ≤ length (C.cells core.old) }
+    requires { areas_end ≤ length (C.cells core.old) }
     ensures done { IfOk result (λ course. attempt (works_of (C.cells core.old) registers.old units.old) ≡ Ok (works_of (C.cells core.new) registers.new units.new, course)) }
     ensures refused { IfErr result (λ fault. Fails fault (works_of (C.cells core.old) registers.old units.old) (attempt (works_of (C.cells core.old) registers.old units.old))) }
     ensures unchanged { OnErr result (works_of (C.cells core.new) registers.new units.new ≡ works_of (C.cells core.old) registers.old units.old) }

@@ -3,6 +3,7 @@
 ghost use Rattle.std.specs.Prelude.{◌≡◌, ◌≤◌, ◌<◌, ℕ, length, Ok, Err, IfOk, IfErr, OnErr, OnOk};
 ghost use Rattle.core_store.specs.Storage.{largest_size};
 ghost use Rattle.units.specs.declared.units.Units.{Units};
+ghost use Rattle.units.specs.Units.{areas_end};
 ghost use Rattle.machine.specs.declared.decode.Operation.TheVariants.{OnFields, ClearStorage, StoreA, StoreB};
 ghost use Rattle.machine.specs.Effect.{effect, worked, ordered_by, Fails, works_of, branched, at, after_unit, after_halt, after_clear, after_branch, is_taken, looked_at, passed, passed_by};
 ghost use Rattle.machine.specs.Word.{LooksInside};
@@ -303,7 +304,7 @@ pub fn execute<C: Core>(
     decoded: Decoded,
     next: u16,
 ) -> Result<Course, Fault>
-    requires size { 333 ≤ length (C.cells core.old) }
+    requires size { areas_end ≤ length (C.cells core.old) }
     requires inside { LooksInside decoded.modifier decoded.b (length (C.cells core.old)) }
     requires below { LooksInside decoded.modifier decoded.b largest_size }
     ensures done { IfOk result (λ course. effect decoded.operation decoded next (works_of (C.cells core.old) registers.old units.old) ≡ Ok (works_of (C.cells core.new) registers.new units.new, course)) }

@@ -7,20 +7,6 @@ ghost use Rattle.moves.specs.Characters.{part_of, of_parts, bare, IsOfParts};
 
 use bcd::{Code, Zone};
 
-/// The bits B and A as a number.
-#[inline(always)]
-fn zone_number(zone: Zone) -> u8
-    ensures number { result ≡ zone_number zone }
-    ensures most { result ≤ 3 }
-{
-    match zone {
-        Zone::Bare => 0,
-        Zone::A => 1,
-        Zone::B => 2,
-        Zone::AB => 3,
-    }
-}
-
 /// The bits 8, 4, 2 and 1 of a character.
 #[inline(always)]
 pub fn part_of(code: Code) -> u8
@@ -36,7 +22,7 @@ pub fn of_parts(zone: Zone, part: u8) -> Code
     requires { part < 16 }
     ensures { result ≡ of_parts zone part }
 {
-    Code::from_number(16 * zone_number(zone) + part).unwrap()
+    Code::from_number(16 * zone.bits() + part).unwrap()
 }
 
 /// A character without its zone.

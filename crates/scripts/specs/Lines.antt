@@ -1,13 +1,10 @@
 -- the lines of a script
 use Rattle.std.specs.Prelude.{ℕ, ◌≡◌, ◌≢◌, List, ◌∷◌, ◌++◌, All}
+use Rattle.cards.specs.Files.{line_feed}
 
 -- the byte is not among these bytes
 abbrev pub IsWithout : ℕ → List ℕ → Type 0
 IsWithout byte = All (λ other. other ≢ byte)
-
--- the byte that ends a line
-abbrev pub line_feed : ℕ
-line_feed = 10
 
 -- the bytes begin with a line and its line feed, and the rest follows
 abbrev pub BeginsWithLine : List ℕ → List ℕ → List ℕ → Type 0

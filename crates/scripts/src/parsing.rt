@@ -10,6 +10,7 @@ use crate::found::Found;
 use crate::headings::Heading;
 use crate::said::Said;
 use crate::saying::said_in;
+use cards::LINE_FEED;
 use office::{Command, Contents};
 use std::alloc::Global;
 
@@ -71,7 +72,7 @@ fn command_in(alloc: Global, bytes: &[u8]) -> Result<Found<'_>, ScriptFault>
     ensures fault { IfErr result (IsFaultHere bytes.now) }
     ensures near { IfErr result IsNear }
 {
-    let Some((line, rest)) = cut_at(b'\n', bytes) else {
+    let Some((line, rest)) = cut_at(LINE_FEED, bytes) else {
         return Err(ScriptFault::BadLine(1));
     };
     match said_in(alloc, line)? {

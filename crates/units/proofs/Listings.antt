@@ -9,7 +9,8 @@ use Rattle.std.proofs.lemmas.List.Folds.{find-append}
 use Rattle.std.proofs.lemmas.List.Sums.{suffix_len_is, fold_push}
 use Rattle.std.proofs.lemmas.Bool.{eq-eqb, ne_eqb, cases_eq}
 use Rattle.units.specs.declared.printer.Line.{Line}
-use Rattle.units.specs.Listing.{shown, blank, text_of, line_feed, form_feed, printed_at, listed_line, last_line, page, rendered, IsAbove, IsRising}
+use Rattle.units.specs.Listing.{shown, blank, text_of, form_feed, printed_at, listed_line, last_line, page, rendered, IsAbove, IsRising}
+use Rattle.cards.specs.Files.{line_feed}
 
 -- what a print area shows, by where its trailing blanks begin
 pub text_is : (codes : List ℕ) (n : ℕ) → n ≤ length codes → ((k : ℕ) → n ≤ k → k < length codes → shown (get_or codes k 0) ≡ blank) →

@@ -4,6 +4,7 @@ use Rattle.std.specs.List.{All, AllAdjacentBelow, list_any, flat_map, join_with_
 use Rattle.std.specs.Option.{option_map_or}
 use Rattle.bcd.specs.Table.{glyph_of, byte}
 use Rattle.units.specs.declared.printer.Line.{Line}
+use Rattle.cards.specs.Files.{line_feed}
 
 -- the glyphs that the printer's chain does not have
 abbrev pub not_on_the_chain : List ℕ
@@ -16,10 +17,6 @@ blank = byte (codes " ")
 -- the glyph that is printed for a character: its own if the chain has it, else a blank
 unfoldable pub shown : ℕ → ℕ
 shown code = if list_any (λ g. glyph_of code == g) not_on_the_chain then blank else glyph_of code
-
--- the byte that ends a line
-abbrev pub line_feed : ℕ
-line_feed = 10
 
 -- the byte between two forms
 abbrev pub form_feed : ℕ

@@ -40,6 +40,18 @@ print_area = 201
 abbrev pub characters_of_line : ℕ
 characters_of_line = 132
 
+-- the first position after the read area
+abbrev pub read_area_end : ℕ
+read_area_end = 81
+
+-- the first position after the punch area
+abbrev pub punch_area_end : ℕ
+punch_area_end = 181
+
+-- the first position after the print area, the last of the three areas
+abbrev pub areas_end : ℕ
+areas_end = 333
+
 -- storage with the next card in the read area, 001 to 080, and the reader after it; word marks stay
 unfoldable pub card_read : Storage → Hopper → Result (Storage × Hopper) Check
 card_read s h =

@@ -31,7 +31,7 @@ pub use fault::Fault;
 pub use laws::{lines_in_range_rise, operating_only_adds, operating_stays_in_range};
 pub use listing::render;
 pub use operation::operate;
-pub use printer::{Line, MOST_LINES, Printer, print_line};
+pub use printer::{LINE_LENGTH, Line, MOST_LINES, Printer, print_line};
 pub use punch::{MOST_CARDS, Punch, punch_card};
 pub use reader::{Hopper, put_card, read_card};
 pub use switches::Switches;

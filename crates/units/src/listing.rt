@@ -1,13 +1,13 @@
 //! Listings: printed lines as a text.
 
 ghost use Rattle.std.specs.Prelude.{◌≡◌, ◌≢◌, ◌≤◌, ◌<◌, ◌-◌, ◌++◌, ◌∷◌, ℕ, [], length, map, take, replicate, slice_index, IfOk, OnOk};
-ghost use Rattle.units.specs.Listing.{shown, blank, text_of, rendered, line_feed, IsRising};
+ghost use Rattle.units.specs.Listing.{shown, blank, text_of, rendered, IsRising};
+ghost use Rattle.cards.specs.Files.{line_feed};
 
-use crate::printer::Line;
+use crate::printer::{LINE_LENGTH, Line};
 use bcd::Code;
+use cards::LINE_FEED;
 use std::alloc::{AllocError, Global};
-
-const LINE_FEED: u8 = 10;
 
 const FORM_FEED: u8 = 12;
 
@@ -40,11 +40,11 @@ fn length_shown(codes: &[Code]) -> usize
 }
 
 /// Adds what a line shows, without trailing blanks, and its end.
-fn push_line(text: &mut Vec<u8>, codes: &[Code; 132]) -> Result<(), AllocError>
+fn push_line(text: &mut Vec<u8>, codes: &[Code; LINE_LENGTH]) -> Result<(), AllocError>
     ensures { OnOk result (text.new.items ≡ text.old.items ++ (text_of codes.now ++ line_feed ∷ [])) }
 {
     let length = length_shown(codes);
-    let mut line = [LINE_FEED; 133];
+    let mut line = [LINE_FEED; LINE_LENGTH + 1];
     for place in 0..length {
         line[place] = shown(codes[place]);
     }

@@ -3,7 +3,7 @@
 ghost use Rattle.std.specs.Prelude.{◌≡◌, ◌≤◌, ◌⊎◌, true, false, length, Ok, Err, IsOk, OnOk, OnErr, IfErr};
 ghost use Rattle.core_store.specs.Storage.{Storage};
 ghost use Rattle.core_store.specs.declared.registers.Check.TheVariants.{ReaderEmpty, PunchFull, PrinterFull};
-ghost use Rattle.units.specs.Units.{reader_works, punch_works, printer_works, operated, PunchFails, PrintFails, OperationFails};
+ghost use Rattle.units.specs.Units.{areas_end, punch_area_end, read_area_end, reader_works, punch_works, printer_works, operated, PunchFails, PrintFails, OperationFails};
 
 use crate::devices::Devices;
 use crate::fault::Fault;
@@ -64,7 +64,7 @@ impl Units {
 /// What the punch does in an operation.
 #[tactic(auto, unfolding(crate::specs::Units::punch_works))]
 fn work_punch<C: Core>(core: &C, punch: &mut Punch, devices: Devices) -> Result<(), Fault>
-    requires { 181 ≤ length (C.cells core.now) }
+    requires { punch_area_end ≤ length (C.cells core.now) }
     ensures done { OnOk result (punch_works devices (C.cells core.now) punch.old ≡ Ok punch.new) }
     ensures refused { IfErr result (λ fault. PunchFails fault punch.old (punch_works devices (C.cells core.now) punch.old)) }
     ensures unchanged { OnErr result (punch.new ≡ punch.old) }
@@ -78,7 +78,7 @@ fn work_punch<C: Core>(core: &C, punch: &mut Punch, devices: Devices) -> Result<
 /// What the printer does in an operation.
 #[tactic(auto, unfolding(crate::specs::Units::printer_works))]
 fn work_printer<C: Core>(core: &C, printer: &mut Printer, devices: Devices) -> Result<(), Fault>
-    requires { 333 ≤ length (C.cells core.now) }
+    requires { areas_end ≤ length (C.cells core.now) }
     ensures done { OnOk result (printer_works devices (C.cells core.now) printer.old ≡ Ok printer.new) }
     ensures refused { IfErr result (λ fault. PrintFails fault printer.old (printer_works devices (C.cells core.now) printer.old)) }
     ensures unchanged { OnErr result (printer.new ≡ printer.old) }
@@ -92,7 +92,7 @@ fn work_printer<C: Core>(core: &C, printer: &mut Printer, devices: Devices) -> R
 /// What the reader does in an operation, once it is known to have its card.
 #[tactic(auto, using(crate::proofs::Together::reader_has), unfolding(crate::specs::Units::reader_works))]
 fn work_reader<C: Core>(core: &mut C, hopper: &mut Hopper, devices: Devices)
-    requires size { 81 ≤ length (C.cells core.old) }
+    requires size { read_area_end ≤ length (C.cells core.old) }
     requires ready { IsOk (reader_works devices (C.cells core.old) hopper.old) }
     ensures { reader_works devices (C.cells core.old) hopper.old ≡ Ok (C.cells core.new, hopper.new) }
 {
@@ -110,7 +110,7 @@ fn work_makers<C: Core>(
     printer: &mut Printer,
     devices: Devices,
 ) -> Result<(), Fault>
-    requires { 333 ≤ length (C.cells core.now) }
+    requires { areas_end ≤ length (C.cells core.now) }
     ensures punched { OnOk result (punch_works devices (C.cells core.now) punch.old ≡ Ok punch.new) }
     ensures printed { OnOk result (printer_works devices (C.cells core.now) printer.old ≡ Ok printer.new) }
     ensures refused { IfErr result (λ fault. PunchFails fault punch.old (punch_works devices (C.cells core.now) punch.old) ⊎ PrintFails fault printer.old (printer_works devices (C.cells core.now) printer.old)) }
@@ -132,7 +132,7 @@ fn work_makers<C: Core>(
 /// of memory nothing is done either.
 #[tactic(auto, using(crate::proofs::Together::operation_fails, crate::proofs::Together::reader_goes, crate::proofs::Together::operation_is))]
 pub fn operate<C: Core>(core: &mut C, units: &mut Units, devices: Devices) -> Result<(), Fault>
-    requires { 333 ≤ length (C.cells core.old) }
+    requires { areas_end ≤ length (C.cells core.old) }
     ensures done { OnOk result (operated devices (C.cells core.old) units.old ≡ Ok (C.cells core.new, units.new)) }
     ensures refused { IfErr result (λ fault. OperationFails fault units.old (operated devices (C.cells core.old) units.old)) }
     ensures unchanged { OnErr result ((C.cells core.new ≡ C.cells core.old) × (units.new ≡ units.old)) }

@@ -3,7 +3,7 @@
 ghost use Rattle.std.specs.Prelude.{◌≡◌, ◌≤◌, true, false, length, Ok, Err, IsOk, OnOk, OnErr, IfErr};
 ghost use Rattle.core_store.specs.Storage.{Storage};
 ghost use Rattle.core_store.specs.declared.registers.Check.TheVariants.{PrinterFull};
-ghost use Rattle.units.specs.Units.{line_printed, PrintFails};
+ghost use Rattle.units.specs.Units.{areas_end, line_printed, PrintFails};
 
 use crate::areas::{PRINT_AREA, codes_at};
 use crate::carriage::Carriage;
@@ -15,6 +15,9 @@ use std::marker::Model;
 /// The printer makes no more lines.
 pub const MOST_LINES: usize = 20_000;
 
+/// How many characters a printed line has.
+pub const LINE_LENGTH: usize = 132;
+
 /// A printed line: where it stands, and the characters of the print area.
 #[derive(Clone, Copy, Debug, PartialEq, Eq)]
 pub struct Line {
@@ -23,7 +26,7 @@ pub struct Line {
     /// The line of the form, 1 to 66.
     pub line: u8,
     /// What stood in the print area, 201 to 332.
-    pub codes: [Code; 132],
+    pub codes: [Code; LINE_LENGTH],
 }
 
 /// The lines printed so far, and the carriage.
@@ -57,7 +60,7 @@ impl Printer {
 /// many lines as it can, or the carriage would pass the last form.
 #[tactic(auto, unfolding(crate::specs::Units::line_printed))]
 pub fn print_line<C: Core>(core: &C, printer: &mut Printer) -> Result<(), Fault>
-    requires { 333 ≤ length (C.cells core.now) }
+    requires { areas_end ≤ length (C.cells core.now) }
     ensures done { OnOk result (line_printed (C.cells core.now) printer.old ≡ Ok printer.new) }
     ensures refused { IfErr result (λ fault. PrintFails fault printer.old (line_printed (C.cells core.now) printer.old)) }
     ensures unchanged { OnErr result (printer.new ≡ printer.old) }

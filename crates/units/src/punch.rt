@@ -3,7 +3,7 @@
 ghost use Rattle.std.specs.Prelude.{◌≡◌, ◌≤◌, true, false, length, take, Ok, Err, IsOk, OnOk, OnErr, IfErr};
 ghost use Rattle.core_store.specs.Storage.{Storage};
 ghost use Rattle.core_store.specs.declared.registers.Check.TheVariants.{PunchFull};
-ghost use Rattle.units.specs.Units.{card_punched, PunchFails};
+ghost use Rattle.units.specs.Units.{punch_area_end, card_punched, PunchFails};
 
 use crate::areas::{PUNCH_AREA, codes_at};
 use crate::fault::Fault;
@@ -58,7 +58,7 @@ impl Punch {
 /// as it can.
 #[tactic(auto, unfolding(crate::specs::Units::card_punched))]
 pub fn punch_card<C: Core>(core: &C, punch: &mut Punch) -> Result<(), Fault>
-    requires { 181 ≤ length (C.cells core.now) }
+    requires { punch_area_end ≤ length (C.cells core.now) }
     ensures done { OnOk result (card_punched (C.cells core.now) punch.old ≡ Ok punch.new) }
     ensures refused { IfErr result (λ fault. PunchFails fault punch.old (card_punched (C.cells core.now) punch.old)) }
     ensures unchanged { OnErr result (punch.new ≡ punch.old) }

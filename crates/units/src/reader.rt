@@ -3,7 +3,7 @@
 ghost use Rattle.std.specs.Prelude.{◌≡◌, ◌==◌, ◌<◌, ◌≤◌, true, false, length, Ok, Err, IsOk, OnOk, OnErr, IfErr};
 ghost use Rattle.core_store.specs.Storage.{Storage, put_codes};
 ghost use Rattle.core_store.specs.declared.registers.Check.TheVariants.{ReaderEmpty};
-ghost use Rattle.units.specs.Units.{card_read};
+ghost use Rattle.units.specs.Units.{read_area_end, card_read};
 
 use crate::areas::{READ_AREA, put_codes};
 use cards::{Card, Deck};
@@ -38,7 +38,7 @@ impl Hopper {
 
 /// Writes a card into the read area, 001 to 080. Marks stay.
 pub fn put_card<C: Core>(core: &mut C, card: &Card)
-    requires { 81 ≤ length (C.cells core.old) }
+    requires { read_area_end ≤ length (C.cells core.old) }
     ensures { C.cells core.new ≡ put_codes (C.cells core.old) 1 card.now.0 }
 {
     put_codes(core, READ_AREA, &card.0);
@@ -47,7 +47,7 @@ pub fn put_card<C: Core>(core: &mut C, card: &Card)
 /// Reads the next card, where there is one.
 #[tactic(auto, unfolding(crate::specs::Units::card_read))]
 pub(crate) fn take_card<C: Core>(core: &mut C, hopper: &mut Hopper)
-    requires size { 81 ≤ length (C.cells core.old) }
+    requires size { read_area_end ≤ length (C.cells core.old) }
     requires some { hopper.old.taken < length hopper.old.deck }
     ensures { card_read (C.cells core.old) hopper.old ≡ Ok (C.cells core.new, hopper.new) }
 {
@@ -58,7 +58,7 @@ pub(crate) fn take_card<C: Core>(core: &mut C, hopper: &mut Hopper)
 /// Reads the next card into the read area, or else READER EMPTY: no card is left.
 #[tactic(auto, unfolding(crate::specs::Units::card_read))]
 pub fn read_card<C: Core>(core: &mut C, hopper: &mut Hopper) -> Result<(), Check>
-    requires { 81 ≤ length (C.cells core.old) }
+    requires { read_area_end ≤ length (C.cells core.old) }
     ensures done { OnOk result (card_read (C.cells core.old) hopper.old ≡ Ok (C.cells core.new, hopper.new)) }
     ensures check { IfErr result (λ check. card_read (C.cells core.old) hopper.old ≡ Err check) }
     ensures unchanged { OnErr result ((C.cells core.new ≡ C.cells core.old) × (hopper.new ≡ hopper.old)) }

@@ -7,7 +7,7 @@ use Rattle.addresses.proofs.digits.digit_under.Goals as goal
 character : (c : goal.After-unwrap) → c.unwrap.result ≡ digit_under c.args.zone c.args.digit
 character c =
     rw c.unwrap.ensures at c.from_number.ensures.value
-    ∙ ap (λ n. 16 * n + c.part_of.result) c.zone_number.ensures.number
+    ∙ ap (λ n. 16 * n + c.part_of.result) c.bits.ensures.bits
     ∙ ap (λ n. 16 * zone_number c.args.zone + n) c.part_of.ensures.part
     ∙ digit_number c.args.zone c.args.digit c.requires
 

@@ -3,7 +3,7 @@ use Rattle.autocoder_statements.proofs.Glyphs.{code_found, code_missing}
 use Rattle.autocoder_statements.proofs.operations.code_of.Goals as goal
 
 pub returns-in-Some : goal.returns-in-Some
-returns-in-Some c = code_found c.args.glyph c.in-Some.code (rw c.number-number.ensures.same at c.number-number.ensures.below) c.in-Some.ensures.found
+returns-in-Some c = code_found c.args.glyph c.in-Some.code c.in-Some.ensures.below c.in-Some.ensures.found
 
 pub returns-in-None : goal.returns-in-None
 returns-in-None c = c.blank.ensures ∙ code_missing c.args.glyph (c.in-None.ensures.missing refl)

@@ -38,7 +38,7 @@ returns-in_err-low-clause-error c =
 
 pub returns-in-Some-clause-column : goal.returns-in-Some-clause-column
 returns-in-Some-clause-column c = (
-  rw (← c.number-number.ensures.same) c.number-number.ensures.below,
+  c.in-Some.ensures.below,
   column_found _ _ _ _ _ _ _ _ c.in_ok-high.ensures.digit c.in_ok-middle.ensures.digit c.in_ok-low.ensures.digit c.in-Some.ensures.found,
 )
 

@@ -1,5 +1,5 @@
 use Rattle.std.proofs.Common.{◌≡◌, ◌++◌, replicate}
-use Rattle.units.specs.Listing.{line_feed}
+use Rattle.cards.specs.Files.{line_feed}
 use Rattle.units.proofs.listing.push_empty_lines.Given as goal
 
 abbrev pub invariant-loop : goal.invariant-loop
