@@ -35,59 +35,61 @@ fn checked(check: Check) -> JobStanding {
     JobStanding::Checked { check, at: 351 }
 }
 
+/// A reply without a list, by a word for it.
+fn reply_of(word: &str) -> Reply {
+    match word {
+        "taken" => Reply::Taken { cards: 6 },
+        "ran" => Reply::Ran {
+            executed: 34,
+            standing: JobStanding::Running,
+        },
+        "started" => Reply::Started,
+        "held" => Reply::Held,
+        "released" => Reply::Released,
+        "collected" => Reply::Collected { cards: 0, lines: 2 },
+        "two lines" => Reply::Standing(two_lines()),
+        _ => Reply::Standing(three_cards()),
+    }
+}
+
 #[test]
 fn replies_have_their_words(rt: HostRuntime) -> Result<(), Fail> {
-    for (reply, line) in [
+    for (word, line) in [
         (
-            Reply::Taken { cards: 6 },
+            "taken",
             "200 OK|application/json|27|{\"cards\":6,\"reply\":\"taken\"}",
         ),
         (
-            Reply::Ran {
-                executed: 34,
-                standing: JobStanding::Running,
-            },
+            "ran",
             "200 OK|application/json|50|\
              {\"executed\":34,\"reply\":\"ran\",\"standing\":\"running\"}",
         ),
         (
-            Reply::Started,
+            "started",
             "200 OK|application/json|19|{\"reply\":\"started\"}",
         ),
+        ("held", "200 OK|application/json|16|{\"reply\":\"held\"}"),
         (
-            Reply::Held,
-            "200 OK|application/json|16|{\"reply\":\"held\"}",
-        ),
-        (
-            Reply::Released,
+            "released",
             "200 OK|application/json|20|{\"reply\":\"released\"}",
         ),
         (
-            Reply::Collected { cards: 0, lines: 2 },
+            "collected",
             "200 OK|application/json|41|{\"cards\":0,\"lines\":2,\"reply\":\"collected\"}",
         ),
-    ] {
-        assert!(rt; is_answered(rt.alloc(), &reply, line)?, "{line}");
-    }
-    Ok(())
-}
-
-#[test]
-fn jobs_are_told(rt: HostRuntime) -> Result<(), Fail> {
-    for (reply, line) in [
         (
-            Reply::Standing(two_lines()),
+            "two lines",
             "200 OK|application/json|105|{\"cards\":0,\"collected\":false,\"granted\":34,\
              \"held\":false,\"lines\":2,\"reply\":\"standing\",\"standing\":\"running\"}",
         ),
         (
-            Reply::Standing(three_cards()),
+            "three cards",
             "200 OK|application/json|127|{\"cards\":10000,\"collected\":true,\
              \"granted\":1000000000,\"held\":true,\"lines\":20000,\"reply\":\"standing\",\
              \"standing\":\"halted next 345\"}",
         ),
     ] {
-        assert!(rt; is_answered(rt.alloc(), &reply, line)?, "{line}");
+        assert!(rt; is_answered(rt.alloc(), &reply_of(word), line)?, "{line}");
     }
     Ok(())
 }

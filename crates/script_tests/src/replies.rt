@@ -5,28 +5,6 @@ use core_store::Check;
 use office::{JobStanding, Refusal, Reply, Summary};
 use std::test::Fail;
 
-#[test]
-fn replies_have_their_words(rt: HostRuntime) -> Result<(), Fail> {
-    for (reply, line) in [
-        (Reply::Taken { cards: 6 }, "taken 6\n"),
-        (Reply::Taken { cards: 2000 }, "taken 2000\n"),
-        (
-            Reply::Ran {
-                executed: 34,
-                standing: JobStanding::Running,
-            },
-            "ran 34 running\n",
-        ),
-        (Reply::Started, "started\n"),
-        (Reply::Held, "held\n"),
-        (Reply::Released, "released\n"),
-        (Reply::Collected { cards: 0, lines: 2 }, "collected 0 2\n"),
-    ] {
-        assert!(rt; is_written(rt.alloc(), &reply, line)?, "{line}");
-    }
-    Ok(())
-}
-
 /// A job that goes on, has printed two lines, and has these flags.
 fn two_lines(held: bool, collected: bool) -> Reply {
     Reply::Standing(Summary {
@@ -39,36 +17,66 @@ fn two_lines(held: bool, collected: bool) -> Reply {
     })
 }
 
-#[test]
-fn standings_have_their_words(rt: HostRuntime) -> Result<(), Fail> {
-    let halted = Reply::Standing(Summary {
+/// A job at a halt, with the most of everything.
+fn most() -> Summary {
+    Summary {
         standing: JobStanding::Halted { next: 345 },
         held: true,
         collected: true,
         granted: 1_000_000_000,
         cards: 10_000,
         lines: 20_000,
-    });
-    for (reply, line) in [
+    }
+}
+
+/// A reply without a list, by a word for it.
+fn reply_of(word: &str) -> Reply {
+    match word {
+        "taken" => Reply::Taken { cards: 6 },
+        "taken whole" => Reply::Taken { cards: 2000 },
+        "ran" => Reply::Ran {
+            executed: 34,
+            standing: JobStanding::Running,
+        },
+        "started" => Reply::Started,
+        "held" => Reply::Held,
+        "released" => Reply::Released,
+        "collected" => Reply::Collected { cards: 0, lines: 2 },
+        _ => Reply::Standing(most()),
+    }
+}
+
+#[test]
+fn replies_have_their_words(rt: HostRuntime) -> Result<(), Fail> {
+    for (word, line) in [
+        ("taken", "taken 6\n"),
+        ("taken whole", "taken 2000\n"),
+        ("ran", "ran 34 running\n"),
+        ("started", "started\n"),
+        ("held", "held\n"),
+        ("released", "released\n"),
+        ("collected", "collected 0 2\n"),
         (
-            two_lines(false, false),
-            "standing running held 0 collected 0 granted 34 cards 0 lines 2\n",
-        ),
-        (
-            two_lines(true, false),
-            "standing running held 1 collected 0 granted 34 cards 0 lines 2\n",
-        ),
-        (
-            two_lines(false, true),
-            "standing running held 0 collected 1 granted 34 cards 0 lines 2\n",
-        ),
-        (
-            halted,
+            "most",
             "standing halted next 345 held 1 collected 1 granted 1000000000 cards 10000 \
              lines 20000\n",
         ),
     ] {
-        assert!(rt; is_written(rt.alloc(), &reply, line)?, "{line}");
+        assert!(rt; is_written(rt.alloc(), &reply_of(word), line)?, "{line}");
+    }
+    Ok(())
+}
+
+#[test]
+fn standings_have_their_words(rt: HostRuntime) -> Result<(), Fail> {
+    for (held, collected, flags) in [
+        (false, false, "held 0 collected 0"),
+        (true, false, "held 1 collected 0"),
+        (false, true, "held 0 collected 1"),
+    ] {
+        let reply = two_lines(held, collected);
+        let line = format!(in rt.alloc(); "standing running {flags} granted 34 cards 0 lines 2\n")?;
+        assert!(rt; is_written(rt.alloc(), &reply, line.as_str())?, "{line}");
     }
     Ok(())
 }
@@ -98,29 +106,33 @@ fn halts_and_checks_have_their_words(rt: HostRuntime) -> Result<(), Fail> {
     Ok(())
 }
 
+/// A refusal that says no more than its number.
+fn refusal_of(number: u32) -> Refusal {
+    match number {
+        10 => Refusal::Customer,
+        11 => Refusal::Number,
+        12 => Refusal::Size,
+        13 => Refusal::Deck,
+        14 => Refusal::OtherContents,
+        15 => Refusal::TooManyJobs,
+        20 => Refusal::NoJob,
+        21 => Refusal::Limit,
+        22 => Refusal::Held,
+        23 => Refusal::NotRunning,
+        24 => Refusal::NotAtHalt,
+        25 => Refusal::AlreadyHeld,
+        26 => Refusal::NotHeld,
+        27 => Refusal::Collected,
+        _ => Refusal::TooMuch,
+    }
+}
+
 #[test]
 fn refusals_have_their_numbers(rt: HostRuntime) -> Result<(), Fail> {
-    for (reason, line) in [
-        (Refusal::Customer, "refused 10\n"),
-        (Refusal::Number, "refused 11\n"),
-        (Refusal::Size, "refused 12\n"),
-        (Refusal::Deck, "refused 13\n"),
-        (Refusal::OtherContents, "refused 14\n"),
-        (Refusal::TooManyJobs, "refused 15\n"),
-        (Refusal::NoJob, "refused 20\n"),
-        (Refusal::Limit, "refused 21\n"),
-        (Refusal::Held, "refused 22\n"),
-        (Refusal::NotRunning, "refused 23\n"),
-        (Refusal::NotAtHalt, "refused 24\n"),
-        (Refusal::AlreadyHeld, "refused 25\n"),
-        (Refusal::NotHeld, "refused 26\n"),
-        (Refusal::Collected, "refused 27\n"),
-        (Refusal::TooMuch, "refused 28\n"),
-    ] {
-        assert!(rt;
-            is_written(rt.alloc(), &Reply::Refused(reason), line)?,
-            "{line}"
-        );
+    for number in [10, 11, 12, 13, 14, 15, 20, 21, 22, 23, 24, 25, 26, 27, 28] {
+        let reply = Reply::Refused(refusal_of(number));
+        let line = format!(in rt.alloc(); "refused {number}\n")?;
+        assert!(rt; is_written(rt.alloc(), &reply, line.as_str())?, "{line}");
     }
     Ok(())
 }
