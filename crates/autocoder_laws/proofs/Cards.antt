@@ -1,17 +1,16 @@
 -- a card that says an instruction has the word of a mnemonic, and operands of one of its forms
-use Rattle.std.proofs.Common.{◌≡◌, ℕ, Bool, true, false, List, [], ◌∷◌, Option, Some, None, Result, Ok, Err, refl, sym, ◌∙◌, ap, subst, if◌then◌else◌, ◌||◌}
+use Rattle.std.proofs.Common.{◌≡◌, ℕ, Bool, true, false, List, [], ◌∷◌, Option, Some, None, Result, Ok, Err, refl, subst, if◌then◌else◌}
 use Rattle.std.specs.Prelude.{⊤}
 use Rattle.std.specs.Option.{option_map}
 use Rattle.cards.specs.declared.decks.Card.{Card}
 use Rattle.autocoder_statements.specs.Characters.{begins}
 use Rattle.autocoder_statements.specs.Constants.{constant}
 use Rattle.autocoder_statements.specs.Expressions.{positive, expression}
-use Rattle.autocoder_statements.specs.Mnemonics.{mnemonics, orders, entry, mnemonic_of, or_else, operation_named, operands_in, built, instruction}
-use Rattle.autocoder_statements.specs.Statements.{◌>>=◌, is_comment, is_broken, label_field, operation_field, operand_field, operation_in, must_label, may_label, unlabelled, or_fault, whole, size, start, statement_of, statement_on}
+use Rattle.autocoder_statements.specs.Mnemonics.{mnemonics, orders, entry, mnemonic_of, or_else, operation_named, instruction}
+use Rattle.autocoder_statements.specs.Statements.{◌>>=◌, is_comment, label_field, operation_field, operand_field, operation_in, must_label, may_label, unlabelled, or_fault, whole, size, start, statement_of, statement_on}
 use Rattle.autocoder_statements.specs.declared.faults.StatementFault.{StatementFault}
 use Rattle.autocoder_statements.specs.declared.faults.StatementFault.TheVariants as fault
 use Rattle.autocoder_statements.specs.declared.names.Name.{Name}
-use Rattle.autocoder_statements.specs.declared.operands.Operands.{Operands}
 use Rattle.autocoder_statements.specs.declared.operations.Instruction.{Instruction}
 use Rattle.autocoder_statements.specs.declared.operations.Mnemonic.{Mnemonic}
 use Rattle.autocoder_statements.specs.declared.operations.Operation.{Operation}

@@ -1,5 +1,5 @@
 -- operands that are read from a field are of one of the mnemonic's forms
-use Rattle.std.proofs.Common.{◌≡◌, ℕ, ◌⊎◌, inl, inr, Bool, true, false, List, [], ◌∷◌, drop, Option, Some, None, refl, sym, ◌∙◌, ap, subst, if◌then◌else◌}
+use Rattle.std.proofs.Common.{◌≡◌, ℕ, ◌⊎◌, inl, inr, Bool, true, false, List, [], ◌∷◌, drop, Option, Some, None, refl, subst, if◌then◌else◌}
 use Rattle.std.specs.Option.{option_map, option_and_then}
 use Rattle.autocoder_statements.specs.Characters.{is_ended}
 use Rattle.autocoder_statements.specs.Mnemonics.{or_else, operands_if, operands_in}

@@ -1,5 +1,5 @@
 -- the law of instructions
-use Rattle.std.proofs.Common.{◌≡◌, ℕ, ◌-◌, ◌≤◌, ◌+◌, List, Option, Some, None, Ok, refl, sym, ◌∙◌, ap, subst, arith, length}
+use Rattle.std.proofs.Common.{◌≡◌, ℕ, ◌-◌, ◌≤◌, List, Option, Some, None, Ok, refl, sym, ◌∙◌, ap, subst, arith, length}
 use Rattle.std.specs.Prelude.{slice_index}
 use Rattle.cards.specs.declared.decks.Card.{Card}
 use Rattle.machine.specs.Word.{operation_of, has_form}

@@ -11,7 +11,6 @@ use Rattle.core_store.proofs.Marks.{past_end}
 use Rattle.machine.specs.Glyphs.{is_glyph}
 use Rattle.machine.specs.Word.{EndsAt, IsInstruction, word, decoded, decoded_of, operation_of, has_form, modifier_of, operands_of, addresses_in}
 use Rattle.machine.specs.declared.decode.Modifier.{Modifier}
-use Rattle.machine.specs.declared.decode.Operation.{Operation}
 use Rattle.machine.proofs.Ends.{ends_length}
 use Rattle.autocoder_layout.specs.Cells.{row, field}
 use Rattle.autocoder_layout.specs.declared.cells.Cell.{Cell}
@@ -88,7 +87,7 @@ word_is s i code codes few h end =
     } in
     let behind : codes_from s (i + 1) (length codes) ≡ codes = row_codes s (i + 1) codes rest (omega arith) in
     let all : codes_from s i (suc (length codes)) ≡ code ∷ codes =
-        codes_from_next s i (length codes) (omega arith) ∙ ap (λ c. c ∷ codes_from s (i + 1) (length codes)) letter ∙ ap (λ xs. code ∷ xs) behind in
+    codes_from_next s i (length codes) (omega arith) ∙ ap (λ c. c ∷ codes_from s (i + 1) (length codes)) letter ∙ ap (λ xs. code ∷ xs) behind in
     rw (ends_length s i (suc (length codes)) instruction) (ap Some all)
 
 decoded_is : (s : Storage) (r : Registers) (codes : List ℕ) (m : Meaning) (modifier : Modifier) → operation_of (slice_index codes 0) ≡ Some m.operation →

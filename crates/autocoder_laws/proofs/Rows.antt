@@ -1,6 +1,6 @@
 -- each row of the mnemonics suits the meaning in the same place
-use Rattle.std.proofs.Common.{◌≡◌, ℕ, Bool, true, false, List, [], ◌∷◌, Option, Some, None, refl, sym, subst, if◌then◌else◌}
-use Rattle.std.specs.Prelude.{⊤, codes}
+use Rattle.std.proofs.Common.{◌≡◌, ℕ, Bool, true, false, List, [], ◌∷◌, Some, refl, subst}
+use Rattle.std.specs.Prelude.{⊤}
 use Rattle.autocoder_statements.specs.Characters.{begins}
 use Rattle.autocoder_statements.specs.Mnemonics.{entry}
 use Rattle.autocoder_laws.specs.Meanings.{Meaning}

@@ -1,5 +1,5 @@
 -- how many characters an instruction has, and which are its first and its last
-use Rattle.std.proofs.Common.{◌≡◌, ℕ, ◌+◌, ◌*◌, ◌-◌, ◌≤◌, List, [], ◌∷◌, ◌++◌, Option, Some, None, refl, ◌∙◌, ap, arith, length, get_or}
+use Rattle.std.proofs.Common.{◌≡◌, ℕ, ◌*◌, ◌-◌, List, [], ◌∷◌, ◌++◌, Option, Some, None, refl, ◌∙◌, ap, arith, length, get_or}
 use Rattle.std.specs.Prelude.{slice_index, option_to_list}
 use Rattle.std.proofs.Math.ListN.{length-append}
 use Rattle.std.proofs.Math.Seq.{get_or-append_seam}
@@ -47,5 +47,5 @@ module _ (size : ℕ) (slots : List Slot) (literals : List Characters) where
       let front = (spelled.operation ∷ []) ++ operand_codes size slots literals spelled.first in
       let middle = operand_codes size slots literals spelled.second in
       let whole : instruction_codes size slots literals spelled ≡ (front ++ middle) ++ code ∷ [] =
-          ap (λ last. (front ++ middle) ++ option_to_list last) e in
+      ap (λ last. (front ++ middle) ++ option_to_list last) e in
       ap (λ xs. slice_index xs (length xs - 1)) whole ∙ last_of (front ++ middle) code

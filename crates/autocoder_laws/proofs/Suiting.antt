@@ -1,10 +1,9 @@
 -- a row of the mnemonics suits what its name means, in each of its forms
-use Rattle.std.proofs.Common.{◌≡◌, ℕ, ◌+◌, ◌*◌, ◌≤◌, ◌⊎◌, inl, inr, Bool, true, false, ◌&&◌, leb, List, Option, Some, None, refl, sym, ◌∙◌, ap, subst, arith, length, if◌then◌else◌}
+use Rattle.std.proofs.Common.{◌≡◌, ℕ, ◌+◌, ◌*◌, ◌≤◌, inl, inr, Bool, true, false, ◌&&◌, leb, Option, Some, None, refl, sym, ◌∙◌, ap, subst, arith}
 use Rattle.std.specs.Prelude.{⊤, nat_lt, is_some, option_map}
 use Rattle.std.proofs.lemmas.Bool.{leb-true}
 use Rattle.machine.specs.Word.{operation_of, has_form, modifier_of}
 use Rattle.machine.specs.declared.decode.Modifier as modifier
-use Rattle.machine.specs.declared.decode.Operation.{Operation}
 use Rattle.autocoder_statements.specs.Mnemonics.{code_of, or_else, mnemonic_of, built, present, instruction_length}
 use Rattle.autocoder_statements.specs.Operands.{is_modifier}
 use Rattle.autocoder_statements.specs.declared.forms.Form.{Form}
@@ -113,7 +112,7 @@ in_form row m form e fits operands h =
     let few : count ≤ longest (code_of row.0) = leb-true _ _ tested.1 in
     let found : present operands.first + present operands.second ≡ address_count form = addresses form operands.first operands.second h.first h.second in
     let last : 1 + 3 * address_count form + present (or_else operands.modifier (option_map code_of row.1)) ≡ count =
-        counted (address_count form) (last_characters form) row.1 operands.modifier h.last in
+    counted (address_count form) (last_characters form) row.1 operands.modifier h.last in
     let same : instruction_length (built (mnemonic_of row) operands) ≡ count = omega arith in
     record {
       operation = e;

@@ -1,18 +1,15 @@
 -- the table of mnemonics beside that of meanings
-use Rattle.std.proofs.Common.{◌≡◌, ℕ, Option, Some, None, refl}
-use Rattle.std.specs.Prelude.{⊤, codes}
+use Rattle.std.proofs.Common.{◌≡◌, ℕ, Some, refl}
 use Rattle.bcd.specs.Table.{glyph_of}
 use Rattle.machine.specs.Branches.{condition_of, test_of}
 use Rattle.machine.specs.Word.{field_operation_of, other_operation_of, operation_of, has_field_form, has_form, modifier_of, devices}
 use Rattle.machine.specs.declared.branches.Condition.{Condition}
-use Rattle.machine.specs.declared.branches.Condition.TheVariants.{IsUnequal, IsEqual, IsLow, IsHigh, Overflow, LastCard, Channel12}
 use Rattle.machine.specs.declared.branches.PositionTest.TheVariants.{HasMark}
 use Rattle.machine.specs.declared.decode.FieldOperation.{FieldOperation}
 use Rattle.machine.specs.declared.decode.Modifier.TheVariants.{Plain, OnCondition, OnCharacter, OnTest}
-use Rattle.machine.specs.declared.decode.Operation.{Operation}
-use Rattle.machine.specs.declared.decode.Operation.TheVariants.{OnFields, ClearStorage, Branch, BranchOnMarkOrZone, Operate, MoveCarriage, StoreA, StoreB, Halt, NoOperation}
+use Rattle.machine.specs.declared.decode.Operation.TheVariants.{OnFields, ClearStorage, Branch, Operate, StoreA, StoreB, Halt, NoOperation}
 use Rattle.autocoder_statements.specs.Mnemonics.{mnemonics, code_of}
-use Rattle.autocoder_laws.specs.Meanings.{Meaning, meanings}
+use Rattle.autocoder_laws.specs.Meanings.{meanings}
 use Rattle.autocoder_laws.proofs.Lasts.{switches, tests, orders}
 use Rattle.autocoder_laws.proofs.Rows.{AllFit}
 use Rattle.autocoder_laws.proofs.Suiting.{Agrees}

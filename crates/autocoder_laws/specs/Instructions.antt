@@ -1,5 +1,5 @@
 -- instructions as the assembler makes them and the machine reads them
-use Rattle.std.specs.Prelude.{ℕ, ◌≡◌, ◌⊎◌, ◌+◌, ◌-◌, ⊤, nat_lt, Bool, true, List, length, slice_index, Option, Some, None, Result, Ok, is_some}
+use Rattle.std.specs.Prelude.{ℕ, ◌≡◌, ◌⊎◌, ◌+◌, ◌-◌, ⊤, nat_lt, true, List, length, slice_index, Option, Some, None, Ok, is_some}
 use Rattle.std.specs.List.{All}
 use Rattle.cards.specs.declared.decks.Card.{Card}
 use Rattle.core_store.specs.Storage.{Storage, cell_at, is_marked}
@@ -80,7 +80,7 @@ pub record IsReadAs (meaning : Meaning) (codes : List ℕ) (s : Storage) (i : �
   pub word : machine.word s i ≡ Some codes
   pub decoded : (r : Registers) → machine.decoded s r codes
       ≡ and_then (machine.operands_of s (machine.addresses_in meaning.operation (length codes)) r codes)
-          (λ at. Ok (decoded_as meaning modifier (length codes) at))
+      (λ at. Ok (decoded_as meaning modifier (length codes) at))
 
 -- characters are an instruction of a mnemonic, which has so many: wherever they stand under a mark with a mark behind
 -- them, the machine reads them as what the mnemonic means
