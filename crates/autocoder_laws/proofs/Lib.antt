@@ -7,3 +7,4 @@ pub mod Table
 pub mod Forms
 pub mod Cards
 pub mod Laws
+pub mod Addresses

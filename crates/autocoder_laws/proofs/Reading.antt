@@ -1,4 +1,4 @@
--- characters that stand under a mark, with a mark behind them, are read as an instruction
+-- characters that stand under a mark, with a mark after them, are read as an instruction
 use Rattle.std.proofs.Common.{◌≡◌, ℕ, suc, ◌+◌, ◌-◌, ◌<◌, ◌≤◌, Bool, true, false, List, [], ◌∷◌, Some, Ok, refl, sym, ◌∙◌, ap, arith, inl, inr, length, if◌then◌else◌}
 use Rattle.std.specs.Prelude.{codes, slice_index}
 use Rattle.std.proofs.Math.Decide.{dec_lt}
@@ -24,7 +24,7 @@ longest code = if is_glyph code (codes ",") then 7 else 8
 abbrev stands : Storage → Cell → Type 0
 stands s c = cell_at s c.position ≡ (c.code, c.marked)
 
--- ---- what stands behind the first character
+-- ---- what stands after the first character
 
 row_codes : (s : Storage) (p : ℕ) (codes : List ℕ) → Holds s (row p codes) → p + length codes ≤ length s → codes_from s p (length codes) ≡ codes
 unfolding row
@@ -85,9 +85,9 @@ word_is s i code codes few h end =
       ends = rw letter (ends s i code codes rest end _ few);
       inside = omega arith;
     } in
-    let behind : codes_from s (i + 1) (length codes) ≡ codes = row_codes s (i + 1) codes rest (omega arith) in
+    let after : codes_from s (i + 1) (length codes) ≡ codes = row_codes s (i + 1) codes rest (omega arith) in
     let all : codes_from s i (suc (length codes)) ≡ code ∷ codes =
-    codes_from_next s i (length codes) (omega arith) ∙ ap (λ c. c ∷ codes_from s (i + 1) (length codes)) letter ∙ ap (λ xs. code ∷ xs) behind in
+    codes_from_next s i (length codes) (omega arith) ∙ ap (λ c. c ∷ codes_from s (i + 1) (length codes)) letter ∙ ap (λ xs. code ∷ xs) after in
     rw (ends_length s i (suc (length codes)) instruction) (ap Some all)
 
 decoded_is : (s : Storage) (r : Registers) (codes : List ℕ) (m : Meaning) (modifier : Modifier) → operation_of (slice_index codes 0) ≡ Some m.operation →

@@ -82,7 +82,7 @@ pub record IsReadAs (meaning : Meaning) (codes : List ℕ) (s : Storage) (i : �
       ≡ and_then (machine.operands_of s (machine.addresses_in meaning.operation (length codes)) r codes)
       (λ at. Ok (decoded_as meaning modifier (length codes) at))
 
--- characters are an instruction of a mnemonic, which has so many: wherever they stand under a mark with a mark behind
+-- characters are an instruction of a mnemonic, which has so many: wherever they stand under a mark with a mark after
 -- them, the machine reads them as what the mnemonic means
 pub record IsInstructionOf (mnemonic : List ℕ) (count : ℕ) (codes : List ℕ) : Type 0 where
   pub meaning : Meaning
@@ -90,7 +90,7 @@ pub record IsInstructionOf (mnemonic : List ℕ) (count : ℕ) (codes : List ℕ
   pub long : length codes ≡ count
   pub read : (s : Storage) (i : ℕ) → Holds s (field true i codes) → is_marked s (i + length codes) ≡ true → IsReadAs meaning codes s i
 
--- the instruction of a card has the card's meaning, whatever its addresses are
+-- whatever the layout of its source, an instruction has the characters of one of the mnemonic, as many as the layout counts
 abbrev pub IsAssembledAs : List ℕ → Instruction → Type 0
 IsAssembledAs mnemonic spelled =
     (size : ℕ) (slots : List Slot) (literals : List Characters) →

@@ -2,7 +2,7 @@
 
 ghost use Rattle.std.specs.Prelude.{◌≡◌, ℕ, List, Option, Some, Ok};
 ghost use Rattle.cards.specs.declared.decks.Card.{Card};
-ghost use Rattle.autocoder_statements.specs.Mnemonics.{Row, mnemonics, entry, mnemonic_of, built};
+ghost use Rattle.autocoder_statements.specs.Mnemonics.{mnemonics, entry, mnemonic_of, built};
 ghost use Rattle.autocoder_statements.specs.Statements.{statement_on};
 ghost use Rattle.autocoder_statements.specs.declared.forms.Form.{Form};
 ghost use Rattle.autocoder_statements.specs.declared.names.Name.{Name};
