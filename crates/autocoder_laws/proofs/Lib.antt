@@ -1,0 +1,10 @@
+pub mod Reading
+pub mod Shapes
+pub mod Suiting
+pub mod Lasts
+pub mod Rows
+pub mod Table
+pub mod Forms
+pub mod Cards
+pub mod Laws
+pub mod Addresses
