@@ -1,6 +1,6 @@
 -- the last characters that operands may give, each by its glyph
-use Rattle.std.proofs.Common.{◌≡◌, ℕ, ◌==◌, Bool, true, false, ◌||◌, subst, List, [], ◌∷◌, Some, refl, ap}
-use Rattle.std.specs.Prelude.{⊤, option_map, codes}
+use Rattle.std.proofs.Common.{◌≡◌, ℕ, ◌==◌, Bool, true, false, ◌||◌, subst, List, [], ◌∷◌, Some, refl}
+use Rattle.std.specs.Prelude.{⊤, codes}
 use Rattle.std.specs.List.{list_any}
 use Rattle.std.proofs.lemmas.Bool.{eqb-true}
 use Rattle.bcd.specs.Table.{glyph_of}
@@ -18,7 +18,7 @@ use Rattle.machine.specs.declared.decode.Modifier.TheVariants.{OnCondition, OnTe
 use Rattle.machine.specs.declared.decode.Operation.TheVariants as operation
 use Rattle.autocoder_statements.specs.Operands.{is_modifier}
 use Rattle.autocoder_statements.specs.declared.forms.Modifiers.TheVariants.{Switches, ZonesAndMarks, Carriage}
-use Rattle.autocoder_laws.specs.Meanings.{switch_named, switch_asked, test_asked, order_asked}
+use Rattle.autocoder_laws.specs.Meanings.{Meaning, switch_named, switch_asked, test_asked, order_asked}
 use Rattle.autocoder_laws.proofs.Suiting.{Agrees}
 
 -- ---- a fact of each of some glyphs
@@ -38,105 +38,87 @@ among P (other ∷ glyphs) all glyph h =
     (λ here. subst P (eqb-true other glyph here) all.0)
     (λ later. among P glyphs all.1 glyph later)
 
+-- a fact of the first glyph, and of the others
+infixr 5 ◌▸◌
+abbrev ◌▸◌ : {A B : Type 0} → A → B → A × B
+first ▸ others = (first, others)
+
 -- ---- the letters of switches
 
-abbrev AtSwitch : ℕ → ℕ → Type 0
-AtSwitch code glyph = glyph_of code ≡ glyph → Agrees (record { operation = operation.Branch; says = switch_asked }) 5 code
+abbrev asks_switch : Meaning
+asks_switch = record { operation = operation.Branch; says = switch_asked }
 
-at_switch : (code glyph bit : ℕ) → glyph_of code ≡ glyph →
-    (glyph_of code ≡ glyph → condition_of code ≡ Some (SwitchOn (switch bit))) →
-    (glyph_of code ≡ glyph → switch_named code ≡ Some (switch bit)) → Agrees (record { operation = operation.Branch; says = switch_asked }) 5 code
+AtSwitch : ℕ → ℕ → Type 0
+AtSwitch code glyph = glyph_of code ≡ glyph → Agrees asks_switch 5 code
+
+at_switch : (code bit : ℕ) → condition_of code ≡ Some (SwitchOn (switch bit)) → switch_named code ≡ Some (switch bit) → Agrees asks_switch 5 code
 unfolding modifier_of
-at_switch code glyph bit e read named = record { modifier = OnCondition (SwitchOn (switch bit)); read = rw (read e) refl; meant = rw (named e) refl }
+at_switch code bit read named = record { modifier = OnCondition (SwitchOn (switch bit)); read = rw read refl; meant = rw named refl }
 
-pub switches : (code : ℕ) → is_modifier Switches code ≡ true → Agrees (record { operation = operation.Branch; says = switch_asked }) 5 code
-unfolding is_modifier condition_of
+pub switches : (code : ℕ) → is_modifier Switches code ≡ true → Agrees asks_switch 5 code
+unfolding is_modifier condition_of AtSwitch
 switches code h =
-    among (AtSwitch code) (codes "BCDEFG") (
-      λ e. at_switch code _ 2 e (λ t. rw t refl) (λ t. rw t refl),
-      (
-        λ e. at_switch code _ 4 e (λ t. rw t refl) (λ t. rw t refl),
-        (
-          λ e. at_switch code _ 8 e (λ t. rw t refl) (λ t. rw t refl),
-          (
-            λ e. at_switch code _ 16 e (λ t. rw t refl) (λ t. rw t refl),
-            (
-              λ e. at_switch code _ 32 e (λ t. rw t refl) (λ t. rw t refl),
-              (λ e. at_switch code _ 64 e (λ t. rw t refl) (λ t. rw t refl), tt),
-            ),
-          ),
-        ),
-      ),
-    )
+    among (AtSwitch code) (codes "BCDEFG")
+    ((λ e. at_switch code 2 (rw e refl) (rw e refl))
+    ▸ (λ e. at_switch code 4 (rw e refl) (rw e refl))
+    ▸ (λ e. at_switch code 8 (rw e refl) (rw e refl))
+    ▸ (λ e. at_switch code 16 (rw e refl) (rw e refl))
+    ▸ (λ e. at_switch code 32 (rw e refl) (rw e refl))
+    ▸ (λ e. at_switch code 64 (rw e refl) (rw e refl))
+    ▸ tt)
     (glyph_of code) h refl
 
 -- ---- the tests of a position
 
-AtTest : ℕ → ℕ → Type 0
-AtTest code glyph = glyph_of code ≡ glyph → (test : PositionTest) × (test_of code ≡ Some test)
+abbrev asks_test : Meaning
+asks_test = record { operation = operation.BranchOnMarkOrZone; says = test_asked }
 
-pub tests : (code count : ℕ) → is_modifier ZonesAndMarks code ≡ true → Agrees (record { operation = operation.BranchOnMarkOrZone; says = test_asked }) count code
-unfolding is_modifier test_of modifier_of AtTest
+AtTest : ℕ → ℕ → ℕ → Type 0
+AtTest code count glyph = glyph_of code ≡ glyph → Agrees asks_test count code
+
+at_test : (code count : ℕ) (test : PositionTest) → test_of code ≡ Some test → Agrees asks_test count code
+unfolding modifier_of
+at_test code count test named = record { modifier = OnTest test; read = rw named refl; meant = rw named refl }
+
+pub tests : (code count : ℕ) → is_modifier ZonesAndMarks code ≡ true → Agrees asks_test count code
+unfolding is_modifier test_of AtTest
 tests code count h =
-    let found : (test : PositionTest) × (test_of code ≡ Some test) =
-    among (AtTest code) (codes "12BKS3CLT") (
-      λ e. (HasMark, rw e refl),
-      (
-        λ e. (HasZone Bare, rw e refl),
-        (
-          λ e. (HasZone AB, rw e refl),
-          (
-            λ e. (HasZone B, rw e refl),
-            (
-              λ e. (HasZone A, rw e refl),
-              (
-                λ e. (HasZoneOrMark Bare, rw e refl),
-                (
-                  λ e. (HasZoneOrMark AB, rw e refl),
-                  (
-                    λ e. (HasZoneOrMark B, rw e refl),
-                    (λ e. (HasZoneOrMark A, rw e refl), tt),
-                  ),
-                ),
-              ),
-            ),
-          ),
-        ),
-      ),
-    )
-    (glyph_of code) h refl in
-    record { modifier = OnTest found.0; read = ap (option_map (λ test. OnTest test)) found.1; meant = ap (option_map (λ test. OnTest test)) found.1 }
+    among (AtTest code count) (codes "12BKS3CLT")
+    ((λ e. at_test code count HasMark (rw e refl))
+    ▸ (λ e. at_test code count (HasZone Bare) (rw e refl))
+    ▸ (λ e. at_test code count (HasZone AB) (rw e refl))
+    ▸ (λ e. at_test code count (HasZone B) (rw e refl))
+    ▸ (λ e. at_test code count (HasZone A) (rw e refl))
+    ▸ (λ e. at_test code count (HasZoneOrMark Bare) (rw e refl))
+    ▸ (λ e. at_test code count (HasZoneOrMark AB) (rw e refl))
+    ▸ (λ e. at_test code count (HasZoneOrMark B) (rw e refl))
+    ▸ (λ e. at_test code count (HasZoneOrMark A) (rw e refl))
+    ▸ tt)
+    (glyph_of code) h refl
 
 -- ---- the orders to the carriage
 
-AtOrder : ℕ → ℕ → Type 0
-AtOrder code glyph = glyph_of code ≡ glyph → (order : CarriageOrder) × (order_of code ≡ Some order)
+abbrev asks_order : Meaning
+asks_order = record { operation = operation.MoveCarriage; says = order_asked }
 
-pub orders : (code count : ℕ) → is_modifier Carriage code ≡ true → Agrees (record { operation = operation.MoveCarriage; says = order_asked }) count code
-unfolding is_modifier order_of modifier_of AtOrder
+AtOrder : ℕ → ℕ → ℕ → Type 0
+AtOrder code count glyph = glyph_of code ≡ glyph → Agrees asks_order count code
+
+at_order : (code count : ℕ) (order : CarriageOrder) → order_of code ≡ Some order → Agrees asks_order count code
+unfolding modifier_of
+at_order code count order named = record { modifier = ByOrder order; read = rw named refl; meant = rw named refl }
+
+pub orders : (code count : ℕ) → is_modifier Carriage code ≡ true → Agrees asks_order count code
+unfolding is_modifier order_of AtOrder
 orders code count h =
-    let found : (order : CarriageOrder) × (order_of code ≡ Some order) =
-    among (AtOrder code) (codes "JKL/ST1A") (
-      λ e. (Now Space, rw e refl),
-      (
-        λ e. (Now DoubleSpace, rw e refl),
-        (
-          λ e. (Now TripleSpace, rw e refl),
-          (
-            λ e. (AfterLine Space, rw e refl),
-            (
-              λ e. (AfterLine DoubleSpace, rw e refl),
-              (
-                λ e. (AfterLine TripleSpace, rw e refl),
-                (
-                  λ e. (Now SkipToChannel1, rw e refl),
-                  (λ e. (AfterLine SkipToChannel1, rw e refl), tt),
-                ),
-              ),
-            ),
-          ),
-        ),
-      ),
-    )
-    (glyph_of code) h refl in
-    record { modifier = ByOrder found.0; read = ap (option_map (λ order. ByOrder order)) found.1; meant = ap (option_map (λ order. ByOrder order)) found.1 }
+    among (AtOrder code count) (codes "JKL/ST1A")
+    ((λ e. at_order code count (Now Space) (rw e refl))
+    ▸ (λ e. at_order code count (Now DoubleSpace) (rw e refl))
+    ▸ (λ e. at_order code count (Now TripleSpace) (rw e refl))
+    ▸ (λ e. at_order code count (AfterLine Space) (rw e refl))
+    ▸ (λ e. at_order code count (AfterLine DoubleSpace) (rw e refl))
+    ▸ (λ e. at_order code count (AfterLine TripleSpace) (rw e refl))
+    ▸ (λ e. at_order code count (Now SkipToChannel1) (rw e refl))
+    ▸ (λ e. at_order code count (AfterLine SkipToChannel1) (rw e refl))
+    ▸ tt)
+    (glyph_of code) h refl
