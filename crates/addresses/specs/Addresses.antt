@@ -17,7 +17,8 @@ unreadable = 20000
 -- the part of an address that one character gives: its digit and its zone, each times this weight,
 -- if it has a digit
 unfoldable pub weighed : ℕ → ℕ → ℕ → Option ℕ
-weighed of_digit of_zone code = option_map (λ digit. of_digit * digit + of_zone * zone_number (zone_of code)) (digit_of code)
+weighed of_digit of_zone code =
+    option_map (λ digit. of_digit * digit + of_zone * zone_number (zone_of code)) (digit_of code)
 
 -- the sum of three numbers, if all are there
 abbrev pub sum_of : Option ℕ → Option ℕ → Option ℕ → Option ℕ
@@ -29,11 +30,13 @@ sum_of None y z = None
 -- the number that three address characters give: their digits, 1000 for each step of the first
 -- one's zone and 4000 for each of the third's
 unfoldable pub base : ℕ → ℕ → ℕ → Option ℕ
-base first second third = sum_of (weighed 100 1000 first) (weighed 10 0 second) (weighed 1 4000 third)
+base first second third =
+    sum_of (weighed 100 1000 first) (weighed 10 0 second) (weighed 1 4000 third)
 
 -- the number is that of the address characters, or greater than any address if they are none
 abbrev pub Spells : Option ℕ → ℕ → Type 0
-Spells spelled number = MatchOption spelled (unreadable ≤ number) (λ n. (number ≡ n) × (n < largest_size))
+Spells spelled number =
+    MatchOption spelled (unreadable ≤ number) (λ n. (number ≡ n) × (n < largest_size))
 
 -- the index location that the zone of an address's second character names, if it names one
 abbrev pub location_of : Zone → Option IndexLocation
@@ -44,7 +47,9 @@ location_of AB = Some Third
 
 -- the address of three characters, if they are one: its base and its index location
 unfoldable pub tagged : ℕ → ℕ → ℕ → Option Tagged
-tagged first second third = option_map (λ n. record { base = n; index = location_of (zone_of second) }) (base first second third)
+tagged first second third =
+    option_map (λ n. record { base = n; index = location_of (zone_of second) })
+    (base first second third)
 
 -- the address of the three characters of a list, if they are one
 abbrev pub decoded : List ℕ → Option Tagged

@@ -13,4 +13,5 @@ has_three s p = nat_lt p (length s) && nat_le 2 p
 -- the storage with a number modulo 16000 written as an address that ends at a position; word marks
 -- stay
 unfoldable pub address_stored : Storage → ℕ → ℕ → Result Storage Check
-address_stored s p n = require (has_three s p) Address (Ok (put_codes s (p - 2) (encoded (n % 16000))))
+address_stored s p n =
+    require (has_three s p) Address (Ok (put_codes s (p - 2) (encoded (n % 16000))))

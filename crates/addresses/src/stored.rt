@@ -12,7 +12,8 @@ use core_store::{Check, Core, LARGEST_SIZE};
 #[inline(always)]
 pub fn has_three<C: Core>(core: &C, position: u16) -> bool
     ensures three { result ≡ has_three (C.cells core.now) position }
-    ensures inside { IsTrue result → (2 ≤ position) × (position < length (C.cells core.now)) × (position < largest_size) }
+    ensures inside { IsTrue result →
+        (2 ≤ position) × (position < length (C.cells core.now)) × (position < largest_size) }
 {
     position < core.size() && position >= 2
 }
@@ -34,8 +35,10 @@ pub fn put_three<C: Core>(core: &mut C, position: u16, codes: [Code; 3])
 /// would pass either end of the storage.
 #[tactic(auto, unfolding(crate::specs::Stored::address_stored))]
 pub fn store<C: Core>(core: &mut C, position: u16, number: u16) -> Result<(), Check>
-    ensures done { OnOk result (address_stored (C.cells core.old) position number ≡ Ok (C.cells core.new)) }
-    ensures check { IfErr result (λ check. address_stored (C.cells core.old) position number ≡ Err check) }
+    ensures done { OnOk result (address_stored (C.cells core.old) position number
+        ≡ Ok (C.cells core.new)) }
+    ensures check { IfErr result (λ check. address_stored (C.cells core.old) position number
+        ≡ Err check) }
     ensures unchanged { OnErr result (C.cells core.new ≡ C.cells core.old) }
     ensures below { OnOk result (position < largest_size) }
 {

@@ -44,6 +44,8 @@ pub fn encode(number: u16) -> [Code; 3]
 
 /// The law of addresses: a number that is written is read again, and so is its tag.
 pub fn written_is_read()
-    ensures read { (n : ℕ) → n < largest_size → decoded (encoded n) ≡ Some (record { base = n; index = None }) }
-    ensures with_tag { (n : ℕ) → n < largest_size → (tag : Zone) → decoded (written tag n) ≡ Some (record { base = n; index = location_of tag }) }
+    ensures read { (n : ℕ) → n < largest_size →
+        decoded (encoded n) ≡ Some (record { base = n; index = None }) }
+    ensures with_tag { (n : ℕ) → n < largest_size → (tag : Zone) →
+        decoded (written tag n) ≡ Some (record { base = n; index = location_of tag }) }
 {}

@@ -35,7 +35,8 @@ sign_zone minus = if minus then B else AB
 -- the lowest k digits of the number t as characters, with this zone over the units position alone
 unfoldable pub spelled : ℕ → ℕ → Zone → List ℕ
 spelled t zero zone = []
-spelled t (suc k) zone = digit_under (if k == 0 then zone else Bare) (t / 10 ^ k % 10) ∷ spelled t k zone
+spelled t (suc k) zone =
+    digit_under (if k == 0 then zone else Bare) (t / 10 ^ k % 10) ∷ spelled t k zone
 
 -- these characters are the lowest k digits of the number t, with this zone over the units position
 -- alone

@@ -22,7 +22,8 @@ total_of Copy k u v = u
 -- the total of the a_count digits that end at position a and the b_count digits that end at
 -- position b
 unfoldable pub joined_total : Joined → Storage → ℕ → ℕ → ℕ → ℕ → ℕ
-joined_total joined s a a_count b b_count = total_of joined b_count (value (codes_ending s a a_count)) (value (codes_ending s b b_count))
+joined_total joined s a a_count b b_count =
+    total_of joined b_count (value (codes_ending s a a_count)) (value (codes_ending s b b_count))
 
 -- the digit at this place from the right of the count digits that end at p, 0 to the left of them
 abbrev pub digit_from : Storage → ℕ → ℕ → ℕ → ℕ

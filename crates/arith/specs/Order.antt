@@ -27,8 +27,10 @@ pub record IsFirstDifference (a b : List ℕ) (place : ℕ) : Type 0 where
 -- this is how the second of two lists compares with the first, by the ranks of their characters
 abbrev pub IsOrder : List ℕ → List ℕ → Compared → Type 0
 IsOrder a b Equal = (k : ℕ) → k < length a → rank_of (slice_index a k) ≡ rank_of (slice_index b k)
-IsOrder a b Low = (place : ℕ) × IsFirstDifference a b place × (rank_of (slice_index b place) < rank_of (slice_index a place))
-IsOrder a b High = (place : ℕ) × IsFirstDifference a b place × (rank_of (slice_index a place) < rank_of (slice_index b place))
+IsOrder a b Low = (place : ℕ) × IsFirstDifference a b place
+    × (rank_of (slice_index b place) < rank_of (slice_index a place))
+IsOrder a b High = (place : ℕ) × IsFirstDifference a b place
+    × (rank_of (slice_index a place) < rank_of (slice_index b place))
 
 -- the compare indicator for the fields A and B: a shorter A makes B high, whatever the characters
 -- are

@@ -24,7 +24,8 @@ sign_taken reversed a = if reversed then not (is_minus a) else is_minus a
 unfoldable pub sum_codes : Bool → List ℕ → List ℕ → List ℕ
 sum_codes minus a b =
     if is_same minus (is_minus b) then spelled (value a + value b) (length b) (zone_of (units b))
-    else (if nat_le (value a) (value b) then spelled (value b - value a) (length b) (sign_zone (is_minus b))
+    else (if nat_le (value a) (value b)
+    then spelled (value b - value a) (length b) (sign_zone (is_minus b))
     else spelled (value a - value b) (length b) (sign_zone minus))
 
 -- whether the sum overflows: the signs are the same, and it has more digits than the B field
@@ -55,6 +56,7 @@ zero_added reversed s r =
     let a = codes_ending s r.a counts.a in
     require (is_number a) Data
     (Ok (
-      put_codes s (r.b + 1 - counts.b) (spelled (value a) counts.b (sign_zone (sign_taken reversed a))),
+      put_codes s (r.b + 1 - counts.b)
+          (spelled (value a) counts.b (sign_zone (sign_taken reversed a))),
       record r { a = lowered r.a counts.a; b = lowered r.b counts.b },
     )))

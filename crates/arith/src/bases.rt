@@ -21,9 +21,11 @@ fn have_three<C: Core>(core: &C, a: u16, b: u16) -> bool
 /// Adds the address at A to the address at B, whose tag stays.
 #[tactic(auto, unfolding(crate::specs::Bases::modified))]
 pub fn modify<C: Core>(core: &mut C, registers: &mut Registers) -> Result<(), Check>
-    ensures done { OnOk result (modified (C.cells core.old) registers.old ≡ Ok (C.cells core.new, registers.new)) }
+    ensures done { OnOk result (modified (C.cells core.old) registers.old
+        ≡ Ok (C.cells core.new, registers.new)) }
     ensures check { IfErr result (λ check. modified (C.cells core.old) registers.old ≡ Err check) }
-    ensures unchanged { OnErr result ((C.cells core.new ≡ C.cells core.old) × (registers.new ≡ registers.old)) }
+    ensures unchanged { OnErr result ((C.cells core.new ≡ C.cells core.old)
+        × (registers.new ≡ registers.old)) }
 {
     let Registers { a, b, .. } = *registers;
     if !have_three(core, a, b) {

@@ -113,8 +113,10 @@ pub fn join<C: Core>(
     requires b_from { counts.b ≤ b + 1 }
     requires cut { counts.a ≤ counts.b }
     requires apart { is_overlapping a b counts.a ≡ false }
-    ensures codes { C.cells core.new ≡ put_codes (C.cells core.old) (b + 1 - counts.b) (spelled (joined_total joined (C.cells core.old) a counts.a b counts.b) counts.b zone) }
-    ensures carry { result ≡ nat_le (10 ^ counts.b) (joined_total joined (C.cells core.old) a counts.a b counts.b) }
+    ensures codes { C.cells core.new ≡ put_codes (C.cells core.old) (b + 1 - counts.b)
+        (spelled (joined_total joined (C.cells core.old) a counts.a b counts.b) counts.b zone) }
+    ensures carry { result
+        ≡ nat_le (10 ^ counts.b) (joined_total joined (C.cells core.old) a counts.a b counts.b) }
 {
     let mut carry = joined.carry();
     for i in 0..counts.b {

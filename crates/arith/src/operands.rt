@@ -52,5 +52,6 @@ pub fn counts_apart<C: Core>(core: &C, a: u16, b: u16) -> Result<Counts, Check>
 /// The law of the counts: what is read at B is the field there, and what is read at A is the cut
 /// there to its length.
 pub fn counts_are_of_fields()
-    ensures { (s : Storage) (a b : ℕ) (counts : Counts) → counts_at s a b ≡ Ok counts → AreOfFields s a b counts }
+    ensures { (s : Storage) (a b : ℕ) (counts : Counts) → counts_at s a b ≡ Ok counts →
+        AreOfFields s a b counts }
 {}

@@ -25,7 +25,8 @@ fn order<C: Core>(core: &C, a: u16, b: u16, count: u16) -> Compared
     requires b_in { b < length (C.cells core.now) }
     requires a_from { count ≤ a + 1 }
     requires b_from { count ≤ b + 1 }
-    ensures { result ≡ order (codes_ending (C.cells core.now) a count) (codes_ending (C.cells core.now) b count) }
+    ensures { result ≡ order (codes_ending (C.cells core.now) a count)
+        (codes_ending (C.cells core.now) b count) }
 {
     for left in (0..count).rev() {
         let rank_a = rank_at(core, a - left);
@@ -44,7 +45,8 @@ fn order<C: Core>(core: &C, a: u16, b: u16, count: u16) -> Compared
 #[inline(always)]
 fn comparison<C: Core>(core: &C, a: u16, b: u16, counts: Counts) -> Compared
     requires { AreCounts (C.cells core.now) a b counts.a counts.b }
-    ensures { result ≡ comparison (codes_ending (C.cells core.now) a counts.a) (codes_ending (C.cells core.now) b counts.b) }
+    ensures { result ≡ comparison (codes_ending (C.cells core.now) a counts.a)
+        (codes_ending (C.cells core.now) b counts.b) }
 {
     if counts.a < counts.b {
         Compared::High
@@ -56,9 +58,11 @@ fn comparison<C: Core>(core: &C, a: u16, b: u16, counts: Counts) -> Compared
 /// Compares the cut at A with the B field. Nothing in storage changes.
 #[tactic(auto, unfolding(crate::specs::Order::compared))]
 pub fn compare<C: Core>(core: &mut C, registers: &mut Registers) -> Result<(), Check>
-    ensures done { OnOk result (compared (C.cells core.old) registers.old ≡ Ok (C.cells core.new, registers.new)) }
+    ensures done { OnOk result (compared (C.cells core.old) registers.old
+        ≡ Ok (C.cells core.new, registers.new)) }
     ensures check { IfErr result (λ check. compared (C.cells core.old) registers.old ≡ Err check) }
-    ensures unchanged { OnErr result ((C.cells core.new ≡ C.cells core.old) × (registers.new ≡ registers.old)) }
+    ensures unchanged { OnErr result ((C.cells core.new ≡ C.cells core.old)
+        × (registers.new ≡ registers.old)) }
 {
     let Registers { a, b, .. } = *registers;
     let counts = match counts_at(core, a, b) {

@@ -13,18 +13,24 @@ use core_store::{Check, Core, Registers, is_minus};
 
 /// Adds the A digits to the B field.
 pub fn add<C: Core>(core: &mut C, registers: &mut Registers) -> Result<(), Check>
-    ensures done { OnOk result (added false (C.cells core.old) registers.old ≡ Ok (C.cells core.new, registers.new)) }
-    ensures check { IfErr result (λ check. added false (C.cells core.old) registers.old ≡ Err check) }
-    ensures unchanged { OnErr result ((C.cells core.new ≡ C.cells core.old) × (registers.new ≡ registers.old)) }
+    ensures done { OnOk result (added false (C.cells core.old) registers.old
+        ≡ Ok (C.cells core.new, registers.new)) }
+    ensures check { IfErr result (λ check. added false (C.cells core.old) registers.old
+        ≡ Err check) }
+    ensures unchanged { OnErr result ((C.cells core.new ≡ C.cells core.old)
+        × (registers.new ≡ registers.old)) }
 {
     combine(core, registers, false)
 }
 
 /// Subtracts the A digits from the B field.
 pub fn subtract<C: Core>(core: &mut C, registers: &mut Registers) -> Result<(), Check>
-    ensures done { OnOk result (added true (C.cells core.old) registers.old ≡ Ok (C.cells core.new, registers.new)) }
-    ensures check { IfErr result (λ check. added true (C.cells core.old) registers.old ≡ Err check) }
-    ensures unchanged { OnErr result ((C.cells core.new ≡ C.cells core.old) × (registers.new ≡ registers.old)) }
+    ensures done { OnOk result (added true (C.cells core.old) registers.old
+        ≡ Ok (C.cells core.new, registers.new)) }
+    ensures check { IfErr result (λ check. added true (C.cells core.old) registers.old
+        ≡ Err check) }
+    ensures unchanged { OnErr result ((C.cells core.new ≡ C.cells core.old)
+        × (registers.new ≡ registers.old)) }
 {
     combine(core, registers, true)
 }
@@ -33,9 +39,12 @@ pub fn subtract<C: Core>(core: &mut C, registers: &mut Registers) -> Result<(), 
 #[inline(always)]
 #[tactic(auto, unfolding(crate::specs::Sums::added))]
 fn combine<C: Core>(core: &mut C, registers: &mut Registers, reversed: bool) -> Result<(), Check>
-    ensures done { OnOk result (added reversed (C.cells core.old) registers.old ≡ Ok (C.cells core.new, registers.new)) }
-    ensures check { IfErr result (λ check. added reversed (C.cells core.old) registers.old ≡ Err check) }
-    ensures unchanged { OnErr result ((C.cells core.new ≡ C.cells core.old) × (registers.new ≡ registers.old)) }
+    ensures done { OnOk result (added reversed (C.cells core.old) registers.old
+        ≡ Ok (C.cells core.new, registers.new)) }
+    ensures check { IfErr result (λ check. added reversed (C.cells core.old) registers.old
+        ≡ Err check) }
+    ensures unchanged { OnErr result ((C.cells core.new ≡ C.cells core.old)
+        × (registers.new ≡ registers.old)) }
 {
     let Registers { a, b, .. } = *registers;
     let counts = match counts_apart(core, a, b) {
@@ -59,8 +68,11 @@ fn combine<C: Core>(core: &mut C, registers: &mut Registers, reversed: bool) -> 
 fn join_signed<C: Core>(core: &mut C, a: u16, b: u16, counts: Counts, minus_a: bool) -> bool
     requires counts { AreCounts (C.cells core.old) a b counts.a counts.b }
     requires apart { is_overlapping a b counts.a ≡ false }
-    ensures codes { C.cells core.new ≡ put_codes (C.cells core.old) (b + 1 - counts.b) (sum_codes minus_a (codes_ending (C.cells core.old) a counts.a) (codes_ending (C.cells core.old) b counts.b)) }
-    ensures overflows { result ≡ sum_overflows minus_a (codes_ending (C.cells core.old) a counts.a) (codes_ending (C.cells core.old) b counts.b) }
+    ensures codes { C.cells core.new ≡ put_codes (C.cells core.old) (b + 1 - counts.b)
+        (sum_codes minus_a (codes_ending (C.cells core.old) a counts.a)
+        (codes_ending (C.cells core.old) b counts.b)) }
+    ensures overflows { result ≡ sum_overflows minus_a (codes_ending (C.cells core.old) a counts.a)
+        (codes_ending (C.cells core.old) b counts.b) }
 {
     let minus_b = is_minus(core, b);
     if minus_a == minus_b {

@@ -20,7 +20,8 @@ cons_some None rest = rest
 -- the cells that fill so many positions from the first on, in rising order
 unfoldable pub cells_from : List Cell → ℕ → ℕ → List Cell
 cells_from filled first zero = []
-cells_from filled first (suc count) = cons_some (cell_at filled first) (cells_from filled (first + 1) count)
+cells_from filled first (suc count) =
+    cons_some (cell_at filled first) (cells_from filled (first + 1) count)
 
 -- the image of a layout: the filled positions of a storage of this size, in rising order
 unfoldable pub image_of : ℕ → List Laid → List Cell

@@ -45,11 +45,13 @@ place_field slot = if fills slot.kind then position_field slot.before else repli
 
 -- the line of a card: its number, its place and its 80 columns
 unfoldable pub card_line : ℕ → Slot → Card → List ℕ
-card_line number slot card = (((right blank 4 number ++ blank ∷ []) ++ place_field slot) ++ blank ∷ []) ++ glyphs_of card.0
+card_line number slot card =
+    (((right blank 4 number ++ blank ∷ []) ++ place_field slot) ++ blank ∷ []) ++ glyphs_of card.0
 
 -- the line of a literal: `LIT`, its place and its characters
 unfoldable pub literal_line : ℕ → Characters → List ℕ
-literal_line place literal = ((codes "LIT  " ++ position_field place) ++ blank ∷ []) ++ glyphs_of literal
+literal_line place literal =
+    ((codes "LIT  " ++ position_field place) ++ blank ∷ []) ++ glyphs_of literal
 
 -- a line without the blanks at its end, and with a line feed
 unfoldable pub listed : List ℕ → List ℕ
@@ -59,20 +61,24 @@ listed line = take (length line - suffix_len (λ g. g == blank) line) line ++ li
 unfoldable pub card_lines : ℕ → List Card → List Slot → List ℕ
 card_lines number [] slots = []
 card_lines number (card ∷ cards) [] = []
-card_lines number (card ∷ cards) (slot ∷ slots) = listed (card_line number slot card) ++ card_lines (number + 1) cards slots
+card_lines number (card ∷ cards) (slot ∷ slots) =
+    listed (card_line number slot card) ++ card_lines (number + 1) cards slots
 
 -- the lines of these literals, which are placed one after the other from a place on
 unfoldable pub literal_lines : ℕ → List Characters → List ℕ
 literal_lines place [] = []
-literal_lines place (literal ∷ literals) = listed (literal_line place literal) ++ literal_lines (place + length literal) literals
+literal_lines place (literal ∷ literals) =
+    listed (literal_line place literal) ++ literal_lines (place + length literal) literals
 
 -- the listing of these cards with their slots, and then of the literals
 unfoldable pub listing_of : List Card → List Slot → List Characters → List ℕ
-listing_of cards slots literals = card_lines 1 cards slots ++ literal_lines (place_after slots) literals
+listing_of cards slots literals =
+    card_lines 1 cards slots ++ literal_lines (place_after slots) literals
 
 -- the listing of a source, by the slots and literals of its one layout
 unfoldable pub listing_of_source : List Card → List ℕ
-listing_of_source source = listing_of source (slots_of (layout_for source)) (literals_of (lines_of false source) (slots_of (layout_for source)))
+listing_of_source source = listing_of source (slots_of (layout_for source))
+    (literals_of (lines_of false source) (slots_of (layout_for source)))
 
 -- the listing of the source that a deck begins with
 abbrev pub listing_for : List Card → List ℕ

@@ -30,8 +30,10 @@ layout_for source = layout_of (size_for source) (lines_of false source)
 -- the start of a program whose source ends with this line: the address on END, or else the first
 -- instruction
 abbrev pub start_by : ℕ → List Slot → Line → ℕ
-start_by size slots (Ok (statement.End (Some expression) labelled)) = position_in (value_in size slots expression)
-start_by size slots (Ok (statement.End None labelled)) = option_map_or (λ slot. slot.before) (find (λ slot. is_instruction slot.kind) slots) 0
+start_by size slots (Ok (statement.End (Some expression) labelled)) =
+    position_in (value_in size slots expression)
+start_by size slots (Ok (statement.End None labelled)) =
+    option_map_or (λ slot. slot.before) (find (λ slot. is_instruction slot.kind) slots) 0
 start_by size slots line = 0
 
 -- the line of the last card of a source
@@ -53,7 +55,8 @@ pub record IsProgramOf (source : List Card) (program : Assembly) : Type 0 where
   pub start : program.start ≡ start_for source
   pub last : program.last ≡ length source
   pub slots : program.slots ≡ slots_of (layout_for source)
-  pub literals : program.literals ≡ literals_of (lines_of false source) (slots_of (layout_for source))
+  pub literals : program.literals
+      ≡ literals_of (lines_of false source) (slots_of (layout_for source))
 
 -- a source has no faults
 abbrev pub IsFaultless : List Card → Type 0
@@ -61,5 +64,6 @@ IsFaultless source = faults_of (has_end source) (layout_for source) ≡ []
 
 -- these are the faults of the source, at least one; or memory ran out
 abbrev pub AreFaults : List Card → Faults → Type 0
-AreFaults source (Source faults) = (faults.items ≡ faults_of (has_end source) (layout_for source)) × (faults.items ≢ [])
+AreFaults source (Source faults) =
+    (faults.items ≡ faults_of (has_end source) (layout_for source)) × (faults.items ≢ [])
 AreFaults source NoMemory = Unit {0}

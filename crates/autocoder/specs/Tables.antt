@@ -6,11 +6,13 @@ use Rattle.autocoder.specs.Image.{cell_at, cons_some}
 
 -- the table has, at each position of storage, the first of the filled cells at that position
 abbrev pub Stands : ℕ → List (Option Cell) → List Cell → Type 0
-Stands size table filled = (position : ℕ) → position < size → slice_index_or table position None ≡ cell_at filled position
+Stands size table filled = (position : ℕ) → position < size →
+    slice_index_or table position None ≡ cell_at filled position
 
 -- the table with one more cell, unless its position has one already
 abbrev pub filled_with : List (Option Cell) → Cell → List (Option Cell)
-filled_with table c = if is_some (slice_index_or table c.position None) then table else slice_set table c.position (Some c)
+filled_with table c = if is_some (slice_index_or table c.position None) then table
+    else slice_set table c.position (Some c)
 
 -- the table with these cells too, where a position keeps the first cell that it is given
 unfoldable pub filled_table : List (Option Cell) → List Cell → List (Option Cell)

@@ -41,4 +41,5 @@ fault_list faults.NoMemory = no_memory
 
 -- all faults of a source with or without END, in the order of its cards
 unfoldable pub faults_of : Bool → List Laid → List CardFault
-faults_of ended layout = told_to_end ended (faults_from 1 layout) (last_fault layout) (length layout)
+faults_of ended layout =
+    told_to_end ended (faults_from 1 layout) (last_fault layout) (length layout)

@@ -48,9 +48,12 @@ pub(crate) fn judge(
     requires table { Stands size table.old [] }
     requires size { length table.old ≡ size }
     requires faults { faults.old.items ≡ [] }
-    ensures faults { OnOk result (faults.new.items ≡ faults_from 1 (layout_of size (lines_of false source.now))) }
-    ensures table { OnOk result (Stands size table.new (fills_of (layout_of size (lines_of false source.now)))) }
-    ensures last { IfOk result (λ last. last ≡ last_fault (layout_of size (lines_of false source.now))) }
+    ensures faults { OnOk result (faults.new.items
+        ≡ faults_from 1 (layout_of size (lines_of false source.now))) }
+    ensures table { OnOk result
+        (Stands size table.new (fills_of (layout_of size (lines_of false source.now)))) }
+    ensures last { IfOk result (λ last.
+        last ≡ last_fault (layout_of size (lines_of false source.now))) }
 {
     let mut told = false;
     let mut last = None;

@@ -9,5 +9,6 @@ ghost use Rattle.autocoder.specs.Programs.{IsFaultless, image_for, size_for, sta
 /// storage of the source's size.
 #[tactic(auto, using(crate::proofs::Loading::faultless_loads))]
 pub fn faultless_sources_can_be_loaded()
-    ensures { (source : List Card) → IsFaultless source → IsLoadable (size_for source) (image_for source) (start_for source) }
+    ensures { (source : List Card) → IsFaultless source →
+        IsLoadable (size_for source) (image_for source) (start_for source) }
 {}

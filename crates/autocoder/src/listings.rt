@@ -146,7 +146,8 @@ fn push_literals(
     literals: &[Literal],
 ) -> Result<(), AllocError>
     requires { length literals.now ≤ MOST_LITERALS }
-    ensures { OnOk result (text.new.items ≡ text.old.items ++ literal_lines place (texts literals.now)) }
+    ensures { OnOk result (text.new.items
+        ≡ text.old.items ++ literal_lines place (texts literals.now)) }
 {
     let mut here = place as u64;
     for literal in literals {

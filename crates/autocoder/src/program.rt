@@ -45,9 +45,17 @@ impl Model for Program {
 
     ghost Value = { Assembly };
 
-    ghost view = { λ p. record { size = p.size; image = p.image.items; start = p.start; last = p.last; slots = p.slots.items; literals = texts p.literals.items } };
+    ghost view = { λ p. record {
+      size = p.size;
+      image = p.image.items;
+      start = p.start;
+      last = p.last;
+      slots = p.slots.items;
+      literals = texts p.literals.items;
+    } };
 
-    ghost invariant = { λ p. IsLoadable (positions_of p.size) p.image.items p.start × IsRising p.image.items };
+    ghost invariant = { λ p. IsLoadable (positions_of p.size) p.image.items p.start
+        × IsRising p.image.items };
 }
 
 impl Program {

@@ -11,4 +11,5 @@ pub record IsSlotWithin (limit : ℕ) (slot : Slot) : Type 0 where
 
 -- the places and addresses of all slots are at most this limit
 abbrev pub IsWithin : ℕ → List Slot → Type 0
-IsWithin limit slots = (k : ℕ) → k < length slots → IsSlotWithin limit (slice_index_or slots k origin)
+IsWithin limit slots = (k : ℕ) → k < length slots →
+    IsSlotWithin limit (slice_index_or slots k origin)

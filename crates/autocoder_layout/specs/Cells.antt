@@ -44,7 +44,8 @@ field marked place (code ∷ codes) = cell place code marked ∷ row (place + 1)
 -- first
 unfoldable pub literal_cells : ℕ → List Characters → List Cell
 literal_cells place [] = []
-literal_cells place (literal ∷ literals) = field true place literal ++ literal_cells (place + length literal) literals
+literal_cells place (literal ∷ literals) =
+    field true place literal ++ literal_cells (place + length literal) literals
 
 -- ---- an instruction
 
@@ -64,13 +65,16 @@ position_in (At position) = position
 -- the three characters of an operand's address, none if there is no operand
 abbrev pub operand_codes : ℕ → List Slot → List Characters → Option Operand → List ℕ
 operand_codes size slots literals None = []
-operand_codes size slots literals (Some (Address address)) = written (tag address.index) (position_in (value_in size slots address.expression))
-operand_codes size slots literals (Some (Literal wanted)) = written zone.Bare (literal_end (place_after slots) literals wanted % largest_size)
+operand_codes size slots literals (Some (Address address)) =
+    written (tag address.index) (position_in (value_in size slots address.expression))
+operand_codes size slots literals (Some (Literal wanted)) =
+    written zone.Bare (literal_end (place_after slots) literals wanted % largest_size)
 
 -- the characters of an instruction: its operation, its addresses and its last character
 unfoldable pub instruction_codes : ℕ → List Slot → List Characters → Instruction → List ℕ
 instruction_codes size slots literals spelled =
-    ((spelled.operation ∷ []) ++ operand_codes size slots literals spelled.first) ++ operand_codes size slots literals spelled.second ++ option_to_list spelled.modifier
+    ((spelled.operation ∷ []) ++ operand_codes size slots literals spelled.first)
+    ++ operand_codes size slots literals spelled.second ++ option_to_list spelled.modifier
 
 -- the blank with a word mark after an instruction, if the next card with a place requires it
 abbrev pub blank_behind : List Slot → ℕ → List Cell
@@ -92,12 +96,16 @@ shortened size (Blanks count) = Blanks (min count (size + 1))
 -- the cells that a card fills if its slot has no fault, with the names and literals of the whole
 -- source
 abbrev pub filled_by : ℕ → List Slot → List Characters → List Slot → Slot → Line → List Cell
-filled_by size slots literals later slot (Ok (statement.Constant label marked constant)) = field marked slot.before (constant_codes constant)
+filled_by size slots literals later slot (Ok (statement.Constant label marked constant)) =
+    field marked slot.before (constant_codes constant)
 filled_by size slots literals later slot (Ok (statement.Instruction label spelled)) =
-    field true slot.before (instruction_codes size slots literals spelled) ++ blank_behind later slot.after
-filled_by size slots literals later slot (Ok (statement.End start labelled)) = literal_cells slot.before literals
+    field true slot.before (instruction_codes size slots literals spelled)
+    ++ blank_behind later slot.after
+filled_by size slots literals later slot (Ok (statement.End start labelled)) =
+    literal_cells slot.before literals
 filled_by size slots literals later slot line = []
 
 -- the cells that a card fills; none if its slot has a fault
 unfoldable pub cells_of : ℕ → List Slot → List Characters → List Slot → Slot → Line → List Cell
-cells_of size slots literals later slot line = if is_some slot.fault then [] else filled_by size slots literals later slot line
+cells_of size slots literals later slot line = if is_some slot.fault then []
+    else filled_by size slots literals later slot line

@@ -27,7 +27,8 @@ expression_in other = None
 
 -- the expressions of a card's addresses, whose names any card of the source may define
 unfoldable pub expressions_of : Line → Option Expression × Option Expression
-expressions_of (Ok (statement.Instruction label spelled)) = (expression_in spelled.first, expression_in spelled.second)
+expressions_of (Ok (statement.Instruction label spelled)) =
+    (expression_in spelled.first, expression_in spelled.second)
 expressions_of (Ok (statement.End start labelled)) = (start, None)
 expressions_of line = (None, None)
 
@@ -53,11 +54,13 @@ has_value_outside size slots (Some expression) = is_outside (value_in size slots
 
 -- whether an address of the card has a name that is not defined
 unfoldable pub names_unknown : ℕ → List Slot → Line → Bool
-names_unknown size slots line = has_unknown_name size slots (expressions_of line).0 || has_unknown_name size slots (expressions_of line).1
+names_unknown size slots line = has_unknown_name size slots (expressions_of line).0
+    || has_unknown_name size slots (expressions_of line).1
 
 -- whether the value of an address of the card is no position of storage
 unfoldable pub names_outside : ℕ → List Slot → Line → Bool
-names_outside size slots line = has_value_outside size slots (expressions_of line).0 || has_value_outside size slots (expressions_of line).1
+names_outside size slots line = has_value_outside size slots (expressions_of line).0
+    || has_value_outside size slots (expressions_of line).1
 
 -- ---- positions
 
@@ -113,4 +116,5 @@ fault_by size slots overlaps slot cells line =
 
 -- the lowest fault of a card, where the earlier cards fill these cells
 unfoldable pub fault_of : ℕ → List Slot → List Cell → Slot → List Cell → Line → Option SourceFault
-fault_of size slots filled slot cells line = fault_by size slots (is_overlapping filled cells) slot cells line
+fault_of size slots filled slot cells line =
+    fault_by size slots (is_overlapping filled cells) slot cells line

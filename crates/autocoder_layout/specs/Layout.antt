@@ -28,10 +28,12 @@ fills_of layout = flat_map (λ laid. laid.fills) layout
 
 -- a card's slot, cells and fault are right by the rules, given the cards before and after it in the
 -- layout, all names and the literals
-pub record Satisfies (size : ℕ) (literals : List Characters) (layout earlier later : List Laid) (line : Line) (laid : Laid) : Type 0 where
+pub record Satisfies (size : ℕ) (literals : List Characters) (layout earlier later : List Laid)
+    (line : Line) (laid : Laid) : Type 0 where
   pub slot : laid.slot ≡ slot_of size (slots_of earlier) line
   pub fills : laid.fills ≡ cells_of size (slots_of layout) literals (slots_of later) laid.slot line
-  pub fault : laid.fault ≡ fault_of size (slots_of layout) (fills_of earlier) laid.slot laid.fills line
+  pub fault : laid.fault
+      ≡ fault_of size (slots_of layout) (fills_of earlier) laid.slot laid.fills line
 
 -- the entry of a layout for no card, with no cells and no fault
 abbrev pub nothing : Laid
@@ -42,7 +44,8 @@ nothing = record { slot = origin; fills = []; fault = None }
 pub record IsLayout (size : ℕ) (lines : List Line) (layout : List Laid) : Type 0 where
   pub one_each : length layout ≡ length lines
   pub satisfied : (k : ℕ) → k < length lines →
-      Satisfies size (literals_of lines (slots_of layout)) layout (take k layout) (drop (k + 1) layout) (slice_index_or lines k silent) (slice_index_or layout k nothing)
+      Satisfies size (literals_of lines (slots_of layout)) layout (take k layout)
+      (drop (k + 1) layout) (slice_index_or lines k silent) (slice_index_or layout k nothing)
 
 -- ---- the layout as a function
 
@@ -55,12 +58,14 @@ laid_by size slots literals filled later slot line = record {
 }
 
 -- the entries of a layout for the cards with these slots, where the earlier cards fill these cells
-unfoldable pub laid_from : ℕ → List Slot → List Characters → List Cell → List Slot → List Line → List Laid
+unfoldable pub laid_from : ℕ → List Slot → List Characters → List Cell → List Slot →
+    List Line → List Laid
 laid_from size slots literals filled here [] = []
 laid_from size slots literals filled [] (line ∷ lines) = []
 laid_from size slots literals filled (slot ∷ later) (line ∷ lines) =
     laid_by size slots literals filled later slot line
-    ∷ laid_from size slots literals (filled ++ cells_of size slots literals later slot line) later lines
+    ∷ laid_from size slots literals
+    (filled ++ cells_of size slots literals later slot line) later lines
 
 -- the layout of these lines with these slots
 abbrev pub laid_with : ℕ → List Slot → List Line → List Laid

@@ -28,7 +28,8 @@ literal_in other = []
 
 -- the literals that a card uses, none if its slot has a fault
 unfoldable pub uses_in : Line → Slot → List Characters
-uses_in (Ok (statement.Instruction label spelled)) slot = if is_some slot.fault then [] else literal_in spelled.first ++ literal_in spelled.second
+uses_in (Ok (statement.Instruction label spelled)) slot = if is_some slot.fault then []
+    else literal_in spelled.first ++ literal_in spelled.second
 uses_in line slot = []
 
 -- the literals that all cards use, in the order of cards and of operands
@@ -56,4 +57,5 @@ literals_of lines slots = firsts [] (uses_of lines slots)
 unfoldable pub literal_end : ℕ → List Characters → Characters → ℕ
 literal_end place [] wanted = place
 literal_end place (literal ∷ literals) wanted =
-    if bytes_eq literal wanted then place + length literal - 1 else literal_end (place + length literal) literals wanted
+    if bytes_eq literal wanted then place + length literal - 1
+    else literal_end (place + length literal) literals wanted

@@ -22,7 +22,9 @@ defines wanted slot = is_of wanted slot.defines
 
 -- the address of a name, as defined by the first card that defines it
 unfoldable pub address_of : name.Name → List Slot → Option ℕ
-address_of wanted slots = option_and_then (λ slot. option_map (λ definition. definition.address) slot.defines) (find (defines wanted) slots)
+address_of wanted slots =
+    option_and_then (λ slot. option_map (λ definition. definition.address) slot.defines)
+    (find (defines wanted) slots)
 
 -- ---- values
 
@@ -39,7 +41,8 @@ base_number slots (Name wanted) = address_of wanted slots
 abbrev pub adjusted : ℕ → Adjustment → ℕ → Value
 adjusted size Nothing number = within size number
 adjusted size (Plus more) number = within size (number + more)
-adjusted size (Minus less) number = if nat_lt number less then Outside else within size (number - less)
+adjusted size (Minus less) number = if nat_lt number less then Outside
+    else within size (number - less)
 
 -- the value of an address by its base's number, or unknown if the base's name is not defined
 abbrev pub value_by : ℕ → Adjustment → Option ℕ → Value
@@ -48,7 +51,8 @@ value_by size adjustment (Some number) = adjusted size adjustment number
 
 -- the value of an expression: its base plus or minus a number
 unfoldable pub value_in : ℕ → List Slot → Expression → Value
-value_in size slots expression = value_by size expression.adjustment (base_number slots expression.base)
+value_in size slots expression =
+    value_by size expression.adjustment (base_number slots expression.base)
 
 -- a value that is a position is one of storage
 abbrev pub IsValueWithin : ℕ → Value → Type 0

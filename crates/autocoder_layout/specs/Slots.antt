@@ -25,7 +25,14 @@ first_place = 333
 
 -- the slot before that of the first card
 abbrev pub origin : Slot
-origin = record { before = first_place; after = first_place; defines = None; fault = None; kind = Nothing; closes = false }
+origin = record {
+  before = first_place;
+  after = first_place;
+  defines = None;
+  fault = None;
+  kind = Nothing;
+  closes = false;
+}
 
 -- the place after the last of these cards
 abbrev pub place_after : List Slot → ℕ
@@ -72,11 +79,25 @@ place_behind earlier = if is_open earlier then place_after earlier + 1 else plac
 
 -- the slot of a card that takes no positions and defines no name, with its fault if it has one
 abbrev pub stays : List Slot → Option SourceFault → Slot
-stays earlier fault = record { before = place_after earlier; after = place_after earlier; defines = None; fault = fault; kind = Nothing; closes = false }
+stays earlier fault = record {
+  before = place_after earlier;
+  after = place_after earlier;
+  defines = None;
+  fault = fault;
+  kind = Nothing;
+  closes = false;
+}
 
 -- the slot of a card that takes the positions from one place up to another
 abbrev pub takes : Kind → Bool → ℕ → ℕ → Slot
-takes kind closes before after = record { before = before; after = after; defines = None; fault = None; kind = kind; closes = closes }
+takes kind closes before after = record {
+  before = before;
+  after = after;
+  defines = None;
+  fault = None;
+  kind = kind;
+  closes = closes;
+}
 
 -- the slot with a name that it defines
 abbrev pub with_label : Slot → Name → ℕ → Slot
@@ -93,7 +114,8 @@ with_label slot name address = record {
 unfoldable pub labelled : List Slot → Option Name → ℕ → Slot → Slot
 labelled earlier None address slot = slot
 labelled earlier (Some name) address slot =
-    if is_some (address_of name earlier) then stays earlier (Some fault.TakenLabel) else with_label slot name address
+    if is_some (address_of name earlier) then stays earlier (Some fault.TakenLabel)
+    else with_label slot name address
 
 -- the slot of an ORG card, after which the next card's place is this value
 abbrev pub moved_to : List Slot → Value → Slot
@@ -130,12 +152,14 @@ ended earlier start labelled = ends earlier (end_fault earlier start labelled)
 -- the slot of a card that takes so many positions from a place on, with its label for the last of
 -- them
 abbrev pub run : List Slot → Option Name → Kind → Bool → ℕ → ℕ → Slot
-run earlier label kind closes place count = labelled earlier label (place + count - 1) (takes kind closes place (place + count))
+run earlier label kind closes place count =
+    labelled earlier label (place + count - 1) (takes kind closes place (place + count))
 
 -- the slot of a constant; one without a word mark requires a marked blank after an instruction
 abbrev pub constant : List Slot → Option Name → Bool → ℕ → Slot
 constant earlier label true count = run earlier label Constant false (place_after earlier) count
-constant earlier label false count = run earlier label Constant (is_open earlier) (place_behind earlier) count
+constant earlier label false count =
+    run earlier label Constant (is_open earlier) (place_behind earlier) count
 
 -- the slot of a DS card, which passes so many positions
 abbrev pub area : List Slot → Option Name → ℕ → Slot
@@ -143,7 +167,8 @@ area earlier label count = run earlier label Passing (is_open earlier) (place_be
 
 -- the slot of an instruction, with its label for its first position
 abbrev pub instruction : List Slot → Option Name → ℕ → Slot
-instruction earlier label count = labelled earlier label (place_after earlier) (takes Instruction false (place_after earlier) (place_after earlier + count))
+instruction earlier label count = labelled earlier label (place_after earlier)
+    (takes Instruction false (place_after earlier) (place_after earlier + count))
 
 -- the slot of an EQU card with this expression, or with a fault if an earlier card defines the name
 abbrev pub equated : ℕ → List Slot → Name → Expression → Slot
@@ -157,14 +182,19 @@ slot_of size earlier (Err told) = stays earlier (Some (fault.Statement told))
 slot_of size earlier (Ok statement.Comment) = stays earlier None
 slot_of size earlier (Ok statement.Job) = stays earlier None
 slot_of size earlier (Ok (statement.Control told)) = stays earlier None
-slot_of size earlier (Ok (statement.Origin expression)) = moved_to earlier (value_in size earlier expression)
-slot_of size earlier (Ok (statement.Equate label expression)) = equated size earlier label expression
-slot_of size earlier (Ok (statement.Constant label marked text)) = constant earlier label marked (constant_length text)
+slot_of size earlier (Ok (statement.Origin expression)) =
+    moved_to earlier (value_in size earlier expression)
+slot_of size earlier (Ok (statement.Equate label expression)) =
+    equated size earlier label expression
+slot_of size earlier (Ok (statement.Constant label marked text)) =
+    constant earlier label marked (constant_length text)
 slot_of size earlier (Ok (statement.Area label positions)) = area earlier label positions
 slot_of size earlier (Ok (statement.End start labelled)) = ended earlier start labelled
-slot_of size earlier (Ok (statement.Instruction label spelled)) = instruction earlier label (instruction_length spelled)
+slot_of size earlier (Ok (statement.Instruction label spelled)) =
+    instruction earlier label (instruction_length spelled)
 
 -- the slots of all cards, given those of the first of them
 unfoldable pub slots_from : ℕ → List Slot → List Line → List Slot
 slots_from size earlier [] = earlier
-slots_from size earlier (line ∷ lines) = slots_from size (earlier ++ slot_of size earlier line ∷ []) lines
+slots_from size earlier (line ∷ lines) =
+    slots_from size (earlier ++ slot_of size earlier line ∷ []) lines

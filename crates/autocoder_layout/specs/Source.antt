@@ -78,7 +78,8 @@ further other = Err fault.Operand
 
 -- the statement on a card or its lowest fault, by whether an earlier card was a CTL card
 unfoldable pub line_on : Bool → Card → Line
-line_on told card = if told && is_control card then further (statement_on card) else statement_on card
+line_on told card = if told && is_control card then further (statement_on card)
+    else statement_on card
 
 -- the statement on each card or its lowest fault, by whether an earlier card was a CTL card
 unfoldable pub lines_of : Bool → List Card → List Line

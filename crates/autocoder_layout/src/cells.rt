@@ -137,7 +137,8 @@ fn push_operand(
     requires count { length literals.now ≤ MOST_LITERALS }
     requires place { place_after slots.now ≤ FARTHEST }
     requires range { IfSome operand.now IsOperandInRange }
-    ensures codes { OnOk result (codes.new.items ≡ codes.old.items ++ operand_codes size slots.now (texts literals.now) operand.now) }
+    ensures codes { OnOk result (codes.new.items
+        ≡ codes.old.items ++ operand_codes size slots.now (texts literals.now) operand.now) }
     ensures length { OnOk result (length codes.new.items ≤ length codes.old.items + 3) }
 {
     let Some(operand) = operand else {
@@ -154,7 +155,8 @@ fn push_operand(
 fn push_literals(cells: &mut Vec<Cell>, place: u32, literals: &[Literal]) -> Result<(), AllocError>
     requires place { place ≤ FARTHEST }
     requires count { length literals.now ≤ MOST_LITERALS }
-    ensures { OnOk result (cells.new.items ≡ cells.old.items ++ literal_cells place (texts literals.now)) }
+    ensures { OnOk result (cells.new.items
+        ≡ cells.old.items ++ literal_cells place (texts literals.now)) }
 {
     let mut here = place;
     for literal in literals {
@@ -192,7 +194,8 @@ fn push_blanks(
     requires place { place < LAST_CELL }
     requires some { 0 < count }
     requires limit { count ≤ number_limit }
-    ensures { OnOk result (cells.new.items ≡ cells.old.items ++ field marked place (replicate count blank)) }
+    ensures { OnOk result (cells.new.items
+        ≡ cells.old.items ++ field marked place (replicate count blank)) }
 {
     cells.push(Cell {
         position: place,
@@ -216,7 +219,8 @@ fn instruction_codes(
     requires count { length literals.now ≤ MOST_LITERALS }
     requires place { place_after slots.now ≤ FARTHEST }
     requires range { IsInstructionInRange spelled.now }
-    ensures codes { IfOk result (λ codes. codes.items ≡ instruction_codes size slots.now (texts literals.now) spelled.now) }
+    ensures codes { IfOk result (λ codes.
+        codes.items ≡ instruction_codes size slots.now (texts literals.now) spelled.now) }
     ensures length { IfOk result (λ codes. length codes.items ≤ number_limit) }
 {
     let mut codes = Vec::new(alloc);
@@ -265,7 +269,8 @@ fn push_constant(
 ) -> Result<(), AllocError>
     requires place { place ≤ FARTHEST }
     requires range { IsConstantInRange constant.now }
-    ensures { OnOk result (cells.new.items ≡ cells.old.items ++ field marked place (constant_codes (shortened size constant.now))) }
+    ensures { OnOk result (cells.new.items
+        ≡ cells.old.items ++ field marked place (constant_codes (shortened size constant.now))) }
 {
     match constant {
         Constant::Characters(text) => push_field(cells, marked, place, text.characters()),
@@ -293,7 +298,9 @@ pub fn cells_of(
     requires place { place_after slots.now ≤ FARTHEST }
     requires before { slot.now.before ≤ FARTHEST }
     requires range { IsInRange line.now }
-    ensures cells { IfOk result (λ cells. IsCut size (cells_of size slots.now (texts literals.now) later.now slot.now line.now) cells.items) }
+    ensures cells { IfOk result (λ cells.
+        IsCut size (cells_of size slots.now (texts literals.now) later.now slot.now line.now)
+        cells.items) }
 {
     let mut cells = Vec::new(alloc);
     if slot.fault.is_some() {

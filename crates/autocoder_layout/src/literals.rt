@@ -49,7 +49,8 @@ impl Literal {
 
 /// Adds the literal that an operand is.
 fn push_literal(uses: &mut Vec<Literal>, operand: &Option<Operand>) -> Result<(), AllocError>
-    ensures uses { OnOk result (texts uses.new.items ≡ texts uses.old.items ++ literal_in operand.now) }
+    ensures uses { OnOk result (texts uses.new.items
+        ≡ texts uses.old.items ++ literal_in operand.now) }
     ensures count { OnOk result (length uses.new.items ≤ length uses.old.items + 1) }
 {
     let Some(Operand::Literal(text)) = operand else {
@@ -62,7 +63,8 @@ fn push_literal(uses: &mut Vec<Literal>, operand: &Option<Operand>) -> Result<()
 /// Adds the literals that a card uses, where it doesn't count as a comment.
 #[tactic(auto, unfolding(crate::specs::Literals::uses_in))]
 fn push_uses(uses: &mut Vec<Literal>, line: &Line, slot: &Slot) -> Result<(), AllocError>
-    ensures uses { OnOk result (texts uses.new.items ≡ texts uses.old.items ++ uses_in line.now slot.now) }
+    ensures uses { OnOk result (texts uses.new.items
+        ≡ texts uses.old.items ++ uses_in line.now slot.now) }
     ensures count { OnOk result (length uses.new.items ≤ length uses.old.items + 2) }
 {
     let Ok(Statement::Instruction { instruction, .. }) = line else {
@@ -79,7 +81,8 @@ fn push_uses(uses: &mut Vec<Literal>, line: &Line, slot: &Slot) -> Result<(), Al
 fn uses(alloc: Global, source: &[Card], slots: &[Slot]) -> Result<Vec<Literal>, AllocError>
     requires deck { length source.now ≤ largest_deck }
     requires slots { length slots.now ≡ length source.now }
-    ensures uses { IfOk result (λ uses. texts uses.items ≡ uses_of (lines_of false source.now) slots.now) }
+    ensures uses { IfOk result (λ uses.
+        texts uses.items ≡ uses_of (lines_of false source.now) slots.now) }
     ensures count { IfOk result (λ uses. length uses.items ≤ MOST_LITERALS) }
 {
     let mut uses = Vec::new(alloc);
@@ -115,7 +118,8 @@ pub fn literals_of(
 ) -> Result<Vec<Literal>, AllocError>
     requires deck { length source.now ≤ largest_deck }
     requires slots { length slots.now ≡ length source.now }
-    ensures literals { IfOk result (λ literals. texts literals.items ≡ literals_of (lines_of false source.now) slots.now) }
+    ensures literals { IfOk result (λ literals.
+        texts literals.items ≡ literals_of (lines_of false source.now) slots.now) }
     ensures count { IfOk result (λ literals. length literals.items ≤ MOST_LITERALS) }
 {
     let uses = uses(alloc, source, slots)?;

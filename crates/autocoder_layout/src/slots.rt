@@ -392,7 +392,8 @@ fn slot_of(size: u16, earlier: &[Slot], line: Line) -> Slot
 pub fn lay_out(alloc: Global, size: u16, source: &[Card]) -> Result<Vec<Slot>, AllocError>
     requires count { length source.now ≤ largest_deck }
     requires size { size ≤ largest_size }
-    ensures slots { IfOk result (λ slots. slots.items ≡ slots_from size [] (lines_of false source.now)) }
+    ensures slots { IfOk result (λ slots.
+        slots.items ≡ slots_from size [] (lines_of false source.now)) }
     ensures within { IfOk result (λ slots. IsWithin FARTHEST slots.items) }
     ensures count { IfOk result (λ slots. length slots.items ≡ length source.now) }
     ensures place { IfOk result (λ slots. place_after slots.items ≤ FARTHEST) }

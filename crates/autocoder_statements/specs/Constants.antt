@@ -17,16 +17,19 @@ quoted_run text = if begins (codes "@") text then run Quoted (drop 1 text) else 
 unfoldable pub quoted : List ℕ → Option (List ℕ × ℕ)
 quoted text =
     if quoted_run text == 0 then None
-    else (if begins (codes "@") (drop (1 + quoted_run text) text) then Some (take (quoted_run text) (drop 1 text), 2 + quoted_run text)
+    else (if begins (codes "@") (drop (1 + quoted_run text) text)
+    then Some (take (quoted_run text) (drop 1 text), 2 + quoted_run text)
     else None)
 
 -- the zone that a sign puts over the last digit of a number
 abbrev pub sign_zone : List ℕ → Zone
-sign_zone text = if begins (codes "&") text then AB else (if begins (codes "-") text then B else Bare)
+sign_zone text = if begins (codes "&") text then AB
+    else (if begins (codes "-") text then B else Bare)
 
 -- these digits with a zone over the last of them
 unfoldable pub zoned : Zone → List ℕ → List ℕ
-zoned zone digits = slice_set digits (length digits - 1) (digit_under zone (digit_value (slice_index digits (length digits - 1))))
+zoned zone digits = slice_set digits (length digits - 1)
+    (digit_under zone (digit_value (slice_index digits (length digits - 1))))
 
 -- a sign and one or more digits, as digits with the sign's zone over the last
 unfoldable pub signed : List ℕ → Option (List ℕ × ℕ)
@@ -42,8 +45,10 @@ literal text = if begins (codes "@") text then quoted text else signed text
 -- a constant: a number of blanks, digits with a sign or without, or characters between two @
 unfoldable pub constant : List ℕ → Option (Constant × ℕ)
 constant text =
-    if begins (codes "#") text then option_map (λ found. (Blanks found.0, 1 + found.1)) (positive (drop 1 text))
-    else (if digit_run text == 0 then option_map (λ found. (Characters found.0, found.1)) (literal text)
+    if begins (codes "#") text
+    then option_map (λ found. (Blanks found.0, 1 + found.1)) (positive (drop 1 text))
+    else (if digit_run text == 0
+    then option_map (λ found. (Characters found.0, found.1)) (literal text)
     else Some (Characters (take (digit_run text) text), digit_run text))
 
 -- how many positions a constant takes

@@ -40,7 +40,8 @@ positive text = do
 
 -- how many digits follow the sign at the beginning of a text, 0 if there is no sign
 unfoldable pub signed_run : List ℕ → ℕ
-signed_run text = if begins (codes "&") text then digit_run (drop 1 text) else (if begins (codes "-") text then digit_run (drop 1 text) else 0)
+signed_run text = if begins (codes "&") text then digit_run (drop 1 text)
+    else (if begins (codes "-") text then digit_run (drop 1 text) else 0)
 
 -- the base of an address: a name if the text begins with a letter, else a number
 unfoldable pub base : List ℕ → Option (Base × ℕ)
@@ -57,7 +58,8 @@ adjusted plus n = if plus then Plus n else Minus n
 unfoldable pub adjustment : List ℕ → Option (Adjustment × ℕ)
 adjustment text =
     if signed_run text == 0 then Some (Nothing, 0)
-    else option_map (λ found. (adjusted (begins (codes "&") text) found.0, 1 + found.1)) (number (drop 1 text))
+    else option_map (λ found. (adjusted (begins (codes "&") text) found.0, 1 + found.1))
+    (number (drop 1 text))
 
 -- the index location after &: X1, X2, X3 or none
 unfoldable pub index : List ℕ → Option IndexLocation × ℕ
@@ -76,7 +78,8 @@ expression text = do
 
 -- an address: an expression and its index location, and how many characters both take
 abbrev pub indexed : Expression → ℕ → Option IndexLocation × ℕ → Address × ℕ
-indexed expression count index = (record { expression = expression; index = index.0 }, count + index.1)
+indexed expression count index =
+    (record { expression = expression; index = index.0 }, count + index.1)
 
 -- an address: an expression and an index location, if one is given
 unfoldable pub address : List ℕ → Option (Address × ℕ)

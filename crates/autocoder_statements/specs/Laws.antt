@@ -15,7 +15,8 @@ names = map (λ row. row.0) orders ++ map (λ row. row.0) mnemonics
 abbrev pub IsOneOperation : List ℕ → Type 0
 IsOneOperation word =
     (i j : ℕ) → i < length names → j < length names →
-    begins (slice_index_or names i []) word ≡ true → begins (slice_index_or names j []) word ≡ true → i ≡ j
+    begins (slice_index_or names i []) word ≡ true →
+    begins (slice_index_or names j []) word ≡ true → i ≡ j
 
 -- whether an operand field has this form
 abbrev pub fits : Form → List ℕ → Bool

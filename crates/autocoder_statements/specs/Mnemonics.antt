@@ -136,7 +136,8 @@ mnemonic_of row = record { operation = row.0; modifier = row.1; forms = row.2 }
 
 -- the operation that a word of five characters names, if it names one
 unfoldable pub operation_named : List ℕ → Option Operation
-operation_named word = or_else (entry orders word) (option_map (λ row. operation.Instruction (mnemonic_of row)) (entry mnemonics word))
+operation_named word = or_else (entry orders word)
+    (option_map (λ row. operation.Instruction (mnemonic_of row)) (entry mnemonics word))
 
 -- ---- the instruction of a mnemonic
 
@@ -151,7 +152,8 @@ operands_if (Some form) text = operands form text
 
 -- the operands in a field, by the first of the forms that it has
 unfoldable pub operands_in : Forms → List ℕ → Option Operands
-operands_in forms text = or_else (operands forms.form text) (or_else (operands_if forms.other text) (operands_if forms.third text))
+operands_in forms text = or_else (operands forms.form text)
+    (or_else (operands_if forms.other text) (operands_if forms.third text))
 
 -- the instruction of a mnemonic with these operands; its last character is the field's, or else the
 -- mnemonic's own
@@ -175,4 +177,5 @@ present (Some x) = 1
 -- how many positions an instruction takes: 1 for the operation, 3 for each address, and 1 for the
 -- last character if there is one
 abbrev pub instruction_length : Instruction → ℕ
-instruction_length instruction = 1 + 3 * present instruction.first + 3 * present instruction.second + present instruction.modifier
+instruction_length instruction = 1 + 3 * present instruction.first + 3 * present instruction.second
+    + present instruction.modifier

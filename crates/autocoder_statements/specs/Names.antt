@@ -15,12 +15,16 @@ name_run text = run LetterOrDigit text
 -- whether a word is the name of an index location, X1, X2 or X3, and so not one that a label may
 -- have
 abbrev pub is_index_name : List ℕ → Bool
-is_index_name word = (length word == 2) && (begins (codes "X1") word || (begins (codes "X2") word || begins (codes "X3") word))
+is_index_name word = (length word == 2)
+    && (begins (codes "X1") word || (begins (codes "X2") word || begins (codes "X3") word))
 
 -- whether a word is a name: one to six letters and digits, a letter first
 abbrev pub is_name : List ℕ → Bool
-is_name word = begins_with_letter word && ((name_run word == length word) && (nat_le (length word) longest_name && not (is_index_name word)))
+is_name word = begins_with_letter word
+    && ((name_run word == length word)
+    && (nat_le (length word) longest_name && not (is_index_name word)))
 
 -- the name that a word is, if it is one
 unfoldable pub name_of : List ℕ → Option Name
-name_of word = if is_name word then Some (record { characters = padded longest_name word }) else None
+name_of word =
+    if is_name word then Some (record { characters = padded longest_name word }) else None

@@ -29,7 +29,8 @@ operand Field text =
 -- an operand of this kind after a comma
 unfoldable pub next_operand : Kind → List ℕ → Option (Operand × ℕ)
 next_operand kind text =
-    if begins (codes ",") text then option_map (λ found. (found.0, 1 + found.1)) (operand kind (drop 1 text))
+    if begins (codes ",") text
+    then option_map (λ found. (found.0, 1 + found.1)) (operand kind (drop 1 text))
     else None
 
 -- whether a character's glyph is one of these
@@ -46,11 +47,13 @@ is_modifier Carriage code = is_among (codes "JKL/ST1A") code
 -- the last character of an instruction, alone at the end of the field
 unfoldable pub modifier : Modifiers → List ℕ → Option ℕ
 modifier modifiers [] = None
-modifier modifiers (code ∷ text) = if is_modifier modifiers code then (if is_ended text then Some code else None) else None
+modifier modifiers (code ∷ text) =
+    if is_modifier modifiers code then (if is_ended text then Some code else None) else None
 
 -- the last character of an instruction, after a comma at the end of the field
 unfoldable pub next_modifier : Modifiers → List ℕ → Option ℕ
-next_modifier modifiers text = if begins (codes ",") text then modifier modifiers (drop 1 text) else None
+next_modifier modifiers text =
+    if begins (codes ",") text then modifier modifiers (drop 1 text) else None
 
 -- the operands of an instruction with a last character
 abbrev pub with_modifier : Option Operand → Option Operand → ℕ → Operands
@@ -58,7 +61,8 @@ with_modifier first second code = record { first = first; second = second; modif
 
 -- the operands of an instruction without a last character, if the field ends here
 abbrev pub ended : Option Operand → Option Operand → List ℕ → Option Operands
-ended first second text = if is_ended text then Some (record { first = first; second = second; modifier = None }) else None
+ended first second text = if is_ended text
+    then Some (record { first = first; second = second; modifier = None }) else None
 
 -- the operands of a whole operand field in this form
 unfoldable pub operands : Form → List ℕ → Option Operands
@@ -77,4 +81,5 @@ operands (Two kind other) text = do
 operands (TwoAndModifier kind other modifiers) text = do
   first ← operand kind text
   second ← next_operand other (drop first.1 text)
-  option_map (with_modifier (Some first.0) (Some second.0)) (next_modifier modifiers (drop second.1 (drop first.1 text)))
+  option_map (with_modifier (Some first.0) (Some second.0))
+      (next_modifier modifiers (drop second.1 (drop first.1 text)))

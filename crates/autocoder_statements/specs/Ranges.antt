@@ -28,7 +28,8 @@ IsAdjustmentInRange (Minus n) = n < number_limit
 
 -- the numbers of an expression have at most five digits
 abbrev pub IsExpressionInRange : Expression → Type 0
-IsExpressionInRange expression = IsBaseInRange expression.base × IsAdjustmentInRange expression.adjustment
+IsExpressionInRange expression = IsBaseInRange expression.base
+    × IsAdjustmentInRange expression.adjustment
 
 -- a text has at least one character, and at most as many as the operand field has
 abbrev pub IsTextInRange : List ℕ → Type 0
@@ -50,11 +51,13 @@ IsOperandInRange (Literal text) = IsTextInRange text
 
 -- both operands of a field, if they are there, are in range
 abbrev pub AreOperandsInRange : Operands → Type 0
-AreOperandsInRange operands = IfSome operands.first IsOperandInRange × IfSome operands.second IsOperandInRange
+AreOperandsInRange operands = IfSome operands.first IsOperandInRange
+    × IfSome operands.second IsOperandInRange
 
 -- both operands of an instruction, if they are there, are in range
 abbrev pub IsInstructionInRange : Instruction → Type 0
-IsInstructionInRange instruction = IfSome instruction.first IsOperandInRange × IfSome instruction.second IsOperandInRange
+IsInstructionInRange instruction = IfSome instruction.first IsOperandInRange
+    × IfSome instruction.second IsOperandInRange
 
 -- the numbers and texts of a statement are in range
 abbrev pub IsStatementInRange : Statement → Type 0

@@ -69,7 +69,8 @@ operation_of card = if is_comment card then None else operation_in (operation_fi
 
 infixl 10 ◌>>=◌
 -- the rest of the reading on what was read so far, or its fault
-abbrev pub ◌>>=◌ : {A B : Type 0} → Result A StatementFault → (A → Result B StatementFault) → Result B StatementFault
+abbrev pub ◌>>=◌ : {A B : Type 0} → Result A StatementFault → (A → Result B StatementFault) →
+    Result B StatementFault
 Ok x >>= rest = rest x
 Err fault >>= rest = Err fault
 
@@ -156,7 +157,8 @@ statement_of (operation.Instruction mnemonic) label field = do
 unfoldable pub statement_on : Card → Result Statement StatementFault
 statement_on card =
     if is_comment card then Ok statement.Comment
-    else (if is_broken (label_field card) || is_broken (operation_field card) then Err fault.BrokenField
+    else (if is_broken (label_field card) || is_broken (operation_field card)
+    then Err fault.BrokenField
     else (do
       operation ← or_fault fault.UnknownOperation (operation_in (operation_field card))
       statement_of operation (label_field card) (operand_field card)))

@@ -20,7 +20,10 @@ pub fn a_word_names_one_operation()
 /// The law of forms: of the forms without a last character a field has at most one. So it does
 /// not matter in which order the forms of a mnemonic are tried.
 pub fn a_field_has_one_form()
-    ensures none_or_one { (kind : Kind) (text : List ℕ) → fits Empty text ≡ true → fits (One kind) text ≡ false }
-    ensures none_or_two { (kind other : Kind) (text : List ℕ) → fits Empty text ≡ true → fits (Two kind other) text ≡ false }
-    ensures one_or_two { (kind other third : Kind) (text : List ℕ) → fits (One kind) text ≡ true → fits (Two other third) text ≡ false }
+    ensures none_or_one { (kind : Kind) (text : List ℕ) → fits Empty text ≡ true →
+        fits (One kind) text ≡ false }
+    ensures none_or_two { (kind other : Kind) (text : List ℕ) → fits Empty text ≡ true →
+        fits (Two kind other) text ≡ false }
+    ensures one_or_two { (kind other third : Kind) (text : List ℕ) → fits (One kind) text ≡ true →
+        fits (Two other third) text ≡ false }
 {}

@@ -124,7 +124,8 @@ fn read_next_modifier(modifiers: Modifiers, text: &[Code]) -> Option<Code>
 /// Operands behind which the field is ended.
 fn ended(first: Option<Operand>, second: Option<Operand>, text: &[Code]) -> Option<Operands>
     ensures operands { result ≡ ended first second text.now }
-    ensures range { IfSome first IsOperandInRange → IfSome second IsOperandInRange → IfSome result AreOperandsInRange }
+    ensures range { IfSome first IsOperandInRange → IfSome second IsOperandInRange →
+        IfSome result AreOperandsInRange }
 {
     if !is_ended(text) {
         return None;

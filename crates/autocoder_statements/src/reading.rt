@@ -210,7 +210,8 @@ fn constant_statement(
     field: &[Code],
 ) -> Result<Statement, StatementFault>
     requires { length field.now ≤ longest_text }
-    ensures statement { result ≡ statement_of (if marked then Operation.MarkedConstant else Operation.Constant) label.now field.now }
+    ensures statement { result ≡ statement_of
+        (if marked then Operation.MarkedConstant else Operation.Constant) label.now field.now }
     ensures range { IfOk result IsStatementInRange }
 {
     let Some(constant) = whole_constant(field) else {

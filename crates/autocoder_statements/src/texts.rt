@@ -27,9 +27,15 @@ impl Model for Text {
 
     ghost view = { λ text. take text.count text.characters };
 
-    ghost invariant = { λ text. (text.count ≤ longest_text) × (length text.characters ≡ longest_text) × (text.characters ≡ take text.count text.characters ++ replicate (longest_text - text.count) 0) };
+    ghost invariant = { λ text.
+        (text.count ≤ longest_text) × (length text.characters ≡ longest_text)
+        × (text.characters
+        ≡ take text.count text.characters ++ replicate (longest_text - text.count) 0) };
 
-    ghost inverse = { λ text. record { characters = text ++ replicate (longest_text - length text) 0; count = length text } };
+    ghost inverse = { λ text. record {
+      characters = text ++ replicate (longest_text - length text) 0;
+      count = length text;
+    } };
 }
 
 impl Text {

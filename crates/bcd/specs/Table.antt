@@ -33,7 +33,8 @@ zone_number AB = 3
 
 -- the zone of a character
 unfoldable pub zone_of : ℕ → Zone
-zone_of n = if n / 16 == 0 then Bare else (if n / 16 == 1 then A else (if n / 16 == 2 then B else AB))
+zone_of n = if n / 16 == 0 then Bare
+    else (if n / 16 == 1 then A else (if n / 16 == 2 then B else AB))
 
 -- the digit of a character by its numeric part, if it has one: a part of 0 to 9 itself, and 0 for
 -- part 10, the digit 0 of cards
@@ -62,7 +63,8 @@ part_punches zone part =
 
 -- the punches of a character as twelve bits, row 12 the highest; the A bit alone is rows 2 and 8
 unfoldable pub punches_of : ℕ → ℕ
-punches_of n = if n == 16 then row 2 + row 8 else zone_punch (zone_of n) + part_punches (zone_of n) (n % 16)
+punches_of n = if n == 16 then row 2 + row 8
+    else zone_punch (zone_of n) + part_punches (zone_of n) (n % 16)
 
 -- the function gives no two of the 64 characters the same number
 abbrev pub IsOneToOne : (ℕ → ℕ) → Type 0

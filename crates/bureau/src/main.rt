@@ -61,10 +61,12 @@ fn answer<W: Write, E: Write>(
 ) -> io::Result<Status>
     ensures help { (row : Option RowName) → IsHelp row (texts words.now)
         → IfOk result (λ status. IsTextShown (page_of row) status
-        (W.contents output.old) (W.contents output.new) (E.contents errors.old) (E.contents errors.new)) }
+        (W.contents output.old) (W.contents output.new)
+        (E.contents errors.old) (E.contents errors.new)) }
     ensures version { IsVersion (texts words.now)
         → IfOk result (λ status. IsTextShown VERSION.now status
-        (W.contents output.old) (W.contents output.new) (E.contents errors.old) (E.contents errors.new)) }
+        (W.contents output.old) (W.contents output.new)
+        (E.contents errors.old) (E.contents errors.new)) }
     ensures answered { IfOk result (λ status. HasAnswered (texts words.now) status
         (W.contents output.old) (W.contents output.new)
         (E.contents errors.old) (E.contents errors.new)) }

@@ -35,7 +35,8 @@ is_digit byte = list_any (λ digit. digit == byte) digits
 abbrev pub is_cut_short : ℕ → List ℕ → Bool
 is_cut_short zero bytes = false
 is_cut_short (suc count) [] = true
-is_cut_short (suc count) (byte ∷ bytes) = if byte == line_feed then true else (is_digit byte && is_cut_short count bytes)
+is_cut_short (suc count) (byte ∷ bytes) = if byte == line_feed then true
+    else (is_digit byte && is_cut_short count bytes)
 
 -- the error where so many hexadecimal digits are required: of the length if the line ends early,
 -- else of the punches
@@ -55,7 +56,8 @@ IsWrongBehind form columns bytes error =
     ⊎ ((columns ≡ card_columns) × IsNoLineFeed bytes × (error ≡ Length))
 
 -- the columns of a line before this one are characters, and at this one is the error
-pub record IsLineFault (form : Form) (bytes : List ℕ) (column : ℕ) (error : CardError) : Type 0 where
+pub record IsLineFault (form : Form) (bytes : List ℕ)
+    (column : ℕ) (error : CardError) : Type 0 where
   pub columns : List ℕ
   pub rest : List ℕ
   pub characters : AreCharacters columns

@@ -20,7 +20,8 @@ hexadecimal number = slice_index digits number
 
 -- the punches of a column, twelve bits, as three hexadecimal digits
 abbrev pub digits_of : ℕ → List ℕ
-digits_of rows = hexadecimal (rows / 256 % 16) ∷ hexadecimal (rows / 16 % 16) ∷ hexadecimal (rows % 16) ∷ []
+digits_of rows =
+    hexadecimal (rows / 256 % 16) ∷ hexadecimal (rows / 16 % 16) ∷ hexadecimal (rows % 16) ∷ []
 
 -- the bytes of a column: in a text the character's glyph, in a punch file the digits of its punches
 unfoldable pub column_of : Form → ℕ → List ℕ

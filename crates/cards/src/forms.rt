@@ -37,7 +37,8 @@ pub(crate) fn split_column(form: Form, bytes: &[u8]) -> Result<(Code, &[u8]), Ca
 /// The character whose glyph comes first, and the bytes behind it.
 #[tactic(auto, unfolding(crate::specs::Files::column_of))]
 fn split_glyph(bytes: &[u8]) -> Result<(Code, &[u8]), CardError>
-    ensures column { IfOk result (λ found. BeginsWithColumn Form.Text bytes.now found.0 found.1.now) }
+    ensures column { IfOk result (λ found.
+        BeginsWithColumn Form.Text bytes.now found.0 found.1.now) }
     ensures none { OnErr result (IsNoColumn Form.Text bytes.now) }
     ensures error { IfErr result (λ error. error ≡ column_error Form.Text bytes.now) }
 {
@@ -50,7 +51,8 @@ fn split_glyph(bytes: &[u8]) -> Result<(Code, &[u8]), CardError>
 
 /// The character whose punches the next three digits are, and the bytes behind them.
 fn split_punches(bytes: &[u8]) -> Result<(Code, &[u8]), CardError>
-    ensures column { IfOk result (λ found. BeginsWithColumn Form.Punched bytes.now found.0 found.1.now) }
+    ensures column { IfOk result (λ found.
+        BeginsWithColumn Form.Punched bytes.now found.0 found.1.now) }
     ensures none { OnErr result (IsNoColumn Form.Punched bytes.now) }
     ensures error { IfErr result (λ error. error ≡ column_error Form.Punched bytes.now) }
 {
@@ -78,7 +80,8 @@ fn split_digit(bytes: &[u8]) -> Result<(u16, &[u8]), CardError>
 
 /// The next byte of a column, and the bytes behind it.
 fn split_byte(bytes: &[u8]) -> Result<(u8, &[u8]), CardError>
-    ensures byte { IfOk result (λ found. (found.0 ≢ line_feed) × (bytes.now ≡ found.0 ∷ found.1.now)) }
+    ensures byte { IfOk result (λ found. (found.0 ≢ line_feed)
+        × (bytes.now ≡ found.0 ∷ found.1.now)) }
     ensures none { IfErr result (λ error. (error ≡ CardError.Length) × IsCutOff bytes.now) }
 {
     match bytes.split_first() {

@@ -28,7 +28,8 @@ pub fn read_text(alloc: Global, text: &[u8]) -> Result<Deck, CardFault>
 /// The fault is the first in reading order: 30, 32, 33, or 1 for want of memory.
 pub fn read_punched(alloc: Global, file: &[u8]) -> Result<Deck, CardFault>
     ensures deck { IfOk result (λ deck. IsDeck deck × (file.now ≡ punch_file_of deck)) }
-    ensures only { (deck : List Card) → IsDeck deck → file.now ≡ punch_file_of deck → IsRead result deck }
+    ensures only { (deck : List Card) → IsDeck deck → file.now ≡ punch_file_of deck →
+        IsRead result deck }
     ensures fault { IfErr result (λ fault. IsFault Form.Punched file.now fault) }
 {
     read(alloc, Form::Punched, file)
@@ -68,7 +69,8 @@ fn read(alloc: Global, form: Form, bytes: &[u8]) -> Result<Deck, CardFault>
 /// The card that the bytes begin with, and the bytes behind its line feed. A fault is told at the
 /// card's number.
 fn split_card(form: Form, bytes: &[u8], number: u16) -> Result<(Card, &[u8]), CardFault>
-    ensures line { IfOk result (λ found. IsCard found.0 × (bytes.now ≡ line_of form found.0 ++ found.1.now)) }
+    ensures line { IfOk result (λ found. IsCard found.0
+        × (bytes.now ≡ line_of form found.0 ++ found.1.now)) }
     ensures card { IfErr result (λ fault. fault.card ≡ number) }
     ensures fault { IfErr result (λ fault. IsLineFault form bytes.now fault.column fault.error) }
 {

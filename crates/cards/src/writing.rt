@@ -22,7 +22,8 @@ pub fn write_punched(alloc: Global, deck: &Deck) -> Result<Vec<u8>, AllocError>
     write(alloc, Form::Punched, deck.cards())
 }
 
-/// The punch file of some cards, which may be more than a deck has, as those that a job has punched.
+/// The punch file of some cards, which may be more than a deck has, as those that a job has
+/// punched.
 pub fn write_punched_cards(alloc: Global, cards: &[Card]) -> Result<Vec<u8>, AllocError>
     ensures { IfOk result (λ file. file.items ≡ punch_file_of cards.now) }
 {

@@ -100,7 +100,8 @@ pub record IsGreatestMark (s : Storage) (p q : ℕ) : Type 0 where
 
 -- the nearest position at or below p with a word mark, or none if none has one
 abbrev pub GreatestMark : Storage → ℕ → Option ℕ → Type 0
-GreatestMark s p found = MatchOption found ((k : ℕ) → k ≤ p → is_marked s k ≡ false) (IsGreatestMark s p)
+GreatestMark s p found =
+    MatchOption found ((k : ℕ) → k ≤ p → is_marked s k ≡ false) (IsGreatestMark s p)
 
 -- q is the first of the count positions from p on with a word mark
 pub record IsLeastMark (s : Storage) (p count q : ℕ) : Type 0 where
@@ -112,4 +113,5 @@ pub record IsLeastMark (s : Storage) (p count q : ℕ) : Type 0 where
 -- the first of the count positions from p on with a word mark, or none if none has one
 abbrev pub LeastMark : Storage → ℕ → ℕ → Option ℕ → Type 0
 LeastMark s p count found =
-    MatchOption found ((k : ℕ) → p ≤ k → k < p + count → is_marked s k ≡ false) (IsLeastMark s p count)
+    MatchOption found ((k : ℕ) → p ≤ k → k < p + count → is_marked s k ≡ false)
+    (IsLeastMark s p count)

@@ -83,7 +83,8 @@ pub trait Core: Sized + Drop {
         requires from_room { count ≤ from + 1 }
         requires to_room { count ≤ to + 1 }
         requires apart { is_overlapping from to count ≡ false }
-        ensures { cells self.new ≡ put_codes (cells self.old) (to + 1 - count) (codes_ending (cells self.old) from count) };
+        ensures { cells self.new ≡ put_codes (cells self.old) (to + 1 - count)
+            (codes_ending (cells self.old) from count) };
 
     /// The same of characters and marks.
     fn move_cells(&mut self, from: u16, to: u16, count: u16)
@@ -92,13 +93,15 @@ pub trait Core: Sized + Drop {
         requires from_room { count ≤ from + 1 }
         requires to_room { count ≤ to + 1 }
         requires apart { is_overlapping from to count ≡ false }
-        ensures { cells self.new ≡ put_cells (cells self.old) (to + 1 - count) (cells_ending (cells self.old) from count) };
+        ensures { cells self.new ≡ put_cells (cells self.old) (to + 1 - count)
+            (cells_ending (cells self.old) from count) };
 
     /// Makes the positions from one to another blank without marks.
     fn clear(&mut self, first: u16, last: u16)
         requires order { first ≤ last }
         requires inside { last < length (cells self.old) }
-        ensures { cells self.new ≡ put_cells (cells self.old) first (replicate (last + 1 - first) blank_cell) };
+        ensures { cells self.new
+            ≡ put_cells (cells self.old) first (replicate (last + 1 - first) blank_cell) };
 
     /// The greatest marked position not above a position, where the field that ends there begins.
     fn mark_at_or_below(&self, position: u16) -> Option<u16>
@@ -118,7 +121,8 @@ pub trait Core: Sized + Drop {
     fn mark_after(&self, position: u16) -> Option<u16>
         requires { position < length (cells self.now) }
         ensures mark { result ≡ least_mark (cells self.now) (position + 1) 8 }
-        ensures within { IfSome result (λ found. (position < found) × (found ≤ position + 8) × (found < length (cells self.now))) };
+        ensures within { IfSome result (λ found. (position < found) × (found ≤ position + 8)
+            × (found < length (cells self.now))) };
 }
 
 /// The law of the two searches: what is found is the greatest mark not above the position, and

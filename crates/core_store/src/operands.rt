@@ -12,7 +12,8 @@ use bcd::Zone;
 #[inline(always)]
 pub fn are_inside<C: Core>(core: &C, a: u16, b: u16) -> bool
     ensures inside { result ≡ are_inside (C.cells core.now) a b }
-    ensures below { IsTrue result → (a < length (C.cells core.now)) × (b < length (C.cells core.now)) × (a < largest_size) × (b < largest_size) }
+    ensures below { IsTrue result → (a < length (C.cells core.now))
+        × (b < length (C.cells core.now)) × (a < largest_size) × (b < largest_size) }
 {
     a < core.size() && b < core.size()
 }
@@ -53,7 +54,8 @@ fn cut_by_steps<C: Core>(core: &C, position: u16, limit: u16) -> Option<u16>
     requires below { position < largest_size }
     requires some { 1 ≤ limit }
     ensures length { result ≡ cut_length (C.cells core.now) position limit }
-    ensures within { IfSome result (λ count. (1 ≤ count) × (count ≤ limit) × (count ≤ position + 1)) }
+    ensures within { IfSome result (λ count. (1 ≤ count) × (count ≤ limit)
+        × (count ≤ position + 1)) }
 {
     for count in 0..limit {
         if count > position {
@@ -75,7 +77,8 @@ pub fn cut_length<C: Core>(core: &C, position: u16, limit: u16) -> Option<u16>
     requires below { position < largest_size }
     requires some { 1 ≤ limit }
     ensures length { result ≡ cut_length (C.cells core.now) position limit }
-    ensures within { IfSome result (λ count. (1 ≤ count) × (count ≤ limit) × (count ≤ position + 1)) }
+    ensures within { IfSome result (λ count. (1 ≤ count) × (count ≤ limit)
+        × (count ≤ position + 1)) }
 {
     if position >= 15 && limit <= 16 {
         let near = core.near_length(position);

@@ -23,8 +23,10 @@ pub struct PlaneCore {
 /// Whether one of the 64 bytes from a place on is not 0.
 fn has_mark(marks: &[u8], at: usize) -> bool
     requires { at + 64 ≤ length marks.now }
-    ensures unmarked { result ≡ false → (k : ℕ) → at ≤ k → k < at + 64 → slice_index marks.now k ≡ 0 }
-    ensures marked { result ≡ true → (k : ℕ) × (at ≤ k) × (k < at + 64) × (slice_index marks.now k ≢ 0) }
+    ensures unmarked { result ≡ false → (k : ℕ) → at ≤ k → k < at + 64 →
+        slice_index marks.now k ≡ 0 }
+    ensures marked { result ≡ true →
+        (k : ℕ) × (at ≤ k) × (k < at + 64) × (slice_index marks.now k ≢ 0) }
 {
     let lanes = u8x64::from_slice(&marks[at..]);
     lanes.simd_ne(u8x64::splat(0)).to_bitmask() != 0

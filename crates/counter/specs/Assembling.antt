@@ -69,6 +69,7 @@ Ends text (faulty told) = (told ≡ no_memory) ⊎ AreFaultsOf text told
 Ends text (hindered f) = Hinders text f
 
 -- the assembly of the text ended in some way, and what it made was printed and answered
-abbrev pub Assembles : List ℕ → Assembled → Option (List ℕ) → Option (List ℕ) → Option (List ℕ) → Option (List ℕ) → Type 0
+abbrev pub Assembles : List ℕ → Assembled → Option (List ℕ) → Option (List ℕ) → Option (List ℕ) →
+    Option (List ℕ) → Type 0
 Assembles text answer output_old output_new errors_old errors_new = (ending : Ending)
     × Ends text ending × IsTold ending answer output_old output_new errors_old errors_new

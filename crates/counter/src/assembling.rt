@@ -67,8 +67,10 @@ pub fn assemble_deck<R: Read + Drop, W: Write, E: Write>(
     output: &mut W,
     errors: &mut E,
 ) -> io::Result<Assembled>
-    ensures { IfOk result (λ answer. (text : List ℕ) × Reads (R.remaining reader) text × Assembles text answer
-        (W.contents output.old) (W.contents output.new) (E.contents errors.old) (E.contents errors.new)) }
+    ensures { IfOk result (λ answer. (text : List ℕ) × Reads (R.remaining reader) text
+        × Assembles text answer
+        (W.contents output.old) (W.contents output.new)
+        (E.contents errors.old) (E.contents errors.new)) }
 {
     let text = match text_in(alloc, reader) {
         Ok(text) => text,

@@ -40,7 +40,8 @@ ending_by (hindrance.Fault f) = hindered f
 
 -- the line for a fault of a source: the card's number and the fault's number
 abbrev pub fault_line : CardFault → List ℕ
-fault_line f = codes "card " ++ decimal f.card ++ codes " fault " ++ decimal (fault_number f.fault) ++ 10 ∷ []
+fault_line f =
+    codes "card " ++ decimal f.card ++ codes " fault " ++ decimal (fault_number f.fault) ++ 10 ∷ []
 
 -- the lines for the faults of a source
 abbrev pub fault_lines : List CardFault → List ℕ
@@ -77,18 +78,21 @@ out_in answer = option_map (λ bytes. bytes.items) answer.out
 
 -- the answer for a fault: exit status 1, no bytes for OUT, and the fault was printed
 abbrev pub IsHindrance : Fault → Assembled → Option (List ℕ) → Option (List ℕ) → Type 0
-IsHindrance f answer old new = (answer.status ≡ status.Told) × (out_in answer ≡ None) × Appends old new (fault_words f ++ 10 ∷ [])
+IsHindrance f answer old new = (answer.status ≡ status.Told) × (out_in answer ≡ None)
+    × Appends old new (fault_words f ++ 10 ∷ [])
 
 -- the assembly ended so: its listing or faults were printed, and the answer has its status and
 -- bytes for OUT
-pub record IsTold (ending : Ending) (answer : Assembled) (output_old output_new errors_old errors_new : Option (List ℕ)) : Type 0 where
+pub record IsTold (ending : Ending) (answer : Assembled)
+    (output_old output_new errors_old errors_new : Option (List ℕ)) : Type 0 where
   pub status : answer.status ≡ status_of ending
   pub out : out_in answer ≡ out_of ending
   pub output : Outputs ending output_old output_new
   pub errors : Complains ending errors_old errors_new
 
 -- the assembly's end was printed and answered, or a device's fault was
-abbrev pub IsShown : Ending → Assembled → Option (List ℕ) → Option (List ℕ) → Option (List ℕ) → Option (List ℕ) → Type 0
+abbrev pub IsShown : Ending → Assembled → Option (List ℕ) → Option (List ℕ) → Option (List ℕ) →
+    Option (List ℕ) → Type 0
 IsShown ending answer output_old output_new errors_old errors_new =
     IsTold ending answer output_old output_new errors_old errors_new
     ⊎ IsTold (hindered fault.Device) answer output_old output_new errors_old errors_new

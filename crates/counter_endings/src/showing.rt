@@ -37,7 +37,8 @@ pub enum Hindrance {
 
 /// Tells a fault in place of all else.
 pub fn hinder<E: Write>(errors: &mut E, fault: Fault) -> io::Result<Assembled>
-    ensures { IfOk result (λ answer. IsHindrance fault answer (E.contents errors.old) (E.contents errors.new)) }
+    ensures { IfOk result (λ answer.
+        IsHindrance fault answer (E.contents errors.old) (E.contents errors.new)) }
 {
     let status = tell_fault(errors, fault)?;
     Ok(Assembled { status, out: None })
@@ -50,7 +51,8 @@ pub fn show_product<W: Write, E: Write>(
     errors: &mut E,
 ) -> io::Result<Assembled>
     ensures { IfOk result (λ answer. IsShown (assembled (made_by product)) answer
-        (W.contents output.old) (W.contents output.new) (E.contents errors.old) (E.contents errors.new)) }
+        (W.contents output.old) (W.contents output.new)
+        (E.contents errors.old) (E.contents errors.new)) }
 {
     if put_out(output, &product.listing).is_err() {
         return hinder(errors, Fault::Device);
@@ -68,7 +70,8 @@ fn show_faults<W: Write, E: Write>(
     errors: &mut E,
 ) -> io::Result<Assembled>
     ensures { IfOk result (λ answer. IsShown (faulty faults.now) answer
-        (W.contents output.old) (W.contents output.new) (E.contents errors.old) (E.contents errors.new)) }
+        (W.contents output.old) (W.contents output.new)
+        (E.contents errors.old) (E.contents errors.new)) }
 {
     if put_fault_lines(output, faults).is_err() {
         return hinder(errors, Fault::Device);
@@ -86,7 +89,8 @@ pub fn show_hindrance<W: Write, E: Write>(
     errors: &mut E,
 ) -> io::Result<Assembled>
     ensures { IfOk result (λ answer. IsShown (ending_by hindrance) answer
-        (W.contents output.old) (W.contents output.new) (E.contents errors.old) (E.contents errors.new)) }
+        (W.contents output.old) (W.contents output.new)
+        (E.contents errors.old) (E.contents errors.new)) }
 {
     match hindrance {
         Hindrance::Source(faults) => show_faults(faults.list(), output, errors),

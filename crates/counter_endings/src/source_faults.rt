@@ -10,7 +10,8 @@ use std::io::Write;
 
 /// Puts the line of a source's fault out.
 fn put_fault_line<W: Write>(output: &mut W, fault: CardFault) -> io::Result<()>
-    ensures { OnOk result (Appends (W.contents output.old) (W.contents output.new) (fault_line fault)) }
+    ensures { OnOk result
+        (Appends (W.contents output.old) (W.contents output.new) (fault_line fault)) }
 {
     let card = fault.card;
     let number = fault.fault.number();
@@ -19,7 +20,8 @@ fn put_fault_line<W: Write>(output: &mut W, fault: CardFault) -> io::Result<()>
 
 /// Puts the lines of a source's faults out.
 pub(crate) fn put_fault_lines<W: Write>(output: &mut W, faults: &[CardFault]) -> io::Result<()>
-    ensures { OnOk result (Appends (W.contents output.old) (W.contents output.new) (fault_lines faults.now)) }
+    ensures { OnOk result
+        (Appends (W.contents output.old) (W.contents output.new) (fault_lines faults.now)) }
 {
     for fault in faults {
         put_fault_line(output, *fault)?;

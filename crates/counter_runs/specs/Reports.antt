@@ -29,9 +29,11 @@ check_words check.PrinterFull = codes "PRINTER FULL"
 abbrev pub standing_words : Standing → ℕ → List ℕ
 standing_words standing.Running next = codes "running"
 standing_words standing.Halted next = codes "halted next " ++ decimal next
-standing_words (standing.Checked kind) next = codes "check " ++ check_words kind ++ codes " at " ++ decimal next
+standing_words (standing.Checked kind) next =
+    codes "check " ++ check_words kind ++ codes " at " ++ decimal next
 
 -- the report of a run: how many cards and lines were made, and the machine's standing
 abbrev pub report_words : Report → List ℕ
-report_words report = codes "cards " ++ decimal report.cards ++ codes " lines " ++ decimal report.lines ++ codes " "
+report_words report =
+    codes "cards " ++ decimal report.cards ++ codes " lines " ++ decimal report.lines ++ codes " "
     ++ standing_words report.stand.standing report.stand.next

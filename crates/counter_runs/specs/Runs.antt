@@ -49,7 +49,8 @@ abbrev pub shown_by : State → Shown
 shown_by m = record { listing = rendered (lines_of m); report = report_of m }
 
 -- the text is that of a deck with a card, and this is given by the machine that ran the deck
-pub record IsRunOf (text : List ℕ) (size : Size) (switches : Switches) (shown : Shown) : Type 0 where
+pub record IsRunOf (text : List ℕ) (size : Size) (switches : Switches)
+    (shown : Shown) : Type 0 where
   pub deck : List Card
   pub is_deck : IsDeck deck
   pub has_card : 0 < length deck
@@ -94,18 +95,23 @@ Outputs (Ok shown) old new = Appends old new shown.listing
 Outputs (Err f) old new = (f ≡ fault.Device) ⊎ Keeps old new
 
 -- the run ended so: this is its exit status, and its listing and message were printed
-pub record IsTold (ending : Result Shown Fault) (ended : Status) (output_old output_new errors_old errors_new : Option (List ℕ)) : Type 0 where
+pub record IsTold (ending : Result Shown Fault) (ended : Status)
+    (output_old output_new errors_old errors_new : Option (List ℕ)) : Type 0 where
   pub status : ended ≡ status_of ending
   pub output : Outputs ending output_old output_new
   pub errors : Appends errors_old errors_new (message_of ending)
 
 -- what the run gave was printed, or the fault of a device
-abbrev pub IsShown : Shown → Status → Option (List ℕ) → Option (List ℕ) → Option (List ℕ) → Option (List ℕ) → Type 0
+abbrev pub IsShown : Shown → Status → Option (List ℕ) → Option (List ℕ) → Option (List ℕ) →
+    Option (List ℕ) → Type 0
 IsShown shown ended output_old output_new errors_old errors_new =
     IsTold (Ok shown) ended output_old output_new errors_old errors_new
     ⊎ IsTold (Err fault.Device) ended output_old output_new errors_old errors_new
 
 -- the run of the text ended in some way, and what it gave was printed
-abbrev pub Tells : List ℕ → Size → Switches → Status → Option (List ℕ) → Option (List ℕ) → Option (List ℕ) → Option (List ℕ) → Type 0
-Tells text size switches ended output_old output_new errors_old errors_new = (ending : Result Shown Fault)
-    × Ends text size switches ending × IsTold ending ended output_old output_new errors_old errors_new
+abbrev pub Tells : List ℕ → Size → Switches → Status → Option (List ℕ) → Option (List ℕ) →
+    Option (List ℕ) → Option (List ℕ) → Type 0
+Tells text size switches ended output_old output_new errors_old errors_new =
+    (ending : Result Shown Fault)
+    × Ends text size switches ending
+    × IsTold ending ended output_old output_new errors_old errors_new

@@ -36,7 +36,8 @@ struct Outcome {
 /// memory.
 pub fn text_in<R: Read + Drop>(alloc: Global, reader: R) -> Result<Vec<u8>, Fault>
     ensures text { IfOk result (λ text. Reads (R.remaining reader) text.items) }
-    ensures fault { IfErr result (λ fault. (fault ≡ Fault.Card out_of_memory) ⊎ (fault ≡ Fault.Device)) }
+    ensures fault { IfErr result (λ fault. (fault ≡ Fault.Card out_of_memory)
+        ⊎ (fault ≡ Fault.Device)) }
 {
     let mut text = Vec::new(alloc);
     match reader.take(MOST_BYTES).read_to_end(&mut text) {
@@ -53,7 +54,8 @@ fn machine_after(
     switches: Switches,
 ) -> Result<Machine<PlaneCore>, AllocError>
     requires { 0 < length deck }
-    ensures { IfOk result (λ machine. machine ≡ after (loaded deck size switches) most_instructions) }
+    ensures { IfOk result (λ machine.
+        machine ≡ after (loaded deck size switches) most_instructions) }
 {
     let mut machine = Machine::load(alloc, deck, size, switches)?;
     machine.run(MOST_INSTRUCTIONS, &mut Meter::new())?;
@@ -101,7 +103,8 @@ fn outcome_of(alloc: Global, text: &[u8], size: Size, switches: Switches) -> Res
 /// Puts the listing out, and then prints how the machine stands.
 fn show<W: Write, E: Write>(outcome: &Outcome, output: &mut W, errors: &mut E) -> io::Result<Status>
     ensures { IfOk result (λ status. IsShown (shown_of outcome.now) status
-        (W.contents output.old) (W.contents output.new) (E.contents errors.old) (E.contents errors.new)) }
+        (W.contents output.old) (W.contents output.new)
+        (E.contents errors.old) (E.contents errors.new)) }
 {
     if put_out(output, &outcome.listing).is_err() {
         return tell_fault(errors, Fault::Device);
@@ -124,8 +127,10 @@ pub fn run_deck<R: Read + Drop, W: Write, E: Write>(
     size: Size,
     switches: Switches,
 ) -> io::Result<Status>
-    ensures { IfOk result (λ status. (text : List ℕ) × Reads (R.remaining reader) text × Tells text size switches status
-        (W.contents output.old) (W.contents output.new) (E.contents errors.old) (E.contents errors.new)) }
+    ensures { IfOk result (λ status. (text : List ℕ) × Reads (R.remaining reader) text
+        × Tells text size switches status
+        (W.contents output.old) (W.contents output.new)
+        (E.contents errors.old) (E.contents errors.new)) }
 {
     let text = match text_in(alloc, reader) {
         Ok(text) => text,

@@ -25,7 +25,8 @@ status_code status.Unusable = 3
 
 -- the text that is printed for a fault
 abbrev pub fault_words : Fault → List ℕ
-fault_words (fault.Card f) = codes "card " ++ decimal f.card ++ codes " column " ++ decimal f.column ++ codes " fault "
+fault_words (fault.Card f) =
+    codes "card " ++ decimal f.card ++ codes " column " ++ decimal f.column ++ codes " fault "
     ++ decimal (card_error_number f.error)
 fault_words fault.Empty = codes "refused 13"
 fault_words fault.TooManyCards = codes "fault 33"
@@ -82,7 +83,8 @@ abbrev pub misuse_status : Misuse → Status
 misuse_status m = if is_want_of_memory m then status.Told else status.Misused
 
 -- the text was printed, or the output failed and the fault of a device was printed
-abbrev pub IsTextShown : List ℕ → Status → Option (List ℕ) → Option (List ℕ) → Option (List ℕ) → Option (List ℕ) → Type 0
+abbrev pub IsTextShown : List ℕ → Status → Option (List ℕ) → Option (List ℕ) → Option (List ℕ) →
+    Option (List ℕ) → Type 0
 IsTextShown text ended output_old output_new errors_old errors_new =
     ((ended ≡ status.Done) × Appends output_old output_new text × Keeps errors_old errors_new)
     ⊎ ((ended ≡ status.Told) × Appends errors_old errors_new (fault_words fault.Device ++ 10 ∷ []))

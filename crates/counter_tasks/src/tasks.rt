@@ -167,7 +167,8 @@ impl<'a> From<io::Error> for Misuse<'a> {
 /// The task of a row `run`.
 fn run_task<'a>(deck: &'a str, size: &str, switches: &str) -> Result<Task<'a>, Misuse<'a>>
     ensures ok { IfOk result (WantsRun deck.entry.now size.now switches.now) }
-    ensures err { IfErr result (λ _. (task : Task) → ¬ WantsRun deck.entry.now size.now switches.now task) }
+    ensures err { IfErr result (λ _. (task : Task) →
+        ¬ WantsRun deck.entry.now size.now switches.now task) }
     ensures misuse { IfErr result (IsValueMisuse size.now switches.now) }
 {
     let Some(size) = size_of(size) else {
@@ -186,7 +187,8 @@ fn run_task<'a>(deck: &'a str, size: &str, switches: &str) -> Result<Task<'a>, M
 /// The task of a row `serve`.
 fn serve_task<'a>(file: &'a str, port: &str, count: &str) -> Result<Task<'a>, Misuse<'a>>
     ensures ok { IfOk result (WantsServe file.entry.now port.now count.now) }
-    ensures err { IfErr result (λ _. (task : Task) → ¬ WantsServe file.entry.now port.now count.now task) }
+    ensures err { IfErr result (λ _. (task : Task) →
+        ¬ WantsServe file.entry.now port.now count.now task) }
     ensures misuse { IfErr result (IsServeMisuse port.now count.now) }
 {
     let Some(port) = port_of(port) else {
@@ -204,7 +206,8 @@ pub fn task_of<'a>(alloc: Global, words: &'a [String]) -> Result<Task<'a>, Misus
     ensures ok { IfOk result (Wants (texts words.entry.now)) }
     ensures err { IfErr result (λ misuse. (task : Task) → Wants (texts words.entry.now) task
         → misuse ≡ Misuse.Words Memory) }
-    ensures help { (row : Option RowName) → (result ≡ Ok (Task.Help row)) ↔ IsHelp row (texts words.entry.now) }
+    ensures help { (row : Option RowName) →
+        (result ≡ Ok (Task.Help row)) ↔ IsHelp row (texts words.entry.now) }
     ensures version { (result ≡ Ok Task.Version) ↔ IsVersion (texts words.entry.now) }
     ensures misuse { IfErr result (IsMisuse (texts words.entry.now)) }
 {

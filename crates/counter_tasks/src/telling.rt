@@ -33,7 +33,8 @@ pub fn tell_fault<E: Write>(errors: &mut E, fault: Fault) -> io::Result<Status>
 /// without hyphens, this help alone. An error is the writer's.
 pub fn tell_misuse<E: Write>(errors: &mut E, misuse: Misuse<'_>) -> io::Result<Status>
     ensures { IfOk result (λ status. (status ≡ misuse_status misuse.entry)
-        × Appends (E.contents errors.old) (E.contents errors.new) (misuse_message USAGE.now misuse.entry)) }
+        × Appends (E.contents errors.old) (E.contents errors.new)
+        (misuse_message USAGE.now misuse.entry)) }
 {
     if misuse.is_want_of_memory() {
         return tell_fault(errors, Fault::Memory);
@@ -49,7 +50,8 @@ pub fn tell_misuse<E: Write>(errors: &mut E, misuse: Misuse<'_>) -> io::Result<S
 /// Puts a text out. An error is the second writer's, to which nothing can be told.
 fn show_text<W: Write, E: Write>(text: &str, output: &mut W, errors: &mut E) -> io::Result<Status>
     ensures { IfOk result (λ status. IsTextShown text.now status
-        (W.contents output.old) (W.contents output.new) (E.contents errors.old) (E.contents errors.new)) }
+        (W.contents output.old) (W.contents output.new)
+        (E.contents errors.old) (E.contents errors.new)) }
 {
     if put_out(output, text.as_bytes()).is_err() {
         return tell_fault(errors, Fault::Device);
@@ -65,7 +67,8 @@ pub fn show_help<W: Write, E: Write>(
     row: Option<RowName>,
 ) -> io::Result<Status>
     ensures { IfOk result (λ status. IsTextShown (page_of row) status
-        (W.contents output.old) (W.contents output.new) (E.contents errors.old) (E.contents errors.new)) }
+        (W.contents output.old) (W.contents output.new)
+        (E.contents errors.old) (E.contents errors.new)) }
 {
     show_text(page(row), output, errors)
 }
@@ -74,7 +77,8 @@ pub fn show_help<W: Write, E: Write>(
 /// nothing can be told.
 pub fn show_version<W: Write, E: Write>(output: &mut W, errors: &mut E) -> io::Result<Status>
     ensures { IfOk result (λ status. IsTextShown VERSION.now status
-        (W.contents output.old) (W.contents output.new) (E.contents errors.old) (E.contents errors.new)) }
+        (W.contents output.old) (W.contents output.new)
+        (E.contents errors.old) (E.contents errors.new)) }
 {
     show_text(VERSION, output, errors)
 }

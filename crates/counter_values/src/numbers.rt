@@ -6,8 +6,10 @@ use itoa::Buffer;
 
 /// The number that 1 to 9 digits without a leading zero spell.
 pub fn number_of(text: &str) -> Option<u32>
-    ensures some { IfSome result (λ number. (0 < number) × (number < 10 ^ 9) × (text.now ≡ decimal number)) }
-    ensures none { IfNone result ((number : ℕ) → 0 < number → number < 10 ^ 9 → text.now ≢ decimal number) }
+    ensures some { IfSome result (λ number. (0 < number) × (number < 10 ^ 9)
+        × (text.now ≡ decimal number)) }
+    ensures none { IfNone result ((number : ℕ) → 0 < number → number < 10 ^ 9 →
+        text.now ≢ decimal number) }
 {
     let Ok(number) = text.parse::<u32>() else {
         return None;

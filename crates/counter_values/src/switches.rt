@@ -47,7 +47,8 @@ fn bits_of(letters: &[u8]) -> Option<u8>
 /// The switches that a text names: rising letters of `ABCDEFG` without repeats, or `-` for none.
 pub fn switches_of(text: &str) -> Option<Switches>
     ensures some { IfSome result (λ switches. AreSeven switches × (text.now ≡ text_of switches)) }
-    ensures none { IfNone result ((switches : Switches) → AreSeven switches → text.now ≢ text_of switches) }
+    ensures none { IfNone result ((switches : Switches) → AreSeven switches →
+        text.now ≢ text_of switches) }
 {
     if text == "-" {
         return Some(Switches::empty());

@@ -86,7 +86,8 @@ fn values_found<'a>(matches: &ArgMatches<'a>, row: RowName) -> Option<Values<'a>
 /// The row that clap found.
 pub(crate) fn row_in<'a>(matches: &ArgMatches<'a>) -> Option<Words<'a>>
     ensures some { IfSome result (IsRow (subcommand_rows_of matches.now)) }
-    ensures none { IfNone result ((asked : Words) → ¬ IsRow (subcommand_rows_of matches.now) asked) }
+    ensures none { IfNone result ((asked : Words) →
+        ¬ IsRow (subcommand_rows_of matches.now) asked) }
 {
     let Some((name, inner)) = matches.subcommand() else {
         return None;

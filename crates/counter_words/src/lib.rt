@@ -46,7 +46,8 @@ fn parsed<'a>(alloc: Global, words: &'a [String]) -> Result<ArgMatches<'a>, Word
     ensures ok { IfOk result (λ m. (fault_of bureau (texts words.entry.now) ≡ [])
         × (subcommand_rows_of m ≡ subcommand_of bureau (texts words.entry.now))) }
     ensures err { IfErr result (λ fault. (fault ≡ WordsFault.Memory)
-        ⊎ ((fault_of bureau (texts words.entry.now) ≢ []) × (misreading_by fault ≡ misreading (texts words.entry.now)))) }
+        ⊎ ((fault_of bureau (texts words.entry.now) ≢ [])
+        × (misreading_by fault ≡ misreading (texts words.entry.now)))) }
 {
     let Ok(command) = bureau_command(alloc) else {
         return Err(WordsFault::Memory);
@@ -65,7 +66,8 @@ fn parsed<'a>(alloc: Global, words: &'a [String]) -> Result<ArgMatches<'a>, Word
 
 /// The row that clap reads in the words.
 fn row_of<'a>(alloc: Global, words: &'a [String]) -> Result<Words<'a>, WordsFault<'a>>
-    ensures ok { IfOk result (λ asked. ArePlain (texts words.entry.now) → Spells (texts words.entry.now) asked) }
+    ensures ok { IfOk result (λ asked. ArePlain (texts words.entry.now) →
+        Spells (texts words.entry.now) asked) }
     ensures err { IfErr result (λ fault. ArePlain (texts words.entry.now)
         → (asked : Words) → Spells (texts words.entry.now) asked → fault ≡ WordsFault.Memory) }
     ensures fault { IfErr result (λ fault. (fault ≡ WordsFault.Memory)
@@ -86,7 +88,8 @@ pub fn words<'a>(alloc: Global, words: &'a [String]) -> Result<Words<'a>, WordsF
     ensures ok { IfOk result (Asks (texts words.entry.now)) }
     ensures err { IfErr result (λ fault. (asked : Words) → Asks (texts words.entry.now) asked
         → fault ≡ WordsFault.Memory) }
-    ensures help { (row : Option RowName) → (result ≡ Ok (Words.Help row)) ↔ IsHelp row (texts words.entry.now) }
+    ensures help { (row : Option RowName) →
+        (result ≡ Ok (Words.Help row)) ↔ IsHelp row (texts words.entry.now) }
     ensures version { (result ≡ Ok Words.Version) ↔ IsVersion (texts words.entry.now) }
     ensures fault { IfErr result (λ fault. (fault ≡ WordsFault.Memory)
         ⊎ (misreading_by fault ≡ misreading (texts words.entry.now))) }

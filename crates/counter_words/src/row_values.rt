@@ -38,7 +38,8 @@ fn values_in<'a>(words: &'a [String]) -> Option<Values<'a>>
 /// The row with one value that this one makes.
 fn row_with_one<'a>(row: RowName, first: &'a str) -> Option<Words<'a>>
     ensures some { IfSome result (λ asked. row_of asked ≡ Some (row, first.entry.now ∷ [])) }
-    ensures none { IfNone result ((asked : Words) → row_of asked ≢ Some (row, first.entry.now ∷ [])) }
+    ensures none { IfNone result ((asked : Words) →
+        row_of asked ≢ Some (row, first.entry.now ∷ [])) }
 {
     match row {
         RowName::Init => Some(Words::Init { file: first }),
@@ -110,7 +111,8 @@ fn row_with_three<'a>(
 /// The row that these values make.
 pub(crate) fn row_with<'a>(row: RowName, values: Values<'a>) -> Option<Words<'a>>
     ensures some { IfSome result (λ asked. row_of asked ≡ Some (row, texts_of values.entry)) }
-    ensures none { IfNone result ((asked : Words) → row_of asked ≢ Some (row, texts_of values.entry)) }
+    ensures none { IfNone result ((asked : Words) →
+        row_of asked ≢ Some (row, texts_of values.entry)) }
 {
     match values {
         Values::One(first) => row_with_one(row, first),
@@ -122,7 +124,8 @@ pub(crate) fn row_with<'a>(row: RowName, values: Values<'a>) -> Option<Words<'a>
 /// The row that these words make after its name.
 pub(crate) fn row_of_words<'a>(row: RowName, words: &'a [String]) -> Option<Words<'a>>
     ensures some { IfSome result (λ asked. row_of asked ≡ Some (row, texts words.entry.now)) }
-    ensures none { IfNone result ((asked : Words) → row_of asked ≢ Some (row, texts words.entry.now)) }
+    ensures none { IfNone result ((asked : Words) →
+        row_of asked ≢ Some (row, texts words.entry.now)) }
 {
     let Some(values) = values_in(words) else {
         return None;

@@ -35,14 +35,18 @@ path_of Autocoder = route.SubmitAutocoder
 -- a target asks for this, by its route and the texts in its path
 abbrev pub Asks : List ℕ → Asked → Type 0
 Asks target (asked.Submit job kind size switches) =
-    (route_at target ≡ Some (path_of kind)) × IsJobOf target job × IsNumberOf (part 6 target) size × AreSwitchesOf (part 7 target) switches
-Asks target (asked.Slice job limit) = (route_at target ≡ Some route.Slice) × IsJobOf target job × IsNumberOf (part 6 target) limit
-Asks target (asked.Start job switches) = (route_at target ≡ Some route.Start) × IsJobOf target job × AreSwitchesOf (part 6 target) switches
+    (route_at target ≡ Some (path_of kind)) × IsJobOf target job × IsNumberOf (part 6 target) size
+    × AreSwitchesOf (part 7 target) switches
+Asks target (asked.Slice job limit) = (route_at target ≡ Some route.Slice) × IsJobOf target job
+    × IsNumberOf (part 6 target) limit
+Asks target (asked.Start job switches) = (route_at target ≡ Some route.Start) × IsJobOf target job
+    × AreSwitchesOf (part 6 target) switches
 Asks target (asked.Hold job) = (route_at target ≡ Some route.Hold) × IsJobOf target job
 Asks target (asked.Release job) = (route_at target ≡ Some route.Release) × IsJobOf target job
 Asks target (asked.Collect job) = (route_at target ≡ Some route.Collect) × IsJobOf target job
 Asks target (asked.Standing job) = (route_at target ≡ Some route.Standing) × IsJobOf target job
 Asks target (asked.Cards job) = (route_at target ≡ Some route.Cards) × IsJobOf target job
 Asks target (asked.Lines job) = (route_at target ≡ Some route.Lines) × IsJobOf target job
-Asks target (asked.Jobs customer) = (route_at target ≡ Some route.Jobs) × (customer.now ≡ part 2 target)
+Asks target (asked.Jobs customer) = (route_at target ≡ Some route.Jobs)
+    × (customer.now ≡ part 2 target)
 Asks target asked.Queue = route_at target ≡ Some route.Queue

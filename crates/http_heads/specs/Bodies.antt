@@ -18,7 +18,8 @@ abbrev pub IsFilledAfter : List ℕ → Option (List ℕ) → Option (List ℕ) 
 IsFilledAfter begun old new buffer filled.Whole =
     (rest : List ℕ) × (buffer ≡ begun ++ rest) × Consumes old new rest
 IsFilledAfter begun old new buffer filled.Ended =
-    (front : List ℕ) × (length begun + length front < length buffer) × Consumes old new front × IsAtEnd new
+    (front : List ℕ) × (length begun + length front < length buffer) × Consumes old new front
+    × IsAtEnd new
 IsFilledAfter begun old new buffer filled.Failed = ⊤
 
 -- the body is the first so many bytes after the head, or is too short if there are fewer

@@ -28,7 +28,8 @@ pub record BeginsWith (input : List ℕ) (h : RequestHead) : Type 0 where
 
 -- the bytes begin as no head does, within as many bytes as a head may have
 abbrev pub IsNoHead : List ℕ → Type 0
-IsNoHead input = (front : List ℕ) × (rest : List ℕ) × (input ≡ front ++ rest) × (length front ≤ most_bytes) × NeverHasRequest front
+IsNoHead input = (front : List ℕ) × (rest : List ℕ) × (input ≡ front ++ rest)
+    × (length front ≤ most_bytes) × NeverHasRequest front
 
 -- the bytes end before a head does
 abbrev pub EndsEarly : List ℕ → Type 0
@@ -36,7 +37,8 @@ EndsEarly input = HasNoRequest input × (length input < most_bytes)
 
 -- the bytes begin with a start line and more header fields than a head may have
 abbrev pub HasManyFields : List ℕ → Type 0
-HasManyFields input = (front : List ℕ) × (rest : List ℕ) × (input ≡ front ++ rest) × RequestExceeds most_fields front
+HasManyFields input = (front : List ℕ) × (rest : List ℕ) × (input ≡ front ++ rest)
+    × RequestExceeds most_fields front
 
 -- no head ends within the most bytes of a head
 abbrev pub IsTooLong : List ℕ → Type 0
@@ -57,7 +59,8 @@ IsRefused h status =
 
 -- the bytes are refused with this status, since they begin with no head or their head is refused
 abbrev pub Refuses : List ℕ → ℕ → Type 0
-Refuses input status = IsUnread input status ⊎ ((h : RequestHead) × BeginsWith input h × IsRefused h status)
+Refuses input status = IsUnread input status
+    ⊎ ((h : RequestHead) × BeginsWith input h × IsRefused h status)
 
 -- the bytes begin with a head that passes all tests and asks for this, its body has so many bytes,
 -- and these bytes follow the head

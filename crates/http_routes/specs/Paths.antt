@@ -32,7 +32,8 @@ abbrev pub path_of : Bor (List ℕ) × Route → List ℕ × Route
 path_of entry = (entry.0.now, entry.1)
 
 -- the rows of a router with one more, for a path that was parsed
-abbrev pub with_read : Result Scan InsertError → Route → RowsOf (RouteOf Route) → RowsOf (RouteOf Route)
+abbrev pub with_read : Result Scan InsertError → Route → RowsOf (RouteOf Route) →
+    RowsOf (RouteOf Route)
 with_read (Ok scan) route rows = placed (scan.pattern, route_from scan route) rows
 with_read (Err error) route rows = rows
 

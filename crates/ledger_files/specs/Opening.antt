@@ -19,16 +19,21 @@ use Rattle.ledger_files.specs.declared.kept.Kept.TheVariants as kept
 -- the two files hold a bureau's database that represents this office, and its pages end in sums or
 -- do not
 abbrev pub AreOf : Bool → Image → Office → Type 0
-AreOf has_sums image office = ∥ ((db : Trees) × (held : HoldsDatabase image db) × (is_summed held.0 ≡ has_sums) × LeftAs db office) ∥₁
+AreOf has_sums image office =
+    ∥ ((db : Trees) × (held : HoldsDatabase image db) × (is_summed held.0 ≡ has_sums)
+    × LeftAs db office) ∥₁
 
 module _ {D : Type 0} {g : Ghosts D} where
   -- what an open that failed leaves, files or trees, represents the office; nothing is said of
   -- files with sums that are handed back unopened as files without
   abbrev pub LeftStands : Bool → Leftover D g → Office → Type 0
-  LeftStands has_sums (left.Files files) office = (image : Image) → outcomes g files.log files.db image → AreOf has_sums image office
+  LeftStands has_sums (left.Files files) office = (image : Image) →
+      outcomes g files.log files.db image → AreOf has_sums image office
   LeftStands has_sums (left.Unopened files) office =
-      (IsTrue has_sums → IsTrue (is_summed (state_of files).page_size)) → (image : Image) → (state_of files).may_leave image → AreOf has_sums image office
-  LeftStands has_sums (left.Store store) office = ∥ ((db : Trees) → recovers store db → LeftAs db office) ∥₁
+      (IsTrue has_sums → IsTrue (is_summed (state_of files).page_size)) → (image : Image) →
+      (state_of files).may_leave image → AreOf has_sums image office
+  LeftStands has_sums (left.Store store) office =
+      ∥ ((db : Trees) → recovers store db → LeftAs db office) ∥₁
 
   -- what is handed back of an open represents the office: its connection, or what a failed open
   -- leaves
@@ -51,7 +56,8 @@ Found = Bool × Image
 
 -- if the first files represent an office, the second represent the same one
 abbrev pub Leads : Found → Found → Type 0
-Leads before after = (office : Office) → AreOf before.0 before.1 office → AreOf after.0 after.1 office
+Leads before after = (office : Office) → AreOf before.0 before.1 office →
+    AreOf after.0 after.1 office
 
 -- each pair of files represents whatever office the pair before it represents
 abbrev pub AreRounds : Found → List Found → Type 0

@@ -24,7 +24,14 @@ impl Model for JobRow {
 
     ghost Value = { JobCells };
 
-    ghost view = { λ row. record { kind = row.kind; size = row.size; deck = row.deck.items; loaded = row.loaded.items; held = row.held; collected = row.collected } };
+    ghost view = { λ row. record {
+      kind = row.kind;
+      size = row.size;
+      deck = row.deck.items;
+      loaded = row.loaded.items;
+      held = row.held;
+      collected = row.collected;
+    } };
 }
 
 /// Of a row of `jobs`: what the list of a customer's jobs shows.
@@ -95,7 +102,22 @@ impl Model for PictureRow {
 
     ghost Value = { PictureCells };
 
-    ghost view = { λ row. record { storage = row.storage.items; i = row.i; a = row.a; b = row.b; compare = row.compare; overflow = row.overflow; channel = row.channel; waiting = row.waiting; form = row.form; line = row.line; taken = row.taken; cards = row.cards; lines = row.lines; standing = row.standing } };
+    ghost view = { λ row. record {
+      storage = row.storage.items;
+      i = row.i;
+      a = row.a;
+      b = row.b;
+      compare = row.compare;
+      overflow = row.overflow;
+      channel = row.channel;
+      waiting = row.waiting;
+      form = row.form;
+      line = row.line;
+      taken = row.taken;
+      cards = row.cards;
+      lines = row.lines;
+      standing = row.standing;
+    } };
 }
 
 /// Of a row of `pictures`: how far the job has come.

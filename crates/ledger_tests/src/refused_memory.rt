@@ -1,7 +1,7 @@
 //! What each call leaves where memory is refused: fault 1 leaves what was there before.
 //!
-//! In the gate all memory is there, and each call succeeds. `tools/refuse-memory N` runs these tests
-//! with the N-th request for memory refused: then a test may end with the error of its own
+//! In the gate all memory is there, and each call succeeds. `tools/refuse-memory N` runs these
+//! tests with the N-th request for memory refused: then a test may end with the error of its own
 //! preparations, but no assertion may fail.
 
 use crate::commands::command_of;

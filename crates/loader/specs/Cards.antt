@@ -31,13 +31,15 @@ instruction operation a b = text operation ++ (encoded a ++ encoded b)
 -- the boot card: it sets the word marks in the read area that the next cards require, and reads the
 -- first of them
 unfoldable pub boot_card : Card
-boot_card = card_of (text (codes ",008015,022029,036040,047054,061068,072)008015)022029)036036N0000001040"))
+boot_card =
+    card_of (text (codes ",008015,022029,036040,047054,061068,072)008015)022029)036036N0000001040"))
 
 -- ---- a card for a stretch
 
 -- the last position of a stretch
 unfoldable pub last_position : List Cell → ℕ
-last_position stretch = (slice_index_or stretch (length stretch - 1) (record { position = 0; code = 0; marked = false })).position
+last_position stretch = (slice_index_or stretch (length stretch - 1)
+    (record { position = 0; code = 0; marked = false })).position
 
 -- the instruction that moves the characters of a card to their positions, and marks the first of
 -- them
@@ -47,7 +49,8 @@ moving stretch = instruction (codes "L") (length stretch) (last_position stretch
 -- the instruction that clears the word mark of a stretch's first position, if that has none
 abbrev pub clearing : List Cell → List (List ℕ)
 clearing [] = []
-clearing (first ∷ rest) = if first.marked then [] else instruction (codes ")") first.position first.position ∷ []
+clearing (first ∷ rest) = if first.marked then []
+    else instruction (codes ")") first.position first.position ∷ []
 
 -- the instructions that set word marks at these positions, two in each, and a single last one twice
 unfoldable pub marking : List ℕ → List (List ℕ)
@@ -74,16 +77,19 @@ reading = text (codes "1040")
 
 -- the loading card of a stretch: its characters, and the five instructions that put them in storage
 unfoldable pub load_card : List Cell → Card
-load_card stretch = card_of (padded most_characters (map (λ c. c.code) stretch) ++ (moving stretch ++ (three (filled_places stretch) ++ reading)))
+load_card stretch = card_of (padded most_characters (map (λ c. c.code) stretch)
+    ++ (moving stretch ++ (three (filled_places stretch) ++ reading)))
 
 -- ---- the last card
 
 -- the last loading card: it clears positions 000 to 080 and branches to the program's start
 unfoldable pub start_card : ℕ → Card
-start_card start = card_of (replicate most_characters blank_cell.0 ++ instruction (codes "/") start 80)
+start_card start =
+    card_of (replicate most_characters blank_cell.0 ++ instruction (codes "/") start 80)
 
 -- ---- all of them
 
 -- the cards that load an image and start its program
 unfoldable pub loading_cards : List Cell → ℕ → List Card
-loading_cards image start = boot_card ∷ (map load_card (stretches_of image) ++ start_card start ∷ [])
+loading_cards image start =
+    boot_card ∷ (map load_card (stretches_of image) ++ start_card start ∷ [])

@@ -31,9 +31,15 @@ at_the_start image start data_cards size switches = record {
     storage = filled_with (blank_storage (positions_of size)) image;
     registers = record { i = start; a = start; b = 47; compare = Equal; overflow = false };
     units = record {
-      hopper = record { deck = loading_cards image start ++ data_cards; taken = length (loading_cards image start) };
+      hopper = record {
+        deck = loading_cards image start ++ data_cards;
+        taken = length (loading_cards image start);
+      };
       punch = [];
-      printer = record { lines = []; carriage = record { form = 1; line = 1; waiting = None; channel_12 = false } };
+      printer = record {
+        lines = [];
+        carriage = record { form = 1; line = 1; waiting = None; channel_12 = false };
+      };
       switches = seven switches;
     };
   };
@@ -50,12 +56,15 @@ pub record IsBetweenCards (placed : List Cell) (read : ℕ) (size : Size) (m : S
   pub running : m.standing ≡ Running
   pub at_the_move : m.works.registers.i ≡ 40
   pub marks : (p : ℕ) → p ≤ 80 → is_marked m.works.storage p ≡ list_any (λ q. q == p) loading_marks
-  pub program : (p : ℕ) → 80 < p → cell_at m.works.storage p ≡ cell_at (filled_with (blank_storage (positions_of size)) placed) p
+  pub program : (p : ℕ) → 80 < p →
+      cell_at m.works.storage p ≡ cell_at (filled_with (blank_storage (positions_of size)) placed) p
   pub cards_read : m.works.units.hopper.taken ≡ read
   pub no_card : m.works.units.punch ≡ []
   pub no_line : m.works.units.printer.lines ≡ []
 
 -- the deck loads the program into any machine that is large enough, whatever data cards follow
 abbrev pub Loads : Assembly → List Card → Type 0
-Loads program deck = (size : Size) (data_cards : List Card) (switches : Switches) → positions_of program.size ≤ positions_of size →
-    after (loaded (deck ++ data_cards) size switches) (instructions_to_load program.image) ≡ at_the_start program.image program.start data_cards size switches
+Loads program deck = (size : Size) (data_cards : List Card) (switches : Switches) →
+    positions_of program.size ≤ positions_of size →
+    after (loaded (deck ++ data_cards) size switches) (instructions_to_load program.image)
+    ≡ at_the_start program.image program.start data_cards size switches

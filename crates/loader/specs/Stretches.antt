@@ -34,7 +34,8 @@ mark_limit (first ∷ rest) = if first.marked then most_marks else most_marks_un
 unfoldable pub is_lawful : List Cell → Bool
 is_lawful cells =
     is_contiguous cells
-    && (nat_le (length cells) most_characters && nat_le (length (marks_of (drop 1 cells))) (mark_limit cells))
+    && (nat_le (length cells) most_characters
+    && nat_le (length (marks_of (drop 1 cells))) (mark_limit cells))
 
 -- an image in stretches that each fit on a card, none of which would with the next position too
 pub record IsSplit (image : List Cell) (stretches : List (List Cell)) : Type 0 where
@@ -42,13 +43,15 @@ pub record IsSplit (image : List Cell) (stretches : List (List Cell)) : Type 0 w
   pub some : (k : ℕ) → k < length stretches → slice_index_or stretches k [] ≢ []
   pub lawful : (k : ℕ) → k < length stretches → is_lawful (slice_index_or stretches k []) ≡ true
   pub longest : (k : ℕ) → k + 1 < length stretches →
-      is_lawful (slice_index_or stretches k [] ++ take 1 (slice_index_or stretches (k + 1) [])) ≡ false
+      is_lawful (slice_index_or stretches k [] ++ take 1 (slice_index_or stretches (k + 1) []))
+      ≡ false
 
 -- the stretches of the cells after those so far: the first goes on as long as it fits on a card
 unfoldable pub stretches_from : List Cell → List Cell → List (List Cell)
 stretches_from stretch [] = stretch ∷ []
 stretches_from stretch (c ∷ cells) =
-    if is_lawful (stretch ++ c ∷ []) then stretches_from (stretch ++ c ∷ []) cells else stretch ∷ stretches_from (c ∷ []) cells
+    if is_lawful (stretch ++ c ∷ []) then stretches_from (stretch ++ c ∷ []) cells
+    else stretch ∷ stretches_from (c ∷ []) cells
 
 -- the stretches of an image, each as long as fits on a card
 unfoldable pub stretches_of : List Cell → List (List Cell)

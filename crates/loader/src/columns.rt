@@ -30,7 +30,10 @@ impl Model for Columns {
 
     ghost view = { λ columns. take columns.count columns.codes };
 
-    ghost invariant = { λ columns. (columns.count ≤ card_columns) × (length columns.codes ≡ card_columns) × (columns.codes ≡ take columns.count columns.codes ++ replicate (card_columns - columns.count) 0) };
+    ghost invariant = { λ columns.
+        (columns.count ≤ card_columns) × (length columns.codes ≡ card_columns)
+        × (columns.codes
+        ≡ take columns.count columns.codes ++ replicate (card_columns - columns.count) 0) };
 }
 
 /// The character of a glyph.

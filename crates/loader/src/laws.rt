@@ -19,7 +19,8 @@ use autocoder::faultless_sources_can_be_loaded;
 /// The law of stretches: an image is split into longest stretches in one way, and no other.
 pub fn stretches_are_longest()
     ensures split { (image : List Cell) → IsSplit image (stretches_of image) }
-    ensures no_other { (image : List Cell) (stretches : List (List Cell)) → IsSplit image stretches → stretches ≡ stretches_of image }
+    ensures no_other { (image : List Cell) (stretches : List (List Cell)) →
+        IsSplit image stretches → stretches ≡ stretches_of image }
 {}
 
 /// The law of loading: the loading cards bring a program into a machine and start it, whatever data
@@ -28,27 +29,36 @@ pub fn stretches_are_longest()
 /// those stretches and no others (`by_cards`).
 #[tactic(auto, using(crate::proofs::Whole::brought, crate::proofs::Whole::by_cards))]
 pub fn cards_load_the_program()
-    ensures loads { (size : Size) (image : List Cell) (start : ℕ) (data_cards : List Card) (switches : Switches) → IsLoadable (positions_of size) image start →
-        after (loaded (loading_cards image start ++ data_cards) size switches) (instructions_to_load image) ≡ at_the_start image start data_cards size switches }
-    ensures by_cards { (size : Size) (image : List Cell) (start : ℕ) (data_cards : List Card) (switches : Switches) → IsLoadable (positions_of size) image start →
+    ensures loads { (size : Size) (image : List Cell) (start : ℕ) (data_cards : List Card)
+        (switches : Switches) → IsLoadable (positions_of size) image start →
+        after (loaded (loading_cards image start ++ data_cards) size switches)
+        (instructions_to_load image) ≡ at_the_start image start data_cards size switches }
+    ensures by_cards { (size : Size) (image : List Cell) (start : ℕ) (data_cards : List Card)
+        (switches : Switches) → IsLoadable (positions_of size) image start →
         (k : ℕ) → k ≤ length (stretches_of image) →
-        IsBetweenCards (flat_map (λ stretch. stretch) (take k (stretches_of image))) (2 + k) size (after (loaded (loading_cards image start ++ data_cards) size switches) (11 + 5 * k)) }
+        IsBetweenCards (flat_map (λ stretch. stretch) (take k (stretches_of image))) (2 + k) size
+        (after (loaded (loading_cards image start ++ data_cards) size switches) (11 + 5 * k)) }
 {}
 
 /// The law of larger storages: what cards can load into a storage they can load into a larger one.
 #[tactic(auto, using(crate::proofs::Whole::wider))]
 pub fn larger_storages_can_be_loaded()
-    ensures { (size larger : ℕ) (image : List Cell) (start : ℕ) → size ≤ larger → IsLoadable size image start → IsLoadable larger image start }
+    ensures { (size larger : ℕ) (image : List Cell) (start : ℕ) → size ≤ larger →
+        IsLoadable size image start → IsLoadable larger image start }
 {}
 
 /// The law of faultless sources: cards can load the program of a source that has no fault into any
 /// machine of at least the source's size (`loadable`), and its loading cards bring it there and
 /// start it, whatever data stand after them (`loads`).
 pub fn faultless_sources_load()
-    ensures loadable { (source : List Card) (size : Size) → IsFaultless source → size_for source ≤ positions_of size →
+    ensures loadable { (source : List Card) (size : Size) → IsFaultless source →
+        size_for source ≤ positions_of size →
         IsLoadable (positions_of size) (image_for source) (start_for source) }
-    ensures loads { (source data_cards : List Card) (size : Size) (switches : Switches) → IsFaultless source → size_for source ≤ positions_of size →
-        after (loaded (loading_cards_of source ++ data_cards) size switches) (instructions_to_load (image_for source)) ≡ at_the_start (image_for source) (start_for source) data_cards size switches }
+    ensures loads { (source data_cards : List Card) (size : Size) (switches : Switches) →
+        IsFaultless source → size_for source ≤ positions_of size →
+        after (loaded (loading_cards_of source ++ data_cards) size switches)
+        (instructions_to_load (image_for source))
+        ≡ at_the_start (image_for source) (start_for source) data_cards size switches }
 {
     faultless_sources_can_be_loaded();
     larger_storages_can_be_loaded();

@@ -21,7 +21,8 @@ use std::alloc::Global;
 fn push_stretches(deck: &mut Deck, cells: &[Cell]) -> Result<(), DeckFault>
     requires { All (λ c. c.position < largest_size) cells.now }
     ensures pushed { OnOk result (deck.new ≡ deck.old ++ map load_card (stretches_of cells.now)) }
-    ensures full { IsErrOf result DeckFault.TooManyCards → largest_deck < length (deck.old ++ map load_card (stretches_of cells.now)) }
+    ensures full { IsErrOf result DeckFault.TooManyCards →
+        largest_deck < length (deck.old ++ map load_card (stretches_of cells.now)) }
 {
     let mut rest = cells;
     while !rest.is_empty() {
@@ -35,7 +36,8 @@ fn push_stretches(deck: &mut Deck, cells: &[Cell]) -> Result<(), DeckFault>
 /// Adds some cards.
 fn push_cards(deck: &mut Deck, cards: &[Card]) -> Result<(), DeckFault>
     ensures pushed { OnOk result (deck.new ≡ deck.old ++ cards.now) }
-    ensures full { IsErrOf result DeckFault.TooManyCards → largest_deck < length (deck.old ++ cards.now) }
+    ensures full { IsErrOf result DeckFault.TooManyCards →
+        largest_deck < length (deck.old ++ cards.now) }
 {
     for card in cards {
         deck.push(Card(card.0))?;
@@ -48,7 +50,8 @@ fn push_cards(deck: &mut Deck, cards: &[Card]) -> Result<(), DeckFault>
 #[tactic(auto, unfolding(crate::specs::Cards::loading_cards), using(crate::proofs::Whole::deck_loads))]
 pub fn object_deck(alloc: Global, program: &Program) -> Result<Deck, DeckFault>
     ensures deck { IfOk result (λ deck. deck ≡ loading_cards program.now.image program.now.start) }
-    ensures full { IsErrOf result DeckFault.TooManyCards → largest_deck < length (loading_cards program.now.image program.now.start) }
+    ensures full { IsErrOf result DeckFault.TooManyCards →
+        largest_deck < length (loading_cards program.now.image program.now.start) }
     ensures loads { IfOk result (Loads program.now) }
 {
     let mut deck = Deck::empty(alloc);
@@ -60,8 +63,10 @@ pub fn object_deck(alloc: Global, program: &Program) -> Result<Deck, DeckFault>
 
 /// The deck that runs a program over data cards: its loading cards and the data behind them.
 pub fn deck_to_run(alloc: Global, program: &Program, data: &[Card]) -> Result<Deck, DeckFault>
-    ensures deck { IfOk result (λ deck. deck ≡ loading_cards program.now.image program.now.start ++ «data».now) }
-    ensures full { IsErrOf result DeckFault.TooManyCards → largest_deck < length (loading_cards program.now.image program.now.start ++ «data».now) }
+    ensures deck { IfOk result (λ deck.
+        deck ≡ loading_cards program.now.image program.now.start ++ «data».now) }
+    ensures full { IsErrOf result DeckFault.TooManyCards →
+        largest_deck < length (loading_cards program.now.image program.now.start ++ «data».now) }
 {
     let mut deck = object_deck(alloc, program)?;
     push_cards(&mut deck, data)?;
@@ -78,14 +83,15 @@ fn data_of<'a>(deck: &'a Deck, program: &Program) -> &'a [Card]
 }
 
 /// The deck that runs the program of a deck's source over the deck's data: the cards that load the
-/// program, and the data after them. Where they are over 2,000 it answers `TooManyCards`; memory may
-/// be wanted for any.
+/// program, and the data after them. Where they are over 2,000 it answers `TooManyCards`; memory
+/// may be wanted for any.
 #[tactic(auto, unfolding(crate::specs::Decks::runnable_deck))]
 pub fn runnable_deck(alloc: Global, deck: &Deck, program: &Program) -> Result<Deck, DeckFault>
     requires program { IsProgramOf (source_of deck.now) program.now }
     ensures deck { IfOk result (λ runnable. runnable ≡ runnable_deck deck.now) }
     ensures fits { IfOk result (λ _. length (runnable_deck deck.now) ≤ largest_deck) }
-    ensures full { IsErrOf result DeckFault.TooManyCards → largest_deck < length (runnable_deck deck.now) }
+    ensures full { IsErrOf result DeckFault.TooManyCards →
+        largest_deck < length (runnable_deck deck.now) }
 {
     deck_to_run(alloc, program, data_of(deck, program))
 }

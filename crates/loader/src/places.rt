@@ -28,7 +28,8 @@ fn first_marked(cells: &[Cell]) -> Option<usize>
 /// The first marked position of some, and those behind it.
 fn next_mark(cells: &[Cell]) -> Option<(u16, &[Cell])>
     requires { All (λ c. c.position < largest_size) cells.now }
-    ensures mark { MatchOption result (marks_of cells.now ≡ []) (λ next. marks_of cells.now ≡ next.0 ∷ marks_of next.1.now) }
+    ensures mark { MatchOption result (marks_of cells.now ≡ [])
+        (λ next. marks_of cells.now ≡ next.0 ∷ marks_of next.1.now) }
     ensures below { IfSome result (λ next. next.0 < largest_size) }
     ensures behind { IfSome result (λ next. All (λ c. c.position < largest_size) next.1.now) }
     ensures fewer { IfSome result (λ next. length next.1.now < length cells.now) }
@@ -43,7 +44,9 @@ fn next_mark(cells: &[Cell]) -> Option<(u16, &[Cell])>
 /// The first two marked positions of some, a single last one twice, and those behind them.
 fn next_pair(cells: &[Cell]) -> Option<(u16, u16, &[Cell])>
     requires { All (λ c. c.position < largest_size) cells.now }
-    ensures pair { MatchOption result (marks_of cells.now ≡ []) (λ next. marking (marks_of cells.now) ≡ instruction (codes ",") next.0 next.1 ∷ marking (marks_of next.2.now)) }
+    ensures pair { MatchOption result (marks_of cells.now ≡ [])
+        (λ next. marking (marks_of cells.now)
+        ≡ instruction (codes ",") next.0 next.1 ∷ marking (marks_of next.2.now)) }
     ensures first { IfSome result (λ next. next.0 < largest_size) }
     ensures second { IfSome result (λ next. next.1 < largest_size) }
     ensures behind { IfSome result (λ next. All (λ c. c.position < largest_size) next.2.now) }
@@ -63,7 +66,8 @@ fn punch_clearing(columns: &mut Columns, stretch: &[Cell]) -> usize
     requires below { All (λ c. c.position < largest_size) stretch.now }
     requires room { length columns.old + INSTRUCTION_LENGTH ≤ card_columns }
     ensures punched { columns.new ≡ columns.old ++ concat (clearing stretch.now) }
-    ensures length { length columns.new ≡ length columns.old + INSTRUCTION_LENGTH * length (clearing stretch.now) }
+    ensures length { length columns.new
+        ≡ length columns.old + INSTRUCTION_LENGTH * length (clearing stretch.now) }
     ensures count { result ≡ length (clearing stretch.now) }
 {
     let [first, ..] = stretch else {
@@ -80,9 +84,11 @@ fn punch_clearing(columns: &mut Columns, stretch: &[Cell]) -> usize
 /// Sets the marks of some positions, two in each place, and tells how many places that takes.
 fn punch_marking(columns: &mut Columns, cells: &[Cell]) -> usize
     requires below { All (λ c. c.position < largest_size) cells.now }
-    requires room { length columns.old + INSTRUCTION_LENGTH * length (marking (marks_of cells.now)) ≤ card_columns }
+    requires room { length columns.old + INSTRUCTION_LENGTH * length (marking (marks_of cells.now))
+        ≤ card_columns }
     ensures punched { columns.new ≡ columns.old ++ concat (marking (marks_of cells.now)) }
-    ensures length { length columns.new ≡ length columns.old + INSTRUCTION_LENGTH * length (marking (marks_of cells.now)) }
+    ensures length { length columns.new
+        ≡ length columns.old + INSTRUCTION_LENGTH * length (marking (marks_of cells.now)) }
     ensures count { result ≡ length (marking (marks_of cells.now)) }
 {
     let mut count = 0;
@@ -100,7 +106,8 @@ fn punch_unused(columns: &mut Columns, used: usize)
     requires used { used ≤ PLACES }
     requires room { length columns.old + INSTRUCTION_LENGTH * (PLACES - used) ≤ card_columns }
     ensures punched { columns.new ≡ columns.old ++ concat (replicate (PLACES - used) unused) }
-    ensures length { length columns.new ≡ length columns.old + INSTRUCTION_LENGTH * (PLACES - used) }
+    ensures length { length columns.new
+        ≡ length columns.old + INSTRUCTION_LENGTH * (PLACES - used) }
 {
     for _ in used..PLACES {
         columns.punch_text(UNUSED);

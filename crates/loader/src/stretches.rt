@@ -85,7 +85,8 @@ pub(crate) fn longest(cells: &[Cell]) -> usize
     ensures some { 0 < result }
     ensures within { result ≤ length cells.now }
     ensures lawful { is_lawful (take result cells.now) ≡ true }
-    ensures split { stretches_of cells.now ≡ take result cells.now ∷ stretches_of (drop result cells.now) }
+    ensures split { stretches_of cells.now
+        ≡ take result cells.now ∷ stretches_of (drop result cells.now) }
 {
     for end in 1..cells.len() {
         if !is_lawful(&cells[..end + 1]) {

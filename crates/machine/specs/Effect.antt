@@ -152,10 +152,16 @@ effect Branch d next w = Ok (record w { registers = after_branch d next w }, Goe
 effect BranchOnMarkOrZone d next w = Ok (record w { registers = after_branch d next w }, GoesOn)
 effect (Operate devices) d next w =
     and_then (operated devices w.storage w.units) (λ done.
-    Ok (record { storage = done.0; registers = after_unit d next w.registers; units = done.1 }, GoesOn))
+    Ok (
+      record { storage = done.0; registers = after_unit d next w.registers; units = done.1 },
+      GoesOn,
+    ))
 effect MoveCarriage d next w =
     and_then (ordered_by d.modifier w.units.printer) (λ printed.
-    Ok (record w { registers = at next w.registers; units = record w.units { printer = printed } }, GoesOn))
+    Ok (
+      record w { registers = at next w.registers; units = record w.units { printer = printed } },
+      GoesOn,
+    ))
 effect StoreA d next w =
     and_then (address_stored w.storage d.a w.registers.a) (λ s.
     Ok (record w { storage = s; registers = after_store_a d next w.registers }, GoesOn))

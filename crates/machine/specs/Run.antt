@@ -63,7 +63,10 @@ abbrev pub first_units : List Card → Switches → Units
 first_units deck switches = record {
   hopper = record { deck = deck; taken = 1 };
   punch = [];
-  printer = record { lines = []; carriage = record { form = 1; line = 1; waiting = None; channel_12 = false } };
+  printer = record {
+    lines = [];
+    carriage = record { form = 1; line = 1; waiting = None; channel_12 = false };
+  };
   switches = seven switches;
 }
 
@@ -81,7 +84,10 @@ loaded deck size switches = record {
 
 -- a machine at a halt, started again with these switches
 abbrev pub started : State → Switches → State
-started m switches = record m { works = record m.works { units = record m.works.units { switches = seven switches } }; standing = Running }
+started m switches = record m {
+  works = record m.works { units = record m.works.units { switches = seven switches } };
+  standing = Running;
+}
 
 -- a machine set back to a checkpoint, without the cards and lines that it has made since
 abbrev pub restored : State → Storage → Checkpoint → State
@@ -120,7 +126,8 @@ attempts m (suc count) = (if is_running m.standing then 1 else 0) + attempts (st
 -- how many instructions are executed in so many steps: the attempts without one that ended in a
 -- check
 unfoldable pub executed : State → ℕ → ℕ
-executed m count = attempts m count - (if is_running m.standing && is_checked (after m count).standing then 1 else 0)
+executed m count = attempts m count
+    - (if is_running m.standing && is_checked (after m count).standing then 1 else 0)
 
 -- the lines that a machine has printed
 abbrev pub lines_of : State → List Line

@@ -28,7 +28,8 @@ ending_in s i count = if nat_le (i + count) (length s) then Some count else None
 unfoldable pub word_length : Storage → ℕ → Option ℕ
 word_length s i =
     if is_marked s i then
-    (if is_glyph (code_at s i) (codes ",") then ending_in s i (min (unwrap_or (least_mark s (i + 1) 8) (i + 8) - i) 7)
+    (if is_glyph (code_at s i) (codes ",")
+    then ending_in s i (min (unwrap_or (least_mark s (i + 1) 8) (i + 8) - i) 7)
     else option_map (λ end. end - i) (least_mark s (i + 1) 8))
     else None
 
@@ -93,7 +94,9 @@ other_operation_of code =
 
 -- the operation that an instruction's first character names, if it names one
 unfoldable pub operation_of : ℕ → Option Operation
-operation_of code = option_or (option_map (λ operation. OnFields operation) (field_operation_of code)) (other_operation_of code)
+operation_of code =
+    option_or (option_map (λ operation. OnFields operation) (field_operation_of code))
+    (other_operation_of code)
 
 -- whether an operation on fields has a form of so many characters
 unfoldable pub has_field_form : FieldOperation → ℕ → Bool
@@ -123,7 +126,8 @@ has_form MoveCarriage count = count == 2
 has_form StoreA count = count == 4
 has_form StoreB count = count == 4
 has_form Halt count = count == 1 || count == 4
-has_form NoOperation count = count == 1 || (count == 2 || (count == 4 || (count == 5 || (count == 7 || count == 8))))
+has_form NoOperation count =
+    count == 1 || (count == 2 || (count == 4 || (count == 5 || (count == 7 || count == 8))))
 
 -- what an instruction's last character means by operation and length: the condition or test of a
 -- branch, the character it compares, an order to the carriage, or none
@@ -147,7 +151,8 @@ addresses_in _ count = address_count count
 -- the position that the three address characters from this place of the instruction on name, or the
 -- check
 abbrev pub operand_at : Storage → List ℕ → ℕ → Result ℕ Check
-operand_at s codes place = operand s (slice_index codes place) (slice_index codes (place + 1)) (slice_index codes (place + 2))
+operand_at s codes place = operand s (slice_index codes place) (slice_index codes (place + 1))
+    (slice_index codes (place + 2))
 
 -- the addresses that an operation works at: the registers A and B if the instruction has none, a
 -- single one for both, else its two
@@ -166,7 +171,13 @@ decoded_of s count r codes =
     require (has_form operation count) Instruction
     (find_or (modifier_of operation count (slice_index codes (count - 1))) Instruction (λ modifier.
     and_then (operands_of s (addresses_in operation count) r codes) (λ operands.
-    Ok (record { operation = operation; length = count; a = operands.0; b = operands.1; modifier = modifier })))))
+    Ok (record {
+      operation = operation;
+      length = count;
+      a = operands.0;
+      b = operands.1;
+      modifier = modifier;
+    })))))
 
 -- an instruction's characters, decoded, or the check
 abbrev pub decoded : Storage → Registers → List ℕ → Result Decoded Check

@@ -31,9 +31,14 @@ fn attempt<C: Core>(
     units: &mut Units,
 ) -> Result<Course, Fault>
     requires { areas_end ≤ length (C.cells core.old) }
-    ensures done { IfOk result (λ course. attempt (works_of (C.cells core.old) registers.old units.old) ≡ Ok (works_of (C.cells core.new) registers.new units.new, course)) }
-    ensures refused { IfErr result (λ fault. Fails fault (works_of (C.cells core.old) registers.old units.old) (attempt (works_of (C.cells core.old) registers.old units.old))) }
-    ensures unchanged { OnErr result (works_of (C.cells core.new) registers.new units.new ≡ works_of (C.cells core.old) registers.old units.old) }
+    ensures done { IfOk result (λ course.
+        attempt (works_of (C.cells core.old) registers.old units.old)
+        ≡ Ok (works_of (C.cells core.new) registers.new units.new, course)) }
+    ensures refused { IfErr result (λ fault.
+        Fails fault (works_of (C.cells core.old) registers.old units.old)
+        (attempt (works_of (C.cells core.old) registers.old units.old))) }
+    ensures unchanged { OnErr result (works_of (C.cells core.new) registers.new units.new
+        ≡ works_of (C.cells core.old) registers.old units.old) }
 {
     let i = registers.i;
     if i >= core.size() {

@@ -261,7 +261,8 @@ pub fn word_length<C: Core>(core: &C, i: u16) -> Option<u16>
     requires within { i < length (C.cells core.now) }
     requires below { i < largest_size }
     ensures length { result ≡ word_length (C.cells core.now) i }
-    ensures within { IfSome result (λ count. (1 ≤ count) × (count ≤ 8) × (i + count ≤ length (C.cells core.now))) }
+    ensures within { IfSome result (λ count. (1 ≤ count) × (count ≤ 8)
+        × (i + count ≤ length (C.cells core.now))) }
 {
     if !core.is_marked(i) {
         return None;
@@ -300,7 +301,8 @@ fn operand_at<C: Core>(core: &C, word: Word, place: u16) -> Result<u16, Check>
     requires below { word.first < largest_size }
     requires among { place + 3 ≤ word.length }
     requires most { word.length ≤ 8 }
-    ensures position { result ≡ operand_at (C.cells core.now) (codes_from (C.cells core.now) word.first word.length) place }
+    ensures position { result ≡ operand_at (C.cells core.now)
+        (codes_from (C.cells core.now) word.first word.length) place }
     ensures inside { IfOk result (λ position. position < length (C.cells core.now)) }
     ensures below { IfOk result (λ position. position < largest_size) }
 {
@@ -326,7 +328,8 @@ fn operands_of<C: Core>(
     requires one { 0 < count → 4 ≤ word.length }
     requires two { 1 < count → 7 ≤ word.length }
     requires most { word.length ≤ 8 }
-    ensures operands { result ≡ operands_of (C.cells core.now) count registers.now (codes_from (C.cells core.now) word.first word.length) }
+    ensures operands { result ≡ operands_of (C.cells core.now) count registers.now
+        (codes_from (C.cells core.now) word.first word.length) }
     ensures inside { IfOk result (λ operands. 1 < count → operands.1 < length (C.cells core.now)) }
     ensures below { IfOk result (λ operands. 1 < count → operands.1 < largest_size) }
 {
@@ -349,8 +352,10 @@ pub fn decode<C: Core>(core: &C, registers: &Registers, word: Word) -> Result<De
     requires most { word.length ≤ 8 }
     requires within { word.first + word.length ≤ length (C.cells core.now) }
     requires below { word.first < largest_size }
-    ensures decoded { result ≡ decoded_of (C.cells core.now) word.length registers.now (codes_from (C.cells core.now) word.first word.length) }
-    ensures inside { IfOk result (λ decoded. LooksInside decoded.modifier decoded.b (length (C.cells core.now))) }
+    ensures decoded { result ≡ decoded_of (C.cells core.now) word.length registers.now
+        (codes_from (C.cells core.now) word.first word.length) }
+    ensures inside { IfOk result (λ decoded.
+        LooksInside decoded.modifier decoded.b (length (C.cells core.now))) }
     ensures below { IfOk result (λ decoded. LooksInside decoded.modifier decoded.b largest_size) }
 {
     let Some(operation) = operation_of(character(core, word, 0)) else {
@@ -377,5 +382,6 @@ pub fn decode<C: Core>(core: &C, registers: &Registers, word: Word) -> Result<De
 /// the eight positions after it. One of a comma has seven characters at most, and needs no mark
 /// after the seventh.
 pub fn instructions_end_at_marks()
-    ensures { (s : Storage) (i count : ℕ) → (word_length s i ≡ Some count) ↔ IsInstruction s i count }
+    ensures { (s : Storage) (i count : ℕ) →
+        (word_length s i ≡ Some count) ↔ IsInstruction s i count }
 {}

@@ -147,7 +147,8 @@ fn after_branch<C: Core>(
 ) -> Registers
     requires inside { LooksInside decoded.modifier decoded.b (length (C.cells core.now)) }
     requires below { LooksInside decoded.modifier decoded.b largest_size }
-    ensures { result ≡ after_branch decoded next (works_of (C.cells core.now) registers.now units.now) }
+    ensures { result
+        ≡ after_branch decoded next (works_of (C.cells core.now) registers.now units.now) }
 {
     let looked_at = looked_at(decoded.modifier, *registers);
     if is_taken(core, registers, units, decoded.modifier, decoded.b) {
@@ -165,9 +166,12 @@ fn work<C: Core>(
     registers: &mut Registers,
     operation: FieldOperation,
 ) -> Result<(), Check>
-    ensures done { OnOk result (worked operation (C.cells core.old) registers.old ≡ Ok (C.cells core.new, registers.new)) }
-    ensures check { IfErr result (λ check. worked operation (C.cells core.old) registers.old ≡ Err check) }
-    ensures unchanged { OnErr result ((C.cells core.new ≡ C.cells core.old) × (registers.new ≡ registers.old)) }
+    ensures done { OnOk result (worked operation (C.cells core.old) registers.old
+        ≡ Ok (C.cells core.new, registers.new)) }
+    ensures check { IfErr result (λ check. worked operation (C.cells core.old) registers.old
+        ≡ Err check) }
+    ensures unchanged { OnErr result ((C.cells core.new ≡ C.cells core.old)
+        × (registers.new ≡ registers.old)) }
 {
     match operation {
         FieldOperation::Add => add(core, registers),
@@ -209,9 +213,15 @@ fn work_on_fields<C: Core>(
     decoded: Decoded,
     next: u16,
 ) -> Result<Course, Fault>
-    ensures done { IfOk result (λ course. (units : Units) → effect (OnFields operation) decoded next (works_of (C.cells core.old) registers.old units) ≡ Ok (works_of (C.cells core.new) registers.new units, course)) }
-    ensures refused { IfErr result (λ fault. (units : Units) → Fails fault (works_of (C.cells core.old) registers.old units) (effect (OnFields operation) decoded next (works_of (C.cells core.old) registers.old units))) }
-    ensures unchanged { OnErr result ((C.cells core.new ≡ C.cells core.old) × (registers.new ≡ registers.old)) }
+    ensures done { IfOk result (λ course. (units : Units) →
+        effect (OnFields operation) decoded next (works_of (C.cells core.old) registers.old units)
+        ≡ Ok (works_of (C.cells core.new) registers.new units, course)) }
+    ensures refused { IfErr result (λ fault. (units : Units) →
+        Fails fault (works_of (C.cells core.old) registers.old units)
+        (effect (OnFields operation) decoded next
+        (works_of (C.cells core.old) registers.old units))) }
+    ensures unchanged { OnErr result ((C.cells core.new ≡ C.cells core.old)
+        × (registers.new ≡ registers.old)) }
 {
     let Registers { a, b, .. } = *registers;
     registers.a = decoded.a;
@@ -233,9 +243,14 @@ fn clear<C: Core>(
     decoded: Decoded,
     next: u16,
 ) -> Result<Course, Fault>
-    ensures done { IfOk result (λ course. (units : Units) → effect ClearStorage decoded next (works_of (C.cells core.old) registers.old units) ≡ Ok (works_of (C.cells core.new) registers.new units, course)) }
-    ensures refused { IfErr result (λ fault. (units : Units) → Fails fault (works_of (C.cells core.old) registers.old units) (effect ClearStorage decoded next (works_of (C.cells core.old) registers.old units))) }
-    ensures unchanged { OnErr result ((C.cells core.new ≡ C.cells core.old) × (registers.new ≡ registers.old)) }
+    ensures done { IfOk result (λ course. (units : Units) →
+        effect ClearStorage decoded next (works_of (C.cells core.old) registers.old units)
+        ≡ Ok (works_of (C.cells core.new) registers.new units, course)) }
+    ensures refused { IfErr result (λ fault. (units : Units) →
+        Fails fault (works_of (C.cells core.old) registers.old units)
+        (effect ClearStorage decoded next (works_of (C.cells core.old) registers.old units))) }
+    ensures unchanged { OnErr result ((C.cells core.new ≡ C.cells core.old)
+        × (registers.new ≡ registers.old)) }
 {
     let mut filled = Registers {
         a: decoded.a,
@@ -257,9 +272,14 @@ fn store_a<C: Core>(
     decoded: Decoded,
     next: u16,
 ) -> Result<Course, Fault>
-    ensures done { IfOk result (λ course. (units : Units) → effect StoreA decoded next (works_of (C.cells core.old) registers.old units) ≡ Ok (works_of (C.cells core.new) registers.new units, course)) }
-    ensures refused { IfErr result (λ fault. (units : Units) → Fails fault (works_of (C.cells core.old) registers.old units) (effect StoreA decoded next (works_of (C.cells core.old) registers.old units))) }
-    ensures unchanged { OnErr result ((C.cells core.new ≡ C.cells core.old) × (registers.new ≡ registers.old)) }
+    ensures done { IfOk result (λ course. (units : Units) →
+        effect StoreA decoded next (works_of (C.cells core.old) registers.old units)
+        ≡ Ok (works_of (C.cells core.new) registers.new units, course)) }
+    ensures refused { IfErr result (λ fault. (units : Units) →
+        Fails fault (works_of (C.cells core.old) registers.old units)
+        (effect StoreA decoded next (works_of (C.cells core.old) registers.old units))) }
+    ensures unchanged { OnErr result ((C.cells core.new ≡ C.cells core.old)
+        × (registers.new ≡ registers.old)) }
 {
     if let Err(check) = store(core, decoded.a, registers.a) {
         return Err(Fault::Stopped(check));
@@ -280,9 +300,14 @@ fn store_b<C: Core>(
     decoded: Decoded,
     next: u16,
 ) -> Result<Course, Fault>
-    ensures done { IfOk result (λ course. (units : Units) → effect StoreB decoded next (works_of (C.cells core.old) registers.old units) ≡ Ok (works_of (C.cells core.new) registers.new units, course)) }
-    ensures refused { IfErr result (λ fault. (units : Units) → Fails fault (works_of (C.cells core.old) registers.old units) (effect StoreB decoded next (works_of (C.cells core.old) registers.old units))) }
-    ensures unchanged { OnErr result ((C.cells core.new ≡ C.cells core.old) × (registers.new ≡ registers.old)) }
+    ensures done { IfOk result (λ course. (units : Units) →
+        effect StoreB decoded next (works_of (C.cells core.old) registers.old units)
+        ≡ Ok (works_of (C.cells core.new) registers.new units, course)) }
+    ensures refused { IfErr result (λ fault. (units : Units) →
+        Fails fault (works_of (C.cells core.old) registers.old units)
+        (effect StoreB decoded next (works_of (C.cells core.old) registers.old units))) }
+    ensures unchanged { OnErr result ((C.cells core.new ≡ C.cells core.old)
+        × (registers.new ≡ registers.old)) }
 {
     if let Err(check) = store(core, decoded.a, registers.b) {
         return Err(Fault::Stopped(check));
@@ -307,9 +332,15 @@ pub fn execute<C: Core>(
     requires size { areas_end ≤ length (C.cells core.old) }
     requires inside { LooksInside decoded.modifier decoded.b (length (C.cells core.old)) }
     requires below { LooksInside decoded.modifier decoded.b largest_size }
-    ensures done { IfOk result (λ course. effect decoded.operation decoded next (works_of (C.cells core.old) registers.old units.old) ≡ Ok (works_of (C.cells core.new) registers.new units.new, course)) }
-    ensures refused { IfErr result (λ fault. Fails fault (works_of (C.cells core.old) registers.old units.old) (effect decoded.operation decoded next (works_of (C.cells core.old) registers.old units.old))) }
-    ensures unchanged { OnErr result (works_of (C.cells core.new) registers.new units.new ≡ works_of (C.cells core.old) registers.old units.old) }
+    ensures done { IfOk result (λ course.
+        effect decoded.operation decoded next (works_of (C.cells core.old) registers.old units.old)
+        ≡ Ok (works_of (C.cells core.new) registers.new units.new, course)) }
+    ensures refused { IfErr result (λ fault.
+        Fails fault (works_of (C.cells core.old) registers.old units.old)
+        (effect decoded.operation decoded next
+        (works_of (C.cells core.old) registers.old units.old))) }
+    ensures unchanged { OnErr result (works_of (C.cells core.new) registers.new units.new
+        ≡ works_of (C.cells core.old) registers.old units.old) }
 {
     match decoded.operation {
         Operation::OnFields(operation) => {

@@ -42,7 +42,10 @@ impl<C: Core> Model for Parts<C> {
 
     ghost Value = { State };
 
-    ghost view = { λ p. record { works = record { storage = C.cells p.core; registers = p.registers; units = p.units }; standing = p.standing } };
+    ghost view = { λ p. record {
+      works = record { storage = C.cells p.core; registers = p.registers; units = p.units };
+      standing = p.standing;
+    } };
 
     ghost invariant = { λ p. 1400 ≤ length (C.cells p.core) };
 }

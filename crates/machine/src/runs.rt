@@ -54,7 +54,8 @@ impl<C: Core> Model for Machine<C> {
 
     ghost view = { λ m. m.parts };
 
-    ghost invariant = { λ m. IsInRange m.parts × (length m.parts.works.storage ≡ length (C.cells m.spare)) };
+    ghost invariant = { λ m. IsInRange m.parts
+        × (length m.parts.works.storage ≡ length (C.cells m.spare)) };
 }
 
 /// The registers after the load button: the first instruction stands at 001.
@@ -73,7 +74,8 @@ fn first_registers() -> Registers
 /// A storage with the first card in its read area, marked at its left.
 fn loaded_core<C: Core>(alloc: Global, deck: &Deck, size: Size) -> Result<C, AllocError>
     requires { 0 < length deck.now }
-    ensures { IfOk result (λ core. C.cells core ≡ with_mark (put_codes (blank_storage (positions_of size)) 1 (first_card deck.now)) 1 true) }
+    ensures { IfOk result (λ core. C.cells core ≡ with_mark
+        (put_codes (blank_storage (positions_of size)) 1 (first_card deck.now)) 1 true) }
 {
     let mut core = C::blank(alloc, size)?;
     put_card(&mut core, &deck.cards()[0]);
@@ -127,7 +129,8 @@ impl<C: Core> Machine<C> {
     /// alone, and so only for a picture in range.
     pub fn from_parts(alloc: Global, parts: Parts<C>) -> Result<Option<Machine<C>>, AllocError>
         ensures machine { IfOk result (λ made. IfSome made (λ machine. machine ≡ parts)) }
-        ensures in_range { IfOk result (λ made. MatchOption made (¬ IsInRange parts) (λ _. IsInRange parts)) }
+        ensures in_range { IfOk result (λ made.
+            MatchOption made (¬ IsInRange parts) (λ _. IsInRange parts)) }
         ensures memory { OnErr result (IsInRange parts) }
     {
         if !parts.is_in_range() {
@@ -180,7 +183,8 @@ impl<C: Core> Machine<C> {
         ensures executed { IfOk result (λ ran. ran.executed ≡ executed self.old limit) }
         ensures standing { IfOk result (λ ran. ran.standing ≡ (after self.old limit).standing) }
         ensures unchanged { OnErr result (self.new ≡ self.old) }
-        ensures memory { OnErr result (Makes self.old.works.units (after self.old limit).works.units) }
+        ensures memory { OnErr result
+            (Makes self.old.works.units (after self.old limit).works.units) }
         ensures given_up { OnErr result (IsGivenUp self.old limit meter.old meter.new) }
     {
         let checkpoint = self.parts.checkpoint(&mut self.spare);
@@ -244,7 +248,8 @@ impl<C: Core> Parts<C> {
 
     /// How a run ended that began at a standing and made so many attempts.
     fn report(&self, began: Standing, attempted: u32) -> Ran
-        ensures executed { result.executed ≡ attempted - (if is_running began && is_checked self.now.standing then 1 else 0) }
+        ensures executed { result.executed
+            ≡ attempted - (if is_running began && is_checked self.now.standing then 1 else 0) }
         ensures standing { result.standing ≡ self.now.standing }
     {
         let ended_in_check = began.is_running() && self.standing.is_checked();
@@ -262,24 +267,33 @@ impl<C: Core> Parts<C> {
 /// The law of the ranges: the picture of a loaded deck is in range, and it stays so whatever is
 /// run and however often the machine is started again.
 pub fn stays_in_range()
-    ensures loaded { (deck : List Card) (size : Size) (switches : Switches) → 0 < length deck → IsInRange (loaded deck size switches) }
+    ensures loaded { (deck : List Card) (size : Size) (switches : Switches) → 0 < length deck →
+        IsInRange (loaded deck size switches) }
     ensures after { (m : State) (count : ℕ) → IsInRange m → IsInRange (after m count) }
-    ensures started { (m : State) (switches : Switches) → IsInRange m → IsInRange (started m switches) }
+    ensures started { (m : State) (switches : Switches) → IsInRange m →
+        IsInRange (started m switches) }
 {}
 
 /// The law of what was made: a run keeps the deck and the switches, and the cards and lines that
 /// were there are the first of those that are there after it.
 pub fn runs_only_add()
-    ensures deck { (m : State) (count : ℕ) → (after m count).works.units.hopper.deck ≡ m.works.units.hopper.deck }
-    ensures switches { (m : State) (count : ℕ) → (after m count).works.units.switches ≡ m.works.units.switches }
-    ensures cards { (m : State) (count : ℕ) → take (length m.works.units.punch) (after m count).works.units.punch ≡ m.works.units.punch }
-    ensures lines { (m : State) (count : ℕ) → take (length (lines_of m)) (lines_of (after m count)) ≡ lines_of m }
+    ensures deck { (m : State) (count : ℕ) →
+        (after m count).works.units.hopper.deck ≡ m.works.units.hopper.deck }
+    ensures switches { (m : State) (count : ℕ) →
+        (after m count).works.units.switches ≡ m.works.units.switches }
+    ensures cards { (m : State) (count : ℕ) →
+        take (length m.works.units.punch) (after m count).works.units.punch ≡ m.works.units.punch }
+    ensures lines { (m : State) (count : ℕ) →
+        take (length (lines_of m)) (lines_of (after m count)) ≡ lines_of m }
 {}
 
 /// The laws of runs: so many steps and then so many more are the steps together, and so are
 /// their attempts and the ticks of the meter.
 pub fn runs_add()
-    ensures machine { (m : State) (first second : ℕ) → after (after m first) second ≡ after m (first + second) }
-    ensures attempts { (m : State) (first second : ℕ) → attempts m (first + second) ≡ attempts m first + attempts (after m first) second }
-    ensures meter { (ticks first second : ℕ) → risen (risen ticks first) second ≡ risen ticks (first + second) }
+    ensures machine { (m : State) (first second : ℕ) →
+        after (after m first) second ≡ after m (first + second) }
+    ensures attempts { (m : State) (first second : ℕ) →
+        attempts m (first + second) ≡ attempts m first + attempts (after m first) second }
+    ensures meter { (ticks first second : ℕ) →
+        risen (risen ticks first) second ≡ risen ticks (first + second) }
 {}

@@ -34,7 +34,8 @@ filled_code minus count right digit code =
 unfoldable pub filled : List ℕ → List ℕ → Bool → List ℕ
 filled [] amount minus = []
 filled (code ∷ control) amount minus =
-    filled_code minus (length amount) (places control) (from_right amount (places control)) code ∷ filled control amount minus
+    filled_code minus (length amount) (places control) (from_right amount (places control)) code
+    ∷ filled control amount minus
 
 -- how many characters a control field has up to and including its rightmost `0`, none if it has no
 -- `0`
@@ -44,7 +45,9 @@ through_zero control = length control - leading (is_any (codes "0")) (reverse co
 -- the control field with the amount, and with a blank for each `0` and comma up to the control
 -- field's rightmost `0`, but not after a digit 1 to 9
 unfoldable pub edited : List ℕ → List ℕ → Bool → List ℕ
-edited control amount minus = blanked (min (through_zero control) (leading (ends Digit) (filled control amount minus))) (filled control amount minus)
+edited control amount minus =
+    blanked (min (through_zero control) (leading (ends Digit) (filled control amount minus)))
+    (filled control amount minus)
 
 -- whether an amount is minus: the zone of its units character is B alone
 abbrev pub is_minus : List ℕ → Bool
@@ -65,7 +68,9 @@ field_edited s r =
     (let control = codes_ending s r.b b_count in
     let amount = codes_ending s r.a a_count in
     Ok (
-      with_mark (put_codes s (r.b + 1 - b_count) (edited control (bare_units amount) (is_minus amount))) (r.b + 1 - b_count) false,
+      with_mark
+          (put_codes s (r.b + 1 - b_count) (edited control (bare_units amount) (is_minus amount)))
+          (r.b + 1 - b_count) false,
       lowered_by r a_count b_count,
     )))))
 
@@ -77,5 +82,7 @@ places_after control place = places (drop (place + 1) control)
 -- place has digit places, or a blank if there is none
 pub record IsShown (control amount : List ℕ) (minus : Bool) (place : ℕ) : Type 0 where
   pub shown : places_after control place < length amount →
-      slice_index (filled control amount minus) place ≡ slice_index amount (length amount - 1 - places_after control place)
-  pub empty : length amount ≤ places_after control place → slice_index (filled control amount minus) place ≡ blank
+      slice_index (filled control amount minus) place
+      ≡ slice_index amount (length amount - 1 - places_after control place)
+  pub empty : length amount ≤ places_after control place →
+      slice_index (filled control amount minus) place ≡ blank

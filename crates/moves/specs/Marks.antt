@@ -10,7 +10,8 @@ use Rattle.core_store.specs.declared.registers.Check.TheVariants.{Address}
 -- storage and registers after word marks are set at A and B, or cleared
 unfoldable pub marks_put : Bool → Storage → Registers → Result (Storage × Registers) Check
 marks_put marked s r =
-    require (are_inside s r.a r.b) Address (Ok (with_mark (with_mark s r.a marked) r.b marked, lowered_by r 1 1))
+    require (are_inside s r.a r.b) Address
+    (Ok (with_mark (with_mark s r.a marked) r.b marked, lowered_by r 1 1))
 
 -- the nearest hundred at or below a position
 abbrev pub hundred_of : ℕ → ℕ
@@ -21,4 +22,7 @@ hundred_of p = p / 100 * 100
 unfoldable pub storage_cleared : Storage → Registers → Result (Storage × Registers) Check
 storage_cleared s r =
     require (nat_lt r.b (length s)) Address
-    (Ok (put_cells s (hundred_of r.b) (replicate (r.b + 1 - hundred_of r.b) blank_cell), record r { b = lowered (hundred_of r.b) 1 }))
+    (Ok (
+      put_cells s (hundred_of r.b) (replicate (r.b + 1 - hundred_of r.b) blank_cell),
+      record r { b = lowered (hundred_of r.b) 1 },
+    ))

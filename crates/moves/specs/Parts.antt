@@ -13,10 +13,16 @@ use Rattle.moves.specs.Characters.{part_of, of_parts}
 unfoldable pub digit_moved : Storage → Registers → Result (Storage × Registers) Check
 digit_moved s r =
     require (are_inside s r.a r.b) Address
-    (Ok (put s r.b (of_parts (zone_of (code_at s r.b)) (part_of (code_at s r.a))), lowered_by r 1 1))
+    (Ok (
+      put s r.b (of_parts (zone_of (code_at s r.b)) (part_of (code_at s r.a))),
+      lowered_by r 1 1,
+    ))
 
 -- storage and registers after the zone at A is moved to B, whose numeric part stays
 unfoldable pub zone_moved : Storage → Registers → Result (Storage × Registers) Check
 zone_moved s r =
     require (are_inside s r.a r.b) Address
-    (Ok (put s r.b (of_parts (zone_of (code_at s r.a)) (part_of (code_at s r.b))), lowered_by r 1 1))
+    (Ok (
+      put s r.b (of_parts (zone_of (code_at s r.a)) (part_of (code_at s r.b))),
+      lowered_by r 1 1,
+    ))

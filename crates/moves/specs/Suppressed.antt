@@ -29,6 +29,7 @@ zeros_suppressed s r =
     require (nat_le count (r.b + 1)) Address
     (require (not (is_overlapping r.a r.b count)) Overlap
     (Ok (
-      put_codes (unmarked s (r.b + 1 - count) count) (r.b + 1 - count) (suppressed (bare_units (codes_ending s r.a count))),
+      put_codes (unmarked s (r.b + 1 - count) count) (r.b + 1 - count)
+          (suppressed (bare_units (codes_ending s r.a count))),
       lowered_by r count count,
     )))))

@@ -48,7 +48,9 @@ pub fn blank_start<C: Core>(core: &mut C, first: u16, count: u16, limit: u16, st
     requires within { first + count ≤ length (C.cells core.old) }
     requires limit { limit ≤ count }
     requires below { first + count ≤ largest_size }
-    ensures codes { C.cells core.new ≡ put_codes (C.cells core.old) first (blanked (min limit (leading (ends stop) (codes_from (C.cells core.old) first count))) (codes_from (C.cells core.old) first count)) }
+    ensures codes { C.cells core.new ≡ put_codes (C.cells core.old) first
+        (blanked (min limit (leading (ends stop) (codes_from (C.cells core.old) first count)))
+        (codes_from (C.cells core.old) first count)) }
     ensures size { length (C.cells core.new) ≡ length (C.cells core.old) }
 {
     for i in 0..limit {

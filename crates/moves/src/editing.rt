@@ -31,7 +31,10 @@ fn fill_blanked<C: Core>(core: &mut C, a: u16, a_count: u16, b: u16, b_count: u1
     requires a_some { 1 ≤ a_count }
     requires below { b < largest_size }
     requires apart { is_sharing a a_count b b_count ≡ false }
-    ensures codes { C.cells core.new ≡ put_codes (C.cells core.old) (b + 1 - b_count) (edited (codes_ending (C.cells core.old) b b_count) (bare_units (codes_ending (C.cells core.old) a a_count)) (is_minus (codes_ending (C.cells core.old) a a_count))) }
+    ensures codes { C.cells core.new ≡ put_codes (C.cells core.old) (b + 1 - b_count)
+        (edited (codes_ending (C.cells core.old) b b_count)
+        (bare_units (codes_ending (C.cells core.old) a a_count))
+        (is_minus (codes_ending (C.cells core.old) a a_count))) }
     ensures size { length (C.cells core.new) ≡ length (C.cells core.old) }
 {
     let through = through_zero(core, b, b_count);
@@ -42,9 +45,12 @@ fn fill_blanked<C: Core>(core: &mut C, a: u16, a_count: u16, b: u16, b_count: u1
 /// Edits the data at A by the control field at B.
 #[tactic(auto, unfolding(crate::specs::Edited::field_edited))]
 pub fn edit<C: Core>(core: &mut C, registers: &mut Registers) -> Result<(), Check>
-    ensures done { OnOk result (field_edited (C.cells core.old) registers.old ≡ Ok (C.cells core.new, registers.new)) }
-    ensures check { IfErr result (λ check. field_edited (C.cells core.old) registers.old ≡ Err check) }
-    ensures unchanged { OnErr result ((C.cells core.new ≡ C.cells core.old) × (registers.new ≡ registers.old)) }
+    ensures done { OnOk result (field_edited (C.cells core.old) registers.old
+        ≡ Ok (C.cells core.new, registers.new)) }
+    ensures check { IfErr result (λ check. field_edited (C.cells core.old) registers.old
+        ≡ Err check) }
+    ensures unchanged { OnErr result ((C.cells core.new ≡ C.cells core.old)
+        × (registers.new ≡ registers.old)) }
 {
     let Registers { a, b, .. } = *registers;
     if !are_inside(core, a, b) {
@@ -68,5 +74,6 @@ pub fn edit<C: Core>(core: &mut C, registers: &mut Registers) -> Result<(), Chec
 /// The law of editing: before zeros and commas become blank, the digit places of the control hold
 /// the data from the right, the units without zone, and blank where there are no more.
 pub fn edited_shows_the_data()
-    ensures { (control amount : List ℕ) (minus : Bool) (place : ℕ) → place < length control → is_place (slice_index control place) ≡ true → IsShown control amount minus place }
+    ensures { (control amount : List ℕ) (minus : Bool) (place : ℕ) → place < length control →
+        is_place (slice_index control place) ≡ true → IsShown control amount minus place }
 {}

@@ -111,7 +111,10 @@ pub fn fill<C: Core>(core: &mut C, a: u16, a_count: u16, b: u16, b_count: u16)
     requires a_some { 1 ≤ a_count }
     requires below { b < largest_size }
     requires apart { is_sharing a a_count b b_count ≡ false }
-    ensures codes { C.cells core.new ≡ put_codes (C.cells core.old) (b + 1 - b_count) (filled (codes_ending (C.cells core.old) b b_count) (bare_units (codes_ending (C.cells core.old) a a_count)) (is_minus (codes_ending (C.cells core.old) a a_count))) }
+    ensures codes { C.cells core.new ≡ put_codes (C.cells core.old) (b + 1 - b_count)
+        (filled (codes_ending (C.cells core.old) b b_count)
+        (bare_units (codes_ending (C.cells core.old) a a_count))
+        (is_minus (codes_ending (C.cells core.old) a a_count))) }
     ensures size { length (C.cells core.new) ≡ length (C.cells core.old) }
 {
     let minus = is_minus(core, a);

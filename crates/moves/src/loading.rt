@@ -10,9 +10,12 @@ use core_store::{Check, Core, Registers, are_inside, field_length, overlaps};
 /// Lays the field at A down at B, with its mark and no other.
 #[tactic(auto, unfolding(crate::specs::Loaded::field_loaded))]
 pub fn load_field<C: Core>(core: &mut C, registers: &mut Registers) -> Result<(), Check>
-    ensures done { OnOk result (field_loaded (C.cells core.old) registers.old ≡ Ok (C.cells core.new, registers.new)) }
-    ensures check { IfErr result (λ check. field_loaded (C.cells core.old) registers.old ≡ Err check) }
-    ensures unchanged { OnErr result ((C.cells core.new ≡ C.cells core.old) × (registers.new ≡ registers.old)) }
+    ensures done { OnOk result (field_loaded (C.cells core.old) registers.old
+        ≡ Ok (C.cells core.new, registers.new)) }
+    ensures check { IfErr result (λ check. field_loaded (C.cells core.old) registers.old
+        ≡ Err check) }
+    ensures unchanged { OnErr result ((C.cells core.new ≡ C.cells core.old)
+        × (registers.new ≡ registers.old)) }
 {
     let Registers { a, b, .. } = *registers;
     if !are_inside(core, a, b) {
@@ -35,5 +38,7 @@ pub fn load_field<C: Core>(core: &mut C, registers: &mut Registers) -> Result<()
 /// The law of a load: the characters of the field at A stand at B, the leftmost of them is marked
 /// and no other is, and all other positions are as they were.
 pub fn loaded_is_by_position()
-    ensures { (s new : Storage) (r after : Registers) (count : ℕ) → field_length s r.a ≡ Some count → field_loaded s r ≡ Ok (new, after) → IsLoaded s r.a r.b count new }
+    ensures { (s new : Storage) (r after : Registers) (count : ℕ) →
+        field_length s r.a ≡ Some count → field_loaded s r ≡ Ok (new, after) →
+        IsLoaded s r.a r.b count new }
 {}

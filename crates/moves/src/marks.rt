@@ -8,9 +8,12 @@ use core_store::{Check, Core, Registers, are_inside, lowered};
 /// Sets word marks at A and B.
 #[tactic(auto, unfolding(crate::specs::Marks::marks_put))]
 pub fn set_mark<C: Core>(core: &mut C, registers: &mut Registers) -> Result<(), Check>
-    ensures done { OnOk result (marks_put true (C.cells core.old) registers.old ≡ Ok (C.cells core.new, registers.new)) }
-    ensures check { IfErr result (λ check. marks_put true (C.cells core.old) registers.old ≡ Err check) }
-    ensures unchanged { OnErr result ((C.cells core.new ≡ C.cells core.old) × (registers.new ≡ registers.old)) }
+    ensures done { OnOk result (marks_put true (C.cells core.old) registers.old
+        ≡ Ok (C.cells core.new, registers.new)) }
+    ensures check { IfErr result (λ check. marks_put true (C.cells core.old) registers.old
+        ≡ Err check) }
+    ensures unchanged { OnErr result ((C.cells core.new ≡ C.cells core.old)
+        × (registers.new ≡ registers.old)) }
 {
     let Registers { a, b, .. } = *registers;
     if !are_inside(core, a, b) {
@@ -25,9 +28,12 @@ pub fn set_mark<C: Core>(core: &mut C, registers: &mut Registers) -> Result<(), 
 /// Clears the word marks at A and B.
 #[tactic(auto, unfolding(crate::specs::Marks::marks_put))]
 pub fn clear_mark<C: Core>(core: &mut C, registers: &mut Registers) -> Result<(), Check>
-    ensures done { OnOk result (marks_put false (C.cells core.old) registers.old ≡ Ok (C.cells core.new, registers.new)) }
-    ensures check { IfErr result (λ check. marks_put false (C.cells core.old) registers.old ≡ Err check) }
-    ensures unchanged { OnErr result ((C.cells core.new ≡ C.cells core.old) × (registers.new ≡ registers.old)) }
+    ensures done { OnOk result (marks_put false (C.cells core.old) registers.old
+        ≡ Ok (C.cells core.new, registers.new)) }
+    ensures check { IfErr result (λ check. marks_put false (C.cells core.old) registers.old
+        ≡ Err check) }
+    ensures unchanged { OnErr result ((C.cells core.new ≡ C.cells core.old)
+        × (registers.new ≡ registers.old)) }
 {
     let Registers { a, b, .. } = *registers;
     if !are_inside(core, a, b) {
@@ -42,9 +48,12 @@ pub fn clear_mark<C: Core>(core: &mut C, registers: &mut Registers) -> Result<()
 /// Clears characters and marks from B down to the nearest hundred.
 #[tactic(auto, unfolding(crate::specs::Marks::storage_cleared))]
 pub fn clear_storage<C: Core>(core: &mut C, registers: &mut Registers) -> Result<(), Check>
-    ensures done { OnOk result (storage_cleared (C.cells core.old) registers.old ≡ Ok (C.cells core.new, registers.new)) }
-    ensures check { IfErr result (λ check. storage_cleared (C.cells core.old) registers.old ≡ Err check) }
-    ensures unchanged { OnErr result ((C.cells core.new ≡ C.cells core.old) × (registers.new ≡ registers.old)) }
+    ensures done { OnOk result (storage_cleared (C.cells core.old) registers.old
+        ≡ Ok (C.cells core.new, registers.new)) }
+    ensures check { IfErr result (λ check. storage_cleared (C.cells core.old) registers.old
+        ≡ Err check) }
+    ensures unchanged { OnErr result ((C.cells core.new ≡ C.cells core.old)
+        × (registers.new ≡ registers.old)) }
 {
     let last = registers.b;
     if last >= core.size() {

@@ -72,7 +72,8 @@ fn ripple<C: Core>(core: &mut C, a: u16, b: u16, count: u16)
     requires b_in { b < length (C.cells core.old) }
     requires a_from { count ≤ a + 1 }
     requires b_from { count ≤ b + 1 }
-    ensures { C.cells core.new ≡ put_codes (C.cells core.old) (b + 1 - count) (moved_codes (C.cells core.old) a b count) }
+    ensures { C.cells core.new
+        ≡ put_codes (C.cells core.old) (b + 1 - count) (moved_codes (C.cells core.old) a b count) }
 {
     for i in 0..count {
         let code = core.get(a - i);
@@ -87,7 +88,8 @@ fn copy_codes<C: Core>(core: &mut C, a: u16, b: u16, count: u16)
     requires b_in { b < length (C.cells core.old) }
     requires a_from { count ≤ a + 1 }
     requires b_from { count ≤ b + 1 }
-    ensures { C.cells core.new ≡ put_codes (C.cells core.old) (b + 1 - count) (moved_codes (C.cells core.old) a b count) }
+    ensures { C.cells core.new
+        ≡ put_codes (C.cells core.old) (b + 1 - count) (moved_codes (C.cells core.old) a b count) }
 {
     if overlaps(a, b, count) {
         ripple(core, a, b, count);
@@ -100,9 +102,11 @@ fn copy_codes<C: Core>(core: &mut C, a: u16, b: u16, count: u16)
 /// Marks stay.
 #[tactic(auto, unfolding(crate::specs::Moved::moved))]
 pub fn move_field<C: Core>(core: &mut C, registers: &mut Registers) -> Result<(), Check>
-    ensures done { OnOk result (moved (C.cells core.old) registers.old ≡ Ok (C.cells core.new, registers.new)) }
+    ensures done { OnOk result (moved (C.cells core.old) registers.old
+        ≡ Ok (C.cells core.new, registers.new)) }
     ensures check { IfErr result (λ check. moved (C.cells core.old) registers.old ≡ Err check) }
-    ensures unchanged { OnErr result ((C.cells core.new ≡ C.cells core.old) × (registers.new ≡ registers.old)) }
+    ensures unchanged { OnErr result ((C.cells core.new ≡ C.cells core.old)
+        × (registers.new ≡ registers.old)) }
 {
     let Registers { a, b, .. } = *registers;
     if !are_inside(core, a, b) {
@@ -122,5 +126,7 @@ pub fn move_field<C: Core>(core: &mut C, registers: &mut Registers) -> Result<()
 /// The law of a move: each position of the field at B holds the character of its source, and all
 /// other characters and all marks are the old ones.
 pub fn moved_is_by_position()
-    ensures { (s new : Storage) (r after : Registers) (count : ℕ) → move_length s r.a r.b ≡ Some count → moved s r ≡ Ok (new, after) → IsMoved s r.a r.b count new }
+    ensures { (s new : Storage) (r after : Registers) (count : ℕ) →
+        move_length s r.a r.b ≡ Some count → moved s r ≡ Ok (new, after) →
+        IsMoved s r.a r.b count new }
 {}

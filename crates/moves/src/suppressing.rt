@@ -16,7 +16,8 @@ use core_store::{Check, Core, Registers, are_inside, field_length, overlaps};
 pub fn bare_at<C: Core>(core: &C, position: u16, place: u16) -> Code
     requires within { position < length (C.cells core.now) }
     requires from { place ≤ position }
-    ensures { result ≡ (if place == 0 then bare (code_at (C.cells core.now) (position - place)) else code_at (C.cells core.now) (position - place)) }
+    ensures { result ≡ (if place == 0 then bare (code_at (C.cells core.now) (position - place))
+        else code_at (C.cells core.now) (position - place)) }
 {
     let code = core.get(position - place);
     if place == 0 { bare(code) } else { code }
@@ -45,7 +46,8 @@ fn copy_bare<C: Core>(core: &mut C, a: u16, b: u16, count: u16)
     requires b_from { count ≤ b + 1 }
     requires below { b < largest_size }
     requires apart { is_overlapping a b count ≡ false }
-    ensures codes { C.cells core.new ≡ put_codes (C.cells core.old) (b + 1 - count) (bare_units (codes_ending (C.cells core.old) a count)) }
+    ensures codes { C.cells core.new ≡ put_codes (C.cells core.old) (b + 1 - count)
+        (bare_units (codes_ending (C.cells core.old) a count)) }
     ensures size { length (C.cells core.new) ≡ length (C.cells core.old) }
 {
     for i in 0..count {
@@ -63,7 +65,8 @@ fn move_suppressed<C: Core>(core: &mut C, a: u16, b: u16, count: u16)
     requires b_from { count ≤ b + 1 }
     requires below { b < largest_size }
     requires apart { is_overlapping a b count ≡ false }
-    ensures { C.cells core.new ≡ put_codes (unmarked (C.cells core.old) (b + 1 - count) count) (b + 1 - count) (suppressed (bare_units (codes_ending (C.cells core.old) a count))) }
+    ensures { C.cells core.new ≡ put_codes (unmarked (C.cells core.old) (b + 1 - count) count)
+        (b + 1 - count) (suppressed (bare_units (codes_ending (C.cells core.old) a count))) }
 {
     clear_marks(core, b, count);
     copy_bare(core, a, b, count);
@@ -73,9 +76,12 @@ fn move_suppressed<C: Core>(core: &mut C, a: u16, b: u16, count: u16)
 /// Moves the field at A to B without its leading zeros and without marks.
 #[tactic(auto, unfolding(crate::specs::Suppressed::zeros_suppressed))]
 pub fn suppress<C: Core>(core: &mut C, registers: &mut Registers) -> Result<(), Check>
-    ensures done { OnOk result (zeros_suppressed (C.cells core.old) registers.old ≡ Ok (C.cells core.new, registers.new)) }
-    ensures check { IfErr result (λ check. zeros_suppressed (C.cells core.old) registers.old ≡ Err check) }
-    ensures unchanged { OnErr result ((C.cells core.new ≡ C.cells core.old) × (registers.new ≡ registers.old)) }
+    ensures done { OnOk result (zeros_suppressed (C.cells core.old) registers.old
+        ≡ Ok (C.cells core.new, registers.new)) }
+    ensures check { IfErr result (λ check. zeros_suppressed (C.cells core.old) registers.old
+        ≡ Err check) }
+    ensures unchanged { OnErr result ((C.cells core.new ≡ C.cells core.old)
+        × (registers.new ≡ registers.old)) }
 {
     let Registers { a, b, .. } = *registers;
     if !are_inside(core, a, b) {

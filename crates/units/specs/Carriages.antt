@@ -25,12 +25,14 @@ last_form = 2000000000
 
 -- the carriage at this line of the next form, if there is a form left
 abbrev pub on_next_form : Carriage → ℕ → Option Carriage
-on_next_form c line = if nat_lt c.form last_form then Some (record c { form = c.form + 1; line = line }) else None
+on_next_form c line =
+    if nat_lt c.form last_form then Some (record c { form = c.form + 1; line = line }) else None
 
 -- whether channel 12 is on after spacing so many lines: it was on, or its line was reached or
 -- passed
 abbrev pub sensed : Carriage → ℕ → Bool
-sensed c count = c.channel_12 || (nat_lt c.line line_of_channel_12 && nat_le line_of_channel_12 (c.line + count))
+sensed c count =
+    c.channel_12 || (nat_lt c.line line_of_channel_12 && nat_le line_of_channel_12 (c.line + count))
 
 -- the carriage so many lines further down, on the next form if this one ends, if there is one
 abbrev pub spaced : Carriage → ℕ → Option Carriage
@@ -79,4 +81,5 @@ ordered (AfterLine motion) c = Some (record c { waiting = Some motion })
 
 -- the printer after an order to its carriage, or a check if no form is left
 unfoldable pub carriage_moved : CarriageOrder → Printed → Result Printed Check
-carriage_moved order p = find_or (ordered order p.carriage) PrinterFull (λ carriage. Ok (record p { carriage = carriage }))
+carriage_moved order p = find_or (ordered order p.carriage) PrinterFull
+    (λ carriage. Ok (record p { carriage = carriage }))

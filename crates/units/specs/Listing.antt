@@ -36,7 +36,8 @@ printed_at lines form number = find (λ l. l.form == form && l.line == number) l
 
 -- a line of a form in the listing: the text that was printed there, if any, and a line feed
 unfoldable pub listed_line : List Line → ℕ → ℕ → List ℕ
-listed_line lines form number = option_map_or (λ l. text_of l.codes) (printed_at lines form number) [] ++ line_feed ∷ []
+listed_line lines form number =
+    option_map_or (λ l. text_of l.codes) (printed_at lines form number) [] ++ line_feed ∷ []
 
 -- the number of the last printed line of a form, 0 if there is none
 unfoldable pub last_line : List Line → ℕ → ℕ

@@ -25,7 +25,8 @@ IsOnForm p = (1 ≤ p.form) × (p.form ≤ last_form) × (1 ≤ p.line) × (p.li
 -- a place is at a line of a form, and below another: on a later form, or further down on the same
 -- one
 abbrev pub IsBelow : Place → Place → Type 0
-IsBelow above p = IsOnForm p × ((above.form < p.form) ⊎ ((above.form ≡ p.form) × (above.line < p.line)))
+IsBelow above p = IsOnForm p
+    × ((above.form < p.form) ⊎ ((above.form ≡ p.form) × (above.line < p.line)))
 
 -- each of these places is below the one before it
 abbrev pub AreRising : Place → List Place → Type 0

@@ -75,7 +75,11 @@ line_printed s p =
     require (nat_lt (length p.lines) most_lines) PrinterFull
     (find_or (after_line p.carriage) PrinterFull (λ carriage.
     Ok (record {
-      lines = p.lines ++ (record { form = p.carriage.form; line = p.carriage.line; codes = codes_from s print_area characters_of_line }) ∷ [];
+      lines = p.lines ++ (record {
+        form = p.carriage.form;
+        line = p.carriage.line;
+        codes = codes_from s print_area characters_of_line;
+      }) ∷ [];
       carriage = carriage;
     })))
 
@@ -118,7 +122,8 @@ unfoldable pub printer_works : Devices → Storage → Printed → Result Printe
 printer_works devices s p = if prints devices then line_printed s p else Ok p
 
 -- storage and units after the reader, the punch and the printer, or the first check in this order
-abbrev pub together : Units → Result (Storage × Hopper) Check → Result (List Card) Check → Result Printed Check → Result (Storage × Units) Check
+abbrev pub together : Units → Result (Storage × Hopper) Check → Result (List Card) Check →
+    Result Printed Check → Result (Storage × Units) Check
 together u reader punch printer =
     and_then reader (λ read.
     and_then punch (λ cards.
@@ -127,11 +132,13 @@ together u reader punch printer =
 
 -- storage and units after an operation of the units, each of which works from storage as it was
 unfoldable pub operated : Devices → Storage → Units → Result (Storage × Units) Check
-operated devices s u = together u (reader_works devices s u.hopper) (punch_works devices s u.punch) (printer_works devices s u.printer)
+operated devices s u = together u (reader_works devices s u.hopper)
+    (punch_works devices s u.punch) (printer_works devices s u.printer)
 
 -- an operation has made one more card or line
 abbrev pub Makes : Units → Units → Type 0
-Makes u after = (length u.punch < length after.punch) ⊎ (length u.printer.lines < length after.printer.lines)
+Makes u after = (length u.punch < length after.punch)
+    ⊎ (length u.printer.lines < length after.printer.lines)
 
 -- why an operation of the units was given up: a check, or no memory for a card or a line
 abbrev pub OperationFails : Fault → Units → Result (Storage × Units) Check → Type 0

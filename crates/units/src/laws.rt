@@ -14,17 +14,22 @@ ghost use Rattle.units.specs.Units.{operated};
 /// The law of the ranges: units in range stay so, whatever operation they do and whatever order
 /// the carriage is given.
 pub fn operating_stays_in_range()
-    ensures operation { (devices : Devices) (s t : Storage) (u after : Units) → AreUnits u → operated devices s u ≡ Ok (t, after) → AreUnits after }
-    ensures carriage { (order : CarriageOrder) (p after : Printed) → HasPrinted p → carriage_moved order p ≡ Ok after → HasPrinted after }
+    ensures operation { (devices : Devices) (s t : Storage) (u after : Units) → AreUnits u →
+        operated devices s u ≡ Ok (t, after) → AreUnits after }
+    ensures carriage { (order : CarriageOrder) (p after : Printed) → HasPrinted p →
+        carriage_moved order p ≡ Ok after → HasPrinted after }
 {}
 
 /// The law of what was made: an operation keeps the deck, the switches and the size of the
 /// storage, and the cards and lines that were there are the first of those that are there after
 /// it. An order to the carriage keeps all lines.
 pub fn operating_only_adds()
-    ensures operation { (devices : Devices) (s t : Storage) (u after : Units) → operated devices s u ≡ Ok (t, after) → OnlyAdds u after }
-    ensures storage { (devices : Devices) (s t : Storage) (u after : Units) → operated devices s u ≡ Ok (t, after) → length t ≡ length s }
-    ensures carriage { (order : CarriageOrder) (p after : Printed) → carriage_moved order p ≡ Ok after → after.lines ≡ p.lines }
+    ensures operation { (devices : Devices) (s t : Storage) (u after : Units) →
+        operated devices s u ≡ Ok (t, after) → OnlyAdds u after }
+    ensures storage { (devices : Devices) (s t : Storage) (u after : Units) →
+        operated devices s u ≡ Ok (t, after) → length t ≡ length s }
+    ensures carriage { (order : CarriageOrder) (p after : Printed) →
+        carriage_moved order p ≡ Ok after → after.lines ≡ p.lines }
 {}
 
 /// The law of the lines: those of a printer in range rise by form and line, so `render` gives

@@ -27,7 +27,8 @@ fn shown(code: Code) -> u8
 #[tactic(auto, using(crate::proofs::Listings::text_is))]
 fn length_shown(codes: &[Code]) -> usize
     ensures within { result ≤ length codes.now }
-    ensures blank_from_there { (k : ℕ) → result ≤ k → k < length codes.now → shown (slice_index codes.now k) ≡ blank }
+    ensures blank_from_there { (k : ℕ) → result ≤ k → k < length codes.now →
+        shown (slice_index codes.now k) ≡ blank }
     ensures not_before { 0 < result → shown (slice_index codes.now (result - 1)) ≢ blank }
     ensures text { text_of codes.now ≡ map shown (take result codes.now) }
 {
@@ -41,7 +42,8 @@ fn length_shown(codes: &[Code]) -> usize
 
 /// Adds what a line shows, without trailing blanks, and its end.
 fn push_line(text: &mut Vec<u8>, codes: &[Code; LINE_LENGTH]) -> Result<(), AllocError>
-    ensures { OnOk result (text.new.items ≡ text.old.items ++ (text_of codes.now ++ line_feed ∷ [])) }
+    ensures { OnOk result (text.new.items
+        ≡ text.old.items ++ (text_of codes.now ++ line_feed ∷ [])) }
 {
     let length = length_shown(codes);
     let mut line = [LINE_FEED; LINE_LENGTH + 1];

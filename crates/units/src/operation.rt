@@ -18,8 +18,10 @@ impl Units {
     /// Whether the reader has no card for an operation.
     #[tactic(auto, unfolding(crate::specs::Units::reader_works))]
     fn reader_stops(&self, devices: Devices) -> bool
-        ensures check { result ≡ true → (s : Storage) → reader_works devices s self.now.hopper ≡ Err ReaderEmpty }
-        ensures ready { result ≡ false → (s : Storage) → IsOk (reader_works devices s self.now.hopper) }
+        ensures check { result ≡ true → (s : Storage) →
+            reader_works devices s self.now.hopper ≡ Err ReaderEmpty }
+        ensures ready { result ≡ false → (s : Storage) →
+            IsOk (reader_works devices s self.now.hopper) }
     {
         devices.contains(Devices::READER) && self.hopper.has_no_card()
     }
@@ -27,8 +29,10 @@ impl Units {
     /// Whether the punch has no room for the card of an operation.
     #[tactic(auto, unfolding(crate::specs::Units::punch_works))]
     fn punch_stops(&self, devices: Devices) -> bool
-        ensures check { result ≡ true → (s : Storage) → punch_works devices s self.now.punch ≡ Err PunchFull }
-        ensures ready { result ≡ false → (s : Storage) → IsOk (punch_works devices s self.now.punch) }
+        ensures check { result ≡ true → (s : Storage) →
+            punch_works devices s self.now.punch ≡ Err PunchFull }
+        ensures ready { result ≡ false → (s : Storage) →
+            IsOk (punch_works devices s self.now.punch) }
     {
         devices.contains(Devices::PUNCH) && self.punch.is_full()
     }
@@ -36,8 +40,10 @@ impl Units {
     /// Whether the printer has no room for the line of an operation.
     #[tactic(auto, unfolding(crate::specs::Units::printer_works))]
     fn printer_stops(&self, devices: Devices) -> bool
-        ensures check { result ≡ true → (s : Storage) → printer_works devices s self.now.printer ≡ Err PrinterFull }
-        ensures ready { result ≡ false → (s : Storage) → IsOk (printer_works devices s self.now.printer) }
+        ensures check { result ≡ true → (s : Storage) →
+            printer_works devices s self.now.printer ≡ Err PrinterFull }
+        ensures ready { result ≡ false → (s : Storage) →
+            IsOk (printer_works devices s self.now.printer) }
     {
         devices.contains(Devices::PRINTER) && self.printer.is_full()
     }
@@ -46,7 +52,8 @@ impl Units {
     #[tactic(auto, using(crate::proofs::Together::operation_ready))]
     fn look_for_checks(&self, devices: Devices) -> Result<(), Check>
         ensures ready { OnOk result ((s : Storage) → IsOk (operated devices s self.now)) }
-        ensures check { IfErr result (λ check. (s : Storage) → operated devices s self.now ≡ Err check) }
+        ensures check { IfErr result (λ check. (s : Storage) →
+            operated devices s self.now ≡ Err check) }
     {
         if self.reader_stops(devices) {
             return Err(Check::ReaderEmpty);
@@ -66,7 +73,8 @@ impl Units {
 fn work_punch<C: Core>(core: &C, punch: &mut Punch, devices: Devices) -> Result<(), Fault>
     requires { punch_area_end ≤ length (C.cells core.now) }
     ensures done { OnOk result (punch_works devices (C.cells core.now) punch.old ≡ Ok punch.new) }
-    ensures refused { IfErr result (λ fault. PunchFails fault punch.old (punch_works devices (C.cells core.now) punch.old)) }
+    ensures refused { IfErr result (λ fault.
+        PunchFails fault punch.old (punch_works devices (C.cells core.now) punch.old)) }
     ensures unchanged { OnErr result (punch.new ≡ punch.old) }
 {
     if !devices.contains(Devices::PUNCH) {
@@ -79,8 +87,10 @@ fn work_punch<C: Core>(core: &C, punch: &mut Punch, devices: Devices) -> Result<
 #[tactic(auto, unfolding(crate::specs::Units::printer_works))]
 fn work_printer<C: Core>(core: &C, printer: &mut Printer, devices: Devices) -> Result<(), Fault>
     requires { areas_end ≤ length (C.cells core.now) }
-    ensures done { OnOk result (printer_works devices (C.cells core.now) printer.old ≡ Ok printer.new) }
-    ensures refused { IfErr result (λ fault. PrintFails fault printer.old (printer_works devices (C.cells core.now) printer.old)) }
+    ensures done { OnOk result (printer_works devices (C.cells core.now) printer.old
+        ≡ Ok printer.new) }
+    ensures refused { IfErr result (λ fault.
+        PrintFails fault printer.old (printer_works devices (C.cells core.now) printer.old)) }
     ensures unchanged { OnErr result (printer.new ≡ printer.old) }
 {
     if !devices.contains(Devices::PRINTER) {
@@ -94,7 +104,8 @@ fn work_printer<C: Core>(core: &C, printer: &mut Printer, devices: Devices) -> R
 fn work_reader<C: Core>(core: &mut C, hopper: &mut Hopper, devices: Devices)
     requires size { read_area_end ≤ length (C.cells core.old) }
     requires ready { IsOk (reader_works devices (C.cells core.old) hopper.old) }
-    ensures { reader_works devices (C.cells core.old) hopper.old ≡ Ok (C.cells core.new, hopper.new) }
+    ensures { reader_works devices (C.cells core.old) hopper.old
+        ≡ Ok (C.cells core.new, hopper.new) }
 {
     if devices.contains(Devices::READER) {
         take_card(core, hopper);
@@ -111,9 +122,13 @@ fn work_makers<C: Core>(
     devices: Devices,
 ) -> Result<(), Fault>
     requires { areas_end ≤ length (C.cells core.now) }
-    ensures punched { OnOk result (punch_works devices (C.cells core.now) punch.old ≡ Ok punch.new) }
-    ensures printed { OnOk result (printer_works devices (C.cells core.now) printer.old ≡ Ok printer.new) }
-    ensures refused { IfErr result (λ fault. PunchFails fault punch.old (punch_works devices (C.cells core.now) punch.old) ⊎ PrintFails fault printer.old (printer_works devices (C.cells core.now) printer.old)) }
+    ensures punched { OnOk result (punch_works devices (C.cells core.now) punch.old
+        ≡ Ok punch.new) }
+    ensures printed { OnOk result (printer_works devices (C.cells core.now) printer.old
+        ≡ Ok printer.new) }
+    ensures refused { IfErr result (λ fault.
+        PunchFails fault punch.old (punch_works devices (C.cells core.now) punch.old)
+        ⊎ PrintFails fault printer.old (printer_works devices (C.cells core.now) printer.old)) }
     ensures unchanged { OnErr result ((punch.new ≡ punch.old) × (printer.new ≡ printer.old)) }
 {
     let cards = punch.count();
@@ -133,9 +148,12 @@ fn work_makers<C: Core>(
 #[tactic(auto, using(crate::proofs::Together::operation_fails, crate::proofs::Together::reader_goes, crate::proofs::Together::operation_is))]
 pub fn operate<C: Core>(core: &mut C, units: &mut Units, devices: Devices) -> Result<(), Fault>
     requires { areas_end ≤ length (C.cells core.old) }
-    ensures done { OnOk result (operated devices (C.cells core.old) units.old ≡ Ok (C.cells core.new, units.new)) }
-    ensures refused { IfErr result (λ fault. OperationFails fault units.old (operated devices (C.cells core.old) units.old)) }
-    ensures unchanged { OnErr result ((C.cells core.new ≡ C.cells core.old) × (units.new ≡ units.old)) }
+    ensures done { OnOk result (operated devices (C.cells core.old) units.old
+        ≡ Ok (C.cells core.new, units.new)) }
+    ensures refused { IfErr result (λ fault.
+        OperationFails fault units.old (operated devices (C.cells core.old) units.old)) }
+    ensures unchanged { OnErr result ((C.cells core.new ≡ C.cells core.old)
+        × (units.new ≡ units.old)) }
 {
     if let Err(check) = units.look_for_checks(devices) {
         return Err(Fault::Stopped(check));

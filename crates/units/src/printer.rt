@@ -62,7 +62,8 @@ impl Printer {
 pub fn print_line<C: Core>(core: &C, printer: &mut Printer) -> Result<(), Fault>
     requires { areas_end ≤ length (C.cells core.now) }
     ensures done { OnOk result (line_printed (C.cells core.now) printer.old ≡ Ok printer.new) }
-    ensures refused { IfErr result (λ fault. PrintFails fault printer.old (line_printed (C.cells core.now) printer.old)) }
+    ensures refused { IfErr result (λ fault.
+        PrintFails fault printer.old (line_printed (C.cells core.now) printer.old)) }
     ensures unchanged { OnErr result (printer.new ≡ printer.old) }
 {
     if printer.lines.len() >= MOST_LINES {

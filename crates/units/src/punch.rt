@@ -60,7 +60,8 @@ impl Punch {
 pub fn punch_card<C: Core>(core: &C, punch: &mut Punch) -> Result<(), Fault>
     requires { punch_area_end ≤ length (C.cells core.now) }
     ensures done { OnOk result (card_punched (C.cells core.now) punch.old ≡ Ok punch.new) }
-    ensures refused { IfErr result (λ fault. PunchFails fault punch.old (card_punched (C.cells core.now) punch.old)) }
+    ensures refused { IfErr result (λ fault.
+        PunchFails fault punch.old (card_punched (C.cells core.now) punch.old)) }
     ensures unchanged { OnErr result (punch.new ≡ punch.old) }
 {
     if punch.is_full() {

@@ -59,9 +59,11 @@ pub(crate) fn take_card<C: Core>(core: &mut C, hopper: &mut Hopper)
 #[tactic(auto, unfolding(crate::specs::Units::card_read))]
 pub fn read_card<C: Core>(core: &mut C, hopper: &mut Hopper) -> Result<(), Check>
     requires { read_area_end ≤ length (C.cells core.old) }
-    ensures done { OnOk result (card_read (C.cells core.old) hopper.old ≡ Ok (C.cells core.new, hopper.new)) }
+    ensures done { OnOk result (card_read (C.cells core.old) hopper.old
+        ≡ Ok (C.cells core.new, hopper.new)) }
     ensures check { IfErr result (λ check. card_read (C.cells core.old) hopper.old ≡ Err check) }
-    ensures unchanged { OnErr result ((C.cells core.new ≡ C.cells core.old) × (hopper.new ≡ hopper.old)) }
+    ensures unchanged { OnErr result ((C.cells core.new ≡ C.cells core.old)
+        × (hopper.new ≡ hopper.old)) }
 {
     if hopper.has_no_card() {
         return Err(Check::ReaderEmpty);

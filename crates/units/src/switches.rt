@@ -26,7 +26,8 @@ impl Flags for Switches {
 
     ghost exact = { ⊤ };
 
-    ghost table = { (codes "A", 1) ∷ (codes "B", 2) ∷ (codes "C", 4) ∷ (codes "D", 8) ∷ (codes "E", 16) ∷ (codes "F", 32) ∷ (codes "G", 64) ∷ [] };
+    ghost table = { (codes "A", 1) ∷ (codes "B", 2) ∷ (codes "C", 4) ∷ (codes "D", 8)
+        ∷ (codes "E", 16) ∷ (codes "F", 32) ∷ (codes "G", 64) ∷ [] };
 
     ghost set_of = { λ s. s.0 };
 
