@@ -1,0 +1,4 @@
+pub mod Rows
+pub mod Coded
+pub mod Names
+pub mod Listing
