@@ -16,8 +16,10 @@ use std::alloc::{AllocError, Global};
 /// the line of each card as `autocoder::listing` has it. Where the card places characters their
 /// count follows, the address of the first one, and the characters, with an apostrophe before each
 /// that has a word mark: twenty on the line of the card, and twenty on each further line below it,
-/// after the address of the first one there. Literals are with the card that ends the source. Each
-/// line ends with a line feed. Fails for want of memory alone.
+/// after the address of the first one there. Literals are with the card that ends the source. After
+/// the cards come a heading and a line for each name: its address, and the numbers of the cards
+/// that use it in an address, twenty on a line. Each line ends with a line feed. Fails for want of
+/// memory alone.
 pub fn listing_with_code(
     alloc: Global,
     deck: &Deck,
