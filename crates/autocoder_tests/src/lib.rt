@@ -6,6 +6,8 @@
 #![tactic(auto)]
 
 #[cfg(test)]
+mod code_listings;
+#[cfg(test)]
 mod coding_sheets;
 #[cfg(test)]
 mod layouts;

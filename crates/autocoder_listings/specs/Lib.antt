@@ -1,0 +1,5 @@
+pub mod Rows
+pub mod Coded
+pub mod Names
+pub mod Listing
+pub mod Reading

@@ -1,0 +1,31 @@
+-- the code of a card: the characters that it places, in rows
+use Rattle.std.specs.Prelude.{ℕ, ◌*◌, if◌then◌else◌, List, [], ◌∷◌, ◌++◌, take, drop, flat_map, codes}
+use Rattle.std.specs.Int.{div_ceil}
+use Rattle.bcd.specs.Table.{glyph_of, byte}
+use Rattle.autocoder_layout.specs.declared.cells.Cell.{Cell}
+use Rattle.autocoder.specs.Listing.{blank, position_field}
+
+-- the byte before a character with a word mark; it is the glyph of no character
+abbrev pub mark_sign : ℕ
+mark_sign = byte (codes "'")
+
+-- a character as it is shown
+abbrev pub shown : Cell → List ℕ
+shown c = if c.marked then mark_sign ∷ glyph_of c.code ∷ [] else glyph_of c.code ∷ []
+
+-- how many rows of twenty so many things take
+abbrev pub rows_for : ℕ → ℕ
+rows_for count = div_ceil count 20
+
+-- the row of this number, from 0 on: twenty things, or those that are left
+abbrev pub row_at : {X : Type 0} → List X → ℕ → List X
+row_at things number = take 20 (drop (20 * number) things)
+
+-- the address of a row: its first position
+abbrev pub address_of : List Cell → ℕ
+address_of [] = 0
+address_of (c ∷ row) = c.position
+
+-- a line that begins with a text and goes on with a row: its address and its characters
+unfoldable pub with_row : List ℕ → List Cell → List ℕ
+with_row text row = ((text ++ position_field (address_of row)) ++ blank ∷ []) ++ flat_map shown row

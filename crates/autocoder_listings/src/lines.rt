@@ -1,0 +1,112 @@
+//! The lines of a listing: their fields, and their ends.
+
+ghost use Rattle.std.specs.Prelude.{◌≡◌, ◌≤◌, ◌++◌, ◌∷◌, [], length, take, replicate, IfOk, OnOk};
+ghost use Rattle.autocoder.specs.Listing.{line_feed, right, fills, place_field, glyphs_of, card_line, listed};
+
+use autocoder_layout::{Kind, Slot};
+use bcd::Code;
+use cards::Card;
+use itoa::Buffer;
+use std::alloc::{AllocError, Global};
+
+const LINE_FEED: u8 = 10;
+
+/// Adds so many fillers.
+pub(crate) fn push_fillers(line: &mut Vec<u8>, filler: u8, count: usize) -> Result<(), AllocError>
+    ensures { OnOk result (line.new.items ≡ line.old.items ++ replicate count filler) }
+{
+    for _ in 0..count {
+        line.push(filler)?;
+    }
+    Ok(())
+}
+
+/// Adds a number in a field of so many places, after fillers.
+pub(crate) fn push_number(
+    line: &mut Vec<u8>,
+    filler: u8,
+    width: usize,
+    number: u64,
+) -> Result<(), AllocError>
+    ensures { OnOk result (line.new.items ≡ line.old.items ++ right filler width number) }
+{
+    let mut buffer = Buffer::new();
+    let printed = buffer.format(number).as_bytes();
+    push_fillers(line, filler, width.saturating_sub(printed.len()))?;
+    line.extend_from_slice(printed)?;
+    Ok(())
+}
+
+/// Adds the glyphs of some characters.
+pub(crate) fn push_glyphs(line: &mut Vec<u8>, codes: &[Code]) -> Result<(), AllocError>
+    ensures { OnOk result (line.new.items ≡ line.old.items ++ glyphs_of codes.now) }
+{
+    for code in codes {
+        line.push(code.glyph())?;
+    }
+    Ok(())
+}
+
+/// Whether a card fills positions.
+fn fills(kind: Kind) -> bool
+    ensures { result ≡ fills kind }
+{
+    match kind {
+        Kind::Instruction => true,
+        Kind::Constant => true,
+        _ => false,
+    }
+}
+
+/// Adds the leftmost position that a card fills, if it is an instruction or a constant.
+#[tactic(auto, unfolding(autocoder::specs::Listing::place_field))]
+fn push_place(line: &mut Vec<u8>, slot: &Slot) -> Result<(), AllocError>
+    ensures { OnOk result (line.new.items ≡ line.old.items ++ place_field slot.now) }
+{
+    if fills(slot.kind) {
+        push_number(line, b'0', 5, slot.before as u64)
+    } else {
+        push_fillers(line, b' ', 5)
+    }
+}
+
+/// The line of a card as it is listed without code.
+#[tactic(auto, unfolding(autocoder::specs::Listing::card_line))]
+pub(crate) fn card_line(
+    alloc: Global,
+    number: u64,
+    slot: &Slot,
+    card: &Card,
+) -> Result<Vec<u8>, AllocError>
+    ensures { IfOk result (λ line. line.items ≡ card_line number slot.now card.now) }
+{
+    let mut line = Vec::new(alloc);
+    push_number(&mut line, b' ', 4, number)?;
+    line.push(b' ')?;
+    push_place(&mut line, slot)?;
+    line.push(b' ')?;
+    push_glyphs(&mut line, &card.0)?;
+    Ok(line)
+}
+
+/// How many characters a line has without the blanks at its end.
+fn length_listed(line: &[u8]) -> usize
+    ensures within { result ≤ length line.now }
+    ensures text { listed line.now ≡ take result line.now ++ line_feed ∷ [] }
+{
+    for length in (0..line.len()).rev() {
+        if line[length] != b' ' {
+            return length + 1;
+        }
+    }
+    0
+}
+
+/// Adds a line without the blanks at its end, and the end of the line.
+pub(crate) fn push_line(text: &mut Vec<u8>, line: &[u8]) -> Result<(), AllocError>
+    ensures { OnOk result (text.new.items ≡ text.old.items ++ listed line.now) }
+{
+    text.extend_from_slice(&line[..length_listed(line)])?;
+    text.push(LINE_FEED)?;
+    Ok(())
+}

@@ -1,0 +1,39 @@
+//! The listing of a source with its code.
+
+ghost use Rattle.std.specs.Prelude.{◌≡◌, IfOk};
+ghost use Rattle.autocoder_layout.specs.Source.{source_of};
+ghost use Rattle.autocoder.specs.Programs.{IsFaultless, IsProgramOf};
+ghost use Rattle.autocoder_listings.specs.Listing.{listing_with_code_for};
+
+use crate::cards_shown::push_cards;
+use crate::names::push_names;
+use autocoder::Program;
+use autocoder_layout::{lay_out, source_of};
+use cards::Deck;
+use std::alloc::{AllocError, Global};
+
+/// The listing of a deck's source with its code, by the program that it is assembled to. It has
+/// the line of each card as `autocoder::listing` has it. Where the card places characters their
+/// count follows, the address of the first one, and the characters, with an apostrophe before each
+/// that has a word mark: twenty on the line of the card, and twenty on each further line below it,
+/// after the address of the first one there. Literals are with the card that ends the source. After
+/// the cards come a heading and a line for each name: its address, and the numbers of the cards
+/// that use it in an address, twenty on a line. Each line ends with a line feed. Fails for want of
+/// memory alone.
+pub fn listing_with_code(
+    alloc: Global,
+    deck: &Deck,
+    program: &Program,
+) -> Result<Vec<u8>, AllocError>
+    requires program { IsProgramOf (source_of deck.now) program.now }
+    requires faultless { IsFaultless (source_of deck.now) }
+    ensures { IfOk result (λ text. text.items ≡ listing_with_code_for deck.now) }
+{
+    let source = source_of(deck.cards());
+    let size = program.size().positions();
+    let slots = lay_out(alloc, size, source)?;
+    let mut text = Vec::new(alloc);
+    push_cards(alloc, &mut text, size, source, &slots, program.literals())?;
+    push_names(alloc, &mut text, source, &slots)?;
+    Ok(text)
+}

@@ -1,0 +1,212 @@
+//! The names of a source: their addresses, and the cards that use them.
+
+ghost use Rattle.std.specs.Prelude.{◌≡◌, ◌*◌, ◌≤◌, ◌++◌, ◌∷◌, ◌||◌, [], length, codes, false, flat_map, IfOk, OnOk};
+ghost use Rattle.std.specs.List.{items_where_true};
+ghost use Rattle.autocoder_layout.specs.Source.{lines_of};
+ghost use Rattle.cards.specs.Decks.{largest_deck};
+ghost use Rattle.autocoder_listings.specs.Rows.{row_at};
+ghost use Rattle.autocoder_listings.specs.Names.{is_name, has_name, uses, users, numbers_of, name_line, users_line, users_lines, lines_of_name, lines_of_defined, heading, table_of_names};
+
+use crate::cards_shown::is_told;
+use crate::lines::{push_fillers, push_glyphs, push_line, push_number};
+use crate::rows::{ROW_LENGTH, rows_for};
+use autocoder_layout::{Definition, Line, Slot, line_on};
+use autocoder_statements::{Base, Name, Operand, Statement};
+use cards::Card;
+use std::alloc::{AllocError, Global};
+
+/// How wide the part of a line before its cards is.
+const MARGIN: usize = 12;
+
+/// Whether an address begins with a name.
+fn is_name(wanted: &Name, base: Base) -> bool
+    ensures { result ≡ is_name wanted.now base }
+{
+    match base {
+        Base::Number(_) => false,
+        Base::Name(found) => found == *wanted,
+    }
+}
+
+/// Whether an operand is an address that begins with a name.
+fn has_name(wanted: &Name, operand: &Option<Operand>) -> bool
+    ensures { result ≡ has_name wanted.now operand.now }
+{
+    match operand {
+        Some(Operand::Address(address)) => is_name(wanted, address.expression.base),
+        _ => false,
+    }
+}
+
+/// Whether one of two addresses begins with a name.
+fn has_either(wanted: &Name, first: &Option<Operand>, second: &Option<Operand>) -> bool
+    ensures { result ≡ (has_name wanted.now first.now || has_name wanted.now second.now) }
+{
+    has_name(wanted, first) || has_name(wanted, second)
+}
+
+/// Whether a card uses a name.
+#[tactic(auto, unfolding(crate::specs::Names::uses))]
+fn uses(wanted: &Name, line: &Line) -> bool
+    ensures { result ≡ uses wanted.now line.now }
+{
+    match line {
+        Ok(Statement::Origin(expression)) => is_name(wanted, expression.base),
+        Ok(Statement::Equate { expression, .. }) => is_name(wanted, expression.base),
+        Ok(
+            Statement::End {
+                start: Some(expression),
+                ..
+            },
+        ) => is_name(wanted, expression.base),
+        Ok(Statement::Instruction { instruction, .. }) => {
+            has_either(wanted, &instruction.first, &instruction.second)
+        }
+        _ => false,
+    }
+}
+
+/// Adds the number of a card that uses a name.
+fn push_user(cards: &mut Vec<u64>, number: u64, is_user: bool) -> Result<(), AllocError>
+    ensures { OnOk result (cards.new.items ≡ cards.old.items ++ items_where_true (is_user ∷ []) (number ∷ [])) }
+{
+    if is_user {
+        cards.push(number)?;
+    }
+    Ok(())
+}
+
+/// The numbers of the cards that use a name.
+fn users(alloc: Global, wanted: &Name, source: &[Card]) -> Result<Vec<u64>, AllocError>
+    requires { length source.now ≤ largest_deck }
+    ensures { IfOk result (λ cards. cards.items ≡ users wanted.now (lines_of false source.now)) }
+{
+    let mut cards = Vec::new(alloc);
+    let mut told = false;
+    for i in 0..source.len() {
+        let card = &source[i];
+        push_user(&mut cards, i as u64 + 1, uses(wanted, &line_on(told, card)))?;
+        told = is_told(told, card);
+    }
+    Ok(cards)
+}
+
+/// The row of this number.
+fn row_at(cards: &[u64], number: usize) -> &[u64]
+    requires { 20 * number ≤ length cards.now }
+    ensures { result.now ≡ row_at cards.now number }
+{
+    let rest = &cards[ROW_LENGTH * number..];
+    &rest[..rest.len().min(ROW_LENGTH)]
+}
+
+/// Adds the numbers of a row.
+fn push_numbers(line: &mut Vec<u8>, row: &[u64]) -> Result<(), AllocError>
+    ensures { OnOk result (line.new.items ≡ line.old.items ++ numbers_of row.now) }
+{
+    for card in row {
+        push_number(line, b' ', 5, *card)?;
+    }
+    Ok(())
+}
+
+/// The line of a name, with the first row of the cards that use it.
+#[tactic(auto, unfolding(crate::specs::Names::name_line))]
+fn name_line(alloc: Global, definition: &Definition, cards: &[u64]) -> Result<Vec<u8>, AllocError>
+    ensures { IfOk result (λ line. line.items ≡ name_line definition.now cards.now) }
+{
+    let mut line = Vec::new(alloc);
+    push_glyphs(&mut line, &definition.name.characters)?;
+    line.push(b' ')?;
+    push_number(&mut line, b'0', 5, definition.address as u64)?;
+    push_numbers(&mut line, row_at(cards, 0))?;
+    Ok(line)
+}
+
+/// The line of a further row of cards.
+#[tactic(auto, unfolding(crate::specs::Names::users_line))]
+fn users_line(alloc: Global, cards: &[u64], number: usize) -> Result<Vec<u8>, AllocError>
+    requires { 20 * number ≤ length cards.now }
+    ensures { IfOk result (λ line. line.items ≡ users_line cards.now number) }
+{
+    let mut line = Vec::new(alloc);
+    push_fillers(&mut line, b' ', MARGIN)?;
+    push_numbers(&mut line, row_at(cards, number))?;
+    Ok(line)
+}
+
+/// Adds the lines of the rows of cards after the first.
+fn push_users_lines(alloc: Global, text: &mut Vec<u8>, cards: &[u64]) -> Result<(), AllocError>
+    ensures { OnOk result (text.new.items ≡ text.old.items ++ users_lines cards.now) }
+{
+    for number in 1..rows_for(cards.len()) {
+        let line = users_line(alloc, cards, number)?;
+        push_line(text, &line)?;
+    }
+    Ok(())
+}
+
+/// Adds the lines of a name.
+#[tactic(auto, unfolding(crate::specs::Names::lines_of_name))]
+fn push_name(
+    alloc: Global,
+    text: &mut Vec<u8>,
+    definition: &Definition,
+    cards: &[u64],
+) -> Result<(), AllocError>
+    ensures { OnOk result (text.new.items ≡ text.old.items ++ lines_of_name definition.now cards.now) }
+{
+    let line = name_line(alloc, definition, cards)?;
+    push_line(text, &line)?;
+    push_users_lines(alloc, text, cards)
+}
+
+/// Adds the lines of the name that a card defines, if it defines one.
+#[tactic(auto, unfolding(crate::specs::Names::lines_of_defined))]
+fn push_defined(
+    alloc: Global,
+    text: &mut Vec<u8>,
+    source: &[Card],
+    slot: &Slot,
+) -> Result<(), AllocError>
+    requires { length source.now ≤ largest_deck }
+    ensures { OnOk result (text.new.items ≡ text.old.items ++ lines_of_defined (lines_of false source.now) slot.now.defines) }
+{
+    let Some(definition) = slot.defines else {
+        return Ok(());
+    };
+    let cards = users(alloc, &definition.name, source)?;
+    push_name(alloc, text, &definition, &cards)
+}
+
+/// Adds the lines of the names that cards define.
+fn push_defined_names(
+    alloc: Global,
+    text: &mut Vec<u8>,
+    source: &[Card],
+    slots: &[Slot],
+) -> Result<(), AllocError>
+    requires { length source.now ≤ largest_deck }
+    ensures { OnOk result (text.new.items ≡ text.old.items ++ flat_map (λ slot. lines_of_defined (lines_of false source.now) slot.defines) slots.now) }
+{
+    for slot in slots {
+        push_defined(alloc, text, source, slot)?;
+    }
+    Ok(())
+}
+
+/// Adds the table of the names.
+#[tactic(auto, unfolding(crate::specs::Names::table_of_names))]
+pub(crate) fn push_names(
+    alloc: Global,
+    text: &mut Vec<u8>,
+    source: &[Card],
+    slots: &[Slot],
+) -> Result<(), AllocError>
+    requires { length source.now ≤ largest_deck }
+    ensures { OnOk result (text.new.items ≡ text.old.items ++ table_of_names (lines_of false source.now) slots.now) }
+{
+    push_line(text, b"NAME   PLACE CARDS")?;
+    push_defined_names(alloc, text, source, slots)?;
+    Ok(())
+}
