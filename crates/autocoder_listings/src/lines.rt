@@ -1,15 +1,14 @@
 //! The lines of a listing: their fields, and their ends.
 
 ghost use Rattle.std.specs.Prelude.{◌≡◌, ◌≤◌, ◌++◌, ◌∷◌, [], length, take, replicate, IfOk, OnOk};
-ghost use Rattle.autocoder.specs.Listing.{line_feed, right, fills, place_field, glyphs_of, card_line, listed};
+ghost use Rattle.autocoder.specs.Listing.{right, fills, place_field, glyphs_of, card_line, listed};
+ghost use Rattle.cards.specs.Files.{line_feed};
 
 use autocoder_layout::{Kind, Slot};
 use bcd::Code;
-use cards::Card;
+use cards::{Card, LINE_FEED};
 use itoa::Buffer;
 use std::alloc::{AllocError, Global};
-
-const LINE_FEED: u8 = 10;
 
 /// Adds so many fillers.
 pub(crate) fn push_fillers(line: &mut Vec<u8>, filler: u8, count: usize) -> Result<(), AllocError>

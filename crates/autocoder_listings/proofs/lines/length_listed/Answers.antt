@@ -1,5 +1,5 @@
 use Rattle.std.proofs.Common.{◌≡◌, ◌+◌, ◌-◌, ◌∙◌, ◌++◌, ◌∷◌, [], take, sym, ap, arith}
-use Rattle.autocoder.specs.Listing.{line_feed}
+use Rattle.cards.specs.Files.{line_feed}
 use Rattle.autocoder.proofs.Lines.{listed_is}
 use Rattle.autocoder_listings.proofs.lines.length_listed.Goals as goal
 
