@@ -20,7 +20,8 @@ impl<S: Alter> OpenTables<'_, '_, S> {
         ensures made { Makes S.Store self.old self.new result no_schema up_to_bureau }
     {
         self.run(
-            "CREATE TABLE bureau (id INTEGER NOT NULL PRIMARY KEY, version INTEGER NOT NULL) STRICT",
+            "CREATE TABLE bureau (id INTEGER NOT NULL PRIMARY KEY, \
+             version INTEGER NOT NULL) STRICT",
             &[],
         )
     }
@@ -30,7 +31,10 @@ impl<S: Alter> OpenTables<'_, '_, S> {
         ensures made { Makes S.Store self.old self.new result up_to_bureau up_to_jobs }
     {
         self.run(
-            "CREATE TABLE jobs (customer TEXT NOT NULL, number INTEGER NOT NULL, kind INTEGER NOT NULL, size INTEGER NOT NULL, deck BLOB NOT NULL, loaded BLOB NOT NULL, held INTEGER NOT NULL, collected INTEGER NOT NULL, PRIMARY KEY (customer, number)) STRICT",
+            "CREATE TABLE jobs (customer TEXT NOT NULL, number INTEGER NOT NULL, \
+             kind INTEGER NOT NULL, size INTEGER NOT NULL, deck BLOB NOT NULL, \
+             loaded BLOB NOT NULL, held INTEGER NOT NULL, collected INTEGER NOT NULL, \
+             PRIMARY KEY (customer, number)) STRICT",
             &[],
         )
     }
@@ -40,7 +44,10 @@ impl<S: Alter> OpenTables<'_, '_, S> {
         ensures made { Makes S.Store self.old self.new result up_to_jobs up_to_stretches }
     {
         self.run(
-            "CREATE TABLE stretches (customer TEXT NOT NULL, number INTEGER NOT NULL, place INTEGER NOT NULL, switches INTEGER NOT NULL, granted INTEGER NOT NULL, PRIMARY KEY (customer, number, place), FOREIGN KEY (customer, number) REFERENCES jobs (customer, number)) STRICT",
+            "CREATE TABLE stretches (customer TEXT NOT NULL, number INTEGER NOT NULL, \
+             place INTEGER NOT NULL, switches INTEGER NOT NULL, granted INTEGER NOT NULL, \
+             PRIMARY KEY (customer, number, place), \
+             FOREIGN KEY (customer, number) REFERENCES jobs (customer, number)) STRICT",
             &[],
         )
     }
@@ -50,7 +57,13 @@ impl<S: Alter> OpenTables<'_, '_, S> {
         ensures made { Makes S.Store self.old self.new result up_to_stretches up_to_pictures }
     {
         self.run(
-            "CREATE TABLE pictures (customer TEXT NOT NULL, number INTEGER NOT NULL, storage BLOB NOT NULL, i INTEGER NOT NULL, a INTEGER NOT NULL, b INTEGER NOT NULL, compare INTEGER NOT NULL, overflow INTEGER NOT NULL, channel INTEGER NOT NULL, waiting INTEGER NOT NULL, form INTEGER NOT NULL, line INTEGER NOT NULL, taken INTEGER NOT NULL, cards INTEGER NOT NULL, lines INTEGER NOT NULL, standing INTEGER NOT NULL, PRIMARY KEY (customer, number), FOREIGN KEY (customer, number) REFERENCES jobs (customer, number)) STRICT",
+            "CREATE TABLE pictures (customer TEXT NOT NULL, number INTEGER NOT NULL, \
+             storage BLOB NOT NULL, i INTEGER NOT NULL, a INTEGER NOT NULL, b INTEGER NOT NULL, \
+             compare INTEGER NOT NULL, overflow INTEGER NOT NULL, channel INTEGER NOT NULL, \
+             waiting INTEGER NOT NULL, form INTEGER NOT NULL, line INTEGER NOT NULL, \
+             taken INTEGER NOT NULL, cards INTEGER NOT NULL, lines INTEGER NOT NULL, \
+             standing INTEGER NOT NULL, PRIMARY KEY (customer, number), \
+             FOREIGN KEY (customer, number) REFERENCES jobs (customer, number)) STRICT",
             &[],
         )
     }
@@ -60,7 +73,9 @@ impl<S: Alter> OpenTables<'_, '_, S> {
         ensures made { Makes S.Store self.old self.new result up_to_pictures up_to_cards }
     {
         self.run(
-            "CREATE TABLE cards (customer TEXT NOT NULL, number INTEGER NOT NULL, place INTEGER NOT NULL, card BLOB NOT NULL, PRIMARY KEY (customer, number, place), FOREIGN KEY (customer, number) REFERENCES jobs (customer, number)) STRICT",
+            "CREATE TABLE cards (customer TEXT NOT NULL, number INTEGER NOT NULL, \
+             place INTEGER NOT NULL, card BLOB NOT NULL, PRIMARY KEY (customer, number, place), \
+             FOREIGN KEY (customer, number) REFERENCES jobs (customer, number)) STRICT",
             &[],
         )
     }
@@ -70,7 +85,10 @@ impl<S: Alter> OpenTables<'_, '_, S> {
         ensures made { Makes S.Store self.old self.new result up_to_cards bureau_schema }
     {
         self.run(
-            "CREATE TABLE lines (customer TEXT NOT NULL, number INTEGER NOT NULL, place INTEGER NOT NULL, form INTEGER NOT NULL, line INTEGER NOT NULL, image BLOB NOT NULL, PRIMARY KEY (customer, number, place), FOREIGN KEY (customer, number) REFERENCES jobs (customer, number)) STRICT",
+            "CREATE TABLE lines (customer TEXT NOT NULL, number INTEGER NOT NULL, \
+             place INTEGER NOT NULL, form INTEGER NOT NULL, line INTEGER NOT NULL, \
+             image BLOB NOT NULL, PRIMARY KEY (customer, number, place), \
+             FOREIGN KEY (customer, number) REFERENCES jobs (customer, number)) STRICT",
             &[],
         )
     }

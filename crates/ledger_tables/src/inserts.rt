@@ -17,7 +17,8 @@ impl<S: Alter> OpenTables<'_, '_, S> {
             (HasNoJob name.entry) (with_new_job name.entry job.now) }
     {
         self.run(
-            "INSERT INTO jobs (customer, number, kind, size, deck, loaded, held, collected) VALUES (?1, ?2, ?3, ?4, ?5, ?6, ?7, ?8)",
+            "INSERT INTO jobs (customer, number, kind, size, deck, loaded, held, collected) \
+             VALUES (?1, ?2, ?3, ?4, ?5, ?6, ?7, ?8)",
             params![
                 name.customer,
                 name.number,
@@ -43,7 +44,8 @@ impl<S: Alter> OpenTables<'_, '_, S> {
             (IsNextStretch name.entry place) (with_next_stretch name.entry stretch) }
     {
         self.run(
-            "INSERT INTO stretches (customer, number, place, switches, granted) VALUES (?1, ?2, ?3, ?4, ?5)",
+            "INSERT INTO stretches (customer, number, place, switches, granted) \
+             VALUES (?1, ?2, ?3, ?4, ?5)",
             params![
                 name.customer,
                 name.number,
@@ -61,7 +63,9 @@ impl<S: Alter> OpenTables<'_, '_, S> {
             (HasNoPicture name.entry) (with_picture_of name.entry picture.now) }
     {
         self.run(
-            "INSERT INTO pictures (customer, number, storage, i, a, b, compare, overflow, channel, waiting, form, line, taken, cards, lines, standing) VALUES (?1, ?2, ?3, ?4, ?5, ?6, ?7, ?8, ?9, ?10, ?11, ?12, ?13, ?14, ?15, ?16)",
+            "INSERT INTO pictures (customer, number, storage, i, a, b, compare, overflow, channel, \
+             waiting, form, line, taken, cards, lines, standing) \
+             VALUES (?1, ?2, ?3, ?4, ?5, ?6, ?7, ?8, ?9, ?10, ?11, ?12, ?13, ?14, ?15, ?16)",
             params![
                 name.customer,
                 name.number,
@@ -107,7 +111,8 @@ impl<S: Alter> OpenTables<'_, '_, S> {
             (IsNextLine name.entry place) (with_next_line name.entry line.now) }
     {
         self.run(
-            "INSERT INTO lines (customer, number, place, form, line, image) VALUES (?1, ?2, ?3, ?4, ?5, ?6)",
+            "INSERT INTO lines (customer, number, place, form, line, image) \
+             VALUES (?1, ?2, ?3, ?4, ?5, ?6)",
             params![
                 name.customer,
                 name.number,

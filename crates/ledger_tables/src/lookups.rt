@@ -27,7 +27,8 @@ impl<S: Alter> OpenTables<'_, '_, S> {
             (λ t. CanRead shown_job (option_to_list (cells_of name.entry t))) }
     {
         self.one(
-            "SELECT kind, size, deck, loaded, held, collected FROM jobs WHERE customer = ?1 AND number = ?2",
+            "SELECT kind, size, deck, loaded, held, collected \
+             FROM jobs WHERE customer = ?1 AND number = ?2",
             params![name.customer, name.number],
         )
     }
@@ -85,7 +86,8 @@ impl<S: Alter> OpenTables<'_, '_, S> {
             (λ t. CanRead shown_stretch (of_job name.entry t.stretches)) }
     {
         self.all(
-            "SELECT switches, granted FROM stretches WHERE customer = ?1 AND number = ?2 ORDER BY place",
+            "SELECT switches, granted FROM stretches WHERE customer = ?1 AND number = ?2 \
+             ORDER BY place",
             params![name.customer, name.number],
         )
     }
@@ -112,7 +114,8 @@ impl<S: Alter> OpenTables<'_, '_, S> {
             (λ t. CanRead shown_line (of_job name.entry t.lines)) }
     {
         self.all(
-            "SELECT form, line, image FROM lines WHERE customer = ?1 AND number = ?2 ORDER BY place",
+            "SELECT form, line, image FROM lines WHERE customer = ?1 AND number = ?2 \
+             ORDER BY place",
             params![name.customer, name.number],
         )
     }
@@ -126,7 +129,8 @@ impl<S: Alter> OpenTables<'_, '_, S> {
             (λ t. CanRead shown_picture (option_to_list (of_job name.entry t.pictures))) }
     {
         self.one(
-            "SELECT storage, i, a, b, compare, overflow, channel, waiting, form, line, taken, cards, lines, standing FROM pictures WHERE customer = ?1 AND number = ?2",
+            "SELECT storage, i, a, b, compare, overflow, channel, waiting, form, line, taken, \
+             cards, lines, standing FROM pictures WHERE customer = ?1 AND number = ?2",
             params![name.customer, name.number],
         )
     }

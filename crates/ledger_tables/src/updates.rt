@@ -43,7 +43,9 @@ impl<S: Alter> OpenTables<'_, '_, S> {
             (HasPicture name.entry) (with_picture_of name.entry picture.now) }
     {
         self.run(
-            "UPDATE pictures SET storage = ?3, i = ?4, a = ?5, b = ?6, compare = ?7, overflow = ?8, channel = ?9, waiting = ?10, form = ?11, line = ?12, taken = ?13, cards = ?14, lines = ?15, standing = ?16 WHERE customer = ?1 AND number = ?2",
+            "UPDATE pictures SET storage = ?3, i = ?4, a = ?5, b = ?6, compare = ?7, \
+             overflow = ?8, channel = ?9, waiting = ?10, form = ?11, line = ?12, taken = ?13, \
+             cards = ?14, lines = ?15, standing = ?16 WHERE customer = ?1 AND number = ?2",
             params![
                 name.customer,
                 name.number,

@@ -172,19 +172,28 @@ impl Case for Runs {
 /// carriage; cards that are punched; and a machine that goes on from its picture.
 const RUNS: &str = "\
 4000|A|list;HELLO;WORLD|34 -> 34 Running ticks 34 next 360 line 3 punched | printed |HELLO|WORLD|
-4000|A|list;HELLO;WORLD|34 2000 -> 34 Running 1 Halted ticks 35 next 361 line 3 punched | printed |HELLO|WORLD|
+4000|A|list;HELLO;WORLD|34 2000 \
+    -> 34 Running 1 Halted ticks 35 next 361 line 3 punched | printed |HELLO|WORLD|
 1400|A|list;HELLO|2000 -> 30 Halted ticks 30 next 361 line 2 punched | printed |HELLO|
-1400|A|list;HELLO|2000 start 10 -> 30 Halted 0 Checked(Instruction) ticks 31 next 361 line 2 punched | printed |HELLO|
+1400|A|list;HELLO|2000 start 10 \
+    -> 30 Halted 0 Checked(Instruction) ticks 31 next 361 line 2 punched | printed |HELLO|
 4000|A|list|2000 -> 25 Checked(ReaderEmpty) ticks 26 next 342 line 1 punched | printed |
 4000|A|,008012B008|2000 -> 2000 Running ticks 2000 next 8 line 1 punched | printed |
 4000|A|,008015L000200|2000 -> 1 Checked(Address) ticks 2 next 8 line 1 punched | printed |
-1400||,008015,022029,030032,0330342FK2.|2000 -> 8 Halted ticks 8 next 34 line 5 punched | printed |||
-1400||,008015,022029,030032,0330342F12.|2000 -> 8 Halted ticks 8 next 34 line 2 punched | printed |||
-1400||,008015,022029,030032,0330342FS2.|2000 -> 8 Halted ticks 8 next 34 line 4 punched | printed |||
-1400||,008015,022029,030031,032033444.|2000 -> 8 Halted ticks 8 next 33 line 1 punched |||| printed |
-1400|A|list;HELLO;WORLD|30 copy 2000 -> 30 Running 5 Halted ticks 35 next 361 line 3 punched | printed |HELLO|WORLD|
-1400|A|,008015,022029,030031M0361057.-PUNCH;NEXT                         .|2000 -> 6 Halted ticks 6 next 31 line 2 punched |PUNCH| printed ||
-1400||,008015,022029,030031M0361054.-PUNCH|2000 -> 6 Halted ticks 6 next 31 line 1 punched |PUNCH| printed |
+1400||,008015,022029,030032,0330342FK2.|2000 \
+    -> 8 Halted ticks 8 next 34 line 5 punched | printed |||
+1400||,008015,022029,030032,0330342F12.|2000 \
+    -> 8 Halted ticks 8 next 34 line 2 punched | printed |||
+1400||,008015,022029,030032,0330342FS2.|2000 \
+    -> 8 Halted ticks 8 next 34 line 4 punched | printed |||
+1400||,008015,022029,030031,032033444.|2000 \
+    -> 8 Halted ticks 8 next 33 line 1 punched |||| printed |
+1400|A|list;HELLO;WORLD|30 copy 2000 \
+    -> 30 Running 5 Halted ticks 35 next 361 line 3 punched | printed |HELLO|WORLD|
+1400|A|,008015,022029,030031M0361057.-PUNCH;NEXT                         .|2000 \
+    -> 6 Halted ticks 6 next 31 line 2 punched |PUNCH| printed ||
+1400||,008015,022029,030031M0361054.-PUNCH|2000 \
+    -> 6 Halted ticks 6 next 31 line 1 punched |PUNCH| printed |
 ";
 
 #[test]

@@ -108,8 +108,10 @@ const OPERATIONS: &str = "\
 3 10 20|~A010020~B407Z~|8 ~001|18 ~999| -> Next 412 407 412 Low false |~001|~000|
 2 10 20|~M010020~H500~|8 ~ABC|18 ~XYZ|498    | -> Next 411 497 17 Low false |~ABC|~ABC|017|
 2 10 20|~M010020~Q500~|8 ~ABC|18 ~XYZ|498    | -> Next 411 7 497 Low false |~ABC|~ABC|007|
-2 10 20|~M080280~H500~|1 ~HELLO|78 END|201      |278    |498    | -> Next 411 497 200 Low false |~HELLO|END|HELLO|END|200|
-2 10 20|~M080280~Q500~|1 ~HELLO|78 END|201      |278    |498    | -> Next 411 0 497 Low false |~HELLO|END|HELLO|END|000|
+2 10 20|~M080280~H500~|1 ~HELLO|78 END|201      |278    |498    | \
+    -> Next 411 497 200 Low false |~HELLO|END|HELLO|END|200|
+2 10 20|~M080280~Q500~|1 ~HELLO|78 END|201      |278    |498    | \
+    -> Next 411 0 497 Low false |~HELLO|END|HELLO|END|000|
 1 10 20|~/360099~|8 ~ABC|18 ~XYZ|400 ~/360099| -> Next 360 360 407 Low false |   |   |~/360099|
 1 10 20|~/360299~|199 ~A~B~C|298 ~X~Y~Z| -> Next 360 360 407 Low false |~A  |  ~Z|
 1 10 20|~C010020~#010020~|8 ~005|18 ~3J5| -> Next 407 7 17 High false |~005|~3J5|
