@@ -70,31 +70,41 @@ Holds s cells = All (λ c. cell_at s c.position ≡ (c.code, c.marked)) cells
 -- an instruction with this meaning and so many characters, that works at these two positions
 abbrev pub decoded_as : Meaning → modifier.Modifier → ℕ → ℕ × ℕ → Decoded
 decoded_as meaning modifier count at =
-    record { operation = meaning.operation; length = count; a = at.0; b = at.1; modifier = modifier }
+    record {
+      operation = meaning.operation;
+      length = count;
+      a = at.0;
+      b = at.1;
+      modifier = modifier;
+    }
 
--- the machine reads these characters at a position, and decodes them by their meaning: no check of operation, form or
--- last character refuses them, and what is left is where their addresses lie
+-- the machine reads these characters at a position, and decodes them by their meaning: no check of
+-- operation, form or last character refuses them, and only an address can still be at fault
 pub record IsReadAs (meaning : Meaning) (codes : List ℕ) (s : Storage) (i : ℕ) : Type 0 where
   pub modifier : modifier.Modifier
   pub says : meaning.says (slice_index codes (length codes - 1)) ≡ Some modifier
   pub word : machine.word s i ≡ Some codes
   pub decoded : (r : Registers) → machine.decoded s r codes
-      ≡ and_then (machine.operands_of s (machine.addresses_in meaning.operation (length codes)) r codes)
+      ≡ and_then
+      (machine.operands_of s (machine.addresses_in meaning.operation (length codes)) r codes)
       (λ at. Ok (decoded_as meaning modifier (length codes) at))
 
--- characters are an instruction of a mnemonic, which has so many: wherever they stand under a mark with a mark after
--- them, the machine reads them as what the mnemonic means
+-- characters are an instruction of a mnemonic, of this length: wherever they are in storage with a
+-- word mark on the first and one after the last, the machine reads them as what the mnemonic means
 pub record IsInstructionOf (mnemonic : List ℕ) (count : ℕ) (codes : List ℕ) : Type 0 where
   pub meaning : Meaning
   pub named : entry meanings mnemonic ≡ Some meaning
   pub long : length codes ≡ count
-  pub read : (s : Storage) (i : ℕ) → Holds s (field true i codes) → is_marked s (i + length codes) ≡ true → IsReadAs meaning codes s i
+  pub read : (s : Storage) (i : ℕ) → Holds s (field true i codes) →
+      is_marked s (i + length codes) ≡ true → IsReadAs meaning codes s i
 
--- whatever the layout of its source, an instruction has the characters of one of the mnemonic, as many as the layout counts
+-- whatever the layout of its source, an instruction has the characters of one of the mnemonic, as
+-- many as the layout counts
 abbrev pub IsAssembledAs : List ℕ → Instruction → Type 0
 IsAssembledAs mnemonic spelled =
     (size : ℕ) (slots : List Slot) (literals : List Characters) →
-    IsInstructionOf mnemonic (instruction_length spelled) (instruction_codes size slots literals spelled)
+    IsInstructionOf mnemonic (instruction_length spelled)
+    (instruction_codes size slots literals spelled)
 
 -- the word in a card's operation field, filled up with blanks
 abbrev pub mnemonic_on : Card → List ℕ

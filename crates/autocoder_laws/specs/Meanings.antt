@@ -55,7 +55,9 @@ punch = 4
 
 -- the sense switch that a letter names, A being the lowest
 abbrev pub switch_named : ℕ → Option Switches
-switch_named code = option_map (λ place. switch (2 ^ place)) (position (λ glyph. glyph == glyph_of code) (codes "ABCDEFG"))
+switch_named code =
+    option_map (λ place. switch (2 ^ place))
+    (position (λ glyph. glyph == glyph_of code) (codes "ABCDEFG"))
 
 -- what the letter of a sense switch asks
 abbrev pub switch_asked : ℕ → Option Modifier
@@ -69,7 +71,7 @@ test_asked last = option_map (λ test. OnTest test) (test_of last)
 abbrev pub order_asked : ℕ → Option Modifier
 order_asked last = option_map (λ order. ByOrder order) (order_of last)
 
--- the mnemonics in the order of the table that they are read from, each with what it means to the machine
+-- the mnemonics in the order of the assembler's table, each with what it means to the machine
 unfoldable pub meanings : List (List ℕ × Meaning)
 meanings =
     works (codes "A") Add

@@ -14,11 +14,20 @@ use Rattle.autocoder_layout.specs.Names.{value_in}
 use Rattle.autocoder_layout.specs.Slots.{place_after}
 use Rattle.autocoder_layout.specs.declared.slots.Slot.{Slot}
 
--- what an operand means: the position and the index location that it names, or the last position of its literal
+-- what an operand means: the position and the index location that it names, or the last position of
+-- its literal
 abbrev pub meant_by : ℕ → List Slot → List Characters → Operand → Tagged
-meant_by size slots literals (Address address) = record { base = position_in (value_in size slots address.expression); index = address.index }
-meant_by size slots literals (Literal wanted) = record { base = literal_end (place_after slots) literals wanted % largest_size; index = None }
+meant_by size slots literals (Address address) =
+    record { base = position_in (value_in size slots address.expression); index = address.index }
+meant_by size slots literals (Literal wanted) =
+    record {
+      base = literal_end (place_after slots) literals wanted % largest_size;
+      index = None;
+    }
 
--- the position of a storage that an address represents, with what its index location holds; it must lie in the storage
+-- the position that an address represents, with what its index location holds, if it is in storage;
+-- else check ADDRESS
 abbrev pub position_of : Storage → Tagged → Result ℕ Check
-position_of s address = and_then (effective s address) (λ position. require (nat_lt position (length s)) check.Address (Ok position))
+position_of s address =
+    and_then (effective s address)
+    (λ position. require (nat_lt position (length s)) check.Address (Ok position))

@@ -10,12 +10,15 @@ use Rattle.autocoder_listings.specs.Rows.{rows_for, row_at, with_row}
 
 -- a card with how many characters it places
 unfoldable pub counted_line : ℕ → Slot → Card → ℕ → List ℕ
-counted_line number slot card count = ((card_line number slot card ++ blank ∷ []) ++ right blank 5 count) ++ blank ∷ []
+counted_line number slot card count =
+    ((card_line number slot card ++ blank ∷ []) ++ right blank 5 count) ++ blank ∷ []
 
--- the line of a card: as it is listed without code, and where it places characters their count and the first row of them
+-- the line of a card: as it is listed without code, and if it places characters, their number and
+-- the first row of them
 unfoldable pub first_line : ℕ → Slot → Card → List Cell → List ℕ
 first_line number slot card [] = card_line number slot card
-first_line number slot card (c ∷ cells) = with_row (counted_line number slot card (length (c ∷ cells))) (row_at (c ∷ cells) 0)
+first_line number slot card (c ∷ cells) =
+    with_row (counted_line number slot card (length (c ∷ cells))) (row_at (c ∷ cells) 0)
 
 -- the line of a further row, below the first one
 unfoldable pub further_line : List Cell → ℕ → List ℕ
@@ -23,13 +26,17 @@ further_line cells number = with_row (replicate 98 blank) (row_at cells number)
 
 -- the lines of the further rows
 unfoldable pub further_lines : List Cell → List ℕ
-further_lines cells = flat_map (λ number. listed (further_line cells number)) (range_with_len 1 (rows_for (length cells) - 1))
+further_lines cells =
+    flat_map (λ number. listed (further_line cells number))
+    (range_with_len 1 (rows_for (length cells) - 1))
 
 -- the lines of a card with this number, where it places these characters
 unfoldable pub lines_with_code : ℕ → Slot → Card → List Cell → List ℕ
-lines_with_code number slot card cells = listed (first_line number slot card cells) ++ further_lines cells
+lines_with_code number slot card cells =
+    listed (first_line number slot card cells) ++ further_lines cells
 
--- the lines of cards, each with its number, from the first number on, and with what the layout gives it
+-- the lines of cards, each with its number, from the first number on, and its part of the layout
 unfoldable pub cards_with_code : ℕ → List Card → List Laid → List ℕ
 cards_with_code first cards layout =
-    flat_map (λ entry. lines_with_code entry.0 entry.1.1.slot entry.1.0 entry.1.1.fills) (zip (range_with_len first (length cards)) (zip cards layout))
+    flat_map (λ entry. lines_with_code entry.0 entry.1.1.slot entry.1.0 entry.1.1.fills)
+    (zip (range_with_len first (length cards)) (zip cards layout))

@@ -31,7 +31,8 @@ unfoldable pub uses : name.Name → Line → Bool
 uses wanted (Ok (statement.Origin expression)) = is_name wanted expression.base
 uses wanted (Ok (statement.Equate label expression)) = is_name wanted expression.base
 uses wanted (Ok (statement.End (Some expression) labelled)) = is_name wanted expression.base
-uses wanted (Ok (statement.Instruction label spelled)) = has_name wanted spelled.first || has_name wanted spelled.second
+uses wanted (Ok (statement.Instruction label spelled)) =
+    has_name wanted spelled.first || has_name wanted spelled.second
 uses wanted line = false
 
 -- the numbers of the cards that use the name
@@ -46,7 +47,9 @@ numbers_of row = flat_map (right blank 5) row
 
 -- the line of a name: its six characters, its address, and the first row of the cards that use it
 unfoldable pub name_line : Definition → List ℕ → List ℕ
-name_line definition cards = ((glyphs_of definition.name.characters ++ blank ∷ []) ++ position_field definition.address) ++ numbers_of (row_at cards 0)
+name_line definition cards =
+    ((glyphs_of definition.name.characters ++ blank ∷ []) ++ position_field definition.address)
+    ++ numbers_of (row_at cards 0)
 
 -- the line of a further row of cards, below the first one
 unfoldable pub users_line : List ℕ → ℕ → List ℕ
@@ -54,7 +57,9 @@ users_line cards number = replicate 12 blank ++ numbers_of (row_at cards number)
 
 -- the lines of the further rows
 unfoldable pub users_lines : List ℕ → List ℕ
-users_lines cards = flat_map (λ number. listed (users_line cards number)) (range_with_len 1 (rows_for (length cards) - 1))
+users_lines cards =
+    flat_map (λ number. listed (users_line cards number))
+    (range_with_len 1 (rows_for (length cards) - 1))
 
 -- the lines of a name with the cards that use it
 unfoldable pub lines_of_name : Definition → List ℕ → List ℕ
@@ -71,4 +76,5 @@ heading = codes "NAME   PLACE CARDS"
 
 -- the table of the names of a source, in the order of the cards that define them
 unfoldable pub table_of_names : List Line → List Slot → List ℕ
-table_of_names lines slots = listed heading ++ flat_map (λ slot. lines_of_defined lines slot.defines) slots
+table_of_names lines slots =
+    listed heading ++ flat_map (λ slot. lines_of_defined lines slot.defines) slots

@@ -18,7 +18,8 @@ row_read row = read_from (address_of row) row
 
 -- the rows of a card
 unfoldable pub rows_read : List Cell → List Cell
-rows_read cells = flat_map (λ number. row_read (row_at cells number)) (range_with_len 0 (rows_for (length cells)))
+rows_read cells =
+    flat_map (λ number. row_read (row_at cells number)) (range_with_len 0 (rows_for (length cells)))
 
 -- all that is shown of the code of a source, card by card
 unfoldable pub code_shown : List Card → List Cell

@@ -65,7 +65,8 @@ fn push_card(
     card: &Card,
     cells: &[Cell],
 ) -> Result<(), AllocError>
-    ensures { OnOk result (text.new.items ≡ text.old.items ++ lines_with_code number slot.now card.now cells.now) }
+    ensures { OnOk result (text.new.items
+        ≡ text.old.items ++ lines_with_code number slot.now card.now cells.now) }
 {
     let line = first_line(alloc, number, slot, card, cells)?;
     push_line(text, &line)?;
@@ -97,7 +98,8 @@ pub(crate) fn push_cards(
     requires literals { texts literals.now ≡ literals_of (lines_of false source.now) slots.now }
     requires count { length literals.now ≤ MOST_LITERALS }
     requires faultless { All (λ laid. laid.fault ≡ None) (layout_of size (lines_of false source.now)) }
-    ensures { OnOk result (text.new.items ≡ text.old.items ++ cards_with_code 1 source.now (layout_of size (lines_of false source.now))) }
+    ensures { OnOk result (text.new.items ≡ text.old.items
+        ++ cards_with_code 1 source.now (layout_of size (lines_of false source.now))) }
 {
     let mut told = false;
     for i in 0..source.len() {

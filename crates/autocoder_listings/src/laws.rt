@@ -11,7 +11,10 @@ ghost use Rattle.autocoder_listings.specs.Reading.{code_shown};
 /// and no others, and no position is shown twice.
 #[tactic(auto, using(crate::proofs::Exact::image_shown, crate::proofs::Exact::shown_in_image, crate::proofs::Exact::each_once))]
 pub fn code_shown_is_the_image()
-    ensures all { (source : List Card) → IsFaultless source → (c : Cell) → Contains (image_for source) c → Contains (code_shown source) c }
-    ensures no_other { (source : List Card) → IsFaultless source → (c : Cell) → Contains (code_shown source) c → Contains (image_for source) c }
-    ensures once { (source : List Card) → IsFaultless source → AllPairs (λ c d. c.position ≢ d.position) (code_shown source) }
+    ensures all { (source : List Card) → IsFaultless source → (c : Cell) →
+        Contains (image_for source) c → Contains (code_shown source) c }
+    ensures no_other { (source : List Card) → IsFaultless source → (c : Cell) →
+        Contains (code_shown source) c → Contains (image_for source) c }
+    ensures once { (source : List Card) → IsFaultless source →
+        AllPairs (λ c d. c.position ≢ d.position) (code_shown source) }
 {}

@@ -68,7 +68,8 @@ fn uses(wanted: &Name, line: &Line) -> bool
 
 /// Adds the number of a card that uses a name.
 fn push_user(cards: &mut Vec<u64>, number: u64, is_user: bool) -> Result<(), AllocError>
-    ensures { OnOk result (cards.new.items ≡ cards.old.items ++ items_where_true (is_user ∷ []) (number ∷ [])) }
+    ensures { OnOk result (cards.new.items
+        ≡ cards.old.items ++ items_where_true (is_user ∷ []) (number ∷ [])) }
 {
     if is_user {
         cards.push(number)?;
@@ -154,7 +155,8 @@ fn push_name(
     definition: &Definition,
     cards: &[u64],
 ) -> Result<(), AllocError>
-    ensures { OnOk result (text.new.items ≡ text.old.items ++ lines_of_name definition.now cards.now) }
+    ensures { OnOk result (text.new.items
+        ≡ text.old.items ++ lines_of_name definition.now cards.now) }
 {
     let line = name_line(alloc, definition, cards)?;
     push_line(text, &line)?;
@@ -170,7 +172,8 @@ fn push_defined(
     slot: &Slot,
 ) -> Result<(), AllocError>
     requires { length source.now ≤ largest_deck }
-    ensures { OnOk result (text.new.items ≡ text.old.items ++ lines_of_defined (lines_of false source.now) slot.now.defines) }
+    ensures { OnOk result (text.new.items
+        ≡ text.old.items ++ lines_of_defined (lines_of false source.now) slot.now.defines) }
 {
     let Some(definition) = slot.defines else {
         return Ok(());
@@ -187,7 +190,8 @@ fn push_defined_names(
     slots: &[Slot],
 ) -> Result<(), AllocError>
     requires { length source.now ≤ largest_deck }
-    ensures { OnOk result (text.new.items ≡ text.old.items ++ flat_map (λ slot. lines_of_defined (lines_of false source.now) slot.defines) slots.now) }
+    ensures { OnOk result (text.new.items ≡ text.old.items
+        ++ flat_map (λ slot. lines_of_defined (lines_of false source.now) slot.defines) slots.now) }
 {
     for slot in slots {
         push_defined(alloc, text, source, slot)?;
@@ -204,7 +208,8 @@ pub(crate) fn push_names(
     slots: &[Slot],
 ) -> Result<(), AllocError>
     requires { length source.now ≤ largest_deck }
-    ensures { OnOk result (text.new.items ≡ text.old.items ++ table_of_names (lines_of false source.now) slots.now) }
+    ensures { OnOk result (text.new.items
+        ≡ text.old.items ++ table_of_names (lines_of false source.now) slots.now) }
 {
     push_line(text, b"NAME   PLACE CARDS")?;
     push_defined_names(alloc, text, source, slots)?;
