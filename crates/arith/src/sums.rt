@@ -35,7 +35,7 @@ pub fn subtract<C: Core>(core: &mut C, registers: &mut Registers) -> Result<(), 
     combine(core, registers, true)
 }
 
-/// Adds the A digits to the B field, under the opposite sign for a subtraction.
+/// Adds the A digits to the B field. A subtraction reverses the sign of A.
 #[inline(always)]
 #[tactic(auto, unfolding(crate::specs::Sums::added))]
 fn combine<C: Core>(core: &mut C, registers: &mut Registers, reversed: bool) -> Result<(), Check>
@@ -64,7 +64,7 @@ fn combine<C: Core>(core: &mut C, registers: &mut Registers, reversed: bool) -> 
     Ok(())
 }
 
-/// Joins the digits by their signs, and says whether the sum overflows.
+/// Combines the digits by their signs. Returns whether the sum overflows.
 fn join_signed<C: Core>(core: &mut C, a: u16, b: u16, counts: Counts, minus_a: bool) -> bool
     requires counts { AreCounts (C.cells core.old) a b counts.a counts.b }
     requires apart { is_overlapping a b counts.a ≡ false }

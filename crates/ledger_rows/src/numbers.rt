@@ -37,14 +37,14 @@ pub fn read_switches(number: u32) -> Option<Switches>
     }
 }
 
-/// Whether something holds, as a number: 1 where it does, else 0.
+/// 1 for true, 0 for false.
 pub fn truth(value: bool) -> u32
     ensures { result ≡ truth value }
 {
     if value { 1 } else { 0 }
 }
 
-/// What `truth` told by a number.
+/// The value that `truth` writes as this number, if there is one.
 pub fn read_truth(number: u32) -> Option<bool>
     ensures all { (value : Bool) → number ≡ truth value → result ≡ Some value }
     ensures only { IfSome result (λ value. truth value ≡ number) }

@@ -12,7 +12,7 @@ use sqlite::types::ValueRef;
 use sqlite::{Alter, Row, Transaction};
 use std::alloc::Global;
 
-/// The tables of a bureau, open in a transaction. Each statement on them is a method.
+/// The tables of a bureau in an open transaction. Each statement on them is a method.
 #[derive(Drop)]
 pub struct OpenTables<'tx, 'conn, S: Alter> {
     pub tx: &'tx mut Transaction<'conn, S>,
@@ -20,7 +20,7 @@ pub struct OpenTables<'tx, 'conn, S: Alter> {
 }
 
 impl<S: Alter> OpenTables<'_, '_, S> {
-    /// Runs a statement that shows no rows.
+    /// Runs a statement that returns no rows.
     pub(crate) fn run(&mut self, sql: &str, params: &[ValueRef<'_>]) -> Result<(), Fault>
         ensures step { IsStep S.Store self.old self.new result }
         ensures ran { Inside S.Store self.old self.new
@@ -32,7 +32,7 @@ impl<S: Alter> OpenTables<'_, '_, S> {
         }
     }
 
-    /// The rows of a query.
+    /// Returns the rows of a query.
     pub(crate) fn rows(&mut self, sql: &str, params: &[ValueRef<'_>]) -> Result<Vec<Row>, Fault>
         ensures step { IsOpenStep S.Store self.old self.new result }
         ensures shown { Inside S.Store self.old self.new
@@ -46,7 +46,7 @@ impl<S: Alter> OpenTables<'_, '_, S> {
         }
     }
 
-    /// The values that the rows of a query show.
+    /// Returns the values of the rows of a query.
     pub(crate) fn all<T: FromRow>(
         &mut self,
         sql: &str,
@@ -63,7 +63,7 @@ impl<S: Alter> OpenTables<'_, '_, S> {
         read_all(self.alloc, rows.as_slice())
     }
 
-    /// The value that the row of a query shows, if there is one.
+    /// Returns the value of the first row of a query, if there is a row.
     pub(crate) fn one<T: FromRow>(
         &mut self,
         sql: &str,

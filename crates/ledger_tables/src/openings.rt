@@ -21,18 +21,18 @@ pub(crate) const VERSION: u32 = 1;
 /// Why a database was not opened as a bureau's.
 #[derive(Clone, Copy, Debug, PartialEq, Eq)]
 pub enum OpenFault {
-    /// Memory was wanted and not there.
+    /// There was no memory.
     NoMemory,
     /// The database failed.
     Store,
-    /// The database is no bureau's, or a later version's.
+    /// The database is not a bureau's, or is of a later version.
     NotABureau,
     /// The tables are of an earlier version.
     Old,
 }
 
 impl OpenFault {
-    /// The number that is told: 1, 2, 50 or 51.
+    /// The number that is printed for the fault: 1, 2, 50 or 51.
     pub fn number(self) -> u8
         ensures { result ≡ opening_number self }
     {
@@ -45,7 +45,7 @@ impl OpenFault {
     }
 }
 
-/// What a failed query of the version means.
+/// The fault of a failed query of the version.
 fn opening_fault(error: Error) -> OpenFault
     ensures { result ≡ opening_fault error }
 {
@@ -56,7 +56,7 @@ fn opening_fault(error: Error) -> OpenFault
     }
 }
 
-/// Whether a version is the bureau's own.
+/// Fails unless a version is this one.
 fn judge_number(version: i64) -> Result<(), OpenFault>
     ensures { IsVerdict (Int version ∷ []) result }
 {
@@ -69,7 +69,7 @@ fn judge_number(version: i64) -> Result<(), OpenFault>
     Err(OpenFault::NotABureau)
 }
 
-/// Whether a value is the bureau's own version.
+/// Fails unless a value is this version.
 fn judge_value(value: ValueRef<'_>) -> Result<(), OpenFault>
     ensures { IsVerdict (owned value.entry ∷ []) result }
 {
@@ -81,7 +81,7 @@ fn judge_value(value: ValueRef<'_>) -> Result<(), OpenFault>
     }
 }
 
-/// What the rows of the version's query mean.
+/// Fails unless the rows of the version's query hold this version.
 fn judge(rows: &[Row]) -> Result<(), OpenFault>
     ensures { IsVerdict (map (λ row. column row 0) rows.now) result }
 {
@@ -109,7 +109,7 @@ impl<S: Alter> OpenTables<'_, '_, S> {
         }
     }
 
-    /// Whether the tables are a bureau's, and of its own version.
+    /// Fails unless the tables are a bureau's, of this version.
     pub fn find_version(&mut self) -> Result<(), OpenFault>
         ensures step { IsStep S.Store self.old self.new result }
         ensures found { Inside S.Store self.old self.new
