@@ -55,7 +55,8 @@ fn comparison<C: Core>(core: &C, a: u16, b: u16, counts: Counts) -> Compared
     }
 }
 
-/// Compares the cut at A with the B field. Storage is unchanged.
+/// Compares the cut at A with the B field, and sets the indicator. Storage is unchanged. Fails with
+/// check ADDRESS as `counts_at` does.
 #[tactic(auto, unfolding(crate::specs::Order::compared))]
 pub fn compare<C: Core>(core: &mut C, registers: &mut Registers) -> Result<(), Check>
     ensures done { OnOk result (compared (C.cells core.old) registers.old

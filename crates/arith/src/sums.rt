@@ -11,7 +11,8 @@ use crate::joining::{Joined, join};
 use crate::operands::{Counts, counts_apart};
 use core_store::{Check, Core, Registers, is_minus};
 
-/// Adds the A digits to the B field.
+/// Adds the A digits to the B field. Fails as `counts_apart` does, and with check DATA if a
+/// character has no numeric value.
 pub fn add<C: Core>(core: &mut C, registers: &mut Registers) -> Result<(), Check>
     ensures done { OnOk result (added false (C.cells core.old) registers.old
         ≡ Ok (C.cells core.new, registers.new)) }
@@ -23,7 +24,7 @@ pub fn add<C: Core>(core: &mut C, registers: &mut Registers) -> Result<(), Check
     combine(core, registers, false)
 }
 
-/// Subtracts the A digits from the B field.
+/// Subtracts the A digits from the B field. Fails as `add` does.
 pub fn subtract<C: Core>(core: &mut C, registers: &mut Registers) -> Result<(), Check>
     ensures done { OnOk result (added true (C.cells core.old) registers.old
         ≡ Ok (C.cells core.new, registers.new)) }

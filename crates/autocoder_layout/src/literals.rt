@@ -109,7 +109,8 @@ fn is_used(uses: &[Literal], literal: &[Code]) -> bool
     uses.iter().any(|used| is_same(used, literal))
 }
 
-/// The literals of a source in the order of their first use.
+/// Returns the literals of a source in the order of their first use. Fails only if there is no
+/// memory.
 #[tactic(auto, unfolding(crate::specs::Literals::literals_of))]
 pub fn literals_of(
     alloc: Global,

@@ -43,7 +43,7 @@ pub enum Operation {
     Job,
     /// The size of storage.
     Control,
-    /// Where the next cards are placed.
+    /// The place of the next cards.
     Origin,
     /// A name for an address.
     Equate,

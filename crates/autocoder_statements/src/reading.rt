@@ -29,7 +29,7 @@ pub enum Statement {
     Job,
     /// The size of storage.
     Control(Size),
-    /// Where the next cards are placed.
+    /// The place of the next cards.
     Origin(Expression),
     /// A name for an address.
     Equate {

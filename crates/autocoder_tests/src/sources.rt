@@ -322,7 +322,7 @@ T|DS|2|
 = from 333 by 5: 333 '.'5'.'.' |
 ";
 
-/// Where a source starts.
+/// The starts of sources.
 const STARTS: &str = "\
 |ORG|3999|
 |B|1|

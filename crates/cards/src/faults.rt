@@ -81,9 +81,9 @@ impl CardError {
 pub struct CardFault {
     /// What is wrong.
     pub error: CardError,
-    /// The card, from 1; 0 for want of memory.
+    /// The card, from 1; 0 for `NoMemory`.
     pub card: u16,
-    /// The column, from 1; 81 is the line feed's; 0 for want of memory.
+    /// The column, from 1; 81 is the line feed's; 0 for `NoMemory`.
     pub column: u8,
 }
 

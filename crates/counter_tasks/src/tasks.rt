@@ -200,7 +200,7 @@ fn serve_task<'a>(file: &'a str, port: &str, count: &str) -> Result<Task<'a>, Mi
     Ok(Task::Serve { file, port, count })
 }
 
-/// The task that the words ask for.
+/// Returns the task that the words ask for, or else the misuse: what is wrong with them.
 #[tactic(auto, unfolding(counter_values::specs::Switches::letters_of))]
 pub fn task_of<'a>(alloc: Global, words: &'a [String]) -> Result<Task<'a>, Misuse<'a>>
     ensures ok { IfOk result (Wants (texts words.entry.now)) }

@@ -84,7 +84,7 @@ fn row_of<'a>(alloc: Global, words: &'a [String]) -> Result<Words<'a>, WordsFaul
     }
 }
 
-/// What the words ask for.
+/// Returns what the words ask for, or else the fault: what is wrong with them, or no memory.
 pub fn words<'a>(alloc: Global, words: &'a [String]) -> Result<Words<'a>, WordsFault<'a>>
     ensures ok { IfOk result (Asks (texts words.entry.now)) }
     ensures err { IfErr result (λ fault. (asked : Words) → Asks (texts words.entry.now) asked

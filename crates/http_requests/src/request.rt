@@ -34,8 +34,8 @@ fn refused(status: u16) -> Request
     }
 }
 
-/// The request that asks for this, with a body of `count` bytes, of which the beginning was read
-/// before and the others are read now.
+/// The request that asks for this, with a body of `count` bytes. `begun` is the bytes after the
+/// head that were already read; the others are read now.
 fn read_with_body<R: Read>(
     alloc: Global,
     reader: &mut R,

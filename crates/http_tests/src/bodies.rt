@@ -4,7 +4,7 @@ use http_heads::{Body, read_body};
 use std::alloc::Global;
 use std::test::Fail;
 
-/// The result of reading a body of `count` bytes, some of which were read with the head, and the
+/// The result of reading a body of `count` bytes, whose beginning was read with the head, and the
 /// number of bytes left in the reader.
 fn body_told(alloc: Global, begun: &str, rest: &str, count: u32) -> Result<String, Fail> {
     let mut reader = rest.as_bytes();

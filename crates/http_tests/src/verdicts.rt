@@ -6,13 +6,13 @@ use std::alloc::Global;
 use std::io::Read;
 use std::test::Fail;
 
-/// What is asked of a job, in words.
+/// The request on a job, in words.
 fn job_text(alloc: Global, word: &str, job: JobName<'_>) -> Result<String, Fail> {
     let (customer, number) = (job.customer, job.number);
     Ok(format!(in alloc; "{word} {customer} {number}")?)
 }
 
-/// What is asked for, in words.
+/// The request of a head, in words.
 fn asked_text(alloc: Global, asked: Asked<'_>) -> Result<String, Fail> {
     match asked {
         Asked::Submit {

@@ -129,7 +129,8 @@ fn submit_new<S: Alter>(
     }
 }
 
-/// Accepts a new job; a repeated submission gets the first reply again.
+/// Accepts a new job; a repeated submission gets the first reply again. Returns the reply, or fault
+/// 1 or 2.
 pub fn submit<S: Alter>(
     tables: &mut OpenTables<'_, '_, S>,
     name: JobName<'_>,

@@ -28,7 +28,7 @@ pub fn stop<D: Disk + Drop>(bureau: Bureau<FileStore<D>>) -> FileStore<D>
     bureau.into_connection().into_store()
 }
 
-/// Opens the file at a path, and stops.
+/// Opens the file at a path, and stops. Fails as `open_from` does.
 pub fn round<S: Start>(
     rt: &HostRuntime,
     path: &str,

@@ -34,7 +34,7 @@ pub fn hand_out<D: Disk + Drop>(bureau: Bureau<FileStore<D>>) -> FileStore<D>
     bureau.into_connection().into_store()
 }
 
-/// Opens the file at a path, works a shift, and stops.
+/// Opens the file at a path, works a shift, and stops. Fails as `open_from` does.
 pub fn working_round<S: Start>(
     rt: &HostRuntime,
     path: &str,

@@ -54,7 +54,7 @@ fn split_card(bytes: &[u8]) -> Option<(Card, &[u8])>
     }
 }
 
-/// The bytes of a deck, one card after the other.
+/// Returns the bytes of a deck, one card after the other. Fails only if there is no memory.
 pub fn deck_bytes(alloc: Global, deck: &Deck) -> Result<Vec<u8>, AllocError>
     ensures bytes { IfOk result (λ bytes. bytes.items ≡ deck_bytes deck.now) }
     ensures deck { IfOk result (λ bytes. IsDeck deck.now) }
@@ -66,7 +66,8 @@ pub fn deck_bytes(alloc: Global, deck: &Deck) -> Result<Vec<u8>, AllocError>
     Ok(bytes)
 }
 
-/// The deck of these bytes, if they are a deck's.
+/// Returns the deck of these bytes, or `None` if they are not a deck's. Fails only if there is no
+/// memory.
 pub fn read_deck(alloc: Global, bytes: &[u8]) -> Result<Option<Deck>, AllocError>
     ensures all { IfOk result (λ read. (deck : List Card) → IsDeck deck
         → bytes.now ≡ deck_bytes deck → read ≡ Some deck) }

@@ -18,7 +18,8 @@ pub trait FromCells<R>: Drop {
         ensures only { IfSome result (λ it. (cells it ≡ row.now) × IsHeld it) };
 }
 
-/// Returns the values of these rows, if each is the row of one.
+/// Returns the values of these rows, or `None` if a row is not the row of one. Fails only if there
+/// is no memory.
 pub fn read_rows<R, T: FromCells<R>>(
     alloc: Global,
     rows: &[R],

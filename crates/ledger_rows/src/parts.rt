@@ -142,8 +142,9 @@ fn read_units(row: &PictureRow, media: Media) -> Option<Units>
     })
 }
 
-/// Returns the picture of a row and of a machine's media, if they are valid. What `picture_row`
-/// wrote is read as the same picture. The result may be out of range.
+/// Returns the picture of a row and of a machine's media, or `None` if they are not valid. What
+/// `picture_row` wrote is read as the same picture. The result may be out of range. Fails only if
+/// there is no memory.
 pub fn read_picture<C: Core>(
     alloc: Global,
     row: &PictureRow,

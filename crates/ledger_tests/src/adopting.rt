@@ -8,7 +8,7 @@ use sqlite::{Alter, Connection, MemStore};
 use std::alloc::Global;
 use std::test::Fail;
 
-/// The number of the fault with which a connection is adopted, 0 for none, and the connection.
+/// Adopts a connection. Returns the number of the fault, 0 for none, and the connection.
 fn adoption<S: Alter + Drop>(alloc: Global, conn: Connection<S>) -> (u8, Connection<S>) {
     match Bureau::adopt(alloc, conn) {
         Ok(bureau) => (0, bureau.into_connection()),
@@ -16,7 +16,7 @@ fn adoption<S: Alter + Drop>(alloc: Global, conn: Connection<S>) -> (u8, Connect
     }
 }
 
-/// The numbers of the faults with which a connection is adopted after each of these statements.
+/// The numbers of the faults of adopting a connection after each of these statements.
 fn adoptions<S: Alter + Drop>(
     alloc: Global,
     conn: Connection<S>,

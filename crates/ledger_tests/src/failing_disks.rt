@@ -49,7 +49,7 @@ fn failure<S: Alter + Drop>(
     Ok(format!(in alloc; "{reply}, broken {broken}, {line}{} ticks", meter.ticks())?)
 }
 
-/// The same over empty disks, each of which fails after a number of calls.
+/// The same over empty disks, which fail after these numbers of calls.
 fn failure_on_disks(
     alloc: Global,
     log_calls: u64,

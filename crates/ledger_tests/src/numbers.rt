@@ -138,7 +138,7 @@ fn switches_and_truth(rt: HostRuntime) {
     );
 }
 
-/// A storage of 1400 positions with two characters, the second of which is marked.
+/// A storage of 1400 positions with two characters; the second is marked.
 fn marked_core(alloc: Global, glyph: u8) -> Result<FlagCore, Fail> {
     let code = Code::from_glyph(glyph).ok_or("a glyph")?;
     let mut core = FlagCore::blank(alloc, Size::Positions1400)?;

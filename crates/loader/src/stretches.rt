@@ -48,7 +48,7 @@ pub(crate) fn behind_first(cells: &[Cell]) -> &[Cell]
     }
 }
 
-/// How many positions are marked.
+/// The number of marked positions.
 fn count_marks(cells: &[Cell]) -> usize
     ensures { result ≡ count_by (λ c. c.marked) cells.now }
 {

@@ -46,7 +46,7 @@ impl Case for Reading {
     }
 }
 
-/// Bases and tags, and characters without a value, one of which is enough.
+/// Bases and tags, and characters without a value; one of these is enough.
 const READINGS: &str = "\
 I99 -> 3999 None I99
 |00 -> 1000 None |00

@@ -163,7 +163,7 @@ fn branches(rt: HostRuntime) -> Result<(), Fail> {
     check::<Steps>(rt.alloc(), BRANCHES)
 }
 
-/// Instructions to which a check applies, including several checks of which the first one counts.
+/// Instructions to which a check applies. If several apply, the first one counts.
 const CHECKS: &str = "\
 1 10 20|~B100H~|8 AB|18 ~123| -> Stop(Instruction) 400 10 20 Low false |AB|~123|
 1 10 20|~B#00H~|8 AB|18 ~123| -> Stop(Instruction) 400 10 20 Low false |AB|~123|

@@ -42,7 +42,8 @@ fn fill_blanked<C: Core>(core: &mut C, a: u16, a_count: u16, b: u16, b_count: u1
     blank_start(core, b + 1 - b_count, b_count, through, Stop::Digit);
 }
 
-/// Edits the data at A by the control field at B.
+/// Edits the data at A by the control field at B. Check ADDRESS if A or B is outside the storage or
+/// a field would pass position 000, check OVERLAP if data and control field share a position.
 #[tactic(auto, unfolding(crate::specs::Edited::field_edited))]
 pub fn edit<C: Core>(core: &mut C, registers: &mut Registers) -> Result<(), Check>
     ensures done { OnOk result (field_edited (C.cells core.old) registers.old

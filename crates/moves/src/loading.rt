@@ -7,7 +7,9 @@ ghost use Rattle.moves.specs.Loaded.{field_loaded, IsLoaded};
 
 use core_store::{Check, Core, Registers, are_inside, field_length, overlaps};
 
-/// Copies the field at A to B with its word mark, and clears the other marks there.
+/// Copies the field at A to B with its word mark, and clears the other marks there. Check ADDRESS
+/// if A or B is outside the storage, if the field would pass position 000 at A or at B, or if it
+/// would be overwritten before it is read.
 #[tactic(auto, unfolding(crate::specs::Loaded::field_loaded))]
 pub fn load_field<C: Core>(core: &mut C, registers: &mut Registers) -> Result<(), Check>
     ensures done { OnOk result (field_loaded (C.cells core.old) registers.old

@@ -99,7 +99,7 @@ fn copy_codes<C: Core>(core: &mut C, a: u16, b: u16, count: u16)
 }
 
 /// Moves characters from the field at A to the field at B, up to the first mark in either. Marks
-/// stay.
+/// stay. Check ADDRESS if A or B is outside the storage or a field would pass position 000.
 #[tactic(auto, unfolding(crate::specs::Moved::moved))]
 pub fn move_field<C: Core>(core: &mut C, registers: &mut Registers) -> Result<(), Check>
     ensures done { OnOk result (moved (C.cells core.old) registers.old

@@ -73,7 +73,9 @@ fn move_suppressed<C: Core>(core: &mut C, a: u16, b: u16, count: u16)
     blank_start(core, b + 1 - count, count, count, Stop::Other);
 }
 
-/// Moves the field at A to B without its leading zeros and without marks.
+/// Moves the field at A to B without its leading zeros and without marks. Check ADDRESS if A or B
+/// is outside the storage or the field would pass position 000, check OVERLAP if the field would be
+/// overwritten before it is read.
 #[tactic(auto, unfolding(crate::specs::Suppressed::zeros_suppressed))]
 pub fn suppress<C: Core>(core: &mut C, registers: &mut Registers) -> Result<(), Check>
     ensures done { OnOk result (zeros_suppressed (C.cells core.old) registers.old

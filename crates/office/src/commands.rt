@@ -40,7 +40,8 @@ pub enum JobCommand {
     Hold,
     /// Ends a hold.
     Release,
-    /// Marks the job as collected, and returns what it has made; after it only queries are allowed.
+    /// Marks the job as collected, and returns the numbers of its cards and lines. After it only
+    /// queries are allowed.
     Collect,
     /// The standing of the job.
     Standing,

@@ -28,8 +28,7 @@ const SOURCE_THAT_PRINTS: &str = "               CS   332
                END
 ";
 
-/// A source in which each card has a fault; the second is the first one with a fault of its
-/// operand.
+/// A source in which each card has a fault; that of the second is in its operand.
 const FAULTY_SOURCE: &str = "               XYZ
                B    LOST
      *

@@ -84,7 +84,7 @@ fn the_first_bad_line_is_named(rt: HostRuntime) -> Result<(), Fail> {
     Ok(())
 }
 
-/// A script with three submissions, one of which has an invalid number.
+/// A script with three submissions; one has an invalid number.
 const GOOD: &str = "\
 submit ABCDEFGHIJKL 7 object 4000 AB 1
 = 7>  -%FG  _  W     5 *  P   B }# ;   \"O&3NH_ A S 9K W D  ^6A  J     X=   6#P!+

@@ -55,9 +55,9 @@ pub(crate) fn outcome_of(alloc: Global, bytes: &[u8]) -> Result<String, Fail> {
     Ok(text)
 }
 
-/// The script of lines, each of which is before this character. A line that begins with `=` is a
-/// card: the text after it, padded with blanks to 80 columns. `^` after the last line means that
-/// its line feed is missing.
+/// The script of lines, each before this character. A line that begins with `=` is a card: the text
+/// after it, padded with blanks to 80 columns. `^` after the last line means that its line feed is
+/// missing.
 pub(crate) fn script_of(alloc: Global, lines: &str, end: char) -> Result<String, Fail> {
     let (lines, is_whole) = match lines.strip_suffix('^') {
         Some(lines) => (lines, false),

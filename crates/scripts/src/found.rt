@@ -1,4 +1,4 @@
-//! A command, where it was found.
+//! A command and the bytes after it.
 
 use office::Command;
 

@@ -86,7 +86,9 @@ fn command_in(alloc: Global, bytes: &[u8]) -> Result<Found<'_>, ScriptFault>
     }
 }
 
-/// Reads the commands of a script. All lines are read before it returns.
+/// Reads the commands of a script. All lines are read before it returns. Fails with `TooLong` over
+/// 4,000,000 bytes, with `BadLine` at the first line that is not part of a command, or if there is
+/// no memory.
 pub fn parse(alloc: Global, bytes: &[u8]) -> Result<Vec<Command>, ScriptFault>
     ensures script { IfOk result (λ commands. IsScriptOf bytes.now commands.items) }
     ensures long { IsErrOf result ScriptFault.TooLong ↔ (most_bytes < length bytes.now) }

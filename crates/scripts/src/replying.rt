@@ -158,7 +158,8 @@ pub fn write_refusal<W: Write>(
     }
 }
 
-/// Writes the line of a reply, and adds the number of bytes written to the count.
+/// Writes the line of a reply, and adds the number of bytes written to the count. Fails only if the
+/// writer does.
 pub fn write_reply<W: Write>(
     writer: &mut W,
     sent: &mut usize,
@@ -203,7 +204,7 @@ pub fn write_fault<W: Write>(
     put_all(writer, sent, "fault ", &[number, Piece::Text("\n")])
 }
 
-/// Writes the line for bytes that are not a script.
+/// Writes the line for bytes that are not a script. Fails only if the writer does.
 pub fn write_bad<W: Write>(
     writer: &mut W,
     sent: &mut usize,

@@ -9,7 +9,7 @@ use crate::areas::{READ_AREA, put_codes};
 use cards::{Card, Deck};
 use core_store::{Check, Core};
 
-/// The card reader: a deck, the first `taken` cards of which have been read.
+/// The card reader: a deck, and the number of its cards that have been read.
 #[derive(Drop)]
 pub struct Hopper {
     pub deck: Deck,
