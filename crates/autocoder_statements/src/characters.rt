@@ -11,7 +11,7 @@ use bcd::Code;
 pub enum Class {
     /// The digits 0 to 9.
     Digit,
-    /// The letters and digits, of which names are made.
+    /// The letters and digits: the characters of names.
     LetterOrDigit,
     /// Each character but the blank.
     Filled,

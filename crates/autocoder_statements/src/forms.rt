@@ -3,7 +3,7 @@
 /// What the address in an operand is for.
 #[derive(Clone, Copy, PartialEq, Eq)]
 pub enum Kind {
-    /// The position at which the machine goes on. It cannot be a literal.
+    /// The position of the next instruction after a branch. It cannot be a literal.
     Branch,
     /// The position of a field. It may be a literal.
     Field,

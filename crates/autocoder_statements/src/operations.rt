@@ -90,7 +90,7 @@ const FIELDS: Form = Form::Two(Kind::Field, Kind::Field);
 /// A field.
 const FIELD: Form = Form::One(Kind::Field);
 
-/// A position to go on at.
+/// A branch address.
 const PLACE: Form = Form::One(Kind::Branch);
 
 /// An empty field.
@@ -100,14 +100,14 @@ const NONE: Forms = Forms {
     third: None,
 };
 
-/// A position to go on at.
+/// A branch address.
 const BRANCH: Forms = Forms {
     form: PLACE,
     other: None,
     third: None,
 };
 
-/// An empty field, or a position to go on at.
+/// An empty field, or a branch address.
 const NONE_OR_BRANCH: Forms = Forms {
     form: Form::Empty,
     other: Some(PLACE),
@@ -149,35 +149,35 @@ const TWO: Forms = Forms {
     third: None,
 };
 
-/// An empty field, a field, or a position to go on at and a field.
+/// An empty field, a field, or a branch address and a field.
 const CLEAR: Forms = Forms {
     form: Form::Empty,
     other: Some(FIELD),
     third: Some(Form::Two(Kind::Branch, Kind::Field)),
 };
 
-/// A position to go on at and a sense switch.
+/// A branch address and a sense switch.
 const SWITCH: Forms = Forms {
     form: Form::OneAndModifier(Kind::Branch, Modifiers::Switches),
     other: None,
     third: None,
 };
 
-/// A position to go on at, a field and a character.
+/// A branch address, a field and a character.
 const CHARACTER: Forms = Forms {
     form: Form::TwoAndModifier(Kind::Branch, Kind::Field, Modifiers::Any),
     other: None,
     third: None,
 };
 
-/// A position to go on at, a field and a test of it.
+/// A branch address, a field and a test of it.
 const ZONE: Forms = Forms {
     form: Form::TwoAndModifier(Kind::Branch, Kind::Field, Modifiers::ZonesAndMarks),
     other: None,
     third: None,
 };
 
-/// A position to go on at and a field.
+/// A branch address and a field.
 const MARK: Forms = Forms {
     form: Form::Two(Kind::Branch, Kind::Field),
     other: None,

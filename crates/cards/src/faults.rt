@@ -55,7 +55,7 @@ pub enum CardError {
     /// A byte that is not an upper-case hexadecimal digit, or punches of no character.
     #[error("no punches")]
     Punches,
-    /// The file goes on after 2,000 cards.
+    /// There are more bytes after 2,000 cards.
     #[error("over 2,000 cards")]
     TooManyCards,
 }

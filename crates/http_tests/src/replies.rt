@@ -6,7 +6,7 @@ use http_replies::reply_to;
 use office::{JobStanding, Refusal, Reply, Summary};
 use std::test::Fail;
 
-/// A job that has printed two lines and goes on.
+/// A running job that has printed two lines.
 fn two_lines() -> Summary {
     Summary {
         standing: JobStanding::Running,

@@ -1,4 +1,4 @@
-//! A bureau one of whose disks fails from some call on, each call in turn, and its files opened
+//! A bureau with one disk that fails from some call on, each call in turn, and its files opened
 //! again.
 
 use crate::commands::command_of;

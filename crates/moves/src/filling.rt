@@ -54,7 +54,7 @@ fn is_zero(code: Code) -> bool
     code.glyph() == b'0'
 }
 
-/// The number of characters of a control field up to its rightmost zero.
+/// The number of characters of a control field up to its rightmost zero, or 0 without a zero.
 #[tactic(auto, using(crate::proofs::Edits::no_zero, crate::proofs::Edits::zero_here, crate::proofs::Edits::zero_nowhere))]
 pub fn through_zero<C: Core>(core: &C, b: u16, count: u16) -> u16
     requires within { b < length (C.cells core.now) }

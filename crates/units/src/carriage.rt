@@ -108,7 +108,7 @@ impl Carriage {
                 && self.line as u16 + count as u16 >= LINE_OF_CHANNEL_12 as u16
     }
 
-    /// The carriage `count` lines further down.
+    /// The carriage `count` lines further down, unless that is past the last form.
     fn spaced(self, count: u8) -> Option<Carriage>
         requires { count ≤ 3 }
         ensures { result ≡ spaced self count }
@@ -128,7 +128,7 @@ impl Carriage {
         }
     }
 
-    /// The carriage at line 1 of the next form.
+    /// The carriage at line 1 of the next form, if there is a next form.
     fn skipped(self) -> Option<Carriage>
         ensures { result ≡ skipped self }
     {
