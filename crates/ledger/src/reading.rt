@@ -73,7 +73,7 @@ pub fn find_stretches<S: Alter>(
     }
 }
 
-/// The cards and lines of a machine, from a deck and from rows.
+/// The deck, cards and lines of a machine, from a deck and from rows.
 fn read_media(
     alloc: Global,
     loaded: &[u8],

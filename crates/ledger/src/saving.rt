@@ -90,7 +90,7 @@ fn insert_lines<S: Alter>(
     Ok(())
 }
 
-/// Inserts the cards and lines that a machine has made since.
+/// Inserts the cards and lines that a machine has made beyond `before`.
 fn insert_made<S: Alter>(
     tables: &mut OpenTables<'_, '_, S>,
     name: JobName<'_>,

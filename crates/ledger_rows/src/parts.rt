@@ -24,7 +24,7 @@ use machine::Parts;
 use std::alloc::{AllocError, Global};
 use units::{Carriage, Hopper, Line, Printer, Punch, Switches, Units};
 
-/// The cards and lines of a machine, which are in other tables than its picture.
+/// The deck, switches, cards and lines of a machine, which are in other tables than its picture.
 #[derive(Drop)]
 pub struct Media {
     /// The deck in the card reader. It includes the cards already read.

@@ -46,7 +46,8 @@ fn push_cards(deck: &mut Deck, cards: &[Card]) -> Result<(), DeckFault>
 }
 
 /// Returns the deck that loads a program and starts it: a boot card, a card for each stretch of its
-/// image, and a last one. It has at most 2,000 cards. Fails only if there is no memory.
+/// image, and a last one. Fails with `TooManyCards` if there would be over 2,000, or if there is no
+/// memory.
 #[tactic(auto, unfolding(crate::specs::Cards::loading_cards), using(crate::proofs::Whole::deck_loads))]
 pub fn object_deck(alloc: Global, program: &Program) -> Result<Deck, DeckFault>
     ensures deck { IfOk result (λ deck. deck ≡ loading_cards program.now.image program.now.start) }
