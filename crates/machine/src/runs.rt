@@ -125,8 +125,8 @@ impl<C: Core> Machine<C> {
     }
 
     /// Returns the machine with this picture, or `None` if the picture is not in range. The result
-    /// of `parts` is in range, so a machine can be made again from it. Memory is taken for the
-    /// second storage alone, and only for a picture in range.
+    /// of `parts` is in range, so the same machine can be made from it again. Memory is taken for
+    /// the second storage alone, and only for a picture in range.
     pub fn from_parts(alloc: Global, parts: Parts<C>) -> Result<Option<Machine<C>>, AllocError>
         ensures machine { IfOk result (λ made. IfSome made (λ machine. machine ≡ parts)) }
         ensures in_range { IfOk result (λ made.
