@@ -123,7 +123,7 @@ const FAULTS_BY_CARD: &str = "\
 = faults 2:40|
 ";
 
-/// Ends with faults: an out-of-order one places nothing, one with a bad address places a blank and
+/// Ends with faults: a malformed one places nothing, one with a bad address places a blank and
 /// literals.
 const ENDS_AT_FAULT: &str = "\
 |ORG|3999|
