@@ -1,4 +1,4 @@
-//! The characters that are digits.
+//! The characters of the digits.
 
 ghost use Rattle.std.specs.Prelude.{◌≡◌, ◌<◌, ◌≤◌, ◌+◌, ◌*◌, ◌==◌, ℕ, Some, if◌then◌else◌};
 ghost use Rattle.bcd.specs.Table.{digit_of, zone_of, zone_number};
@@ -16,7 +16,7 @@ fn part_of(digit: u8) -> u8
     if digit == 0 { 10 } else { digit }
 }
 
-/// The character of a digit under a zone.
+/// The character of a digit with a zone.
 #[inline(always)]
 pub fn digit_under(zone: Zone, digit: u8) -> Code
     requires { digit < 10 }

@@ -1,4 +1,4 @@
-//! What an address stands for in a storage.
+//! The effective position of an address in a storage.
 
 ghost use Rattle.std.specs.Prelude.{◌≡◌, ◌<◌, ◌≤◌, ℕ, length, Some, IfSome, IfOk};
 ghost use Rattle.core_store.specs.Storage.{largest_size};
@@ -9,8 +9,8 @@ use crate::tagged::{IndexLocation, Tagged};
 use bcd::{Code, Zone};
 use core_store::{Check, Core, LARGEST_SIZE};
 
-/// The base of the three characters that end at a position, whatever their tag, if they can be
-/// read.
+/// The base of the three characters that end at a position, whatever their tag, if they are an
+/// address.
 #[tactic(auto, unfolding(crate::specs::Effective::base_ending))]
 pub fn base_ending<C: Core>(core: &C, position: u16) -> Option<u16>
     requires within { position < length (C.cells core.now) }
@@ -26,7 +26,7 @@ pub fn base_ending<C: Core>(core: &C, position: u16) -> Option<u16>
     if base < UNREADABLE { Some(base) } else { None }
 }
 
-/// A base with what an index location holds, modulo 16000.
+/// A base plus the number at an index location, modulo 16000.
 #[tactic(auto, unfolding(crate::specs::Effective::with_index))]
 fn with_index<C: Core>(core: &C, base: u16, location: IndexLocation) -> Result<u16, Check>
     ensures { result ≡ with_index (C.cells core.now) base (Some location) }
@@ -41,8 +41,8 @@ fn with_index<C: Core>(core: &C, base: u16, location: IndexLocation) -> Result<u
     Ok(((base as u32 + index as u32) % LARGEST_SIZE as u32) as u16)
 }
 
-/// The number that an address stands for: its base, with what the index location holds that it
-/// names. Check ADDRESS where that cannot be read.
+/// The number that an address represents: its base, plus the number at its index location if it
+/// names one. Check ADDRESS if the index location cannot be read.
 #[tactic(auto, unfolding(crate::specs::Effective::with_index))]
 pub fn indexed<C: Core>(core: &C, tagged: Tagged) -> Result<u16, Check>
     ensures { result ≡ effective (C.cells core.now) tagged }
@@ -53,8 +53,9 @@ pub fn indexed<C: Core>(core: &C, tagged: Tagged) -> Result<u16, Check>
     }
 }
 
-/// The position of a storage that the three characters of an operand stand for. They are read
-/// straight from their tables, and an address without a tag needs no more than that.
+/// The position of a storage that the three characters of an operand represent. They are looked up
+/// directly in the tables, and an address without a tag needs only that. Check ADDRESS if they
+/// cannot be read or the position is outside the storage.
 #[inline(always)]
 #[tactic(auto, unfolding(crate::specs::Effective::operand, crate::specs::Effective::with_index, crate::specs::Addresses::tagged))]
 pub fn operand<C: Core>(core: &C, first: Code, second: Code, third: Code) -> Result<u16, Check>

@@ -1,12 +1,11 @@
-//! Addresses: three characters that name a position, and the index locations that they may name
-//! besides.
+//! Addresses: three characters that name a position, and optionally an index location.
 //!
-//! An address has a base, 0 to 15999, which its three digits and the zones of the first and the
-//! third spell, and a tag, the zone of the second. A tag names one of three places in storage,
-//! the index locations, and what is spelled there is added, modulo 16000. The contract that the
-//! layers above use: the number that an address stands for (`specs/Addresses.antt` and
-//! `specs/Effective.antt`), and that what `encode` writes is read as the same number. No call
-//! takes memory.
+//! An address has a base and a tag. The base, 0 to 15999, is spelled by the three digits and by the
+//! zones of the first and the third. The tag is the zone of the second: it names one of three
+//! places in storage, the index locations, and the number spelled there is added, modulo 16000. The
+//! contract for the layers above: the number that an address represents (`specs/Addresses.antt` and
+//! `specs/Effective.antt`), and that what `encode` writes is read as the same number. No call takes
+//! memory.
 #![tactic(auto)]
 
 mod digits;

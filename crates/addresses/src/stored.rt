@@ -8,7 +8,7 @@ use crate::written::encode;
 use bcd::Code;
 use core_store::{Check, Core, LARGEST_SIZE};
 
-/// Whether three characters can end at a position of the storage.
+/// Whether the storage has three positions that end at this one.
 #[inline(always)]
 pub fn has_three<C: Core>(core: &C, position: u16) -> bool
     ensures three { result ≡ has_three (C.cells core.now) position }
@@ -18,7 +18,7 @@ pub fn has_three<C: Core>(core: &C, position: u16) -> bool
     position < core.size() && position >= 2
 }
 
-/// Writes the three characters that end at a position. Marks stay.
+/// Writes three characters that end at a position. Marks stay.
 #[inline(always)]
 pub fn put_three<C: Core>(core: &mut C, position: u16, codes: [Code; 3])
     requires within { position < length (C.cells core.old) }
@@ -31,8 +31,8 @@ pub fn put_three<C: Core>(core: &mut C, position: u16, codes: [Code; 3])
     core.put(position - 2, first);
 }
 
-/// Writes a number, modulo 16000, as an address that ends at a position. Check ADDRESS where it
-/// would pass either end of the storage.
+/// Writes a number, modulo 16000, as an address that ends at a position. Check ADDRESS if it would
+/// pass either end of the storage.
 #[tactic(auto, unfolding(crate::specs::Stored::address_stored))]
 pub fn store<C: Core>(core: &mut C, position: u16, number: u16) -> Result<(), Check>
     ensures done { OnOk result (address_stored (C.cells core.old) position number

@@ -1,14 +1,14 @@
-//! The tables that addresses are read by.
+//! The tables by which addresses are read.
 
 ghost use Rattle.std.specs.Prelude.{◌≡◌, ◌<◌, ◌≤◌, ℕ, unwrap_or};
 ghost use Rattle.addresses.specs.Addresses.{weighed, base, Spells, unreadable};
 
 use bcd::Code;
 
-/// The entry of a character without a value, which no readable address reaches.
+/// The entry of a character without a value. It is above the value of every readable address.
 pub const UNREADABLE: u16 = 20000;
 
-/// What each character adds as the first of an address: hundreds, and thousands by its zone.
+/// The value of each character as the first of an address: hundreds, and thousands by its zone.
 const FIRST: [u16; 64] = [
     0, 100, 200, 300, 400, 500, 600, 700, 800, 900, 0, 20000, 20000, 20000, 20000, 20000, 1000,
     1100, 1200, 1300, 1400, 1500, 1600, 1700, 1800, 1900, 1000, 20000, 20000, 20000, 20000, 20000,
@@ -17,7 +17,7 @@ const FIRST: [u16; 64] = [
     20000, 20000,
 ];
 
-/// What each character adds as the second of an address: tens. Its zone is the tag.
+/// The value of each character as the second of an address: tens. Its zone is the tag.
 const SECOND: [u16; 64] = [
     0, 10, 20, 30, 40, 50, 60, 70, 80, 90, 0, 20000, 20000, 20000, 20000, 20000, 0, 10, 20, 30, 40,
     50, 60, 70, 80, 90, 0, 20000, 20000, 20000, 20000, 20000, 0, 10, 20, 30, 40, 50, 60, 70, 80,
@@ -25,7 +25,7 @@ const SECOND: [u16; 64] = [
     20000, 20000, 20000, 20000,
 ];
 
-/// What each character adds as the third of an address: units, and four thousands by its zone.
+/// The value of each character as the third of an address: units, and four thousands by its zone.
 const THIRD: [u16; 64] = [
     0, 1, 2, 3, 4, 5, 6, 7, 8, 9, 0, 20000, 20000, 20000, 20000, 20000, 4000, 4001, 4002, 4003,
     4004, 4005, 4006, 4007, 4008, 4009, 4000, 20000, 20000, 20000, 20000, 20000, 8000, 8001, 8002,
@@ -34,7 +34,7 @@ const THIRD: [u16; 64] = [
     20000, 20000,
 ];
 
-/// What a character adds as the first of an address.
+/// The value of a character as the first of an address.
 #[inline(always)]
 fn of_first(code: Code) -> u16
     ensures entry { result ≡ unwrap_or (weighed 100 1000 code) unreadable }
@@ -44,7 +44,7 @@ fn of_first(code: Code) -> u16
     FIRST[code.number() as usize]
 }
 
-/// What a character adds as the second of an address.
+/// The value of a character as the second of an address.
 #[inline(always)]
 fn of_second(code: Code) -> u16
     ensures entry { result ≡ unwrap_or (weighed 10 0 code) unreadable }
@@ -54,7 +54,7 @@ fn of_second(code: Code) -> u16
     SECOND[code.number() as usize]
 }
 
-/// What a character adds as the third of an address.
+/// The value of a character as the third of an address.
 #[inline(always)]
 fn of_third(code: Code) -> u16
     ensures entry { result ≡ unwrap_or (weighed 1 4000 code) unreadable }
@@ -64,7 +64,7 @@ fn of_third(code: Code) -> u16
     THIRD[code.number() as usize]
 }
 
-/// The number that three characters spell without the tag, or `UNREADABLE` or more.
+/// The number that three characters spell without the tag; `UNREADABLE` or more if they spell none.
 #[inline(always)]
 pub fn base(first: Code, second: Code, third: Code) -> u16
     ensures { Spells (base first second third) result }

@@ -1,4 +1,4 @@
-//! An address as a number and the index location that it names.
+//! An address as a number and an index location.
 
 ghost use Rattle.std.specs.Prelude.{◌≡◌, ◌<◌, ℕ, IfSome};
 ghost use Rattle.core_store.specs.Storage.{largest_size};
@@ -9,7 +9,7 @@ ghost use Rattle.addresses.specs.Effective.{units_position};
 use crate::tables::{UNREADABLE, base};
 use bcd::{Code, Zone};
 
-/// The three places in storage that hold what is added to an address that names them.
+/// The three index locations of storage, whose numbers are added to the addresses that name them.
 #[derive(Clone, Copy, Debug, PartialEq, Eq)]
 pub enum IndexLocation {
     /// 087-089, named by zone A.
@@ -20,12 +20,12 @@ pub enum IndexLocation {
     Third,
 }
 
-/// An address that can be read.
+/// An address that was read: its base and its index location.
 #[derive(Clone, Copy, Debug, PartialEq, Eq)]
 pub struct Tagged {
-    /// What its digits and the zones of its first and third character spell.
+    /// The number spelled by its digits and by the zones of its first and third character.
     pub base: u16,
-    /// The index location that the zone of its second character names.
+    /// The index location named by the zone of its second character.
     pub index: Option<IndexLocation>,
 }
 
@@ -41,7 +41,7 @@ impl IndexLocation {
         }
     }
 
-    /// The index location that the zone of an address's second character names.
+    /// The index location named by the zone of an address's second character.
     #[inline(always)]
     pub fn of_zone(zone: Zone) -> Option<IndexLocation>
         ensures { result ≡ location_of zone }
@@ -55,7 +55,7 @@ impl IndexLocation {
     }
 }
 
-/// The address that three characters are. There is none where one of them has no numeric value.
+/// Reads three characters as an address. `None` if one of them has no numeric value.
 #[tactic(auto, unfolding(crate::specs::Addresses::tagged))]
 pub fn decode(codes: [Code; 3]) -> Option<Tagged>
     ensures address { result ≡ decoded codes }

@@ -8,7 +8,7 @@ ghost use Rattle.addresses.specs.Addresses.{zone_numbered, written, encoded, dec
 use crate::digits::digit_under;
 use bcd::{Code, Zone};
 
-/// The zone of a number, 0 to 3.
+/// The zone with this number, 0 to 3.
 #[inline(always)]
 fn zone_numbered(number: u16) -> Zone
     ensures { result ≡ zone_numbered number }
@@ -42,7 +42,8 @@ pub fn encode(number: u16) -> [Code; 3]
     encode_tagged(number, Zone::Bare)
 }
 
-/// The law of addresses: a number that is written is read again, and so is its tag.
+/// The law of addresses: a number that was written is read as the same number, and its tag as the
+/// same tag.
 pub fn written_is_read()
     ensures read { (n : ℕ) → n < largest_size →
         decoded (encoded n) ≡ Some (record { base = n; index = None }) }

@@ -18,7 +18,8 @@ fn have_three<C: Core>(core: &C, a: u16, b: u16) -> bool
     has_three(core, a) && has_three(core, b)
 }
 
-/// Adds the address at A to the address at B, whose tag stays.
+/// Adds the address at A to the address at B, whose tag stays. Check ADDRESS if there are not three
+/// characters at A and at B, check DATA if they are not an address.
 #[tactic(auto, unfolding(crate::specs::Bases::modified))]
 pub fn modify<C: Core>(core: &mut C, registers: &mut Registers) -> Result<(), Check>
     ensures done { OnOk result (modified (C.cells core.old) registers.old

@@ -8,7 +8,7 @@ ghost use Rattle.arith.specs.Decimal.{is_number, spelled, digit_value, sign_zone
 use bcd::Zone;
 use core_store::Core;
 
-/// The zone that a sum or a difference gets for its sign.
+/// The zone of a sum or a difference with this sign.
 #[inline(always)]
 pub fn sign_zone(minus: bool) -> Zone
     ensures { result ≡ sign_zone minus }
@@ -31,7 +31,7 @@ pub fn is_number<C: Core>(core: &C, position: u16, count: u16) -> bool
     true
 }
 
-/// The numeric value at a position, 0 where it has none.
+/// The numeric value at a position, or 0 if the character has none.
 #[inline(always)]
 pub fn digit_at<C: Core>(core: &C, position: u16) -> u8
     requires { position < length (C.cells core.now) }
@@ -41,8 +41,8 @@ pub fn digit_at<C: Core>(core: &C, position: u16) -> u8
     core.get(position).digit().unwrap_or(0)
 }
 
-/// The law of spelled numbers: read again they are the number, as far as its digits have room,
-/// and no position has a zone but the units position.
+/// The law of spelled numbers: the digits spelled for a number are read as that number, as far as
+/// they have room, and no position but the units has a zone.
 pub fn spelled_is_read()
     ensures { (t k : ℕ) (zone : Zone) → IsSpelled t k zone (spelled t k zone) }
 {}

@@ -1,4 +1,4 @@
-//! The digits at A joined to those at B, place by place from the right.
+//! The digits at A combined with those at B, one by one from the right.
 
 ghost use Rattle.std.specs.Prelude.{◌≡◌, ◌+◌, ◌-◌, ◌^◌, ◌<◌, ◌≤◌, ◌==◌, ◌%◌, ◌/◌, ℕ, false, length, nat_le, if◌then◌else◌};
 ghost use Rattle.bcd.specs.declared.Zone.TheVariants.{Bare};
@@ -13,7 +13,7 @@ use addresses::digit_under;
 use bcd::Zone;
 use core_store::Core;
 
-/// How the digits at A are joined to those at B.
+/// How the digits at A are combined with those at B.
 #[derive(Clone, Copy, Debug, PartialEq, Eq)]
 pub enum Joined {
     /// A and B.
@@ -26,7 +26,7 @@ pub enum Joined {
     Copy,
 }
 
-/// The digit at a place from the right of the digits that end at a position, or 0 to the left of
+/// The digit at an index from the right of the digits that end at a position, or 0 to the left of
 /// them.
 #[inline(always)]
 fn digit_from<C: Core>(core: &C, position: u16, count: u16, place: u16) -> u8
@@ -42,7 +42,7 @@ fn digit_from<C: Core>(core: &C, position: u16, count: u16, place: u16) -> u8
     }
 }
 
-/// The zone at a place from the right, which the units position alone has.
+/// The zone at an index from the right: only the units position has one.
 #[inline(always)]
 fn zone_from(zone: Zone, place: u16) -> Zone
     ensures { result ≡ (if place == 0 then zone else Bare) }
@@ -50,7 +50,7 @@ fn zone_from(zone: Zone, place: u16) -> Zone
     if place == 0 { zone } else { Zone::Bare }
 }
 
-/// The last digit of what two digits and a carry come to.
+/// The last digit of a total of two digits and a carry.
 #[inline(always)]
 fn units_of(total: u8) -> u8
     requires { total ≤ 19 }
@@ -59,7 +59,7 @@ fn units_of(total: u8) -> u8
     if total < 10 { total } else { total - 10 }
 }
 
-/// What two digits and a carry give to the next place.
+/// The carry of a total of two digits and a carry.
 #[inline(always)]
 fn carry_of(total: u8) -> u8
     requires { total ≤ 19 }
@@ -69,7 +69,7 @@ fn carry_of(total: u8) -> u8
 }
 
 impl Joined {
-    /// What a digit of A and one of B come to.
+    /// The total of a digit of A and one of B.
     #[inline(always)]
     fn amount(self, a: u8, b: u8) -> u8
         requires a { a < 10 }
@@ -85,7 +85,7 @@ impl Joined {
         }
     }
 
-    /// What is carried into the lowest place.
+    /// The carry into the lowest digit.
     #[inline(always)]
     fn carry(self) -> u8
         ensures carry { result ≡ total_of self 0 0 0 }
@@ -98,7 +98,7 @@ impl Joined {
     }
 }
 
-/// Joins the A digits to the B field from the right, and says whether a carry is left.
+/// Combines the A digits with the B field from the right. Returns whether a carry is left.
 pub fn join<C: Core>(
     core: &mut C,
     joined: Joined,

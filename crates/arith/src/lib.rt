@@ -1,11 +1,11 @@
 //! Arithmetic on fields of storage: add, subtract, zero and add, zero and subtract, compare and
 //! modify address.
 //!
-//! Each operation works at the registers A and B. The B field is the field at B; the A digits are
-//! the cut at A to its length. The contract that the layers above use: the effect on whole
+//! Each operation works at registers A and B. The B field is the field at B; the A digits are the
+//! cut at A to the length of the B field. The contract for the layers above: the effect on whole
 //! fields, as numbers of any length (`specs/Sums.antt`), by ranks (`specs/Order.antt`), or as
 //! addresses (`specs/Bases.antt`); or the first check that applies, and then nothing is changed.
-//! All is generic over `Core`, and no call takes memory.
+//! Everything is generic over `Core`, and no call takes memory.
 #![tactic(auto)]
 
 mod bases;

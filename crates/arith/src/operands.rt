@@ -1,4 +1,4 @@
-//! How many characters arithmetic reads.
+//! The number of characters that arithmetic reads.
 
 ghost use Rattle.std.specs.Prelude.{◌≡◌, ℕ, false, IfOk, Ok};
 ghost use Rattle.core_store.specs.Storage.{Storage};
@@ -7,14 +7,15 @@ ghost use Rattle.arith.specs.Operands.{counts_at, counts_apart, AreCounts, AreOf
 
 use core_store::{Check, Core, are_inside, cut_length, field_length, overlaps};
 
-/// How many characters are read at A and at B.
+/// The number of characters read at A and at B.
 #[derive(Clone, Copy, Debug, PartialEq, Eq)]
 pub struct Counts {
     pub a: u16,
     pub b: u16,
 }
 
-/// How many characters are in the cut at A and in the field at B.
+/// The number of characters in the cut at A and in the field at B. Fails with check ADDRESS if one
+/// of them is outside the storage or would pass position 000.
 #[tactic(auto, unfolding(crate::specs::Operands::counts_at))]
 pub fn counts_at<C: Core>(core: &C, a: u16, b: u16) -> Result<Counts, Check>
     ensures counts { result ≡ counts_at (C.cells core.now) a b }
@@ -35,7 +36,8 @@ pub fn counts_at<C: Core>(core: &C, a: u16, b: u16) -> Result<Counts, Check>
     })
 }
 
-/// The same for an operation that writes over the field at B while it reads at A.
+/// The same for an operation that writes to the field at B while it reads at A. Fails with check
+/// OVERLAP if it would overwrite characters of A before they are read.
 #[tactic(auto, unfolding(crate::specs::Operands::counts_apart))]
 pub fn counts_apart<C: Core>(core: &C, a: u16, b: u16) -> Result<Counts, Check>
     ensures counts { result ≡ counts_apart (C.cells core.now) a b }
@@ -50,7 +52,7 @@ pub fn counts_apart<C: Core>(core: &C, a: u16, b: u16) -> Result<Counts, Check>
 }
 
 /// The law of the counts: what is read at B is the field there, and what is read at A is the cut
-/// there to its length.
+/// there to the length of that field.
 pub fn counts_are_of_fields()
     ensures { (s : Storage) (a b : ℕ) (counts : Counts) → counts_at s a b ≡ Ok counts →
         AreOfFields s a b counts }

@@ -18,7 +18,7 @@ fn rank_at<C: Core>(core: &C, position: u16) -> u8
     core.get(position).rank()
 }
 
-/// How two runs of so many characters stand to each other that end at A and at B.
+/// The order of two sequences of `count` characters that end at A and at B.
 #[inline(always)]
 fn order<C: Core>(core: &C, a: u16, b: u16, count: u16) -> Compared
     requires a_in { a < length (C.cells core.now) }
@@ -41,7 +41,7 @@ fn order<C: Core>(core: &C, a: u16, b: u16, count: u16) -> Compared
     Compared::Equal
 }
 
-/// How the B field stands to the cut at A.
+/// The result of comparing the B field with the cut at A.
 #[inline(always)]
 fn comparison<C: Core>(core: &C, a: u16, b: u16, counts: Counts) -> Compared
     requires { AreCounts (C.cells core.now) a b counts.a counts.b }
@@ -55,7 +55,8 @@ fn comparison<C: Core>(core: &C, a: u16, b: u16, counts: Counts) -> Compared
     }
 }
 
-/// Compares the cut at A with the B field. Nothing in storage changes.
+/// Compares the cut at A with the B field, and sets the indicator. Storage is unchanged. Fails with
+/// check ADDRESS as `counts_at` does.
 #[tactic(auto, unfolding(crate::specs::Order::compared))]
 pub fn compare<C: Core>(core: &mut C, registers: &mut Registers) -> Result<(), Check>
     ensures done { OnOk result (compared (C.cells core.old) registers.old
@@ -74,8 +75,8 @@ pub fn compare<C: Core>(core: &mut C, registers: &mut Registers) -> Result<(), C
     Ok(())
 }
 
-/// The law of comparison: the first place from the left where the ranks differ decides, and
-/// where there is none the fields are equal.
+/// The law of comparison: the first character from the left at which the ranks differ decides; if
+/// there is none, the fields are equal.
 pub fn order_is_by_the_first_difference()
     ensures { (a b : List ℕ) → length a ≡ length b → IsOrder a b (order a b) }
 {}

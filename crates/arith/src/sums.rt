@@ -11,7 +11,8 @@ use crate::joining::{Joined, join};
 use crate::operands::{Counts, counts_apart};
 use core_store::{Check, Core, Registers, is_minus};
 
-/// Adds the A digits to the B field.
+/// Adds the A digits to the B field. Fails as `counts_apart` does, and with check DATA if a
+/// character has no numeric value.
 pub fn add<C: Core>(core: &mut C, registers: &mut Registers) -> Result<(), Check>
     ensures done { OnOk result (added false (C.cells core.old) registers.old
         ≡ Ok (C.cells core.new, registers.new)) }
@@ -23,7 +24,7 @@ pub fn add<C: Core>(core: &mut C, registers: &mut Registers) -> Result<(), Check
     combine(core, registers, false)
 }
 
-/// Subtracts the A digits from the B field.
+/// Subtracts the A digits from the B field. Fails as `add` does.
 pub fn subtract<C: Core>(core: &mut C, registers: &mut Registers) -> Result<(), Check>
     ensures done { OnOk result (added true (C.cells core.old) registers.old
         ≡ Ok (C.cells core.new, registers.new)) }
@@ -35,7 +36,7 @@ pub fn subtract<C: Core>(core: &mut C, registers: &mut Registers) -> Result<(), 
     combine(core, registers, true)
 }
 
-/// Adds the A digits to the B field, under the opposite sign for a subtraction.
+/// Adds the A digits to the B field. A subtraction reverses the sign of A.
 #[inline(always)]
 #[tactic(auto, unfolding(crate::specs::Sums::added))]
 fn combine<C: Core>(core: &mut C, registers: &mut Registers, reversed: bool) -> Result<(), Check>
@@ -64,7 +65,7 @@ fn combine<C: Core>(core: &mut C, registers: &mut Registers, reversed: bool) -> 
     Ok(())
 }
 
-/// Joins the digits by their signs, and says whether the sum overflows.
+/// Combines the digits by their signs. Returns whether the sum overflows.
 fn join_signed<C: Core>(core: &mut C, a: u16, b: u16, counts: Counts, minus_a: bool) -> bool
     requires counts { AreCounts (C.cells core.old) a b counts.a counts.b }
     requires apart { is_overlapping a b counts.a ≡ false }

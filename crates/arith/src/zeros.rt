@@ -8,7 +8,8 @@ use crate::joining::{Joined, join};
 use crate::operands::counts_apart;
 use core_store::{Check, Core, Registers, is_minus};
 
-/// Fills the B field with the A digits.
+/// Replaces the B field by the A digits. Fails as `counts_apart` does, and with check DATA if a
+/// character at A has no numeric value.
 pub fn zero_add<C: Core>(core: &mut C, registers: &mut Registers) -> Result<(), Check>
     ensures done { OnOk result (zero_added false (C.cells core.old) registers.old
         ≡ Ok (C.cells core.new, registers.new)) }
@@ -20,7 +21,7 @@ pub fn zero_add<C: Core>(core: &mut C, registers: &mut Registers) -> Result<(), 
     replace(core, registers, false)
 }
 
-/// Fills the B field with the A digits under the opposite sign.
+/// Replaces the B field by the A digits with the opposite sign. Fails as `zero_add` does.
 pub fn zero_subtract<C: Core>(core: &mut C, registers: &mut Registers) -> Result<(), Check>
     ensures done { OnOk result (zero_added true (C.cells core.old) registers.old
         ≡ Ok (C.cells core.new, registers.new)) }
@@ -32,7 +33,7 @@ pub fn zero_subtract<C: Core>(core: &mut C, registers: &mut Registers) -> Result
     replace(core, registers, true)
 }
 
-/// Fills the B field with the A digits, under the opposite sign for a subtraction.
+/// Replaces the B field by the A digits. A subtraction reverses the sign.
 #[inline(always)]
 #[tactic(auto, unfolding(crate::specs::Sums::zero_added))]
 fn replace<C: Core>(core: &mut C, registers: &mut Registers, reversed: bool) -> Result<(), Check>

@@ -6,10 +6,10 @@ ghost use Rattle.autocoder.specs.Telling.{fault_list, fault_then, told_to_end};
 use autocoder_layout::SourceFault;
 use std::alloc::AllocError;
 
-/// The lowest fault of a card.
+/// The lowest fault of a card, with the card's number.
 #[derive(Clone, Copy)]
 pub struct CardFault {
-    /// The card's number, from 1 on; 0 where there is no card.
+    /// The card's number, from 1; 0 for a fault of no card.
     pub card: u32,
     pub fault: SourceFault,
 }
@@ -17,20 +17,20 @@ pub struct CardFault {
 /// Why a source has no program.
 #[derive(Drop)]
 pub enum Faults {
-    /// The faults of the source, in card order, one of a card.
+    /// The faults of the source in card order, at most one for each card.
     Source(Vec<CardFault>),
     /// There was no memory for the work.
     NoMemory,
 }
 
-/// Want of memory, as a list of faults: it is of no card.
+/// The list of faults if there was no memory: fault 1 at card 0.
 const NO_MEMORY: [CardFault; 1] = [CardFault {
     card: 0,
     fault: SourceFault::NoMemory,
 }];
 
 impl Faults {
-    /// The faults in card order, one of a card. Want of memory is one fault, 1, at card 0.
+    /// The faults in card order, at most one for each card. Without memory it is fault 1 at card 0.
     pub fn list(&self) -> &[CardFault]
         ensures { result.now ≡ fault_list self.now }
     {
@@ -41,7 +41,7 @@ impl Faults {
     }
 }
 
-/// Tells a fault, where there is one.
+/// Adds the fault of a card to the list, if it has one.
 pub(crate) fn tell(
     faults: &mut Vec<CardFault>,
     card: u32,
@@ -56,7 +56,7 @@ pub(crate) fn tell(
     Ok(())
 }
 
-/// Tells where the source has no end, if its last card has no fault of its own.
+/// Adds the fault of a source without an end, if its last card has no fault of its own.
 pub(crate) fn tell_no_end(
     faults: &mut Vec<CardFault>,
     ended: bool,

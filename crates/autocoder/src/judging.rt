@@ -20,14 +20,15 @@ use autocoder_layout::{
 use cards::Card;
 use std::alloc::{AllocError, Global};
 
-/// Whether a card that told the size is behind, where one more card is read.
+/// Whether this card or one before it gives the size. `told` is whether one before it does.
 fn is_told(told: bool, card: &Card) -> bool
     ensures { result ≡ (told || is_control card.now) }
 {
     told || is_control(card)
 }
 
-/// Fills the table with what the cards fill, tells their faults, and answers that of the last card.
+/// Fills the table with the cells of all cards and adds their faults. Returns the fault of the last
+/// card.
 pub(crate) fn judge(
     alloc: Global,
     size: u16,

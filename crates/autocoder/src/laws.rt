@@ -5,8 +5,8 @@ ghost use Rattle.cards.specs.declared.decks.Card.{Card};
 ghost use Rattle.autocoder.specs.Loadable.{IsLoadable};
 ghost use Rattle.autocoder.specs.Programs.{IsFaultless, image_for, size_for, start_for};
 
-/// The law of faultless sources: cards can load the program of a source that has no fault into a
-/// storage of the source's size.
+/// The law of faultless sources: the program of a source that has no fault can be loaded by cards
+/// into a storage of the source's size.
 #[tactic(auto, using(crate::proofs::Loading::faultless_loads))]
 pub fn faultless_sources_can_be_loaded()
     ensures { (source : List Card) → IsFaultless source →

@@ -1,10 +1,10 @@
 //! The Autocoder assembler: from the cards of a source to its program, and its listing.
 //!
-//! It puts together what `layout` gives piece by piece. Its contract for the layers above: a
+//! It assembles the pieces that `autocoder_layout` returns. Its contract for the layers above: a
 //! program is that of its source's one layout (`specs/Programs.antt`), and cards can load it
-//! (`specs/Loadable.antt`); the faults are exactly the source's, one a card, in card order
+//! (`specs/Loadable.antt`); the faults are exactly the source's, one for a card, in card order
 //! (`specs/Telling.antt`); the listing is that of the deck (`specs/Listing.antt`). Memory is taken
-//! by both calls; want of it is a fault of its own.
+//! by both calls; if there is none, that is a fault of its own.
 #![tactic(auto)]
 
 mod faults;

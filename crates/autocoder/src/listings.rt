@@ -15,7 +15,7 @@ use cards::{Card, Deck, LINE_FEED};
 use itoa::Buffer;
 use std::alloc::{AllocError, Global};
 
-/// Adds so many fillers.
+/// Adds `count` fillers.
 fn push_fillers(line: &mut Vec<u8>, filler: u8, count: usize) -> Result<(), AllocError>
     ensures { OnOk result (line.new.items ≡ line.old.items ++ replicate count filler) }
 {
@@ -25,7 +25,7 @@ fn push_fillers(line: &mut Vec<u8>, filler: u8, count: usize) -> Result<(), Allo
     Ok(())
 }
 
-/// Adds a number in a field of so many places, with fillers in front.
+/// Adds a number right-aligned in a field of `width` characters, after fillers.
 fn push_number(line: &mut Vec<u8>, filler: u8, width: usize, number: u64) -> Result<(), AllocError>
     ensures { OnOk result (line.new.items ≡ line.old.items ++ right filler width number) }
 {
@@ -96,7 +96,7 @@ fn literal_line(alloc: Global, place: u64, literal: &[Code]) -> Result<Vec<u8>, 
     Ok(line)
 }
 
-/// How many characters a line has without the blanks at its end.
+/// The number of characters of a line without the blanks at its end.
 fn length_listed(line: &[u8]) -> usize
     ensures within { result ≤ length line.now }
     ensures text { listed line.now ≡ take result line.now ++ line_feed ∷ [] }
@@ -109,7 +109,7 @@ fn length_listed(line: &[u8]) -> usize
     0
 }
 
-/// Adds a line without the blanks at its end, and the end of the line.
+/// Adds a line without the blanks at its end, and its line feed.
 fn push_line(text: &mut Vec<u8>, line: &[u8]) -> Result<(), AllocError>
     ensures { OnOk result (text.new.items ≡ text.old.items ++ listed line.now) }
 {
@@ -138,7 +138,7 @@ fn push_cards(
     Ok(())
 }
 
-/// Adds the lines of literals that stand one behind the other from a place on.
+/// Adds the lines of literals that are placed one after the other from a place on.
 fn push_literals(
     alloc: Global,
     text: &mut Vec<u8>,
@@ -159,9 +159,9 @@ fn push_literals(
     Ok(())
 }
 
-/// The listing of a deck's source, by the program that it is assembled to: a line for each card of
-/// the source, with its number and the leftmost position that it fills, and behind them a line for
-/// each literal. Each line ends with a line feed. Fails for want of memory alone.
+/// Returns the listing of a deck's source, given the program that it is assembled to. It has a line
+/// for each card of the source, with its number and the leftmost position that it fills, and after
+/// them a line for each literal. Each line ends with a line feed. Fails only if there is no memory.
 pub fn listing(alloc: Global, deck: &Deck, program: &Program) -> Result<Vec<u8>, AllocError>
     requires program { IsProgramOf (source_of deck.now) program.now }
     ensures { IfOk result (λ text. text.items ≡ listing_for deck.now) }

@@ -20,18 +20,18 @@ use core_store::Size;
 use std::alloc::Global;
 use std::marker::Model;
 
-/// What a source without faults is assembled to. Only `assemble` makes one, so cards can load it.
+/// The program of a source without faults. Only `assemble` makes one, so cards can load it.
 #[derive(Drop)]
 pub struct Program {
-    /// The size of storage that it is for.
+    /// The size of storage that it requires.
     size: Size,
-    /// The positions that it fills, rising.
+    /// The filled positions, in rising order.
     image: Vec<Cell>,
-    /// Where it starts.
+    /// The position at which it starts.
     start: u32,
     /// The number of the card that ends the source.
     last: u32,
-    /// Where each card of the source stands.
+    /// The slot of each card of the source.
     slots: Vec<Slot>,
     /// The literals, in the order of their places.
     literals: Vec<Literal>,
@@ -59,14 +59,14 @@ impl Model for Program {
 }
 
 impl Program {
-    /// The size of storage that it is for.
+    /// The size of storage that it requires.
     pub fn size(&self) -> Size
         ensures { result ≡ self.now.size }
     {
         self.size
     }
 
-    /// The positions that it fills, rising: none below 081, and all below its size.
+    /// The filled positions in rising order, each at least 081 and below the size.
     pub fn image(&self) -> &[Cell]
         ensures image { result.now ≡ self.now.image }
         ensures loadable { CanBeLoaded self.now }
@@ -75,7 +75,7 @@ impl Program {
         &self.image
     }
 
-    /// Where it starts.
+    /// The position at which the program starts.
     pub fn start(&self) -> u32
         ensures { result ≡ self.now.start }
     {
@@ -89,7 +89,7 @@ impl Program {
         self.last
     }
 
-    /// Where each card of the source stands.
+    /// The slot of each card of the source.
     pub fn slots(&self) -> &[Slot]
         ensures { result.now ≡ self.now.slots }
     {
@@ -104,7 +104,7 @@ impl Program {
     }
 }
 
-/// Where a program starts whose source ends with this line.
+/// The start of a program whose source ends with this line.
 fn start_by(size: u16, slots: &[Slot], line: Line) -> u32
     requires names { IsWithin FARTHEST slots.now }
     requires range { IsInRange line }
@@ -128,7 +128,7 @@ fn start_by(size: u16, slots: &[Slot], line: Line) -> u32
     }
 }
 
-/// What the last card of a source says.
+/// The line of the last card of a source.
 #[tactic(auto, unfolding(crate::specs::Programs::last_line))]
 fn last_line(source: &[Card]) -> Line
     ensures line { result ≡ last_line source.now }
@@ -140,9 +140,9 @@ fn last_line(source: &[Card]) -> Line
     read(&source[source.len() - 1])
 }
 
-/// Assembles the source that a deck begins with: its cards up to the first END card. Answers the
-/// program, or the lowest fault of each card that has one. The cards behind the source are data and
-/// are not looked at. Memory is taken for the program and on the way.
+/// Assembles the source at the beginning of a deck: its cards up to the first END card. Returns the
+/// program, or else the lowest fault of each card that has one. The cards after the source are data
+/// and are not read. Memory is taken for the program and during the work.
 pub fn assemble(alloc: Global, deck: &Deck) -> Result<Program, Faults>
     ensures program { IfOk result (IsProgramOf (source_of deck.now)) }
     ensures loadable { IfOk result CanBeLoaded }

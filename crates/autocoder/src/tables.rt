@@ -6,7 +6,7 @@ ghost use Rattle.autocoder.specs.Tables.{Stands, is_taken, filled_with, filled_t
 use autocoder_layout::Cell;
 use std::alloc::{AllocError, Global};
 
-/// A table of so many positions, none of them filled.
+/// A table of `size` positions, none of them filled.
 pub(crate) fn empty_table(alloc: Global, size: u16) -> Result<Vec<Option<Cell>>, AllocError>
     ensures stands { IfOk result (λ table. Stands size table.items []) }
     ensures size { IfOk result (λ table. length table.items ≡ size) }
@@ -30,14 +30,14 @@ fn is_taken_at(table: &[Option<Cell>], position: u32) -> bool
     }
 }
 
-/// Whether a position of some cells is filled.
+/// Whether a position of one of the cells is filled.
 pub(crate) fn is_taken(table: &[Option<Cell>], cells: &[Cell]) -> bool
     ensures { result ≡ is_taken table.now cells.now }
 {
     cells.iter().any(|cell| is_taken_at(table, cell.position))
 }
 
-/// Fills a position, where none was filled before.
+/// Fills a position, if it is not filled already.
 fn fill_one(table: &mut [Option<Cell>], cell: Cell)
     ensures { table.new ≡ filled_with table.old cell }
 {
@@ -50,7 +50,7 @@ fn fill_one(table: &mut [Option<Cell>], cell: Cell)
     }
 }
 
-/// Fills the positions of some cells, where none was filled before.
+/// Fills the positions of the cells, each if it is not filled already.
 pub(crate) fn fill(table: &mut [Option<Cell>], cells: &[Cell])
     ensures { table.new ≡ filled_table table.old cells.now }
 {
@@ -59,7 +59,7 @@ pub(crate) fn fill(table: &mut [Option<Cell>], cells: &[Cell])
     }
 }
 
-/// The cells of a table, by position.
+/// The cells of a table, in order of position.
 pub(crate) fn cells_in(alloc: Global, table: &[Option<Cell>]) -> Result<Vec<Cell>, AllocError>
     ensures { IfOk result (λ cells. cells.items ≡ cells_in table.now) }
 {

@@ -14,8 +14,8 @@ ghost use Rattle.autocoder_laws.specs.Instructions.{IsAmong, IsOfForm, IsAssembl
 
 /// The law of instructions: each mnemonic, in each of its forms, with each last character that it
 /// allows, is assembled to an instruction that the machine decodes as the operation that the
-/// mnemonic means, in that form, with what its last character says. Only an address may be at
-/// fault. So it is with each card that is read as an instruction.
+/// mnemonic means, in that form, with the meaning of its last character. Only an address may be at
+/// fault. The same holds of each card that is read as an instruction.
 pub fn instructions_are_decoded()
     ensures forms { (mnemonic : List ℕ) (row : ℕ × Option ℕ × Forms) (form : Form)
         (operands : Operands) → entry mnemonics mnemonic ≡ Some row → IsAmong row.2 form →

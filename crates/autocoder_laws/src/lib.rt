@@ -1,9 +1,9 @@
-//! Laws of the assembler and the machine: what the one makes, the other reads.
+//! Laws of the assembler and the machine: the machine reads what the assembler makes.
 //!
 //! The table of mnemonics is the assembler's, the table of operations the machine's. Here it is
-//! proved that they agree ([`instructions_are_decoded`]): the characters that the assembler makes
-//! of a mnemonic are an instruction that the machine decodes as what the mnemonic means. And it
-//! reads their addresses as what the card's operands mean ([`operands_are_read`]).
+//! proved that they agree ([`instructions_are_decoded`]): the machine decodes the characters of an
+//! assembled mnemonic as the operation that the mnemonic means. It also reads their addresses as
+//! the positions that the card's operands mean ([`operands_are_read`]).
 #![tactic(auto)]
 
 mod instructions;

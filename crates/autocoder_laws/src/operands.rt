@@ -11,7 +11,7 @@ ghost use Rattle.autocoder_layout.specs.declared.slots.Slot.{Slot};
 ghost use Rattle.autocoder_laws.specs.Operands.{meant_by, position_of};
 
 /// The law of operands: the machine reads each address of an assembled instruction as the position
-/// that its operand means, whatever storage the instruction is run in.
+/// that its operand means, in any storage in which the instruction is run.
 pub fn operands_are_read()
     ensures first { (size : ℕ) (slots : List Slot) (literals : List Characters)
         (spelled : Instruction) (operand : Operand) (s : Storage) → size ≤ largest_size →

@@ -1,4 +1,4 @@
-//! What a card fills.
+//! The positions that a card fills.
 
 ghost use Rattle.std.specs.Prelude.{◌≡◌, ◌+◌, ◌≤◌, ◌<◌, ◌++◌, length, option_to_list, replicate, IfSome, Some, IfOk, OnOk};
 ghost use Rattle.core_store.specs.Storage.{largest_size};
@@ -25,10 +25,10 @@ use std::alloc::{AllocError, Global};
 /// The first position that a source may fill: those below hold the card that loads the program.
 pub const FIRST_FREE: u32 = 81;
 
-/// What no filled position lies beyond.
+/// No filled position is above this one.
 const LAST_CELL: u32 = 400_000_000;
 
-/// A filled position.
+/// A filled position, its character, and whether it has a word mark.
 #[derive(Clone, Copy)]
 pub struct Cell {
     pub position: u32,
@@ -54,7 +54,7 @@ fn push_row(cells: &mut Vec<Cell>, place: u32, codes: &[Code]) -> Result<(), All
     Ok(())
 }
 
-/// Fills positions with characters, the leftmost with a mark or without.
+/// Fills positions with characters, the leftmost with or without a mark.
 #[tactic(auto, unfolding(crate::specs::Cells::field))]
 fn push_field(
     cells: &mut Vec<Cell>,
@@ -91,7 +91,7 @@ fn tag(index: Option<IndexLocation>) -> Zone
     }
 }
 
-/// The position that a value is. Where there is none the card has a fault.
+/// The position of a value, or 0 if it has none; then the card has a fault.
 fn position_in(value: Value) -> u16
     requires { IsValueWithin largest_size value }
     ensures position { result ≡ position_in value }
@@ -124,7 +124,7 @@ fn operand_codes(size: u16, slots: &[Slot], literals: &[Literal], operand: &Oper
     }
 }
 
-/// Adds the characters of an operand, where there is one.
+/// Adds the address characters of an operand, if there is one.
 fn push_operand(
     codes: &mut Vec<Code>,
     size: u16,
@@ -151,7 +151,7 @@ fn push_operand(
     Ok(())
 }
 
-/// Literals one behind the other from a place on.
+/// Fills positions with literals, one after the other from a place on.
 fn push_literals(cells: &mut Vec<Cell>, place: u32, literals: &[Literal]) -> Result<(), AllocError>
     requires place { place ≤ FARTHEST }
     requires count { length literals.now ≤ MOST_LITERALS }
@@ -183,7 +183,7 @@ fn push_blank_row(cells: &mut Vec<Cell>, place: u32, count: u32) -> Result<(), A
     Ok(())
 }
 
-/// Fills positions with blanks, the leftmost with a mark or without.
+/// Fills positions with blanks, the leftmost with or without a mark.
 #[tactic(auto, using(crate::proofs::Filling::blank_field))]
 fn push_blanks(
     cells: &mut Vec<Cell>,
@@ -231,7 +231,7 @@ fn instruction_codes(
     Ok(codes)
 }
 
-/// Adds the last character of an instruction, where there is one.
+/// Adds the last character of an instruction, if there is one.
 fn push_modifier(codes: &mut Vec<Code>, modifier: Option<Code>) -> Result<(), AllocError>
     ensures codes { OnOk result (codes.new.items ≡ codes.old.items ++ option_to_list modifier) }
     ensures length { OnOk result (length codes.new.items ≤ length codes.old.items + 1) }
@@ -243,7 +243,7 @@ fn push_modifier(codes: &mut Vec<Code>, modifier: Option<Code>) -> Result<(), Al
     Ok(())
 }
 
-/// The marked blank behind an instruction, where the next card that stands at a place ends it.
+/// Adds the marked blank after an instruction, if the next card with a place ends it.
 fn push_blank_behind(cells: &mut Vec<Cell>, later: &[Slot], place: u32) -> Result<(), AllocError>
     ensures { OnOk result (cells.new.items ≡ cells.old.items ++ blank_behind later.now place) }
 {
@@ -258,8 +258,8 @@ fn push_blank_behind(cells: &mut Vec<Cell>, later: &[Slot], place: u32) -> Resul
     Ok(())
 }
 
-/// Fills positions with a constant. Of blanks that go on past the end of the storage only the
-/// first are filled: `#99999` is no longer work than the storage is long.
+/// Fills positions with a constant. Of blanks that go past the end of the storage only the first
+/// are filled, so that `#99999` is not more work than the size of the storage.
 fn push_constant(
     cells: &mut Vec<Cell>,
     size: u16,
@@ -280,8 +280,9 @@ fn push_constant(
     }
 }
 
-/// What a card fills, with names and literals of the whole source: all of it, or the beginning
-/// that shows that it goes on past the end of the storage.
+/// Returns the cells that a card fills, given the names and literals of the whole source: all of
+/// them, or only the first ones if they go past the end of the storage. Fails only if there is no
+/// memory.
 #[tactic(auto, unfolding(crate::specs::Cells::cells_of), using(crate::proofs::Cutting::uncut, crate::proofs::Cutting::constant_cut))]
 pub fn cells_of(
     alloc: Global,

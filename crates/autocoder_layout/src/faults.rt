@@ -10,15 +10,15 @@ use autocoder_statements::StatementFault;
 pub enum SourceFault {
     /// There was no memory for the work.
     NoMemory,
-    /// The card can't be read.
+    /// The card cannot be read.
     Statement(StatementFault),
     /// An earlier card defines the label.
     TakenLabel,
-    /// A name that no card defines, or none of the earlier ones where these alone count.
+    /// A name that no card defines, or that no earlier card defines if only these count.
     UnknownName,
     /// An address or a position that is not in storage.
     Outside,
-    /// A filled position that belongs to the card that loads the program.
+    /// A filled position of the card that loads the program.
     Reserved,
     /// A position that an earlier card fills.
     Filled,
@@ -27,7 +27,7 @@ pub enum SourceFault {
 }
 
 impl SourceFault {
-    /// The number by which the fault is told.
+    /// The number that is printed for the fault.
     pub fn number(self) -> u8
         ensures { result ≡ fault_number self }
     {

@@ -13,7 +13,7 @@ use crate::slots::{FARTHEST, Slot};
 use crate::source::{Line, either};
 use autocoder_statements::{Expression, Operand, Statement};
 
-/// The expression of an operand that is an address.
+/// The expression of an operand, if it is an address.
 fn expression_in(operand: &Option<Operand>) -> Option<Expression>
     requires { IfSome operand.now IsOperandInRange }
     ensures expression { result ≡ expression_in operand.now }
@@ -25,7 +25,7 @@ fn expression_in(operand: &Option<Operand>) -> Option<Expression>
     }
 }
 
-/// The expressions on a card whose names any card may define.
+/// The expressions of a card whose names may be defined by any card.
 #[tactic(auto, unfolding(crate::specs::Judging::expressions_of))]
 fn expressions_of(line: &Line) -> (Option<Expression>, Option<Expression>)
     requires { IsInRange line.now }
@@ -54,7 +54,7 @@ impl Value {
         }
     }
 
-    /// Whether it is no position of the storage.
+    /// Whether it is not a position of the storage.
     fn is_outside(self) -> bool
         ensures { result ≡ is_outside self }
     {
@@ -65,7 +65,7 @@ impl Value {
     }
 }
 
-/// Whether an expression has a name that isn't defined.
+/// Whether an expression has a name that is not defined.
 fn has_unknown_name(size: u16, slots: &[Slot], expression: Option<Expression>) -> bool
     requires names { IsWithin FARTHEST slots.now }
     requires range { IfSome expression IsExpressionInRange }
@@ -77,7 +77,7 @@ fn has_unknown_name(size: u16, slots: &[Slot], expression: Option<Expression>) -
     }
 }
 
-/// Whether an expression is no position of the storage.
+/// Whether an expression is not a position of the storage.
 fn has_value_outside(size: u16, slots: &[Slot], expression: Option<Expression>) -> bool
     requires names { IsWithin FARTHEST slots.now }
     requires range { IfSome expression IsExpressionInRange }
@@ -89,7 +89,7 @@ fn has_value_outside(size: u16, slots: &[Slot], expression: Option<Expression>) 
     }
 }
 
-/// Whether a name of the card isn't defined.
+/// Whether a name of the card is not defined.
 #[tactic(auto, unfolding(crate::specs::Judging::names_unknown))]
 fn names_unknown(size: u16, slots: &[Slot], line: &Line) -> bool
     requires names { IsWithin FARTHEST slots.now }
@@ -103,7 +103,7 @@ fn names_unknown(size: u16, slots: &[Slot], line: &Line) -> bool
     )
 }
 
-/// Whether an address of the card isn't in storage.
+/// Whether an address of the card is not in storage.
 #[tactic(auto, unfolding(crate::specs::Judging::names_outside))]
 fn names_outside(size: u16, slots: &[Slot], line: &Line) -> bool
     requires names { IsWithin FARTHEST slots.now }
@@ -117,7 +117,7 @@ fn names_outside(size: u16, slots: &[Slot], line: &Line) -> bool
     )
 }
 
-/// Whether a position that the card passes isn't in storage.
+/// Whether a position that the card passes is not in storage.
 fn passes_outside(size: u16, slot: &Slot, line: &Line) -> bool
     ensures { result ≡ passes_outside size slot.now line.now }
 {
@@ -127,21 +127,21 @@ fn passes_outside(size: u16, slot: &Slot, line: &Line) -> bool
     }
 }
 
-/// Whether a position that is filled isn't in storage.
+/// Whether a filled position is not in storage.
 fn fills_outside(size: u16, cells: &[Cell]) -> bool
     ensures { result ≡ fills_outside size cells.now }
 {
     cells.iter().any(|cell| size as u32 <= cell.position)
 }
 
-/// Whether a position that is filled belongs to the card that loads the program.
+/// Whether a filled position belongs to the card that loads the program.
 fn fills_reserved(cells: &[Cell]) -> bool
     ensures { result ≡ fills_reserved cells.now }
 {
     cells.iter().any(|cell| cell.position < FIRST_FREE)
 }
 
-/// Whether an address or a position of the card isn't in storage.
+/// Whether an address or a position of the card is not in storage.
 #[tactic(auto, unfolding(crate::specs::Judging::is_beyond))]
 fn is_beyond(size: u16, slots: &[Slot], slot: &Slot, cells: &[Cell], line: &Line) -> bool
     requires names { IsWithin FARTHEST slots.now }
@@ -154,7 +154,8 @@ fn is_beyond(size: u16, slots: &[Slot], slot: &Slot, cells: &[Cell], line: &Line
     )
 }
 
-/// The lowest fault of a card, where it is known whether a position is filled already.
+/// The lowest fault of a card, if it has one. `overlaps` is whether an earlier card fills one of
+/// its positions.
 #[tactic(auto, unfolding(crate::specs::Judging::fault_by))]
 pub fn fault_by(
     size: u16,

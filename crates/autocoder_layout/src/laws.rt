@@ -7,16 +7,15 @@ ghost use Rattle.autocoder_layout.specs.Layout.{Laid, IsLayout, layout_of};
 ghost use Rattle.autocoder_layout.specs.Literals.{Characters, is_used, uses_of, firsts, literals_of};
 ghost use Rattle.autocoder_layout.specs.declared.slots.Slot.{Slot};
 
-/// The law of layouts: a source has one layout, and no other.
+/// The law of layouts: a source has exactly one layout.
 pub fn layout_is_unique()
     ensures one { (size : ℕ) (lines : List Line) → IsLayout size lines (layout_of size lines) }
     ensures no_other { (size : ℕ) (lines : List Line) (layout : List Laid) →
         IsLayout size lines layout → layout ≡ layout_of size lines }
 {}
 
-/// The law of literals: no two of a source are equal; each that is used is among them, and no
-/// other; and a further use puts its literal behind the others, where no use before it is of that
-/// literal.
+/// The law of literals: no two literals of a source are equal; each that is used is among them, and
+/// no other; and one more use adds its literal at the end, if no use before it is of that literal.
 pub fn literals_stand_once()
     ensures once { (lines : List Line) (slots : List Slot) →
         AllPairs (λ one other. one ≢ other) (literals_of lines slots) }

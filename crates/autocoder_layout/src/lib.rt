@@ -1,11 +1,11 @@
-//! The layout of an Autocoder source: where each card stands, what it defines and what it fills,
+//! The layout of an Autocoder source: the place of each card, what it defines and what it fills,
 //! and its lowest fault.
 //!
-//! The layer stands on `statements`, and so knows what each card says. Its contract for the layer
-//! above: a source has exactly one layout (`layout_is_unique`), and each call gives a piece of it
-//! by the definitions of `specs/`. A rule asks of a card what the cards before it and behind it
-//! give, and the names and literals of the whole source; no rule speaks of passes. No literal
-//! stands twice (`literals_stand_once`). Memory is taken for lists of slots, literals and cells.
+//! The crate uses the statements of `autocoder_statements`. Its contract for the layer above: a
+//! source has exactly one layout (`layout_is_unique`), and each call returns a piece of it by the
+//! definitions of `specs/`. A rule for a card depends on the cards before and after it, and on the
+//! names and literals of the whole source; no rule speaks of passes. No literal is placed twice
+//! (`literals_stand_once`). Memory is taken for lists of slots, literals and cells.
 #![tactic(auto)]
 
 mod cells;

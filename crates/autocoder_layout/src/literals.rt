@@ -1,4 +1,4 @@
-//! The literals of a source: in which order they come, and where they stand.
+//! The literals of a source: their order, and their places.
 
 ghost use Rattle.std.specs.Prelude.{◌≡◌, ◌+◌, ◌*◌, ◌≤◌, ◌++◌, [], length, false, bytes_eq, IfOk, OnOk};
 ghost use Rattle.autocoder_layout.specs.Source.{lines_of};
@@ -14,10 +14,10 @@ use bcd::Code;
 use cards::Card;
 use std::alloc::{AllocError, Global};
 
-/// How many literals a source has at most: two on each card.
+/// The greatest number of literals of a source: two on each card.
 pub const MOST_LITERALS: usize = 4000;
 
-/// Characters that are placed behind the source.
+/// Characters that are placed after the source.
 #[derive(Clone, Copy)]
 pub struct Literal {
     codes: [Code; LONGEST_TEXT],
@@ -47,7 +47,7 @@ impl Literal {
     }
 }
 
-/// Adds the literal that an operand is.
+/// Adds the literal of an operand, if it is one.
 fn push_literal(uses: &mut Vec<Literal>, operand: &Option<Operand>) -> Result<(), AllocError>
     ensures uses { OnOk result (texts uses.new.items
         ≡ texts uses.old.items ++ literal_in operand.now) }
@@ -60,7 +60,7 @@ fn push_literal(uses: &mut Vec<Literal>, operand: &Option<Operand>) -> Result<()
     Ok(())
 }
 
-/// Adds the literals that a card uses, where it doesn't count as a comment.
+/// Adds the literals that a card uses, unless it counts as a comment.
 #[tactic(auto, unfolding(crate::specs::Literals::uses_in))]
 fn push_uses(uses: &mut Vec<Literal>, line: &Line, slot: &Slot) -> Result<(), AllocError>
     ensures uses { OnOk result (texts uses.new.items
@@ -77,7 +77,7 @@ fn push_uses(uses: &mut Vec<Literal>, line: &Line, slot: &Slot) -> Result<(), Al
     push_literal(uses, &instruction.second)
 }
 
-/// The literals that a source uses, by card and operand.
+/// The literals that a source uses, in order of card and operand.
 fn uses(alloc: Global, source: &[Card], slots: &[Slot]) -> Result<Vec<Literal>, AllocError>
     requires deck { length source.now ≤ largest_deck }
     requires slots { length slots.now ≡ length source.now }
@@ -109,7 +109,8 @@ fn is_used(uses: &[Literal], literal: &[Code]) -> bool
     uses.iter().any(|used| is_same(used, literal))
 }
 
-/// The literals of a source in the order of their first use.
+/// Returns the literals of a source in the order of their first use. Fails only if there is no
+/// memory.
 #[tactic(auto, unfolding(crate::specs::Literals::literals_of))]
 pub fn literals_of(
     alloc: Global,
@@ -127,7 +128,7 @@ pub fn literals_of(
     Ok(literals)
 }
 
-/// The uses without those of a literal that was used before.
+/// The uses without repetitions: each literal at its first use only.
 fn firsts(alloc: Global, uses: &[Literal]) -> Result<Vec<Literal>, AllocError>
     requires { length uses.now ≤ MOST_LITERALS }
     ensures firsts { IfOk result (λ literals. texts literals.items ≡ firsts [] (texts uses.now)) }
@@ -144,7 +145,7 @@ fn firsts(alloc: Global, uses: &[Literal]) -> Result<Vec<Literal>, AllocError>
     Ok(literals)
 }
 
-/// The last position of a literal, where the literals stand one behind the other from a place on.
+/// The last position of a literal, if the literals are placed one after the other from a place on.
 pub(crate) fn literal_end(place: u32, literals: &[Literal], wanted: &[Code]) -> u32
     requires place { place ≤ FARTHEST }
     requires count { length literals.now ≤ MOST_LITERALS }

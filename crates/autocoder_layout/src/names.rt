@@ -8,7 +8,7 @@ ghost use Rattle.autocoder_statements.specs.Ranges.{IsBaseInRange, IsExpressionI
 use crate::slots::{FARTHEST, Slot};
 use autocoder_statements::{Adjustment, Base, Expression, Name};
 
-/// What an expression stands for.
+/// The value of an expression.
 #[derive(Clone, Copy, Debug, PartialEq, Eq)]
 pub enum Value {
     /// Its name is not defined.
@@ -20,7 +20,7 @@ pub enum Value {
 }
 
 impl Slot {
-    /// Whether the card gives a name its address.
+    /// Whether the card defines a name.
     fn defines(&self, name: &Name) -> bool
         ensures { result ≡ defines name.now self.now }
     {
@@ -31,14 +31,14 @@ impl Slot {
     }
 }
 
-/// The first card that gives a name its address.
+/// The first card that defines a name.
 fn defining<'a>(slots: &'a [Slot], name: &Name) -> Option<&'a Slot>
     ensures { option_copied result ≡ find (defines name.now) slots.now }
 {
     slots.iter().find(|slot| slot.defines(name))
 }
 
-/// The address of a name, as the first card gives it that defines the name.
+/// The address of a name, from the first card that defines it.
 #[tactic(auto, unfolding(crate::specs::Names::address_of))]
 pub(crate) fn address_of(slots: &[Slot], name: &Name) -> Option<u32>
     ensures { result ≡ address_of name.now slots.now }
@@ -47,7 +47,7 @@ pub(crate) fn address_of(slots: &[Slot], name: &Name) -> Option<u32>
     Some(slot.defines?.address)
 }
 
-/// A number as a position of the storage.
+/// A number as a position of the storage, or `Outside`.
 #[tactic(auto, unfolding(crate::specs::Names::within))]
 fn within(size: u16, number: u32) -> Value
     ensures value { result ≡ within size number }
@@ -60,7 +60,7 @@ fn within(size: u16, number: u32) -> Value
     }
 }
 
-/// The number that a base stands for.
+/// The number of a base, if its name is defined.
 #[tactic(auto, using(crate::proofs::Bounds::address_within))]
 fn base_number(slots: &[Slot], base: Base) -> Option<u32>
     requires names { IsWithin FARTHEST slots.now }
@@ -74,7 +74,7 @@ fn base_number(slots: &[Slot], base: Base) -> Option<u32>
     }
 }
 
-/// What an expression stands for, by the cards that give names their addresses.
+/// The value of an expression, given the cards that define names.
 #[tactic(auto, unfolding(crate::specs::Names::value_in))]
 pub fn value_in(size: u16, slots: &[Slot], expression: Expression) -> Value
     requires names { IsWithin FARTHEST slots.now }

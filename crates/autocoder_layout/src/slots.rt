@@ -1,4 +1,4 @@
-//! What a card makes of the place it stands at.
+//! The slot of a card: its place, its label and its fault.
 
 ghost use Rattle.std.specs.Prelude.{◌≡◌, ◌+◌, ◌≤◌, ◌<◌, [], length, false, reverse, find, option_copied, IfOk};
 ghost use Rattle.core_store.specs.Storage.{largest_size};
@@ -15,53 +15,54 @@ use autocoder_statements::{Expression, Name, Statement, StatementFault};
 use cards::Card;
 use std::alloc::{AllocError, Global};
 
-/// Where the first card stands.
+/// The place of the first card.
 pub const FIRST_PLACE: u32 = 333;
 
-/// What no place lies beyond: each of 2,000 cards takes fewer than 100,000 positions.
+/// No place is above this one: each of 2,000 cards takes fewer than 100,000 positions.
 pub const FARTHEST: u32 = 300_000_000;
 
-/// What no place in front of a card lies beyond.
+/// No place before a card is above this one.
 pub const LAST_PLACE: u32 = 299_000_000;
 
 /// A name and its address.
 #[derive(Clone, Copy)]
 pub struct Definition {
     pub name: Name,
-    /// The address, which may lie outside the storage.
+    /// The address, which may be outside the storage.
     pub address: u32,
 }
 
 /// What a card does at its place.
 #[derive(Clone, Copy, Debug, PartialEq, Eq)]
 pub enum Kind {
-    /// It stands at no place: a comment, or what counts as one.
+    /// Nothing, and it has no place: a comment, or a card that counts as one.
     Nothing,
     /// It fills positions with an instruction.
     Instruction,
     /// It fills positions with a constant.
     Constant,
-    /// It passes positions without filling them, or goes on elsewhere, or ends the source.
+    /// It passes positions without filling them, or moves the place, or ends the source.
     Passing,
 }
 
-/// Where a card stands and what it defines, or the fault for which it does neither.
+/// The place of a card and what it defines, or the fault for which it does neither.
 #[derive(Clone, Copy)]
 pub struct Slot {
     /// The card's first position.
     pub before: u32,
-    /// The position behind the card's last.
+    /// The position after the card's last.
     pub after: u32,
-    /// What its label means.
+    /// The name that its label defines, if it has one.
     pub defines: Option<Definition>,
     pub fault: Option<SourceFault>,
     pub kind: Kind,
-    /// Whether the card ends an instruction before it, behind which a marked blank is placed.
+    /// Whether the card ends an instruction before it; then a marked blank is placed after that
+    /// instruction.
     pub closes: bool,
 }
 
 impl Kind {
-    /// Whether the card stands at no place.
+    /// Whether a card of this kind has no place.
     fn is_nothing(self) -> bool
         ensures { result ≡ is_nothing self }
     {
@@ -83,7 +84,7 @@ impl Kind {
 }
 
 impl Slot {
-    /// Whether the card stands at a place.
+    /// Whether the card has a place.
     fn stands(&self) -> bool
         ensures { result ≡ stands self.now }
     {
@@ -91,7 +92,7 @@ impl Slot {
     }
 }
 
-/// Where the cards so far end.
+/// The place after the cards so far.
 pub fn place_after(slots: &[Slot]) -> u32
     ensures { result ≡ place_after slots.now }
 {
@@ -101,21 +102,21 @@ pub fn place_after(slots: &[Slot]) -> u32
     slots[slots.len() - 1].after
 }
 
-/// The last card that stands at a place.
+/// The last card that has a place.
 fn last_standing(slots: &[Slot]) -> Option<&Slot>
     ensures { option_copied result ≡ find stands (reverse slots.now) }
 {
     slots.iter().rev().find(|slot| slot.stands())
 }
 
-/// The first card that stands at a place.
+/// The first card that has a place.
 fn first_standing(slots: &[Slot]) -> Option<&Slot>
     ensures { option_copied result ≡ find stands slots.now }
 {
     slots.iter().find(|slot| slot.stands())
 }
 
-/// Whether the last card that stands at a place is an instruction.
+/// Whether the last card that has a place is an instruction.
 #[tactic(auto, unfolding(crate::specs::Slots::is_open))]
 fn is_open(earlier: &[Slot]) -> bool
     ensures { result ≡ is_open earlier.now }
@@ -126,7 +127,7 @@ fn is_open(earlier: &[Slot]) -> bool
     slot.kind.is_instruction()
 }
 
-/// Whether the next card that stands at a place ends an instruction before it.
+/// Whether the next card that has a place ends an instruction before it.
 #[tactic(auto, unfolding(crate::specs::Slots::is_closed))]
 pub(crate) fn is_closed(later: &[Slot]) -> bool
     ensures { result ≡ is_closed later.now }
@@ -144,7 +145,7 @@ pub fn first_instruction(slots: &[Slot]) -> Option<&Slot>
     slots.iter().find(|slot| slot.kind.is_instruction())
 }
 
-/// Where a card begins that ends an instruction before it.
+/// The place of a card that ends an instruction before it.
 #[tactic(auto, unfolding(crate::specs::Slots::place_behind))]
 fn place_behind(earlier: &[Slot]) -> u32
     requires { place_after earlier.now < FARTHEST }
@@ -158,7 +159,7 @@ fn place_behind(earlier: &[Slot]) -> u32
     }
 }
 
-/// A card that places and defines nothing.
+/// The slot of a card that places and defines nothing.
 fn stays(earlier: &[Slot], fault: Option<SourceFault>) -> Slot
     ensures { result ≡ stays earlier.now fault }
 {
@@ -173,7 +174,7 @@ fn stays(earlier: &[Slot], fault: Option<SourceFault>) -> Slot
     }
 }
 
-/// A card that takes the positions from one place up to another.
+/// The slot of a card that takes the positions from `before` up to but not including `after`.
 fn takes(kind: Kind, closes: bool, before: u32, after: u32) -> Slot
     ensures { result ≡ takes kind closes before after }
 {
@@ -188,7 +189,7 @@ fn takes(kind: Kind, closes: bool, before: u32, after: u32) -> Slot
 }
 
 impl Slot {
-    /// The same with a label.
+    /// The same slot with a label.
     fn with_label(&self, name: Name, address: u32) -> Slot
         ensures { result ≡ with_label self.now name address }
     {
@@ -202,7 +203,7 @@ impl Slot {
         }
     }
 
-    /// The card with the label that it may have, which no earlier card may define.
+    /// The slot with the card's label, if it has one, which no earlier card may define.
     #[tactic(auto, unfolding(crate::specs::Slots::labelled))]
     fn labelled(&self, earlier: &[Slot], label: Option<Name>, address: u32) -> Slot
         ensures { result ≡ labelled earlier.now label address self.now }
@@ -217,7 +218,7 @@ impl Slot {
     }
 }
 
-/// A card that goes on at a position.
+/// The slot of a card that moves the place to a position.
 fn moved_to(earlier: &[Slot], value: Value) -> Slot
     requires { place_after earlier.now < FARTHEST }
     ensures { result ≡ moved_to earlier.now value }
@@ -234,7 +235,7 @@ fn moved_to(earlier: &[Slot], value: Value) -> Slot
     }
 }
 
-/// A card that gives a name an address.
+/// The slot of a card that gives a name an address.
 fn equal_to(earlier: &[Slot], name: Name, value: Value) -> Slot
     ensures { result ≡ equal_to earlier.now name value }
 {
@@ -245,7 +246,7 @@ fn equal_to(earlier: &[Slot], name: Name, value: Value) -> Slot
     }
 }
 
-/// Whether the program has a start: an address, or else an instruction.
+/// Whether the program has a start: an address, or else its first instruction.
 fn has_start(earlier: &[Slot], start: Option<Expression>) -> bool
     ensures { result ≡ has_start earlier.now start }
 {
@@ -255,7 +256,7 @@ fn has_start(earlier: &[Slot], start: Option<Expression>) -> bool
     }
 }
 
-/// What is wrong with an `END`: its program has no start, or it has a label.
+/// The fault of an `END`, if its program has no start or if it has a label.
 fn end_fault(earlier: &[Slot], start: Option<Expression>, labelled: bool) -> Option<StatementFault>
     ensures { result ≡ end_fault earlier.now start labelled }
 {
@@ -268,7 +269,7 @@ fn end_fault(earlier: &[Slot], start: Option<Expression>, labelled: bool) -> Opt
     None
 }
 
-/// A card that ends the source.
+/// The slot of a card that ends the source.
 fn ended(earlier: &[Slot], start: Option<Expression>, labelled: bool) -> Slot
     requires { place_after earlier.now < FARTHEST }
     ensures { result ≡ ended earlier.now start labelled }
@@ -280,7 +281,7 @@ fn ended(earlier: &[Slot], start: Option<Expression>, labelled: bool) -> Slot
     takes(Kind::Passing, is_open(earlier), place, place)
 }
 
-/// A card that takes so many positions from a place on, its label being the last of them.
+/// The slot of a card that takes `count` positions from a place on. Its label is the last of them.
 fn run(
     earlier: &[Slot],
     label: Option<Name>,
@@ -296,7 +297,7 @@ fn run(
     takes(kind, closes, place, place + count).labelled(earlier, label, place + count - 1)
 }
 
-/// A constant. One without a mark ends an instruction before it.
+/// The slot of a constant. One without a mark ends an instruction before it.
 fn constant(earlier: &[Slot], label: Option<Name>, marked: bool, count: u32) -> Slot
     requires some { 0 < count }
     requires limit { place_after earlier.now + 1 + count ≤ FARTHEST }
@@ -318,7 +319,7 @@ fn constant(earlier: &[Slot], label: Option<Name>, marked: bool, count: u32) -> 
     }
 }
 
-/// Positions that a card passes.
+/// The slot of a card that passes positions.
 fn area(earlier: &[Slot], label: Option<Name>, count: u32) -> Slot
     requires some { 0 < count }
     requires limit { place_after earlier.now + 1 + count ≤ FARTHEST }
@@ -335,7 +336,7 @@ fn area(earlier: &[Slot], label: Option<Name>, count: u32) -> Slot
     )
 }
 
-/// An instruction. Its label is its first position.
+/// The slot of an instruction. Its label is its first position.
 fn instruction(earlier: &[Slot], label: Option<Name>, count: u16) -> Slot
     requires { place_after earlier.now + count ≤ FARTHEST }
     ensures { result ≡ instruction earlier.now label count }
@@ -344,7 +345,7 @@ fn instruction(earlier: &[Slot], label: Option<Name>, count: u16) -> Slot
     takes(Kind::Instruction, false, place, place + count as u32).labelled(earlier, label, place)
 }
 
-/// What a name and its expression make of the cards so far.
+/// The slot of a card that equates a name with an expression.
 fn equated(size: u16, earlier: &[Slot], label: Name, expression: Expression) -> Slot
     requires names { IsWithin FARTHEST earlier.now }
     requires range { IsExpressionInRange expression }
@@ -356,7 +357,7 @@ fn equated(size: u16, earlier: &[Slot], label: Name, expression: Expression) -> 
     equal_to(earlier, label, value_in(size, earlier, expression))
 }
 
-/// What the earlier cards make of a card. No name of a later card counts here.
+/// The slot of a card, given the slots of the earlier cards. No name of a later card counts.
 #[tactic(auto, unfolding(crate::specs::Slots::slot_of), using(crate::proofs::Bounds::constant_length_in_range))]
 fn slot_of(size: u16, earlier: &[Slot], line: Line) -> Slot
     requires names { IsWithin FARTHEST earlier.now }
@@ -388,7 +389,7 @@ fn slot_of(size: u16, earlier: &[Slot], line: Line) -> Slot
     }
 }
 
-/// The slot of each card of a source.
+/// Returns the slot of each card of a source. Fails only if there is no memory.
 pub fn lay_out(alloc: Global, size: u16, source: &[Card]) -> Result<Vec<Slot>, AllocError>
     requires count { length source.now ≤ largest_deck }
     requires size { size ≤ largest_size }

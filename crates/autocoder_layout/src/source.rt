@@ -11,7 +11,7 @@ use core_store::Size;
 /// What a card says, or its lowest fault.
 pub type Line = Result<Statement, StatementFault>;
 
-/// Whether a card ends the source, also one with a fault.
+/// Whether a card ends the source, even if it has a fault.
 #[tactic(auto, unfolding(crate::specs::Source::is_end))]
 fn is_end(card: &Card) -> bool
     ensures { result ≡ is_end card.now }
@@ -22,7 +22,7 @@ fn is_end(card: &Card) -> bool
     }
 }
 
-/// Whether a card tells the size of storage, also one with a fault.
+/// Whether a card is a `CTL`, which gives the size of storage, even if it has a fault.
 #[tactic(auto, unfolding(crate::specs::Source::is_control))]
 pub fn is_control(card: &Card) -> bool
     ensures { result ≡ is_control card.now }
@@ -33,7 +33,7 @@ pub fn is_control(card: &Card) -> bool
     }
 }
 
-/// Where the card is that ends the source.
+/// The index of the card that ends the source.
 fn end_of(cards: &[Card]) -> Option<usize>
     ensures { result ≡ end_of cards.now }
 {
@@ -47,7 +47,8 @@ pub fn has_end(cards: &[Card]) -> bool
     end_of(cards).is_some()
 }
 
-/// The source: the cards up to the first that ends it, and with it. The cards behind are data.
+/// The source of a deck: its cards up to and with the first that ends it. The cards after it are
+/// data.
 #[tactic(auto, unfolding(crate::specs::Source::source_of))]
 pub fn source_of(cards: &[Card]) -> &[Card]
     ensures source { result.now ≡ source_of cards.now }
@@ -59,7 +60,7 @@ pub fn source_of(cards: &[Card]) -> &[Card]
     &cards[..end + 1]
 }
 
-/// The size that a card tells, if it is good.
+/// The size that a card gives, or 4000 if the card has a fault.
 fn size_in(line: Line) -> Size
     ensures { result ≡ size_in line }
 {
@@ -69,14 +70,14 @@ fn size_in(line: Line) -> Size
     }
 }
 
-/// The first card that is there to tell the size.
+/// The first `CTL` card of the source.
 fn first_control(source: &[Card]) -> Option<&Card>
     ensures { option_copied result ≡ find is_control source.now }
 {
     source.iter().find(|card| is_control(card))
 }
 
-/// The size of storage: as the first card tells it that is there to tell it, else 4000.
+/// The size of storage, from the first `CTL` card, or 4000 without one.
 #[tactic(auto, unfolding(crate::specs::Source::size_of))]
 pub fn size_of(source: &[Card]) -> Size
     ensures { result ≡ size_of source.now }
@@ -87,7 +88,7 @@ pub fn size_of(source: &[Card]) -> Size
     size_in(read(card))
 }
 
-/// What a card says behind a card that told the size, or behind none.
+/// What a card says, if an earlier card gave the size (`told`) or none did.
 #[tactic(auto, unfolding(crate::specs::Source::line_on))]
 pub fn line_on(told: bool, card: &Card) -> Line
     ensures line { result ≡ line_on told card.now }
@@ -106,7 +107,7 @@ pub fn line_on(told: bool, card: &Card) -> Line
     }
 }
 
-/// One of two.
+/// Whether at least one of two is true.
 pub(crate) fn either(one: bool, other: bool) -> bool
     ensures { result ≡ (one || other) }
 {

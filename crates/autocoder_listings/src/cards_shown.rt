@@ -18,7 +18,7 @@ use autocoder_layout::{
 use cards::Card;
 use std::alloc::{AllocError, Global};
 
-/// A card with how many characters it places.
+/// The line of a card with the number of characters that it places.
 #[tactic(auto, unfolding(crate::specs::Coded::counted_line))]
 fn counted_line(
     alloc: Global,
@@ -36,7 +36,7 @@ fn counted_line(
     Ok(line)
 }
 
-/// The line of a card, with the first row of what it places.
+/// The line of a card, with the first row of the code that it places.
 #[tactic(auto, unfolding(crate::specs::Coded::first_line))]
 fn first_line(
     alloc: Global,
@@ -73,7 +73,7 @@ fn push_card(
     push_further_lines(alloc, text, cells)
 }
 
-/// Whether a card so far gave the size, where one more card is read.
+/// Whether this card or one before it gives the size. `told` is whether one before it does.
 pub(crate) fn is_told(told: bool, card: &Card) -> bool
     ensures { result ≡ (told || is_control card.now) }
 {

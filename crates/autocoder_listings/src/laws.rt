@@ -1,4 +1,4 @@
-//! The law of the code that is shown.
+//! The law of the code in a listing.
 
 ghost use Rattle.std.specs.Prelude.{◌≢◌, List, AllPairs, Contains};
 ghost use Rattle.cards.specs.declared.decks.Card.{Card};
@@ -6,9 +6,9 @@ ghost use Rattle.autocoder_layout.specs.declared.cells.Cell.{Cell};
 ghost use Rattle.autocoder.specs.Programs.{IsFaultless, image_for};
 ghost use Rattle.autocoder_listings.specs.Reading.{code_shown};
 
-/// The law of the code that is shown: the characters that a listing shows of a source without
-/// faults, each row from its address on, are those of the program's image with their word marks,
-/// and no others, and no position is shown twice.
+/// The law of the code in a listing: the characters that the listing of a source without faults
+/// shows, each row from its address on, are those of the program's image with their word marks, and
+/// no others. No position is shown twice.
 #[tactic(auto, using(crate::proofs::Exact::image_shown, crate::proofs::Exact::shown_in_image, crate::proofs::Exact::each_once))]
 pub fn code_shown_is_the_image()
     ensures all { (source : List Card) → IsFaultless source → (c : Cell) →

@@ -1,9 +1,9 @@
 //! The listing of a source that shows the assembled code.
 //!
-//! It puts beside each card the characters that the card places, as the assembler's layout gives
-//! them, and below the cards a table of the names. Its contract for whoever prints it:
-//! `listing_with_code` returns exactly the bytes of `specs/Listing.antt`, or fails for want of
-//! memory. The law: the code that it shows is the image of the program, no more and no less.
+//! It shows beside each card the characters that the card places, as the assembler's layout defines
+//! them, and after the cards a table of the names. Its contract: `listing_with_code` returns
+//! exactly the bytes of `specs/Listing.antt`, or fails if there is no memory. The law: the code in
+//! the listing is the image of the program.
 #![tactic(auto)]
 
 mod cards_shown;

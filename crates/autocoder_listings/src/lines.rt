@@ -10,7 +10,7 @@ use cards::{Card, LINE_FEED};
 use itoa::Buffer;
 use std::alloc::{AllocError, Global};
 
-/// Adds so many fillers.
+/// Adds `count` fillers.
 pub(crate) fn push_fillers(line: &mut Vec<u8>, filler: u8, count: usize) -> Result<(), AllocError>
     ensures { OnOk result (line.new.items ≡ line.old.items ++ replicate count filler) }
 {
@@ -20,7 +20,7 @@ pub(crate) fn push_fillers(line: &mut Vec<u8>, filler: u8, count: usize) -> Resu
     Ok(())
 }
 
-/// Adds a number in a field of so many places, after fillers.
+/// Adds a number right-aligned in a field of `width` characters, after fillers.
 pub(crate) fn push_number(
     line: &mut Vec<u8>,
     filler: u8,
@@ -69,7 +69,7 @@ fn push_place(line: &mut Vec<u8>, slot: &Slot) -> Result<(), AllocError>
     }
 }
 
-/// The line of a card as it is listed without code.
+/// The line of a card as in the listing without code.
 #[tactic(auto, unfolding(autocoder::specs::Listing::card_line))]
 pub(crate) fn card_line(
     alloc: Global,
@@ -88,7 +88,7 @@ pub(crate) fn card_line(
     Ok(line)
 }
 
-/// How many characters a line has without the blanks at its end.
+/// The number of characters of a line without the blanks at its end.
 fn length_listed(line: &[u8]) -> usize
     ensures within { result ≤ length line.now }
     ensures text { listed line.now ≡ take result line.now ++ line_feed ∷ [] }
@@ -101,7 +101,7 @@ fn length_listed(line: &[u8]) -> usize
     0
 }
 
-/// Adds a line without the blanks at its end, and the end of the line.
+/// Adds a line without the blanks at its end, and its line feed.
 pub(crate) fn push_line(text: &mut Vec<u8>, line: &[u8]) -> Result<(), AllocError>
     ensures { OnOk result (text.new.items ≡ text.old.items ++ listed line.now) }
 {

@@ -12,14 +12,14 @@ use autocoder_layout::{lay_out, source_of};
 use cards::Deck;
 use std::alloc::{AllocError, Global};
 
-/// The listing of a deck's source with its code, by the program that it is assembled to. It has
-/// the line of each card as `autocoder::listing` has it. Where the card places characters their
-/// count follows, the address of the first one, and the characters, with an apostrophe before each
-/// that has a word mark: twenty on the line of the card, and twenty on each further line below it,
-/// after the address of the first one there. Literals are with the card that ends the source. After
-/// the cards come a heading and a line for each name: its address, and the numbers of the cards
-/// that use it in an address, twenty on a line. Each line ends with a line feed. Fails for want of
-/// memory alone.
+/// Returns the listing of a deck's source with its code, given the program that it is assembled to.
+/// It has the line of each card as `autocoder::listing` has it. If the card places characters,
+/// these follow: their count, the address of the first one, and the characters, with an apostrophe
+/// before each that has a word mark. Twenty are on the line of the card, and twenty on each further
+/// line below it, after the address of the first one there. Literals are shown with the card that
+/// ends the source. After the cards come a heading and a line for each name: its address, and the
+/// numbers of the cards that use it in an address, twenty on a line. Each line ends with a line
+/// feed. Fails only if there is no memory.
 pub fn listing_with_code(
     alloc: Global,
     deck: &Deck,

@@ -15,7 +15,7 @@ use autocoder_statements::{Base, Name, Operand, Statement};
 use cards::Card;
 use std::alloc::{AllocError, Global};
 
-/// How wide the part of a line before its cards is.
+/// The width of the part of a line before its cards.
 const MARGIN: usize = 12;
 
 /// Whether an address begins with a name.
@@ -92,7 +92,7 @@ fn users(alloc: Global, wanted: &Name, source: &[Card]) -> Result<Vec<u64>, Allo
     Ok(cards)
 }
 
-/// The row of this number.
+/// The row with this number.
 fn row_at(cards: &[u64], number: usize) -> &[u64]
     requires { 20 * number ≤ length cards.now }
     ensures { result.now ≡ row_at cards.now number }

@@ -8,20 +8,20 @@ use crate::lines::{push_fillers, push_line, push_number};
 use autocoder_layout::Cell;
 use std::alloc::{AllocError, Global};
 
-/// How many characters, or cards, a row has at most.
+/// The greatest number of characters, or cards, in a row.
 pub(crate) const ROW_LENGTH: usize = 20;
 
-/// How wide the part of a line before its row is.
+/// The width of the part of a line before its row.
 const MARGIN: usize = 98;
 
-/// How many rows so many characters, or cards, take.
+/// The number of rows that `count` characters, or cards, take.
 pub(crate) fn rows_for(count: usize) -> usize
     ensures { result ≡ rows_for count }
 {
     count.div_ceil(ROW_LENGTH)
 }
 
-/// The row of this number.
+/// The row with this number.
 pub(crate) fn row_at(cells: &[Cell], number: usize) -> &[Cell]
     requires { 20 * number ≤ length cells.now }
     ensures { result.now ≡ row_at cells.now number }
@@ -30,7 +30,7 @@ pub(crate) fn row_at(cells: &[Cell], number: usize) -> &[Cell]
     &rest[..rest.len().min(ROW_LENGTH)]
 }
 
-/// Adds a character, after a sign where it has a word mark.
+/// Adds a character, after an apostrophe if it has a word mark.
 fn push_shown(line: &mut Vec<u8>, cell: &Cell) -> Result<(), AllocError>
     ensures { OnOk result (line.new.items ≡ line.old.items ++ shown cell.now) }
 {

@@ -6,12 +6,12 @@ ghost use Rattle.autocoder_statements.specs.Characters.{is_of, run, begins, begi
 
 use bcd::Code;
 
-/// Characters that may follow each other in a text.
+/// A class of characters.
 #[derive(Clone, Copy)]
 pub enum Class {
     /// The digits 0 to 9.
     Digit,
-    /// What a name is made of.
+    /// The letters and digits: the characters of names.
     LetterOrDigit,
     /// Each character but the blank.
     Filled,
@@ -47,7 +47,7 @@ impl Class {
         }
     }
 
-    /// How many characters of the class a text begins with.
+    /// The number of characters of the class at the beginning of a text.
     pub fn run(self, text: &[Code]) -> usize
         ensures run { result ≡ run self text.now }
         ensures within { result ≤ length text.now }
@@ -88,7 +88,7 @@ pub fn begins_with_letter(text: &[Code]) -> bool
     }
 }
 
-/// Whether the next two columns are blank, as far as the field goes.
+/// Whether the next two columns are blank, or as many as the field still has.
 #[tactic(auto, unfolding(crate::specs::Characters::is_ended))]
 pub fn is_ended(text: &[Code]) -> bool
     ensures { result ≡ is_ended text.now }
@@ -121,7 +121,7 @@ pub fn number_of(digits: &[Code]) -> u32
     number
 }
 
-/// A word with blanks behind it.
+/// A word padded with blanks at its end.
 pub fn padded<const SIZE: usize>(word: &[Code]) -> [Code; SIZE]
     requires { length word.now ≤ SIZE }
     ensures { result ≡ padded SIZE word.now }

@@ -1,4 +1,4 @@
-//! The fields of a card, which columns bound.
+//! The fields of a card, by their columns.
 
 ghost use Rattle.std.specs.Prelude.{◌≡◌, length};
 ghost use Rattle.std.specs.List.{list_all};
@@ -45,14 +45,14 @@ pub fn is_comment(card: &Card) -> bool
     begins(label_field(card), b"*")
 }
 
-/// Whether there are blanks alone.
+/// Whether all characters are blank.
 fn are_blank(text: &[Code]) -> bool
     ensures { result ≡ list_all is_blank text.now }
 {
     text.iter().all(|code| is_blank(*code))
 }
 
-/// Whether something stands behind the first blank of a field.
+/// Whether there is a character after the first blank of a field.
 #[tactic(auto, unfolding(crate::specs::Statements::is_broken))]
 pub fn is_broken(field: &[Code]) -> bool
     ensures { result ≡ is_broken field.now }
@@ -70,8 +70,8 @@ pub fn operation_in(field: &[Code]) -> Option<Operation>
     operation_named(&word)
 }
 
-/// The operation of a card, also of one with another fault than an unknown operation. There is
-/// none for a comment.
+/// The operation of a card, even if the card has a fault other than an unknown operation. `None`
+/// for a comment.
 #[tactic(auto, unfolding(crate::specs::Statements::operation_of))]
 pub fn operation_of(card: &Card) -> Option<Operation>
     ensures { result ≡ operation_of card.now }

@@ -1,6 +1,6 @@
-//! Literals and constants, as a text begins with them.
+//! Literals and constants at the beginning of a text.
 //!
-//! Each reader answers what it read and how many characters that takes.
+//! Each reader returns what it read and how many characters that takes.
 
 ghost use Rattle.std.specs.Prelude.{◌≡◌, ◌<◌, ◌≤◌, length, IfSome};
 ghost use Rattle.autocoder_statements.specs.Constants.{quoted_run, quoted, sign_zone, zoned, signed, literal, constant, constant_length};
@@ -13,17 +13,17 @@ use crate::texts::{LONGEST_TEXT, Text};
 use addresses::digit_under;
 use bcd::{Code, Zone};
 
-/// What a constant is made of.
+/// The contents of a constant.
 #[derive(Clone, Copy)]
 pub enum Constant {
     /// These characters.
     Characters(Text),
-    /// So many blanks, at least 1 and below 100,000.
+    /// This number of blanks, at least 1 and below 100,000.
     Blanks(u32),
 }
 
 impl Constant {
-    /// How many positions the constant takes.
+    /// The number of positions that the constant takes.
     pub fn length(&self) -> u32
         ensures { result ≡ constant_length self.now }
     {
@@ -34,7 +34,7 @@ impl Constant {
     }
 }
 
-/// How many characters stand between an `@` and the next one, or the end of the field.
+/// The number of characters between an `@` and the next one, or the end of the field.
 #[tactic(auto, unfolding(crate::specs::Constants::quoted_run))]
 fn quoted_run(text: &[Code]) -> usize
     ensures run { result ≡ quoted_run text.now }
@@ -47,7 +47,7 @@ fn quoted_run(text: &[Code]) -> usize
     Class::Quoted.run(&text[1..])
 }
 
-/// One or more characters between two `@`.
+/// Reads one or more characters between two `@`.
 #[tactic(auto, unfolding(crate::specs::Constants::quoted))]
 fn read_quoted(text: &[Code]) -> Option<(Text, usize)>
     requires { length text.now ≤ longest_text }
@@ -79,7 +79,7 @@ fn sign_zone(text: &[Code]) -> Zone
     Zone::Bare
 }
 
-/// Digits, the last of them under a zone.
+/// Digits, the last of them with a zone.
 fn zoned(zone: Zone, digits: &[Code]) -> Text
     requires some { 0 < length digits.now }
     requires limit { length digits.now ≤ longest_text }
@@ -94,7 +94,7 @@ fn zoned(zone: Zone, digits: &[Code]) -> Text
     Text::of(characters)
 }
 
-/// A sign and one or more digits.
+/// Reads a sign and one or more digits.
 #[tactic(auto, unfolding(crate::specs::Constants::signed))]
 fn read_signed(text: &[Code]) -> Option<(Text, usize)>
     requires { length text.now ≤ longest_text }
@@ -110,7 +110,7 @@ fn read_signed(text: &[Code]) -> Option<(Text, usize)>
     Some((zoned(sign_zone(text), &behind[..count]), 1 + count))
 }
 
-/// What stands for the address of a field: its characters.
+/// Reads a literal: the characters whose address a field means.
 #[tactic(auto, unfolding(crate::specs::Constants::literal))]
 pub fn read_literal(text: &[Code]) -> Option<(Text, usize)>
     requires { length text.now ≤ longest_text }
@@ -124,8 +124,8 @@ pub fn read_literal(text: &[Code]) -> Option<(Text, usize)>
     read_signed(text)
 }
 
-/// What a constant is made of: so many blanks, digits with a sign or without, or characters
-/// between two `@`.
+/// Reads a constant: a number of blanks, digits with or without a sign, or characters between two
+/// `@`.
 #[tactic(auto, unfolding(crate::specs::Constants::constant))]
 pub fn read_constant(text: &[Code]) -> Option<(Constant, usize)>
     requires { length text.now ≤ longest_text }

@@ -1,6 +1,6 @@
-//! Numbers and addresses, as a text begins with them.
+//! Numbers and addresses at the beginning of a text.
 //!
-//! Each reader answers what it read and how many characters that takes.
+//! Each reader returns what it read and how many characters that takes.
 
 ghost use Rattle.std.specs.Prelude.{◌≡◌, ◌<◌, ◌≤◌, length, IfSome};
 ghost use Rattle.autocoder_statements.specs.Ranges.{IsBaseInRange, IsAdjustmentInRange, IsExpressionInRange, IsPositiveInRange};
@@ -12,13 +12,13 @@ use crate::names::{Name, name_of};
 use addresses::IndexLocation;
 use bcd::Code;
 
-/// How many digits a number has at most.
+/// The greatest number of digits of a number.
 pub const MOST_DIGITS: usize = 5;
 
-/// What each number is below.
+/// Every number is below this one.
 pub const NUMBER_LIMIT: u32 = 100_000;
 
-/// What an address begins with.
+/// The beginning of an address.
 #[derive(Clone, Copy)]
 pub enum Base {
     /// A number below 100,000.
@@ -27,36 +27,36 @@ pub enum Base {
     Name(Name),
 }
 
-/// What is added to a base or taken away from it.
+/// A number added to a base or subtracted from it.
 #[derive(Clone, Copy)]
 pub enum Adjustment {
     /// Nothing.
     Nothing,
     /// This number, below 100,000, is added.
     Plus(u32),
-    /// This number, below 100,000, is taken away.
+    /// This number, below 100,000, is subtracted.
     Minus(u32),
 }
 
 /// A base and its adjustment.
 #[derive(Clone, Copy)]
 pub struct Expression {
-    /// What it begins with.
+    /// The name or number that it begins with.
     pub base: Base,
-    /// What is added to that or taken away.
+    /// The number added to the base or subtracted from it.
     pub adjustment: Adjustment,
 }
 
-/// What stands for an address of an instruction.
+/// An address operand: an expression and an index location.
 #[derive(Clone, Copy)]
 pub struct Address {
     /// The address without its index location.
     pub expression: Expression,
-    /// The index location that it names.
+    /// The index location that it names, if any.
     pub index: Option<IndexLocation>,
 }
 
-/// One to five digits.
+/// Reads one to five digits.
 #[tactic(auto, unfolding(crate::specs::Expressions::number))]
 pub fn read_number(text: &[Code]) -> Option<(u32, usize)>
     ensures number { result ≡ number text.now }
@@ -73,7 +73,7 @@ pub fn read_number(text: &[Code]) -> Option<(u32, usize)>
     Some((number_of(&text[..count]), count))
 }
 
-/// One to five digits of a number that isn't 0.
+/// Reads one to five digits of a number that is not 0.
 #[tactic(auto, unfolding(crate::specs::Expressions::positive))]
 pub fn read_positive(text: &[Code]) -> Option<(u32, usize)>
     ensures number { result ≡ positive text.now }
@@ -87,7 +87,7 @@ pub fn read_positive(text: &[Code]) -> Option<(u32, usize)>
     Some((number, count))
 }
 
-/// How many digits stand behind the sign that a text begins with.
+/// The number of digits after the sign that a text begins with.
 #[tactic(auto, unfolding(crate::specs::Expressions::signed_run))]
 pub fn signed_run(text: &[Code]) -> usize
     ensures run { result ≡ signed_run text.now }
@@ -103,7 +103,7 @@ pub fn signed_run(text: &[Code]) -> usize
     0
 }
 
-/// What an address begins with: a name, or else a number.
+/// Reads the base of an address: a name, or else a number.
 #[tactic(auto, unfolding(crate::specs::Expressions::base))]
 fn read_base(text: &[Code]) -> Option<(Base, usize)>
     ensures base { result ≡ base text.now }
@@ -119,7 +119,7 @@ fn read_base(text: &[Code]) -> Option<(Base, usize)>
     Some((Base::Number(number), count))
 }
 
-/// A number as it is added or taken away.
+/// The adjustment by a number that is added or subtracted.
 fn adjusted(plus: bool, number: u32) -> Adjustment
     requires { number < number_limit }
     ensures adjustment { result ≡ adjusted plus number }
@@ -132,7 +132,7 @@ fn adjusted(plus: bool, number: u32) -> Adjustment
     }
 }
 
-/// What is added or taken away: a number behind a sign, or nothing where no digit follows a sign.
+/// Reads an adjustment: a number after a sign, or `Nothing` if no digit follows a sign.
 #[tactic(auto, unfolding(crate::specs::Expressions::adjustment))]
 fn read_adjustment(text: &[Code]) -> Option<(Adjustment, usize)>
     ensures adjustment { result ≡ adjustment text.now }
@@ -146,7 +146,7 @@ fn read_adjustment(text: &[Code]) -> Option<(Adjustment, usize)>
     Some((adjusted(begins(text, b"&"), number), 1 + count))
 }
 
-/// The index location that is named.
+/// Reads the index location that is named, if any.
 #[tactic(auto, unfolding(crate::specs::Expressions::index))]
 fn read_index(text: &[Code]) -> (Option<IndexLocation>, usize)
     ensures index { result ≡ index text.now }
@@ -164,7 +164,7 @@ fn read_index(text: &[Code]) -> (Option<IndexLocation>, usize)
     (None, 0)
 }
 
-/// A base and its adjustment.
+/// Reads a base and its adjustment.
 #[tactic(auto, unfolding(crate::specs::Expressions::expression))]
 pub fn read_expression(text: &[Code]) -> Option<(Expression, usize)>
     ensures expression { result ≡ expression text.now }
@@ -176,7 +176,7 @@ pub fn read_expression(text: &[Code]) -> Option<(Expression, usize)>
     Some((Expression { base, adjustment }, base_count + count))
 }
 
-/// An expression and an index location.
+/// Reads an expression and an index location.
 #[tactic(auto, unfolding(crate::specs::Expressions::address))]
 pub fn read_address(text: &[Code]) -> Option<(Address, usize)>
     ensures address { result ≡ address text.now }

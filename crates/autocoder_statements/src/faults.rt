@@ -6,18 +6,18 @@ ghost use Rattle.autocoder_statements.specs.Statements.{fault_number};
 /// The lowest fault of a card.
 #[derive(Clone, Copy)]
 pub enum StatementFault {
-    /// Something stands behind a blank in the label's columns or in those of the operation.
+    /// There is a character after a blank in the columns of the label or of the operation.
     BrokenField,
-    /// The operation is none that the assembler knows.
+    /// The assembler does not know the operation.
     UnknownOperation,
-    /// The operand field is not of the operation's form.
+    /// The operand field does not have the form that the operation requires.
     Operand,
-    /// The label is no name, or one is missing, or one stands where none may.
+    /// The label is not a name, or is missing, or is present on a card that may not have one.
     Label,
 }
 
 impl StatementFault {
-    /// The number by which the fault is told.
+    /// The number that is printed for the fault.
     pub fn number(self) -> u8
         ensures { result ≡ fault_number self }
     {

@@ -1,11 +1,11 @@
-//! The forms that the operand field of an instruction may have.
+//! The forms of the operand field of an instruction.
 
-/// What an address operand is for.
+/// What the address in an operand is for.
 #[derive(Clone, Copy, PartialEq, Eq)]
 pub enum Kind {
-    /// Where the machine goes on. No literal stands for it.
+    /// The position of the next instruction after a branch. It cannot be a literal.
     Branch,
-    /// Where a field is. A literal may stand for it.
+    /// The position of a field. It may be a literal.
     Field,
 }
 
@@ -22,7 +22,7 @@ pub enum Modifiers {
     Carriage,
 }
 
-/// What an operand field is made of, with commas between.
+/// The parts of an operand field, with commas between them.
 #[derive(Clone, Copy)]
 pub enum Form {
     /// Nothing.

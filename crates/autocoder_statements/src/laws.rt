@@ -6,7 +6,8 @@ ghost use Rattle.autocoder_statements.specs.Laws.{IsOneOperation, digits_of, fit
 ghost use Rattle.autocoder_statements.specs.declared.forms.Form.TheVariants.{Empty, One, Two};
 ghost use Rattle.autocoder_statements.specs.declared.forms.Kind.{Kind};
 
-/// The law of numbers: what is spelled in one to five digits is read, where no digit follows.
+/// The law of numbers: a number spelled in one to five digits is read as that number, if no digit
+/// follows.
 pub fn a_number_is_read()
     ensures { (count n : ℕ) (rest : List ℕ) → 0 < count → count ≤ most_digits → n < 10 ^ count →
         digit_run rest ≡ 0 → number (digits_of count n ++ rest) ≡ Some (n, count) }
@@ -17,8 +18,8 @@ pub fn a_word_names_one_operation()
     ensures { (word : List ℕ) → IsOneOperation word }
 {}
 
-/// The law of forms: of the forms without a last character a field has at most one. So it does
-/// not matter in which order the forms of a mnemonic are tried.
+/// The law of forms: a field has at most one of the forms without a last character. Hence the order
+/// in which the forms of a mnemonic are tried does not matter.
 pub fn a_field_has_one_form()
     ensures none_or_one { (kind : Kind) (text : List ℕ) → fits Empty text ≡ true →
         fits (One kind) text ≡ false }

@@ -1,11 +1,10 @@
 //! The statements of an Autocoder source: what each card says, or its lowest fault.
 //!
 //! A card has a label in columns 6 to 15, an operation in 16 to 20 and an operand field in 21 to
-//! 72; `*` in column 6 makes it a comment. The contract that the layer above uses: `read` is the
-//! one definition of a card's statement (`specs/Statements.antt`), which stands on a definition
-//! for each thing that a field may begin with and on one table of operations
-//! (`specs/Mnemonics.antt`). Its numbers are below 100,000, its texts have 52 characters at most
-//! (`specs/Ranges.antt`). No call takes memory.
+//! 72; `*` in column 6 makes it a comment. The contract for the layer above: `read` returns the
+//! statement that `specs/Statements.antt` defines for a card, by a definition for each thing that a
+//! field may begin with and by one table of operations (`specs/Mnemonics.antt`). Its numbers are
+//! below 100,000, its texts have at most 52 characters (`specs/Ranges.antt`). No call takes memory.
 #![tactic(auto)]
 
 mod characters;

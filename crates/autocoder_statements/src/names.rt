@@ -7,13 +7,13 @@ ghost use Rattle.autocoder_statements.specs.Names.{is_index_name, is_name, name_
 use crate::characters::{Class, begins, begins_with_letter, padded};
 use bcd::Code;
 
-/// How many characters a name has at most.
+/// The greatest number of characters of a name.
 pub const LONGEST_NAME: usize = 6;
 
-/// A name, with blanks behind it: one to six letters and digits, a letter first.
+/// A name: one to six letters and digits, a letter first, padded with blanks.
 #[derive(Clone, Copy, PartialEq, Eq)]
 pub struct Name {
-    /// Its characters, and blanks up to six.
+    /// Its characters, padded with blanks to six.
     pub characters: [Code; LONGEST_NAME],
 }
 
@@ -33,7 +33,7 @@ fn is_name(word: &[Code]) -> bool
             && (word.len() <= LONGEST_NAME && !is_index_name(word)))
 }
 
-/// The name that a word is, if it is one.
+/// The name that a word is, or `None` if it is not one.
 #[tactic(auto, unfolding(crate::specs::Names::name_of))]
 pub fn name_of(word: &[Code]) -> Option<Name>
     ensures { result ≡ name_of word.now }

@@ -1,4 +1,4 @@
-//! The operand field of an instruction, read in a form.
+//! The operand field of an instruction, read in one of its forms.
 
 ghost use Rattle.std.specs.Prelude.{◌≡◌, ◌≤◌, length, IfSome};
 ghost use Rattle.autocoder_statements.specs.Operands.{begins_literal, operand, next_operand, is_among, is_modifier, modifier, next_modifier, ended, with_modifier, operands};
@@ -12,16 +12,16 @@ use crate::forms::{Form, Kind, Modifiers};
 use crate::texts::Text;
 use bcd::Code;
 
-/// What stands in an operand field for the address of an instruction.
+/// An operand of an instruction.
 #[derive(Clone, Copy)]
 pub enum Operand {
     /// An address.
     Address(Address),
-    /// Characters, which are to be placed; their address is meant.
+    /// Characters that are to be placed; the operand means their address.
     Literal(Text),
 }
 
-/// What an operand field holds.
+/// The operands in an operand field.
 #[derive(Clone, Copy)]
 pub struct Operands {
     /// The first address.
@@ -32,14 +32,14 @@ pub struct Operands {
     pub modifier: Option<Code>,
 }
 
-/// Whether a text begins as a literal does, and no address does.
+/// Whether a text begins like a literal, as no address does.
 fn begins_literal(text: &[Code]) -> bool
     ensures { result ≡ begins_literal text.now }
 {
     begins(text, b"@") || (begins(text, b"&") || begins(text, b"-"))
 }
 
-/// An operand of a kind, and how many characters it takes.
+/// Reads an operand of a kind.
 #[tactic(auto, unfolding(crate::specs::Operands::operand))]
 fn read_operand(kind: Kind, text: &[Code]) -> Option<(Operand, usize)>
     requires { length text.now ≤ longest_text }
@@ -55,7 +55,7 @@ fn read_operand(kind: Kind, text: &[Code]) -> Option<(Operand, usize)>
     Some((Operand::Address(address), count))
 }
 
-/// The same behind a comma.
+/// Reads an operand of a kind after a comma.
 #[tactic(auto, unfolding(crate::specs::Operands::next_operand))]
 fn read_next_operand(kind: Kind, text: &[Code]) -> Option<(Operand, usize)>
     requires { length text.now ≤ longest_text }
@@ -93,7 +93,7 @@ impl Modifiers {
     }
 }
 
-/// The one character that ends the field.
+/// Reads the one character that ends the field.
 #[tactic(auto, unfolding(crate::specs::Operands::modifier))]
 fn read_modifier(modifiers: Modifiers, text: &[Code]) -> Option<Code>
     ensures { result ≡ modifier modifiers text.now }
@@ -110,7 +110,7 @@ fn read_modifier(modifiers: Modifiers, text: &[Code]) -> Option<Code>
     Some(*code)
 }
 
-/// The same behind a comma.
+/// Reads the one character that ends the field, after a comma.
 #[tactic(auto, unfolding(crate::specs::Operands::next_modifier))]
 fn read_next_modifier(modifiers: Modifiers, text: &[Code]) -> Option<Code>
     ensures { result ≡ next_modifier modifiers text.now }
@@ -121,7 +121,7 @@ fn read_next_modifier(modifiers: Modifiers, text: &[Code]) -> Option<Code>
     read_modifier(modifiers, &text[1..])
 }
 
-/// Operands behind which the field is ended.
+/// Operands without a last character, if the field is ended after them.
 fn ended(first: Option<Operand>, second: Option<Operand>, text: &[Code]) -> Option<Operands>
     ensures operands { result ≡ ended first second text.now }
     ensures range { IfSome first IsOperandInRange → IfSome second IsOperandInRange →
@@ -149,7 +149,7 @@ fn with_modifier(first: Option<Operand>, second: Option<Operand>, code: Code) ->
 }
 
 impl Form {
-    /// The whole field in this form.
+    /// Reads the whole field in this form.
     #[tactic(auto, unfolding(crate::specs::Operands::operands))]
     pub fn read(self, text: &[Code]) -> Option<Operands>
         requires { length text.now ≤ longest_text }

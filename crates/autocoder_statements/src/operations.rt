@@ -1,5 +1,4 @@
-//! What stands in the operation field: the orders to the assembler and the mnemonics of
-//! instructions.
+//! The operation field: the orders to the assembler and the mnemonics of instructions.
 
 ghost use Rattle.std.specs.Prelude.{◌≡◌, ◌≤◌, length, IfSome, option_map};
 ghost use Rattle.autocoder_statements.specs.Characters.{begins};
@@ -12,7 +11,7 @@ use crate::forms::{Form, Kind, Modifiers};
 use crate::operands::{Operand, Operands};
 use bcd::Code;
 
-/// How many columns the operation field has.
+/// The number of columns of the operation field.
 pub const LONGEST_OPERATION: usize = 5;
 
 /// One to three forms.
@@ -20,31 +19,31 @@ pub const LONGEST_OPERATION: usize = 5;
 pub struct Forms {
     /// The form that is tried first.
     pub form: Form,
-    /// The one that is tried then.
+    /// The form that is tried second.
     pub other: Option<Form>,
-    /// The one that is tried last.
+    /// The form that is tried third.
     pub third: Option<Form>,
 }
 
-/// What a mnemonic stands for.
+/// The operation that a mnemonic means, and the forms of its operand field.
 #[derive(Clone, Copy)]
 pub struct Mnemonic {
     /// The glyph of the operation.
     pub operation: u8,
-    /// The glyph of the last character, where it is fixed.
+    /// The glyph of the last character, if it is fixed.
     pub modifier: Option<u8>,
     /// The forms of its operand field.
     pub forms: Forms,
 }
 
-/// What a card is for.
+/// The operation of a card.
 #[derive(Clone, Copy)]
 pub enum Operation {
     /// A heading.
     Job,
     /// The size of storage.
     Control,
-    /// Where the next cards are placed.
+    /// The place of the next cards.
     Origin,
     /// A name for an address.
     Equate,
@@ -60,7 +59,7 @@ pub enum Operation {
     Instruction(Mnemonic),
 }
 
-/// An instruction as its card spells it.
+/// An instruction as written on its card.
 #[derive(Clone, Copy)]
 pub struct Instruction {
     /// The operation's character.
@@ -91,38 +90,38 @@ const FIELDS: Form = Form::Two(Kind::Field, Kind::Field);
 /// A field.
 const FIELD: Form = Form::One(Kind::Field);
 
-/// A place to go on at.
+/// A branch address.
 const PLACE: Form = Form::One(Kind::Branch);
 
-/// Nothing.
+/// An empty field.
 const NONE: Forms = Forms {
     form: Form::Empty,
     other: None,
     third: None,
 };
 
-/// A place to go on at.
+/// A branch address.
 const BRANCH: Forms = Forms {
     form: PLACE,
     other: None,
     third: None,
 };
 
-/// Nothing, or a place to go on at.
+/// An empty field, or a branch address.
 const NONE_OR_BRANCH: Forms = Forms {
     form: Form::Empty,
     other: Some(PLACE),
     third: None,
 };
 
-/// Nothing, or two fields.
+/// An empty field, or two fields.
 const NONE_OR_TWO: Forms = Forms {
     form: Form::Empty,
     other: Some(FIELDS),
     third: None,
 };
 
-/// Nothing, a field, or two fields.
+/// An empty field, a field, or two fields.
 const NONE_ONE_OR_TWO: Forms = Forms {
     form: Form::Empty,
     other: Some(FIELD),
@@ -150,35 +149,35 @@ const TWO: Forms = Forms {
     third: None,
 };
 
-/// Nothing, a field, or a place to go on at and a field.
+/// An empty field, a field, or a branch address and a field.
 const CLEAR: Forms = Forms {
     form: Form::Empty,
     other: Some(FIELD),
     third: Some(Form::Two(Kind::Branch, Kind::Field)),
 };
 
-/// A place to go on at and a sense switch.
+/// A branch address and a sense switch.
 const SWITCH: Forms = Forms {
     form: Form::OneAndModifier(Kind::Branch, Modifiers::Switches),
     other: None,
     third: None,
 };
 
-/// A place to go on at, a field and a character.
+/// A branch address, a field and a character.
 const CHARACTER: Forms = Forms {
     form: Form::TwoAndModifier(Kind::Branch, Kind::Field, Modifiers::Any),
     other: None,
     third: None,
 };
 
-/// A place to go on at, a field and a test of it.
+/// A branch address, a field and a test of it.
 const ZONE: Forms = Forms {
     form: Form::TwoAndModifier(Kind::Branch, Kind::Field, Modifiers::ZonesAndMarks),
     other: None,
     third: None,
 };
 
-/// A place to go on at and a field.
+/// A branch address and a field.
 const MARK: Forms = Forms {
     form: Form::Two(Kind::Branch, Kind::Field),
     other: None,
@@ -242,7 +241,7 @@ fn is_named(word: &[Code], name: [u8; LONGEST_OPERATION]) -> bool
     begins(word, &name)
 }
 
-/// The entry of a table that a word names.
+/// The entry of a word in a table.
 fn entry<T: Copy>(table: &[([u8; LONGEST_OPERATION], T)], word: &[Code]) -> Option<T>
     ensures { result ≡ entry table.now word.now }
 {
@@ -262,7 +261,7 @@ fn order_named(word: &[Code]) -> Option<Operation>
     entry(&ORDERS, word)
 }
 
-/// What the table of mnemonics has for a word.
+/// The entry of a word in the table of mnemonics.
 fn row_named(word: &[Code]) -> Option<(u8, Option<u8>, Forms)>
     ensures { result ≡ entry mnemonics word.now }
 {
@@ -305,7 +304,7 @@ fn last(read: Option<Code>, fixed: Option<u8>) -> Option<Code>
     Some(code_of(fixed?))
 }
 
-/// What an operand field holds in a form, where there is one.
+/// The operands of a field in a form, if there is a form.
 fn operands_if(form: Option<Form>, text: &[Code]) -> Option<Operands>
     requires { length text.now ≤ longest_text }
     ensures operands { result ≡ operands_if form text.now }
@@ -315,7 +314,7 @@ fn operands_if(form: Option<Form>, text: &[Code]) -> Option<Operands>
 }
 
 impl Forms {
-    /// What an operand field holds, in the first form that it has.
+    /// The operands of a field, in the first form that it has.
     #[tactic(auto, unfolding(crate::specs::Mnemonics::operands_in))]
     fn read(&self, text: &[Code]) -> Option<Operands>
         requires { length text.now ≤ longest_text }
@@ -333,7 +332,7 @@ impl Forms {
 }
 
 impl Mnemonic {
-    /// The instruction with a whole operand field.
+    /// The instruction with these operands, if the whole field has one of the forms.
     #[tactic(auto, unfolding(crate::specs::Mnemonics::instruction))]
     pub fn instruction(&self, text: &[Code]) -> Option<Instruction>
         requires { length text.now ≤ longest_text }
@@ -350,7 +349,7 @@ impl Mnemonic {
     }
 }
 
-/// 1 where something is there.
+/// 1 if there is a value, else 0.
 fn present<T: Copy>(part: Option<T>) -> u16
     ensures present { result ≡ present part }
     ensures most { result ≤ 1 }
@@ -359,7 +358,7 @@ fn present<T: Copy>(part: Option<T>) -> u16
 }
 
 impl Instruction {
-    /// How many positions the instruction takes.
+    /// The number of positions that the instruction takes.
     pub fn length(&self) -> u16
         ensures { result ≡ instruction_length self.now }
     {

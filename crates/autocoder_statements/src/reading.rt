@@ -20,34 +20,34 @@ use bcd::Code;
 use cards::Card;
 use core_store::Size;
 
-/// What a card says.
+/// The statement of a card.
 #[derive(Clone, Copy)]
 pub enum Statement {
-    /// Nothing to the assembler.
+    /// No meaning to the assembler.
     Comment,
     /// A heading.
     Job,
     /// The size of storage.
     Control(Size),
-    /// Where the next cards are placed.
+    /// The place of the next cards.
     Origin(Expression),
     /// A name for an address.
     Equate {
         label: Name,
         expression: Expression,
     },
-    /// A constant, with a word mark or without.
+    /// A constant, with or without a word mark.
     Constant {
         label: Option<Name>,
         marked: bool,
         constant: Constant,
     },
-    /// So many positions that stay as they are, at least 1 and below 100,000.
+    /// A number of positions that stay as they are, at least 1 and below 100,000.
     Area {
         label: Option<Name>,
         positions: u32,
     },
-    /// The end of the source, and where its program starts. It must not be labelled, but an `END`
+    /// The end of the source, and the start of its program. It may not have a label, but an `END`
     /// without a start is a fault of its operands first, and only the whole source shows that.
     End {
         start: Option<Expression>,
@@ -60,7 +60,7 @@ pub enum Statement {
     },
 }
 
-/// The label of a card that must have one.
+/// The label of a card that requires one.
 #[tactic(auto, unfolding(crate::specs::Statements::must_label))]
 fn must_label(field: &[Code]) -> Result<Name, StatementFault>
     ensures { result ≡ must_label field.now }
@@ -83,7 +83,7 @@ fn may_label(field: &[Code]) -> Result<Option<Name>, StatementFault>
     Ok(Some(name))
 }
 
-/// The statement of a card that must not have a label.
+/// The statement of a card that may not have a label.
 #[tactic(auto, unfolding(crate::specs::Statements::unlabelled))]
 fn unlabelled(field: &[Code], statement: Statement) -> Result<Statement, StatementFault>
     ensures statement { result ≡ unlabelled field.now statement }
@@ -96,7 +96,7 @@ fn unlabelled(field: &[Code], statement: Statement) -> Result<Statement, Stateme
     }
 }
 
-/// What a field begins with, where nothing follows.
+/// The value that was read, if it takes the whole field.
 #[tactic(auto, unfolding(crate::specs::Statements::whole))]
 fn whole<T: Copy>(field: &[Code], found: Option<(T, usize)>) -> Option<T>
     requires { IfSome found (λ found. found.1 ≤ length field.now) }
@@ -109,7 +109,7 @@ fn whole<T: Copy>(field: &[Code], found: Option<(T, usize)>) -> Option<T>
     Some(value)
 }
 
-/// The expression that is a whole field.
+/// The expression that takes a whole field.
 fn whole_expression(field: &[Code]) -> Option<Expression>
     ensures expression { result ≡ whole field.now (expression field.now) }
     ensures range { IfSome result IsExpressionInRange }
@@ -117,7 +117,7 @@ fn whole_expression(field: &[Code]) -> Option<Expression>
     whole(field, read_expression(field))
 }
 
-/// The constant that is a whole field.
+/// The constant that takes a whole field.
 fn whole_constant(field: &[Code]) -> Option<Constant>
     requires { length field.now ≤ longest_text }
     ensures constant { result ≡ whole field.now (constant field.now) }
@@ -126,7 +126,7 @@ fn whole_constant(field: &[Code]) -> Option<Constant>
     whole(field, read_constant(field))
 }
 
-/// The number, not 0, that is a whole field.
+/// The number, not 0, that takes a whole field.
 fn whole_positive(field: &[Code]) -> Option<u32>
     ensures number { result ≡ whole field.now (positive field.now) }
     ensures range { IfSome result IsPositiveInRange }
@@ -134,7 +134,7 @@ fn whole_positive(field: &[Code]) -> Option<u32>
     whole(field, read_positive(field))
 }
 
-/// The size that a digit tells.
+/// Reads the digit that gives the size.
 #[tactic(auto, unfolding(crate::specs::Statements::size))]
 fn read_size(text: &[Code]) -> Option<(Size, usize)>
     ensures size { result ≡ size text.now }
@@ -152,7 +152,7 @@ fn read_size(text: &[Code]) -> Option<(Size, usize)>
     None
 }
 
-/// Where a program starts: nowhere told, or an expression.
+/// Reads the start of a program: an empty field, or an expression.
 #[tactic(auto, unfolding(crate::specs::Statements::start))]
 fn read_start(field: &[Code]) -> Option<Option<Expression>>
     ensures start { result ≡ start field.now }
@@ -295,14 +295,14 @@ fn statement_of(
     }
 }
 
-/// Whether a label or an operation has something behind its first blank.
+/// Whether the field of the label or of the operation has a character after its first blank.
 fn has_broken_field(card: &Card) -> bool
     ensures { result ≡ (is_broken (label_field card.now) || is_broken (operation_field card.now)) }
 {
     is_broken(label_field(card)) || is_broken(operation_field(card))
 }
 
-/// The statement of a card, or its lowest fault.
+/// Returns the statement of a card, or else its lowest fault.
 #[tactic(auto, unfolding(crate::specs::Statements::statement_on))]
 pub fn read(card: &Card) -> Result<Statement, StatementFault>
     ensures statement { result ≡ statement_on card.now }

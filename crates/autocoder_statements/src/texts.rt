@@ -1,4 +1,4 @@
-//! A text of characters, as a constant or a literal holds it.
+//! The characters of a constant or a literal.
 
 ghost use Rattle.std.specs.Prelude.{◌≡◌, ◌≤◌, length};
 ghost use Rattle.autocoder_statements.specs.Limits.{longest_text};
@@ -7,15 +7,15 @@ use crate::characters::padded;
 use bcd::Code;
 use std::marker::Model;
 
-/// How many characters a text has at most: those of an operand field.
+/// The greatest number of characters of a text: those of an operand field.
 pub const LONGEST_TEXT: usize = 52;
 
-/// At most 52 characters.
+/// A text: at most 52 characters.
 #[derive(Clone, Copy)]
 pub struct Text {
-    /// The characters, and blanks behind them.
+    /// The characters, padded with blanks.
     characters: [Code; LONGEST_TEXT],
-    /// How many they are.
+    /// The number of characters.
     count: usize,
 }
 

@@ -6,7 +6,7 @@ use autocoder_listings::listing_with_code;
 use std::alloc::Global;
 use std::test::Fail;
 
-/// The listing of a sheet's source with its code.
+/// The listing with code of a sheet's source.
 fn listed(alloc: Global, sheet: &str) -> Result<String, Fail> {
     let deck = deck_of(alloc, sheet)?;
     let Ok(program) = assemble(alloc, &deck) else {
@@ -43,7 +43,7 @@ READ   00337    3
 LONG   00387
 ";
 
-/// Marked blanks after instructions, blanks without marks, and names in every sort of address.
+/// Marked blanks after instructions, blanks without marks, and names in every kind of address.
 const BLANKS_AND_NAMES: &str = "\
 A|EQU|5|
 |ORG|500|

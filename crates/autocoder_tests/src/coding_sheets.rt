@@ -1,5 +1,5 @@
-//! Cards and decks as on a coding sheet: a line for each card, which has its label, its operation
-//! and its operands, each with a bar after it.
+//! Cards and decks as on a coding sheet: one line for each card, with its label, its operation and
+//! its operands, each followed by a bar.
 
 use autocoder_layout::Cell;
 use bcd::Code;
@@ -7,7 +7,7 @@ use cards::{COLUMNS, Card, Deck};
 use std::alloc::Global;
 use std::test::Fail;
 
-/// Lays characters down after so many columns.
+/// Puts characters into the columns after the first `before`.
 fn lay(columns: &mut [Code; COLUMNS], before: usize, text: &str) -> Result<(), Fail> {
     let mut next = before;
     for glyph in text.bytes() {
@@ -50,8 +50,8 @@ pub(crate) fn push_glyphs(text: &mut String, codes: &[Code]) -> Result<(), Fail>
     Ok(())
 }
 
-/// The positions that are filled: where each row of them begins, and their glyphs, each after an
-/// apostrophe where it has a word mark.
+/// The filled positions: the first position of each row of them, and their glyphs, each after an
+/// apostrophe if it has a word mark.
 pub(crate) fn image_told(alloc: Global, cells: &[Cell]) -> Result<String, Fail> {
     let mut text = String::new(alloc);
     let mut next = 0;

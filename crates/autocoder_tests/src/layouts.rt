@@ -24,7 +24,7 @@ T|DC|@CD@|
 |CTL|1|
 ";
 
-/// The first four cards of it, which do not end it.
+/// The first four cards of this source, which do not end it.
 const UNENDED: &str = "\
 |CTL|2|
 |ORG|500|
@@ -32,7 +32,7 @@ A|SW|@B@,A&1|
 T|DC|@CD@|
 ";
 
-/// How many cards the source of a sheet has, whether it has an end, and its size.
+/// The number of cards of a sheet's source, whether it has an end, and its size.
 fn extent(alloc: Global, sheet: &str) -> Result<String, Fail> {
     let deck = deck_of(alloc, sheet)?;
     let source = source_of(deck.cards());
@@ -49,7 +49,7 @@ fn gives_a_size(line: &str) -> Result<bool, Fail> {
     Ok(is_control(&card))
 }
 
-/// The size that the card of a line gives after a card that gave one or after none, or its fault.
+/// The size that the card of a line gives, if an earlier card gave one or none did; or its fault.
 fn size_on(given: bool, line: &str) -> Result<u16, Fail> {
     let columns: [Code; COLUMNS] = columns_of(line)?;
     let card = Card(columns);
@@ -76,7 +76,7 @@ fn ends_and_sizes_of_sources(rt: HostRuntime) -> Result<(), Fail> {
     Ok(())
 }
 
-/// Adds where a card stands, what it does there, whether it ends an instruction, and the number of
+/// Adds the place of a card, what it does there, whether it ends an instruction, and the number of
 /// its fault.
 fn push_slot(text: &mut String, slot: &Slot) -> Result<(), Fail> {
     let Slot {
@@ -93,7 +93,7 @@ fn push_slot(text: &mut String, slot: &Slot) -> Result<(), Fail> {
     Ok(writeln!(text, "{before} {after} {kind:?} {closes} {fault}")?)
 }
 
-/// The places of the cards of a source, where its literals begin, and its first instruction.
+/// The places of the cards of a source, the place of its literals, and its first instruction.
 fn standing(alloc: Global, sheet: &str) -> Result<String, Fail> {
     let deck = deck_of(alloc, sheet)?;
     let source = source_of(deck.cards());
@@ -127,7 +127,7 @@ fn where_cards_stand(rt: HostRuntime) -> Result<(), Fail> {
     Ok(())
 }
 
-/// The expression that a card sets the place to.
+/// The expression to which a card moves the place.
 fn origin_on(card: &Card) -> Option<Expression>
     ensures { IfSome result IsExpressionInRange }
 {
@@ -137,7 +137,7 @@ fn origin_on(card: &Card) -> Option<Expression>
     }
 }
 
-/// The value in the source of the expression on the card of a line.
+/// The value in the source of the expression on a line's card.
 fn value_on(alloc: Global, line: &str) -> Result<String, Fail> {
     let deck = deck_of(alloc, SOURCE)?;
     let slots = lay_out(alloc, 2000, source_of(deck.cards()))?;
@@ -149,7 +149,7 @@ fn value_on(alloc: Global, line: &str) -> Result<String, Fail> {
     Ok(format!(in alloc; "{:?}", value_in(2000, &slots, expression))?)
 }
 
-/// Cards that set the place, each after the value of its expression.
+/// Cards that move the place, each after the value of its expression.
 const VALUES: &str = "\
 At(500)||ORG|A|
 At(508)||ORG|T-1|
@@ -159,8 +159,8 @@ Outside||ORG|T-510|
 Unknown||ORG|LOST|
 ";
 
-/// The first line of a sheet whose card has another value than the line says, blank where there
-/// is none.
+/// The first line of a sheet whose card has another value than the line gives, or an empty text if
+/// there is none.
 fn misvalued(alloc: Global, sheet: &'static str) -> Result<&'static str, Fail> {
     for line in sheet.lines() {
         let (value, card) = line.split_once('|').ok_or("a value")?;
@@ -190,7 +190,7 @@ fn literals(alloc: Global) -> Result<String, Fail> {
     Ok(text)
 }
 
-/// The positions that the card of the source with so many cards before it fills.
+/// The positions filled by the card of the source that has this index.
 fn filled_by(alloc: Global, index: usize) -> Result<String, Fail> {
     let deck = deck_of(alloc, SOURCE)?;
     let source = source_of(deck.cards());
@@ -219,9 +219,9 @@ fn what_cards_fill(rt: HostRuntime) -> Result<(), Fail> {
     Ok(())
 }
 
-/// The number of the lowest fault, 0 for none, of the card of a line in the place of the source's
-/// instruction: in a storage of so many positions, where the card fills a position, which an
-/// earlier card fills too or none.
+/// The number of the lowest fault, 0 for none, of a line's card in place of the source's
+/// instruction, in a storage of `size` positions. The card fills `position`, and `overlaps` is
+/// whether an earlier card fills it too.
 fn judged(alloc: Global, size: u16, overlaps: bool, position: u32, line: &str) -> Result<u8, Fail> {
     let deck = deck_of(alloc, SOURCE)?;
     let slots = lay_out(alloc, 2000, source_of(deck.cards()))?;

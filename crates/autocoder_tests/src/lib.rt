@@ -1,7 +1,7 @@
 //! Worked examples of the assembler, from the statements of single cards to decks that load
 //! themselves.
 //!
-//! It stands above the crates that it shows, so that these are proved without their tests. Cards
+//! The crate is above the crates that it shows, so that these are proved without their tests. Cards
 //! are written as on a coding sheet, a line for each, and helpers return plain texts and numbers.
 #![tactic(auto)]
 

@@ -38,8 +38,7 @@ DONE|H||
 |END||
 ";
 
-/// Its cards. Its seventh mark after the first, at `B342`, begins a
-/// card.
+/// Its cards. Its seventh mark after the first, at `B342`, begins a card.
 const HEADING: &str = "\
 ,008015,022029,036040,047054,061068,072)008015)022029)036036N0000001040
 /332/,0011M0802802B360A                L023355,337338,342343,3503511040
@@ -85,7 +84,7 @@ const UNMARKED_SOURCE: &str = "\
 |END||
 ";
 
-/// Its cards: the mark of the first position is cleared.
+/// Its cards. The mark of the first position is cleared.
 const UNMARKED: &str = "\
 ,008015,022029,036040,047054,061068,072)008015)022029)036036N0000001040
 AB.                                    L004503)500500,502503N0000001040
@@ -99,7 +98,7 @@ const FORTY_SOURCE: &str = "\
 |END|3999|
 ";
 
-/// Its cards: one of them carries thirty-nine positions.
+/// Its cards. One of them carries thirty-nine positions.
 const FORTY: &str = "\
 ,008015,022029,036040,047054,061068,072)008015)022029)036036N0000001040
 012345678901234567890123456789012345678L039999N000000N000000N0000001040
@@ -117,7 +116,7 @@ const GAP_SOURCE: &str = "\
 |END|400|
 ";
 
-/// Its cards: after the gap a card begins.
+/// Its cards. A card begins after the gap.
 const GAP: &str = "\
 ,008015,022029,036040,047054,061068,072)008015)022029)036036N0000001040
 ABC                                    L003402N000000N000000N0000001040
@@ -160,7 +159,7 @@ const EMPTY: &str = "\
                                        /090080
 ";
 
-/// The same with two blank cards after them.
+/// The same cards with two blank cards after them.
 const EMPTY_OVER_TWO_CARDS: &str = "\
 ,008015,022029,036040,047054,061068,072)008015)022029)036036N0000001040
                                        /090080
@@ -168,7 +167,7 @@ const EMPTY_OVER_TWO_CARDS: &str = "\
 
 ";
 
-/// The cards that run the program of a sheet's source over so many blank cards.
+/// The deck that runs the program of a sheet's source on `count` blank cards.
 fn running(alloc: Global, sheet: &str, count: u32) -> Result<Deck, Fail> {
     let program = program_of(alloc, sheet)?;
     let data = blank_cards(alloc, count)?;
@@ -193,8 +192,8 @@ const HUNDRED_STRETCHES: &str = "\
 |END|90|
 ";
 
-/// How many cards run the program of a sheet's source over so many blank cards, or the number of
-/// the fault in their place.
+/// The number of cards of the deck that runs the program of a sheet's source on `count` blank
+/// cards, or else the number of the fault.
 fn count_with(alloc: Global, sheet: &str, count: u32) -> Result<String, Fail> {
     let program = program_of(alloc, sheet)?;
     let data = blank_cards(alloc, count)?;

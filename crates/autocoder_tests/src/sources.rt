@@ -7,13 +7,13 @@ use cards::{COLUMNS, Card, Deck};
 use std::alloc::Global;
 use std::test::Fail;
 
-/// Where a program starts, the number of the card that ends its source, and its image.
+/// The start of a program, the number of the card that ends its source, and its image.
 fn program_told(alloc: Global, program: &Program) -> Result<String, Fail> {
     let image = image_told(alloc, program.image())?;
     Ok(format!(in alloc; "from {} by {}:{image}", program.start(), program.last())?)
 }
 
-/// The faults of a source, each by its card and its number.
+/// The faults of a source, each with its card and its number.
 fn faults_told(alloc: Global, faults: &[CardFault]) -> Result<String, Fail> {
     let mut text = String::from_str(alloc, "faults")?;
     for fault in faults {
@@ -22,7 +22,7 @@ fn faults_told(alloc: Global, faults: &[CardFault]) -> Result<String, Fail> {
     Ok(text)
 }
 
-/// What a source is assembled to.
+/// The program or the faults of a source, in words.
 fn assembled(alloc: Global, deck: &Deck) -> Result<String, Fail> {
     match assemble(alloc, deck) {
         Ok(program) => program_told(alloc, &program),
@@ -31,9 +31,9 @@ fn assembled(alloc: Global, deck: &Deck) -> Result<String, Fail> {
     }
 }
 
-/// The first line of some sheets that gives something else than what the cards above it, up to
-/// the line like it before, are assembled to; blank where there is none. Such a line begins with
-/// `= ` and ends with a bar.
+/// The first result line of some sheets that differs from the result of assembling the cards above
+/// it, up to the previous result line; empty if there is none. A result line begins with `= ` and
+/// ends with a bar.
 fn misassembled(alloc: Global, sheets: &'static str) -> Result<&'static str, Fail> {
     let mut deck = Deck::empty(alloc);
     for line in sheets.lines() {
@@ -92,7 +92,7 @@ DONE|H||
 = from 333 by 4: 333 'BI99'BIZ9'.' |
 ";
 
-/// Faults of single cards, also of those that set the size or end the source.
+/// Faults of single cards, including those that give the size or end the source.
 const FAULTS_BY_CARD: &str = "\
 |XYZ||
 |B|LOST|
@@ -123,7 +123,7 @@ const FAULTS_BY_CARD: &str = "\
 = faults 2:40|
 ";
 
-/// Ends at fault: one out of order places nothing, one by a bad address places a blank and
+/// Ends with faults: a malformed one places nothing, one with a bad address places a blank and
 /// literals.
 const ENDS_AT_FAULT: &str = "\
 |ORG|3999|
@@ -172,7 +172,8 @@ A|END||
 = faults 2:49|
 ";
 
-/// Literals outside and at fault, which are faults of the end, and cards that use them.
+/// Literals outside the storage and with faults, which are faults of the end, and cards that use
+/// them.
 const LITERALS: &str = "\
 |ORG|1392|
 |MCW|&12,280|
@@ -215,7 +216,7 @@ A|SW|@A@|
 = faults 5:44|
 ";
 
-/// Names and where they count, and labels that stay free.
+/// Names and where they are defined, and labels that stay free.
 const NAMES: &str = "\
 A|H||
 A|H||
@@ -256,7 +257,7 @@ A|JOB||
 = faults 2:43|
 ";
 
-/// Areas, which are passed over, positions filled twice, and marked blanks.
+/// Areas, which are passed, positions filled twice, and marked blanks.
 const POSITIONS: &str = "\
 |ORG|080|
 |DCW|5|
@@ -321,7 +322,7 @@ T|DS|2|
 = from 333 by 5: 333 '.'5'.'.' |
 ";
 
-/// Where a source starts.
+/// The starts of sources.
 const STARTS: &str = "\
 |ORG|3999|
 |B|1|

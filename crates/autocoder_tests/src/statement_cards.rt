@@ -11,7 +11,7 @@ use cards::{COLUMNS, Card};
 use std::alloc::Global;
 use std::test::Fail;
 
-/// The number of the fault of the card of a line, 0 where there is none.
+/// The number of the fault of a line's card, 0 if there is none.
 fn fault_on(alloc: Global, line: &str) -> Result<String, Fail> {
     let columns: [Code; COLUMNS] = columns_of(line)?;
     let card = Card(columns);
@@ -21,8 +21,8 @@ fn fault_on(alloc: Global, line: &str) -> Result<String, Fail> {
     }
 }
 
-/// The first line of a sheet whose card has another fault than the line says, blank where there
-/// is none. Before its card each line has the number of the fault, 0 for none.
+/// The first line of a sheet whose card has another fault than the line gives, or an empty text if
+/// there is none. Each line has the number of the fault before its card, 0 for none.
 fn misread(alloc: Global, sheet: &'static str) -> Result<&'static str, Fail> {
     for line in sheet.lines() {
         let (number, card) = line.split_once('|').ok_or("a fault")?;
@@ -33,7 +33,7 @@ fn misread(alloc: Global, sheet: &'static str) -> Result<&'static str, Fail> {
     Ok("")
 }
 
-/// Labels and operations with a blank inside or before them, words that name no operation, and a
+/// Labels and operations with a blank inside or before them, words that are not operations, and a
 /// comment.
 const FIELDS_OF_THE_LABEL_AND_THE_OPERATION: &str = "\
 40|AB C|H||
@@ -49,7 +49,7 @@ const FIELDS_OF_THE_LABEL_AND_THE_OPERATION: &str = "\
 41||DCWX|5|
 ";
 
-/// Labels that are names and others, and operations that take a label or take none.
+/// Labels that are names and others that are not, and operations with or without a label.
 const LABELS: &str = "\
 0|A|H||
 0|ABCDEF|H||
@@ -100,7 +100,7 @@ const ADDRESSES_OF_A_BRANCH: &str = "\
 42||B|  A|
 ";
 
-/// Texts, numbers and blanks, and what may be after them.
+/// Texts, numbers and blanks, and what may come after them.
 const CONSTANTS_AND_WHERE_THEY_END: &str = "\
 0||DC|@AB@|
 0||DC|@A  B@|
@@ -125,7 +125,7 @@ const CONSTANTS_AND_WHERE_THEY_END: &str = "\
 42||DC|@123456789012345678901234567890123456789012345678901@|
 ";
 
-/// How many operands an operation takes.
+/// The number of operands that an operation takes.
 const FORMS_OF_OPERANDS: &str = "\
 0||A||
 0||A|@A@|
@@ -182,7 +182,7 @@ const ORDERS_TO_THE_ASSEMBLER: &str = "\
 42|A|EQU|B&X1|
 ";
 
-/// A blank in the first column of the operands, for each operation that needs some.
+/// A blank in the first column of the operands, for each operation that requires some.
 const AN_OPERAND_BEGINS_IN_ITS_FIRST_COLUMN: &str = "\
 42||CTL| 5|
 42||ORG| 5|
@@ -233,7 +233,7 @@ const AN_OPERAND_BEGINS_IN_ITS_FIRST_COLUMN: &str = "\
 0||JOB| 5|
 ";
 
-/// Literals in the place of addresses.
+/// Literals instead of addresses.
 const LITERALS_FOR_ADDRESSES: &str = "\
 0||SW|@A@|
 0||CW|&1,@A@|
@@ -250,7 +250,7 @@ const LITERALS_FOR_ADDRESSES: &str = "\
 42|A|EQU|@A@|
 ";
 
-/// What is written after two blanks, and after an operation without operands.
+/// Text after two blanks, and after an operation without operands.
 const WHAT_IS_NOT_LOOKED_AT: &str = "\
 0||B|A                                                   @X,-|
 0||B|A  AT @ AND @@|
@@ -288,7 +288,7 @@ fn push_name(text: &mut String, name: &Name) -> Result<(), Fail> {
     Ok(())
 }
 
-/// Adds a label, where there is one.
+/// Adds a label, if there is one.
 fn push_label(text: &mut String, label: Option<Name>) -> Result<(), Fail> {
     let Some(name) = label else {
         return Ok(());
@@ -298,7 +298,7 @@ fn push_label(text: &mut String, label: Option<Name>) -> Result<(), Fail> {
     Ok(())
 }
 
-/// Adds an expression as a card spells it.
+/// Adds an expression as written on a card.
 fn push_expression(text: &mut String, expression: &Expression) -> Result<(), Fail> {
     match expression.base {
         Base::Number(number) => write!(text, "{number}")?,
@@ -311,7 +311,7 @@ fn push_expression(text: &mut String, expression: &Expression) -> Result<(), Fai
     }
 }
 
-/// How a card spells an index location.
+/// An index location as written on a card.
 fn spelled_index(index: Option<IndexLocation>) -> &'static str {
     match index {
         None => "",
@@ -321,8 +321,7 @@ fn spelled_index(index: Option<IndexLocation>) -> &'static str {
     }
 }
 
-/// Adds a blank and an operand as a card spells it, where there is one; a literal by its
-/// characters.
+/// Adds a blank and an operand as written on a card, if there is one; a literal by its characters.
 fn push_operand(text: &mut String, operand: &Option<Operand>) -> Result<(), Fail> {
     match operand {
         None => Ok(()),
@@ -339,7 +338,7 @@ fn push_operand(text: &mut String, operand: &Option<Operand>) -> Result<(), Fail
     }
 }
 
-/// Adds the last character of an instruction in brackets, where there is one.
+/// Adds the last character of an instruction in brackets, if there is one.
 fn push_modifier(text: &mut String, modifier: Option<Code>) -> Result<(), Fail> {
     let Some(code) = modifier else {
         return Ok(());
@@ -372,7 +371,7 @@ fn push_constant(text: &mut String, marked: bool, constant: &Constant) -> Result
     Ok(write!(text, ", {length} long")?)
 }
 
-/// Adds the end of a source: whether it has a label, and where the program starts.
+/// Adds the end of a source: whether it has a label, and the start of the program.
 fn push_end(text: &mut String, start: Option<Expression>, labelled: bool) -> Result<(), Fail> {
     if labelled {
         text.push_str("labelled ")?;
@@ -385,7 +384,7 @@ fn push_end(text: &mut String, start: Option<Expression>, labelled: bool) -> Res
     push_expression(text, &start)
 }
 
-/// Adds what a card says.
+/// Adds a statement.
 fn push_statement(text: &mut String, statement: &Statement) -> Result<(), Fail> {
     match statement {
         Statement::Comment => Ok(text.push_str("comment")?),
@@ -420,7 +419,7 @@ fn push_statement(text: &mut String, statement: &Statement) -> Result<(), Fail> 
     }
 }
 
-/// What the card of a line says.
+/// The statement of a line's card, in words.
 fn told_by(alloc: Global, line: &str) -> Result<String, Fail> {
     let columns: [Code; COLUMNS] = columns_of(line)?;
     let card = Card(columns);
@@ -432,8 +431,8 @@ fn told_by(alloc: Global, line: &str) -> Result<String, Fail> {
     Ok(text)
 }
 
-/// The first line of a sheet whose card says something else than the line has before the card,
-/// blank where there is none.
+/// The first line of a sheet whose card has another statement than the line has before the card, or
+/// an empty text if there is none.
 fn mistold(alloc: Global, sheet: &'static str) -> Result<&'static str, Fail> {
     for line in sheet.lines() {
         let (wanted, card) = line.split_once('|').ok_or("what it says")?;
@@ -444,7 +443,7 @@ fn mistold(alloc: Global, sheet: &'static str) -> Result<&'static str, Fail> {
     Ok("")
 }
 
-/// Labels in front of instructions, constants, areas and equations.
+/// Labels of instructions, constants, areas and equations.
 const LABELS_THAT_ARE_READ: &str = "\
 READ: 1, 1 long|READ|R||
 B2: 5, 1 long|B2|DC|5|
@@ -470,7 +469,7 @@ A TAB&3&X2 @AB@, 7 long||A|TAB&3&X2,@AB@|
 / A B, 7 long||CS|A,B|
 ";
 
-/// Texts, numbers with a sign and without, and blanks.
+/// Texts, numbers with and without a sign, and blanks.
 const CONSTANTS: &str = "\
 AB, 2 long||DC|@AB@|
 marked 10, 2 long||DCW|10|
@@ -480,7 +479,7 @@ marked 5 blanks, 5 long||DCW|#5|
 ABC, 3 long||DC|@ABC@|
 ";
 
-/// Orders with an expression and without.
+/// Orders with and without an expression.
 const ORDERS: &str = "\
 origin 500||ORG|500|
 end 333||END|333|
@@ -506,8 +505,8 @@ fn what_cards_say(rt: HostRuntime) -> Result<(), Fail> {
     Ok(())
 }
 
-/// The operation of the card of a line, as far as a source needs it of any card, and whether the
-/// card is a comment.
+/// The operation of a line's card, as far as a source requires it of any card, and whether the card
+/// is a comment.
 fn operation_on(line: &str) -> Result<&'static str, Fail> {
     let columns: [Code; COLUMNS] = columns_of(line)?;
     let card = Card(columns);

@@ -5,8 +5,8 @@
 //! Reference Manual (A24-1403); the glyphs of the rarer characters and the order of ranks are
 //! this project's. No call takes memory.
 //!
-//! The contract that the layers above use: the maps are those of `specs/Table.antt`, and glyphs,
-//! punches and ranks each tell the 64 characters apart.
+//! The contract for the layers above: the maps are those of `specs/Table.antt`, and no two of the
+//! 64 characters have the same glyph, punches or rank.
 #![tactic(auto)]
 
 ghost use Rattle.std.specs.Prelude.{◌≡◌, ◌≢◌, ◌<◌, ◌≤◌, ◌↔◌, ℕ, IsSome, IsNone, IfSome};
@@ -64,7 +64,7 @@ impl Zone {
 /// The glyphs in the order of their numbers.
 const GLYPHS: [u8; 64] = *b" 1234567890#@:>\"^/STUVWXYZ|,%=\\+-JKLMNOPQR!$*];_&ABCDEFGHI?.)[<}";
 
-/// The number of each glyph, and 0 of each byte that is none.
+/// The number of the character of each glyph, and 0 for every other byte.
 const NUMBERS: [u8; 256] = [
     0, 0, 0, 0, 0, 0, 0, 0, 0, 0, 0, 0, 0, 0, 0, 0, 0, 0, 0, 0, 0, 0, 0, 0, 0, 0, 0, 0, 0, 0, 0, 0,
     0, 42, 15, 11, 43, 28, 48, 0, 0, 60, 44, 31, 27, 32, 59, 17, 10, 1, 2, 3, 4, 5, 6, 7, 8, 9, 13,
@@ -134,7 +134,7 @@ impl Code {
         }
     }
 
-    /// The numeric value, 0 to 9, which the parts 11 to 15 do not have.
+    /// The numeric value, 0 to 9. `None` for the numeric parts 11 to 15.
     #[tactic(auto, unfolding(crate::specs::Table::digit_of))]
     pub fn digit(self) -> Option<u8>
         ensures value { result ≡ digit_of self }
@@ -147,7 +147,7 @@ impl Code {
         }
     }
 
-    /// The ASCII character that stands for it in decks and listings. The lozenge is `)` and the
+    /// The ASCII character that represents it in decks and listings. The lozenge is `)` and the
     /// record mark is `|`.
     pub fn glyph(self) -> u8
         ensures { result ≡ glyph_of self }
@@ -155,7 +155,7 @@ impl Code {
         GLYPHS[self.number as usize]
     }
 
-    /// The character of a glyph, if it is the glyph of one.
+    /// The character with this glyph, if there is one.
     pub fn from_glyph(glyph: u8) -> Option<Self>
         ensures found { IfSome result (λ code. glyph_of code ≡ glyph) }
         ensures below { IfSome result (λ code. code < 64) }
@@ -186,7 +186,7 @@ impl Code {
         PUNCHES[self.number as usize]
     }
 
-    /// The character of a column's punches, if they are those of one.
+    /// The character with these punches in its column, if there is one.
     pub fn of_punches(pattern: u16) -> Option<Self>
         ensures found { IfSome result (λ code. punches_of code ≡ pattern) }
         ensures below { IfSome result (λ code. code < 64) }
@@ -202,8 +202,8 @@ impl Code {
     }
 }
 
-/// The law of the tables: glyphs, punches and ranks each tell the characters apart. So the ranks
-/// are a total order, and a glyph or a pattern of punches is read as one character at most.
+/// The law of the tables: no two characters have the same glyph, punches or rank. Hence the ranks
+/// are a total order, and a glyph or a pattern of punches is read as at most one character.
 pub fn codes_differ()
     ensures glyphs { IsOneToOne glyph_of }
     ensures punches { IsOneToOne punches_of }

@@ -1,10 +1,10 @@
-//! The program: joins the counter to the process's words, files and streams.
+//! The program: connects the counter to the process's words, files and streams.
 //!
-//! What the words ask for, what is printed and how it ends is proved below, and joined here in
-//! [`answer`]. The clauses of the kit say nothing of the process's own words and streams, nor of
-//! what a file holds: so [`words_given`] and [`done`] have no contract, and that the right files
-//! are read and written, and that OUT is written only where a deck was made, is tried by
-//! `cases/check` and `examples/check`.
+//! What the words ask for, what is printed and how the program ends is proved below, and connected
+//! here in [`answer`]. The clauses of the kit do not mention the process's own words and streams,
+//! nor the contents of a file. So [`words_given`] and [`done`] have no contract; `cases/check` and
+//! `examples/check` test that the right files are read and written, and that OUT is written only if
+//! a deck was made.
 #![tactic(auto)]
 
 ghost use Rattle.std.specs.Prelude.{◌≡◌, Option, IfOk, IfErr};
@@ -27,13 +27,13 @@ use std::io::Write;
 use std::process::ExitCode;
 use std::{env, io};
 
-/// The words, with the program's name in front.
+/// The words of the process. The first is the program's name.
 fn words_given(rt: &HostRuntime) -> Result<Vec<String>, Misuse<'static>> {
     Ok(env::args(rt)?.collect(rt.alloc())?)
 }
 
 /// Assembles the source in a file, and writes the deck that runs its program. The first file is
-/// read to its end before the second is looked at, so both may be one.
+/// read to its end before the second is opened, so both may be the same file.
 fn assemble<W: Write, E: Write>(
     rt: &HostRuntime,
     source: &str,
@@ -114,8 +114,8 @@ fn done(rt: &HostRuntime) -> io::Result<Status> {
     answer(rt, after_name, &mut output, &mut errors)
 }
 
-/// The exit status of an outcome. An error is one of the standard error, to which nothing can be
-/// written: status 1.
+/// The exit status of an outcome. After an error of the standard error, on which nothing can be
+/// printed, it is 1.
 fn exit_code(outcome: io::Result<Status>) -> ExitCode
     ensures ok { IfOk outcome (λ status. exit_status result ≡ status_code status) }
     ensures err { IfErr outcome (λ _. exit_status result ≡ status_code Status.Told) }

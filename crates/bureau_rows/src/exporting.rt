@@ -1,4 +1,4 @@
-//! Writing what a job has punched and printed to files.
+//! Writing to files what a job has punched and printed.
 
 use crate::opening::open_bureau;
 use crate::outcomes::Outcome;
@@ -19,7 +19,7 @@ struct Made {
     lines: Vec<u8>,
 }
 
-/// Why nothing is written for want of memory.
+/// The outcome if there is no memory.
 const NO_MEMORY: Outcome = Outcome::Fault(OpenFault::NoMemory);
 
 /// The reply to a query of a job.
@@ -73,7 +73,7 @@ fn made_by<S: Alter>(
     Ok(Made { cards, lines })
 }
 
-/// Puts bytes in the place of the job's file of this kind, in the folder where the program runs.
+/// Replaces the job's file of this kind, in the folder where the program runs.
 fn put(
     rt: &HostRuntime,
     customer: &str,
@@ -90,7 +90,7 @@ fn put(
     }
 }
 
-/// Writes what a job has made. Nothing is written before both of its files are made.
+/// Writes what a job has made. Nothing is written before the bytes of both files are made.
 fn write_made<S: Alter>(
     rt: &HostRuntime,
     bureau: &mut Bureau<S>,
@@ -117,7 +117,7 @@ fn export_job<S: Alter>(
 
 /// Writes what a job has punched and printed to the files `CUSTOMER-NUMBER.cards` and
 /// `CUSTOMER-NUMBER.lines`, in the folder where the program runs. Files of these names are
-/// replaced, each whole or not at all; where the job is refused none is touched.
+/// replaced, each whole or not at all; if the job is refused, none is touched.
 pub fn export(rt: &HostRuntime, path: &str, customer: &str, number: u32) -> Outcome {
     match open_bureau(rt, path) {
         Ok(mut bureau) => export_job(rt, &mut bureau, customer, number),

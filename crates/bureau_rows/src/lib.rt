@@ -1,11 +1,11 @@
-//! The program's rows on a bureau's file: it is made, a script is applied to it, requests are
+//! The program's rows on a bureau's file: it is created, a script is applied to it, requests are
 //! served from it, and what a job made is exported from it.
 //!
-//! What the commands of a script or of a request come to is proved below, in `script_runs` and
-//! `http_exchanges`; this crate joins them to files and to sockets, of which the clauses of the kit
-//! say nothing. So the contract is that of [`show_outcome`] alone: what is printed of how a row
-//! ended, and with which status the program ends. That the right files are read and written is
-//! tried by `cases/check`, and by days of scripts and requests.
+//! The results of a script's commands and of requests are proved below, in `script_runs` and
+//! `http_exchanges`; this crate connects them to files and to sockets, which the clauses of the kit
+//! do not mention. So the only contract is that of [`show_outcome`]: what is printed when a row has
+//! ended, and the exit status. `cases/check`, and days of scripts and requests, test that the right
+//! files are read and written.
 #![tactic(auto)]
 
 mod exporting;

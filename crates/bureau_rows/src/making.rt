@@ -1,4 +1,4 @@
-//! Making a new bureau's file.
+//! Creating a new bureau's file.
 
 use crate::outcomes::Outcome;
 use ledger::{Bureau, Fault};
@@ -8,10 +8,10 @@ use std::alloc::Global;
 use std::fs;
 use std::io::ErrorKind;
 
-/// How many names are tried for the other file.
+/// The greatest number of names tried for the other file.
 const MOST_NAMES: u16 = 1000;
 
-/// What a fault of the tables is for the file.
+/// The outcome for the file after a fault of the tables.
 fn fault_of(fault: Fault) -> OpenFault {
     match fault {
         Fault::NoMemory => OpenFault::NoMemory,
@@ -19,7 +19,7 @@ fn fault_of(fault: Fault) -> OpenFault {
     }
 }
 
-/// Makes a bureau on a connection to a file that holds nothing.
+/// Creates a bureau on a connection to an empty file.
 fn create_on<S: Alter + Drop>(
     alloc: Global,
     conn: Connection<S>,
@@ -30,7 +30,7 @@ fn create_on<S: Alter + Drop>(
     }
 }
 
-/// Makes a bureau in a file at a path where there is none, and closes it: then all of it is in
+/// Creates a bureau in a file at a path where there is none, and closes it, so that all of it is in
 /// this one file.
 fn make_closed(rt: &HostRuntime, path: &str) -> Result<(), OpenFault> {
     let Ok(conn) = Connection::open_from(rt, path, false, Unknown) else {
@@ -42,7 +42,7 @@ fn make_closed(rt: &HostRuntime, path: &str) -> Result<(), OpenFault> {
     }
 }
 
-/// A name beside a path that no file has, nor the log of a database of this name.
+/// A name beside a path that neither a file nor the log of a database of this name has.
 fn name_beside(rt: &HostRuntime, path: &str) -> Result<String, OpenFault> {
     for number in 1..=MOST_NAMES {
         let Ok(name) = format!(in rt.alloc(); "{path}.{number}.part") else {
@@ -55,7 +55,7 @@ fn name_beside(rt: &HostRuntime, path: &str) -> Result<String, OpenFault> {
     Err(OpenFault::Store)
 }
 
-/// Whether nothing is at a path.
+/// Whether there is nothing at a path.
 fn is_free(rt: &HostRuntime, path: &str) -> bool {
     match fs::symlink_metadata(rt, path) {
         Ok(_) => false,
@@ -63,7 +63,7 @@ fn is_free(rt: &HostRuntime, path: &str) -> bool {
     }
 }
 
-/// Makes a bureau under this name, and gives it the name at the path, unless a file came there.
+/// Creates a bureau under this name, and links it at the path, unless a file appeared there.
 fn make_beside(rt: &HostRuntime, name: &str, path: &str) -> Result<(), OpenFault> {
     let Ok(log) = format!(in rt.alloc(); "{name}-wal") else {
         return Err(OpenFault::NoMemory);
@@ -77,8 +77,8 @@ fn make_beside(rt: &HostRuntime, name: &str, path: &str) -> Result<(), OpenFault
     made
 }
 
-/// Makes a new bureau's file at a path, where nothing is yet. It is made under another name beside
-/// it, so that it is there whole or not at all, also where the program is stopped.
+/// Creates a new bureau's file at a path where there is nothing yet. It is created under another
+/// name beside it, so that it is there whole or not at all, even if the program is stopped.
 pub fn init(rt: &HostRuntime, path: &str) -> Outcome {
     if !is_free(rt, path) {
         return Outcome::Fault(OpenFault::Store);

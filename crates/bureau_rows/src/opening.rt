@@ -8,11 +8,11 @@ use std::fs;
 use std::fs::File;
 use std::io::{ErrorKind, Read};
 
-/// How the file of a database begins.
+/// The first bytes of a database's file.
 const BEGINNING: [u8; 16] = *b"SQLite format 3\0";
 
-/// Whether the file at a path begins as one of a database does. It is looked at before it is
-/// opened as one, since that would make a file where there is none, and fill an empty one.
+/// Checks that the file at a path begins like a database. This comes before it is opened as one,
+/// since that would create a missing file, and fill an empty one.
 fn look(rt: &HostRuntime, path: &str) -> Result<(), OpenFault> {
     match fs::metadata(rt, path) {
         Ok(found) if found.is_file() => {}
@@ -30,7 +30,7 @@ fn look(rt: &HostRuntime, path: &str) -> Result<(), OpenFault> {
     }
 }
 
-/// Opens the bureau's file at a path. Where that fails, no file is left that was not there.
+/// Opens the bureau's file at a path. If that fails, no new file is left.
 pub(crate) fn open_bureau(
     rt: &HostRuntime,
     path: &str,

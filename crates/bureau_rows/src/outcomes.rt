@@ -11,13 +11,13 @@ use std::io::Write;
 /// How a row of a bureau's file ended.
 #[derive(Clone, Copy, Debug, PartialEq, Eq)]
 pub enum Outcome {
-    /// All was done.
+    /// Everything was done.
     Done,
-    /// What went wrong is on the output: a refusal, a bad line, or want of memory.
+    /// What went wrong is already on the output: a refusal, a bad line, or no memory.
     Shown,
-    /// The script ended by fault 2, after so many commands were acknowledged.
+    /// The script ended with fault 2, after this number of commands was acknowledged.
     Stopped(usize),
-    /// The job was refused, for the reason of this number.
+    /// The job was refused, for the reason with this number.
     Refused(u8),
     /// There was no memory, or the bureau's file could not be used.
     Fault(OpenFault),

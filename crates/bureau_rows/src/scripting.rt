@@ -10,7 +10,7 @@ use sqlite::Alter;
 use std::fs::File;
 use std::io::Write;
 
-/// What the end of a script is for the program: the line of a fault is on the output.
+/// The outcome after a script. The line of a fault is already on the output.
 fn outcome_of(scripted: &Scripted) -> Outcome {
     match scripted.ended {
         ScriptEnd::Whole if scripted.refused => Outcome::Shown,
@@ -40,8 +40,8 @@ fn apply_script<W: Write, S: Alter>(
     }
 }
 
-/// Carries out the commands of the script at a path, in order, by the bureau whose file is at
-/// another. The line of each reply is written when its command is in the file.
+/// Carries out the commands of the script at `script_path`, in order, by the bureau whose file is
+/// at `path`. The line of each reply is written after its command is in the file.
 pub fn apply<W: Write>(rt: &HostRuntime, path: &str, script_path: &str, output: &mut W) -> Outcome {
     match open_bureau(rt, path) {
         Ok(mut bureau) => apply_script(rt, &mut bureau, script_path, output),

@@ -13,20 +13,20 @@ use std::io::Read;
 use std::net::{Ipv4Addr, Net, Shutdown, SocketAddrV4, TcpListener, TcpStream};
 use std::time::Duration;
 
-/// For how many seconds a client may send or take nothing.
+/// The number of seconds for which a client may send or take nothing.
 const PATIENCE: u64 = 10;
 
-/// How often what a client still sends is read, before its connection is closed.
+/// The greatest number of reads of what a client still sends, before its connection is closed.
 const MOST_READS: usize = 128;
 
-/// Sets how long a client may send or take nothing. Whether that could be set.
+/// Sets how long a client may send or take nothing. Returns whether that succeeded.
 fn set_patience(stream: &TcpStream) -> bool {
     let patience = Some(Duration::from_secs(PATIENCE));
     stream.set_read_timeout(patience).is_ok() && stream.set_write_timeout(patience).is_ok()
 }
 
 /// Ends the answer, and reads what the client still sends, up to a limit: a connection that is
-/// closed over bytes that nobody read may lose its answer.
+/// closed while bytes are unread may lose its answer.
 fn close(stream: &TcpStream) {
     if stream.shutdown(Shutdown::Write).is_err() {
         return;
@@ -57,8 +57,8 @@ fn serve_one<S: Alter>(
     }
 }
 
-/// Serves so many connections, one after the other. A faulty one is dropped. After fault 2 no more
-/// are served.
+/// Serves this number of connections, one after the other. A connection that fails is dropped.
+/// After fault 2 no more are served.
 pub fn serve_connections<S: Alter>(
     alloc: Global,
     routes: &Routes,
@@ -78,7 +78,7 @@ pub fn serve_connections<S: Alter>(
     Outcome::Done
 }
 
-/// Serves so many connections from a bureau, on a port of 127.0.0.1.
+/// Serves this number of connections from a bureau, on a port of 127.0.0.1.
 fn serve_on<S: Alter>(rt: &HostRuntime, bureau: &mut Bureau<S>, port: u16, count: u32) -> Outcome {
     let Ok(routes) = Routes::new(rt.alloc()) else {
         return Outcome::Fault(OpenFault::NoMemory);
@@ -89,8 +89,8 @@ fn serve_on<S: Alter>(rt: &HostRuntime, bureau: &mut Bureau<S>, port: u16, count
     }
 }
 
-/// Serves so many connections from the bureau's file at a path, on a port of 127.0.0.1, one after
-/// the other, with one request each.
+/// Serves this number of connections from the bureau's file at a path, on a port of 127.0.0.1, one
+/// after the other, with one request each.
 pub fn serve(rt: &HostRuntime, path: &str, port: u16, count: u32) -> Outcome {
     match open_bureau(rt, path) {
         Ok(mut bureau) => serve_on(rt, &mut bureau, port, count),

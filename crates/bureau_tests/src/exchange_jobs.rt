@@ -6,7 +6,7 @@ use crate::exchange_sessions::misanswered;
 use machine::Meter;
 use std::test::Fail;
 
-/// A job that is taken in, run to its halt, collected and looked at.
+/// A job that is submitted, run to its halt, collected and queried.
 const JOB: &str = "\
 PUT /c/ACME/j/9/object/4000/A;Content-Length: 486 => \
     200 OK|application/json|27|{\"cards\":6,\"reply\":\"taken\"}

@@ -6,7 +6,7 @@ use crate::exchange_sessions::misanswered;
 use machine::Meter;
 use std::test::Fail;
 
-/// Requests, and what is answered.
+/// Requests, and the answers to them.
 const ROWS: &str = "\
 GET /queue => 200 OK|application/json|28|{\"queue\":[],\"reply\":\"queue\"}
 POST /queue => 405 Method Not Allowed|application/json|14|{\"status\":405}

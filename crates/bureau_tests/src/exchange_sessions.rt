@@ -9,7 +9,7 @@ use sqlite::Alter;
 use std::alloc::Global;
 use std::test::Fail;
 
-/// Whether a request is answered with these bytes, which begin with this status.
+/// Whether the answer to a request has exactly these bytes, which begin with this status.
 fn is_answered<S: Alter>(
     alloc: Global,
     bureau: &mut Bureau<S>,
@@ -32,8 +32,8 @@ fn is_answered<S: Alter>(
     )
 }
 
-/// The first line of a sheet whose request is answered otherwise than the line says after it; else
-/// nothing. The requests that put something have this body.
+/// The first line of a sheet whose request gets another answer than the line gives after it; empty
+/// if there is none. The requests with PUT have this body.
 pub(crate) fn misanswered<S: Alter>(
     alloc: Global,
     bureau: &mut Bureau<S>,

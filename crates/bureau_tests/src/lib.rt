@@ -1,6 +1,6 @@
-//! Tests of the bureau as its customers meet it: scripts and the lines that are written for them,
-//! requests and what is answered, byte for byte; readers and writers that give and take little, or
-//! fail; and connections on loopback, served from a bureau's file.
+//! Tests of the bureau as its customers meet it: scripts and the lines written for them; requests
+//! and their answers, byte for byte; readers and writers that give and take little, or fail; and
+//! connections on loopback, served from a bureau's file.
 #![tactic(auto)]
 
 #[cfg(test)]

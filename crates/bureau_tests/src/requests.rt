@@ -19,7 +19,7 @@ pub(crate) fn request_of(alloc: Global, line: &str, body: &[u8]) -> Result<Vec<u
     Ok(request)
 }
 
-/// The whole answer, of which a line has the status with its phrase, the type of the body, the
+/// The whole answer of a line. The line has the status with its phrase, the type of the body, the
 /// length of the body, and the body. A stroke in the body is a line feed.
 pub(crate) fn answer_of(alloc: Global, line: &str) -> Result<String, Fail> {
     let (status, rest) = line.split_once('|').ok_or("a type")?;

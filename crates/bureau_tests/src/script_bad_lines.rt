@@ -1,4 +1,4 @@
-//! Scripts that are none, and the one that is empty.
+//! Bytes that are not a script, and the empty script.
 
 use crate::bureaus::in_memory;
 use crate::script_sessions::{comes_to, has_no_job};

@@ -9,7 +9,7 @@ use script_runs::{ScriptEnd, Scripted, script};
 use std::alloc::Global;
 use std::test::Fail;
 
-/// A job that is taken in and held.
+/// A job that is submitted and held.
 const HELD: &str = "\
 submit ACME 9 object 4000 A 1 => taken 1
 =,008012B008
@@ -54,7 +54,7 @@ fn nothing_is_applied_where_the_reader_fails(rt: HostRuntime) -> Result<(), Fail
     Ok(())
 }
 
-/// What a script comes to at a new bureau.
+/// The result of a script at a new bureau.
 fn scripted_of(alloc: Global, lines: &str, writer: &mut Narrow) -> Result<Scripted, Fail> {
     let mut bureau = in_memory(alloc)?;
     let mut meter = Meter::new();

@@ -6,8 +6,8 @@ use machine::Meter;
 use script_runs::{ScriptEnd, Scripted, script};
 use std::test::Fail;
 
-/// A job that prints two lines, which is taken in, held, run to its halt, started again and
-/// collected; what comes too early or too late is refused.
+/// A job that prints two lines, which is submitted, held, run to its halt, started again and
+/// collected. Commands that come too early or too late are refused.
 const JOB: &str = "\
 submit ACME 9 object 4000 A 6 => taken 6
 =,008015,022029,036040,047054,061068,072)008015)022029)036036N0000001040

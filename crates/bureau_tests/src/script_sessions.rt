@@ -8,7 +8,7 @@ use std::alloc::Global;
 use std::io::Read;
 use std::test::Fail;
 
-/// Whether a script writes this output, and comes to so many replies, a refusal or none, and this
+/// Whether a script writes this output, and has this number of replies, a refusal or none, and this
 /// end.
 pub(crate) fn comes_to<R: Read, S: Alter>(
     alloc: Global,

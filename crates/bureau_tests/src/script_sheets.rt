@@ -1,10 +1,10 @@
-//! Sheets of scripts: each line of one, and after ` => ` the line that is written for it.
+//! Sheets of scripts: each line of a script, and after ` => ` the line that is written for it.
 
 use std::alloc::Global;
 use std::test::Fail;
 
-/// The script of a sheet. What follows `=` at the beginning of a line is filled up with blanks to
-/// 80 columns.
+/// The script of a sheet. A line that begins with `=` is a card: the text after it, padded with
+/// blanks to 80 columns.
 pub(crate) fn script_of(alloc: Global, sheet: &str) -> Result<String, Fail> {
     let mut script = String::new(alloc);
     for row in sheet.lines() {

@@ -17,7 +17,7 @@ fn client(rt: &HostRuntime, address: SocketAddr, request: &str) -> Result<TcpStr
     Ok(stream)
 }
 
-/// Whether the answer that a client gets begins and ends so.
+/// Whether the answer that a client gets has this beginning and this end.
 fn is_answered(
     rt: &HostRuntime,
     mut stream: TcpStream,

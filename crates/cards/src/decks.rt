@@ -8,17 +8,17 @@ use bcd::Code;
 use std::alloc::Global;
 use std::marker::Model;
 
-/// How many columns a card has.
+/// The number of columns of a card.
 pub const COLUMNS: usize = 80;
 
-/// How many cards a deck has at most.
+/// The greatest number of cards of a deck.
 pub const LARGEST_DECK: usize = 2000;
 
-/// A card: the character of each column, from column 1 on.
+/// A card: the characters of its columns, in order from column 1.
 #[derive(Clone, Copy, Debug, PartialEq, Eq)]
 pub struct Card(pub [Code; COLUMNS]);
 
-/// At most 2,000 cards, in order.
+/// A deck: at most 2,000 cards, in order.
 #[derive(Debug, Drop)]
 pub struct Deck {
     cards: Vec<Card>,
@@ -37,7 +37,7 @@ impl Model for Deck {
 }
 
 impl Deck {
-    /// A deck of no card. It takes no memory.
+    /// Returns a deck without cards. It takes no memory.
     pub fn empty(alloc: Global) -> Self
         ensures { result ≡ [] }
     {
@@ -54,8 +54,8 @@ impl Deck {
         &self.cards
     }
 
-    /// Adds a card behind the others. At 2,000 cards, or for want of memory, it is refused and
-    /// the deck stays as it was.
+    /// Adds a card at the end. Fails with `TooManyCards` at 2,000 cards and with `NoMemory` if
+    /// there is no memory; then the deck is unchanged.
     pub fn push(&mut self, card: Card) -> Result<(), DeckFault>
         ensures ok { OnOk result (self.new ≡ self.old ++ card ∷ []) }
         ensures full { IsErrOf result DeckFault.TooManyCards ↔ (length self.old ≡ largest_deck) }

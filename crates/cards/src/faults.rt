@@ -1,4 +1,4 @@
-//! Why a deck takes no further card, and where a file isn't one of a deck.
+//! Why a card is not added to a deck, and what is wrong with a file of a deck.
 
 ghost use Rattle.std.specs.Prelude.{◌≡◌, ◌≤◌, ◌+◌};
 ghost use Rattle.cards.specs.Decks.{card_columns};
@@ -8,7 +8,7 @@ ghost use Rattle.cards.specs.Numbers.{deck_fault_number, card_error_number};
 use std::alloc::AllocError;
 use thiserror::Error;
 
-/// Why a card isn't added to a deck.
+/// Why a card is not added to a deck.
 #[derive(Clone, Copy, Debug, PartialEq, Eq, Error)]
 pub enum DeckFault {
     /// The deck has 2,000 cards already.
@@ -28,7 +28,7 @@ impl From<AllocError> for DeckFault {
 }
 
 impl DeckFault {
-    /// The number by which the fault is told.
+    /// The number that is printed for the fault.
     pub fn number(self) -> u8
         ensures { result ≡ deck_fault_number self }
     {
@@ -39,28 +39,29 @@ impl DeckFault {
     }
 }
 
-/// What is wrong with a file.
+/// Why a file cannot be read as a deck.
 #[derive(Clone, Copy, Debug, PartialEq, Eq, Error)]
 pub enum CardError {
     /// There is no memory for the deck.
     #[error("no memory")]
     NoMemory,
-    /// A line feed or the end where a column should be, or no line feed behind the last column.
+    /// A line feed or the end of the file in place of a column, or no line feed after the last
+    /// column.
     #[error("not 80 columns")]
     Length,
-    /// A byte that is no character's glyph.
+    /// A byte that is not the glyph of a character.
     #[error("no glyph")]
     Glyph,
-    /// A byte that is no upper-case hexadecimal digit, or punches that are no character's.
+    /// A byte that is not an upper-case hexadecimal digit, or punches of no character.
     #[error("no punches")]
     Punches,
-    /// Something follows 2,000 cards.
+    /// There are more bytes after 2,000 cards.
     #[error("over 2,000 cards")]
     TooManyCards,
 }
 
 impl CardError {
-    /// The number by which the error is told.
+    /// The number that is printed for the error.
     pub fn number(self) -> u8
         ensures { result ≡ card_error_number self }
     {
@@ -74,20 +75,20 @@ impl CardError {
     }
 }
 
-/// The first fault of a file, and where it stands.
+/// The first fault of a file, with its card and column.
 #[derive(Clone, Copy, Debug, PartialEq, Eq, Error)]
 #[error("card {card} column {column}: {error}")]
 pub struct CardFault {
     /// What is wrong.
     pub error: CardError,
-    /// The card, from 1; 0 for want of memory.
+    /// The card, from 1; 0 for `NoMemory`.
     pub card: u16,
-    /// The column, from 1; 81 is the line feed's; 0 for want of memory.
+    /// The column, from 1; 81 is the line feed's; 0 for `NoMemory`.
     pub column: u8,
 }
 
 impl CardFault {
-    /// The fault of a card's column behind so many others.
+    /// The fault of a column of a card, after `columns` columns.
     pub(crate) fn behind(columns: usize, card: u16, error: CardError) -> Self
         requires { columns ≤ card_columns }
         ensures { result ≡ record { error = error; card = card; column = columns + 1 } }

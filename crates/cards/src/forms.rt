@@ -10,19 +10,19 @@ use bcd::Code;
 /// The byte that ends a line.
 pub const LINE_FEED: u8 = b'\n';
 
-/// How a column stands in a file.
+/// How the columns of a card are written in a file.
 #[derive(Clone, Copy)]
 pub(crate) enum Form {
-    /// By its glyph.
+    /// As its glyph.
     Text,
-    /// By three hexadecimal digits of its punches.
+    /// As three hexadecimal digits of its punches.
     Punched,
 }
 
-/// The hexadecimal digits in the order of their numbers.
+/// The hexadecimal digits in the order of their values.
 const DIGITS: [u8; 16] = *b"0123456789ABCDEF";
 
-/// The character in the column that the bytes begin with, and the bytes behind it.
+/// Returns the character of the first column of the bytes, and the bytes after it.
 pub(crate) fn split_column(form: Form, bytes: &[u8]) -> Result<(Code, &[u8]), CardError>
     ensures column { IfOk result (λ found. BeginsWithColumn form bytes.now found.0 found.1.now) }
     ensures none { OnErr result (IsNoColumn form bytes.now) }
@@ -34,7 +34,7 @@ pub(crate) fn split_column(form: Form, bytes: &[u8]) -> Result<(Code, &[u8]), Ca
     }
 }
 
-/// The character whose glyph comes first, and the bytes behind it.
+/// Returns the character of the first glyph, and the bytes after it.
 #[tactic(auto, unfolding(crate::specs::Files::column_of))]
 fn split_glyph(bytes: &[u8]) -> Result<(Code, &[u8]), CardError>
     ensures column { IfOk result (λ found.
@@ -49,7 +49,7 @@ fn split_glyph(bytes: &[u8]) -> Result<(Code, &[u8]), CardError>
     }
 }
 
-/// The character whose punches the next three digits are, and the bytes behind them.
+/// Returns the character whose punches are the first three digits, and the bytes after them.
 fn split_punches(bytes: &[u8]) -> Result<(Code, &[u8]), CardError>
     ensures column { IfOk result (λ found.
         BeginsWithColumn Form.Punched bytes.now found.0 found.1.now) }
@@ -65,7 +65,7 @@ fn split_punches(bytes: &[u8]) -> Result<(Code, &[u8]), CardError>
     }
 }
 
-/// The number of the next digit, and the bytes behind it.
+/// Returns the value of the first digit, and the bytes after it.
 fn split_digit(bytes: &[u8]) -> Result<(u16, &[u8]), CardError>
     ensures digit { IfOk result (λ found. BeginsWithDigit bytes.now found.0 found.1.now) }
     ensures none { OnErr result (IsNoDigit bytes.now) }
@@ -78,7 +78,7 @@ fn split_digit(bytes: &[u8]) -> Result<(u16, &[u8]), CardError>
     }
 }
 
-/// The next byte of a column, and the bytes behind it.
+/// Returns the first byte of a column, and the bytes after it.
 fn split_byte(bytes: &[u8]) -> Result<(u8, &[u8]), CardError>
     ensures byte { IfOk result (λ found. (found.0 ≢ line_feed)
         × (bytes.now ≡ found.0 ∷ found.1.now)) }
@@ -90,7 +90,7 @@ fn split_byte(bytes: &[u8]) -> Result<(u8, &[u8]), CardError>
     }
 }
 
-/// The bytes behind the line feed that the bytes begin with.
+/// Returns the bytes after a line feed, if the first byte is one.
 pub(crate) fn split_line_feed(bytes: &[u8]) -> Option<&[u8]>
     ensures found { IfSome result (λ rest. bytes.now ≡ line_feed ∷ rest.now) }
     ensures missing { IsNone result → IsNoLineFeed bytes.now }
@@ -109,7 +109,7 @@ pub(crate) fn digit_of(number: u16) -> u8
     DIGITS[number as usize]
 }
 
-/// The number of an upper-case hexadecimal digit.
+/// The value of an upper-case hexadecimal digit.
 fn digit_value(byte: u8) -> Option<u16>
     ensures found { IfSome result (λ number. (number < 16) × (hexadecimal number ≡ byte)) }
     ensures missing { IsNone result → (number : ℕ) → number < 16 → hexadecimal number ≢ byte }

@@ -8,8 +8,8 @@ ghost use Rattle.cards.specs.declared.decks.Card.{Card};
 ghost use Rattle.cards.specs.declared.faults.CardFault.{CardFault};
 ghost use Rattle.cards.specs.declared.forms.Form.{Form};
 
-/// The law of the two files: a file is one deck's at most, or it has one first fault, and not
-/// both. So what was written is read as the deck that it was.
+/// The law of the two files: a file is the file of at most one deck, or has one first fault, and
+/// not both. Hence a deck that was written is read as the same deck.
 pub fn one_reading()
     ensures one_deck { (form : Form) (one two : List Card) → IsDeck one → IsDeck two →
         file_of form one ≡ file_of form two → one ≡ two }

@@ -1,13 +1,14 @@
 //! Decks of cards, and the two files that a deck is read from and written to.
 //!
 //! A deck text has the eighty glyphs of each card and a line feed. A punch file has three
-//! upper-case hexadecimal digits a column in place of the glyph: the twelve rows of the column,
-//! row 12 the highest bit and row 9 the lowest. A deck has at most 2,000 cards.
+//! upper-case hexadecimal digits a column in place of the glyph: the twelve rows of the column, row
+//! 12 the highest bit and row 9 the lowest. A deck has at most 2,000 cards.
 //!
-//! The layer stands on `bcd`, whose glyphs and punches tell the 64 characters apart. Its contract
-//! for the layers above: a deck is the list of its cards; what is written is the one text or punch
-//! file of the deck (`specs/Files.antt`); what is read is the one deck whose file it is, or else
-//! the first fault in reading order (`specs/Faults.antt`). Reading and writing take one pass.
+//! The crate uses `bcd`, in which no two of the 64 characters have the same glyph or the same
+//! punches. Its contract for the layers above: a deck is the list of its cards; what is written is
+//! the one text or punch file of the deck (`specs/Files.antt`); what is read is the one deck whose
+//! file it is, or else the first fault in reading order (`specs/Faults.antt`). Reading and writing
+//! take one pass.
 #![tactic(auto)]
 
 mod decks;

@@ -12,9 +12,9 @@ use crate::forms::{Form, split_column, split_line_feed};
 use bcd::Code;
 use std::alloc::Global;
 
-/// The deck of a text: eighty glyphs and a line feed a card.
+/// Reads a deck from its text: eighty glyphs and a line feed a card.
 ///
-/// The fault is the first in reading order: 30, 31, 33, or 1 for want of memory.
+/// The error is the first fault in reading order: 30, 31, 33, or 1 if there is no memory.
 pub fn read_text(alloc: Global, text: &[u8]) -> Result<Deck, CardFault>
     ensures deck { IfOk result (λ deck. IsDeck deck × (text.now ≡ text_of deck)) }
     ensures only { (deck : List Card) → IsDeck deck → text.now ≡ text_of deck → IsRead result deck }
@@ -23,9 +23,9 @@ pub fn read_text(alloc: Global, text: &[u8]) -> Result<Deck, CardFault>
     read(alloc, Form::Text, text)
 }
 
-/// The deck of a punch file: three hexadecimal digits a column and a line feed a card.
+/// Reads a deck from its punch file: three hexadecimal digits a column and a line feed a card.
 ///
-/// The fault is the first in reading order: 30, 32, 33, or 1 for want of memory.
+/// The error is the first fault in reading order: 30, 32, 33, or 1 if there is no memory.
 pub fn read_punched(alloc: Global, file: &[u8]) -> Result<Deck, CardFault>
     ensures deck { IfOk result (λ deck. IsDeck deck × (file.now ≡ punch_file_of deck)) }
     ensures only { (deck : List Card) → IsDeck deck → file.now ≡ punch_file_of deck →
@@ -35,14 +35,14 @@ pub fn read_punched(alloc: Global, file: &[u8]) -> Result<Deck, CardFault>
     read(alloc, Form::Punched, file)
 }
 
-/// What a reader answers where there is no memory for the deck.
+/// The error that is returned if there is no memory for the deck.
 const OUT_OF_MEMORY: CardFault = CardFault {
     error: CardError::NoMemory,
     card: 0,
     column: 0,
 };
 
-/// The deck of a file of this form.
+/// Reads the deck of a file of this form.
 fn read(alloc: Global, form: Form, bytes: &[u8]) -> Result<Deck, CardFault>
     ensures deck { IfOk result (λ deck. IsDeck deck × (bytes.now ≡ file_of form deck)) }
     ensures fault { IfErr result (λ fault. IsFault form bytes.now fault) }
@@ -55,7 +55,7 @@ fn read(alloc: Global, form: Form, bytes: &[u8]) -> Result<Deck, CardFault>
         if read == LARGEST_DECK {
             return Err(CardFault::behind(0, number, CardError::TooManyCards));
         }
-        // `?` has no generated proof here, where a card stands beside a slice.
+        // `?` has no generated proof here, because a card is returned beside a slice.
         let (card, behind) = match split_card(form, rest, number) {
             Ok(found) => found,
             Err(fault) => return Err(fault),
@@ -66,7 +66,7 @@ fn read(alloc: Global, form: Form, bytes: &[u8]) -> Result<Deck, CardFault>
     Ok(deck)
 }
 
-/// The card that the bytes begin with, and the bytes behind its line feed. A fault is told at the
+/// Returns the first card of the bytes, and the bytes after its line feed. A fault carries the
 /// card's number.
 fn split_card(form: Form, bytes: &[u8], number: u16) -> Result<(Card, &[u8]), CardFault>
     ensures line { IfOk result (λ found. IsCard found.0

@@ -8,29 +8,31 @@ use crate::forms::{Form, LINE_FEED, digit_of};
 use bcd::Code;
 use std::alloc::{AllocError, Global};
 
-/// The text of a deck: eighty glyphs and a line feed a card.
+/// Returns the text of a deck: eighty glyphs and a line feed a card. Fails only if there is no
+/// memory.
 pub fn write_text(alloc: Global, deck: &Deck) -> Result<Vec<u8>, AllocError>
     ensures { IfOk result (λ text. text.items ≡ text_of deck.now) }
 {
     write(alloc, Form::Text, deck.cards())
 }
 
-/// The punch file of a deck: three hexadecimal digits a column and a line feed a card.
+/// Returns the punch file of a deck: three hexadecimal digits a column and a line feed a card.
+/// Fails only if there is no memory.
 pub fn write_punched(alloc: Global, deck: &Deck) -> Result<Vec<u8>, AllocError>
     ensures { IfOk result (λ file. file.items ≡ punch_file_of deck.now) }
 {
     write(alloc, Form::Punched, deck.cards())
 }
 
-/// The punch file of some cards, which may be more than a deck has, as those that a job has
-/// punched.
+/// Returns the punch file of some cards, which may be more than a deck has, such as the cards that
+/// a job has punched. Fails only if there is no memory.
 pub fn write_punched_cards(alloc: Global, cards: &[Card]) -> Result<Vec<u8>, AllocError>
     ensures { IfOk result (λ file. file.items ≡ punch_file_of cards.now) }
 {
     write(alloc, Form::Punched, cards)
 }
 
-/// The lines of the cards, one behind the other.
+/// Returns the lines of the cards, in order.
 fn write(alloc: Global, form: Form, cards: &[Card]) -> Result<Vec<u8>, AllocError>
     ensures { IfOk result (λ file. file.items ≡ file_of form cards.now) }
 {

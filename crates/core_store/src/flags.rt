@@ -1,4 +1,4 @@
-//! Storage as a vector of cells: the plainest way, for tests and for comparison.
+//! Storage as a vector of cells: the simplest representation, used by tests and for comparison.
 
 ghost use Rattle.std.specs.Prelude.{◌≡◌, ◌+◌, ◌<◌, ◌≤◌, ℕ, List, Bool, true, false, length, IfOk};
 
@@ -7,7 +7,7 @@ use bcd::Code;
 use std::alloc::{AllocError, Global};
 use std::marker::Model;
 
-/// A vector of pairs of character and mark.
+/// A storage as a vector of pairs, a character and its word mark.
 #[derive(Drop)]
 pub struct FlagCore {
     cells: Vec<(Code, bool)>,

@@ -1,13 +1,13 @@
 //! Storage: a character and a word mark at each position, and the registers beside it.
 //!
-//! `Core` is what the instructions of the machine stand on. Its contract is the list of cells:
-//! each call is an equation on that list by the words of `specs/Storage.antt`, so all that is
-//! built over a `Core` is proved once for every way of keeping marks. `FlagCore` keeps the list
-//! as it is; `PlaneCore` keeps characters and marks apart, and finds marks faster. After `blank`
+//! `Core` is the storage that the machine's instructions use. Its contract is the list of cells:
+//! each call is an equation on that list by the definitions of `specs/Storage.antt`, so everything
+//! built over a `Core` is proved once for every representation of the marks. `FlagCore` keeps the
+//! list itself. `PlaneCore` keeps characters and marks apart, and finds marks faster. After `blank`
 //! no call takes memory.
 //!
-//! What operations share stands here too: how far a field or a cut of characters reaches, whether
-//! operands overlap, and how registers are lowered (`specs/Operands.antt`).
+//! What several operations share is here too: how far a field or a cut of characters reaches,
+//! whether operands overlap, and how registers are lowered (`specs/Operands.antt`).
 #![tactic(auto)]
 
 mod flags;
@@ -28,15 +28,16 @@ pub use registers::{Check, Compared, Registers, lowered};
 pub use sizes::Size;
 use std::alloc::{AllocError, Global};
 
-/// No storage has more positions: addresses are numbers below this one.
+/// The largest size of a storage, in positions. Every address is below this number.
 pub const LARGEST_SIZE: u16 = 16000;
 
-/// A storage of a fixed size.
+/// A storage of a fixed size: a character and a word mark at each position.
 pub trait Core: Sized + Drop {
     /// The cells from position 0 on.
     ghost cells: { Self → List (ℕ × Bool) };
 
-    /// A storage that is all blank and unmarked. The only call that takes memory.
+    /// Returns a storage in which every position is blank and unmarked. The only call that takes
+    /// memory; fails only if there is none.
     fn blank(alloc: Global, size: Size) -> Result<Self, AllocError>
         ensures { IfOk result (λ core. cells core ≡ blank_storage (positions_of size)) };
 
@@ -45,7 +46,7 @@ pub trait Core: Sized + Drop {
         requires { length (cells self.old) ≡ length (cells other.now) }
         ensures { cells self.new ≡ cells other.now };
 
-    /// How many positions there are.
+    /// The number of positions.
     fn size(&self) -> u16
         ensures size { result ≡ length (cells self.now) }
         ensures limit { result ≤ largest_size };
@@ -75,8 +76,8 @@ pub trait Core: Sized + Drop {
         requires { position < length (cells self.old) }
         ensures { cells self.new ≡ with_mark (cells self.old) position false };
 
-    /// Copies so many characters, which end at one position, to as many that end at another. Marks
-    /// stay. None of the characters is written over before it is copied.
+    /// Copies `count` characters, which end at one position, to those that end at another. Marks
+    /// stay. No character is overwritten before it is copied.
     fn move_codes(&mut self, from: u16, to: u16, count: u16)
         requires from_in { from < length (cells self.old) }
         requires to_in { to < length (cells self.old) }
@@ -86,7 +87,7 @@ pub trait Core: Sized + Drop {
         ensures { cells self.new ≡ put_codes (cells self.old) (to + 1 - count)
             (codes_ending (cells self.old) from count) };
 
-    /// The same of characters and marks.
+    /// Copies `count` characters with their marks, in the same way as `move_codes`.
     fn move_cells(&mut self, from: u16, to: u16, count: u16)
         requires from_in { from < length (cells self.old) }
         requires to_in { to < length (cells self.old) }
@@ -96,28 +97,29 @@ pub trait Core: Sized + Drop {
         ensures { cells self.new ≡ put_cells (cells self.old) (to + 1 - count)
             (cells_ending (cells self.old) from count) };
 
-    /// Makes the positions from one to another blank without marks.
+    /// Makes the positions from `first` to `last` blank, without marks.
     fn clear(&mut self, first: u16, last: u16)
         requires order { first ≤ last }
         requires inside { last < length (cells self.old) }
         ensures { cells self.new
             ≡ put_cells (cells self.old) first (replicate (last + 1 - first) blank_cell) };
 
-    /// The greatest marked position not above a position, where the field that ends there begins.
+    /// The greatest marked position at or below a position: the first one of the field that ends
+    /// there.
     fn mark_at_or_below(&self, position: u16) -> Option<u16>
         requires { position < length (cells self.now) }
         ensures mark { result ≡ greatest_mark (cells self.now) position }
         ensures within { IfSome result (λ found. found ≤ position) };
 
-    /// How many characters there are from the nearest mark at or below a position up to it, and 17
-    /// where no mark is among the last sixteen of them.
+    /// The number of characters from the nearest mark at or below a position up to that position,
+    /// or 17 if none of the last sixteen characters is marked.
     fn near_length(&self, position: u16) -> u16
         requires within { position < length (cells self.now) }
         requires room { 15 ≤ position }
         ensures length { result ≡ near_length (cells self.now) position }
         ensures some { 1 ≤ result };
 
-    /// The least marked one of the next eight positions, where an instruction ends.
+    /// The least marked position among the next eight positions, at which an instruction ends.
     fn mark_after(&self, position: u16) -> Option<u16>
         requires { position < length (cells self.now) }
         ensures mark { result ≡ least_mark (cells self.now) (position + 1) 8 }
@@ -125,8 +127,9 @@ pub trait Core: Sized + Drop {
             × (found < length (cells self.now))) };
 }
 
-/// The law of the two searches: what is found is the greatest mark not above the position, and
-/// the least among those asked for; where nothing is found there is none.
+/// The law of the two searches: the first returns the greatest mark that is not above the position,
+/// the second the least mark among the positions searched. Each returns `None` only if there is
+/// none.
 pub fn nearest_marks()
     ensures greatest { (s : Storage) (p : ℕ) → GreatestMark s p (greatest_mark s p) }
     ensures least { (s : Storage) (p count : ℕ) → LeastMark s p count (least_mark s p count) }

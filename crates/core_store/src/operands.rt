@@ -1,4 +1,4 @@
-//! Where operations find their operands.
+//! The operands of an operation: how long they are, and whether they overlap.
 
 ghost use Rattle.std.specs.Prelude.{◌≡◌, ◌+◌, ◌<◌, ◌≤◌, ℕ, length, IsTrue, IfSome};
 ghost use Rattle.bcd.specs.Table.{zone_of};
@@ -18,7 +18,7 @@ pub fn are_inside<C: Core>(core: &C, a: u16, b: u16) -> bool
     a < core.size() && b < core.size()
 }
 
-/// Whether so many characters read at A are written over by those put at B before they are read.
+/// Whether some of `count` characters at A are overwritten by those put at B before they are read.
 #[inline(always)]
 pub fn overlaps(a: u16, b: u16, count: u16) -> bool
     ensures { result ≡ is_overlapping a b count }
@@ -26,7 +26,7 @@ pub fn overlaps(a: u16, b: u16, count: u16) -> bool
     b < a && a - b < count
 }
 
-/// How many characters the field at a position has, if a mark begins it.
+/// The number of characters of the field at a position, if a mark begins it.
 #[inline(always)]
 #[tactic(auto, unfolding(crate::specs::Storage::field_length), using(crate::proofs::Near::near_is_field))]
 pub fn field_length<C: Core>(core: &C, position: u16) -> Option<u16>
@@ -47,8 +47,7 @@ pub fn field_length<C: Core>(core: &C, position: u16) -> Option<u16>
     }
 }
 
-/// How many characters are read at a position where at most a limit are wanted, each of them
-/// looked at.
+/// The number of characters read at a position, at most `limit`, found one by one.
 fn cut_by_steps<C: Core>(core: &C, position: u16, limit: u16) -> Option<u16>
     requires within { position < length (C.cells core.now) }
     requires below { position < largest_size }
@@ -68,8 +67,8 @@ fn cut_by_steps<C: Core>(core: &C, position: u16, limit: u16) -> Option<u16>
     Some(limit)
 }
 
-/// How many characters are read at a position where at most a limit are wanted. No mark is sought
-/// beyond these.
+/// The number of characters read at a position, at most `limit`: up to the first mark. No mark is
+/// searched for beyond the limit.
 #[inline(always)]
 #[tactic(auto, using(crate::proofs::Near::cut_is_near))]
 pub fn cut_length<C: Core>(core: &C, position: u16, limit: u16) -> Option<u16>
@@ -87,7 +86,7 @@ pub fn cut_length<C: Core>(core: &C, position: u16, limit: u16) -> Option<u16>
     cut_by_steps(core, position, limit)
 }
 
-/// Whether the field whose units stand at a position is minus.
+/// Whether the field that has its units at a position is negative.
 #[inline(always)]
 pub fn is_minus<C: Core>(core: &C, position: u16) -> bool
     requires { position < length (C.cells core.now) }

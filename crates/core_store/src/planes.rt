@@ -10,7 +10,8 @@ use bcd::Code;
 use std::alloc::{AllocError, Global};
 use std::simd::prelude::*;
 
-/// A byte of each position for its code, and a byte that is 1 where it is marked and else 0.
+/// A storage as two vectors of bytes: the code of each position; and 1 if the position is marked,
+/// else 0.
 #[derive(Drop)]
 pub struct PlaneCore {
     codes: Vec<Code>,
@@ -20,7 +21,7 @@ pub struct PlaneCore {
     ghost bits: { All (λ mark. mark ≤ 1) marks.items },
 }
 
-/// Whether one of the 64 bytes from a place on is not 0.
+/// Whether one of the 64 bytes from an index on is not 0.
 fn has_mark(marks: &[u8], at: usize) -> bool
     requires { at + 64 ≤ length marks.now }
     ensures unmarked { result ≡ false → (k : ℕ) → at ≤ k → k < at + 64 →
@@ -32,7 +33,7 @@ fn has_mark(marks: &[u8], at: usize) -> bool
     lanes.simd_ne(u8x64::splat(0)).to_bitmask() != 0
 }
 
-/// How many of the 8 bytes from a place on come before the first that is not 0.
+/// The number of bytes before the first one that is not 0, among 8 bytes from an index on.
 #[inline(always)]
 fn unmarked_run(marks: &[u8], at: usize) -> usize
     requires { at + 8 ≤ length marks.now }
@@ -49,7 +50,7 @@ fn unmarked_run(marks: &[u8], at: usize) -> usize
     }
 }
 
-/// How many of the 16 bytes up to a place come after the last of them that is not 0.
+/// The number of bytes after the last one that is not 0, among 16 bytes up to an index.
 #[inline(always)]
 fn unmarked_before(marks: &[u8], place: usize) -> usize
     requires within { place < length marks.now }
@@ -67,7 +68,8 @@ fn unmarked_before(marks: &[u8], place: usize) -> usize
     }
 }
 
-/// The last byte up to a place that is not 0: 64 bytes at a time, then 16, and the rest one by one.
+/// The last byte up to an index that is not 0, searched for 64 bytes at a time, then 16, then one
+/// by one.
 fn last_mark(marks: &[u8], place: usize) -> Option<usize>
     requires { place < length marks.now }
     ensures { IsLastMark marks.now place result }
@@ -92,7 +94,7 @@ fn last_mark(marks: &[u8], place: usize) -> Option<usize>
     None
 }
 
-/// Writes a value at the places from one up to another.
+/// Writes a value at the indices from `first` up to but not including `end`.
 #[inline(always)]
 fn fill<T: Copy>(plane: &mut [T], first: usize, end: usize, value: T)
     requires order { first ≤ end }

@@ -6,7 +6,7 @@ ghost use Rattle.core_store.specs.Operands.{lowered, lowered_by};
 
 use crate::LARGEST_SIZE;
 
-/// How the last comparison ended, as the second operand, B, compared with the first, A.
+/// The result of the last comparison: the second operand, B, compared with the first, A.
 #[derive(Clone, Copy, Debug, PartialEq, Eq)]
 pub enum Compared {
     Equal,
@@ -17,19 +17,19 @@ pub enum Compared {
 /// The address registers, each a number modulo 16000, and the two indicators of arithmetic.
 #[derive(Clone, Copy, Debug, PartialEq, Eq)]
 pub struct Registers {
-    /// Where the next instruction begins.
+    /// The position of the next instruction.
     pub i: u16,
-    /// Where the first operand is worked on.
+    /// The position of the first operand.
     pub a: u16,
-    /// Where the second operand is worked on.
+    /// The position of the second operand.
     pub b: u16,
-    /// How the last comparison ended.
+    /// The result of the last comparison.
     pub compare: Compared,
-    /// Whether a sum was too long for its field since the indicator was last tested.
+    /// Whether a sum was too long for its field since the last test of this indicator.
     pub overflow: bool,
 }
 
-/// A register so many positions lower, modulo 16000.
+/// A register lowered by `count` positions, modulo 16000.
 #[inline(always)]
 pub fn lowered(register: u16, count: u16) -> u16
     requires register { register < largest_size }
@@ -44,7 +44,7 @@ pub fn lowered(register: u16, count: u16) -> u16
 }
 
 impl Registers {
-    /// Lowers A and B by what was worked on at each.
+    /// Lowers A and B by the number of characters processed at each.
     #[inline(always)]
     pub fn lower(&mut self, a_count: u16, b_count: u16)
         requires a { self.old.a < largest_size }
@@ -58,22 +58,22 @@ impl Registers {
     }
 }
 
-/// What stops the machine within an instruction.
+/// Why the machine stops during an instruction.
 #[derive(Clone, Copy, Debug, PartialEq, Eq)]
 pub enum Check {
-    /// An address that cannot be read or lies outside the storage, or a field that would pass
+    /// An address that cannot be read or is outside the storage, or a field that would pass
     /// position 000.
     Address,
-    /// No instruction of the machine stands at register I.
+    /// There is no instruction of the machine at register I.
     Instruction,
     /// A character without a numeric value in arithmetic.
     Data,
-    /// Operands that would overwrite one another.
+    /// Operands that would overwrite each other.
     Overlap,
     /// No card is left to read.
     ReaderEmpty,
-    /// The punch has made as many cards as it can.
+    /// The punch has made its greatest number of cards.
     PunchFull,
-    /// The printer has made as many lines or forms as it can.
+    /// The printer has made its greatest number of lines or forms.
     PrinterFull,
 }

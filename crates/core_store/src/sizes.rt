@@ -1,4 +1,4 @@
-//! How large a storage is.
+//! The sizes of storage.
 
 ghost use Rattle.std.specs.Prelude.{◌≡◌, ◌≢◌, ◌≤◌, IfSome, IfNone};
 ghost use Rattle.core_store.specs.Storage.{positions_of, largest_size};
@@ -12,7 +12,7 @@ pub enum Size {
 }
 
 impl Size {
-    /// How many positions the storage has.
+    /// The number of positions of the storage.
     pub fn positions(self) -> u16
         ensures positions { result ≡ positions_of self }
         ensures limit { result ≤ largest_size }
@@ -24,7 +24,7 @@ impl Size {
         }
     }
 
-    /// The size with so many positions, if there is one.
+    /// The size with this number of positions, if there is one.
     pub fn of_positions(positions: u16) -> Option<Size>
         ensures found { IfSome result (λ size. positions_of size ≡ positions) }
         ensures missing { IfNone result ((size : Size) → positions_of size ≢ positions) }

@@ -19,7 +19,7 @@ use std::alloc::Global;
 use std::io;
 use std::io::{Read, Write};
 
-/// What is made of a deck and its program.
+/// Makes the listing and the deck of a source and its program.
 fn product_of(alloc: Global, deck: &Deck, program: &Program) -> Result<Product, Fault>
     requires program { IsProgramOf (source_of deck.now) program.now }
     ensures made { IfOk result (λ product. made_by product ≡ made_of deck.now) }
@@ -33,7 +33,7 @@ fn product_of(alloc: Global, deck: &Deck, program: &Program) -> Result<Product, 
     Ok(Product { listing, out })
 }
 
-/// What is made of the deck of a text.
+/// Assembles the deck of a text.
 fn assembled_in(alloc: Global, text: &[u8]) -> Result<Product, Hindrance>
     ensures made { IfOk result (λ product. IsMadeOf text.now (made_by product)) }
     ensures ends { IfErr result (λ hindrance. Ends text.now (ending_by hindrance)) }
@@ -53,14 +53,14 @@ fn assembled_in(alloc: Global, text: &[u8]) -> Result<Product, Hindrance>
     }
 }
 
-/// Assembles the source that begins the deck whose text a reader has, and answers how the program
-/// ends and what is to be written to OUT: the text of the deck that runs the source's program, its
-/// data cards last.
+/// Assembles the source at the beginning of the deck whose text a reader has. Returns how the
+/// program ends and what is to be written to OUT: the text of the deck that runs the source's
+/// program, its data cards last.
 ///
-/// The listing goes out as a whole once all that is to be written is made. The faults of a source
-/// go out in its place, a line for each, and nothing is told on the second writer. Where a fault
-/// is told there nothing goes out, but for what a failing output took. An error is one of the
-/// second writer, to which nothing can be told.
+/// The listing is written whole, after everything to be written is made. If the source has faults,
+/// a line for each is written instead of the listing, and nothing is printed on the second writer.
+/// If a fault is printed there, the first writer has nothing, except for what a failing output
+/// took. An error is one of the second writer, on which nothing can be printed.
 pub fn assemble_deck<R: Read + Drop, W: Write, E: Write>(
     alloc: Global,
     reader: R,

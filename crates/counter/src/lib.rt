@@ -1,14 +1,13 @@
 //! The counter of the bureau: what its program does with its words, its input and its outputs.
 //!
-//! It stands on the layers that answer the command line and run decks, and on the assembler and the
-//! loader, and does no file's work itself: words come as texts, a deck from a reader, and what is
-//! told goes to two writers, so that all of it can be tried in memory. The program above only joins
-//! it to the process.
+//! It uses the layers that read the command line and run decks, and the assembler and the loader.
+//! It opens no files: words are strings, a deck comes from a reader, and output goes to two
+//! writers. So all of it runs in memory, and the program above only connects it to the process.
 //!
-//! The contracts that the program uses are those of [`run_deck`] and [`assemble_deck`]: what goes
-//! out is the listing of the machine that ran the text's deck, or that of the source that begins
-//! it; how the machine stands is told, or the bytes for OUT are given; and a fault is told in
-//! place of all else.
+//! The contracts for the program are those of [`run_deck`] and [`assemble_deck`]: what is written
+//! is the listing of the machine that ran the text's deck, or of the source at its beginning; the
+//! standing of the machine is printed, or the bytes for OUT are returned; and a fault is printed
+//! instead of everything else.
 #![tactic(auto)]
 
 mod assembling;

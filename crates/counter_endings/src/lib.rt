@@ -1,8 +1,9 @@
-//! How the assembling of a deck ends: what goes out, what is told, and what is for OUT.
+//! How the assembly of a deck ends: what is written, what is printed, and the bytes for OUT.
 //!
-//! It stands on the assembler, whose faults it puts out, and on what `command_line` prints. The
-//! layer above makes a [`Product`] of a deck, or finds a [`Hindrance`], and shows it here. The
-//! contracts say, of each ending, exactly what both writers have then (`specs/Endings.antt`).
+//! The crate uses the assembler, whose faults it writes, and `counter_tasks`, whose fault lines it
+//! prints. The layer above makes a [`Product`] from a deck, or finds a [`Hindrance`], and shows it
+//! here. The contracts define, for each ending, exactly what both writers then have
+//! (`specs/Endings.antt`).
 #![tactic(auto)]
 
 mod showing;

@@ -1,4 +1,4 @@
-//! What goes out where a deck was assembled, and what is told where it was not.
+//! What is written if a deck was assembled, and what is printed if it was not.
 
 ghost use Rattle.std.specs.Prelude.{◌≡◌, IfOk};
 ghost use Rattle.counter_endings.specs.Endings.{IsHindrance, IsShown, ending_by, made_by, assembled, faulty};
@@ -9,33 +9,32 @@ use counter_tasks::{Fault, Status, put_out, tell_fault};
 use std::io;
 use std::io::Write;
 
-/// What the assembling of a deck answers.
+/// The result of assembling a deck.
 #[derive(Drop)]
 pub struct Assembled {
     /// How the program ends.
     pub status: Status,
-    /// The bytes that are to be written to OUT, or none where OUT is to stay as it is.
+    /// The bytes to be written to OUT, or `None` if OUT is to stay as it is.
     pub out: Option<Vec<u8>>,
 }
 
-/// What is made of a deck: the listing of its source, and the text of the deck that runs its
-/// program.
+/// The listing of a deck's source, and the text of the deck that runs its program.
 #[derive(Drop)]
 pub struct Product {
     pub listing: Vec<u8>,
     pub out: Vec<u8>,
 }
 
-/// Why nothing is made of a deck.
+/// Why a deck was not assembled.
 #[derive(Drop)]
 pub enum Hindrance {
     /// Its source has faults, or there was no memory to assemble it.
     Source(Faults),
-    /// This fault.
+    /// Any other fault.
     Fault(Fault),
 }
 
-/// Tells a fault in place of all else.
+/// Prints a fault instead of everything else.
 pub fn hinder<E: Write>(errors: &mut E, fault: Fault) -> io::Result<Assembled>
     ensures { IfOk result (λ answer.
         IsHindrance fault answer (E.contents errors.old) (E.contents errors.new)) }
@@ -44,7 +43,7 @@ pub fn hinder<E: Write>(errors: &mut E, fault: Fault) -> io::Result<Assembled>
     Ok(Assembled { status, out: None })
 }
 
-/// Puts the listing out, and gives the bytes for OUT.
+/// Writes the listing, and returns the bytes for OUT.
 pub fn show_product<W: Write, E: Write>(
     product: Product,
     output: &mut W,
@@ -63,7 +62,7 @@ pub fn show_product<W: Write, E: Write>(
     })
 }
 
-/// Puts the faults of a source out.
+/// Writes the faults of a source.
 fn show_faults<W: Write, E: Write>(
     faults: &[CardFault],
     output: &mut W,
@@ -82,7 +81,7 @@ fn show_faults<W: Write, E: Write>(
     })
 }
 
-/// Tells why nothing is made of a deck.
+/// Writes or prints why a deck was not assembled.
 pub fn show_hindrance<W: Write, E: Write>(
     hindrance: Hindrance,
     output: &mut W,

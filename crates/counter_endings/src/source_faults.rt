@@ -1,4 +1,4 @@
-//! The lines that are put out of a source's faults.
+//! The lines of a source's faults.
 
 ghost use Rattle.std.specs.Prelude.{OnOk};
 ghost use Rattle.std.specs.Io.KnownBytes.{Appends};
@@ -8,7 +8,7 @@ use autocoder::CardFault;
 use std::io;
 use std::io::Write;
 
-/// Puts the line of a source's fault out.
+/// Writes the line of a source's fault.
 fn put_fault_line<W: Write>(output: &mut W, fault: CardFault) -> io::Result<()>
     ensures { OnOk result
         (Appends (W.contents output.old) (W.contents output.new) (fault_line fault)) }
@@ -18,7 +18,7 @@ fn put_fault_line<W: Write>(output: &mut W, fault: CardFault) -> io::Result<()>
     writeln!(output, "card {card} fault {number}")
 }
 
-/// Puts the lines of a source's faults out.
+/// Writes the lines of a source's faults.
 pub(crate) fn put_fault_lines<W: Write>(output: &mut W, faults: &[CardFault]) -> io::Result<()>
     ensures { OnOk result
         (Appends (W.contents output.old) (W.contents output.new) (fault_lines faults.now)) }

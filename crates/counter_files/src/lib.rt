@@ -1,12 +1,11 @@
-//! What the program does with files: it runs the deck of one, and writes one in the place of
-//! another.
+//! What the program does with files: it runs the deck in a file, and replaces one file by another.
 //!
-//! It stands on `runs` and on `endings`. The clauses of the kit say nothing of what a file holds,
-//! so that the right file is read, and what [`write_out`] leaves at a path, is shown by
-//! `cases/check` and `examples/check`. The contracts say the rest: what [`run_source`] prints is
-//! what the run of some text comes to, with the size and the switches that were given; and
-//! [`write_out`] prints nothing and ends as the assembling did, or prints the fault of a device.
-//! Where OUT is to stay as it is, it prints nothing.
+//! The crate uses `counter_runs` and `counter_endings`. The clauses of the kit do not mention the
+//! contents of files, so `cases/check` and `examples/check` test that the right file is read, and
+//! what [`write_out`] leaves at a path. The contracts cover the rest: [`run_source`] prints the
+//! result of the run of some text, with the size and the switches that were given; and
+//! [`write_out`] prints nothing and ends as the assembly did, or prints the fault of a device. If
+//! OUT is to stay as it is, it prints nothing.
 #![tactic(auto)]
 
 mod outcomes;

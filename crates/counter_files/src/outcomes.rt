@@ -11,9 +11,9 @@ use counter_tasks::{Fault, Status, tell_fault};
 use std::io;
 use std::io::Write;
 
-/// Writes what an assembling gave for OUT, if it gave bytes, and answers how the program ends. A
-/// file that cannot be written is told as the fault of a device. An error is one of the writer, to
-/// which nothing can be told.
+/// Writes the bytes that an assembly returned for OUT, if any, and returns how the program ends. If
+/// the file cannot be written, the fault of a device is printed. An error is one of the writer, on
+/// which nothing can be printed.
 pub fn write_out<E: Write>(
     rt: &HostRuntime,
     out: &str,

@@ -1,10 +1,10 @@
-//! Writing a file in the place of another.
+//! Replacing a file.
 
 use std::fs::{File, OpenFile, OpenOptions, Permissions};
 use std::io::{ErrorKind, Write};
 use std::{fs, io};
 
-/// How many names are tried for the other file.
+/// The greatest number of names tried for the other file.
 const MOST_NAMES: u16 = 1000;
 
 /// Makes a file beside the one at a path, under a name that no file has.
@@ -33,8 +33,8 @@ fn fill(mut file: File, bytes: &[u8], permissions: Option<Permissions>) -> io::R
     file.sync_all()
 }
 
-/// Writes bytes to a file beside a path, and then gives it the name at the path. Where that fails,
-/// what is at the path stays as it was, and the other file is removed.
+/// Writes bytes to a file beside a path, and then renames it to the path. If that fails, the file
+/// at the path stays as it was, and the other file is removed.
 fn put_by_name(
     rt: &HostRuntime,
     path: &str,
@@ -52,11 +52,11 @@ fn put_by_name(
     put
 }
 
-/// Writes bytes to the file at a path, in the place of what is there.
+/// Writes bytes to the file at a path, replacing its contents.
 ///
-/// Where a file that can be written is at the path, or none, it has all the bytes in the end, or it
-/// stays as it was. What is no regular file (a device, a pipe, a link to a file) is written
-/// straight, and may be left with a part of the bytes where that fails.
+/// If there is a writable regular file at the path, or none, the file has all the bytes in the end,
+/// or stays as it was. Anything else (a device, a pipe, a link to a file) is written directly, and
+/// may be left with a part of the bytes if that fails.
 pub fn put_file(rt: &HostRuntime, path: &str, bytes: &[u8]) -> io::Result<()> {
     match fs::symlink_metadata(rt, path) {
         Ok(found) if found.is_file() => {

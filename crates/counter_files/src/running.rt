@@ -11,9 +11,9 @@ use std::io;
 use std::io::Write;
 use units::Switches;
 
-/// Runs the deck of the standard input, or that in a file, as `runs` does. A file that cannot be
-/// opened is told as the fault of a device. An error is one of the second writer, to which nothing
-/// can be told.
+/// Runs the deck on the standard input, or in a file, with `counter_runs`. If a file cannot be
+/// opened, the fault of a device is printed. An error is one of the second writer, on which nothing
+/// can be printed.
 pub fn run_source<W: Write, E: Write>(
     rt: &HostRuntime,
     deck: Source<'_>,

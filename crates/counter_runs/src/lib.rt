@@ -1,10 +1,10 @@
-//! Runs of decks: a deck from a reader, its listing to a writer, and how its machine stands to
+//! Runs of decks: a deck from a reader, its listing to one writer, and the machine's standing to
 //! another.
 //!
-//! It stands on the machine and on what `command_line` prints, and does no file's work itself, so
-//! that all of it can be tried in memory. The contract for the layers above is that of
-//! [`run_deck`]: what goes out is the listing of the machine that ran the text's deck, and how the
-//! machine stands is told; or a fault is told in place of all else.
+//! The crate uses the machine and `counter_tasks`. It opens no files, so all of it runs in memory.
+//! The contract for the layers above is that of [`run_deck`]: what is written is the listing of the
+//! machine that ran the text's deck, and the machine's standing is printed; or a fault is printed
+//! instead of everything else.
 #![tactic(auto)]
 
 mod reports;

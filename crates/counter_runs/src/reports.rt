@@ -1,4 +1,4 @@
-//! How a machine stands after its run.
+//! The standing of a machine after its run.
 
 ghost use Rattle.std.specs.Prelude.{◌≡◌, Some};
 ghost use Rattle.counter_runs.specs.Reports.{check_words, report_words, standing_words, status_at};
@@ -9,28 +9,28 @@ use machine::Standing;
 use std::fmt;
 use std::fmt::{Display, Formatter};
 
-/// How a machine stands, and where. It prints as it is told.
+/// The standing of a machine, with register I. Its `Display` is what is printed.
 #[derive(Clone, Copy)]
 pub struct Stand {
-    /// How it stands.
+    /// The standing.
     pub standing: Standing,
-    /// Register I: where the next instruction begins, or the one that was checked.
+    /// Register I: the position of the next instruction, or of the one that was checked.
     pub next: u16,
 }
 
-/// What a machine has made, and how it stands. It prints as it is told.
+/// What a machine has made, and its standing. Its `Display` is what is printed.
 #[derive(Clone, Copy)]
 pub struct Report {
-    /// How many cards it punched.
+    /// The number of cards punched.
     pub cards: usize,
-    /// How many lines it printed.
+    /// The number of lines printed.
     pub lines: usize,
-    /// How it stands.
+    /// The standing.
     pub stand: Stand,
 }
 
 impl Stand {
-    /// How the program ends that leaves a machine so.
+    /// How the program ends after this report.
     pub fn status(&self) -> Status
         ensures { result ≡ status_at self.now.standing }
     {
@@ -41,7 +41,7 @@ impl Stand {
     }
 }
 
-/// The words of a check.
+/// The words for a check.
 fn kind_of(check: Check) -> &'static str
     ensures { result.now ≡ check_words check }
 {

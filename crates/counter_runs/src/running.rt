@@ -18,22 +18,21 @@ use std::io;
 use std::io::{Read, Write};
 use units::{Switches, render};
 
-/// No more of a reader is read: the text of 2,000 cards, and one byte more, which shows that there
-/// are too many.
+/// How many bytes are read at most: 2,000 cards and one byte, so that a longer deck is noticed.
 pub const MOST_BYTES: u64 = 162_001;
 
-/// A deck runs for at most so many instructions.
+/// The greatest number of instructions for which a deck runs.
 pub const MOST_INSTRUCTIONS: u32 = 1_000_000;
 
-/// What a run gives: the listing, and how the machine stands.
+/// The result of a run: the listing, and the machine's report.
 #[derive(Drop)]
 struct Outcome {
     listing: Vec<u8>,
     report: Report,
 }
 
-/// What a reader has, as far as a deck's text may go. Fails where the reader does, or for want of
-/// memory.
+/// Reads a reader to its end, or up to `MOST_BYTES` bytes. Fails if the reader fails or if there is
+/// no memory.
 pub fn text_in<R: Read + Drop>(alloc: Global, reader: R) -> Result<Vec<u8>, Fault>
     ensures text { IfOk result (λ text. Reads (R.remaining reader) text.items) }
     ensures fault { IfErr result (λ fault. (fault ≡ Fault.Card out_of_memory)
@@ -62,7 +61,7 @@ fn machine_after(
     Ok(machine)
 }
 
-/// What a machine gives.
+/// The result of a machine's run.
 fn outcome_in(alloc: Global, machine: &Machine<PlaneCore>) -> Result<Outcome, AllocError>
     ensures { IfOk result (λ outcome. shown_of outcome ≡ shown_by machine.now) }
 {
@@ -79,7 +78,7 @@ fn outcome_in(alloc: Global, machine: &Machine<PlaneCore>) -> Result<Outcome, Al
     Ok(Outcome { listing, report })
 }
 
-/// What the run of a text's deck gives.
+/// The result of the run of a text's deck.
 fn outcome_of(alloc: Global, text: &[u8], size: Size, switches: Switches) -> Result<Outcome, Fault>
     ensures ran { IfOk result (λ outcome. IsRunOf text.now size switches (shown_of outcome)) }
     ensures fault { IfErr result (λ fault. Refuses text.now fault × (fault ≢ Fault.Device)) }
@@ -100,7 +99,7 @@ fn outcome_of(alloc: Global, text: &[u8], size: Size, switches: Switches) -> Res
     }
 }
 
-/// Puts the listing out, and then prints how the machine stands.
+/// Writes the listing, and then prints the machine's report.
 fn show<W: Write, E: Write>(outcome: &Outcome, output: &mut W, errors: &mut E) -> io::Result<Status>
     ensures { IfOk result (λ status. IsShown (shown_of outcome.now) status
         (W.contents output.old) (W.contents output.new)
@@ -114,11 +113,11 @@ fn show<W: Write, E: Write>(outcome: &Outcome, output: &mut W, errors: &mut E) -
     Ok(report.stand.status())
 }
 
-/// Runs the deck whose text a reader has, and answers how the program ends.
+/// Runs the deck whose text a reader has, and returns how the program ends.
 ///
-/// The listing goes out as a whole before anything is told; where a fault is told nothing goes
-/// out, but for what a failing output took. An error is one of the second writer, to which nothing
-/// can be told.
+/// The listing is written whole before anything is printed. If a fault is printed, no listing is
+/// written, except for what a failing output took. An error is one of the second writer, on which
+/// nothing can be printed.
 pub fn run_deck<R: Read + Drop, W: Write, E: Write>(
     alloc: Global,
     reader: R,
@@ -142,8 +141,8 @@ pub fn run_deck<R: Read + Drop, W: Write, E: Write>(
     }
 }
 
-/// The law of what is read: the text of a deck is never cut off. Where the bytes that are read are
-/// a deck's text, they are all that the reader had.
+/// The law of what is read: the text of a deck is never cut off. If the bytes that are read are a
+/// deck's text, they are all that the reader had.
 pub fn no_deck_is_cut_off()
     ensures { (bytes : List ℕ) (deck : List Card) → IsDeck deck →
         take most_bytes bytes ≡ text_of deck → bytes ≡ text_of deck }

@@ -1,4 +1,4 @@
-//! What is told in place of a deck's work.
+//! The faults that are printed instead of a deck's result.
 
 ghost use Rattle.std.specs.Prelude.{◌≡◌, Some};
 ghost use Rattle.std.specs.IoError.{error_kind};
@@ -11,10 +11,10 @@ use std::fmt::{Display, Formatter};
 use std::io::ErrorKind;
 use std::{fmt, io};
 
-/// Why a deck isn't run or assembled. It prints as it is told.
+/// Why a deck is not run or assembled. Its `Display` is what is printed.
 #[derive(Clone, Copy, Debug, PartialEq, Eq)]
 pub enum Fault {
-    /// The text is no deck's, or there is no memory to read it.
+    /// The text is not a deck's, or there is no memory to read it.
     Card(CardFault),
     /// The deck that is to be run has no card.
     Empty,
@@ -22,12 +22,12 @@ pub enum Fault {
     TooManyCards,
     /// There is no memory for the machine, for what is assembled, or for a listing.
     Memory,
-    /// A deck can't be read, or a listing or a deck not be written.
+    /// A deck cannot be read, or a listing or a deck cannot be written.
     Device,
 }
 
 impl Fault {
-    /// The fault of a reader that gives this error.
+    /// The fault of a reader that fails with this error.
     pub fn of_reading(error: &io::Error) -> Fault
         ensures { result ≡ reading_fault (error_kind error.now) }
     {

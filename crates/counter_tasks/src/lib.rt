@@ -1,10 +1,10 @@
 //! The command line: the task that the program's words ask for, and what the program prints there.
 //!
-//! It stands on `words`, which finds the row that words spell, and on `values`, which reads the
-//! values in them. Its contracts for the layers above: the task of words is the one that they ask
-//! for, or else the misuse is what is wrong with them (`specs/Tasks.antt`); and what is told, of a
-//! fault, of a misuse or as help, is exactly the words of `specs/Told.antt`, or their writer
-//! failed.
+//! The crate uses `counter_words`, which finds the row that words spell, and `counter_values`,
+//! which reads the values in them. Its contracts for the layers above: the task of words is the one
+//! that they ask for, or else the misuse is what is wrong with them (`specs/Tasks.antt`); and what
+//! is printed, for a fault, for a misuse or as help, is exactly the text of `specs/Told.antt`, or
+//! the writer failed.
 #![tactic(auto)]
 
 mod faults;

@@ -19,7 +19,7 @@ pub(crate) fn port_of(text: &str) -> Option<u16>
     Some(number as u16)
 }
 
-/// How many connections are to be served, from 1 to 1,000,000.
+/// The number of connections to be served, from 1 to 1,000,000.
 pub(crate) fn count_of(text: &str) -> Option<u32>
     ensures some { IfSome result (λ count. IsCount count × (text.now ≡ decimal count)) }
     ensures none { IfNone result ((count : ℕ) → IsCount count → text.now ≢ decimal count) }
@@ -33,7 +33,7 @@ pub(crate) fn count_of(text: &str) -> Option<u32>
     Some(number)
 }
 
-/// The number of a job, or 0 where the text is none.
+/// The number of a job, or 0 if the text is not one.
 pub(crate) fn job_number(text: &str) -> u32
     ensures { IsNumberOf text.now result }
 {

@@ -6,11 +6,11 @@ ghost use Rattle.counter_tasks.specs.Told.{status_code};
 /// How the program ends. Its code is the exit status.
 #[derive(Clone, Copy, Debug, PartialEq, Eq)]
 pub enum Status {
-    /// All was done, and a machine that ran stands at a halt.
+    /// Everything was done, and a machine that ran is at a halt.
     Done,
-    /// A fault or a refusal was told, or a machine that ran doesn't stand at a halt.
+    /// A fault or a refusal was printed, or a machine that ran is not at a halt.
     Told,
-    /// The words ask for nothing that the program does.
+    /// The words do not ask for a task.
     Misused,
     /// The bureau's file could not be used.
     Unusable,

@@ -20,7 +20,7 @@ use std::io::ErrorKind;
 use std::{fmt, io};
 use units::Switches;
 
-/// Where a deck's text comes from.
+/// Where a deck's text is read from.
 #[derive(Clone, Copy, Debug, PartialEq, Eq)]
 pub enum Source<'a> {
     /// The standard input.
@@ -44,7 +44,7 @@ pub enum Task<'a> {
     },
     /// Assemble a source, and write the deck that runs its program.
     Assemble {
-        /// The path of the file that the source begins.
+        /// The path of the file that begins with the source.
         source: &'a str,
         /// The path of the file for the deck.
         out: &'a str,
@@ -67,7 +67,7 @@ pub enum Task<'a> {
         file: &'a str,
         /// The job's customer.
         customer: &'a str,
-        /// The job's number, or 0 where its text is none.
+        /// The job's number, or 0 if its text is not one.
         number: u32,
     },
     /// Answer requests over HTTP.
@@ -76,30 +76,30 @@ pub enum Task<'a> {
         file: &'a str,
         /// The port to listen on.
         port: u16,
-        /// How many connections are served.
+        /// The number of connections to serve.
         count: u32,
     },
 }
 
-/// Why words ask for nothing that the program does. It prints as a complaint to the caller.
+/// Why words do not ask for a task. Its `Display` is a complaint to the caller.
 #[derive(Clone, Copy, Debug, PartialEq, Eq)]
 pub enum Misuse<'a> {
-    /// They are no row's, or there was no memory to read them.
+    /// They are not the words of a row, or there was no memory to read them.
     Words(WordsFault<'a>),
-    /// A word is no text.
+    /// A word is not valid text.
     NoText,
-    /// SIZE is no size of storage.
+    /// SIZE is not a size of storage.
     Size,
-    /// SWITCHES names no set of sense switches.
+    /// SWITCHES does not name a set of sense switches.
     Switches,
-    /// PORT is no port's number.
+    /// PORT is not a port's number.
     Port,
-    /// COUNT is no number of connections.
+    /// COUNT is not a number of connections.
     Count,
 }
 
 impl<'a> Misuse<'a> {
-    /// Whether there was no memory to read the words, which is a fault and no misuse.
+    /// Whether there was no memory to read the words, which is a fault and not a misuse.
     pub(crate) fn is_want_of_memory(&self) -> bool
         ensures { result ≡ is_want_of_memory self.now }
     {
@@ -149,7 +149,7 @@ impl<'a> From<AllocError> for Misuse<'a> {
     }
 }
 
-/// Why the process has no words to give.
+/// The misuse of a process whose words cannot be read.
 impl<'a> From<io::Error> for Misuse<'a> {
     ghost use Rattle.std.specs.IoError.{error_kind};
     ghost use Rattle.counter_tasks.specs.Told.{misuse_of};
@@ -200,7 +200,7 @@ fn serve_task<'a>(file: &'a str, port: &str, count: &str) -> Result<Task<'a>, Mi
     Ok(Task::Serve { file, port, count })
 }
 
-/// The task that the words ask for.
+/// Returns the task that the words ask for, or else the misuse: what is wrong with them.
 #[tactic(auto, unfolding(counter_values::specs::Switches::letters_of))]
 pub fn task_of<'a>(alloc: Global, words: &'a [String]) -> Result<Task<'a>, Misuse<'a>>
     ensures ok { IfOk result (Wants (texts words.entry.now)) }

@@ -1,4 +1,4 @@
-//! What is told on the second writer, and the help.
+//! Printing on the second writer, and the help.
 
 ghost use Rattle.std.specs.Prelude.{◌≡◌, ◌∷◌, [], ◌++◌, IfOk, OnOk};
 ghost use Rattle.std.specs.Io.KnownBytes.{Appends};
@@ -12,7 +12,7 @@ use counter_words::{RowName, USAGE, VERSION, page};
 use std::io;
 use std::io::Write;
 
-/// Puts all bytes out. An error is the writer's, which may have taken some of them.
+/// Writes all bytes. An error is the writer's, which may have taken some of them.
 pub fn put_out<W: Write>(output: &mut W, bytes: &[u8]) -> io::Result<()>
     ensures { OnOk result (Appends (W.contents output.old) (W.contents output.new) bytes.now) }
 {
@@ -20,7 +20,7 @@ pub fn put_out<W: Write>(output: &mut W, bytes: &[u8]) -> io::Result<()>
     output.flush()
 }
 
-/// Tells a fault. An error is the writer's.
+/// Prints a fault. An error is the writer's.
 pub fn tell_fault<E: Write>(errors: &mut E, fault: Fault) -> io::Result<Status>
     ensures { IfOk result (λ status. (status ≡ Status.Told)
         × Appends (E.contents errors.old) (E.contents errors.new) (fault_words fault ++ 10 ∷ [])) }
@@ -29,8 +29,8 @@ pub fn tell_fault<E: Write>(errors: &mut E, fault: Fault) -> io::Result<Status>
     Ok(Status::Told)
 }
 
-/// Tells what is wrong with the words, and how the program is called; or, where they ask for help
-/// without hyphens, this help alone. An error is the writer's.
+/// Prints what is wrong with the words, and the usage line; or, if they ask for help without
+/// hyphens, only this help. An error is the writer's.
 pub fn tell_misuse<E: Write>(errors: &mut E, misuse: Misuse<'_>) -> io::Result<Status>
     ensures { IfOk result (λ status. (status ≡ misuse_status misuse.entry)
         × Appends (E.contents errors.old) (E.contents errors.new)
@@ -47,7 +47,7 @@ pub fn tell_misuse<E: Write>(errors: &mut E, misuse: Misuse<'_>) -> io::Result<S
     Ok(Status::Misused)
 }
 
-/// Puts a text out. An error is the second writer's, to which nothing can be told.
+/// Writes a text. An error is the second writer's, on which nothing can be printed.
 fn show_text<W: Write, E: Write>(text: &str, output: &mut W, errors: &mut E) -> io::Result<Status>
     ensures { IfOk result (λ status. IsTextShown text.now status
         (W.contents output.old) (W.contents output.new)
@@ -59,8 +59,8 @@ fn show_text<W: Write, E: Write>(text: &str, output: &mut W, errors: &mut E) -> 
     Ok(Status::Done)
 }
 
-/// Puts the help of a row out, or the whole help. An error is the second writer's, to which nothing
-/// can be told.
+/// Writes the help of a row, or the whole help. An error is the second writer's, on which nothing
+/// can be printed.
 pub fn show_help<W: Write, E: Write>(
     output: &mut W,
     errors: &mut E,
@@ -73,8 +73,8 @@ pub fn show_help<W: Write, E: Write>(
     show_text(page(row), output, errors)
 }
 
-/// Puts the version out, and the line of the toolchain. An error is the second writer's, to which
-/// nothing can be told.
+/// Writes the version, and the line of the toolchain. An error is the second writer's, on which
+/// nothing can be printed.
 pub fn show_version<W: Write, E: Write>(output: &mut W, errors: &mut E) -> io::Result<Status>
     ensures { IfOk result (λ status. IsTextShown VERSION.now status
         (W.contents output.old) (W.contents output.new)

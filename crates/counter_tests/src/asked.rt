@@ -14,14 +14,14 @@ fn words_of(alloc: Global, line: &str) -> Result<Vec<String>, AllocError> {
     Ok(words)
 }
 
-/// What the words of a line are read as.
+/// The words of a line, as they are read.
 fn read_as(alloc: Global, line: &str) -> Result<String, Fail> {
     let given = words_of(alloc, line)?;
     Ok(format!(in alloc; "{:?}", words(alloc, given.as_slice()))?)
 }
 
-/// Lines after what their words are read as: each row, too few values or too many, and lines that
-/// begin no row.
+/// Lines after the result of reading their words: each row, too few values or too many, and lines
+/// that begin no row.
 const READINGS: &str = "\
 Ok(Standard)|
 Ok(Run { deck: \"D\", size: \"4000\", switches: \"-\" })|run D 4000 -
@@ -78,7 +78,7 @@ Err(Values(Assemble))|assemble -- S O T
 Err(Values(Assemble))|assemble run
 ";
 
-/// The first line of a sheet whose words are read otherwise than it says; else nothing.
+/// The first line of a sheet whose words are read otherwise than it gives; empty if there is none.
 fn misread(alloc: Global, sheet: &'static str) -> Result<&'static str, Fail> {
     for line in sheet.lines() {
         let (reading, given) = line.split_once('|').ok_or("a reading")?;
@@ -101,8 +101,8 @@ fn asked_by(alloc: Global, line: &str) -> Result<String, Fail> {
     Ok(format!(in alloc; "{:?}", task_of(alloc, given.as_slice()))?)
 }
 
-/// Lines after what their words ask for: tasks, sizes and switches that are none, and words that
-/// are not read.
+/// Lines after what their words ask for: tasks, invalid sizes and switches, and words that are not
+/// read.
 const TASKS: &str = "\
 Ok(Run { deck: Input, size: Positions4000, switches: Switches(1) })|
 Ok(Run { deck: File(\"D\"), size: Positions1400, switches: Switches(0) })|run D 1400 -
@@ -140,7 +140,8 @@ Err(Words(Hyphen(\"-A\")))|run D 4000 -A
 Err(Words(Values(Assemble)))|assemble S
 ";
 
-/// The first line of a sheet whose words ask for something else than it says; else nothing.
+/// The first line of a sheet whose words ask for something else than it gives; empty if there is
+/// none.
 fn misasked(alloc: Global, sheet: &'static str) -> Result<&'static str, Fail> {
     for line in sheet.lines() {
         let (task, given) = line.split_once('|').ok_or("a task")?;

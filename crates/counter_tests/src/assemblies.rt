@@ -6,7 +6,7 @@ use counter::{Assembled, Status, assemble_deck};
 use std::alloc::Global;
 use std::test::Fail;
 
-/// What an assembly gave, and what it wrote.
+/// The result of an assembly, and what it wrote.
 #[derive(Drop)]
 struct Written {
     answer: Assembled,
@@ -14,7 +14,7 @@ struct Written {
     errors: Vec<u8>,
 }
 
-/// What an assembly of the source of this text gives.
+/// The result of assembling the source of this text.
 fn assembled(alloc: Global, text: &[u8]) -> Result<Written, Fail> {
     let mut output = Vec::new(alloc);
     let mut errors = Vec::new(alloc);
@@ -27,7 +27,7 @@ fn assembled(alloc: Global, text: &[u8]) -> Result<Written, Fail> {
 }
 
 /// Whether an assembly of the source of this text is done, writes this listing, writes no error,
-/// and gives this deck.
+/// and returns this deck.
 fn gives(alloc: Global, text: &[u8], listing: &str, deck: &[u8]) -> Result<[bool; 4], Fail> {
     let written = assembled(alloc, text)?;
     let is_done = written.answer.status == Status::Done;
@@ -50,7 +50,7 @@ fn a_source_gives_its_listing_and_the_deck_that_runs_it(rt: HostRuntime) -> Resu
     Ok(())
 }
 
-/// Whether an assembly of the source of this text gives no deck and writes these two texts.
+/// Whether an assembly of the source of this text returns no deck and writes these two texts.
 fn tells(alloc: Global, text: &[u8], output: &str, errors: &str) -> Result<bool, Fail> {
     let written = assembled(alloc, text)?;
     let is_none = written.answer.out.is_none();
@@ -64,7 +64,7 @@ const THREE_FAULTS: &str = "               XYZ
                B    LOST
      *A COMMENT";
 
-/// A constant below the places that a program may fill.
+/// A constant below the positions that a program may fill.
 const TOO_LOW: &str = "               ORG  079
                DCW  @AB@
                H
@@ -83,7 +83,7 @@ fn faults_of_a_source_are_told_in_place_of_its_listing(rt: HostRuntime) -> Resul
     Ok(())
 }
 
-/// The number of bytes of the deck that an assembly gives, if it writes nothing to the second
+/// The number of bytes of the deck that an assembly returns, if it writes nothing to the second
 /// writer.
 fn bytes_given(alloc: Global, text: &[u8]) -> Result<usize, Fail> {
     let written = assembled(alloc, text)?;
@@ -105,7 +105,7 @@ fn two_thousand_cards_are_written_and_no_more(rt: HostRuntime) -> Result<(), Fai
     Ok(())
 }
 
-/// What an assembly from a reader that fails writes.
+/// The output of an assembly from a reader that fails.
 fn written_of_torn(alloc: Global) -> Result<(Vec<u8>, Vec<u8>), Fail> {
     let mut output = Vec::new(alloc);
     let mut errors = Vec::new(alloc);
@@ -128,8 +128,8 @@ fn a_fault_is_told_in_place_of_a_source(rt: HostRuntime) -> Result<(), Fail> {
     Ok(())
 }
 
-/// Whether an assembly whose output takes so many bytes writes that a device failed, and gives no
-/// deck.
+/// Whether an assembly whose output takes only `room` bytes writes that a device failed, and
+/// returns no deck.
 fn output_fails(alloc: Global, text: &[u8], room: usize) -> Result<bool, Fail> {
     let mut errors = Vec::new(alloc);
     let answer = assemble_deck(alloc, text, &mut Full { room }, &mut errors)?;
@@ -151,7 +151,7 @@ fn a_failing_output_of_an_assembly_is_told(rt: HostRuntime) -> Result<(), Fail> 
     Ok(())
 }
 
-/// Whether an assembly whose output is never flushed writes that a device failed, and gives no
+/// Whether an assembly whose output is never flushed writes that a device failed, and returns no
 /// deck.
 fn flush_fails(alloc: Global, text: &[u8]) -> Result<bool, Fail> {
     let mut errors = Vec::new(alloc);

@@ -45,7 +45,7 @@ fn a_run_puts_its_listing_out_and_tells_how_it_stands(rt: HostRuntime) -> Result
     Ok(())
 }
 
-/// Whether a run of the deck of this text writes this fault alone.
+/// Whether a run of the deck of this text writes this fault and nothing else.
 fn tells(alloc: Global, text: &[u8], fault: &str) -> Result<bool, Fail> {
     runs_as(alloc, text, Size::Positions4000, Status::Told, "", fault)
 }
@@ -69,7 +69,7 @@ fn a_fault_is_told_alone(rt: HostRuntime) -> Result<(), Fail> {
     Ok(())
 }
 
-/// Whether a run whose output takes so many bytes writes that a device failed.
+/// Whether a run whose output takes only `room` bytes writes that a device failed.
 fn output_fails(alloc: Global, text: &[u8], room: usize) -> Result<bool, Fail> {
     let (size, switches) = (Size::Positions4000, Switches::A);
     let mut told = Vec::new(alloc);
@@ -78,14 +78,14 @@ fn output_fails(alloc: Global, text: &[u8], room: usize) -> Result<bool, Fail> {
     Ok(status == Status::Told && is_told)
 }
 
-/// Whether a run whose errors take so many bytes fails.
+/// Whether a run whose second writer takes only `room` bytes fails.
 fn errors_fail(alloc: Global, text: &[u8], room: usize) -> bool {
     let (size, switches) = (Size::Positions4000, Switches::A);
     let mut out = Vec::new(alloc);
     run_deck(alloc, text, &mut out, &mut Full { room }, size, switches).is_err()
 }
 
-/// What a run from a reader that fails writes.
+/// The output of a run from a reader that fails.
 fn written_of_torn(alloc: Global) -> Result<(Vec<u8>, Vec<u8>), Fail> {
     let (size, switches) = (Size::Positions4000, Switches::A);
     let mut out = Vec::new(alloc);

@@ -3,7 +3,7 @@
 use std::io;
 use std::io::{ErrorKind, Read, Write};
 
-/// Gives a byte, and then fails.
+/// A reader that gives one byte, and then fails.
 #[derive(Drop)]
 pub(crate) struct Torn {
     is_read: bool,
@@ -27,10 +27,10 @@ impl Read for Torn {
     }
 }
 
-/// Takes some bytes, and then none.
+/// A writer that takes some bytes, and then none.
 #[derive(Drop)]
 pub(crate) struct Full {
-    /// How many bytes it still takes.
+    /// The number of bytes that it still takes.
     pub(crate) room: usize,
 }
 
@@ -46,10 +46,10 @@ impl Write for Full {
     }
 }
 
-/// Takes all bytes, and fails where it is flushed.
+/// A writer that takes all bytes, and fails if it is flushed.
 #[derive(Drop)]
 pub(crate) struct Unflushed {
-    /// How many bytes it has taken.
+    /// The number of bytes that it has taken.
     taken: usize,
 }
 

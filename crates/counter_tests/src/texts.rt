@@ -2,7 +2,8 @@
 
 use std::alloc::{AllocError, Global};
 
-/// Reads two cards into the print area and prints each, and halts; and two data cards.
+/// A program that reads two cards into the print area and prints each, and halts; and two data
+/// cards.
 pub(crate) const TWO_LINES: &str = "\
 ,008015,022029,036040,047054,061068,072)008015)022029)036036N0000001040
 /332/,0011M0802802B360A                L023355,337338,342343,3503511040
@@ -38,7 +39,7 @@ pub(crate) const TWO_LINES_LISTING: &str = "   1 00333                CS   332
   10                      END
 ";
 
-/// Adds a card to the text of a deck, blank after these columns.
+/// Adds a card to the text of a deck: these columns, padded with blanks.
 pub(crate) fn push_card(text: &mut Vec<u8>, card: &str) -> Result<(), AllocError> {
     text.extend_from_slice(card.as_bytes())?;
     for _ in card.len()..80 {
@@ -57,7 +58,7 @@ pub(crate) fn text_of(alloc: Global, lines: &str) -> Result<Vec<u8>, AllocError>
     Ok(text)
 }
 
-/// Adds so many blank cards to the text of a deck.
+/// Adds `count` blank cards to the text of a deck.
 pub(crate) fn push_blanks(text: &mut Vec<u8>, count: u16) -> Result<(), AllocError> {
     for _ in 0..count {
         push_card(text, "")?;

@@ -1,4 +1,4 @@
-//! What a misuse and the help write.
+//! The output of misuses and of the help.
 
 use crate::devices::Unflushed;
 use counter::{Misuse, Status, show_help, show_version, tell_misuse};
@@ -6,14 +6,14 @@ use counter_words::{RowName, WordsFault};
 use std::alloc::{AllocError, Global};
 use std::test::Fail;
 
-/// The status that a misuse ends with, and what it writes.
+/// The exit status of a misuse, and its output.
 fn told_of(alloc: Global, misuse: Misuse<'_>) -> Result<(u8, Vec<u8>), Fail> {
     let mut told = Vec::new(alloc);
     let status = tell_misuse(&mut told, misuse)?;
     Ok((status.code(), told))
 }
 
-/// What a size that is none writes.
+/// The output for an invalid size.
 const NO_SIZE: &str = "bureau: SIZE must be 1400, 2000 or 4000
 usage: bureau [ROW WORDS..]; bureau --help lists the rows and their words
 ";
@@ -29,7 +29,7 @@ fn a_misuse_is_told_with_the_usage(rt: HostRuntime) -> Result<(), Fail> {
     Ok(())
 }
 
-/// What a value that begins with a hyphen writes.
+/// The output for a value that begins with a hyphen.
 const ODD: &str = "\
 bureau: `-odd` begins with a hyphen; put `--` after the row's name, \
 as in `bureau run -- -odd.deck 4000 A`
@@ -44,7 +44,7 @@ fn a_word_with_a_hyphen_is_named(rt: HostRuntime) -> Result<(), Fail> {
     Ok(())
 }
 
-/// What the help of a row writes, or the whole help.
+/// The help of a row, or the whole help.
 fn help_of(alloc: Global, row: Option<RowName>) -> Result<Vec<u8>, Fail> {
     let mut output = Vec::new(alloc);
     let mut errors = Vec::new(alloc);

@@ -4,7 +4,7 @@ ghost use Rattle.std.specs.Prelude.{◌≡◌, ◌≢◌, ◌<◌, ◌^◌, ℕ,
 
 use itoa::Buffer;
 
-/// The number that 1 to 9 digits without a leading zero spell.
+/// The number spelled by 1 to 9 digits without a leading zero. `None` for any other text.
 pub fn number_of(text: &str) -> Option<u32>
     ensures some { IfSome result (λ number. (0 < number) × (number < 10 ^ 9)
         × (text.now ≡ decimal number)) }

@@ -7,7 +7,7 @@ ghost use Rattle.core_store.specs.declared.sizes.Size.{Size};
 use crate::numbers::number_of;
 use core_store::{LARGEST_SIZE, Size};
 
-/// The size whose count of positions the text spells in plain decimal.
+/// The size whose number of positions the text spells in plain decimal, if there is one.
 pub fn size_of(text: &str) -> Option<Size>
     ensures some { IfSome result (λ size. text.now ≡ decimal (positions_of size)) }
     ensures none { IfNone result ((size : Size) → text.now ≢ decimal (positions_of size)) }

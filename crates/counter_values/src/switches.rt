@@ -24,7 +24,7 @@ fn bit_of(letter: u8) -> Option<u8>
     }
 }
 
-/// The bits of rising letters. Where all bits so far lie below a letter's, it rises.
+/// The bits of rising letters. A letter rises if all bits so far are below its bit.
 #[tactic(auto, unfolding(crate::specs::Switches::risen))]
 fn bits_of(letters: &[u8]) -> Option<u8>
     ensures { result ≡ risen 0 letters.now }

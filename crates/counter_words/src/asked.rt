@@ -8,23 +8,23 @@ use std::error::Error;
 use std::fmt;
 use std::fmt::{Display, Formatter};
 
-/// A row of the program's words. The values are any text: what they say is judged above.
+/// A row of the program's words. The values are any text; the layer above judges them.
 #[derive(Clone, Copy, Debug, PartialEq, Eq)]
 pub enum Words<'a> {
-    /// No words: the deck stands on standard input, and runs with the usual size and switches.
+    /// No words: the deck is on standard input, and runs with the usual size and switches.
     Standard,
     /// `run DECK SIZE SWITCHES`: a deck's file, run without a bureau.
     Run {
         /// The path of the deck's file.
         deck: &'a str,
-        /// How many positions of storage the machine has.
+        /// The number of positions of storage of the machine.
         size: &'a str,
         /// The sense switches that are on.
         switches: &'a str,
     },
     /// `assemble IN OUT`: a source's file, assembled into a deck's file.
     Assemble {
-        /// The path of the file that the source begins.
+        /// The path of the file that begins with the source.
         source: &'a str,
         /// The path of the file for the deck.
         out: &'a str,
@@ -56,27 +56,27 @@ pub enum Words<'a> {
         file: &'a str,
         /// The port to listen on.
         port: &'a str,
-        /// How many connections are served.
+        /// The number of connections to serve.
         count: &'a str,
     },
-    /// `--help` or `-h`: alone the whole help, after a row's name the help of that row.
+    /// `--help` or `-h`: alone it means the whole help, after a row's name the help of that row.
     Help(Option<RowName>),
     /// `--version`, alone.
     Version,
 }
 
-/// Why words are not taken. Nothing was done then. It prints as a complaint to the caller.
+/// Why words are not accepted. Nothing was done. Its `Display` is a complaint to the caller.
 #[derive(Clone, Copy, Debug, PartialEq, Eq)]
 pub enum WordsFault<'a> {
     /// There was no memory to read the words.
     Memory,
-    /// The first word is the name of no row.
+    /// The first word is not the name of a row.
     Row,
-    /// The name of this row, and after it other words than the row has.
+    /// The name of this row, followed by other words than the row has.
     Values(RowName),
-    /// The name of a row, and after it this word, which begins with a hyphen.
+    /// The name of a row, followed by this word, which begins with a hyphen.
     Hyphen(&'a str),
-    /// `help`, without hyphens: alone, or before the name of this row. It prints as that help.
+    /// `help`, without hyphens: alone, or before the name of this row. Its `Display` is that help.
     Help(Option<RowName>),
 }
 

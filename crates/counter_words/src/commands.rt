@@ -7,7 +7,7 @@ ghost use Rattle.counter_words.specs.Command.{bureau, named, positional, row_app
 use clap::{Arg, ArgAction, Command};
 use std::alloc::{AllocError, Global};
 
-/// A required value by its place.
+/// A required value, by the name of its place.
 fn value_arg<'a>(alloc: Global, place: &'a str) -> Arg<'a>
     ensures rule { rule_of result ≡ positional place.entry.now }
     ensures local { result.global ≡ false }
@@ -27,7 +27,7 @@ fn row<'a>(alloc: Global, name: &'a str, places: &[&'a str]) -> Result<Command<'
     Ok(command)
 }
 
-/// The command with one row more.
+/// The command with one more row.
 fn with_row<'a>(
     alloc: Global,
     command: Command<'a>,
@@ -40,7 +40,7 @@ fn with_row<'a>(
     command.subcommand(row(alloc, name, places)?)
 }
 
-/// The command with the rows that know no bureau.
+/// The command with the rows that use no bureau.
 fn with_deck_rows<'a>(alloc: Global, command: Command<'a>) -> Result<Command<'a>, AllocError>
     ensures { IfOk result (λ c. app_of c ≡ with_deck_rows (app_of command.entry)) }
 {
@@ -58,7 +58,7 @@ fn with_file_rows<'a>(alloc: Global, command: Command<'a>) -> Result<Command<'a>
     with_row(alloc, command, "serve", &["first", "second", "third"])
 }
 
-/// The command without rows: no program's name in front, and no help of clap's own.
+/// The command without rows: no program's name as the first word, and no help of clap's own.
 fn named_command<'a>(alloc: Global) -> Command<'a>
     ensures { app_of result ≡ named }
 {

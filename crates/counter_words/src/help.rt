@@ -1,11 +1,11 @@
-//! The texts that say how the program is called.
+//! The texts of the help, the version and the usage line.
 
 ghost use Rattle.std.specs.Prelude.{◌≡◌};
 ghost use Rattle.counter_words.specs.Asked.{page_of};
 
 use crate::row_names::RowName;
 
-/// What `--help` prints.
+/// The text that `--help` prints.
 pub const HELP: &str = "\
 bureau: a punched-card bureau on a verified IBM 1401.
 
@@ -110,7 +110,7 @@ refusals of a bureau, which change nothing:
   28      over 1,000,000,000 are granted    submit it anew, under another number
 ";
 
-/// What `run --help` prints.
+/// The text that `run --help` prints.
 pub const RUN_HELP: &str = "\
 bureau run DECK SIZE SWITCHES: runs the deck in the file DECK.
 
@@ -131,7 +131,7 @@ Status 0: the machine halted. Status 1: it did not, or a fault was printed. Stat
 are not as above. `bureau --help` lists the faults.
 ";
 
-/// What `assemble --help` prints.
+/// The text that `assemble --help` prints.
 pub const ASSEMBLE_HELP: &str = "\
 bureau assemble IN OUT: assembles the source in the file IN into a deck in the file OUT.
 
@@ -150,7 +150,7 @@ Status 0: OUT was written. Status 1: a fault was printed. Status 2: the words ar
 `bureau --help` lists the faults.
 ";
 
-/// What `init --help` prints.
+/// The text that `init --help` prints.
 pub const INIT_HELP: &str = "\
 bureau init FILE: makes FILE, a new bureau without jobs.
 
@@ -164,7 +164,7 @@ Status 0: FILE was made. Status 1: there is not enough memory. Status 2: the wor
 above. Status 3: FILE was not made, and `fault 2` was printed. `bureau --help` lists the faults.
 ";
 
-/// What `apply --help` prints.
+/// The text that `apply --help` prints.
 pub const APPLY_HELP: &str = "\
 bureau apply FILE SCRIPT: carries out the commands in the file SCRIPT, one after the other.
 
@@ -191,7 +191,7 @@ is not enough memory. Status 2: the words are not as above. Status 3: the bureau
 `bureau --help` lists the faults and refusals.
 ";
 
-/// What `export --help` prints.
+/// The text that `export --help` prints.
 pub const EXPORT_HELP: &str = "\
 bureau export FILE CUSTOMER NUMBER: writes what a job punched and printed to two files here.
 
@@ -211,7 +211,7 @@ not be written. Status 2: the words are not as above. Status 3: the bureau's fil
 `bureau --help` lists the faults and refusals.
 ";
 
-/// What `serve --help` prints.
+/// The text that `serve --help` prints.
 pub const SERVE_HELP: &str = "\
 bureau serve FILE PORT COUNT: answers COUNT requests over HTTP, one connection after the other.
 
@@ -239,14 +239,15 @@ enough memory. Status 2: the words are not as above. Status 3: the bureau's file
 `bureau --help` lists the faults and refusals.
 ";
 
-/// What `--version` prints: the version, and the line that `rt version` prints of the toolchain.
-/// `cases/check` compares that line with what `rt version` prints where the program is tested.
+/// The text that `--version` prints: the version, and the line that `rt version` prints of the
+/// toolchain. `cases/check` compares that line with the output of `rt version` when the program is
+/// tested.
 pub const VERSION: &str = "\
 bureau 1
 rattle-kit-13b logic dac8208d650f15bf
 ";
 
-/// The line that follows what is wrong with the words.
+/// The line that is printed after what is wrong with the words.
 pub const USAGE: &str = "usage: bureau [ROW WORDS..]; bureau --help lists the rows and their words";
 
 /// The help of a row, or the whole help.

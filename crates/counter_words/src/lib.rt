@@ -1,14 +1,15 @@
 //! The words after the program's name.
 //!
-//! A call of the program is one of a few rows: no words at all, or a row's name and its values by
-//! their places. Words with hyphens that ask for the help or the version are looked for first, and
-//! then a row whose values come after `--`: those values are taken as they are. Of all other words
-//! none may begin with a hyphen, but for `-` alone. clap judges these. Its command knows the rows
-//! alone, each with as many required values as the row has, and has no help of its own. What the
-//! values say (a size, the switches) is judged above, before any file is opened.
+//! A call of the program is one of a few rows: no words at all, or a row's name and its values in
+//! their places. Words with hyphens that ask for the help or the version are searched for first,
+//! and then a row whose values come after `--`: those values are taken unchanged. Of all other
+//! words none may begin with a hyphen, except `-` alone. These words are parsed by clap. Its
+//! command has only the rows, each with the number of required values that the row has, and has no
+//! help of its own. The values (a size, the switches) are judged by the layer above, before any
+//! file is opened.
 //!
-//! The contract that the layer above uses is that of [`words`]: an `Ok` is what the words ask for,
-//! words that ask for something fail for memory alone, and else the fault is what is wrong with
+//! The contract for the layer above is that of [`words`]: an `Ok` is what the words ask for; words
+//! that ask for something fail only if there is no memory; else the fault is what is wrong with
 //! them.
 #![tactic(auto)]
 
@@ -41,7 +42,7 @@ pub use help::{HELP, USAGE, VERSION, page};
 pub use row_names::RowName;
 use std::alloc::Global;
 
-/// What clap makes of the words.
+/// The result of clap on the words.
 fn parsed<'a>(alloc: Global, words: &'a [String]) -> Result<ArgMatches<'a>, WordsFault<'a>>
     ensures ok { IfOk result (λ m. (fault_of bureau (texts words.entry.now) ≡ [])
         × (subcommand_rows_of m ≡ subcommand_of bureau (texts words.entry.now))) }
@@ -64,7 +65,7 @@ fn parsed<'a>(alloc: Global, words: &'a [String]) -> Result<ArgMatches<'a>, Word
     }
 }
 
-/// The row that clap reads in the words.
+/// The row that clap finds in the words.
 fn row_of<'a>(alloc: Global, words: &'a [String]) -> Result<Words<'a>, WordsFault<'a>>
     ensures ok { IfOk result (λ asked. ArePlain (texts words.entry.now) →
         Spells (texts words.entry.now) asked) }
@@ -83,7 +84,7 @@ fn row_of<'a>(alloc: Global, words: &'a [String]) -> Result<Words<'a>, WordsFaul
     }
 }
 
-/// What the words ask for.
+/// Returns what the words ask for, or else the fault: what is wrong with them, or no memory.
 pub fn words<'a>(alloc: Global, words: &'a [String]) -> Result<Words<'a>, WordsFault<'a>>
     ensures ok { IfOk result (Asks (texts words.entry.now)) }
     ensures err { IfErr result (λ fault. (asked : Words) → Asks (texts words.entry.now) asked

@@ -1,4 +1,4 @@
-//! What is wrong with words that ask for nothing.
+//! What is wrong with words that do not ask for anything.
 
 ghost use Rattle.std.specs.Prelude.{◌≡◌, ◌∷◌, [], find, option_map, IfSome, IfNone};
 ghost use Rattle.counter_words.specs.Asked.{misread_help, misread_values, misreading, misreading_by};
@@ -18,7 +18,7 @@ pub(crate) fn first_word<'a>(words: &'a [String]) -> Option<(&'a str, &'a [Strin
     }
 }
 
-/// Whether a word doesn't begin with a hyphen, or is one byte long.
+/// Whether a word does not begin with a hyphen, or is one byte long.
 fn is_plain_word(word: &str) -> bool
     ensures { result ≡ is_plain word.now }
 {
@@ -58,7 +58,7 @@ fn misread_after<'a>(row: RowName, values: &'a [String]) -> WordsFault<'a>
     }
 }
 
-/// What the words after `help` ask for.
+/// The fault of words that begin with `help`.
 fn misread_after_help<'a>(words: &[String]) -> WordsFault<'a>
     ensures { misreading_by result ≡ misread_help (texts words.now) }
 {
@@ -74,7 +74,7 @@ fn misread_after_help<'a>(words: &[String]) -> WordsFault<'a>
     }
 }
 
-/// What is wrong with words that ask for nothing.
+/// What is wrong with words that do not ask for anything.
 pub(crate) fn misread<'a>(words: &'a [String]) -> WordsFault<'a>
     ensures { misreading_by result ≡ misreading (texts words.entry.now) }
 {

@@ -1,4 +1,4 @@
-//! Words with hyphens, in place of a row or after its name.
+//! Words with hyphens, instead of a row or after its name.
 
 ghost use Rattle.std.specs.Prelude.{◌≡◌, ◌≢◌, ◌∷◌, [], List, ℕ, IfSome, IfNone, codes};
 ghost use Rattle.counter_words.specs.Asked.{IsOption, name_of};
@@ -10,7 +10,7 @@ use crate::asked::Words;
 use crate::misreading::first_word;
 use crate::row_names::RowName;
 
-/// What a word alone asks for in place of a row.
+/// What one word asks for instead of a row.
 fn option_alone<'a>(word: &str) -> Option<Words<'a>>
     ensures some { IfSome result (IsOption (word.now ∷ [])) }
     ensures none { IfNone result ((asked : Words) → ¬ IsOption (word.now ∷ []) asked) }
@@ -27,7 +27,7 @@ fn option_alone<'a>(word: &str) -> Option<Words<'a>>
     None
 }
 
-/// What two words ask for in place of a row: the help of the row that the first names.
+/// What two words ask for instead of a row: the help of the row that the first names.
 fn option_after<'a>(name: &str, word: &str) -> Option<Words<'a>>
     ensures some { IfSome result (IsOption (name.now ∷ word.now ∷ [])) }
     ensures none { IfNone result ((asked : Words) → ¬ IsOption (name.now ∷ word.now ∷ []) asked) }
@@ -44,7 +44,7 @@ fn option_after<'a>(name: &str, word: &str) -> Option<Words<'a>>
     None
 }
 
-/// What words ask for in place of a row with values.
+/// What words ask for instead of a row with values.
 pub(crate) fn option_in<'a>(words: &[String]) -> Option<Words<'a>>
     ensures some { IfSome result (IsOption (texts words.now)) }
     ensures none { IfNone result ((asked : Words) → ¬ IsOption (texts words.now) asked) }
@@ -57,7 +57,7 @@ pub(crate) fn option_in<'a>(words: &[String]) -> Option<Words<'a>>
     }
 }
 
-/// The row whose name comes first, and the values after it, where `--` comes between them.
+/// The row whose name comes first, and the values after it, if `--` is between them.
 pub(crate) fn after_dashes<'a>(words: &'a [String]) -> Option<(RowName, &'a [String])>
     ensures some { IfSome result (λ p. texts words.entry.now
         ≡ name_of p.0 ∷ codes "--" ∷ texts p.1.now) }

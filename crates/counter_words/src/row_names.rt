@@ -19,7 +19,7 @@ pub enum RowName {
     Serve,
 }
 
-/// The row of a bureau's file whose name a word is.
+/// The row of a bureau's file with this name.
 fn file_row(word: &str) -> Option<RowName>
     ensures { result ≡ file_row_named word.now }
 {
@@ -39,7 +39,7 @@ fn file_row(word: &str) -> Option<RowName>
 }
 
 impl RowName {
-    /// The row whose name a word is.
+    /// The row with this name.
     pub(crate) fn of(word: &str) -> Option<RowName>
         ensures { result ≡ row_named word.now }
     {
@@ -52,7 +52,7 @@ impl RowName {
         file_row(word)
     }
 
-    /// The word that is the row's name.
+    /// The name of the row.
     pub(crate) fn word(self) -> &'static str
         ensures { result.now ≡ name_of self }
     {
@@ -66,7 +66,7 @@ impl RowName {
         }
     }
 
-    /// What the row takes after its name.
+    /// What the row takes after its name, as a complaint prints it.
     pub(crate) fn wish(self) -> &'static str
         ensures { result.now ≡ wish_of self }
     {

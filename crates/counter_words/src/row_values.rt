@@ -9,7 +9,7 @@ ghost use Rattle.counter_words.specs.declared.row_values.Values.{Values};
 use crate::asked::Words;
 use crate::row_names::RowName;
 
-/// The values of a row, by their places.
+/// The values of a row, in order.
 #[derive(Clone, Copy, Debug, PartialEq, Eq)]
 pub(crate) enum Values<'a> {
     /// One value.
@@ -20,7 +20,7 @@ pub(crate) enum Values<'a> {
     Three(&'a str, &'a str, &'a str),
 }
 
-/// The words as values, if a row has so many.
+/// The words as values, if a row has this number of them.
 fn values_in<'a>(words: &'a [String]) -> Option<Values<'a>>
     ensures some { IfSome result (λ values. texts words.entry.now ≡ texts_of values) }
     ensures none { IfNone result ((values : Values) → texts words.entry.now ≢ texts_of values) }
@@ -35,7 +35,7 @@ fn values_in<'a>(words: &'a [String]) -> Option<Values<'a>>
     }
 }
 
-/// The row with one value that this one makes.
+/// The row with this one value.
 fn row_with_one<'a>(row: RowName, first: &'a str) -> Option<Words<'a>>
     ensures some { IfSome result (λ asked. row_of asked ≡ Some (row, first.entry.now ∷ [])) }
     ensures none { IfNone result ((asked : Words) →
@@ -51,7 +51,7 @@ fn row_with_one<'a>(row: RowName, first: &'a str) -> Option<Words<'a>>
     }
 }
 
-/// The row with two values that these make.
+/// The row with these two values.
 fn row_with_two<'a>(row: RowName, first: &'a str, second: &'a str) -> Option<Words<'a>>
     ensures some { IfSome result (λ asked. row_of asked
         ≡ Some (row, first.entry.now ∷ second.entry.now ∷ [])) }
@@ -74,7 +74,7 @@ fn row_with_two<'a>(row: RowName, first: &'a str, second: &'a str) -> Option<Wor
     }
 }
 
-/// The row with three values that these make.
+/// The row with these three values.
 fn row_with_three<'a>(
     row: RowName,
     first: &'a str,
@@ -108,7 +108,7 @@ fn row_with_three<'a>(
     }
 }
 
-/// The row that these values make.
+/// The row with these values.
 pub(crate) fn row_with<'a>(row: RowName, values: Values<'a>) -> Option<Words<'a>>
     ensures some { IfSome result (λ asked. row_of asked ≡ Some (row, texts_of values.entry)) }
     ensures none { IfNone result ((asked : Words) →
@@ -121,7 +121,7 @@ pub(crate) fn row_with<'a>(row: RowName, values: Values<'a>) -> Option<Words<'a>
     }
 }
 
-/// The row that these words make after its name.
+/// The row with these words after its name.
 pub(crate) fn row_of_words<'a>(row: RowName, words: &'a [String]) -> Option<Words<'a>>
     ensures some { IfSome result (λ asked. row_of asked ≡ Some (row, texts words.entry.now)) }
     ensures none { IfNone result ((asked : Words) →

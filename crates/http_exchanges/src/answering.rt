@@ -1,4 +1,4 @@
-//! What is answered to a request.
+//! The answer to a request.
 
 ghost use Rattle.std.specs.Prelude.{◌≡◌, ◌⊎◌, ◌≤◌, [], IfSome, IfNone, IsTrue};
 ghost use Rattle.std.specs.Option.{IsSomeAnd};
@@ -26,7 +26,7 @@ use sqlite::Alter;
 use std::alloc::Global;
 use std::io::Read;
 
-/// The answer to a request that is refused with this status.
+/// The answer that refuses a request with this status.
 fn refusal(status: u16) -> Message
     requires { IsRefusingStatus status }
     ensures { IsAnswer (request.Refused status) [] result.status (bytes_in result.bytes) }
@@ -112,7 +112,7 @@ fn answer<S: Alter>(
     }
 }
 
-/// Reads a request, carries it out and makes the answer; nothing where the reader fails.
+/// Reads a request, carries it out and makes the answer; `None` if the reader fails.
 pub(crate) fn answer_next<R: Read, S: Alter>(
     alloc: Global,
     routes: &Routes,

@@ -21,8 +21,8 @@ use std::io::{Read, Write};
 
 /// Reads one request, carries it out, and writes the answer.
 ///
-/// Of the answer no byte is written before the bureau has done all that there is to do. Where the
-/// writer fails, what was carried out stays so. The meter rises by the instructions that a slice
+/// No byte of the answer is written before the bureau has finished the command. If the writer
+/// fails, what was carried out is kept. The meter rises by the number of instructions that a slice
 /// attempted.
 pub fn exchange<R: Read, W: Write, S: Alter>(
     alloc: Global,

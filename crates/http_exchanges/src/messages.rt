@@ -1,4 +1,4 @@
-//! What is written in answer to a request.
+//! The bytes of an answer.
 
 ghost use Rattle.std.specs.Prelude.{◌≡◌};
 ghost use Rattle.http_replies.specs.Fixed.{fault_bytes, fault_status};
@@ -6,16 +6,16 @@ ghost use Rattle.http_exchanges.specs.Messages.{bytes_in};
 
 use http_replies::Fault;
 
-/// Bytes to be written.
+/// The bytes to be written.
 #[derive(Drop)]
 pub(crate) enum Bytes {
-    /// Bytes that were there from the start.
+    /// Bytes that are part of the program.
     Fixed(&'static [u8]),
-    /// Bytes that were made.
+    /// Bytes that were made for this answer.
     Made(Vec<u8>),
 }
 
-/// What is written in answer to a request.
+/// An answer: its status and its bytes.
 #[derive(Drop)]
 pub(crate) struct Message {
     pub(crate) status: u16,
@@ -23,7 +23,7 @@ pub(crate) struct Message {
 }
 
 impl Bytes {
-    /// The bytes themselves.
+    /// Returns the bytes.
     pub(crate) fn as_slice(&self) -> &[u8]
         ensures { result.now ≡ bytes_in self.now }
     {
@@ -34,7 +34,7 @@ impl Bytes {
     }
 }
 
-/// The answer of a fault.
+/// The answer to a command that met a fault.
 pub(crate) fn faulted(fault: Fault) -> Message
     ensures status { result.status ≡ fault_status fault }
     ensures bytes { bytes_in result.bytes ≡ fault_bytes fault }

@@ -2,35 +2,35 @@
 
 use units::Switches;
 
-/// A job, as a target names it.
+/// The name of a job in a target.
 #[derive(Clone, Copy, Debug, PartialEq, Eq)]
 pub struct JobName<'a> {
-    /// The text in place of the customer.
+    /// The text of the customer.
     pub customer: &'a str,
-    /// The number, or 0 where its text is none.
+    /// The number, or 0 if its text is not one.
     pub number: u32,
 }
 
-/// What a job's deck is.
+/// The kind of a job's deck.
 #[derive(Clone, Copy, Debug, PartialEq, Eq)]
 pub enum Kind {
-    /// The deck of a program.
+    /// Cards that load themselves.
     Object,
-    /// The deck of a source.
+    /// The cards of a source, and data after them.
     Autocoder,
 }
 
-/// What a target asks for. A number, a size or a limit is 0 where its text is no number.
+/// What a target asks for. A number, a size or a limit is 0 if its text is not a number.
 #[derive(Clone, Copy, Debug, PartialEq, Eq)]
 pub enum Asked<'a> {
-    /// To take in a job, whose deck is the body.
+    /// To take in a job. Its deck is the body.
     Submit {
         job: JobName<'a>,
         kind: Kind,
         size: u32,
         switches: Switches,
     },
-    /// To run a job for at most so many instructions.
+    /// To run a job for at most `limit` instructions.
     Slice {
         job: JobName<'a>,
         limit: u32,
@@ -42,11 +42,11 @@ pub enum Asked<'a> {
     },
     /// To hold a job.
     Hold(JobName<'a>),
-    /// To let a held job go on.
+    /// To release a held job.
     Release(JobName<'a>),
-    /// To mark a job's output as collected.
+    /// To mark a job as collected.
     Collect(JobName<'a>),
-    /// How a job stands.
+    /// The standing of a job.
     Standing(JobName<'a>),
     /// The cards that a job punched.
     Cards(JobName<'a>),
@@ -54,6 +54,6 @@ pub enum Asked<'a> {
     Lines(JobName<'a>),
     /// The jobs of a customer.
     Jobs(&'a str),
-    /// The jobs that wait.
+    /// The jobs that are running and not held.
     Queue,
 }

@@ -13,7 +13,7 @@ use counter_values::{number_of, switches_of};
 use http_routes::{Route, part};
 use units::Switches;
 
-/// The number in a part of a target, or 0 where its text is none.
+/// The number in a part of a target, or 0 if its text is not one.
 fn number_at(target: &str, place: usize) -> u32
     ensures { IsNumberOf (part place target.now) result }
 {
@@ -42,7 +42,7 @@ fn job_at<'a>(target: &'a str) -> JobName<'a>
     }
 }
 
-/// What a target asks for that takes in a job of this kind.
+/// The submission of a job of this kind that a target asks for.
 fn submission<'a>(kind: Kind, target: &'a str) -> Option<Asked<'a>>
     ensures some { IfSome result (λ asked. route_at target.now ≡ Some (path_of kind)
         → Asks target.now asked) }
@@ -60,7 +60,7 @@ fn submission<'a>(kind: Kind, target: &'a str) -> Option<Asked<'a>>
     }
 }
 
-/// What a target asks for that starts a job.
+/// The start of a job that a target asks for.
 fn start<'a>(target: &'a str) -> Option<Asked<'a>>
     ensures some { IfSome result (λ asked. route_at target.now ≡ Some route.Start
         → Asks target.now asked) }
@@ -76,7 +76,7 @@ fn start<'a>(target: &'a str) -> Option<Asked<'a>>
     }
 }
 
-/// What a target with this path asks for; nothing where its switches can't be read.
+/// What a target with this path asks for; `None` if its switches cannot be read.
 pub(crate) fn asked_at<'a>(path: Route, target: &'a str) -> Option<Asked<'a>>
     ensures some { IfSome result (λ asked. route_at target.now ≡ Some path
         → Asks target.now asked) }

@@ -6,18 +6,18 @@ ghost use Rattle.http_heads.specs.Bodies.{IsBodyOf, IsFilled, IsFilledAfter};
 use std::alloc::{AllocError, Global};
 use std::io::Read;
 
-/// What reading to the end of a buffer came to.
+/// The result of reading to the end of a buffer.
 #[derive(Drop)]
 enum Filled {
     /// The buffer is full.
     Whole,
-    /// The reader ended before.
+    /// The reader ended before the buffer was full.
     Ended,
-    /// The reader failed before.
+    /// The reader failed before the buffer was full.
     Failed,
 }
 
-/// What reading the body of a request came to.
+/// The result of reading the body of a request.
 #[derive(Drop)]
 pub enum Body {
     /// All of it was read.
@@ -56,8 +56,9 @@ fn fill_after<R: Read>(reader: &mut R, buffer: &mut [u8], begun: &[u8]) -> Fille
     fill(reader, &mut buffer[begun.len()..])
 }
 
-/// Reads the body of a request, which has so many bytes, of which the first are these. Of the
-/// reader it takes no byte after the body. It fails for want of memory alone.
+/// Reads the body of a request, which has `count` bytes; `begun` is the bytes after the head that
+/// were already read. It takes no byte after the body from the reader. Fails only if there is no
+/// memory.
 pub fn read_body<R: Read>(
     alloc: Global,
     reader: &mut R,

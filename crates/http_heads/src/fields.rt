@@ -10,7 +10,7 @@ ghost use Rattle.http_heads.specs.Fields.{body_length, bytes_or_bad, has_name, l
 use crate::lengths::BodyLength;
 use httparse::spans::HeaderSpan;
 
-/// Whether a field has this name, without regard to case.
+/// Whether a field has this name, regardless of case.
 #[tactic(auto, unfolding(crate::specs::Fields::has_name))]
 fn is_named(bytes: &[u8], field: &HeaderSpan, name: &[u8]) -> bool
     requires { IsHeaderWithin (length bytes.now) field.now }
@@ -19,7 +19,7 @@ fn is_named(bytes: &[u8], field: &HeaderSpan, name: &[u8]) -> bool
     field.name.of(bytes).eq_ignore_ascii_case(name)
 }
 
-/// How many fields have this name.
+/// The number of fields with this name.
 pub(crate) fn count_named(bytes: &[u8], fields: &[HeaderSpan], name: &[u8]) -> usize
     requires { All (IsHeaderWithin (length bytes.now)) fields.now }
     ensures { result ≡ length (values_of name.now (map (header_bytes bytes.now) fields.now)) }
@@ -64,7 +64,7 @@ fn length_in(text: &[u8]) -> Option<u32>
     Some(value_of(text))
 }
 
-/// What one value of Content-Length says, where none came before it.
+/// The length given by a first value of Content-Length.
 fn length_of(value: &[u8]) -> BodyLength
     ensures { result ≡ bytes_or_bad (length_in value.now) }
 {
@@ -74,7 +74,7 @@ fn length_of(value: &[u8]) -> BodyLength
     }
 }
 
-/// What one more value of Content-Length says, after those before it.
+/// The length given by one more value of Content-Length, after the earlier values.
 fn length_of_more(length: BodyLength, value: &[u8]) -> BodyLength
     ensures { result ≡ length_of_more length value.now }
 {
@@ -84,7 +84,7 @@ fn length_of_more(length: BodyLength, value: &[u8]) -> BodyLength
     }
 }
 
-/// What the fields say of the length of the body.
+/// The length of the body that the fields give.
 pub(crate) fn body_length(bytes: &[u8], fields: &[HeaderSpan]) -> BodyLength
     requires { All (IsHeaderWithin (length bytes.now)) fields.now }
     ensures { result ≡ body_length (map (header_bytes bytes.now) fields.now) }

@@ -6,8 +6,8 @@ ghost use Rattle.http_heads.specs.Reading.{SpansFit};
 use crate::reading::Outcome;
 use httparse::spans::HeaderSpan;
 
-/// The first bytes of a request, up to the end of its head or to where it is refused, and what
-/// they come to. `Head::read` makes it, in `heads.rt`.
+/// The first bytes of a request, up to the end of its head or to the point at which it is refused,
+/// and how reading them ended. `Head::read` in `heads.rt` makes it.
 #[derive(Drop)]
 pub struct Head {
     pub(crate) bytes: [u8; 8192],

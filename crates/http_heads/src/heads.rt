@@ -1,4 +1,4 @@
-//! Heads of requests: how one is read, and what it comes to.
+//! Heads of requests: how one is read, and its verdict.
 
 ghost use Rattle.std.specs.Prelude.{◌≡◌, ◌≤◌, List, ℕ, drop, length, take};
 ghost use Rattle.httparse.specs.Grammar.{RequestHead};
@@ -18,7 +18,7 @@ use httparse::spans::{EMPTY_HEADER_SPAN, HeaderSpan, RequestSpans};
 use matchit::Router;
 use std::io::Read;
 
-/// What a whole head comes to.
+/// The verdict on a whole head.
 fn verdict_on<'a>(
     router: &Router<Route>,
     bytes: &'a [u8],
@@ -68,7 +68,7 @@ impl Head {
         }
     }
 
-    /// What the request asks for, or the status that refuses it.
+    /// Returns what the request asks for, or the status that refuses it.
     pub fn verdict<'a>(&'a self, router: &Router<Route>) -> Verdict<'a>
         requires { router.now ≡ routed paths }
         ensures { (input : List ℕ) → (rest : List ℕ) → IsReadOf self.now input rest

@@ -1,12 +1,12 @@
-//! The length of a body, as the header fields of a head say it.
+//! The length of a body, as given by the header fields of a head.
 
-/// What a head says of the length of its body.
+/// The length of the body that a head gives.
 #[derive(Clone, Copy, Debug, PartialEq, Eq)]
 pub enum BodyLength {
-    /// Nothing.
+    /// It gives none.
     Unsaid,
-    /// So many bytes.
+    /// This number of bytes.
     Bytes(u32),
-    /// Nothing of use: it says it twice, or not by 1 to 7 digits.
+    /// It gives an invalid one: more than one, or not 1 to 7 digits.
     Bad,
 }

@@ -1,11 +1,11 @@
 //! The heads of requests over HTTP: what each asks for, or the status that refuses it.
 //!
-//! [`Head::read`] reads the first bytes of a request, up to the end of its head;
-//! [`Head::verdict`] says what it asks for, with how many bytes its body has, or which status
-//! refuses it. `specs/Heads.antt` says which bytes begin with a head; `specs/Tests.antt` has the
-//! tests of a head in order, by what its header fields say (`specs/Fields.antt`); and
-//! `specs/Asked.antt` says what a target asks for. The grammar is that of `httparse`. This crate
-//! knows no database.
+//! [`Head::read`] reads the first bytes of a request, up to the end of its head; [`Head::verdict`]
+//! returns what it asks for and the length of its body, or the status that refuses it.
+//! `specs/Heads.antt` defines which bytes begin with a head; `specs/Tests.antt` has the tests of a
+//! head in order, by the contents of its header fields (`specs/Fields.antt`); and
+//! `specs/Asked.antt` defines what a target asks for. The grammar is that of `httparse`. This crate
+//! uses no database.
 #![tactic(auto)]
 
 mod asked;

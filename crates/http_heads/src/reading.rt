@@ -8,16 +8,16 @@ use httparse::spans::{HeaderSpan, RequestSpans, parse_request};
 use httparse::{Error, Status};
 use std::io::Read;
 
-/// What the bytes that were read come to.
+/// How the reading of a head ended.
 #[derive(Drop)]
 pub(crate) enum Outcome {
-    /// They begin with a head.
+    /// The bytes begin with a head.
     Whole(RequestSpans),
-    /// No bytes after them make a head of them.
+    /// The bytes are not the beginning of any head.
     NoHead,
-    /// They begin with a start line and more header fields than a head may have.
+    /// The bytes begin with a start line and more header fields than a head may have.
     TooManyFields,
-    /// They are as many as a head may have, and no head ends in them.
+    /// The bytes are as many as a head may have, and no head ends in them.
     TooLong,
     /// The reader ended before a head did.
     Ended,
@@ -25,14 +25,14 @@ pub(crate) enum Outcome {
     Failed,
 }
 
-/// How many bytes were read, and what they come to.
+/// The number of bytes read, and how the reading ended.
 #[derive(Drop)]
 pub(crate) struct HeadRead {
     pub(crate) filled: usize,
     pub(crate) outcome: Outcome,
 }
 
-/// What the first bytes of a buffer come to, or nothing while a head may still end after them.
+/// The outcome for the first bytes of a buffer, or `None` while a head may still end after them.
 fn outcome_of(bytes: &[u8], fields: &mut [HeaderSpan]) -> Option<Outcome>
     requires room { length fields.old ≡ 64 }
     ensures room { length fields.new ≡ 64 }

@@ -9,7 +9,7 @@ use crate::lengths::BodyLength;
 use http_routes::Route;
 use httparse::spans::HeaderSpan;
 
-/// The most bytes of a body.
+/// The greatest number of bytes of a body.
 const MOST_BYTES: u32 = 200_000;
 
 /// The method of a path.
@@ -30,7 +30,7 @@ fn takes_body(path: Route) -> bool
     matches!(path, Route::SubmitObject | Route::SubmitAutocoder)
 }
 
-/// The status of the first test that the length of a body doesn't pass.
+/// The status of the first test that the length of a body fails.
 fn refusal_of_length(path: Route, said: BodyLength) -> Option<u16>
     ensures { result ≡ first_failed (length_tests path said) }
 {
@@ -45,7 +45,7 @@ fn refusal_of_length(path: Route, said: BodyLength) -> Option<u16>
     }
 }
 
-/// The status of a head that is refused for its target's path, its method or its fields.
+/// The status that refuses a head for its target's path, its method or its fields, if one does.
 pub(crate) fn refusal(
     path: Option<Route>,
     method: &[u8],

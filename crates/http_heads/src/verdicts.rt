@@ -1,18 +1,18 @@
-//! What a head comes to.
+//! The verdict on a head.
 
 use crate::asked::Asked;
 
-/// What the head of a request comes to.
+/// The verdict on the head of a request.
 #[derive(Clone, Copy, Debug, PartialEq, Eq)]
 pub enum Verdict<'a> {
-    /// It is answered with this status alone.
+    /// It is refused with this status alone.
     Refused(u16),
     /// It asks for this.
     Asks {
         asked: Asked<'a>,
-        /// How many bytes the body has.
+        /// The number of bytes of the body.
         count: u32,
-        /// The bytes after the head that were read with it: with them the body begins.
+        /// The beginning of the body: the bytes after the head that were read with it.
         begun: &'a [u8],
     },
     /// The reader failed before a head ended.

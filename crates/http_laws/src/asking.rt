@@ -6,8 +6,8 @@ ghost use Rattle.http_heads.specs.Heads.{AsksFor};
 ghost use Rattle.http_heads.specs.declared.asked.Asked.{Asked};
 ghost use Rattle.http_laws.specs.Same.{IsSameAsked};
 
-/// The law of what is asked: a target asks for one thing at most. So do bytes, with a body of one
-/// length, which begins in one place.
+/// The law of what is asked: a target asks for at most one thing. The same holds for bytes, and
+/// they give one length and one beginning of the body.
 pub fn one_asking()
     ensures of_target { (target : List ℕ) (one other : Asked) →
         Asks target one → Asks target other → IsSameAsked one other }

@@ -6,16 +6,16 @@ ghost use Rattle.http_heads.specs.Heads.{AsksFor, BeginsWith, Refuses};
 ghost use Rattle.http_heads.specs.declared.asked.Asked.{Asked};
 ghost use Rattle.http_laws.specs.Same.{IsSameStatus};
 
-/// The law of heads: bytes begin with one head at most, and the same bytes come after it.
+/// The law of heads: bytes begin with at most one head, and the bytes after it are determined.
 pub fn one_head()
     ensures { (input : List ℕ) (h k : RequestHead) (one : BeginsWith input h)
         (other : BeginsWith input k) → (h ≡ k) × (one.rest ≡ other.rest) }
 {}
 
 /// The law of refusals: bytes that ask for something are not refused. Bytes that begin with a head,
-/// which may be too large, are refused with one status at most. Other bytes may be refused with 400
-/// and with 431, as those are that end after too many header fields; so not all bytes have one
-/// status.
+/// which may be too large, are refused with at most one status. Other bytes may be refused with
+/// both 400 and 431, for example bytes that end after too many header fields; hence not all bytes
+/// have one status.
 pub fn one_refusal()
     ensures not_both { (input : List ℕ) (status : ℕ) (asked : Asked) (count : ℕ)
         (after : List ℕ) → AsksFor input asked count after → Refuses input status → ⊥ }

@@ -1,10 +1,10 @@
-//! Laws of requests over HTTP: bytes come to one request.
+//! Laws of requests over HTTP: bytes are read as one request.
 //!
-//! `http_requests` says by a relation what the bytes of a reader come to. Here it is proved that
-//! this is one request, in four laws over the definitions alone, which are called for the proof
-//! alone. Bytes begin with one head ([`one_head`]). They ask for something or are refused, and not
-//! both; one status refuses those that begin with a head, and 400 or 431 any others
-//! ([`one_refusal`]). They ask for one thing ([`one_asking`]). And so they come to one request
+//! `http_requests` defines by a relation which request the bytes of a reader are. Here it is proved
+//! that this is one request, in four laws about the definitions alone, which are called only in
+//! proofs. Bytes begin with one head ([`one_head`]). They ask for something or are refused, and not
+//! both; bytes that begin with a head are refused with one status, any others with 400 or 431
+//! ([`one_refusal`]). They ask for one thing ([`one_asking`]). Hence they are one request
 //! ([`one_request`]).
 #![tactic(auto)]
 

@@ -8,9 +8,9 @@ ghost use Rattle.http_laws.specs.Same.{IsSameRequest};
 
 use cards::one_reading;
 
-/// The law of requests: bytes come to one request. They are refused, or the text of their deck has
-/// a fault, or they ask for a command, and it is the same status, fault or command each time; only
-/// bytes that begin with no head may be refused with 400 and with 431.
+/// The law of requests: bytes are read as one request. They are refused, or the text of their deck
+/// has a fault, or they ask for a command, and it is the same status, fault or command each time;
+/// only bytes that begin with no head may be refused with both 400 and 431.
 pub fn one_request()
     ensures same { (input : List ℕ) (one other : Request) →
         IsRequestOf input one → IsRequestOf input other → IsSameRequest one other }

@@ -45,7 +45,7 @@ pub(crate) fn body_of(alloc: Global, reply: &Reply) -> Result<Vec<u8>, AllocErro
     }
 }
 
-/// The body that says where a deck's text is at fault.
+/// The body of the answer for the fault of a deck's text.
 pub(crate) fn deck_fault_body(alloc: Global, fault: CardFault) -> Result<Vec<u8>, AllocError>
     ensures { IfOk result (λ body. body.items ≡ deck_fault_body fault) }
 {

@@ -4,7 +4,7 @@ ghost use Rattle.std.specs.Prelude.{◌≡◌};
 ghost use Rattle.http_replies.specs.Fixed.{fault_bytes, fault_number, fault_status, refusing_status};
 ghost use Rattle.http_replies.specs.Replies.{refused_bytes};
 
-/// A fault of the bureau's own, by which a request has no other answer.
+/// Why a request has no other answer: a fault of the bureau itself.
 #[derive(Clone, Copy, Debug, PartialEq, Eq)]
 pub enum Fault {
     /// There was no memory for the command; it changed nothing.
@@ -71,7 +71,7 @@ const NO_MEMORY: &[u8] = b"HTTP/1.1 503 Service Unavailable\r\n\
     \r\n\
     {\"fault\":1}";
 
-/// The answer where the store failed.
+/// The answer if the store failed.
 const STORE: &[u8] = b"HTTP/1.1 503 Service Unavailable\r\n\
     Content-Type: application/json\r\n\
     Content-Length: 11\r\n\
@@ -79,7 +79,7 @@ const STORE: &[u8] = b"HTTP/1.1 503 Service Unavailable\r\n\
     \r\n\
     {\"fault\":2}";
 
-/// The answer where there was no memory for a reply.
+/// The answer if there was no memory for a reply.
 const NO_MEMORY_FOR_REPLY: &[u8] = b"HTTP/1.1 500 Internal Server Error\r\n\
     Content-Type: application/json\r\n\
     Content-Length: 11\r\n\
@@ -87,8 +87,8 @@ const NO_MEMORY_FOR_REPLY: &[u8] = b"HTTP/1.1 500 Internal Server Error\r\n\
     \r\n\
     {\"fault\":3}";
 
-/// The answer that refuses a request by its status alone: 400, 404, 405, 411, 413 or 431. Any
-/// other status is answered as 400.
+/// The answer that refuses a request by its status alone: 400, 404, 405, 411, 413 or 431. For any
+/// other status it is the answer of 400.
 pub fn refused(status: u16) -> &'static [u8]
     ensures { result.now ≡ refused_bytes (refusing_status status) }
 {

@@ -1,13 +1,13 @@
 //! The replies of the counter over HTTP: the bytes of each, and how they are written.
 //!
-//! [`reply_to`] gives the bytes of what the office replied, head and body; [`deck_fault`] gives
-//! those that say where a deck's text is at fault. [`refused`] gives the bytes that refuse a
-//! request by its status alone, and [`Fault::answer`] those of the bureau's own faults: these are
-//! fixed, and take no memory. [`send`] writes bytes, and says how many went out.
+//! [`reply_to`] returns the bytes of the office's reply, head and body; [`deck_fault`] returns
+//! those for the fault of a deck's text. [`refused`] returns the bytes that refuse a request by its
+//! status alone, and [`Fault::answer`] those of the bureau's own faults: these are fixed, and take
+//! no memory. [`send`] writes bytes, and returns how many were written.
 //!
-//! `specs/Bodies.antt` has the body of each reply, and `specs/Replies.antt` its status and its
+//! `specs/Bodies.antt` defines the body of each reply, and `specs/Replies.antt` its status and its
 //! head. The contract for the layer above: the bytes of a reply are those of `reply_bytes` there.
-//! Bodies are made by `serde_json`; `specs/Values.antt` has their members. This crate knows no
+//! Bodies are made by `serde_json`; `specs/Values.antt` has their members. This crate uses no
 //! database.
 #![tactic(auto)]
 

@@ -53,8 +53,8 @@ fn content_type_of(reply: &Reply) -> &'static str
     }
 }
 
-/// The bytes of a reply, head and body. Its lines, where it holds any, are to be in the order of
-/// printing, as those of a job are.
+/// Returns the bytes of a reply, head and body. The reply's lines, if it has any, are in the order
+/// of printing, as a job's lines are. Fails only if there is no memory.
 pub fn reply_to(alloc: Global, reply: &Reply) -> Result<Vec<u8>, AllocError>
     ensures { HasLinesInOrder reply.now
         → IfOk result (λ bytes. bytes.items ≡ reply_bytes reply.now) }
@@ -63,7 +63,8 @@ pub fn reply_to(alloc: Global, reply: &Reply) -> Result<Vec<u8>, AllocError>
     answer(alloc, status_of(reply), content_type_of(reply), &body)
 }
 
-/// The bytes that say where a deck's text is at fault.
+/// Returns the bytes of the answer for the fault of a deck's text. Fails only if there is no
+/// memory.
 pub fn deck_fault(alloc: Global, fault: CardFault) -> Result<Vec<u8>, AllocError>
     ensures { IfOk result (λ bytes. bytes.items ≡ deck_fault_bytes fault) }
 {

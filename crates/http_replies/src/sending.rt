@@ -4,16 +4,16 @@ ghost use Rattle.http_replies.specs.Sending.{SentIs};
 
 use std::io::Write;
 
-/// What a write of some bytes came to.
+/// The result of writing some bytes.
 #[derive(Clone, Copy, Debug, PartialEq, Eq)]
 pub enum Sent {
     /// The writer took all of them.
     Whole,
-    /// The writer failed, or took none, after so many.
+    /// The writer failed, or took none, after this number of bytes.
     Failed(usize),
 }
 
-/// Writes the bytes, and says how many of them went out.
+/// Writes the bytes. Returns whether all of them were written, or else how many.
 pub fn send<W: Write>(writer: &mut W, bytes: &[u8]) -> Sent
     ensures { SentIs bytes.now (W.contents writer.old) (W.contents writer.new) result }
 {

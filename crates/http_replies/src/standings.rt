@@ -1,4 +1,4 @@
-//! How a job stands, in words.
+//! The standing of a job, in words.
 
 ghost use Rattle.std.specs.Prelude.{◌≡◌, IfOk, string_bytes};
 ghost use Rattle.http_replies.specs.Bodies.{check_words, standing_words};
@@ -7,7 +7,7 @@ use core_store::Check;
 use office::JobStanding;
 use std::alloc::{AllocError, Global};
 
-/// The words of a check.
+/// The words for a check.
 fn words_of(check: Check) -> &'static str
     ensures { result.now ≡ check_words check }
 {
@@ -22,7 +22,7 @@ fn words_of(check: Check) -> &'static str
     }
 }
 
-/// How a job stands, in words.
+/// The standing of a job, in words.
 pub(crate) fn standing_words(alloc: Global, standing: JobStanding) -> Result<String, AllocError>
     ensures { IfOk result (λ words. string_bytes words ≡ standing_words standing) }
 {

@@ -19,7 +19,7 @@ pub(crate) fn text_of(alloc: Global, value: Value) -> Result<Vec<u8>, AllocError
     Ok(value.to_string(alloc)?.into_bytes())
 }
 
-/// The value of a reply that says no more than its name.
+/// The value of a reply that has only its name.
 pub(crate) fn named(alloc: Global, name: &str) -> Result<Value, AllocError>
     ensures { IfOk result (λ value. view value ≡ reply_data name.now) }
 {
@@ -48,7 +48,7 @@ pub(crate) fn collected(alloc: Global, cards: u32, lines: u32) -> Result<Value, 
     json!(in alloc; {"cards": cards, "lines": lines, "reply": "collected"})
 }
 
-/// The value for what is told of a job.
+/// The value for the summary of a job.
 pub(crate) fn summary(alloc: Global, job: &Summary) -> Result<Value, AllocError>
     ensures { IfOk result (λ value. view value ≡ summary_data job.now) }
 {
@@ -64,7 +64,7 @@ pub(crate) fn summary(alloc: Global, job: &Summary) -> Result<Value, AllocError>
     })
 }
 
-/// The value for a refusal by its number alone.
+/// The value for a refusal that has only its number.
 pub(crate) fn refusal(alloc: Global, number: u8) -> Result<Value, AllocError>
     ensures { IfOk result (λ value. view value ≡ refusal_data number) }
 {

@@ -1,4 +1,4 @@
-//! Requests, as targets and bodies ask for them.
+//! Requests, from what targets and bodies ask for.
 
 ghost use Rattle.std.specs.Prelude.{◌≡◌, ◌≢◌, IfOk};
 ghost use Rattle.cards.specs.Faults.{out_of_memory};
@@ -12,7 +12,7 @@ use office::{Command, Contents, JobCommand, Kind};
 use std::alloc::{AllocError, Global};
 use units::Switches;
 
-/// The kind of a deck, as the office calls it.
+/// The office's kind of a deck.
 fn kind_of(kind: http_heads::Kind) -> Kind
     ensures { result ≡ kind_of kind }
 {
@@ -22,7 +22,7 @@ fn kind_of(kind: http_heads::Kind) -> Kind
     }
 }
 
-/// The request whose deck has this fault. Want of memory is no fault of a deck.
+/// The request whose deck has this fault. Having no memory is not a fault of a deck.
 fn bad_deck(fault: CardFault) -> Result<Request, AllocError>
     ensures { IfOk result (IsBadDeck fault) }
 {
@@ -32,7 +32,7 @@ fn bad_deck(fault: CardFault) -> Result<Request, AllocError>
     }
 }
 
-/// The request to take in a job, whose deck is this text.
+/// The request to take in a job whose deck is this text.
 fn submission(
     alloc: Global,
     job: JobName<'_>,
@@ -81,7 +81,7 @@ fn of_jobs(alloc: Global, customer: &str) -> Result<Request, AllocError>
     Ok(Request::Asks(Command::Jobs { customer }))
 }
 
-/// The request that asks for this, with this body.
+/// The request that asks for this with this body.
 pub(crate) fn request_for(
     alloc: Global,
     asked: Asked<'_>,

@@ -12,10 +12,10 @@ use office::Command;
 use std::alloc::Global;
 use std::io::Read;
 
-/// What the bytes of a reader come to.
+/// The request that the bytes of a reader are.
 #[derive(Drop)]
 pub enum Request {
-    /// They are answered with this status alone: 400, 404, 405, 411, 413 or 431.
+    /// They are refused with this status alone: 400, 404, 405, 411, 413 or 431.
     Refused(u16),
     /// They ask for a submission, and the text of its deck has this fault.
     BadDeck(CardFault),
@@ -23,8 +23,7 @@ pub enum Request {
     Asks(Command),
 }
 
-/// The request that is refused with this status; with 400, where this is no status that refuses a
-/// request alone.
+/// The request that is refused with this status; with 400 if the status is not one of the six.
 fn refused(status: u16) -> Request
     ensures one { HasRefusingStatus result }
     ensures same { IsRefusingStatus status → result ≡ Request.Refused status }
@@ -35,8 +34,8 @@ fn refused(status: u16) -> Request
     }
 }
 
-/// The request that asks for this, with a body of so many bytes, of which the first are these and
-/// the others are read.
+/// The request that asks for this, with a body of `count` bytes. `begun` is the bytes after the
+/// head that were already read; the others are read now.
 fn read_with_body<R: Read>(
     alloc: Global,
     reader: &mut R,
@@ -57,7 +56,7 @@ fn read_with_body<R: Read>(
 
 impl Request {
     /// Reads a request, its head and then its body. Bytes after it may be read with it; they change
-    /// nothing. It fails for want of memory, or where the reader fails.
+    /// nothing. Fails if there is no memory or if the reader fails.
     pub fn read<R: Read>(
         alloc: Global,
         routes: &Routes,

@@ -15,7 +15,7 @@ pub struct Routes {
 }
 
 impl Routes {
-    /// Makes the table of all paths. Fails for want of memory alone.
+    /// Makes the table of all paths. Fails only if there is no memory.
     pub fn new(alloc: Global) -> Result<Routes, AllocError> {
         let router = router(alloc)?;
         Ok(Routes { router })

@@ -4,7 +4,7 @@ ghost use Rattle.std.specs.Prelude.{◌≡◌};
 ghost use Rattle.std.specs.List.{before_first, after_first};
 ghost use Rattle.http_routes.specs.Parts.{is_slash, part};
 
-/// What comes after the first slash of a text, or nothing.
+/// The text after its first slash, or nothing.
 fn after_slash(text: &str) -> &str
     ensures { result.now ≡ after_first is_slash text.now }
 {
@@ -14,7 +14,7 @@ fn after_slash(text: &str) -> &str
     }
 }
 
-/// What comes before the first slash of a text, or all of it.
+/// The text before its first slash, or all of it.
 fn before_slash(text: &str) -> &str
     ensures { result.now ≡ before_first is_slash text.now }
 {
@@ -24,7 +24,7 @@ fn before_slash(text: &str) -> &str
     }
 }
 
-/// The part of a text with this place, from 0 on. After the last part all are empty.
+/// The part of a text with this index, from 0. After the last part all parts are empty.
 #[tactic(auto, using(crate::proofs::Steps::part_next, crate::proofs::Steps::part_last))]
 pub fn part(text: &str, place: usize) -> &str
     ensures { result.now ≡ part place text.now }

@@ -1,4 +1,4 @@
-//! The paths, by matchit's router.
+//! The paths, with matchit's router.
 
 ghost use Rattle.std.specs.Prelude.{◌≡◌, true, map, option_map, IfOk, OnOk};
 ghost use Rattle.matchit.specs.Seek.{first};
@@ -10,21 +10,21 @@ use std::alloc::{AllocError, Global};
 /// What a path asks for.
 #[derive(Clone, Copy, Debug, PartialEq, Eq)]
 pub enum Route {
-    /// To take in a job, whose deck is a program's.
+    /// To take in a job whose deck loads itself.
     SubmitObject,
-    /// To take in a job, whose deck is a source's.
+    /// To take in a job whose deck is a source.
     SubmitAutocoder,
-    /// To run a job for a while.
+    /// To run a job for a limited number of instructions.
     Slice,
     /// To start a job again.
     Start,
     /// To hold a job.
     Hold,
-    /// To let a held job go on.
+    /// To release a held job.
     Release,
-    /// To mark a job's output as collected.
+    /// To mark a job as collected.
     Collect,
-    /// How a job stands.
+    /// The standing of a job.
     Standing,
     /// The cards that a job punched.
     Cards,
@@ -32,7 +32,7 @@ pub enum Route {
     Lines,
     /// The jobs of a customer.
     Jobs,
-    /// The jobs that wait.
+    /// The jobs that are running and not held.
     Queue,
 }
 
@@ -58,7 +58,7 @@ const PATHS: [(&str, Route); 12] = [
     ("/queue", Route::Queue),
 ];
 
-/// Adds a path that is in no conflict with those before it. Fails for want of memory alone.
+/// Adds a path that does not conflict with those before it. Fails only if there is no memory.
 fn add(router: &mut Router<Route>, path: &str, route: Route) -> Result<(), AllocError>
     requires { is_free router.old path.now ≡ true }
     ensures { OnOk result (router.new ≡ with_path router.old (path.now, route)) }
@@ -70,7 +70,7 @@ fn add(router: &mut Router<Route>, path: &str, route: Route) -> Result<(), Alloc
     }
 }
 
-/// The router of a table that has the counter's paths. Fails for want of memory alone.
+/// The router of a table of paths. Fails only if there is no memory.
 fn routed(alloc: Global, table: &[(&str, Route)]) -> Result<Router<Route>, AllocError>
     requires { map path_of table.now ≡ paths }
     ensures { IfOk result (λ router. router ≡ routed paths) }
@@ -82,14 +82,14 @@ fn routed(alloc: Global, table: &[(&str, Route)]) -> Result<Router<Route>, Alloc
     Ok(router)
 }
 
-/// The router of the counter's paths. Fails for want of memory alone.
+/// Returns the router of the counter's paths. Fails only if there is no memory.
 pub fn router(alloc: Global) -> Result<Router<Route>, AllocError>
     ensures { IfOk result (λ router. router ≡ routed paths) }
 {
     routed(alloc, &PATHS)
 }
 
-/// What a target asks for by the first of a router's paths that it matches.
+/// What a target asks for, by the first of a router's paths that it matches.
 fn found(router: &Router<Route>, target: &str) -> Option<Route>
     ensures { result ≡ option_map (λ row. row.value) (first router.now target.now) }
 {
@@ -99,7 +99,7 @@ fn found(router: &Router<Route>, target: &str) -> Option<Route>
     }
 }
 
-/// What a target asks for, if it has a path. Its router is that of [`router`].
+/// Returns what a target asks for, if it has a path. The router is the one that [`router`] returns.
 #[tactic(auto, unfolding(crate::specs::Paths::route_at))]
 pub fn route_at(router: &Router<Route>, target: &str) -> Option<Route>
     requires { router.now ≡ routed paths }

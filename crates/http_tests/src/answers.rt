@@ -5,7 +5,7 @@ use office::Reply;
 use std::alloc::Global;
 use std::test::Fail;
 
-/// The whole answer, of which a line has the status with its phrase, the type of the body, the
+/// The whole answer of a line. The line has the status with its phrase, the type of the body, the
 /// length of the body, and the body.
 pub(crate) fn answer_of(alloc: Global, line: &str) -> Result<String, Fail> {
     let (status, rest) = line.split_once('|').ok_or("a type")?;
@@ -21,7 +21,7 @@ pub(crate) fn answer_of(alloc: Global, line: &str) -> Result<String, Fail> {
     Ok(answer)
 }
 
-/// Whether a reply's bytes are the answer of a line, and its status is the one there.
+/// Whether a reply's bytes are the answer of a line, and its status is the line's.
 pub(crate) fn is_answered(alloc: Global, reply: &Reply, line: &str) -> Result<bool, Fail> {
     let bytes = reply_to(alloc, reply)?;
     let wanted = answer_of(alloc, line)?;

@@ -4,8 +4,8 @@ use http_heads::{Body, read_body};
 use std::alloc::Global;
 use std::test::Fail;
 
-/// What a body of so many bytes comes to, of which some were read with the head; and how many
-/// bytes of the reader are left.
+/// The result of reading a body of `count` bytes, whose beginning was read with the head, and the
+/// number of bytes left in the reader.
 fn body_told(alloc: Global, begun: &str, rest: &str, count: u32) -> Result<String, Fail> {
     let mut reader = rest.as_bytes();
     match read_body(alloc, &mut reader, begun.as_bytes(), count)? {

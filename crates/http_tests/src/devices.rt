@@ -3,7 +3,7 @@
 use std::io;
 use std::io::{ErrorKind, Read, Write};
 
-/// Gives a byte a call; after the last it ends, or fails.
+/// A reader that gives one byte a call, and after the last one ends or fails.
 #[derive(Drop)]
 pub(crate) struct Dripping<'a> {
     pub(crate) rest: &'a [u8],
@@ -28,7 +28,8 @@ impl Read for Dripping<'_> {
     }
 }
 
-/// Takes so many bytes, each call at most three; then it takes none, or fails.
+/// A writer that takes at most three bytes a call. When it has no room left, it takes none, or
+/// fails.
 #[derive(Drop)]
 pub(crate) struct Narrow {
     pub(crate) taken: Vec<u8>,

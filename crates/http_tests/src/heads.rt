@@ -1,4 +1,4 @@
-//! Heads of requests, and what each comes to.
+//! Heads of requests, and the verdict on each.
 
 use crate::verdicts::{misjudged, verdict_on};
 use std::test::Fail;
@@ -25,7 +25,7 @@ fn each_path_is_asked_for(rt: HostRuntime) -> Result<(), Fail> {
     Ok(())
 }
 
-/// Names, numbers and switches as they stand in targets.
+/// Names, numbers and switches as written in targets.
 const TEXTS: &str = "\
 standing acme 999999999, 0|GET /c/acme/j/999999999
 standing A%20B 0, 0|GET /c/A%20B/j/1000000000
@@ -91,7 +91,7 @@ fn the_first_test_failed_gives_the_status(rt: HostRuntime) -> Result<(), Fail> {
     Ok(())
 }
 
-/// Lengths that a body may have, and names of fields in any case.
+/// Lengths that a body may have, and names of fields in upper and lower case.
 const LENGTHS: &str = "\
 submit A 1 Object 4000 Switches(0), 200000|PUT /c/A/j/1/object/4000/-;Content-Length: 200000
 submit A 1 Object 4000 Switches(0), 200000|PUT /c/A/j/1/object/4000/-;content-length:0200000

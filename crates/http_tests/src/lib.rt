@@ -1,4 +1,4 @@
-//! Tests of the counter over HTTP: heads and what they come to, replies word for word, and writers
+//! Tests of the counter over HTTP: heads and their verdicts, replies word for word, and writers
 //! that take no more.
 #![tactic(auto)]
 

@@ -34,7 +34,7 @@ const JOBS: [JobLine; 3] = [
     },
 ];
 
-/// The first so many of the jobs.
+/// The first `count` of the jobs.
 fn jobs(alloc: Global, count: usize) -> Result<Reply, Fail> {
     let mut list = Vec::new(alloc);
     for job in &JOBS {

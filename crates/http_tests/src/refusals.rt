@@ -10,7 +10,7 @@ use office::{Refusal, Reply, SourceFaults};
 use std::alloc::Global;
 use std::test::Fail;
 
-/// A refusal that says no more than its number.
+/// A refusal that has only its number.
 fn refusal_of(number: u32) -> Refusal {
     match number {
         10 => Refusal::Customer,
@@ -58,7 +58,7 @@ fn refusals_have_their_numbers(rt: HostRuntime) -> Result<(), Fail> {
     Ok(())
 }
 
-/// The refusal of a source with the first so many of three faults.
+/// The refusal of a source with the first `count` of three faults.
 fn faulty(alloc: Global, count: usize) -> Result<Reply, Fail> {
     let mut faults = Vec::new(alloc);
     for (card, fault) in [
@@ -95,7 +95,7 @@ fn faults_of_a_source_are_listed(rt: HostRuntime) -> Result<(), Fail> {
     Ok(())
 }
 
-/// The answer to a deck's text that is at fault.
+/// The answer to a deck's text that has a fault.
 fn answer_to(alloc: Global, text: &[u8]) -> Result<Vec<u8>, Fail> {
     let fault = read_text(alloc, text).err().ok_or("a fault")?;
     Ok(deck_fault(alloc, fault)?)

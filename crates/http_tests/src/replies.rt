@@ -6,7 +6,7 @@ use http_replies::reply_to;
 use office::{JobStanding, Refusal, Reply, Summary};
 use std::test::Fail;
 
-/// A job that has printed two lines and goes on.
+/// A running job that has printed two lines.
 fn two_lines() -> Summary {
     Summary {
         standing: JobStanding::Running,
@@ -18,7 +18,7 @@ fn two_lines() -> Summary {
     }
 }
 
-/// A job with every field another.
+/// A job with a different value in every field.
 fn three_cards() -> Summary {
     Summary {
         standing: JobStanding::Halted { next: 345 },
@@ -30,12 +30,12 @@ fn three_cards() -> Summary {
     }
 }
 
-/// How a checked machine stands.
+/// The standing of a checked machine.
 fn checked(check: Check) -> JobStanding {
     JobStanding::Checked { check, at: 351 }
 }
 
-/// A reply without a list, by a word for it.
+/// A reply without a list, named by a word.
 fn reply_of(word: &str) -> Reply {
     match word {
         "taken" => Reply::Taken { cards: 6 },
@@ -117,7 +117,7 @@ fn halts_and_checks_have_their_words(rt: HostRuntime) -> Result<(), Fail> {
     Ok(())
 }
 
-/// The whole answer where there is no job of a name.
+/// The whole answer if there is no job of a name.
 const NO_JOB: &[u8] = b"HTTP/1.1 404 Not Found\r\n\
     Content-Type: application/json\r\n\
     Content-Length: 14\r\n\

@@ -5,7 +5,7 @@ use http_replies::{Sent, refused, send};
 use std::alloc::Global;
 use std::test::Fail;
 
-/// A writer that takes so many bytes.
+/// A writer that takes `room` bytes.
 fn writer_of(alloc: Global, room: usize, fails: bool) -> Narrow {
     Narrow {
         taken: Vec::new(alloc),

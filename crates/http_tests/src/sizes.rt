@@ -8,7 +8,7 @@ use std::test::Fail;
 const REQUEST: &[u8] =
     b"POST /c/ACME/j/1/slice/34 HTTP/1.1\r\nHost: a\r\nContent-Length: 0\r\n\r\n";
 
-/// What it asks for.
+/// What the request asks for.
 const ASKED: &str = "slice ACME 1 34, 0";
 
 #[test]
@@ -51,7 +51,7 @@ fn a_reader_may_fail_before_the_head_ends(rt: HostRuntime) -> Result<(), Fail> {
     Ok(())
 }
 
-/// A request with so many header fields.
+/// A request with `count` header fields.
 fn with_fields(alloc: Global, count: usize) -> Result<String, Fail> {
     let mut line = String::from_str(alloc, "GET /queue;")?;
     for _ in 0..count {
@@ -70,7 +70,7 @@ fn a_head_has_at_most_64_fields(rt: HostRuntime) -> Result<(), Fail> {
     Ok(())
 }
 
-/// A request whose head has so many bytes.
+/// A request whose head has `length` bytes.
 fn with_bytes(alloc: Global, length: usize) -> Result<String, Fail> {
     let mut line = String::from_str(alloc, "GET /queue;A: ")?;
     for _ in 28..length {

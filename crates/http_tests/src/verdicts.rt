@@ -1,4 +1,4 @@
-//! What heads come to, in words.
+//! Verdicts on heads, in words.
 
 use http_heads::{Asked, Head, JobName, Verdict};
 use http_routes::router;
@@ -6,13 +6,13 @@ use std::alloc::Global;
 use std::io::Read;
 use std::test::Fail;
 
-/// What is asked of a job, in words.
+/// The request on a job, in words.
 fn job_text(alloc: Global, word: &str, job: JobName<'_>) -> Result<String, Fail> {
     let (customer, number) = (job.customer, job.number);
     Ok(format!(in alloc; "{word} {customer} {number}")?)
 }
 
-/// What is asked for, in words.
+/// The request of a head, in words.
 fn asked_text(alloc: Global, asked: Asked<'_>) -> Result<String, Fail> {
     match asked {
         Asked::Submit {
@@ -43,8 +43,8 @@ fn asked_text(alloc: Global, asked: Asked<'_>) -> Result<String, Fail> {
     }
 }
 
-/// What the bytes of a reader come to, in words: a status; or what is asked for, with the length of
-/// the body and what is known of it.
+/// The verdict on the bytes of a reader, in words: a status; or what is asked for, with the length
+/// of the body and what has been read of it.
 pub(crate) fn verdict_on<R: Read>(alloc: Global, reader: &mut R) -> Result<String, Fail> {
     let router = router(alloc)?;
     let head = Head::read(reader);
@@ -75,8 +75,8 @@ pub(crate) fn request_of(alloc: Global, line: &str) -> Result<String, Fail> {
     Ok(request)
 }
 
-/// The first line of a sheet whose request comes to another verdict than the line gives before it;
-/// else nothing.
+/// The first line of a sheet whose request has another verdict than the line gives before it; empty
+/// if there is none.
 pub(crate) fn misjudged(alloc: Global, sheet: &'static str) -> Result<&'static str, Fail> {
     for line in sheet.lines() {
         let (wanted, request) = line.split_once('|').ok_or("a request")?;

@@ -70,7 +70,7 @@ fn transact<S: Alter>(
     }
 }
 
-/// Makes the tables in one transaction.
+/// Creates the tables in one transaction.
 fn make<S: Alter>(alloc: Global, conn: &mut Connection<S>) -> Result<(), Fault>
     ensures no_memory { HasCleanDisk (state S.Store conn.new) → IsErrOf result Fault.NoMemory
         → IsAsBefore (state S.Store conn.old) (state S.Store conn.new) }
@@ -94,7 +94,7 @@ fn make<S: Alter>(alloc: Global, conn: &mut Connection<S>) -> Result<(), Fault>
     }
 }
 
-/// Whether the tables are a bureau's, of its own version: they are asked in a transaction that is
+/// Whether the tables are a bureau's, of this version. They are queried in a transaction that is
 /// rolled back.
 fn look<S: Alter>(alloc: Global, conn: &mut Connection<S>) -> Result<(), OpenFault>
     ensures stands { StandsStill S.Store conn.old conn.new }
@@ -113,8 +113,8 @@ fn look<S: Alter>(alloc: Global, conn: &mut Connection<S>) -> Result<(), OpenFau
 }
 
 impl<S: Alter> Bureau<S> {
-    /// Applies a command. After fault 2 every later command is answered so, until the file is
-    /// opened again. A fault leaves the meter risen by the instructions that were attempted.
+    /// Applies a command. After fault 2 every later command also gets fault 2, until the file is
+    /// opened again. A fault leaves the meter risen by the number of instructions attempted.
     pub fn apply(&mut self, command: &Command, meter: &mut Meter) -> Result<Reply, Fault>
         ensures reply { Replies S.Store self.old.conn self.new.conn result (take command.now) }
         ensures meter { Rises S.Store self.old.conn self.new.conn result
@@ -144,7 +144,7 @@ impl<S: Alter> Bureau<S> {
         result
     }
 
-    /// Whether fault 2 came.
+    /// Whether the bureau is broken: fault 2 has come.
     pub fn broken(&self) -> bool
         ensures { result ≡ self.now.broken }
     {
@@ -153,7 +153,7 @@ impl<S: Alter> Bureau<S> {
 }
 
 impl<S: Alter + Drop> Bureau<S> {
-    /// Makes a bureau without jobs, in a store without tables. After fault 1 nothing was made;
+    /// Creates a bureau without jobs, in a store without tables. After fault 1 nothing was created;
     /// after fault 2 the tables are there or not, and the file has to be opened again.
     pub fn create(
         alloc: Global,
@@ -176,9 +176,9 @@ impl<S: Alter + Drop> Bureau<S> {
         }
     }
 
-    /// A bureau over the tables that a connection finds. It changes none of them. It fails with 50
-    /// where they are no bureau's, or a later version's, and with 51 where they are an earlier
-    /// version's; the connection is then handed back.
+    /// Returns the bureau over the tables of a connection, which it does not change. Fails with 50
+    /// if they are not a bureau's or are of a later version, and with 51 if they are of an earlier
+    /// version; the connection is then handed back.
     pub fn adopt(
         alloc: Global,
         mut conn: Connection<S>,

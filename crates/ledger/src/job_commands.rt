@@ -19,7 +19,7 @@ use machine::Meter;
 use office::{Job, JobCommand, Refusal, Reply, commands_act_on_pictures, commands_keep_jobs};
 use sqlite::Alter;
 
-/// Carries out a command on a job that was found, and notes what came of it.
+/// Carries out a command on a job that was found, and saves the result.
 fn carry_out<S: Alter>(
     tables: &mut OpenTables<'_, '_, S>,
     name: JobName<'_>,
@@ -49,7 +49,7 @@ fn carry_out<S: Alter>(
     }
 }
 
-/// A command on the job of this name, with its machine.
+/// Carries out a command on the job of this name, with its machine.
 fn command_wholly<S: Alter>(
     tables: &mut OpenTables<'_, '_, S>,
     name: JobName<'_>,
@@ -71,7 +71,7 @@ fn command_wholly<S: Alter>(
     }
 }
 
-/// A command on the job of this name.
+/// Carries out a command on the job of this name. Returns the reply, or fault 1 or 2.
 pub fn command_job<S: Alter>(
     tables: &mut OpenTables<'_, '_, S>,
     name: JobName<'_>,

@@ -1,13 +1,13 @@
 //! The bureau: jobs that customers hand in, kept in tables, and commands on them.
 //!
-//! What a job is and what a command makes of it, `office` says. `reading` and `summaries` are what
-//! the tables show of a job, whole or without its machine, and `saving` is what is written of it,
-//! over `tables` and `pictures`. `submissions`, `job_commands`, `light_commands` and `lists` join
-//! them to `office`. `bureau` puts each command into one transaction, whose commit is the last call
-//! of the store.
+//! `office` defines jobs and the effect of commands on them. `reading` and `summaries` read a job
+//! from the tables, whole or without its machine, and `saving` writes it, through `ledger_tables`
+//! and `ledger_rows`. `submissions`, `job_commands`, `light_commands` and `lists` connect them to
+//! `office`. `bureau` puts each command into one transaction, whose commit is the last call of the
+//! store.
 //!
-//! The contract that the layers above use: where the tables represent an office, a reply is the
-//! one of `office`, and the tables represent its next office (`specs/Standing.antt`); and what a
+//! The contract for the layers above: if the tables represent an office, a reply is the one of
+//! `office`, and the tables then represent its next office (`specs/Standing.antt`); and what a
 //! crash may leave at each exit.
 #![tactic(auto)]
 

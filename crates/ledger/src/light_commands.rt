@@ -15,7 +15,7 @@ use ledger_tables::{Fault, JobName, OpenTables};
 use office::{JobCommand, Refusal, Reply, Summary};
 use sqlite::Alter;
 
-/// A command that needs no more of a job than is shown of it.
+/// A command that needs only the summary of a job.
 #[derive(Clone, Copy)]
 pub enum LightCommand {
     Hold,
@@ -25,7 +25,7 @@ pub enum LightCommand {
 }
 
 impl LightCommand {
-    /// The command, if it is one of these.
+    /// The light command of a command, if it is one.
     pub fn of(command: JobCommand) -> Option<LightCommand>
         ensures which { result ≡ light_of command }
         ensures same { IfSome result (λ light. command ≡ command_of light) }
@@ -40,7 +40,7 @@ impl LightCommand {
         }
     }
 
-    /// The command of `office`.
+    /// The command of `office` that this is.
     fn command(self) -> JobCommand
         ensures { result ≡ command_of self }
     {
@@ -53,7 +53,7 @@ impl LightCommand {
     }
 }
 
-/// Carries out a command that is not refused for a job of which this is shown.
+/// Carries out a command that is not refused for a job with this summary.
 fn carry_out<S: Alter>(
     tables: &mut OpenTables<'_, '_, S>,
     name: JobName<'_>,
@@ -87,7 +87,7 @@ fn carry_out<S: Alter>(
     }
 }
 
-/// A command on a job of which this is shown.
+/// Carries out a command on a job with this summary, unless it is refused.
 fn command_shown<S: Alter>(
     tables: &mut OpenTables<'_, '_, S>,
     name: JobName<'_>,
@@ -106,7 +106,8 @@ fn command_shown<S: Alter>(
     }
 }
 
-/// A command on the job of this name, which needs no machine.
+/// Carries out a command that needs no machine on the job of this name. Returns the reply, or fault
+/// 1 or 2.
 pub fn command_lightly<S: Alter>(
     tables: &mut OpenTables<'_, '_, S>,
     name: JobName<'_>,

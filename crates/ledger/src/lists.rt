@@ -13,7 +13,7 @@ use ledger_tables::{Fault, JobName, NameRow, OpenTables, QueuedRow};
 use office::{JobLine, JobList, QueueLine, QueueList, Reply};
 use sqlite::Alter;
 
-/// What the list of a customer's jobs shows of the job of this row.
+/// The entry of this row's job in the list of a customer's jobs.
 fn find_line<S: Alter>(
     tables: &mut OpenTables<'_, '_, S>,
     customer: &str,
@@ -38,7 +38,7 @@ fn find_line<S: Alter>(
     })
 }
 
-/// What the list of a customer's jobs shows of the jobs of these rows.
+/// The entries of these rows' jobs in the list of a customer's jobs.
 fn find_lines<S: Alter>(
     tables: &mut OpenTables<'_, '_, S>,
     customer: &str,
@@ -57,7 +57,7 @@ fn find_lines<S: Alter>(
     Ok(lines)
 }
 
-/// The list of a customer's jobs.
+/// Returns the list of a customer's jobs, or fault 1 or 2.
 pub fn list_jobs<S: Alter>(
     tables: &mut OpenTables<'_, '_, S>,
     customer: &str,
@@ -112,7 +112,7 @@ fn find_queue<S: Alter>(
     Ok(queue)
 }
 
-/// The queue.
+/// Returns the queue, or fault 1 or 2.
 pub fn list_queue<S: Alter>(tables: &mut OpenTables<'_, '_, S>) -> Result<Reply, Fault>
     ensures step { IsOpenStep S.Store tables.old tables.new result }
     ensures done { Serves S.Store tables.old tables.new result with_queue_told }

@@ -1,4 +1,4 @@
-//! What the tables show of a job.
+//! Reading a job from the tables.
 
 ghost use Rattle.std.specs.Prelude.{◌≡◌, ◌≢◌, List, All, map, Some, IsErrOf, IsSome, IfOk, IfSome};
 ghost use Rattle.cards.specs.Decks.{IsCard, IsDeck};
@@ -23,7 +23,7 @@ use sqlite::Alter;
 use std::alloc::{AllocError, Global};
 use units::Switches;
 
-/// The stretch of a row.
+/// The stretch of a row, if it is one.
 fn read_stretch(row: &StretchRow) -> Option<Stretch>
     ensures all { (stretch : Stretch) → HasSwitches stretch
         → row.now ≡ stretch_row stretch → result ≡ Some stretch }
@@ -73,7 +73,7 @@ pub fn find_stretches<S: Alter>(
     }
 }
 
-/// What a machine reads and has made, from a deck and from rows.
+/// The deck, cards and lines of a machine, from a deck and from rows.
 fn read_media(
     alloc: Global,
     loaded: &[u8],
@@ -112,7 +112,7 @@ fn read_media(
     })
 }
 
-/// What a job's machine reads and has made.
+/// Finds the deck, cards and lines of a job's machine.
 fn find_media<S: Alter>(
     tables: &mut OpenTables<'_, '_, S>,
     name: JobName<'_>,
@@ -151,7 +151,7 @@ fn machine_of<C: Core>(alloc: Global, row: &PictureRow, media: Media) -> Result<
     }
 }
 
-/// A job's machine.
+/// Finds a job's machine, given its deck, cards and lines.
 fn find_machine<S: Alter, C: Core>(
     tables: &mut OpenTables<'_, '_, S>,
     name: JobName<'_>,
@@ -169,7 +169,7 @@ fn find_machine<S: Alter, C: Core>(
     }
 }
 
-/// A job's machine, with what it reads and has made.
+/// Finds a job's machine, with its deck, cards and lines.
 fn find_running<S: Alter, C: Core>(
     tables: &mut OpenTables<'_, '_, S>,
     name: JobName<'_>,
@@ -184,7 +184,7 @@ fn find_running<S: Alter, C: Core>(
     find_machine(tables, name, media)
 }
 
-/// The parts of a job, by its row.
+/// Finds the parts of a job, given its row.
 fn find_parts<S: Alter, C: Core>(
     tables: &mut OpenTables<'_, '_, S>,
     name: JobName<'_>,
@@ -224,7 +224,7 @@ fn job_with<C: Core>(alloc: Global, parts: JobParts<C>) -> Result<Job<C>, Fault>
     }
 }
 
-/// The job of this row.
+/// Finds the job of this row.
 fn find_kept<S: Alter, C: Core>(
     tables: &mut OpenTables<'_, '_, S>,
     name: JobName<'_>,
@@ -238,7 +238,7 @@ fn find_kept<S: Alter, C: Core>(
     job_with(tables.alloc, parts)
 }
 
-/// The job of this name, if there is one.
+/// Finds the job of this name, if there is one.
 pub fn find_whole<S: Alter, C: Core>(
     tables: &mut OpenTables<'_, '_, S>,
     name: JobName<'_>,
@@ -256,11 +256,11 @@ pub fn find_whole<S: Alter, C: Core>(
     }
 }
 
-/// What a job was handed in with, but for its name.
+/// What a job was handed in with, without its name.
 #[derive(Drop)]
 pub struct Handed {
     pub row: JobRow,
-    /// At the first start.
+    /// The switches at the first start.
     pub switches: Switches,
 }
 
@@ -280,7 +280,7 @@ fn first_switches<S: Alter>(
     }
 }
 
-/// What the job of this name was handed in with, if there is one.
+/// What the job of this name was handed in with, if there is such a job.
 pub fn find_handed<S: Alter>(
     tables: &mut OpenTables<'_, '_, S>,
     name: JobName<'_>,

@@ -1,4 +1,4 @@
-//! What is written of a job to the tables.
+//! Writing a job to the tables.
 
 ghost use Rattle.std.specs.Prelude.{◌≡◌, ◌≤◌, ℕ, Bool, Some, All, take, length, IfOk, OnOk};
 ghost use Rattle.cards.specs.Decks.{IsCard, IsDeck};
@@ -25,10 +25,10 @@ use sqlite::Alter;
 use std::alloc::{AllocError, Global};
 use units::{Line, Units};
 
-/// No job has more cards or lines than this.
+/// The greatest number of cards or lines of a job.
 const MOST_MADE: usize = 20_000;
 
-/// How much a job has made.
+/// The numbers of cards and lines that a job has made.
 #[derive(Clone, Copy)]
 pub struct Made {
     pub cards: usize,
@@ -36,7 +36,7 @@ pub struct Made {
 }
 
 impl Made {
-    /// How much a job has made so far.
+    /// The numbers of cards and lines that a job has made so far.
     pub fn by<C: Core>(job: &Job<C>) -> Made
         ensures cards { result.cards ≡ length job.now.machine.works.units.punch }
         ensures lines { result.lines ≡ length (lines_of job.now.machine) }
@@ -50,7 +50,7 @@ impl Made {
     }
 }
 
-/// Adds the cards after so many that the tables have already.
+/// Inserts the cards after the first `before`, which the tables have already.
 fn insert_cards<S: Alter>(
     tables: &mut OpenTables<'_, '_, S>,
     name: JobName<'_>,
@@ -70,7 +70,7 @@ fn insert_cards<S: Alter>(
     Ok(())
 }
 
-/// Adds the lines after so many that the tables have already.
+/// Inserts the lines after the first `before`, which the tables have already.
 fn insert_lines<S: Alter>(
     tables: &mut OpenTables<'_, '_, S>,
     name: JobName<'_>,
@@ -90,7 +90,7 @@ fn insert_lines<S: Alter>(
     Ok(())
 }
 
-/// Adds the cards and lines that a machine has made since.
+/// Inserts the cards and lines that a machine has made beyond `before`.
 fn insert_made<S: Alter>(
     tables: &mut OpenTables<'_, '_, S>,
     name: JobName<'_>,
@@ -113,7 +113,7 @@ fn insert_made<S: Alter>(
     insert_lines(tables, name, lines, before.lines)
 }
 
-/// Puts the picture of a job's machine in the place of the one before.
+/// Replaces the picture of a job's machine.
 fn set_machine<S: Alter, C: Core>(
     tables: &mut OpenTables<'_, '_, S>,
     name: JobName<'_>,
@@ -129,7 +129,7 @@ fn set_machine<S: Alter, C: Core>(
     tables.set_picture(name, &row)
 }
 
-/// Notes what is granted in a job's last stretch.
+/// Saves the number of instructions granted in a job's last stretch.
 fn set_last_granted<S: Alter>(
     tables: &mut OpenTables<'_, '_, S>,
     name: JobName<'_>,
@@ -149,7 +149,7 @@ fn set_last_granted<S: Alter>(
     tables.set_granted(name, place, last.granted)
 }
 
-/// Notes where a job's machine is, and what was granted.
+/// Saves the picture of a job's machine, and what was granted.
 fn set_progress<S: Alter, C: Core>(
     tables: &mut OpenTables<'_, '_, S>,
     name: JobName<'_>,
@@ -166,7 +166,7 @@ fn set_progress<S: Alter, C: Core>(
     set_last_granted(tables, name, parts.stretches)
 }
 
-/// Notes what a slice made of a job that had made so much before.
+/// Saves a job after a slice. `before` is what it had made before the slice.
 fn save_slice<S: Alter, C: Core>(
     tables: &mut OpenTables<'_, '_, S>,
     name: JobName<'_>,
@@ -187,7 +187,7 @@ fn save_slice<S: Alter, C: Core>(
     set_progress(tables, name, job)
 }
 
-/// Adds a job's last stretch.
+/// Inserts a job's last stretch.
 fn insert_last_stretch<S: Alter>(
     tables: &mut OpenTables<'_, '_, S>,
     name: JobName<'_>,
@@ -211,7 +211,7 @@ fn insert_last_stretch<S: Alter>(
     tables.insert_stretch(name, place, stretch)
 }
 
-/// Notes that a job goes on from a halt.
+/// Saves a job after a start.
 fn save_start<S: Alter, C: Core>(
     tables: &mut OpenTables<'_, '_, S>,
     name: JobName<'_>,
@@ -228,7 +228,7 @@ fn save_start<S: Alter, C: Core>(
     insert_last_stretch(tables, name, started.stretches)
 }
 
-/// Notes whether a job is held, and whether it was collected.
+/// Saves whether a job is held, and whether it was collected.
 pub fn note_flags<S: Alter>(
     tables: &mut OpenTables<'_, '_, S>,
     name: JobName<'_>,
@@ -243,7 +243,7 @@ pub fn note_flags<S: Alter>(
     tables.set_flags(name, truth(held), truth(collected))
 }
 
-/// Notes a job's flags.
+/// Saves a job's flags.
 fn save_flags<S: Alter, C: Core>(
     tables: &mut OpenTables<'_, '_, S>,
     name: JobName<'_>,
@@ -259,7 +259,8 @@ fn save_flags<S: Alter, C: Core>(
     note_flags(tables, name, flagged.held, flagged.collected)
 }
 
-/// Notes what a command that was let through made of a job, which had made so much before.
+/// Saves a job after a command that was not refused. `before` is what it had made before the
+/// command.
 pub fn save<S: Alter, C: Core>(
     tables: &mut OpenTables<'_, '_, S>,
     name: JobName<'_>,
@@ -294,7 +295,7 @@ fn kind_number(kind: Kind) -> u32
     }
 }
 
-/// The row of a job that is handed in, and loads this deck.
+/// The row of a job that is handed in and loads this deck.
 fn job_row(alloc: Global, contents: &Contents, loaded: &Deck) -> Result<JobRow, AllocError>
     ensures row { IfOk result (λ row. row ≡ new_cells contents.now loaded.now) }
     ensures deck { OnOk result (IsDeck contents.now.deck) }
@@ -310,7 +311,7 @@ fn job_row(alloc: Global, contents: &Contents, loaded: &Deck) -> Result<JobRow, 
     })
 }
 
-/// Adds the row of a job that is handed in.
+/// Inserts the row of a job that is handed in.
 fn insert_handed<S: Alter>(
     tables: &mut OpenTables<'_, '_, S>,
     name: JobName<'_>,
@@ -327,7 +328,7 @@ fn insert_handed<S: Alter>(
     tables.insert_job(name, &row)
 }
 
-/// Adds the picture of a job's machine.
+/// Inserts the picture of a job's machine.
 fn insert_machine<S: Alter, C: Core>(
     tables: &mut OpenTables<'_, '_, S>,
     name: JobName<'_>,
@@ -343,7 +344,7 @@ fn insert_machine<S: Alter, C: Core>(
     tables.insert_picture(name, &row)
 }
 
-/// Adds a job's first stretch and the picture of its machine.
+/// Inserts a job's first stretch and the picture of its machine.
 fn insert_start<S: Alter, C: Core>(
     tables: &mut OpenTables<'_, '_, S>,
     name: JobName<'_>,
@@ -359,7 +360,7 @@ fn insert_start<S: Alter, C: Core>(
     insert_machine(tables, name, parts.machine)
 }
 
-/// Adds a job that was handed in.
+/// Inserts a job that was handed in.
 pub fn save_new<S: Alter, C: Core>(
     tables: &mut OpenTables<'_, '_, S>,
     name: JobName<'_>,

@@ -14,7 +14,7 @@ use machine::Meter;
 use office::{Command, JobCommand, Refusal, Reply, is_customer, is_limit, is_number};
 use sqlite::Alter;
 
-/// Why a job may not have this name, if so.
+/// Why a job may not have this name, if it may not.
 fn name_refusal(customer: &str, number: u32) -> Option<Refusal>
     ensures { result ≡ name_refusal customer.now number }
 {
@@ -27,7 +27,7 @@ fn name_refusal(customer: &str, number: u32) -> Option<Refusal>
     None
 }
 
-/// Why a command on a job is refused for its limit, if so.
+/// Why a command on a job is refused for its limit, if it is.
 fn limit_refusal(command: JobCommand) -> Option<Refusal>
     ensures { result ≡ limit_refusal command None }
 {
@@ -55,7 +55,7 @@ fn job_refusal(customer: &str, number: u32, command: JobCommand) -> Option<Refus
     }
 }
 
-/// Why a customer may not have this name, if so.
+/// Why a customer may not have this name, if that is refused.
 fn customer_refusal(customer: &str) -> Option<Refusal>
     ensures { result ≡ customer_refusal customer.now }
 {
@@ -86,7 +86,7 @@ pub fn early_refusal(command: &Command) -> Option<Refusal>
     }
 }
 
-/// A command that is not refused so early.
+/// Carries out a command that `early_refusal` does not refuse. Returns the reply, or fault 1 or 2.
 pub fn serve<S: Alter>(
     tables: &mut OpenTables<'_, '_, S>,
     command: &Command,

@@ -24,10 +24,10 @@ use office::{Contents, Job, Kind, NewFault, Refusal, Reply, new_job};
 use sqlite::Alter;
 use std::alloc::{AllocError, Global};
 
-/// A customer has at most so many jobs.
+/// The greatest number of jobs of a customer.
 const MOST_JOBS: usize = 200;
 
-/// Whether the number is that of a kind.
+/// Whether the number is the number of a kind.
 fn is_same_kind(number: u32, kind: Kind) -> bool
     ensures { (is : Kind) → number ≡ kind_number is → result ≡ is_same_kind is kind }
 {
@@ -67,7 +67,7 @@ fn repeated(alloc: Global, handed: &Handed, contents: &Contents) -> Result<Reply
     }
 }
 
-/// How many cards a job loads.
+/// The number of cards that a job loads.
 fn cards_loaded<C: Core>(job: &Job<C>) -> u32
     ensures { result ≡ length job.now.machine.works.units.hopper.deck }
 {
@@ -76,7 +76,7 @@ fn cards_loaded<C: Core>(job: &Job<C>) -> u32
     deck.cards().len() as u32
 }
 
-/// Whether a customer has as many jobs as one may have.
+/// Whether a customer has the greatest number of jobs.
 fn has_most_jobs<S: Alter>(
     tables: &mut OpenTables<'_, '_, S>,
     customer: &str,
@@ -89,7 +89,7 @@ fn has_most_jobs<S: Alter>(
     Ok(count >= MOST_JOBS)
 }
 
-/// Adds a new job, unless its customer has as many as one may have.
+/// Adds a new job, unless its customer has the greatest number of jobs.
 fn add<S: Alter>(
     tables: &mut OpenTables<'_, '_, S>,
     name: JobName<'_>,
@@ -129,7 +129,8 @@ fn submit_new<S: Alter>(
     }
 }
 
-/// Accepts a new job; a repeated submission gets the first reply again.
+/// Accepts a new job; a repeated submission gets the first reply again. Returns the reply, or fault
+/// 1 or 2.
 pub fn submit<S: Alter>(
     tables: &mut OpenTables<'_, '_, S>,
     name: JobName<'_>,

@@ -1,5 +1,5 @@
-//! What is shown of a job without its machine: its standing, its flags, and how much it was granted
-//! and has made.
+//! The summary of a job, read without its machine: its standing, its flags, and how much it was
+//! granted and has made.
 
 ghost use Rattle.std.specs.Prelude.{◌≡◌, ◌-◌, ◌^◌, min};
 ghost use Rattle.office.specs.Jobs.{granted};
@@ -16,7 +16,7 @@ use machine::Standing;
 use office::{JobStanding, Stretch, Summary, commands_keep_jobs};
 use sqlite::Alter;
 
-/// How a machine stands that has come so far.
+/// The standing of a machine with this progress.
 fn standing_of(progress: Progress) -> JobStanding
     ensures { result ≡ told_at progress.standing progress.i }
 {
@@ -30,7 +30,7 @@ fn standing_of(progress: Progress) -> JobStanding
     }
 }
 
-/// How far the machine of the job of this name has come.
+/// Finds the progress of the job of this name.
 fn find_progress<S: Alter>(
     tables: &mut OpenTables<'_, '_, S>,
     name: JobName<'_>,
@@ -50,7 +50,7 @@ fn find_progress<S: Alter>(
     }
 }
 
-/// How the machine of the job of this name stands.
+/// Finds the standing of the job of this name.
 pub fn find_standing<S: Alter>(
     tables: &mut OpenTables<'_, '_, S>,
     name: JobName<'_>,
@@ -63,7 +63,7 @@ pub fn find_standing<S: Alter>(
     Ok(standing_of(progress))
 }
 
-/// How much was granted in all, or the greatest number where that is more.
+/// The number of instructions granted in all, or the greatest number if that is more.
 fn granted_in(stretches: &[Stretch]) -> u32
     ensures { result ≡ min (granted stretches.now) (2 ^ 32 - 1) }
 {
@@ -74,7 +74,7 @@ fn granted_in(stretches: &[Stretch]) -> u32
     total
 }
 
-/// How much was granted to the job of this name.
+/// Finds the number of instructions granted to the job of this name.
 fn find_granted<S: Alter>(
     tables: &mut OpenTables<'_, '_, S>,
     name: JobName<'_>,
@@ -87,7 +87,7 @@ fn find_granted<S: Alter>(
     Ok(granted_in(&stretches))
 }
 
-/// What is shown of the job of this row.
+/// Finds the summary of the job of this row.
 pub fn find_summary<S: Alter>(
     tables: &mut OpenTables<'_, '_, S>,
     name: JobName<'_>,

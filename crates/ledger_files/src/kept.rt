@@ -3,9 +3,9 @@
 use sqlite::{Connection, FileStore, Leftover};
 use sqlite_disk::Disk;
 
-/// What is handed back of files that were not opened as a bureau's.
+/// What is handed back if files were not opened as a bureau's.
 pub enum Kept<D: Disk> {
-    /// They were opened, and are no bureau's, or memory was wanted.
+    /// They were opened, and are not a bureau's, or there was no memory.
     Connection(Connection<FileStore<D>>),
     /// They were not opened.
     Left(Leftover<D>),

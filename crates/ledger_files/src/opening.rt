@@ -15,15 +15,15 @@ use ledger::Bureau;
 use ledger_tables::OpenFault;
 use sqlite::{Alter, Connection, Error, ErrorCode, FileFrom, FileStore, Start};
 
-/// A connection that was just opened represents the office of its trees. It is called for its
-/// clause alone.
+/// Proves that a connection that was just opened represents the office of its trees. It is called
+/// only for its clause.
 fn opened_stands<S: Alter>(conn: &Connection<S>)
     ensures { Opens (state S.Store conn.now) → IsLive (state S.Store conn.now)
         → (office : Office) → LeftAs (state S.Store conn.now).committed.trees office
         → Stands (state S.Store conn.now) office }
 {}
 
-/// What a failed open means: 1 for want of memory, else 2.
+/// The fault of a failed open: 1 if there is no memory, else 2.
 fn store_fault_of(error: Error) -> OpenFault
     ensures memory { error ≡ Error.SqliteFailure ErrorCode.OutOfMemory
         → result ≡ OpenFault.NoMemory }
@@ -35,9 +35,9 @@ fn store_fault_of(error: Error) -> OpenFault
     }
 }
 
-/// Opens the file at a path as a bureau. It fails with 50 where it is no bureau's, or a later
-/// version's, with 51 where it is an earlier version's, with 1 for want of memory and else with 2;
-/// what the files held is then handed back, as far as they were reached.
+/// Opens the file at a path as a bureau. Fails with 50 if it is not a bureau's or is of a later
+/// version, with 51 if it is of an earlier version, with 1 if there is no memory, and else with 2.
+/// The contents of the files are then handed back, as far as they were reached.
 pub fn open_from<S: Start>(
     rt: &HostRuntime,
     path: &str,

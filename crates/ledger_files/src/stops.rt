@@ -18,7 +18,7 @@ use ledger_tables::OpenFault;
 use sqlite::{FileFrom, FileStore, Start};
 use sqlite_disk::Disk;
 
-/// The store as a crash at this moment finds it.
+/// Returns the store as a crash at this moment leaves it.
 pub fn stop<D: Disk + Drop>(bureau: Bureau<FileStore<D>>) -> FileStore<D>
     ensures left { IsClean (view result) → (office : Office)
         → Stands (file_state bureau.conn) office → (left : Image)
@@ -28,7 +28,7 @@ pub fn stop<D: Disk + Drop>(bureau: Bureau<FileStore<D>>) -> FileStore<D>
     bureau.into_connection().into_store()
 }
 
-/// Opens the file at a path, and stops.
+/// Opens the file at a path, and stops. Fails as `open_from` does.
 pub fn round<S: Start>(
     rt: &HostRuntime,
     path: &str,
@@ -46,7 +46,7 @@ pub fn round<S: Start>(
     }
 }
 
-/// Any number of stops and openings leave the office as it was.
+/// The law of rounds: any number of stops and openings leave the office as it was.
 pub fn rounds_keep_the_office()
     ensures { (first : Found) → (rounds : List Found) → AreRounds first rounds
         → Leads first (last_of first rounds) }

@@ -25,7 +25,7 @@ use office::Command;
 use sqlite::{FileFrom, FileStore, Start};
 use sqlite_disk::Disk;
 
-/// The store as a crash at this moment finds it, whatever the tables represent.
+/// Returns the store as a crash at this moment leaves it, whatever the tables represent.
 pub fn hand_out<D: Disk + Drop>(bureau: Bureau<FileStore<D>>) -> FileStore<D>
     ensures left { IsClean (view result) → (left : Image) → (store.state result).may_leave left
         → HoldsOneOf (view result).has_sums left (file_state bureau.conn).may_leave }
@@ -34,7 +34,7 @@ pub fn hand_out<D: Disk + Drop>(bureau: Bureau<FileStore<D>>) -> FileStore<D>
     bureau.into_connection().into_store()
 }
 
-/// Opens the file at a path, works a shift, and stops.
+/// Opens the file at a path, works a shift, and stops. Fails as `open_from` does.
 pub fn working_round<S: Start>(
     rt: &HostRuntime,
     path: &str,
@@ -71,9 +71,10 @@ pub fn working_round<S: Start>(
     }
 }
 
-/// However often the bureau stops, nothing is lost and nothing comes twice: the last files are of
-/// the office after beginnings of the commands given in each round that hold every acknowledged
-/// one, and each job at a halt there has the cards and lines of one uninterrupted run.
+/// The theorem of stops: however often the bureau stops, nothing is lost and nothing is repeated.
+/// The last files are of the office after beginnings of the commands given in each round, which
+/// contain every acknowledged one, and each job at a halt there has the cards and lines of one
+/// uninterrupted run.
 pub fn stops_lose_nothing()
     ensures { (first : Found) → (rounds : List Round) → AreRounds first rounds
         → (office : Office) → AreOf first.0 first.1 office → AreLeftWhole first rounds office }

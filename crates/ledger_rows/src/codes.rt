@@ -5,7 +5,7 @@ ghost use Rattle.cards.specs.Decks.{AreCharacters};
 
 use bcd::Code;
 
-/// Writes the numbers of characters.
+/// Writes the numbers of characters as bytes.
 pub fn write_numbers(codes: &[Code], bytes: &mut [u8])
     requires { length bytes.old ≡ length codes.now }
     ensures numbers { bytes.new ≡ codes.now }
@@ -16,7 +16,7 @@ pub fn write_numbers(codes: &[Code], bytes: &mut [u8])
     }
 }
 
-/// Writes the characters of these numbers, if each is the number of one.
+/// Writes the characters with these numbers. Returns whether each number is that of a character.
 pub fn read_codes(numbers: &[u8], codes: &mut [Code]) -> bool
     requires { length codes.old ≡ length numbers.now }
     ensures all { AreCharacters numbers.now → IsTrue result }

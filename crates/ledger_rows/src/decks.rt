@@ -12,7 +12,7 @@ use cards::{COLUMNS, Card, Deck, DeckFault};
 use ledger_tables::CardRow;
 use std::alloc::{AllocError, Global};
 
-/// A card as bytes, one a column.
+/// The bytes of a card, one a column.
 pub fn card_bytes(card: &Card) -> [u8; COLUMNS]
     ensures bytes { result ≡ card.now.0 }
     ensures card { IsCard card.now }
@@ -22,7 +22,7 @@ pub fn card_bytes(card: &Card) -> [u8; COLUMNS]
     bytes
 }
 
-/// The card of these bytes, if there is one.
+/// The card of these bytes, if they are a card's.
 fn read_card(bytes: &[u8]) -> Option<Card>
     ensures all { (card : Card) → IsCard card → bytes.now ≡ card.0 → result ≡ Some card }
     ensures only { IfSome result (λ card. (card.0 ≡ bytes.now) × IsCard card) }
@@ -37,7 +37,7 @@ fn read_card(bytes: &[u8]) -> Option<Card>
     Some(Card(codes))
 }
 
-/// The card that the bytes begin with, and the bytes behind it.
+/// The first card of the bytes, and the bytes after it.
 fn split_card(bytes: &[u8]) -> Option<(Card, &[u8])>
     ensures found { IfSome result (λ found. IsCard found.0
         × (bytes.now ≡ found.0.0 ++ found.1.now)) }
@@ -54,7 +54,7 @@ fn split_card(bytes: &[u8]) -> Option<(Card, &[u8])>
     }
 }
 
-/// The cards of a deck as bytes, one card behind the other.
+/// Returns the bytes of a deck, one card after the other. Fails only if there is no memory.
 pub fn deck_bytes(alloc: Global, deck: &Deck) -> Result<Vec<u8>, AllocError>
     ensures bytes { IfOk result (λ bytes. bytes.items ≡ deck_bytes deck.now) }
     ensures deck { IfOk result (λ bytes. IsDeck deck.now) }
@@ -66,7 +66,8 @@ pub fn deck_bytes(alloc: Global, deck: &Deck) -> Result<Vec<u8>, AllocError>
     Ok(bytes)
 }
 
-/// The deck of these bytes, if there is one.
+/// Returns the deck of these bytes, or `None` if they are not a deck's. Fails only if there is no
+/// memory.
 pub fn read_deck(alloc: Global, bytes: &[u8]) -> Result<Option<Deck>, AllocError>
     ensures all { IfOk result (λ read. (deck : List Card) → IsDeck deck
         → bytes.now ≡ deck_bytes deck → read ≡ Some deck) }

@@ -1,24 +1,25 @@
-//! Rows of the tables, read as the things that they hold.
+//! Rows of the tables, read as values.
 
 ghost use Rattle.std.specs.Prelude.{◌≡◌, List, All, map, Some, IfOk, IfSome, IsSome};
 
 use std::alloc::{AllocError, Global};
 
-/// A thing that a row of a table can hold.
+/// A value that a row of a table can hold.
 pub trait FromCells<R>: Drop {
-    // The row of a thing.
+    // The row of a value.
     ghost cells: { Self → R };
 
-    // Whether a row can hold it.
+    // Whether a row can hold the value.
     ghost IsHeld: { Self → Type 0 };
 
-    /// The thing of this row, if it is the row of one.
+    /// Returns the value of this row, if it is the row of one.
     fn from_cells(row: &R) -> Option<Self>
         ensures all { (it : Self) → IsHeld it → row.now ≡ cells it → result ≡ Some it }
         ensures only { IfSome result (λ it. (cells it ≡ row.now) × IsHeld it) };
 }
 
-/// The things of these rows, if each is the row of one.
+/// Returns the values of these rows, or `None` if a row is not the row of one. Fails only if there
+/// is no memory.
 pub fn read_rows<R, T: FromCells<R>>(
     alloc: Global,
     rows: &[R],

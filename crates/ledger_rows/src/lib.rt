@@ -1,8 +1,9 @@
-//! Cards, lines and pictures of machines as the columns of the tables hold them.
+//! Cards, lines and pictures of machines as columns of the tables.
 //!
-//! `specs/Columns.antt` says which bytes and numbers stand for what. Each pair of calls here is
-//! exact in both directions: what was written is read as what it was, and what is read would be
-//! written as it stands; bytes and numbers that stand for nothing are read as nothing.
+//! `specs/Columns.antt` defines which bytes and numbers represent which values. Each pair of calls
+//! here is exact in both directions: what was written is read as the same value, and what is read
+//! would be written as the same bytes and numbers. Bytes and numbers that represent no value are
+//! read as `None`.
 #![tactic(auto)]
 
 mod codes;

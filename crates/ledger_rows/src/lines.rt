@@ -10,7 +10,7 @@ use ledger_tables::LineRow;
 use std::alloc::{AllocError, Global};
 use units::{LINE_LENGTH, Line};
 
-/// A printed line as a row.
+/// Returns a printed line as a row. Fails only if there is no memory.
 pub fn line_row(alloc: Global, line: &Line) -> Result<LineRow, AllocError>
     ensures row { IfOk result (λ row. row ≡ line_cells line.now) }
     ensures line { IfOk result (λ row. IsLine line.now) }

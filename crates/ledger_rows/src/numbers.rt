@@ -37,14 +37,14 @@ pub fn read_switches(number: u32) -> Option<Switches>
     }
 }
 
-/// Whether something holds, as a number: 1 where it does, else 0.
+/// 1 for true, 0 for false.
 pub fn truth(value: bool) -> u32
     ensures { result ≡ truth value }
 {
     if value { 1 } else { 0 }
 }
 
-/// What `truth` told by a number.
+/// The value that `truth` writes as this number, if there is one.
 pub fn read_truth(number: u32) -> Option<bool>
     ensures all { (value : Bool) → number ≡ truth value → result ≡ Some value }
     ensures only { IfSome result (λ value. truth value ≡ number) }
@@ -56,6 +56,7 @@ pub fn read_truth(number: u32) -> Option<bool>
     }
 }
 
+/// The number of a comparison: 0 equal, 1 B low, 2 B high.
 pub fn compare_number(compare: Compared) -> u32
     ensures { result ≡ compare_number compare }
 {
@@ -66,6 +67,7 @@ pub fn compare_number(compare: Compared) -> u32
     }
 }
 
+/// The comparison with this number, if there is one.
 pub fn read_compare(number: u32) -> Option<Compared>
     ensures all { (compare : Compared) → number ≡ compare_number compare → result ≡ Some compare }
     ensures only { IfSome result (λ compare. compare_number compare ≡ number) }
@@ -78,6 +80,7 @@ pub fn read_compare(number: u32) -> Option<Compared>
     }
 }
 
+/// The number of the move that waits: 0 none, 1 to 3 spaces, 4 skip.
 pub fn waiting_number(waiting: Option<Motion>) -> u32
     ensures { result ≡ waiting_number waiting }
 {
@@ -90,6 +93,7 @@ pub fn waiting_number(waiting: Option<Motion>) -> u32
     }
 }
 
+/// The move that waits with this number, if there is such a number.
 pub fn read_waiting(number: u32) -> Option<Option<Motion>>
     ensures all { (waiting : Option Motion) → number ≡ waiting_number waiting
         → result ≡ Some waiting }
@@ -105,6 +109,7 @@ pub fn read_waiting(number: u32) -> Option<Option<Motion>>
     }
 }
 
+/// The number of a check, 2 to 8.
 fn check_number(check: Check) -> u32
     ensures { result ≡ check_number check }
 {
@@ -119,6 +124,7 @@ fn check_number(check: Check) -> u32
     }
 }
 
+/// The number of a standing: 0 running, 1 halted, 2 to 8 the checks.
 pub fn standing_number(standing: Standing) -> u32
     ensures { result ≡ standing_number standing }
 {
@@ -129,6 +135,7 @@ pub fn standing_number(standing: Standing) -> u32
     }
 }
 
+/// The standing with this number, if there is one.
 pub fn read_standing(number: u32) -> Option<Standing>
     ensures all { (standing : Standing) → number ≡ standing_number standing
         → result ≡ Some standing }

@@ -24,19 +24,19 @@ use machine::Parts;
 use std::alloc::{AllocError, Global};
 use units::{Carriage, Hopper, Line, Printer, Punch, Switches, Units};
 
-/// What a machine reads and has made: it stands in other tables than its picture.
+/// The deck, switches, cards and lines of a machine, which are in other tables than its picture.
 #[derive(Drop)]
 pub struct Media {
-    /// The deck in the card reader, with the cards that were read.
+    /// The deck in the card reader. It includes the cards already read.
     pub deck: Deck,
     pub switches: Switches,
-    /// The cards that were punched.
+    /// The cards punched.
     pub cards: Vec<Card>,
-    /// The lines that were printed.
+    /// The lines printed.
     pub lines: Vec<Line>,
 }
 
-/// The picture of a machine as a row.
+/// Returns the row of a machine's picture. Fails only if there is no memory.
 pub fn picture_row<C: Core>(alloc: Global, parts: &Parts<C>) -> Result<PictureRow, AllocError>
     requires { IsInRange parts.now }
     ensures row { IfOk result (λ row. row ≡ picture_cells parts.now) }
@@ -63,7 +63,7 @@ pub fn picture_row<C: Core>(alloc: Global, parts: &Parts<C>) -> Result<PictureRo
     })
 }
 
-/// The registers of a row, if there are such.
+/// The registers of a row, if they are valid.
 fn read_registers(row: &PictureRow) -> Option<Registers>
     ensures all { (r : Registers) → AreAddresses r → HasRegisters row.now r → result ≡ Some r }
     ensures only { IfSome result (λ r. HasRegisters row.now r) }
@@ -90,7 +90,7 @@ fn read_registers(row: &PictureRow) -> Option<Registers>
     })
 }
 
-/// The carriage of a row, if there is one.
+/// The carriage of a row, if it is valid.
 fn read_carriage(row: &PictureRow) -> Option<Carriage>
     ensures all { (c : Carriage) → c.line ≤ lines_of_form → HasCarriage row.now c
         → result ≡ Some c }
@@ -113,7 +113,7 @@ fn read_carriage(row: &PictureRow) -> Option<Carriage>
     })
 }
 
-/// The units of a row, if there are such.
+/// The units of a row and of a machine's media, if they are valid.
 fn read_units(row: &PictureRow, media: Media) -> Option<Units>
     ensures all { (u : Units) → HasRead u.hopper → u.printer.carriage.line ≤ lines_of_form
         → HasUnits row.now media u → result ≡ Some u }
@@ -142,8 +142,9 @@ fn read_units(row: &PictureRow, media: Media) -> Option<Units>
     })
 }
 
-/// The picture of a row and of what the machine reads and has made, if it is one: what
-/// `picture_row` wrote is read as it was. It may be out of range.
+/// Returns the picture of a row and of a machine's media, or `None` if they are not valid. What
+/// `picture_row` wrote is read as the same picture. The result may be out of range. Fails only if
+/// there is no memory.
 pub fn read_picture<C: Core>(
     alloc: Global,
     row: &PictureRow,

@@ -1,4 +1,4 @@
-//! How far a machine has come, by four columns of its picture.
+//! The progress of a machine, from four columns of its picture.
 
 ghost use Rattle.std.specs.Prelude.{◌≡◌, ◌<◌, ◌^◌, Some, IfSome};
 ghost use Rattle.machine.specs.Run.{State};
@@ -10,19 +10,20 @@ use crate::numbers::read_standing;
 use ledger_tables::ProgressRow;
 use machine::Standing;
 
-/// How far a machine has come.
+/// The progress of a machine: register I, its counts and its standing.
 #[derive(Clone, Copy)]
 pub struct Progress {
     pub standing: Standing,
-    /// At a halt the address at which a start goes on, at a check that of the instruction.
+    /// Register I: at a halt the address at which a start continues, at a check that of the
+    /// instruction.
     pub i: u16,
-    /// How many cards were punched.
+    /// The number of cards punched.
     pub cards: u32,
-    /// How many lines were printed.
+    /// The number of lines printed.
     pub lines: u32,
 }
 
-/// How far a machine has come, by its row, if it is one: what `read_picture` would find of a whole
+/// The progress in this row, if it is valid: the same that `read_picture` would find in the whole
 /// picture.
 pub fn read_progress(row: &ProgressRow) -> Option<Progress>
     ensures all { (it : Progress) → it.i < 2 ^ 16 → row.now ≡ progress_cells it

@@ -11,10 +11,10 @@ use bcd::Code;
 use core_store::{Core, Size};
 use std::alloc::{AllocError, Global};
 
-/// The byte of a position is this much greater where it is marked.
+/// Added to the byte of a position if it is marked.
 const MARK: u8 = 64;
 
-/// What stands at a position.
+/// The character at a position, and whether it is marked.
 #[derive(Clone, Copy)]
 struct Cell {
     code: Code,
@@ -30,7 +30,7 @@ fn cell_byte(cell: Cell) -> u8
     if cell.marked { MARK + number } else { number }
 }
 
-/// What stands at the position of a byte, if it is a position's.
+/// The cell of a byte, if the byte is one of a cell.
 fn read_cell(byte: u8) -> Option<Cell>
     ensures all { (cell : Cell) → cell.code < 64
         → byte ≡ (if cell.marked then 64 + cell.code else cell.code) → IsSome result }
@@ -45,7 +45,7 @@ fn read_cell(byte: u8) -> Option<Cell>
     }
 }
 
-/// A byte for each position of storage.
+/// Returns the bytes of a storage, one for each position. Fails only if there is no memory.
 pub fn storage_bytes<C: Core>(alloc: Global, core: &C) -> Result<Vec<u8>, AllocError>
     ensures bytes { IfOk result (λ bytes. bytes.items ≡ storage_bytes (C.cells core.now)) }
     ensures characters { IfOk result (λ bytes. HoldsCharacters (C.cells core.now)) }
@@ -61,7 +61,7 @@ pub fn storage_bytes<C: Core>(alloc: Global, core: &C) -> Result<Vec<u8>, AllocE
     Ok(bytes)
 }
 
-/// How many positions there are, if there is a storage of so many.
+/// The size of a storage with this number of bytes, if there is one.
 fn size_of(bytes: &[u8]) -> Option<Size>
     ensures found { IfSome result (λ size. positions_of size ≡ length bytes.now) }
     ensures missing { IsNone result → (size : Size) → positions_of size ≢ length bytes.now }
@@ -85,7 +85,7 @@ fn put_cell<C: Core>(core: &mut C, position: u16, cell: Cell)
     }
 }
 
-/// Writes the positions of these bytes, if each byte is a position's.
+/// Writes the cells of these bytes. Returns whether each byte is one of a cell.
 fn put_cells<C: Core>(core: &mut C, bytes: &[u8]) -> bool
     requires size { length (C.cells core.old) ≡ length bytes.now }
     requires limit { length bytes.now ≤ largest_size }
@@ -102,7 +102,7 @@ fn put_cells<C: Core>(core: &mut C, bytes: &[u8]) -> bool
     true
 }
 
-/// The storage of these bytes, if there is one.
+/// Returns the storage of these bytes, if they are a storage's. Fails only if there is no memory.
 pub fn read_storage<C: Core>(alloc: Global, bytes: &[u8]) -> Result<Option<C>, AllocError>
     ensures all { IfOk result (λ read. (s : Storage) → HasSize s → HoldsCharacters s
         → bytes.now ≡ storage_bytes s → IfSome read (λ core. C.cells core ≡ s) × IsSome read) }

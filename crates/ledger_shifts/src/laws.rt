@@ -8,7 +8,7 @@ ghost use Rattle.ledger_shifts.specs.WholeRows.{HaveWholeRows};
 use office::offices_run_whole;
 
 /// The law of kept offices: each job at a halt has in its rows the cards and lines of one
-/// uninterrupted run over its whole deck with its starts, and of no other.
+/// uninterrupted run over its whole deck with its starts, and no others.
 pub fn kept_offices_run_whole()
     ensures { (db : Database) (office : Office) → Rows db office → HaveWholeRows db office }
 {

@@ -1,4 +1,4 @@
-//! Commands in turn.
+//! Applying a list of commands.
 
 ghost use Rattle.std.specs.Prelude.{◌≡◌, ◌<◌, ◌≤◌, ◌+◌, ◌⊎◌, Err, Some, None, IsTrue, OnOk, IsErrOf, length, vec_len};
 ghost use Rattle.std.specs.Vec.{vec_capacity};
@@ -17,7 +17,7 @@ use office::{Command, Reply};
 use sqlite::Alter;
 use std::alloc::Global;
 
-/// Applies a command, once there is room for its reply.
+/// Applies a command, after making room for its reply.
 fn apply_with_room<S: Alter>(
     bureau: &mut Bureau<S>,
     command: &Command,
@@ -50,8 +50,8 @@ fn apply_with_room<S: Alter>(
     bureau.apply(command, meter)
 }
 
-/// Applies the commands in order, up to the first fault. For each there is room for its reply
-/// before it is applied: where memory is wanted for that, it ends with fault 1, and the command is
+/// Applies the commands in order, up to the first fault. Room for each reply is made before its
+/// command is applied; if there is no memory for it, the shift ends with fault 1 and the command is
 /// not applied. After fault 2 the file has to be opened again.
 pub fn shift<S: Alter>(
     alloc: Global,

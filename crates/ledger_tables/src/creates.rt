@@ -1,4 +1,4 @@
-//! The making of the tables.
+//! Creating the tables.
 //!
 //! Every table but `bureau` and `jobs` refers to its job by a foreign key. All columns are NOT
 //! NULL, and the tables are STRICT.
@@ -93,7 +93,7 @@ impl<S: Alter> OpenTables<'_, '_, S> {
         )
     }
 
-    /// Notes the version of the tables.
+    /// Inserts the version of the tables.
     fn insert_version(&mut self) -> Result<(), Fault>
         ensures step { IsStep S.Store self.old self.new result }
         ensures made { Inside S.Store self.old self.new
@@ -105,7 +105,7 @@ impl<S: Alter> OpenTables<'_, '_, S> {
         )
     }
 
-    /// The tables of the jobs themselves.
+    /// Creates the tables of the jobs themselves.
     fn make_upper(&mut self) -> Result<(), Fault>
         ensures step { IsStep S.Store self.old self.new result }
         ensures made { Makes S.Store self.old self.new result no_schema up_to_stretches }
@@ -115,7 +115,7 @@ impl<S: Alter> OpenTables<'_, '_, S> {
         self.make_stretches()
     }
 
-    /// The tables of what the machine does.
+    /// Creates the tables of what the machine does.
     fn make_lower(&mut self) -> Result<(), Fault>
         ensures step { IsStep S.Store self.old self.new result }
         ensures made { Makes S.Store self.old self.new result up_to_stretches bureau_schema }
@@ -125,7 +125,7 @@ impl<S: Alter> OpenTables<'_, '_, S> {
         self.make_lines()
     }
 
-    /// Makes the tables of a bureau without jobs, in a database without tables.
+    /// Creates the tables of a bureau without jobs, in a database without tables.
     pub fn make(&mut self) -> Result<(), Fault>
         ensures step { IsStep S.Store self.old self.new result }
         ensures made { Inside S.Store self.old self.new

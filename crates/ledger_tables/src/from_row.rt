@@ -1,4 +1,4 @@
-//! Rows of answers, read as values.
+//! Rows of query results, read as values.
 
 ghost use Rattle.std.specs.Prelude.{◌≡◌, ◌≢◌, List, Option, map, IfOk, IfErr, IsErrOf};
 ghost use Rattle.std.specs.Option.{option_to_list};
@@ -14,13 +14,13 @@ use crate::rows::{
 use sqlite::{Error, Row};
 use std::alloc::Global;
 
-/// A value that a row of an answer shows.
+/// A value that is read from a row of a query's result.
 pub trait FromRow: Drop {
-    // The row that shows a value.
+    // The row of a value.
     ghost shown: { Self → Values };
 
-    /// Reads the value. Where the row shows one that can be read, it fails for want of memory
-    /// alone.
+    /// Reads the value of a row. If the row has one that can be read, it fails only if there is no
+    /// memory.
     fn from_row(row: &Row) -> Result<Self, Error>
         ensures read { IfOk result (λ read. (it : Self) → row.now ≡ shown it → read ≡ it) }
         ensures none { IfErr result (λ error. error ≢ Error.SqliteFailure OutOfMemory
@@ -132,8 +132,8 @@ impl FromRow for LineRow {
     }
 }
 
-/// The values that the rows show. Where each shows one that can be read, it fails for want of
-/// memory alone.
+/// Reads the values of the rows. If each row has one that can be read, it fails only if there is no
+/// memory.
 pub(crate) fn read_all<T: FromRow>(alloc: Global, rows: &[Row]) -> Result<Vec<T>, Fault>
     ensures read { IfOk result (λ read. (all : List T)
         → rows.now ≡ map T.shown all → read.items ≡ all) }
@@ -150,8 +150,8 @@ pub(crate) fn read_all<T: FromRow>(alloc: Global, rows: &[Row]) -> Result<Vec<T>
     Ok(read)
 }
 
-/// The value that the first row shows, if there is a row. Where it shows one that can be read, it
-/// fails for want of memory alone.
+/// Reads the value of the first row, if there is a row. If it has one that can be read, this fails
+/// only if there is no memory.
 pub(crate) fn read_first<T: FromRow>(rows: &[Row]) -> Result<Option<T>, Fault>
     ensures read { IfOk result (λ found. (it : Option T)
         → rows.now ≡ map T.shown (option_to_list it) → found ≡ it) }

@@ -1,11 +1,11 @@
 //! The tables of a bureau, and each statement on them.
 //!
-//! `specs/Tables.antt` says what the tables hold (`Tables`) and when a database holds it and
-//! nothing else (`Holds`). Each statement is a method of `OpenTables`, inside a transaction that
-//! its caller begins and ends. Its contract has two parts (`specs/Steps.antt`): a step stays in
-//! the transaction, or leaves the commit below it, and adds nothing to what a crash may leave; and
-//! which change of `Tables` it makes, or what it found of them while changing nothing.
-//! `find_version` looks whether the database is a bureau's at all.
+//! `specs/Tables.antt` defines the contents of the tables (`Tables`) and which databases hold
+//! exactly these (`Holds`). Each statement is a method of `OpenTables`, inside a transaction that
+//! its caller begins and ends. Its contract has two parts (`specs/Steps.antt`). First, a step stays
+//! in the transaction, or leaves the commit below it, and adds nothing to what a crash may leave.
+//! Second, the change of `Tables` that it makes, or what it reads of them without a change.
+//! `find_version` checks whether the database is a bureau's at all.
 #![tactic(auto)]
 
 mod creates;

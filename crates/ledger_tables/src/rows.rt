@@ -1,17 +1,17 @@
-//! The rows of the tables, without the job that they name and their place.
+//! The rows of the tables, without their job's name and their place.
 
 use std::marker::Model;
 
 /// A row of `jobs`.
 #[derive(Drop)]
 pub struct JobRow {
-    /// 0 for a deck that is loaded as it is.
+    /// 0 for a deck that is loaded as it is, 1 for a source.
     pub kind: u32,
-    /// How many positions of storage.
+    /// The number of positions of storage.
     pub size: u32,
     /// The deck that was handed in: 80 bytes a card, each the number of a character.
     pub deck: Vec<u8>,
-    /// The deck in the card reader, likewise.
+    /// The deck in the card reader, in the same form.
     pub loaded: Vec<u8>,
     /// 0 or 1.
     pub held: u32,
@@ -34,7 +34,7 @@ impl Model for JobRow {
     } };
 }
 
-/// Of a row of `jobs`: what the list of a customer's jobs shows.
+/// The columns of `jobs` in the list of a customer's jobs.
 #[derive(Clone, Copy)]
 pub struct NameRow {
     pub number: u32,
@@ -44,7 +44,7 @@ pub struct NameRow {
     pub collected: u32,
 }
 
-/// Of a row of `jobs`: its name.
+/// The columns of `jobs` in the queue: the job's name.
 #[derive(Drop)]
 pub struct QueuedRow {
     pub customer: String,
@@ -63,16 +63,16 @@ impl Model for QueuedRow {
 /// A row of `stretches`.
 #[derive(Clone, Copy, PartialEq, Eq)]
 pub struct StretchRow {
-    /// Switch A the lowest bit, G the seventh.
+    /// Switch A is the lowest bit, G the seventh.
     pub switches: u32,
-    /// How many instructions were granted, all grants together.
+    /// The number of instructions granted, by all grants together.
     pub granted: u32,
 }
 
 /// A row of `pictures`.
 #[derive(Debug, Drop)]
 pub struct PictureRow {
-    /// A byte a position: the number of its character, and 64 more where it is marked.
+    /// One byte for each position: the number of its character, plus 64 if it is marked.
     pub storage: Vec<u8>,
     pub i: u32,
     pub a: u32,
@@ -87,11 +87,11 @@ pub struct PictureRow {
     pub waiting: u32,
     pub form: u32,
     pub line: u32,
-    /// How many cards were read.
+    /// The number of cards read.
     pub taken: u32,
-    /// How many cards were punched.
+    /// The number of cards punched.
     pub cards: u32,
-    /// How many lines were printed.
+    /// The number of lines printed.
     pub lines: u32,
     /// 0 running, 1 halted, 2 to 8 the checks.
     pub standing: u32,
@@ -120,13 +120,13 @@ impl Model for PictureRow {
     } };
 }
 
-/// Of a row of `pictures`: how far the job has come.
+/// The columns of `pictures` for the progress of a job.
 #[derive(Clone, Copy)]
 pub struct ProgressRow {
     pub i: u32,
-    /// How many cards were punched.
+    /// The number of cards punched.
     pub cards: u32,
-    /// How many lines were printed.
+    /// The number of lines printed.
     pub lines: u32,
     /// 0 running, 1 halted, 2 to 8 the checks.
     pub standing: u32,

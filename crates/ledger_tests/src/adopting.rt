@@ -1,4 +1,4 @@
-//! Tables that are adopted as a bureau's, and others.
+//! Tables that are adopted as a bureau's, and others that are not.
 
 use crate::commands::misanswered;
 use crate::sessions::{adopted, in_memory};
@@ -8,7 +8,7 @@ use sqlite::{Alter, Connection, MemStore};
 use std::alloc::Global;
 use std::test::Fail;
 
-/// The number that a connection is adopted with, 0 where it is, and the connection.
+/// Adopts a connection. Returns the number of the fault, 0 for none, and the connection.
 fn adoption<S: Alter + Drop>(alloc: Global, conn: Connection<S>) -> (u8, Connection<S>) {
     match Bureau::adopt(alloc, conn) {
         Ok(bureau) => (0, bureau.into_connection()),
@@ -16,7 +16,7 @@ fn adoption<S: Alter + Drop>(alloc: Global, conn: Connection<S>) -> (u8, Connect
     }
 }
 
-/// The numbers with which a connection is adopted after each of these statements.
+/// The numbers of the faults of adopting a connection after each of these statements.
 fn adoptions<S: Alter + Drop>(
     alloc: Global,
     conn: Connection<S>,
@@ -72,13 +72,14 @@ fn one_version_is_adopted(rt: HostRuntime) -> Result<(), Fail> {
 /// A job that punches three cards is handed in.
 const HANDED_IN: &str = "taken 1|submit|ACME|9|1400|-|three cards\n";
 
-/// The machine goes on from its picture, whatever was granted.
+/// The machine continues from its picture, whatever was granted.
 const GOES_ON: &str = "\
 ran 1, running|slice|ACME|9|1
 running, false false 9 0 0|standing|ACME|9|
 ";
 
-/// The first line of the first sheet that is answered otherwise.
+/// Applies the first sheet to a new bureau, and returns the bureau. Fails if a command gets another
+/// reply.
 fn answered(alloc: Global, sheet: &'static str) -> Result<Bureau<MemStore>, Fail> {
     let mut bureau = in_memory(alloc)?;
     let line = misanswered(alloc, &mut bureau, &mut Meter::new(), sheet)?;
@@ -89,8 +90,8 @@ fn answered(alloc: Global, sheet: &'static str) -> Result<Bureau<MemStore>, Fail
     }
 }
 
-/// The first line of the second sheet that is answered otherwise, after a statement on the tables
-/// that the first left, and the ticks.
+/// The first line of the second sheet that gets another reply, after a statement on the tables that
+/// the first sheet left; and the ticks.
 fn answered_after(
     alloc: Global,
     before: &'static str,

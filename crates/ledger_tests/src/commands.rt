@@ -1,4 +1,4 @@
-//! Commands as lines, and what is replied to them.
+//! Commands as lines, and the replies to them.
 
 use crate::decks::deck_named;
 use crate::replies::reply_text;
@@ -28,7 +28,7 @@ fn switches_of(field: &str) -> Result<Switches, Fail> {
     }
 }
 
-/// What is handed in by fields: a size, switches and the name of a deck.
+/// The contents in these fields: a size, switches and the name of a deck.
 fn contents_of(alloc: Global, kind: Kind, fields: &str) -> Result<Contents, Fail> {
     let (size, fields) = fields.split_once('|').ok_or("a size")?;
     let (switches, deck) = fields.split_once('|').ok_or("switches")?;
@@ -59,7 +59,7 @@ fn job_command_of(word: &str, field: &str) -> Result<JobCommand, Fail> {
     }
 }
 
-/// The kind of deck that a word hands in, if it does.
+/// The kind of deck that a word submits, if it is such a word.
 fn kind_of(word: &str) -> Option<Kind> {
     match word {
         "submit" => Some(Kind::Object),
@@ -68,7 +68,7 @@ fn kind_of(word: &str) -> Option<Kind> {
     }
 }
 
-/// The command of a line: its word, the customer, the number, and what the command has besides.
+/// The command of a line: its word, the customer, the number, and the command's other values.
 pub(crate) fn command_of(alloc: Global, line: &str) -> Result<Command, Fail> {
     let (word, fields) = line.split_once('|').ok_or("a word")?;
     if word == "queue" {
@@ -107,8 +107,8 @@ pub(crate) fn reply_to<S: Alter>(
     reply_text(alloc, &bureau.apply(&command, meter))
 }
 
-/// The first line of a sheet whose command has another reply than the line gives before it; else
-/// nothing.
+/// The first line of a sheet whose command gets another reply than the line gives before it; empty
+/// if there is none.
 pub(crate) fn misanswered<S: Alter>(
     alloc: Global,
     bureau: &mut Bureau<S>,

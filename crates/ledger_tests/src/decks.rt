@@ -25,7 +25,7 @@ const SOURCE_THAT_PRINTS: &str = "               CS   332
                END
 ";
 
-/// A source of which each card has a fault.
+/// A source in which each card has a fault.
 const FAULTY_SOURCE: &str = "               XYZ
                B    LOST
      *
@@ -34,7 +34,7 @@ const FAULTY_SOURCE: &str = "               XYZ
 /// A program that punches its own card three times.
 const PUNCHES_THREE: &str = ",008015,022029,030031,032033444.\n";
 
-/// The program and the data of the deck with a name.
+/// The program and the data of the deck with this name.
 fn cards_named(name: &str) -> Option<(&'static str, &'static str)> {
     match name {
         "two lines" => Some((PRINTS_EACH_CARD, "HELLO\nWORLD\n")),
@@ -62,7 +62,7 @@ fn push_cards(text: &mut Vec<u8>, cards: &str) -> Result<(), Fail> {
     Ok(())
 }
 
-/// The deck with a name.
+/// The deck with this name.
 pub(crate) fn deck_named(alloc: Global, name: &str) -> Result<Deck, Fail> {
     let (program, data) = cards_named(name).ok_or("a deck")?;
     let mut text = Vec::new(alloc);

@@ -9,7 +9,7 @@ use sqlite_disk::{Fuse, Memory};
 use std::alloc::Global;
 use std::test::Fail;
 
-/// The reply to the first job that is not taken, once some have been.
+/// The reply to the first job that is not taken, after some were taken.
 fn reply_after_taken<S: Alter>(alloc: Global, bureau: &mut Bureau<S>) -> Result<String, Fail> {
     for number in 1..=100 {
         let line = format!(in alloc; "submit|ACME|{number}|1400|A|loop")?;
@@ -28,14 +28,14 @@ fn reply_after_taken<S: Alter>(alloc: Global, bureau: &mut Bureau<S>) -> Result<
     Err("no fault")?
 }
 
-/// Commands that are not looked at after a failure, a wrong one and a right one.
+/// Commands after a failure, a wrong one and a right one. They are not examined.
 const AFTER_A_FAILURE: &str = "\
 fault Store|slice|acme|0|0
 fault Store|slice|ACME|1|1
 ";
 
-/// The reply to the first job that a new bureau does not take, whether the bureau is broken by it,
-/// the first line of a sheet whose command is then answered otherwise, and the ticks.
+/// The reply to the first job that a new bureau does not take, whether the bureau is then broken,
+/// the first line of a sheet whose command then gets another reply, and the ticks.
 fn failure<S: Alter + Drop>(
     alloc: Global,
     conn: Connection<S>,
@@ -49,7 +49,7 @@ fn failure<S: Alter + Drop>(
     Ok(format!(in alloc; "{reply}, broken {broken}, {line}{} ticks", meter.ticks())?)
 }
 
-/// The same over empty disks, which fail after so many calls of each.
+/// The same over empty disks, which fail after these numbers of calls.
 fn failure_on_disks(
     alloc: Global,
     log_calls: u64,

@@ -1,8 +1,8 @@
-//! Tests of the bureau: what is replied to sheets of commands and the rows that are there then;
-//! disks that fail and memory that is refused; shifts; and, below it, the rows of its tables and
-//! the pictures of machines in them.
+//! Tests of the bureau: the replies to sheets of commands and the rows after them; disks that fail
+//! and memory that is refused; shifts; and, below it, the rows of its tables and the pictures of
+//! machines in them.
 //!
-//! They are one crate, since each crate over `sqlite` takes a minute to start.
+//! They are one crate, because each crate over `sqlite` takes a minute to start.
 #![tactic(auto)]
 
 #[cfg(test)]

@@ -1,4 +1,4 @@
-//! What the lists show of a few jobs, before and after their flags are set.
+//! The lists of a few jobs, before and after their flags are set.
 
 use crate::rows::picture;
 use ledger_tables::{Fault, JobName, JobRow, OpenTables, PictureRow, StretchRow};
@@ -11,7 +11,7 @@ const NINE: JobName<'static> = JobName {
     number: 9,
 };
 
-/// No job has this name.
+/// A name that no job has.
 const ELEVEN: JobName<'static> = JobName {
     customer: "ACME",
     number: 11,
@@ -28,7 +28,7 @@ fn job(alloc: Global) -> Result<JobRow, Fail> {
     })
 }
 
-/// Adds a job with a row in each of two tables below it.
+/// Adds a job with a row in each of two tables that refer to it.
 fn add<S: Alter>(
     tables: &mut OpenTables<'_, '_, S>,
     name: JobName<'_>,
@@ -82,7 +82,7 @@ fn jobs_of_acme<S: Alter>(tables: &mut OpenTables<'_, '_, S>) -> Result<String, 
     Ok(text)
 }
 
-/// What is found of a job, in words: its size, and how its machine stands.
+/// What is found of a job, in words: its size, and its machine's standing.
 fn found<S: Alter>(tables: &mut OpenTables<'_, '_, S>, name: JobName<'_>) -> Result<String, Fail> {
     let alloc = tables.alloc;
     let size = tables.find_job(name)?.map(|row| row.size);
@@ -91,8 +91,8 @@ fn found<S: Alter>(tables: &mut OpenTables<'_, '_, S>, name: JobName<'_>) -> Res
     Ok(format!(in alloc; "{size:?} {progress:?}")?)
 }
 
-/// The lists before and after a job is held and collected and the flags of no job are set, and
-/// what is found of the two, a line each.
+/// The lists before and after a job is held and collected and the flags of a missing job are set,
+/// and what is found of both jobs, one line each.
 fn told<S: Alter>(tables: &mut OpenTables<'_, '_, S>) -> Result<String, Fail> {
     let alloc = tables.alloc;
     fill(tables)?;

@@ -12,13 +12,13 @@ use std::alloc::Global;
 use std::test::Fail;
 use units::{Line, Switches, render};
 
-/// Runs a machine for so many instructions at most.
+/// Runs a machine for at most `limit` instructions.
 fn run_on(machine: &mut Machine<FlagCore>, limit: u32) -> Result<(), Fail> {
     machine.run(limit, &mut Meter::new())?;
     Ok(())
 }
 
-/// A machine that prints two lines, once it has run so far.
+/// A machine that prints two lines, after it has run for at most `limit` instructions.
 fn machine_after(alloc: Global, limit: u32) -> Result<Machine<FlagCore>, Fail> {
     let deck = deck_named(alloc, "two lines")?;
     if deck.cards().is_empty() {
@@ -34,7 +34,7 @@ fn row_of(alloc: Global, machine: &Machine<FlagCore>) -> Result<PictureRow, Fail
     Ok(picture_row(alloc, machine.parts())?)
 }
 
-/// What a machine reads and has made, but for cards, written and read back.
+/// The cards and lines of a machine, except punched cards, written and read back.
 fn media_of(alloc: Global, parts: &Parts<FlagCore>) -> Result<Media, Fail> {
     let bytes = deck_bytes(alloc, &parts.units.hopper.deck)?;
     let mut rows: Vec<LineRow> = Vec::new(alloc);
@@ -55,7 +55,7 @@ fn remade(alloc: Global, row: &PictureRow, media: Media) -> Result<Machine<FlagC
     Ok(Machine::from_parts(alloc, parts)?.ok_or("a picture in range")?)
 }
 
-/// What a machine has printed.
+/// The listing of a machine's lines.
 fn listing_of(alloc: Global, machine: &Machine<FlagCore>) -> Result<Vec<u8>, Fail> {
     Ok(render(alloc, &machine.parts().units.printer.lines)?)
 }
@@ -73,7 +73,7 @@ fn row_text(alloc: Global, machine: &Machine<FlagCore>) -> Result<String, Fail> 
     Ok(format!(in alloc; "{row:?}")?)
 }
 
-/// Whether a machine has this row, and what it has printed once it has run on.
+/// Whether a machine has this row, and its listing after it has run on.
 fn told_at_its_end(
     alloc: Global,
     machine: &mut Machine<FlagCore>,
@@ -86,14 +86,14 @@ fn told_at_its_end(
     Ok(format!(in alloc; "the same row {same}, {text}")?)
 }
 
-/// The same of a machine that is made again from the rows of this one.
+/// The same for a machine that is made again from the rows of this one.
 fn told_of_the_next(alloc: Global, machine: &Machine<FlagCore>) -> Result<String, Fail> {
     let row = row_text(alloc, machine)?;
     let mut next = made_again(alloc, machine)?;
     told_at_its_end(alloc, &mut next, row.as_str())
 }
 
-/// The same of a machine that has run so far and is made again.
+/// The same for a machine that has run for at most `limit` instructions and is made again.
 fn told_again(alloc: Global, limit: u32) -> Result<String, Fail> {
     let machine = machine_after(alloc, limit)?;
     told_of_the_next(alloc, &machine)
@@ -106,7 +106,7 @@ fn a_machine_goes_on_from_its_rows(rt: HostRuntime) -> Result<(), Fail> {
     Ok(())
 }
 
-/// Whether a row is that of a picture whose media have one line less.
+/// Whether a row is read as a picture if its media have one line less.
 fn is_read_with_a_line_less(
     alloc: Global,
     machine: &Machine<FlagCore>,
@@ -125,7 +125,7 @@ fn row_told(alloc: Global, machine: &Machine<FlagCore>) -> Result<String, Fail> 
     Ok(format!(in alloc; "{lines} lines, {taken} taken, standing {standing}, picture {found}")?)
 }
 
-/// The same of a machine at its halt.
+/// The same for a machine at its halt.
 fn told_with_a_line_less(alloc: Global) -> Result<String, Fail> {
     let machine = machine_after(alloc, 2000)?;
     row_told(alloc, &machine)

@@ -8,7 +8,7 @@ use std::alloc::Global;
 use std::test::Fail;
 use units::Line;
 
-/// A deck with a card of each of these characters, which stands in all its columns.
+/// A deck with a card for each of these characters, which is in all its columns.
 fn deck_of(alloc: Global, glyphs: &str) -> Result<Deck, Fail> {
     let mut deck = Deck::empty(alloc);
     for glyph in glyphs.bytes() {
@@ -18,7 +18,7 @@ fn deck_of(alloc: Global, glyphs: &str) -> Result<Deck, Fail> {
     Ok(deck)
 }
 
-/// So many bytes of each of these.
+/// `count` bytes of each of these.
 fn bytes_of(alloc: Global, count: usize, each: &[u8]) -> Result<Vec<u8>, Fail> {
     let mut bytes = Vec::new(alloc);
     for byte in each {
@@ -29,7 +29,7 @@ fn bytes_of(alloc: Global, count: usize, each: &[u8]) -> Result<Vec<u8>, Fail> {
     Ok(bytes)
 }
 
-/// What the bytes of a deck are read as.
+/// The result of reading the bytes of a deck.
 fn deck_told(alloc: Global, glyphs: &str, numbers: &[u8]) -> Result<&'static str, Fail> {
     let deck = deck_of(alloc, glyphs)?;
     let bytes = deck_bytes(alloc, &deck)?;
@@ -46,7 +46,7 @@ fn deck_told(alloc: Global, glyphs: &str, numbers: &[u8]) -> Result<&'static str
     })
 }
 
-/// A row of each card of a deck.
+/// The rows of a deck's cards.
 fn rows_of(alloc: Global, deck: &Deck) -> Result<Vec<CardRow>, Fail> {
     let mut rows = Vec::new(alloc);
     for card in deck.cards() {
@@ -56,7 +56,7 @@ fn rows_of(alloc: Global, deck: &Deck) -> Result<Vec<CardRow>, Fail> {
     Ok(rows)
 }
 
-/// What the rows of cards are read as.
+/// The result of reading the rows of cards.
 fn cards_told(alloc: Global, glyphs: &str) -> Result<&'static str, Fail> {
     let deck = deck_of(alloc, glyphs)?;
     let rows = rows_of(alloc, &deck)?;
@@ -70,7 +70,7 @@ fn cards_told(alloc: Global, glyphs: &str) -> Result<&'static str, Fail> {
     })
 }
 
-/// Whether rows of cards are read that have a row of so many bytes after them.
+/// Whether rows of cards are read if a row of `count` bytes comes after them.
 fn are_cards(alloc: Global, glyphs: &str, count: usize, byte: u8) -> Result<bool, Fail> {
     let deck = deck_of(alloc, glyphs)?;
     let mut rows = rows_of(alloc, &deck)?;
@@ -79,7 +79,7 @@ fn are_cards(alloc: Global, glyphs: &str, count: usize, byte: u8) -> Result<bool
     Ok(read_rows::<CardRow, Card>(alloc, &rows)?.is_some())
 }
 
-/// The row of a line that has one character in each place, and whether it is read as the line.
+/// The row of a line that has one character in every column, and whether it is read as the line.
 fn line_told(alloc: Global, form: u32, line: u8, glyph: u8) -> Result<String, Fail> {
     let code = Code::from_glyph(glyph).ok_or("a glyph")?;
     let line = Line {
@@ -126,7 +126,7 @@ fn is_line(alloc: Global, line: u32, count: usize, byte: u8) -> Result<bool, Fai
     Ok(read_rows::<LineRow, Line>(alloc, &rows)?.is_some())
 }
 
-/// Whether so many bytes, each the same, are read as what a word names.
+/// Whether `count` equal bytes are read as the thing that a word names.
 fn is_read(alloc: Global, word: &str, count: usize, byte: u8) -> Result<bool, Fail> {
     match word {
         "deck" => {
@@ -141,7 +141,7 @@ fn is_read(alloc: Global, word: &str, count: usize, byte: u8) -> Result<bool, Fa
     }
 }
 
-/// Bytes that are read or not: what as, how many, and which.
+/// Bytes that are read or not: as which thing, how many, and which byte.
 const BYTES: &str = "\
 true|deck|0|0|
 false|deck|79|0|
@@ -158,7 +158,7 @@ false|line 1|133|0|
 false|line 1|132|64|
 ";
 
-/// The first line of a sheet whose bytes are read otherwise than it says; else nothing.
+/// The first line of a sheet whose bytes are read otherwise than it gives; empty if there is none.
 fn misread(alloc: Global, sheet: &'static str) -> Result<&'static str, Fail> {
     for line in sheet.lines() {
         let (wanted, fields) = line.split_once('|').ok_or("an answer")?;

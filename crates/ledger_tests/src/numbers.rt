@@ -1,4 +1,4 @@
-//! Storage, indicators, orders, standings and switches as numbers, and read again.
+//! Storage, indicators, orders, standings and switches as numbers, and read back.
 
 use crate::decks::deck_named;
 use bcd::Code;
@@ -13,7 +13,7 @@ use std::alloc::Global;
 use std::test::Fail;
 use units::Switches;
 
-/// A row with these numbers and this storage, of a machine that has read a card and made nothing.
+/// A row with these numbers and this storage, for a machine that has read a card and made nothing.
 fn row_with(storage: Vec<u8>, compare: u32, waiting: u32, standing: u32) -> PictureRow {
     PictureRow {
         storage,
@@ -33,7 +33,7 @@ fn row_with(storage: Vec<u8>, compare: u32, waiting: u32, standing: u32) -> Pict
     }
 }
 
-/// What a machine reads that has made nothing.
+/// The media of a machine that has made nothing.
 fn media(alloc: Global) -> Result<Media, Fail> {
     Ok(Media {
         deck: deck_named(alloc, "two lines")?,
@@ -54,8 +54,8 @@ fn row_again(alloc: Global, parts: Parts<FlagCore>) -> Result<PictureRow, Fail> 
     Ok(picture_row(alloc, machine.parts())?)
 }
 
-/// A picture with these numbers in words: how it compared, the order that waits and the
-/// standing; and the numbers again.
+/// A picture with these numbers in words: the comparison, the order that waits and the standing;
+/// and the numbers of that picture.
 fn told(alloc: Global, compare: u32, waiting: u32, standing: u32) -> Result<String, Fail> {
     let storage = vec![in alloc; 0; 1400]?;
     let row = row_with(storage, compare, waiting, standing);
@@ -91,8 +91,8 @@ fn number_of(text: &str) -> Result<u32, Fail> {
     Ok(text.parse::<u32>().ok().ok_or("a number")?)
 }
 
-/// The first line of a sheet whose numbers represent something else than it says, or are not the
-/// numbers of that; else nothing.
+/// The first line of a sheet whose numbers represent something else than it gives, or are not the
+/// numbers of that; empty if there is none.
 fn mistold(alloc: Global, sheet: &'static str) -> Result<&'static str, Fail> {
     for line in sheet.lines() {
         let (compare, fields) = line.split_once('|').ok_or("how it compared")?;
@@ -138,7 +138,7 @@ fn switches_and_truth(rt: HostRuntime) {
     );
 }
 
-/// A storage of 1400 positions with two characters, of which the second is marked.
+/// A storage of 1400 positions with two characters; the second is marked.
 fn marked_core(alloc: Global, glyph: u8) -> Result<FlagCore, Fail> {
     let code = Code::from_glyph(glyph).ok_or("a glyph")?;
     let mut core = FlagCore::blank(alloc, Size::Positions1400)?;
@@ -171,8 +171,8 @@ fn parts_with(alloc: Global, core: FlagCore) -> Result<Parts<FlagCore>, Fail> {
     })
 }
 
-/// A storage with two characters and a mark as bytes: how many they are, those of the
-/// positions 0, 1 and 1399, and whether they are the same when they are read and written again.
+/// A storage with two characters and a mark as bytes: their number, those of the positions 0, 1 and
+/// 1399, and whether they are the same after they are read and written again.
 fn storage_told(alloc: Global) -> Result<String, Fail> {
     let parts = parts_with(alloc, marked_core(alloc, b'A')?)?;
     let row = row_again(alloc, parts)?;
@@ -195,7 +195,7 @@ fn a_marked_character_to_a_byte_and_back(rt: HostRuntime) -> Result<(), Fail> {
     Ok(())
 }
 
-/// Whether so many bytes, each the same, are the storage of a picture.
+/// Whether `count` equal bytes are the storage of a picture.
 fn is_storage(alloc: Global, count: usize, byte: u8) -> Result<bool, Fail> {
     let storage = vec![in alloc; byte; count]?;
     Ok(picture_of(alloc, &row_with(storage, 0, 0, 0))?.is_some())

@@ -1,5 +1,5 @@
-//! A bureau over tables that are there: its file opened anew for each command, and a row altered
-//! by hand.
+//! A bureau over existing tables: its file opened again for each command, and a row altered by
+//! hand.
 
 ghost use Rattle.std.specs.Prelude.{IsTrue, IfOk};
 ghost use Rattle.sqlite_disk.specs.Memory.{memory_is_usable};
@@ -17,7 +17,7 @@ use std::alloc::Global;
 use std::test::Fail;
 use units::Switches;
 
-/// Hands the deck with a name in as job 9 of ACME.
+/// Submits the deck with this name as job 9 of ACME.
 fn submit_9(alloc: Global, deck: &str) -> Result<Command, Fail> {
     Ok(Command::Submit {
         customer: String::from_str(alloc, "ACME")?,
@@ -50,7 +50,7 @@ pub(crate) fn apply<S: Alter>(
     bureau.apply(command, meter)
 }
 
-/// A disk with the same bytes.
+/// A copy of a disk.
 pub(crate) fn copy(alloc: Global, disk: &Memory) -> Result<Memory, Fail>
     ensures { IfOk result (λ copy. IsTrue (memory_is_usable copy)) }
 {
@@ -59,7 +59,7 @@ pub(crate) fn copy(alloc: Global, disk: &Memory) -> Result<Memory, Fail>
     Ok(copy)
 }
 
-/// A connection to what is on these disks.
+/// A connection to the database on these disks.
 pub(crate) fn open(
     alloc: Global,
     disks: &Files<Memory>,
@@ -86,7 +86,7 @@ pub(crate) fn created<S: Alter + Drop>(
     }
 }
 
-/// The disks of a connection that is closed.
+/// The disks of a connection after it is closed.
 fn closed(conn: Result<Connection<FileStore<Memory>>, Fail>) -> Result<Files<Memory>, Fail> {
     match conn {
         Ok(conn) => Ok(conn.into_store().close()),
@@ -106,7 +106,7 @@ pub(crate) fn new_disks(alloc: Global) -> Result<Files<Memory>, Fail> {
     }
 }
 
-/// The connection of a bureau after a command, to which there is this reply.
+/// The connection of a bureau after a command that gets this reply.
 fn applied<S: Alter + Drop>(
     alloc: Global,
     conn: Connection<S>,
@@ -119,7 +119,7 @@ fn applied<S: Alter + Drop>(
     Ok(bureau.into_connection())
 }
 
-/// The reply to a command to the bureau on these disks, in words, and the disks after it.
+/// The reply, in words, to a command to the bureau on these disks, and the disks after it.
 pub(crate) fn apply_anew(
     alloc: Global,
     disks: &Files<Memory>,
@@ -145,8 +145,8 @@ fn images<S: Alter + Drop>(alloc: Global, mut conn: Connection<S>) -> Result<Vec
     Ok(images)
 }
 
-/// How many slices of one instruction are answered with a running machine, each over the file
-/// opened anew, the reply to the next slice in words, and the disks after it.
+/// The number of slices of one instruction whose reply is a running machine, each over the file
+/// opened again; the reply to the next slice in words; and the disks after it.
 fn run_by_ones(
     alloc: Global,
     mut disks: Files<Memory>,
@@ -196,7 +196,7 @@ fn altered<S: Alter + Drop>(
     Ok(conn)
 }
 
-/// The number of the refusal of a slice, 0 where the machine ran.
+/// The number of the refusal of a slice, 0 if the machine ran.
 fn refusal<S: Alter>(
     alloc: Global,
     bureau: &mut Bureau<S>,
@@ -210,7 +210,7 @@ fn refusal<S: Alter>(
     }
 }
 
-/// How much has been granted to the job of a bureau.
+/// The number of instructions granted to the job of a bureau.
 fn sum_granted<S: Alter + Drop>(bureau: Bureau<S>) -> Result<i64, Fail> {
     let mut conn = bureau.into_connection();
     Ok(
@@ -219,8 +219,8 @@ fn sum_granted<S: Alter + Drop>(bureau: Bureau<S>) -> Result<i64, Fail> {
     )
 }
 
-/// The refusals of slices with these limits over a connection, the ticks that they take, and how
-/// much has been granted after them.
+/// The refusals of slices with these limits over a connection, the ticks that they take, and the
+/// number of instructions granted after them.
 fn refusals<S: Alter + Drop>(
     alloc: Global,
     conn: Connection<S>,
@@ -247,8 +247,8 @@ fn a_thousand_million_instructions_and_no_more(rt: HostRuntime) -> Result<(), Fa
     Ok(())
 }
 
-/// Statements, each after the number of the fault that a slice is then answered with, 0 for none:
-/// 2 where a row is none of a bureau's, and where a row is gone.
+/// Statements, each after the number of the fault that a slice then returns, 0 for none: 2 if a row
+/// is not a bureau's, and if a row is missing.
 const ALTERED_ROWS: &str = "\
 0|UPDATE stretches SET switches = 127
 2|UPDATE stretches SET switches = 128
@@ -268,8 +268,8 @@ const ALTERED_ROWS: &str = "\
 2|INSERT INTO lines VALUES ('ACME', 9, 1, 1, 1, x'00')
 ";
 
-/// The number of the fault that a slice of one instruction is answered with after a statement, 0
-/// for none, and the ticks that it takes.
+/// The number of the fault that a slice of one instruction returns after a statement, 0 for none,
+/// and the ticks that it takes.
 fn fault_after(alloc: Global, sql: &str) -> Result<(u8, u64), Fail> {
     let conn = altered(alloc, Connection::open_in_memory(alloc)?, sql)?;
     let mut bureau = adopted(alloc, conn)?;
@@ -281,8 +281,8 @@ fn fault_after(alloc: Global, sql: &str) -> Result<(u8, u64), Fail> {
     Ok((fault, meter.ticks()))
 }
 
-/// The first line of a sheet after whose statement a slice is answered with another fault, or
-/// ticks where it fails; else nothing.
+/// The first line of a sheet after whose statement a slice returns another fault, or ticks though
+/// it fails; empty if there is none.
 fn misread(alloc: Global, sheet: &'static str) -> Result<&'static str, Fail> {
     for line in sheet.lines() {
         let (wanted, sql) = line.split_once('|').ok_or("a fault")?;

@@ -1,4 +1,4 @@
-//! A bureau's file, made, closed and opened at its path.
+//! A bureau's file, created, closed and opened at its path.
 
 use crate::commands::misanswered;
 use crate::opened_anew::created;
@@ -8,7 +8,7 @@ use sqlite::{Connection, Unknown};
 use std::fs;
 use std::test::Fail;
 
-/// The number that a file is opened with as a bureau's, 0 where it is one.
+/// The number of the fault with which a file is opened as a bureau's, 0 for none.
 pub(crate) fn opening(rt: &HostRuntime, path: &str) -> u8 {
     match open_from(rt, path, Unknown) {
         Ok(_bureau) => 0,
@@ -16,7 +16,7 @@ pub(crate) fn opening(rt: &HostRuntime, path: &str) -> u8 {
     }
 }
 
-/// Makes a bureau's tables in a file.
+/// Creates a bureau's tables in a file.
 pub(crate) fn create(rt: &HostRuntime, path: &str) -> Result<(), Fail> {
     let Ok(conn) = Connection::open_from(rt, path, false, Unknown) else {
         return Err("not opened")?;
@@ -27,7 +27,8 @@ pub(crate) fn create(rt: &HostRuntime, path: &str) -> Result<(), Fail> {
     }
 }
 
-/// The first line of a sheet that the bureau of a file answers otherwise; else nothing.
+/// The first line of a sheet to which the bureau of a file gives another reply; empty if there is
+/// none.
 pub(crate) fn misanswered_at(
     rt: &HostRuntime,
     path: &str,
@@ -39,13 +40,13 @@ pub(crate) fn misanswered_at(
     }
 }
 
-/// A job is handed in and run in part.
+/// A job is submitted and run in part.
 pub(crate) const BEFORE: &str = "\
 taken 6|submit|ACME|9|4000|A|two lines
 ran 34, running|slice|ACME|9|34
 ";
 
-/// It is there, and goes on.
+/// The job is there, and continues.
 pub(crate) const AFTER: &str = "\
 queue ACME/9|queue|
 running, false false 34 0 2|standing|ACME|9|
@@ -67,13 +68,13 @@ fn a_file_is_opened_again(rt: HostRuntime) -> Result<(), Fail> {
     Ok(())
 }
 
-/// A job is handed in.
+/// A job is submitted.
 const HANDED_IN: &str = "taken 6|submit|ACME|9|4000|A|two lines\n";
 
-/// One instruction of it, after which it goes on.
+/// One instruction of the job, after which it is still running.
 const ONE_MORE: &str = "ran 1, running|slice|ACME|9|1\n";
 
-/// The last one, after which it has printed its lines.
+/// Its last instruction, after which it has printed its lines.
 const LAST_ONE: &str = "\
 ran 1, halted, next 361|slice|ACME|9|1
 halted, next 361, false false 35 0 2|standing|ACME|9|

@@ -11,7 +11,7 @@ const TAKEN: &str = "\
 taken 6|submit|ACME|9|4000|A|two lines
 ";
 
-/// The same, and jobs that are handed in wrongly: a customer, a number, contents or a size.
+/// The same job, and submissions with a wrong customer, number, contents or size.
 const HANDED_IN_WRONGLY: &str = "\
 taken 6|submit|ACME|9|4000|A|two lines
 refused 10|submit|acme|9|4000|A|two lines
@@ -37,7 +37,7 @@ fn what_is_handed_in_wrongly_changes_no_row(rt: HostRuntime) -> Result<(), Fail>
     Ok(())
 }
 
-/// Decks without a card, and one with another card.
+/// Decks without a card, and one with a different card.
 const NO_CARDS_AND_OTHER_CARDS: &str = "\
 taken 6|submit|ACME|9|4000|A|two lines
 refused 13|submit|ACME|8|4000|A|no card
@@ -58,7 +58,7 @@ refused 20|slice|ACME|8|2000
 refused 20|slice|ACM|9|1
 ";
 
-/// Commands on jobs that there are not.
+/// Commands on jobs that do not exist.
 const OTHER_COMMANDS: &str = "\
 taken 6|submit|ACME|9|4000|A|two lines
 refused 10|start|acme|0|-
@@ -110,7 +110,7 @@ fn refusals_by_their_numbers(rt: HostRuntime) -> Result<(), Fail> {
     Ok(())
 }
 
-/// Jobs that are handed in after 200 of ACME.
+/// Jobs that are submitted after 200 of ACME.
 const AFTER_TWO_HUNDRED: &str = "\
 refused 15|submit|ACME|201|1400|A|loop
 refused 12|submit|ACME|201|1401|A|loop
@@ -119,8 +119,8 @@ taken 1|submit|ACME|200|1400|A|loop
 taken 1|submit|ABCDEFGHIJKL|999999|1400|A|loop
 ";
 
-/// The first line of a sheet that is answered otherwise after 200 jobs of ACME; else how many jobs
-/// and lines there are after its commands.
+/// The first line of a sheet that gets another reply after 200 jobs of ACME; if there is none, the
+/// number of jobs and of lines after its commands.
 fn outcome_after_two_hundred(alloc: Global, sheet: &'static str) -> Result<String, Fail> {
     let mut bureau = in_memory(alloc)?;
     let mut meter = Meter::new();

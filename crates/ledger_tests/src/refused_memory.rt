@@ -1,6 +1,6 @@
-//! What each call leaves where memory is refused: fault 1 leaves what was there before.
+//! What each call leaves if memory is refused: fault 1 leaves everything as it was before.
 //!
-//! In the gate all memory is there, and each call succeeds. `tools/refuse-memory N` runs these
+//! In the gate no memory is refused, and each call succeeds. `tools/refuse-memory N` runs these
 //! tests with the N-th request for memory refused: then a test may end with the error of its own
 //! preparations, but no assertion may fail.
 
@@ -16,13 +16,13 @@ use std::alloc::Global;
 use std::fs;
 use std::test::Fail;
 
-/// Hands in a job that punches three cards.
+/// Submits a job that punches three cards.
 const SUBMIT: &str = "submit|ACME|9|1400|-|three cards";
 
-/// Runs it to its halt.
+/// Runs the job to its halt.
 const SLICE: &str = "slice|ACME|9|2000";
 
-/// How many jobs there are, how many stretches have instructions granted, and how many cards were
+/// The number of jobs, the number of stretches with instructions granted, and the number of cards
 /// punched, as one number.
 fn contents<S: Alter>(conn: &mut Connection<S>) -> Result<i64, Fail> {
     let jobs: i64 = conn.query_row("SELECT count(*) FROM jobs", &[])?.get(0)?;
@@ -60,7 +60,7 @@ fn with_a_job(alloc: Global) -> Result<Bureau<MemStore>, Fail> {
     }
 }
 
-/// Whether a bureau is made, or no table is.
+/// Whether a bureau is created, or no table is.
 fn is_made_or_not(alloc: Global) -> Result<bool, Fail> {
     match Bureau::create(alloc, Connection::open_in_memory(alloc)?) {
         Ok(bureau) => Ok(contents(&mut bureau.into_connection())? == 0),
@@ -87,7 +87,7 @@ fn create_makes_a_bureau_or_nothing(rt: HostRuntime) -> Result<(), Fail> {
     Ok(())
 }
 
-/// Whether a submission is taken, or not.
+/// Whether a submission is taken, or leaves the tables as they were.
 fn is_taken_or_not(alloc: Global) -> Result<bool, Fail> {
     is_applied_or_not(
         alloc,
@@ -98,7 +98,7 @@ fn is_taken_or_not(alloc: Global) -> Result<bool, Fail> {
     )
 }
 
-/// Whether a slice is run, or not.
+/// Whether a slice is run, or leaves the tables as they were.
 fn is_run_or_not(alloc: Global) -> Result<bool, Fail> {
     is_applied_or_not(
         alloc,
@@ -127,7 +127,8 @@ fn adopt_keeps_the_tables(rt: HostRuntime) -> Result<(), Fail> {
     Ok(())
 }
 
-/// Where the file is not opened for want of memory, it is opened afterwards, and its job goes on.
+/// If the file is not opened because there is no memory, it is opened afterwards, and its job
+/// continues.
 #[test]
 fn open_from_keeps_the_file(rt: HostRuntime) -> Result<(), Fail> {
     let path = "refused_memory.db";

@@ -7,7 +7,7 @@ use std::alloc::Global;
 use std::test::Fail;
 use units::{Line, render};
 
-/// How a job's machine stands, in words.
+/// The standing of a job's machine, in words.
 fn standing_text(alloc: Global, standing: JobStanding) -> Result<String, Fail> {
     match standing {
         JobStanding::Running => Ok(String::from_str(alloc, "running")?),
@@ -16,7 +16,7 @@ fn standing_text(alloc: Global, standing: JobStanding) -> Result<String, Fail> {
     }
 }
 
-/// What is shown of a job, in words: its flags, what was granted, and its cards and lines.
+/// The summary of a job, in words: its flags, what was granted, and its cards and lines.
 fn summary_text(alloc: Global, job: &Summary) -> Result<String, Fail> {
     let standing = standing_text(alloc, job.standing)?;
     let (held, collected, granted) = (job.held, job.collected, job.granted);
@@ -24,7 +24,7 @@ fn summary_text(alloc: Global, job: &Summary) -> Result<String, Fail> {
     Ok(format!(in alloc; "{standing}, {held} {collected} {granted} {cards} {lines}")?)
 }
 
-/// A refusal in words; of a source, with its faults.
+/// A refusal in words; that of a source has its faults.
 fn refusal_text(alloc: Global, reason: &Refusal) -> Result<String, Fail> {
     let mut text = format!(in alloc; "refused {}", reason.number())?;
     if let Refusal::Assembly(faults) = reason {
@@ -36,7 +36,7 @@ fn refusal_text(alloc: Global, reason: &Refusal) -> Result<String, Fail> {
     Ok(text)
 }
 
-/// Cards that were punched: how many, and the first five columns of each.
+/// Punched cards: their number, and the first five columns of each.
 fn cards_text(alloc: Global, cards: &[Card]) -> Result<String, Fail> {
     let mut text = format!(in alloc; "cards {}", cards.len())?;
     for card in cards {
@@ -54,7 +54,7 @@ fn cards_text(alloc: Global, cards: &[Card]) -> Result<String, Fail> {
     Ok(text)
 }
 
-/// Lines that were printed: how many, and the listing, each of its lines ended by a stroke.
+/// Printed lines: their number, and the listing, with a stroke at the end of each line.
 fn lines_text(alloc: Global, lines: &[Line]) -> Result<String, Fail> {
     let mut text = format!(in alloc; "lines {} ", lines.len())?;
     let listing = render(alloc, lines)?;
@@ -65,7 +65,7 @@ fn lines_text(alloc: Global, lines: &[Line]) -> Result<String, Fail> {
     Ok(text)
 }
 
-/// A customer's jobs: the number of each, its flags and how it stands.
+/// A customer's jobs: the number of each, its flags and its standing.
 fn jobs_text(alloc: Global, jobs: &[JobLine]) -> Result<String, Fail> {
     let mut text = String::from_str(alloc, "jobs")?;
     for job in jobs {
@@ -87,7 +87,7 @@ fn queue_text(alloc: Global, queue: &[QueueLine]) -> Result<String, Fail> {
     Ok(text)
 }
 
-/// What the bureau answers, in words.
+/// A reply that is not a fault, in words.
 fn answer_text(alloc: Global, reply: &Reply) -> Result<String, Fail> {
     match reply {
         Reply::Taken { cards } => Ok(format!(in alloc; "taken {cards}")?),
@@ -108,7 +108,7 @@ fn answer_text(alloc: Global, reply: &Reply) -> Result<String, Fail> {
     }
 }
 
-/// A reply in words.
+/// A reply or a fault, in words.
 pub(crate) fn reply_text(alloc: Global, reply: &Result<Reply, Fault>) -> Result<String, Fail> {
     match reply {
         Ok(reply) => answer_text(alloc, reply),

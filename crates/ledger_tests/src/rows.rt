@@ -22,7 +22,7 @@ fn job(alloc: Global) -> Result<JobRow, Fail> {
     })
 }
 
-/// The picture of a machine, its numbers all different.
+/// The picture of a machine, with all its numbers different.
 pub(crate) fn picture(alloc: Global) -> Result<PictureRow, Fail> {
     Ok(PictureRow {
         storage: Vec::from_slice(alloc, &[64, 0])?,
@@ -50,7 +50,7 @@ fn line(alloc: Global) -> Result<LineRow, Fail> {
     })
 }
 
-/// Makes the tables, with a job and its stretch.
+/// Creates the tables, with a job and its stretch.
 fn take_job<S: Alter>(tables: &mut OpenTables<'_, '_, S>, job: &JobRow) -> Result<(), Fault> {
     tables.make()?;
     tables.insert_job(NAME, job)?;
@@ -76,7 +76,7 @@ fn take_again<S: Alter>(tables: &mut OpenTables<'_, '_, S>, job: &JobRow) -> Res
     tables.insert_job(NAME, job)
 }
 
-/// Adds a row to each table, and the job a second time, which is answered with the fault.
+/// Adds a row to each table, and then the job a second time, which returns the fault.
 fn fill<S: Alter>(tables: &mut OpenTables<'_, '_, S>) -> Result<Option<Fault>, Fail> {
     let job = job(tables.alloc)?;
     let picture = picture(tables.alloc)?;
@@ -86,7 +86,7 @@ fn fill<S: Alter>(tables: &mut OpenTables<'_, '_, S>) -> Result<Option<Fault>, F
     Ok(take_again(tables, &job).err())
 }
 
-/// A connection to tables with a row each.
+/// A connection to tables with one row each.
 fn filled(alloc: Global) -> Result<Connection<MemStore>, Fail> {
     let mut conn = Connection::open_in_memory(alloc)?;
     if !conn.is_autocommit() {
@@ -116,7 +116,8 @@ const NUMBERS: &str = "\
 11|SELECT form FROM lines
 ";
 
-/// The first line of a sheet whose query returns another number than it says; else nothing.
+/// The first line of a sheet whose query returns another number than it gives; empty if there is
+/// none.
 fn misanswered(alloc: Global, sheet: &'static str) -> Result<&'static str, Fail> {
     let mut conn = filled(alloc)?;
     for line in sheet.lines() {

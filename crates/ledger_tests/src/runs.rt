@@ -1,9 +1,9 @@
-//! Jobs that are handed in and run.
+//! Jobs that are submitted and run.
 
 use crate::sessions::{outcome, rows_after};
 use std::test::Fail;
 
-/// A job that is granted just less than it needs, then more.
+/// A job that is granted just less than it requires, then more.
 const TO_ITS_HALT: &str = "\
 taken 6|submit|ACME|9|4000|A|two lines
 ran 34, running|slice|ACME|9|34
@@ -11,7 +11,7 @@ ran 1, halted, next 361|slice|ACME|9|2000
 refused 23|slice|ACME|9|1
 ";
 
-/// A job whose program finds no card to read.
+/// A job whose program has no card to read.
 const WITHOUT_DATA: &str = "\
 taken 4|submit|ACME|9|4000|A|no data
 ran 25, ReaderEmpty at 342|slice|ACME|9|2000
@@ -27,7 +27,7 @@ ran 2000, running|slice|ACME|9|2000
 ran 1, running|slice|ACME|9|1
 ";
 
-/// A job whose second instruction has an address outside the storage: it is attempted, and not
+/// A job whose second instruction has an address outside the storage: it is attempted, but not
 /// executed.
 const OUTSIDE: &str = "\
 taken 1|submit|ACME|9|4000|A|outside
@@ -55,7 +55,7 @@ taken 6|submit|ACME|9|4000|A|two lines
 ran 34, running|slice|ACME|9|34
 ";
 
-/// The same, and handed in again.
+/// The same job, submitted again.
 const AGAIN: &str = "\
 taken 6|submit|ACME|9|4000|A|two lines
 ran 34, running|slice|ACME|9|34
@@ -78,7 +78,7 @@ const SEVEN_SWITCHES: &str = "\
 taken 6|submit|ACME|9|4000|127|two lines
 ";
 
-/// The same with the eighth bit on, which is no switch, and handed in again with and without it.
+/// The same job with the eighth bit on, which is not a switch, submitted again with and without it.
 const EIGHT_BITS: &str = "\
 taken 6|submit|ACME|9|4000|255|two lines
 taken 6|submit|ACME|9|4000|127|two lines
@@ -97,8 +97,8 @@ fn the_eighth_bit_is_no_switch(rt: HostRuntime) -> Result<(), Fail> {
     Ok(())
 }
 
-/// A job that is started at its halt, and how it stands in between: what was granted is that of
-/// both stretches.
+/// A job that is started at its halt, with its standing in between: the instructions granted are
+/// those of both stretches.
 const STARTED_AGAIN: &str = "\
 taken 6|submit|ACME|9|4000|A|two lines
 running, false false 0 0 0|standing|ACME|9|
@@ -188,7 +188,7 @@ ran 0, Instruction at 33|slice|ACME|9|1
 Instruction at 33, false false 2001 3 0|standing|ACME|9|
 ";
 
-/// A job of a source runs as the deck of its program does, and is handed in again.
+/// A job of a source, which runs as the deck of its program does, and is submitted again.
 const OF_A_SOURCE: &str = "\
 taken 6|submit source|ACME|9|4000|A|source of two lines
 ran 34, running|slice|ACME|9|34
@@ -200,7 +200,7 @@ lines 2 HELLO/WORLD/|lines|ACME|9|
 taken 6|submit source|ACME|9|4000|A|source of two lines
 ";
 
-/// One job, with each command on it, refused and carried out.
+/// One job, with each command on it, both refused and carried out.
 const EACH_COMMAND: &str = "\
 taken 6|submit|ACME|9|4000|A|two lines
 held|hold|ACME|9|
@@ -244,7 +244,7 @@ taken 6|submit|ACME|9|4000|A|two lines
 ran 35, halted, next 361|slice|ACME|9|2000
 ";
 
-/// The same, and asked about.
+/// The same job, and queries on it.
 const RUN_AND_ASKED: &str = "\
 taken 6|submit|ACME|9|4000|A|two lines
 ran 35, halted, next 361|slice|ACME|9|2000

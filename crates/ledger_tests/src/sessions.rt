@@ -7,7 +7,7 @@ use sqlite::{Alter, Connection, MemStore};
 use std::alloc::Global;
 use std::test::Fail;
 
-/// A bureau without jobs, whose tables are made over a connection.
+/// A bureau without jobs, whose tables are created over a connection.
 pub(crate) fn new_bureau<S: Alter + Drop>(
     alloc: Global,
     conn: Connection<S>,
@@ -18,7 +18,7 @@ pub(crate) fn new_bureau<S: Alter + Drop>(
     }
 }
 
-/// A bureau over the tables that a connection finds.
+/// The bureau over the tables of a connection.
 pub(crate) fn adopted<S: Alter + Drop>(
     alloc: Global,
     conn: Connection<S>,
@@ -39,7 +39,7 @@ pub(crate) fn number<S: Alter>(conn: &mut Connection<S>, sql: &str) -> Result<i6
     Ok(conn.query_row(sql, &[])?.get(0)?)
 }
 
-/// How many jobs and lines a bureau has.
+/// The number of jobs and of lines of a bureau.
 pub(crate) fn counts(alloc: Global, bureau: Bureau<MemStore>) -> Result<String, Fail> {
     let mut conn = bureau.into_connection();
     let jobs = number(&mut conn, "SELECT count(*) FROM jobs")?;
@@ -47,8 +47,8 @@ pub(crate) fn counts(alloc: Global, bureau: Bureau<MemStore>) -> Result<String, 
     Ok(format!(in alloc; "{jobs} jobs, {lines} lines")?)
 }
 
-/// The first line of a sheet that is answered otherwise; else how many ticks the commands take,
-/// and how many jobs and lines there are after them.
+/// The first line of a sheet that gets another reply; if there is none, the number of ticks of its
+/// commands, and the number of jobs and of lines after them.
 pub(crate) fn outcome(alloc: Global, sheet: &'static str) -> Result<String, Fail> {
     let mut bureau = in_memory(alloc)?;
     let mut meter = Meter::new();
@@ -94,8 +94,8 @@ pub(crate) fn rows_of<S: Alter + Drop>(alloc: Global, bureau: Bureau<S>) -> Resu
     rows_in(alloc, &mut conn)
 }
 
-/// Every row of every table after the commands of a sheet, or after those up to the first that is
-/// answered otherwise.
+/// Every row of every table after the commands of a sheet, or after those up to the first that gets
+/// another reply.
 pub(crate) fn rows_after(alloc: Global, sheet: &'static str) -> Result<String, Fail> {
     let mut bureau = in_memory(alloc)?;
     misanswered(alloc, &mut bureau, &mut Meter::new(), sheet)?;

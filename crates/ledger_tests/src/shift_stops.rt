@@ -1,4 +1,5 @@
-//! A shift one of whose disks fails from a call on, each call in turn, and its files opened again.
+//! A shift with one disk that fails from some call on, each call in turn, and its files opened
+//! again.
 
 use crate::commands::command_of;
 use crate::opened_anew::{apply, copy, new_disks, open};
@@ -17,10 +18,10 @@ use std::test::Fail;
 struct Sheet {
     /// Its commands, as lines.
     commands: &'static [&'static str],
-    /// For each command, where it was lost: the job, the reply to the command given again, and the
-    /// job after that.
+    /// For each command, if it was lost: the job, the reply to the command given again, and the job
+    /// after that.
     lost: &'static [&'static str],
-    /// The same where the command was kept.
+    /// The same if the command was kept.
     kept: &'static [&'static str],
     /// The job after all commands.
     end: &'static str,
@@ -65,11 +66,11 @@ const THREE_CARDS: Sheet = Sheet {
     end: "halted, next 33, false false 2000 3 0",
 };
 
-/// Asks for job 9 of ACME.
+/// A query for job 9 of ACME.
 const QUERY: &str = "standing|ACME|9|";
 
-/// After how many stops the command that was not acknowledged was lost, and after how many it was
-/// kept.
+/// The number of stops after which the command that was not acknowledged was lost, and the number
+/// after which it was kept.
 #[derive(Clone, Copy, Debug, Drop)]
 struct Stops {
     lost: u32,
@@ -111,7 +112,7 @@ fn replies<S: Alter>(
     Ok(text)
 }
 
-/// The same, by a bureau over the tables that a connection finds.
+/// The same for a bureau over the tables of a connection.
 fn replies_over<S: Alter + Drop>(
     alloc: Global,
     conn: Connection<S>,
@@ -123,7 +124,7 @@ fn replies_over<S: Alter + Drop>(
     }
 }
 
-/// The replies of the bureau on these disks, which stay as they are.
+/// The replies of the bureau on these disks, which are not changed.
 fn ask(alloc: Global, disks: &Files<Memory>, commands: &[&Command]) -> Result<String, Fail> {
     match open(alloc, disks) {
         Ok(conn) => replies_over(alloc, conn, commands),
@@ -131,13 +132,13 @@ fn ask(alloc: Global, disks: &Files<Memory>, commands: &[&Command]) -> Result<St
     }
 }
 
-/// How many commands of a shift are acknowledged.
+/// The number of commands of a shift that are acknowledged.
 // It has no clause, so that the proof of a test does not carry the state of each call.
 fn work<S: Alter>(alloc: Global, bureau: &mut Bureau<S>, commands: &[Command]) -> usize {
     shift(alloc, bureau, commands, &mut Meter::new()).acknowledged
 }
 
-/// The connection of a bureau after a shift, of which so many commands are acknowledged.
+/// The connection of a bureau after a shift in which this number of commands is acknowledged.
 fn worked<S: Alter + Drop>(
     alloc: Global,
     conn: Connection<S>,
@@ -153,7 +154,7 @@ fn worked<S: Alter + Drop>(
     }
 }
 
-/// The files after a shift over a connection, of which so many commands are acknowledged.
+/// The files after a shift over a connection in which this number of commands is acknowledged.
 fn files_after(
     alloc: Global,
     conn: Connection<FileStore<Fuse<Memory>>>,
@@ -165,8 +166,8 @@ fn files_after(
         .close()
 }
 
-/// The same over copies of disks, after so many calls of which each fails. The log is copied into
-/// the database file often.
+/// The same over copies of disks, which fail after these numbers of calls. The log is often copied
+/// into the database file.
 fn run(
     alloc: Global,
     disks: &Files<Memory>,
@@ -186,7 +187,7 @@ fn run(
     }
 }
 
-/// How many commands are acknowledged, and what is then on the disks.
+/// The number of commands acknowledged, and the disks after them.
 fn run_to_its_end(
     alloc: Global,
     disks: &Files<Memory>,
@@ -200,7 +201,7 @@ fn run_to_its_end(
     Ok((acknowledged, Files { log, db }))
 }
 
-/// What is left where so many commands were acknowledged, and this is replied.
+/// What is left if this number of commands was acknowledged, and these are the replies.
 fn left_by(sheet: &Sheet, acknowledged: usize, replies: &str) -> Result<Left, Fail> {
     if replies == *sheet.lost.get(acknowledged).ok_or("a command")? {
         return Ok(Left::Lost);
@@ -211,8 +212,8 @@ fn left_by(sheet: &Sheet, acknowledged: usize, replies: &str) -> Result<Left, Fa
     Err("another beginning")?
 }
 
-/// What is on the disks of a trial of which so many commands were acknowledged: the job is asked
-/// for, the next command is given again, and the job is asked for.
+/// What is left on the disks of a trial in which this number of commands was acknowledged: a query
+/// for the job, the next command given again, and the query again.
 fn left_on(
     alloc: Global,
     trial: &Trial,
@@ -230,7 +231,7 @@ fn left_on(
     Ok(Left::Ended)
 }
 
-/// What is left after a trial in which so many calls do not fail.
+/// What is left after a trial in which this number of calls does not fail.
 fn left_after(alloc: Global, trial: &Trial, calls: Calls) -> Result<Left, Fail> {
     let (acknowledged, disks) = run_to_its_end(alloc, trial.disks, calls, trial.commands)?;
     left_on(alloc, trial, acknowledged, &disks)

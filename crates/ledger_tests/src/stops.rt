@@ -1,4 +1,4 @@
-//! A bureau one of whose disks fails from a call on, each call in turn, and its files opened
+//! A bureau with one disk that fails from some call on, each call in turn, and its files opened
 //! again.
 
 use crate::commands::command_of;
@@ -13,14 +13,14 @@ use sqlite_disk::{Fuse, Memory};
 use std::alloc::Global;
 use std::test::Fail;
 
-/// How many calls of each disk do not fail.
+/// The number of calls of each disk that do not fail.
 #[derive(Clone, Copy, Debug, Drop)]
 pub(crate) struct Calls {
     pub(crate) log: u64,
     pub(crate) db: u64,
 }
 
-/// None fails.
+/// No call fails.
 pub(crate) const ALL: Calls = Calls {
     log: u64::MAX,
     db: u64::MAX,
@@ -34,7 +34,7 @@ pub(crate) enum Failing {
 }
 
 impl Failing {
-    /// This disk fails after so many calls, the other one never.
+    /// This disk fails after `calls` calls, the other one never.
     pub(crate) fn after(self, calls: u64) -> Calls {
         match self {
             Failing::Log => Calls { log: calls, ..ALL },
@@ -43,7 +43,8 @@ impl Failing {
     }
 }
 
-/// After how many stops the office was the old one, and after how many the next.
+/// The number of stops after which the office was the old one, and the number after which it was
+/// the next.
 #[derive(Clone, Copy, Debug, Drop)]
 struct Stops {
     old: u32,
@@ -53,16 +54,16 @@ struct Stops {
 /// What a run over failing disks leaves.
 #[derive(Clone, Copy, Debug, Drop)]
 enum Left {
-    /// There was no reply, and it is the old office.
+    /// There was no reply, and the office is the old one.
     Old,
-    /// There was no reply, and it is the next office.
+    /// There was no reply, and the office is the next one.
     Next,
-    /// There was a reply, and it is the next office.
+    /// There was a reply, and the office is the next one.
     Replied,
 }
 
-/// A command to the bureau on some disks: the reply to it, the reply where it was carried out
-/// before, and the rows before and after it.
+/// A command to the bureau on some disks: the reply to it, the reply if it was carried out before,
+/// and the rows before and after it.
 #[derive(Drop)]
 struct Trial<'a> {
     disks: &'a Files<Memory>,
@@ -78,7 +79,7 @@ fn office_on(alloc: Global, disks: &Files<Memory>) -> Result<String, Fail> {
     rows_of(alloc, adopted(alloc, open(alloc, disks)?)?)
 }
 
-/// The connection of a bureau after a command, to which there is this reply.
+/// The connection of a bureau after a command that gets this reply.
 fn worked<S: Alter + Drop>(
     alloc: Global,
     conn: Connection<S>,
@@ -94,7 +95,7 @@ fn worked<S: Alter + Drop>(
     }
 }
 
-/// The files after a command to the bureau over a connection, to which there is this reply.
+/// The files after a command to the bureau over a connection that gets this reply.
 fn files_after(
     alloc: Global,
     conn: Connection<FileStore<Fuse<Memory>>>,
@@ -104,8 +105,8 @@ fn files_after(
     worked(alloc, conn, command, reply).into_store().close()
 }
 
-/// The same over copies of disks, after so many calls of which each fails. The log is copied into
-/// the database file often.
+/// The same over copies of disks, which fail after these numbers of calls. The log is often copied
+/// into the database file.
 fn run(
     alloc: Global,
     disks: &Files<Memory>,
@@ -125,7 +126,7 @@ fn run(
     }
 }
 
-/// The reply to a command in words, a fault where there was none, and what is then on the disks.
+/// The reply to a command in words, a fault if there was no reply, and the disks after it.
 fn run_to_its_end(
     alloc: Global,
     disks: &Files<Memory>,
@@ -153,7 +154,7 @@ fn repeat(alloc: Global, trial: &Trial, disks: &Files<Memory>, left: Left) -> Re
     Ok(())
 }
 
-/// What is left where this was the reply and these are the rows.
+/// What is left if this was the reply and these are the rows.
 fn left_by(trial: &Trial, reply: &str, office: &str) -> Result<Left, Fail> {
     if reply == trial.reply && office == trial.next.as_str() {
         return Ok(Left::Replied);
@@ -170,7 +171,7 @@ fn left_by(trial: &Trial, reply: &str, office: &str) -> Result<Left, Fail> {
     Ok(Left::Old)
 }
 
-/// What is left after a trial in which so many calls do not fail.
+/// What is left after a trial in which this number of calls does not fail.
 fn left_after(alloc: Global, trial: &Trial, calls: Calls) -> Result<Left, Fail> {
     let (reply, disks) = run_to_its_end(alloc, trial.disks, calls, trial.command)?;
     let office = office_on(alloc, &disks)?;
@@ -234,7 +235,7 @@ fn stops_of(alloc: Global, sheet: &str, failing: Failing) -> Result<String, Fail
     Ok(format!(in alloc; "{} old, {} next", stops.old, stops.next)?)
 }
 
-/// Commands in turn, each after the reply to it and the reply where it was carried out before.
+/// Commands in turn, each after the reply to it and the reply if it was carried out before.
 const ONE_JOB: &str = "\
 taken 6|taken 6|submit|ACME|9|4000|A|two lines
 held|refused 25|hold|ACME|9|
@@ -246,7 +247,7 @@ ran 0, Instruction at 361|refused 23|slice|ACME|9|10
 collected 0 2|refused 27|collect|ACME|9|
 ";
 
-/// The same on a job that punches three cards.
+/// The same for a job that punches three cards.
 const WITH_CARDS: &str = "\
 taken 1|taken 1|submit|ACME|9|1400|-|three cards
 ran 8, halted, next 33|refused 23|slice|ACME|9|2000

@@ -1,4 +1,4 @@
-//! Which versions of the tables are found.
+//! The versions of the tables that are accepted or refused.
 
 use crate::sessions::in_memory;
 use ledger_tables::OpenTables;
@@ -6,7 +6,7 @@ use sqlite::{Alter, Connection};
 use std::alloc::Global;
 use std::test::Fail;
 
-/// What is found of the version: 0 where it is the bureau's own, else the number of the reason.
+/// The result of looking for the version: 0 if it is this one, else the number of the reason.
 fn found<S: Alter>(alloc: Global, conn: &mut Connection<S>) -> Result<u8, Fail> {
     if !conn.is_autocommit() {
         return Err("in a transaction")?;
@@ -21,13 +21,13 @@ fn found<S: Alter>(alloc: Global, conn: &mut Connection<S>) -> Result<u8, Fail> 
     Ok(number)
 }
 
-/// What is found in an empty database.
+/// The result for an empty database.
 fn found_in_none(alloc: Global) -> Result<u8, Fail> {
     let mut conn = Connection::open_in_memory(alloc)?;
     found(alloc, &mut conn)
 }
 
-/// Statements in turn, each after what is then found.
+/// Statements in turn, each after the result that follows it.
 const STATEMENTS: &str = "\
 0|UPDATE bureau SET version = 1
 50|UPDATE bureau SET version = 2
@@ -39,7 +39,7 @@ const STATEMENTS: &str = "\
 50|DROP TABLE bureau
 ";
 
-/// The first line of a sheet after whose statement something else is found; else nothing.
+/// The first line of a sheet after whose statement the result differs; empty if there is none.
 fn misfound<S: Alter>(
     alloc: Global,
     conn: &mut Connection<S>,

@@ -1,4 +1,4 @@
-//! The columns of a card, as they are filled from the left.
+//! The columns of a card, filled from the left.
 
 ghost use Rattle.std.specs.Prelude.{◌≡◌, ◌+◌, ◌<◌, ◌≤◌, [], ◌∷◌, ◌++◌, length, IsTrue};
 ghost use Rattle.core_store.specs.Storage.{largest_size};
@@ -12,10 +12,10 @@ use bcd::Code;
 use cards::{COLUMNS, Card};
 use std::marker::Model;
 
-/// How many characters an instruction with two addresses has.
+/// The length of an instruction with two addresses.
 pub(crate) const INSTRUCTION_LENGTH: usize = 7;
 
-/// The characters of the columns from the first on, at most 80. What is behind them is blank.
+/// The characters of the first columns, at most 80. The columns after them are blank.
 #[derive(Drop)]
 pub(crate) struct Columns {
     codes: [Code; COLUMNS],
@@ -93,7 +93,7 @@ impl Columns {
         self.punch(&encode(b));
     }
 
-    /// Leaves the columns up to so many blank.
+    /// Leaves the columns up to `column` blank.
     pub(crate) fn skip_to(&mut self, column: usize)
         requires reached { length self.old ≤ column }
         requires within { column ≤ card_columns }
@@ -103,7 +103,7 @@ impl Columns {
         self.count = column;
     }
 
-    /// The card of these columns.
+    /// Returns the card with these columns.
     pub(crate) fn card(self) -> Card
         ensures { result ≡ card_of self }
     {

@@ -16,7 +16,7 @@ ghost use Rattle.loader.specs.Loading.{at_the_start, instructions_to_load, IsBet
 
 use autocoder::faultless_sources_can_be_loaded;
 
-/// The law of stretches: an image is split into longest stretches in one way, and no other.
+/// The law of stretches: there is exactly one way to split an image into longest stretches.
 pub fn stretches_are_longest()
     ensures split { (image : List Cell) → IsSplit image (stretches_of image) }
     ensures no_other { (image : List Cell) (stretches : List (List Cell)) →
@@ -24,7 +24,7 @@ pub fn stretches_are_longest()
 {}
 
 /// The law of loading: the loading cards bring a program into a machine and start it, whatever data
-/// stand behind them (`loads`). It goes by cards: after the boot card's instructions, and after
+/// follow them (`loads`). It is proved card by card: after the boot card's instructions, and after
 /// those of each load card, the machine is ready for the next card, and has filled the positions of
 /// those stretches and no others (`by_cards`).
 #[tactic(auto, using(crate::proofs::Whole::brought, crate::proofs::Whole::by_cards))]
@@ -40,16 +40,17 @@ pub fn cards_load_the_program()
         (after (loaded (loading_cards image start ++ data_cards) size switches) (11 + 5 * k)) }
 {}
 
-/// The law of larger storages: what cards can load into a storage they can load into a larger one.
+/// The law of larger storages: a program that cards can load into a storage can be loaded into a
+/// larger one.
 #[tactic(auto, using(crate::proofs::Whole::wider))]
 pub fn larger_storages_can_be_loaded()
     ensures { (size larger : ℕ) (image : List Cell) (start : ℕ) → size ≤ larger →
         IsLoadable size image start → IsLoadable larger image start }
 {}
 
-/// The law of faultless sources: cards can load the program of a source that has no fault into any
-/// machine of at least the source's size (`loadable`), and its loading cards bring it there and
-/// start it, whatever data stand after them (`loads`).
+/// The law of faultless sources: the program of a source that has no fault can be loaded by cards
+/// into any machine of at least the source's size (`loadable`), and its loading cards bring it
+/// there and start it, whatever data follow them (`loads`).
 pub fn faultless_sources_load()
     ensures loadable { (source : List Card) (size : Size) → IsFaultless source →
         size_for source ≤ positions_of size →

@@ -1,14 +1,13 @@
 //! Loading cards: from a program to a deck that loads itself on a machine with nothing in its
 //! storage.
 //!
-//! A boot card sets the word marks that the cards behind it need. Each further card carries the
-//! longest stretch of the image that it can, and moves it to where it belongs; the last one starts
-//! the program. The layer stands on `autocoder`, whose program it takes, and its contract speaks of
-//! `machine`'s runs. For the layers above: the deck is exactly the list of cards of
-//! `specs/Cards.antt`, whose stretches are the one split of the image into longest ones
-//! (`specs/Stretches.antt`); and run on a machine that is large enough, it leaves the program in a
-//! storage that is blank otherwise, at its start, with the data unread (`specs/Loading.antt`). It
-//! takes memory for the deck alone.
+//! A boot card sets the word marks that the cards after it need. Each further card carries the
+//! longest stretch of the image that it can, and moves it to its place; the last one starts the
+//! program. The crate uses the programs of `autocoder`, and its contract speaks of `machine`'s
+//! runs. For the layers above: the deck is exactly the list of cards of `specs/Cards.antt`, whose
+//! stretches are the one split of the image into longest ones (`specs/Stretches.antt`); and run on
+//! a machine that is large enough, it leaves the program in a storage that is blank otherwise, at
+//! its start, with the data unread (`specs/Loading.antt`). It takes memory for the deck alone.
 #![tactic(auto)]
 
 mod columns;

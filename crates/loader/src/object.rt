@@ -1,4 +1,4 @@
-//! The deck of a program.
+//! The decks that load a program.
 
 ghost use Rattle.std.specs.Prelude.{◌≡◌, ◌<◌, ◌≤◌, ◌++◌, length, map, All, IfOk, OnOk, IsErrOf};
 ghost use Rattle.core_store.specs.Storage.{largest_size};
@@ -45,8 +45,9 @@ fn push_cards(deck: &mut Deck, cards: &[Card]) -> Result<(), DeckFault>
     Ok(())
 }
 
-/// The deck that loads a program and starts it: a boot card, a card for each stretch of its image,
-/// and a last one. It has 2,000 cards at most.
+/// Returns the deck that loads a program and starts it: a boot card, a card for each stretch of its
+/// image, and a last one. Fails with `TooManyCards` if there would be over 2,000, or if there is no
+/// memory.
 #[tactic(auto, unfolding(crate::specs::Cards::loading_cards), using(crate::proofs::Whole::deck_loads))]
 pub fn object_deck(alloc: Global, program: &Program) -> Result<Deck, DeckFault>
     ensures deck { IfOk result (λ deck. deck ≡ loading_cards program.now.image program.now.start) }
@@ -61,7 +62,8 @@ pub fn object_deck(alloc: Global, program: &Program) -> Result<Deck, DeckFault>
     Ok(deck)
 }
 
-/// The deck that runs a program over data cards: its loading cards and the data behind them.
+/// Returns the deck that runs a program on data cards: its loading cards, then the data. Fails with
+/// `TooManyCards` if there would be over 2,000, or if there is no memory.
 pub fn deck_to_run(alloc: Global, program: &Program, data: &[Card]) -> Result<Deck, DeckFault>
     ensures deck { IfOk result (λ deck.
         deck ≡ loading_cards program.now.image program.now.start ++ «data».now) }
@@ -82,9 +84,9 @@ fn data_of<'a>(deck: &'a Deck, program: &Program) -> &'a [Card]
     &deck.cards()[program.last() as usize..]
 }
 
-/// The deck that runs the program of a deck's source over the deck's data: the cards that load the
-/// program, and the data after them. Where they are over 2,000 it answers `TooManyCards`; memory
-/// may be wanted for any.
+/// Returns the deck that runs the program of a deck's source on the deck's data: the cards that
+/// load the program, then the data. Fails with `TooManyCards` if there would be over 2,000, or if
+/// there is no memory.
 #[tactic(auto, unfolding(crate::specs::Decks::runnable_deck))]
 pub fn runnable_deck(alloc: Global, deck: &Deck, program: &Program) -> Result<Deck, DeckFault>
     requires program { IsProgramOf (source_of deck.now) program.now }

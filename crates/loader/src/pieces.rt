@@ -12,17 +12,17 @@ use crate::stretches::MOST_CHARACTERS;
 use autocoder_layout::Cell;
 use cards::Card;
 
-/// What the boot card holds: it sets the marks that the cards behind it need, and reads the first
-/// of them.
+/// The columns of the boot card: it sets the marks that the cards after it need, and reads the
+/// first of them.
 const BOOT: &[u8] = b",008015,022029,036040,047054,061068,072)008015)022029)036036N0000001040";
 
-/// Reads the next card, and goes on at its move.
+/// Reads the next card, and continues at the instruction that moves its characters.
 const READING: &[u8] = b"1040";
 
-/// The last position that the last card clears.
+/// The last position that the last card clears: 080, the end of the read area.
 const LAST_CLEARED: u16 = 80;
 
-/// The card that a machine without a program can begin with.
+/// The card with which a machine without a program can begin.
 #[tactic(auto, unfolding(crate::specs::Cards::boot_card))]
 pub(crate) fn boot_card() -> Card
     ensures { result ≡ boot_card }
@@ -43,7 +43,7 @@ fn punch_characters(columns: &mut Columns, stretch: &[Cell])
     }
 }
 
-/// Moves the characters of a stretch to where they belong, and marks the first of them.
+/// Moves the characters of a stretch to their place, and marks the first of them.
 #[tactic(auto, unfolding(crate::specs::Cards::last_position))]
 fn punch_move(columns: &mut Columns, stretch: &[Cell])
     requires some { 0 < length stretch.now }

@@ -11,13 +11,13 @@ use crate::columns::{Columns, INSTRUCTION_LENGTH};
 use crate::stretches::behind_first;
 use autocoder_layout::Cell;
 
-/// How many places for them a card has.
+/// The number of places that a card has for such instructions.
 const PLACES: usize = 3;
 
-/// What stands in a place that is not used.
+/// The instruction in a place that is not used.
 const UNUSED: &[u8] = b"N000000";
 
-/// Where the first marked one stands among some positions.
+/// The index of the first marked position in a list.
 fn first_marked(cells: &[Cell]) -> Option<usize>
     ensures index { result ≡ position (λ c. c.marked) cells.now }
     ensures within { IfSome result (λ index. index < length cells.now) }
@@ -25,7 +25,7 @@ fn first_marked(cells: &[Cell]) -> Option<usize>
     cells.iter().position(|cell| cell.marked)
 }
 
-/// The first marked position of some, and those behind it.
+/// The first marked position of a list, and the positions after it.
 fn next_mark(cells: &[Cell]) -> Option<(u16, &[Cell])>
     requires { All (λ c. c.position < largest_size) cells.now }
     ensures mark { MatchOption result (marks_of cells.now ≡ [])
@@ -41,7 +41,8 @@ fn next_mark(cells: &[Cell]) -> Option<(u16, &[Cell])>
     Some((cells[index].position as u16, behind))
 }
 
-/// The first two marked positions of some, a single last one twice, and those behind them.
+/// The first two marked positions of a list, and the positions after them. If only one is left, it
+/// is returned twice.
 fn next_pair(cells: &[Cell]) -> Option<(u16, u16, &[Cell])>
     requires { All (λ c. c.position < largest_size) cells.now }
     ensures pair { MatchOption result (marks_of cells.now ≡ [])
@@ -61,7 +62,7 @@ fn next_pair(cells: &[Cell]) -> Option<(u16, u16, &[Cell])>
     Some((first, second, rest))
 }
 
-/// Clears the mark of a first position that has none, and tells how many places that takes.
+/// Clears the mark of a first position that has none. Returns the number of places that this takes.
 fn punch_clearing(columns: &mut Columns, stretch: &[Cell]) -> usize
     requires below { All (λ c. c.position < largest_size) stretch.now }
     requires room { length columns.old + INSTRUCTION_LENGTH ≤ card_columns }
@@ -81,7 +82,8 @@ fn punch_clearing(columns: &mut Columns, stretch: &[Cell]) -> usize
     1
 }
 
-/// Sets the marks of some positions, two in each place, and tells how many places that takes.
+/// Sets the marks of some positions, two in each place. Returns the number of places that this
+/// takes.
 fn punch_marking(columns: &mut Columns, cells: &[Cell]) -> usize
     requires below { All (λ c. c.position < largest_size) cells.now }
     requires room { length columns.old + INSTRUCTION_LENGTH * length (marking (marks_of cells.now))
@@ -101,7 +103,7 @@ fn punch_marking(columns: &mut Columns, cells: &[Cell]) -> usize
     count
 }
 
-/// Fills the places behind so many with what stands in an unused one.
+/// Fills the places after the first `used` with the unused instruction.
 fn punch_unused(columns: &mut Columns, used: usize)
     requires used { used ≤ PLACES }
     requires room { length columns.old + INSTRUCTION_LENGTH * (PLACES - used) ≤ card_columns }

@@ -5,17 +5,18 @@ ghost use Rattle.loader.specs.Stretches.{is_contiguous, mark_limit, is_lawful, s
 
 use autocoder_layout::Cell;
 
-/// How many characters a card carries at most.
+/// The greatest number of characters that a card carries.
 pub const MOST_CHARACTERS: usize = 39;
 
-/// How many marks behind its first position a card sets at most, where that position is marked.
+/// The greatest number of marks after the first position that a card sets, if that position is
+/// marked.
 pub const MOST_MARKS: usize = 6;
 
-/// How many marks behind its first position a card sets at most, where that position is unmarked:
-/// one place goes to clearing its mark.
+/// The greatest number of marks after the first position that a card sets, if that position is
+/// unmarked: one place is needed to clear its mark.
 pub const MOST_MARKS_UNMARKED: usize = 4;
 
-/// Whether a position is the next after another.
+/// Whether a position is the one after another.
 fn is_next(after: &Cell, before: &Cell) -> bool
     ensures { result ≡ (after.now.position == before.now.position + 1) }
 {
@@ -25,7 +26,7 @@ fn is_next(after: &Cell, before: &Cell) -> bool
     }
 }
 
-/// Whether each position is the next after the one before it.
+/// Whether each position is the one after the position before it.
 fn is_contiguous(cells: &[Cell]) -> bool
     ensures { result ≡ is_contiguous cells.now }
 {
@@ -37,7 +38,7 @@ fn is_contiguous(cells: &[Cell]) -> bool
     true
 }
 
-/// The positions behind the first.
+/// The positions after the first.
 pub(crate) fn behind_first(cells: &[Cell]) -> &[Cell]
     ensures { result.now ≡ drop 1 cells.now }
 {
@@ -47,14 +48,14 @@ pub(crate) fn behind_first(cells: &[Cell]) -> &[Cell]
     }
 }
 
-/// How many positions are marked.
+/// The number of marked positions.
 fn count_marks(cells: &[Cell]) -> usize
     ensures { result ≡ count_by (λ c. c.marked) cells.now }
 {
     cells.iter().filter(|cell| cell.marked).count()
 }
 
-/// How many marks behind the first position a card has places for.
+/// The number of marks after the first position for which a card has places.
 fn mark_limit(cells: &[Cell]) -> usize
     ensures { result ≡ mark_limit cells.now }
 {
@@ -79,7 +80,7 @@ fn is_lawful(cells: &[Cell]) -> bool
         && (cells.len() <= MOST_CHARACTERS && count_marks(behind_first(cells)) <= mark_limit(cells))
 }
 
-/// How many of these positions, from the first on, one card carries: the most that it can.
+/// The number of these positions, from the first on, that one card carries: as many as it can.
 pub(crate) fn longest(cells: &[Cell]) -> usize
     requires { 0 < length cells.now }
     ensures some { 0 < result }

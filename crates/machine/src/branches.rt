@@ -1,4 +1,4 @@
-//! What branches ask: a condition of the machine, or something of a position.
+//! The tests that branches make: of a condition of the machine, or of a position.
 
 ghost use Rattle.std.specs.Prelude.{◌≡◌, ◌<◌, ◌==◌, length};
 ghost use Rattle.bcd.specs.Table.{zone_number};
@@ -9,10 +9,10 @@ use bitflags::Flags;
 use core_store::{Compared, Core, Registers};
 use units::{Switches, Units};
 
-/// What a branch of five characters asks, by its last character.
+/// What a branch of five characters tests, named by its last character.
 #[derive(Clone, Copy)]
 pub enum Condition {
-    /// Blank: nothing.
+    /// Blank: no test, always met.
     Always,
     /// `/`: the comparison was not equal.
     IsUnequal,
@@ -32,14 +32,14 @@ pub enum Condition {
     Channel12,
 }
 
-/// What a branch on word mark or zone asks of a position, by its last character.
+/// What a branch on word mark or zone tests at a position, named by its last character.
 #[derive(Clone, Copy)]
 pub enum PositionTest {
-    /// `1`: a word mark.
+    /// `1`: has a word mark.
     HasMark,
-    /// `2`, `B`, `K`, `S`: a character without zone, or with the zone AB, B or A.
+    /// `2`, `B`, `K`, `S`: has no zone, or the zone AB, B or A.
     HasZone(Zone),
-    /// `3`, `C`, `L`, `T`: the same zones, or a word mark.
+    /// `3`, `C`, `L`, `T`: has this zone, or a word mark.
     HasZoneOrMark(Zone),
 }
 
@@ -69,7 +69,7 @@ impl Condition {
         }
     }
 
-    /// Whether it is met.
+    /// Whether the condition is met.
     #[tactic(auto, unfolding(crate::specs::Branches::is_met))]
     pub fn is_met(self, registers: &Registers, units: &Units) -> bool
         ensures { result ≡ is_met self registers.now units.now }
@@ -87,7 +87,7 @@ impl Condition {
         }
     }
 
-    /// The registers once it was looked at.
+    /// The registers after the test: the test of overflow turns its indicator off.
     pub fn once_tested(self, registers: Registers) -> Registers
         ensures { result ≡ once_tested self registers }
     {
@@ -130,7 +130,7 @@ impl PositionTest {
         }
     }
 
-    /// Whether a position passes it.
+    /// Whether a position passes the test.
     #[tactic(auto, unfolding(crate::specs::Branches::passes))]
     pub fn passes<C: Core>(self, core: &C, position: u16) -> bool
         requires { position < length (C.cells core.now) }

@@ -14,7 +14,7 @@ use core_store::{Check, Core, LARGEST_SIZE, Registers};
 use std::alloc::AllocError;
 use units::{Fault, Units};
 
-/// The position after an instruction, modulo 16000.
+/// The position after an instruction of `count` characters, modulo 16000.
 fn next_of(i: u16, count: u16) -> u16
     requires { i + count ≤ largest_size }
     ensures { result ≡ next_of i count }
@@ -23,7 +23,7 @@ fn next_of(i: u16, count: u16) -> u16
     if next == LARGEST_SIZE { 0 } else { next }
 }
 
-/// Reads the instruction at register I and does it.
+/// Reads the instruction at register I and executes it.
 #[tactic(auto, unfolding(crate::specs::Effect::attempt, crate::specs::Word::word))]
 fn attempt<C: Core>(
     core: &mut C,
@@ -58,7 +58,7 @@ fn attempt<C: Core>(
     execute(core, registers, units, decoded, next_of(i, count))
 }
 
-/// How a machine stands after an instruction.
+/// The standing after an instruction.
 fn standing_after(course: Course) -> Standing
     ensures { result ≡ standing_after course }
 {
@@ -69,7 +69,7 @@ fn standing_after(course: Course) -> Standing
 }
 
 impl Standing {
-    /// What a step tells of it.
+    /// The event that a step returns for this standing.
     pub fn event(self) -> Event
         ensures { result ≡ event_of self }
     {
@@ -80,7 +80,7 @@ impl Standing {
         }
     }
 
-    /// Whether the machine goes on.
+    /// Whether the machine is running.
     pub fn is_running(self) -> bool
         ensures { result ≡ is_running self }
     {
@@ -96,15 +96,15 @@ impl Standing {
 }
 
 impl<C: Core> Parts<C> {
-    /// Whether the machine goes on.
+    /// Whether the machine is running.
     pub(crate) fn is_running(&self) -> bool
         ensures { result ≡ is_running self.now.standing }
     {
         self.standing.is_running()
     }
 
-    /// One step. Only an instruction that punches or prints may fail for memory, and then nothing
-    /// changes.
+    /// Does one step. Only an instruction that punches or prints may fail, if there is no memory;
+    /// then nothing is changed.
     pub(crate) fn step(&mut self, meter: &mut Meter) -> Result<(), AllocError>
         ensures step { OnOk result (self.new ≡ step self.old) }
         ensures unchanged { OnErr result (self.new ≡ self.old) }

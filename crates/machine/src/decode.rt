@@ -1,4 +1,4 @@
-//! Reading an instruction.
+//! Decoding an instruction.
 
 ghost use Rattle.std.specs.Prelude.{◌≡◌, ◌↔◌, ◌+◌, ◌-◌, ◌<◌, ◌≤◌, ℕ, length, slice_index, unwrap_or, true, Some, IfSome, IfOk};
 ghost use Rattle.core_store.specs.Storage.{Storage, codes_from, least_mark, largest_size};
@@ -10,7 +10,7 @@ use bcd::Code;
 use core_store::{Check, Core, Registers};
 use units::{CarriageOrder, Devices};
 
-/// What an instruction does at the fields of its two addresses, by its first character.
+/// An operation on the fields at the two addresses, named by its first character.
 #[derive(Clone, Copy)]
 pub enum FieldOperation {
     /// `A`: add.
@@ -43,14 +43,14 @@ pub enum FieldOperation {
     ClearMark,
 }
 
-/// What an instruction does, by its first character.
+/// An operation, named by its first character.
 #[derive(Clone, Copy)]
 pub enum Operation {
-    /// Something at the fields of its two addresses.
+    /// An operation on the fields at the two addresses.
     OnFields(FieldOperation),
     /// `/`: clear storage, and branch.
     ClearStorage,
-    /// `B`: branch, on a condition or where a character stands at a position.
+    /// `B`: branch, on a condition or on a character at a position.
     Branch,
     /// `V`: branch on word mark or zone.
     BranchOnMarkOrZone,
@@ -68,21 +68,21 @@ pub enum Operation {
     NoOperation,
 }
 
-/// Where an instruction stands: so many characters from a position on.
+/// The characters of an instruction: `count` of them from a position on.
 #[derive(Clone, Copy)]
 pub struct Word {
     pub first: u16,
     pub length: u16,
 }
 
-/// What the last character of an instruction says.
+/// What the last character of an instruction means.
 #[derive(Clone, Copy)]
 pub enum Modifier {
-    /// Nothing: it is the operation itself or belongs to an address.
+    /// Nothing: it is the operation itself or part of an address.
     Plain,
-    /// The condition of a branch of five.
+    /// The condition of a branch of five characters.
     OnCondition(Condition),
-    /// The character that a branch of eight looks for at its second address.
+    /// The character that a branch of eight compares with the one at its second address.
     OnCharacter(Code),
     /// The test that a branch on word mark or zone makes at its second address.
     OnTest(PositionTest),
@@ -90,11 +90,12 @@ pub enum Modifier {
     ByOrder(CarriageOrder),
 }
 
-/// An instruction that was read: where it works, with the registers where no address stands.
+/// A decoded instruction. Without an address in the instruction, the registers are used as they
+/// are.
 #[derive(Clone, Copy)]
 pub struct Decoded {
     pub operation: Operation,
-    /// How many characters it has.
+    /// The number of characters of the instruction.
     pub length: u16,
     pub a: u16,
     pub b: u16,
@@ -165,7 +166,7 @@ fn operation_of(code: Code) -> Option<Operation>
 }
 
 impl FieldOperation {
-    /// Whether there is a form of so many characters.
+    /// Whether the operation has a form of `count` characters.
     #[inline(always)]
     #[tactic(auto, unfolding(crate::specs::Word::has_field_form))]
     fn has_form(self, count: u16) -> bool
@@ -184,7 +185,7 @@ impl FieldOperation {
 }
 
 impl Operation {
-    /// Whether there is a form of so many characters.
+    /// Whether the operation has a form of `count` characters.
     #[inline(always)]
     #[tactic(auto, unfolding(crate::specs::Word::has_form))]
     fn has_form(self, count: u16) -> bool
@@ -204,7 +205,7 @@ impl Operation {
         }
     }
 
-    /// What the last character of a form says, or nothing where the form lists none such.
+    /// What the last character of a form means; `None` if the form does not allow it.
     #[inline(always)]
     #[tactic(auto, unfolding(crate::specs::Word::modifier_of, crate::specs::Word::addresses_in, crate::specs::Word::has_form))]
     fn modifier(self, count: u16, last: Code) -> Option<Modifier>
@@ -223,7 +224,7 @@ impl Operation {
         }
     }
 
-    /// How many addresses of a form are read.
+    /// The number of addresses that a form reads.
     #[inline(always)]
     #[tactic(auto, unfolding(crate::specs::Word::addresses_in))]
     fn addresses_in(self, count: u16) -> u16
@@ -240,7 +241,7 @@ impl Operation {
     }
 }
 
-/// The next mark within eight positions, or the eighth.
+/// The next mark within eight positions, or else the eighth position.
 #[inline(always)]
 fn next_mark<C: Core>(core: &C, i: u16) -> u16
     requires within { i < length (C.cells core.now) }
@@ -254,7 +255,7 @@ fn next_mark<C: Core>(core: &C, i: u16) -> u16
     }
 }
 
-/// How many characters the instruction at a position has, if it begins and ends there.
+/// The number of characters of the instruction at a position, if one begins and ends there.
 #[inline(always)]
 #[tactic(auto, unfolding(crate::specs::Word::word_length))]
 pub fn word_length<C: Core>(core: &C, i: u16) -> Option<u16>
@@ -282,7 +283,7 @@ pub fn word_length<C: Core>(core: &C, i: u16) -> Option<u16>
     }
 }
 
-/// A character of an instruction, by its place from 0.
+/// A character of an instruction, by its index from 0.
 #[inline(always)]
 fn character<C: Core>(core: &C, word: Word, place: u16) -> Code
     requires within { word.first + word.length ≤ length (C.cells core.now) }
@@ -294,7 +295,7 @@ fn character<C: Core>(core: &C, word: Word, place: u16) -> Code
     core.get(word.first + place)
 }
 
-/// The position that the address from a place of an instruction on stands for.
+/// The position of the operand whose address begins at an index of an instruction.
 #[inline(always)]
 fn operand_at<C: Core>(core: &C, word: Word, place: u16) -> Result<u16, Check>
     requires within { word.first + word.length ≤ length (C.cells core.now) }
@@ -314,7 +315,7 @@ fn operand_at<C: Core>(core: &C, word: Word, place: u16) -> Result<u16, Check>
     )
 }
 
-/// Where an instruction of so many addresses works.
+/// The operands of an instruction with this number of addresses.
 #[inline(always)]
 #[tactic(auto, unfolding(crate::specs::Word::operands_of))]
 fn operands_of<C: Core>(
@@ -344,7 +345,8 @@ fn operands_of<C: Core>(
     Ok((first, second))
 }
 
-/// Reads the instruction of so many characters at a position.
+/// Decodes the instruction in `word`. Check INSTRUCTION if its operation, length or last character
+/// is not the machine's; check ADDRESS if an address cannot be read or is outside the storage.
 #[inline(always)]
 #[tactic(auto, unfolding(crate::specs::Word::decoded_of))]
 pub fn decode<C: Core>(core: &C, registers: &Registers, word: Word) -> Result<Decoded, Check>
@@ -378,9 +380,9 @@ pub fn decode<C: Core>(core: &C, registers: &Registers, word: Word) -> Result<De
     })
 }
 
-/// The law of instructions: one that begins at a position goes up to before the first mark among
-/// the eight positions after it. One of a comma has seven characters at most, and needs no mark
-/// after the seventh.
+/// The law of instructions: an instruction that begins at a position ends before the first mark
+/// among the eight positions after it. One that begins with a comma has at most seven characters,
+/// and needs no mark after the seventh.
 pub fn instructions_end_at_marks()
     ensures { (s : Storage) (i count : ℕ) →
         (word_length s i ≡ Some count) ↔ IsInstruction s i count }

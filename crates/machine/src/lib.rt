@@ -1,10 +1,10 @@
 //! The machine: an IBM 1401 with a card reader, a card punch and a printer.
 //!
-//! A machine works on storage, registers and units. `specs/Effect.antt` says what an instruction
-//! does to them, `specs/Run.antt` what steps and whole runs are. The contract that the layers
-//! above use: `run(n)` is n steps, and the meter rises by the instructions that were attempted.
-//! All of it is generic over `Core`. Memory is taken by `load` and `from_parts`, and by an
-//! instruction that punches or prints.
+//! A machine works on storage, registers and units. `specs/Effect.antt` defines what an instruction
+//! does to them, `specs/Run.antt` defines steps and whole runs. The contract for the layers above:
+//! `run(n)` is n steps, and the meter rises by the number of instructions attempted. Everything is
+//! generic over `Core`. Memory is taken by `load` and `from_parts`, and by an instruction that
+//! punches or prints.
 #![tactic(auto)]
 
 mod branches;

@@ -5,7 +5,7 @@ ghost use Rattle.machine.specs.Run.{risen};
 
 use std::marker::Model;
 
-/// A 64-bit count that stays at its greatest value.
+/// A 64-bit count of attempted instructions that stays at its greatest value.
 #[derive(Drop)]
 pub struct Meter {
     ticks: u64,
@@ -20,14 +20,14 @@ impl Model for Meter {
 }
 
 impl Meter {
-    /// A meter at 0.
+    /// Returns a meter at 0.
     pub fn new() -> Self
         ensures { result ≡ 0 }
     {
         Meter { ticks: 0 }
     }
 
-    /// How many instructions were attempted.
+    /// The number of attempted instructions.
     pub fn ticks(&self) -> u64
         ensures { result ≡ self.now }
     {
@@ -35,7 +35,7 @@ impl Meter {
         *ticks
     }
 
-    /// One more instruction.
+    /// Counts one more instruction.
     pub(crate) fn tick(&mut self)
         ensures { self.new ≡ risen self.old 1 }
     {

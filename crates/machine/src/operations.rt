@@ -36,7 +36,7 @@ fn branched(decoded: Decoded, next: u16, registers: Registers) -> Registers
     }
 }
 
-/// The registers at the next instruction.
+/// The registers before the next instruction.
 fn at(next: u16, registers: Registers) -> Registers
     ensures { result ≡ at next registers }
 {
@@ -46,7 +46,7 @@ fn at(next: u16, registers: Registers) -> Registers
     }
 }
 
-/// The registers after a unit's instruction, which branches where an address stands in it.
+/// The registers after an instruction of the units, which branches if it has an address.
 fn after_unit(decoded: Decoded, next: u16, registers: Registers) -> Registers
     ensures { result ≡ after_unit decoded next registers }
 {
@@ -57,7 +57,7 @@ fn after_unit(decoded: Decoded, next: u16, registers: Registers) -> Registers
     }
 }
 
-/// The registers after a halt, which goes on at its own address where one stands in it.
+/// The registers after a halt, which goes on at its own address if it has one.
 fn after_halt(decoded: Decoded, next: u16, registers: Registers) -> Registers
     ensures { result ≡ after_halt decoded next registers }
 {
@@ -72,7 +72,7 @@ fn after_halt(decoded: Decoded, next: u16, registers: Registers) -> Registers
     }
 }
 
-/// The registers after clearing storage, which branches where two addresses stand in it.
+/// The registers after clearing storage, which branches if the instruction has two addresses.
 fn after_clear(decoded: Decoded, next: u16, registers: Registers) -> Registers
     ensures { result ≡ after_clear decoded next registers }
 {
@@ -103,7 +103,7 @@ fn is_taken<C: Core>(
     }
 }
 
-/// The registers once a branch has looked whether it is taken.
+/// The registers after a branch has tested whether it is taken.
 fn looked_at(modifier: Modifier, registers: Registers) -> Registers
     ensures { result ≡ looked_at modifier registers }
 {
@@ -113,7 +113,7 @@ fn looked_at(modifier: Modifier, registers: Registers) -> Registers
     }
 }
 
-/// The register B after a branch that is not taken.
+/// Register B after a branch that is not taken.
 fn passed(modifier: Modifier, b: u16, old: u16) -> u16
     requires { LooksInside modifier b largest_size }
     ensures { result ≡ passed modifier b old }
@@ -158,7 +158,7 @@ fn after_branch<C: Core>(
     }
 }
 
-/// Does an operation on fields at the registers A and B.
+/// Does an operation on the fields at registers A and B.
 #[inline(always)]
 #[tactic(auto, unfolding(crate::specs::Effect::worked))]
 fn work<C: Core>(
@@ -203,7 +203,7 @@ fn give_order(printer: &mut Printer, modifier: Modifier) -> Result<(), Check>
     }
 }
 
-/// Does an operation on fields at the addresses of its instruction.
+/// Does an operation on the fields at the addresses of its instruction.
 #[inline(always)]
 #[tactic(auto, unfolding(crate::specs::Effect::effect))]
 fn work_on_fields<C: Core>(
@@ -320,7 +320,8 @@ fn store_b<C: Core>(
     Ok(Course::GoesOn)
 }
 
-/// Does one operation, `next` being the position after its instruction.
+/// Executes one operation. `next` is the position after its instruction. Fails with the first check
+/// that applies, or if there is no memory for a card or a line.
 #[tactic(auto, unfolding(crate::specs::Effect::effect))]
 pub fn execute<C: Core>(
     core: &mut C,

@@ -1,33 +1,33 @@
-//! What a machine consists of.
+//! The parts of a machine.
 
 use core_store::{Check, Core, Registers};
 use std::marker::Model;
 use units::Units;
 
-/// How a machine stands.
+/// Whether a machine is running, is at a halt, or is at a check.
 #[derive(Clone, Copy, Debug, PartialEq, Eq)]
 pub enum Standing {
-    /// It goes on with the instruction at register I.
+    /// It continues with the instruction at register I.
     Running,
-    /// It came to a halt, from which the operator may start it again.
+    /// It is at a halt, from which the operator may start it again.
     Halted,
-    /// It was stopped by the instruction at register I, for good.
+    /// The instruction at register I stopped it for good.
     Checked(Check),
 }
 
-/// What a step tells of where the machine then stands.
+/// What a step returns: the standing after it.
 #[derive(Clone, Copy, Debug, PartialEq, Eq)]
 pub enum Event {
     /// It is running.
     Next,
-    /// It stands at a halt.
+    /// It is at a halt.
     Halt,
-    /// It stands at a check.
+    /// It is at a check.
     Stop(Check),
 }
 
-/// The picture of a machine: storage, registers, units and standing. Between two calls it is all
-/// that there is to know of it.
+/// The picture of a machine: storage, registers, units and standing. Between two calls the picture
+/// is the whole state.
 #[derive(Drop)]
 pub struct Parts<C: Core> {
     pub core: C,

@@ -1,6 +1,7 @@
-//! What a machine's picture may hold, and the test of it.
+//! The range of a machine's picture, and the test of it.
 //!
-//! Every machine's picture is in range, and every picture in range is some machine's.
+//! The picture of every machine is in range, and every picture in range is the picture of some
+//! machine.
 
 ghost use Rattle.std.specs.Prelude.{◌↔◌, IsTrue};
 ghost use Rattle.machine.specs.Ranges.{IsInRange, AreAddresses, HasSize};
@@ -16,14 +17,14 @@ fn are_addresses(registers: &Registers) -> bool
 }
 
 impl<C: Core> Parts<C> {
-    /// Whether the storage has the positions of one of the sizes.
+    /// Whether the storage has one of the sizes.
     fn has_size(&self) -> bool
         ensures { IsTrue result ↔ HasSize self.now.works.storage }
     {
         Size::of_positions(self.core.size()).is_some()
     }
 
-    /// Whether this picture is one that a machine may have.
+    /// Whether this picture is in range.
     pub fn is_in_range(&self) -> bool
         ensures { IsTrue result ↔ IsInRange self.now }
     {

@@ -22,12 +22,12 @@ use units::{Carriage, Hopper, Printer, Punch, Switches, Units, put_card};
 /// How a run ended.
 #[derive(Clone, Copy, Debug, PartialEq, Eq)]
 pub struct Ran {
-    /// How many instructions were done; one that ended in a check is not counted.
+    /// The number of executed instructions. One that ended in a check is not counted.
     pub executed: u32,
     pub standing: Standing,
 }
 
-/// What a run goes back to, beside the storage, where memory is wanted in its middle.
+/// The state that a run returns to, beside the storage, if memory runs out during it.
 #[derive(Clone, Copy)]
 struct Checkpoint {
     registers: Registers,
@@ -38,7 +38,7 @@ struct Checkpoint {
     standing: Standing,
 }
 
-/// A machine, with the second storage that a run goes back to.
+/// A machine, with the second storage that a run returns to if memory runs out.
 #[derive(Drop)]
 pub struct Machine<C: Core> {
     parts: Parts<C>,
@@ -58,7 +58,7 @@ impl<C: Core> Model for Machine<C> {
         × (length m.parts.works.storage ≡ length (C.cells m.spare)) };
 }
 
-/// The registers after the load button: the first instruction stands at 001.
+/// The registers after the load button: the first instruction is at 001.
 fn first_registers() -> Registers
     ensures { result ≡ record { i = 1; a = 0; b = 0; compare = Compared.Equal; overflow = false } }
 {
@@ -83,7 +83,7 @@ fn loaded_core<C: Core>(alloc: Global, deck: &Deck, size: Size) -> Result<C, All
     Ok(core)
 }
 
-/// Units that have read the first card of a deck and have made nothing.
+/// Units that have read the first card of a deck and made nothing.
 fn first_units(alloc: Global, deck: Deck, switches: Switches) -> Units
     requires { 0 < length deck }
     ensures { result ≡ first_units deck switches }
@@ -102,8 +102,8 @@ fn first_units(alloc: Global, deck: Deck, switches: Switches) -> Units
 }
 
 impl<C: Core> Machine<C> {
-    /// A machine after the load button, with a deck in its reader and the switches set. Memory is
-    /// taken for its two storages.
+    /// Returns the machine after the load button is pressed, with a deck in its reader and the
+    /// switches set. Memory is taken for its two storages; fails only if there is none.
     pub fn load(
         alloc: Global,
         deck: Deck,
@@ -124,9 +124,9 @@ impl<C: Core> Machine<C> {
         Ok(Machine { parts, spare })
     }
 
-    /// A machine with this picture, or none if no machine has it. What `parts` shows is in range,
-    /// so from it the very machine is made that showed it. Memory is taken for the second storage
-    /// alone, and so only for a picture in range.
+    /// Returns the machine with this picture, or `None` if the picture is not in range. The result
+    /// of `parts` is in range, so the same machine can be made from it again. Memory is taken for
+    /// the second storage alone, and only for a picture in range.
     pub fn from_parts(alloc: Global, parts: Parts<C>) -> Result<Option<Machine<C>>, AllocError>
         ensures machine { IfOk result (λ made. IfSome made (λ machine. machine ≡ parts)) }
         ensures in_range { IfOk result (λ made.
@@ -152,7 +152,7 @@ impl<C: Core> Machine<C> {
         &self.parts
     }
 
-    /// Lets a machine at a halt go on, with the switches set anew.
+    /// Starts a machine that is at a halt, with the switches set anew.
     pub fn start(&mut self, switches: Switches)
         requires { is_halted self.old.standing ≡ true }
         ensures { self.new ≡ started self.old switches }
@@ -160,8 +160,8 @@ impl<C: Core> Machine<C> {
         self.parts.start(switches);
     }
 
-    /// One instruction. Only one that punches or prints may fail for memory, and then nothing
-    /// changes, the meter neither.
+    /// Does one instruction. Only one that punches or prints may fail, if there is no memory; then
+    /// nothing is changed, the meter included.
     pub fn step(&mut self, meter: &mut Meter) -> Result<Event, AllocError>
         ensures machine { OnOk result (self.new ≡ step self.old) }
         ensures event { IfOk result (λ event. event ≡ event_of (step self.old).standing) }
@@ -175,8 +175,8 @@ impl<C: Core> Machine<C> {
     }
 
     /// Runs until the limit, a halt or a check. Every attempted instruction ticks the meter. Only
-    /// what punches or prints may fail for memory, and then the machine is as before the call; the
-    /// instructions done until then have ticked.
+    /// an instruction that punches or prints may fail, if there is no memory; then the machine is
+    /// as before the call, and the instructions done until then have ticked.
     pub fn run(&mut self, limit: u32, meter: &mut Meter) -> Result<Ran, AllocError>
         ensures machine { OnOk result (self.new ≡ after self.old limit) }
         ensures meter { OnOk result (meter.new ≡ risen meter.old (attempts self.old limit)) }
@@ -202,7 +202,7 @@ impl<C: Core> Machine<C> {
 }
 
 impl<C: Core> Parts<C> {
-    /// Running again, with the switches set anew.
+    /// Sets the standing to running, with the switches set anew.
     fn start(&mut self, switches: Switches)
         ensures { self.new ≡ started self.old switches }
     {
@@ -210,7 +210,7 @@ impl<C: Core> Parts<C> {
         self.standing = Standing::Running;
     }
 
-    /// Copies the storage, and tells the rest of where the machine stands.
+    /// Copies the storage to `spare`, and returns the rest of the state.
     fn checkpoint(&self, spare: &mut C) -> Checkpoint
         requires { length self.now.works.storage ≡ length (C.cells spare.old) }
         ensures storage { C.cells spare.new ≡ self.now.works.storage }
@@ -232,7 +232,7 @@ impl<C: Core> Parts<C> {
         }
     }
 
-    /// Goes back to a storage and a checkpoint: what was punched and printed since is taken away.
+    /// Restores a storage and a checkpoint. What was punched and printed since is removed.
     fn restore(&mut self, storage: &C, checkpoint: Checkpoint)
         requires { length self.old.works.storage ≡ length (C.cells storage.now) }
         ensures { self.new ≡ restored self.old (C.cells storage.now) checkpoint }
@@ -246,7 +246,7 @@ impl<C: Core> Parts<C> {
         self.standing = checkpoint.standing;
     }
 
-    /// How a run ended that began at a standing and made so many attempts.
+    /// The result of a run that began at a standing and made `attempted` attempts.
     fn report(&self, began: Standing, attempted: u32) -> Ran
         ensures executed { result.executed
             ≡ attempted - (if is_running began && is_checked self.now.standing then 1 else 0) }
@@ -264,8 +264,8 @@ impl<C: Core> Parts<C> {
     }
 }
 
-/// The law of the ranges: the picture of a loaded deck is in range, and it stays so whatever is
-/// run and however often the machine is started again.
+/// The law of the ranges: the picture of a loaded deck is in range, and it stays in range after
+/// every run and every start.
 pub fn stays_in_range()
     ensures loaded { (deck : List Card) (size : Size) (switches : Switches) → 0 < length deck →
         IsInRange (loaded deck size switches) }
@@ -274,8 +274,8 @@ pub fn stays_in_range()
         IsInRange (started m switches) }
 {}
 
-/// The law of what was made: a run keeps the deck and the switches, and the cards and lines that
-/// were there are the first of those that are there after it.
+/// The law of what was made: a run keeps the deck and the switches, and the cards and lines from
+/// before it are the first of those after it.
 pub fn runs_only_add()
     ensures deck { (m : State) (count : ℕ) →
         (after m count).works.units.hopper.deck ≡ m.works.units.hopper.deck }
@@ -287,8 +287,8 @@ pub fn runs_only_add()
         take (length (lines_of m)) (lines_of (after m count)) ≡ lines_of m }
 {}
 
-/// The laws of runs: so many steps and then so many more are the steps together, and so are
-/// their attempts and the ticks of the meter.
+/// The laws of runs: a run of m steps and then one of n is the run of m + n steps, and the same
+/// holds for the attempts and for the ticks of the meter.
 pub fn runs_add()
     ensures machine { (m : State) (first second : ℕ) →
         after (after m first) second ≡ after m (first + second) }

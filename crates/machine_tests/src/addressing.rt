@@ -8,7 +8,7 @@ use core_store::{Check, Core, FlagCore, LARGEST_SIZE, Size};
 use std::alloc::Global;
 use std::test::Fail;
 
-/// The characters of three glyphs, and blanks where there are not three.
+/// The characters of three glyphs, or blanks if there are not three.
 fn three(glyphs: &str) -> [Code; 3] {
     let bytes = glyphs.as_bytes();
     let [first, second, third] = bytes else {
@@ -30,8 +30,8 @@ fn written(number: u16) -> [char; 3] {
     ]
 }
 
-/// Reading. Given is an address. Out come its base, its index location, and the base as it is
-/// written, or that it is unreadable.
+/// Reading. Input: an address. Output: its base, its index location, and the base as it is written;
+/// or that it is unreadable.
 struct Reading;
 
 impl Case for Reading {
@@ -46,7 +46,7 @@ impl Case for Reading {
     }
 }
 
-/// Bases and tags, and characters without a value, of which one is enough.
+/// Bases and tags, and characters without a value; one of these is enough.
 const READINGS: &str = "\
 I99 -> 3999 None I99
 |00 -> 1000 None |00
@@ -73,8 +73,8 @@ fn number_of(core: &mut FlagCore, address: Tagged, index: &str) -> Result<u16, C
     indexed(core, address)
 }
 
-/// Indexing. Given are an address, and what stands in the second index location of 1400
-/// positions. Out comes the number that the address represents, or the check.
+/// Indexing. Input: an address, and the text in the second index location of 1400 positions.
+/// Output: the number that the address represents, or the check.
 struct Indexing;
 
 impl Case for Indexing {
@@ -105,8 +105,8 @@ fn position_of(core: &mut FlagCore, address: &str) -> Result<u16, Check> {
     operand(core, first, second, third)
 }
 
-/// Operands. Given is an address in 4000 positions with 91 in the first index location. Out comes
-/// the position, or the check.
+/// Operands. Input: an address in 4000 positions with 91 in the first index location. Output: the
+/// position, or the check.
 struct Operand;
 
 impl Case for Operand {
@@ -132,7 +132,7 @@ fn index_locations_and_operands(rt: HostRuntime) -> Result<(), Fail> {
     check::<Operand>(rt.alloc(), OPERANDS)
 }
 
-/// The answer to the storing of a number, and the text at a place then.
+/// The result of storing a number, and the text at a place after it.
 fn stored(
     alloc: Global,
     core: &mut FlagCore,
@@ -145,8 +145,8 @@ fn stored(
     Ok(format!(in alloc; "{answer:?} {shown}")?)
 }
 
-/// Storing. Given are a position of 1400, a number and a place. Out come the answer, and the text
-/// at the place then.
+/// Storing. Input: a position of 1400, a number and a place. Output: the result, and the text at
+/// the place after it.
 struct Storing;
 
 impl Case for Storing {
@@ -158,7 +158,7 @@ impl Case for Storing {
     }
 }
 
-/// Numbers in the middle of the storage, at its beginning, and where there is no room.
+/// Numbers in the middle of the storage, at its beginning, and without room for them.
 const STORED: &str = "\
 500 15999|497     | -> Ok(()) | I9I|
 2 200|0     | -> Ok(()) |200 |

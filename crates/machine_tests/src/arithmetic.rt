@@ -24,7 +24,7 @@ fn sums_and_differences(rt: HostRuntime) -> Result<(), Fail> {
     check::<Steps>(rt.alloc(), SUMS)
 }
 
-/// Comparisons of fields of one length, and of a shorter one.
+/// Comparisons of fields of equal length, and with a shorter one.
 const COMPARISONS: &str = "\
 1 101 201|~C~|101 ~A|201 ~0| -> Next 401 100 200 High false |~A|~0|
 1 103 202|~C~|101 ~ABC|201 ~BC| -> Next 401 101 200 Equal false |~ABC|~BC|
@@ -38,7 +38,7 @@ fn comparisons(rt: HostRuntime) -> Result<(), Fail> {
     check::<Steps>(rt.alloc(), COMPARISONS)
 }
 
-/// Characters without a value; fields that overlap, whose characters are not looked at then; and
+/// Characters without a value; fields that overlap, whose characters are not examined then; and
 /// fields that would pass position 0.
 const CHECKS: &str = "\
 1 101 201|~A~|101 ~#|201 ~3| -> Stop(Data) 400 101 201 Low false |~#|~3|

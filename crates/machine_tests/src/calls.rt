@@ -13,7 +13,7 @@ use std::alloc::{AllocError, Global};
 use std::test::Fail;
 use units::{Devices, Switches, Units, operate, punch_card, read_card, render};
 
-/// Does the operation that a character names.
+/// Does the operation of a character.
 fn call(operation: &str, core: &mut FlagCore, registers: &mut Registers) -> Result<(), Check> {
     match operation {
         "A" => add(core, registers),
@@ -34,7 +34,7 @@ fn call(operation: &str, core: &mut FlagCore, registers: &mut Registers) -> Resu
     }
 }
 
-/// The registers after an operation and what stands at some places, or `check`.
+/// The registers after an operation and the texts at some places, or `check`.
 fn called(
     alloc: Global,
     core: &mut FlagCore,
@@ -58,8 +58,8 @@ fn called(
     format!(in alloc; "{registers} {shown}")
 }
 
-/// A call. Given are the operation's character, the registers A and B, and the texts of some
-/// places. Out come the registers I, A and B, the indicators, and the texts then, or `check`.
+/// A call. Input: the operation's character, the registers A and B, and the texts at some places.
+/// Output: the registers I, A and B, the indicators, and the texts after it; or `check`.
 struct Calls;
 
 impl Case for Calls {
@@ -102,7 +102,7 @@ fn work_together(core: &mut FlagCore, units: &mut Units) -> bool {
     core.size() >= 333 && operate(core, units, devices).is_ok()
 }
 
-/// Whether the reader and the punch work by themselves.
+/// Whether the reader and the punch work alone.
 fn work_alone(core: &mut FlagCore, units: &mut Units) -> bool {
     core.size() >= 81
         && read_card(core, &mut units.hopper).is_ok()
@@ -123,7 +123,7 @@ fn made(alloc: Global, units: &Units) -> Result<String, AllocError> {
     Ok(text)
 }
 
-/// What is made of a storage with texts in the punch and print areas, and of two cards.
+/// The output from a storage with texts in the punch and print areas, and from two cards.
 fn works(alloc: Global, core: &mut FlagCore, units: &mut Units) -> Result<String, Fail> {
     lay_places(core, "100 -PUNCH|200 -LINE");
     if !work_together(core, units) || !work_alone(core, units) || !units.is_last_card() {

@@ -5,7 +5,7 @@ use bcd::Code;
 use std::alloc::Global;
 use std::test::Fail;
 
-/// The number of a character that was read, and 99 where none was.
+/// The number of a character that was read, or 99 if none was.
 fn number_of(read: Option<Code>) -> u8 {
     match read {
         Some(code) => code.number(),
@@ -13,7 +13,7 @@ fn number_of(read: Option<Code>) -> u8 {
     }
 }
 
-/// The numeric value of a character, and `-` where it has none.
+/// The numeric value of a character, or `-` if it has none.
 fn value_of(code: Code) -> char {
     match code.digit() {
         Some(digit) => (b'0' + digit) as char,
@@ -21,8 +21,8 @@ fn value_of(code: Code) -> char {
     }
 }
 
-/// A character. Given is its number. Out come its glyph, zone, numeric value, punches in
-/// hexadecimal and rank, and the numbers of the characters that its glyph and its punches are.
+/// A character. Input: its number. Output: its glyph, zone, numeric value, punches in hexadecimal
+/// and rank, and the numbers of the characters with its glyph and with its punches.
 struct Character;
 
 impl Case for Character {
@@ -117,7 +117,7 @@ fn all_as_listed(rt: HostRuntime) -> Result<(), Fail> {
     check::<Character>(rt.alloc(), CHARACTERS)
 }
 
-/// How many patterns of punches are read as characters with these punches.
+/// The number of patterns of punches that are read as characters with these punches.
 fn patterns_read() -> u16 {
     let mut read = 0u16;
     for pattern in 0..4096 {

@@ -9,7 +9,7 @@ use core_store::{
 use std::alloc::{AllocError, Global};
 use std::test::Fail;
 
-/// Sets a mark, or clears it where the word begins with `-`.
+/// Sets a mark, or clears it if the word begins with `-`.
 fn mark<C: Core>(core: &mut C, word: &str) {
     let (set, cleared) = cut(word, "-");
     let (set, cleared) = (number(set), number(cleared));
@@ -21,8 +21,8 @@ fn mark<C: Core>(core: &mut C, word: &str) {
     }
 }
 
-/// The marks that are found from a position on downwards, and in the next eight positions, after
-/// marks were set and cleared.
+/// The mark found from a position downwards, and the one in the next eight positions, after marks
+/// were set and cleared.
 fn found<C: Core>(
     alloc: Global,
     position: u16,
@@ -38,9 +38,8 @@ fn found<C: Core>(
     Ok((core.mark_at_or_below(position), core.mark_after(position)))
 }
 
-/// The search for marks. Given are a position of 1400, and the marks that are set and cleared. Out
-/// come the mark that is found downwards and that among the next eight positions, by both ways of
-/// keeping them.
+/// The search for marks. Input: a position of 1400, and the marks that are set and cleared. Output:
+/// the mark found downwards and the one among the next eight positions, by both kinds of storage.
 struct Search;
 
 impl Case for Search {
@@ -89,7 +88,8 @@ fn put_mark<C: Core>(core: &mut C, position: u16, marked: bool) {
     }
 }
 
-/// Whether a storage with one mark finds it from a position, downwards and among the next eight.
+/// Whether a storage with one mark finds it from a position, both downwards and among the next
+/// eight.
 fn finds<C: Core>(core: &C, marked: u16, position: u16) -> bool {
     if position >= core.size() {
         return false;
@@ -110,8 +110,8 @@ fn first_missed<C: Core>(core: &C, marked: u16) -> Option<u16> {
     None
 }
 
-/// Whether a storage in which each of so many positions is marked in turn, so far apart and alone,
-/// finds the mark from everywhere.
+/// Whether a storage finds its one mark from everywhere, for `count` positions of the mark, `apart`
+/// positions apart.
 fn finds_each<C: Core>(core: &mut C, count: u16, apart: u16) -> bool {
     for turn in 0..count {
         let marked = turn.saturating_mul(apart);
@@ -132,7 +132,7 @@ fn agree(flags: &FlagCore, planes: &PlaneCore, position: u16) -> bool {
         && flags.mark_after(position) == planes.mark_after(position)
 }
 
-/// The first position of 1400 from which two storages find other marks.
+/// The first position of 1400 from which two storages find different marks.
 fn difference(flags: &FlagCore, planes: &PlaneCore) -> Option<u16> {
     for position in 0..1400 {
         if !agree(flags, planes, position) {
@@ -164,13 +164,13 @@ fn both_storages_find_every_mark(rt: HostRuntime) -> Result<(), Fail> {
     Ok(())
 }
 
-/// Whether an `A` stands at the last of 2000 positions, marked or not.
+/// Whether there is an `A` at the last of 2000 positions, marked or not.
 fn ends_with_a<C: Core>(core: &C, is_marked: bool) -> bool {
     core.size() == 2000 && core.get(1999) == code(b'A') && core.is_marked(1999) == is_marked
 }
 
-/// Whether the last of 2000 positions has no mark after a letter was put there, and both in a copy
-/// of the storage after it was marked.
+/// Whether the last of 2000 positions has no mark after a letter was put there, and has both in a
+/// copy of the storage after it was marked.
 fn keeps<C: Core>(alloc: Global) -> Result<bool, AllocError> {
     let mut core = C::blank(alloc, Size::Positions2000)?;
     let mut copy = C::blank(alloc, Size::Positions2000)?;
@@ -191,7 +191,7 @@ fn characters_and_marks_are_kept_apart(rt: HostRuntime) -> Result<(), Fail> {
     Ok(())
 }
 
-/// The lengths of the field at a position, and of its cut, with 010 alone marked.
+/// The lengths of the field at a position, and of its cut, with only 010 marked.
 fn lengths(core: &mut FlagCore, position: u16, limit: u16) -> (Option<u16>, Option<u16>) {
     if core.size() > 10 {
         core.set_mark(10);
@@ -205,8 +205,8 @@ fn lengths(core: &mut FlagCore, position: u16, limit: u16) -> (Option<u16>, Opti
     )
 }
 
-/// Fields and cuts. Given are a position and a limit, in a storage that is marked at 010 alone. Out
-/// come the length of the field there, and that of the cut to the limit.
+/// Fields and cuts. Input: a position and a limit, in a storage with only 010 marked. Output: the
+/// length of the field there, and that of the cut to the limit.
 struct Cut;
 
 impl Case for Cut {
@@ -247,7 +247,7 @@ fn places_of_operands(rt: HostRuntime) -> Result<(), Fail> {
     Ok(())
 }
 
-/// Whether a field with this character at its units position is minus.
+/// Whether a field with this character as its units is negative.
 fn makes_minus(core: &mut FlagCore, glyph: u8) -> bool {
     if core.size() > 7 {
         core.put(7, code(glyph));
@@ -265,7 +265,7 @@ fn signs_of_fields(rt: HostRuntime) -> Result<(), Fail> {
     Ok(())
 }
 
-/// Whether the registers A and B, lowered by 5 and by 4, are lowered so, and the others stay.
+/// Whether registers A and B are lowered by 5 and by 4, and the others stay.
 fn are_lowered() -> bool {
     let mut registers = Registers {
         i: 400,
@@ -285,7 +285,7 @@ fn are_lowered() -> bool {
     (i, a, b) == (400, 100, 15999) && compare == Compared::High && overflow
 }
 
-/// Whether there is a size of so many positions.
+/// Whether there is a size with this number of positions.
 fn is_size(positions: u16) -> bool {
     match Size::of_positions(positions) {
         Some(size) => size.positions() == positions,

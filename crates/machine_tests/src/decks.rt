@@ -10,7 +10,8 @@ use cards::{
 use std::alloc::{AllocError, Global};
 use std::test::Fail;
 
-/// What a sign of a file represents: `n` a line feed, `r` a carriage return, and any other itself.
+/// The byte of a sign of a file: `n` is a line feed, `r` a carriage return, and any other is
+/// itself.
 fn byte_of(sign: u8) -> u8 {
     match sign {
         b'n' => b'\n',
@@ -19,7 +20,7 @@ fn byte_of(sign: u8) -> u8 {
     }
 }
 
-/// Adds the bytes of some signs, so many times.
+/// Adds the bytes of some signs `times` times.
 fn push_signs(file: &mut Vec<u8>, signs: &str, times: usize) -> Result<(), AllocError> {
     for _ in 0..times {
         for sign in signs.bytes() {
@@ -29,7 +30,7 @@ fn push_signs(file: &mut Vec<u8>, signs: &str, times: usize) -> Result<(), Alloc
     Ok(())
 }
 
-/// Whole cards of blanks, then the first columns of another, so many blank ones and its rest.
+/// Whole blank cards, then one more card: its first columns, some blank ones and the rest.
 fn file(
     alloc: Global,
     blank: &str,
@@ -49,8 +50,8 @@ fn file(
     Ok(file)
 }
 
-/// A punch file with a fault. Given are how many blank cards it has, how many blank columns of
-/// another card, and the rest of that. Out come the fault's number, its card and its column.
+/// A punch file with a fault. Input: the number of its blank cards, the number of blank columns of
+/// another card, and the rest of that card. Output: the fault's number, its card and its column.
 struct Faulty;
 
 impl Case for Faulty {
@@ -71,7 +72,7 @@ impl Case for Faulty {
     }
 }
 
-/// Columns of no pattern, cards that are too short or too long, and a byte too many.
+/// Punches of no character, cards that are too short or too long, and one byte too many.
 const FAULTS: &str = "\
 0|0|80281044044040C -> 32 1 5
 0|0|FFF -> 32 1 1
@@ -93,31 +94,32 @@ fn first_faults_of_punch_files(rt: HostRuntime) -> Result<(), Fail> {
     check::<Faulty>(rt.alloc(), FAULTS)
 }
 
-/// How many cards are read from a text, and whether they are written as the punch file.
+/// The number of cards read from a text, and whether they are written as the punch file.
 fn read_from_text(alloc: Global, text: &[u8], punched: &[u8]) -> Result<(usize, bool), Fail> {
     let deck = read_text(alloc, text)?;
     let written = write_punched(alloc, &deck)?;
     Ok((deck.cards().len(), written.as_slice() == punched))
 }
 
-/// How many cards are read from a punch file, and whether they are written as the text.
+/// The number of cards read from a punch file, and whether they are written as the text.
 fn read_from_punches(alloc: Global, punched: &[u8], text: &[u8]) -> Result<(usize, bool), Fail> {
     let deck = read_punched(alloc, punched)?;
     let written = write_text(alloc, &deck)?;
     Ok((deck.cards().len(), written.as_slice() == text))
 }
 
-/// What both files of a deck give: how many cards each has, and whether it is written as the other.
+/// The result for both files of a deck: the number of cards of each, and whether it is written as
+/// the other.
 fn read_both(alloc: Global, text: &[u8], punched: &[u8]) -> Result<String, Fail> {
     let (of_text, is_punched) = read_from_text(alloc, text, punched)?;
     let (of_punches, is_text) = read_from_punches(alloc, punched, text)?;
     Ok(format!(in alloc; "{of_text} {is_punched} {of_punches} {is_text}")?)
 }
 
-/// The two files of a deck. Given are how many blank cards it has, the glyphs and the punches of
-/// the first columns of another one, how many blank columns follow them, and the rest. Out come how
-/// many cards are read from its text, whether they are written as its punch file, and the same the
-/// other way round.
+/// The two files of a deck. Input: the number of its blank cards, the glyphs and the punches of the
+/// first columns of another card, the number of blank columns after them, and the rest. Output: the
+/// number of cards read from its text, whether they are written as its punch file, and the same in
+/// the other direction.
 struct BothFiles;
 
 impl Case for BothFiles {
@@ -148,7 +150,7 @@ fn texts_and_punch_files(rt: HostRuntime) -> Result<(), Fail> {
     check::<BothFiles>(rt.alloc(), FILES)
 }
 
-/// Whether a card after two thousand, and no card before it, is refused as one too many.
+/// Whether the card after two thousand is refused as one too many, and no card before it.
 fn refuses_after_two_thousand(alloc: Global) -> Result<bool, DeckFault> {
     let mut deck = Deck::empty(alloc);
     for _ in 0..2000 {

@@ -1,6 +1,6 @@
 //! The end of the last form.
 //!
-//! What the reader, the punch and the printer do, and how the carriage moves, is among the decks of
+//! The reader, the punch, the printer and the moves of the carriage are tested by the decks of
 //! `cases/`, which the program runs.
 
 use crate::storage::blank;
@@ -9,7 +9,7 @@ use std::alloc::Global;
 use std::test::Fail;
 use units::{Carriage, CarriageOrder, Fault, Motion, Printer, move_carriage, print_line};
 
-/// A printer without a line, whose carriage stands at a line of the last form.
+/// A printer without a line, whose carriage is at a line of the last form.
 fn printer_at(alloc: Global, line: u8) -> Printer {
     Printer {
         lines: Vec::new(alloc),
@@ -21,7 +21,7 @@ fn printer_at(alloc: Global, line: u8) -> Printer {
     }
 }
 
-/// Whether a printer with so many lines stands at the end of the last form, with this order.
+/// Whether a printer with this number of lines is at the end of the last form, with this order.
 fn ends(printer: &Printer, lines: usize, waiting: Option<Motion>) -> bool {
     let end = Carriage {
         form: 2_000_000_000,
@@ -32,7 +32,7 @@ fn ends(printer: &Printer, lines: usize, waiting: Option<Motion>) -> bool {
     printer.carriage == end && printer.lines.len() == lines
 }
 
-/// Whether a printer stands at the end of the last form, without a line and with this order.
+/// Whether a printer is at the end of the last form, without a line and with this order.
 fn is_at_the_end(printer: &Printer, waiting: Option<Motion>) -> bool {
     ends(printer, 0, waiting)
 }
@@ -66,7 +66,7 @@ fn no_line_after_the_last_form(rt: HostRuntime) -> Result<(), Fail> {
     Ok(())
 }
 
-/// Whether a space at the line before the last one is done.
+/// Whether a space at the line before the last one is made.
 fn spaces_to_the_end(printer: &mut Printer) -> bool {
     let now = CarriageOrder::Now(Motion::Space);
     move_carriage(printer, now).is_ok() && is_at_the_end(printer, None)

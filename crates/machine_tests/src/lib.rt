@@ -1,9 +1,9 @@
-//! Worked cases of the machine, and of the crates on which it stands.
+//! Worked cases of the machine, and of the crates below it.
 //!
-//! A group of cases is a sheet: a text of rows, each with what is given, an arrow, and what comes
-//! out. A kind of case gives what comes out of what is given, and a test fails at the first row of
-//! its sheet that has another outcome. What comes out was worked out by hand from the profile;
-//! of the characters, another program lists it. Decks that run to their end are in `cases/`.
+//! A group of cases is a sheet: a text of rows, each with an input, an arrow, and an output. A
+//! `Case` maps an input to its output, and a test fails at the first row of its sheet that has
+//! another output. The outputs were worked out by hand from the profile; those of the characters
+//! come from another program. Decks that run to their end are in `cases/`.
 //!
 //! Each of these functions is proved safe before it runs, so a value that owns memory is made in
 //! one function and used in another.

@@ -1,4 +1,4 @@
-//! What the machines of the sheets are made of: decks and units.
+//! The decks and units of the sheets' machines.
 
 use crate::storage::card_of;
 use cards::{Deck, DeckFault};
@@ -21,7 +21,7 @@ fn push_list(deck: &mut Deck) -> Result<(), DeckFault> {
     Ok(())
 }
 
-/// The deck of these cards, between which semicolons stand; the word `list` represents the loading
+/// The deck of these cards, with semicolons between them. The word `list` represents the loading
 /// cards above.
 pub(crate) fn deck_of(alloc: Global, cards: &str) -> Result<Deck, DeckFault> {
     let mut deck = Deck::empty(alloc);
@@ -35,7 +35,7 @@ pub(crate) fn deck_of(alloc: Global, cards: &str) -> Result<Deck, DeckFault> {
     Ok(deck)
 }
 
-/// Units that have made nothing, with a deck of which so many cards were read.
+/// Units that have made nothing, with a deck whose first `taken` cards were read.
 pub(crate) fn new_units(alloc: Global, deck: Deck, taken: u16, switches: Switches) -> Units {
     Units {
         hopper: Hopper { deck, taken },

@@ -27,7 +27,7 @@ fn fields_moved_and_marks(rt: HostRuntime) -> Result<(), Fail> {
     check::<Steps>(rt.alloc(), MOVES)
 }
 
-/// Zeros that are suppressed, and controls under which data are edited.
+/// Zeros that are suppressed, and control fields by which data are edited.
 const EDITS: &str = "\
 1 106 206|~Z~|101 ~00,120|201 ~XXXXXX| -> Next 401 100 200 Low false |~00,120|   120|
 1 103 205|~Z~|101 ~000|201 ~UVXXX| -> Next 401 100 202 Low false |~000|~UV   |
@@ -56,8 +56,8 @@ fn zeros_suppressed_and_data_edited(rt: HostRuntime) -> Result<(), Fail> {
     check::<Steps>(rt.alloc(), EDITS)
 }
 
-/// Fields that are written over, positions outside the storage, and fields that would pass
-/// position 0.
+/// Fields that are overwritten, positions outside the storage, and fields that would pass position
+/// 0.
 const CHECKS: &str = "\
 1 105 103|~L~|99 ~123 567| -> Stop(Address) 400 105 103 Low false |~123 567|
 1 105 103|~Z~|99 ~123 567| -> Stop(Overlap) 400 105 103 Low false |~123 567|

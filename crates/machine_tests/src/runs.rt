@@ -1,6 +1,6 @@
 //! Runs of small decks in pieces, and the pictures between them.
 //!
-//! Whole runs with their listings are in `cases/`, by the decks that the program runs.
+//! Whole runs with their listings are in `cases/`, as the decks that the program runs.
 
 use crate::machines::{deck_of, new_units};
 use crate::sheets::{Case, check, cut, number};
@@ -32,7 +32,7 @@ fn load(alloc: Global, size: &str, switch: &str, cards: &str) -> Result<Machine<
     Ok(Machine::<FlagCore>::load(alloc, deck, size, switches)?)
 }
 
-/// Units put together again from those of a picture that has punched nothing.
+/// A copy of the units of a picture that has punched nothing.
 fn units_of(alloc: Global, units: &Units) -> Result<Units, DeckFault> {
     let mut deck = Deck::empty(alloc);
     for card in units.hopper.deck.cards() {
@@ -45,7 +45,7 @@ fn units_of(alloc: Global, units: &Units) -> Result<Units, DeckFault> {
     Ok(copied)
 }
 
-/// A picture put together again from its fields.
+/// A copy of a picture.
 fn copy_of(alloc: Global, parts: &Parts<FlagCore>) -> Result<Parts<FlagCore>, Fail> {
     let size = Size::of_positions(parts.core.size()).ok_or("a size")?;
     let mut core = FlagCore::blank(alloc, size)?;
@@ -58,7 +58,7 @@ fn copy_of(alloc: Global, parts: &Parts<FlagCore>) -> Result<Parts<FlagCore>, Fa
     })
 }
 
-/// Puts something wrong into a picture.
+/// Puts a wrong value into a picture.
 fn put_wrong(parts: &mut Parts<FlagCore>, wrong: &str) {
     match wrong {
         "register" => parts.registers.b = 16000,
@@ -71,7 +71,7 @@ fn put_wrong(parts: &mut Parts<FlagCore>, wrong: &str) {
     }
 }
 
-/// Starts a machine that stands at a halt, with all switches off.
+/// Starts a machine that is at a halt, with all switches off.
 fn start(machine: &mut Machine<FlagCore>) -> Result<(), Fail> {
     if !matches!(machine.parts().standing, Standing::Halted) {
         return Err("a halt".into());
@@ -80,7 +80,7 @@ fn start(machine: &mut Machine<FlagCore>) -> Result<(), Fail> {
     Ok(())
 }
 
-/// Runs a machine, and shows how many instructions were done and how it stands.
+/// Runs a machine, and returns the number of executed instructions and its standing.
 fn run(
     alloc: Global,
     machine: &mut Machine<FlagCore>,
@@ -93,7 +93,7 @@ fn run(
     format!(in alloc; "{executed} {standing:?} ")
 }
 
-/// Goes on with the machine of a copy of the picture.
+/// Replaces a machine by one made from a copy of its picture.
 fn copy(alloc: Global, machine: &mut Machine<FlagCore>) -> Result<(), Fail> {
     let picture = copy_of(alloc, machine.parts())?;
     *machine = Machine::from_parts(alloc, picture)?.ok_or("a picture in range")?;
@@ -134,7 +134,7 @@ fn made(alloc: Global, machine: &Machine<FlagCore>) -> Result<String, AllocError
     Ok(made)
 }
 
-/// Where a machine stands, and what it has made.
+/// The next address of a machine, its carriage's line, and what it has made.
 fn state(alloc: Global, machine: &Machine<FlagCore>) -> Result<String, AllocError> {
     let next = machine.parts().registers.i;
     let line = machine.parts().units.printer.carriage.line;
@@ -142,7 +142,8 @@ fn state(alloc: Global, machine: &Machine<FlagCore>) -> Result<String, AllocErro
     format!(in alloc; "next {next} line {line} {made}")
 }
 
-/// Does the orders, and shows each run, the ticks of the meter, and the machine then.
+/// Does the orders, and returns the result of each run, the ticks of the meter, and the machine
+/// after them.
 fn followed(alloc: Global, machine: &mut Machine<FlagCore>, orders: &str) -> Result<String, Fail> {
     let mut meter = Meter::new();
     let mut runs = String::new(alloc);
@@ -154,9 +155,9 @@ fn followed(alloc: Global, machine: &mut Machine<FlagCore>, orders: &str) -> Res
     Ok(format!(in alloc; "{runs}ticks {ticks} {state}")?)
 }
 
-/// Runs. Given are the size, the switch that is on, the cards, and orders. Out come, for each run,
-/// how many instructions were done and how the machine stood; then the ticks of the meter, where
-/// the machine goes on, the carriage's line, and the cards and lines that were made.
+/// Runs. Input: the size, the switch that is on, the cards, and orders. Output: for each run, the
+/// number of executed instructions and the standing; then the ticks of the meter, the next address,
+/// the carriage's line, and the cards and lines made.
 struct Runs;
 
 impl Case for Runs {
@@ -169,7 +170,7 @@ impl Case for Runs {
 }
 
 /// Cards that are printed as lines; a start after the halt; runs that do not halt; orders to the
-/// carriage; cards that are punched; and a machine that goes on from its picture.
+/// carriage; cards that are punched; and a machine that continues from its picture.
 const RUNS: &str = "\
 4000|A|list;HELLO;WORLD|34 -> 34 Running ticks 34 next 360 line 3 punched | printed |HELLO|WORLD|
 4000|A|list;HELLO;WORLD|34 2000 \
@@ -201,8 +202,8 @@ fn runs_of_decks(rt: HostRuntime) -> Result<(), Fail> {
     check::<Runs>(rt.alloc(), RUNS)
 }
 
-/// Whether the units of a picture in which something is wrong are in range, and whether there is a
-/// machine of it, after both lines of a deck were printed.
+/// Whether the units of a picture with a wrong value are in range, and whether it has a machine,
+/// after both lines of a deck were printed.
 fn remakes(
     alloc: Global,
     machine: &mut Machine<FlagCore>,
@@ -215,8 +216,8 @@ fn remakes(
     Ok((are_units, Machine::from_parts(alloc, picture)?.is_some()))
 }
 
-/// A picture. Given is what is wrong in it. Out come whether its units are in range, and whether
-/// there is a machine of it.
+/// A picture. Input: the wrong value in it. Output: whether its units are in range, and whether it
+/// has a machine.
 struct Picture;
 
 impl Case for Picture {
@@ -227,7 +228,7 @@ impl Case for Picture {
     }
 }
 
-/// A picture in range, and what puts it out of its ranges.
+/// A picture in range, and values that are out of range.
 const PICTURES: &str = "\
 nothing -> true true
 register -> true false

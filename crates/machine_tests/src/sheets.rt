@@ -3,13 +3,13 @@
 use std::alloc::Global;
 use std::test::Fail;
 
-/// A kind of worked case.
+/// A kind of worked case: it maps an input to an output.
 pub(crate) trait Case {
-    /// What comes out of what is given, in a line.
+    /// The output for an input, in a line.
     fn outcome(alloc: Global, given: &str) -> Result<String, Fail>;
 }
 
-/// Fails at the first row of a sheet that has another outcome, with the row as it should read.
+/// Fails at the first row of a sheet that has another output, with the row as it should be.
 pub(crate) fn check<C: Case>(alloc: Global, sheet: &str) -> Result<(), Fail> {
     for row in sheet.lines() {
         let (given, wanted) = cut(row, " -> ");
@@ -21,12 +21,12 @@ pub(crate) fn check<C: Case>(alloc: Global, sheet: &str) -> Result<(), Fail> {
     Ok(())
 }
 
-/// What stands before a sign and after it. Without the sign nothing stands after it.
+/// The text before a sign and the text after it; without the sign, the whole text and an empty one.
 pub(crate) fn cut<'a>(text: &'a str, sign: &str) -> (&'a str, &'a str) {
     text.split_once(sign).unwrap_or((text, ""))
 }
 
-/// A number of a row; where it is none, one that is too great for every case.
+/// A number of a row; if it is not a number, one that is too great for every case.
 pub(crate) fn number(digits: &str) -> u16 {
     digits.parse::<u16>().ok().unwrap_or(u16::MAX)
 }

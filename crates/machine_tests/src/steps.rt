@@ -10,11 +10,11 @@ use std::alloc::{AllocError, Global};
 use std::test::Fail;
 use units::Switches;
 
-/// Where the instructions of these cases begin.
+/// The position of the first instruction of these cases.
 const START: u16 = 400;
 
-/// A running machine of a storage that has read its only card, with these registers A and B and
-/// the switches A, B and D on.
+/// A running machine with this storage that has read its only card, with these registers A and B
+/// and the switches A, B and D on.
 fn running(alloc: Global, core: FlagCore, registers: &str) -> Result<Machine<FlagCore>, Fail> {
     if core.size() < 1400 {
         return Err("a smaller storage".into());
@@ -50,7 +50,7 @@ fn machine(
     running(alloc, core, registers)
 }
 
-/// The event of the last of so many steps.
+/// The event of the last of `steps` steps.
 fn last_event(machine: &mut Machine<FlagCore>, steps: u16) -> Result<Event, AllocError> {
     let mut meter = Meter::new();
     let mut event = Event::Next;
@@ -60,7 +60,7 @@ fn last_event(machine: &mut Machine<FlagCore>, steps: u16) -> Result<Event, Allo
     Ok(event)
 }
 
-/// Does so many steps, and shows the last event, the registers, and what stands at some places.
+/// Does the steps, and returns the last event, the registers, and the texts at some places.
 fn stepped(
     alloc: Global,
     machine: &mut Machine<FlagCore>,
@@ -74,8 +74,8 @@ fn stepped(
     Ok(format!(in alloc; "{event:?} {registers} {shown}")?)
 }
 
-/// Steps. Given are how many, the registers A and B, the program, and the texts of some places. Out
-/// come the last event, the registers I, A and B, the indicators, and the texts then.
+/// Steps. Input: their number, the registers A and B, the program, and the texts at some places.
+/// Output: the last event, the registers I, A and B, the indicators, and the texts after them.
 pub(crate) struct Steps;
 
 impl Case for Steps {
@@ -88,8 +88,8 @@ impl Case for Steps {
     }
 }
 
-/// Arithmetic, moves, comparison, registers that are stored, storage that is cleared, a location
-/// that is added, and the test of overflow, which turns it off.
+/// Arithmetic, moves, comparison, registers that are stored, storage that is cleared, an index
+/// location, and the test of overflow, which turns it off.
 const OPERATIONS: &str = "\
 1 10 20|~A010020~|8 ~005|18 ~123| -> Next 407 7 17 Low false |~005|~128|
 1 10 20|~S010020~|8 ~005|18 ~003| -> Next 407 7 17 Low false |~005|~00K|
@@ -163,7 +163,7 @@ fn branches(rt: HostRuntime) -> Result<(), Fail> {
     check::<Steps>(rt.alloc(), BRANCHES)
 }
 
-/// Instructions to which a check applies, the first of several among them.
+/// Instructions to which a check applies. If several apply, the first one counts.
 const CHECKS: &str = "\
 1 10 20|~B100H~|8 AB|18 ~123| -> Stop(Instruction) 400 10 20 Low false |AB|~123|
 1 10 20|~B#00H~|8 AB|18 ~123| -> Stop(Instruction) 400 10 20 Low false |AB|~123|

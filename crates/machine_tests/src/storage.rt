@@ -1,6 +1,6 @@
-//! Texts in storage, cards and registers, as the sheets spell them.
+//! Texts in storage, cards and registers, as the sheets write them.
 //!
-//! A `~` before a character shows that its position is marked. A list of places has a position, a
+//! A `~` before a character means that its position is marked. A list of places has a position, a
 //! blank, a text and a bar for each place, as `8 ~005|18 ~123|`.
 
 use crate::sheets::{cut, number};
@@ -9,7 +9,7 @@ use cards::{COLUMNS, Card};
 use core_store::{Core, FlagCore, Registers, Size};
 use std::alloc::{AllocError, Global};
 
-/// The character of a glyph, and blank where it is none.
+/// The character of a glyph, or blank if there is none.
 pub(crate) fn code(glyph: u8) -> Code {
     Code::from_glyph(glyph).unwrap_or(Code::blank())
 }
@@ -19,7 +19,7 @@ pub(crate) fn blank(alloc: Global) -> Result<FlagCore, AllocError> {
     FlagCore::blank(alloc, Size::Positions1400)
 }
 
-/// Lays a text down from a position on, as far as there is storage.
+/// Puts a text into storage from a position on, as far as there is storage.
 pub(crate) fn lay(core: &mut FlagCore, first: u16, text: &str) {
     let mut next = first;
     for glyph in text.bytes() {
@@ -35,7 +35,7 @@ pub(crate) fn lay(core: &mut FlagCore, first: u16, text: &str) {
     }
 }
 
-/// Lays the texts of a list of places down.
+/// Puts the texts of a list of places into storage.
 pub(crate) fn lay_places(core: &mut FlagCore, places: &str) {
     for place in places.split('|') {
         let (first, text) = cut(place, " ");
@@ -43,7 +43,7 @@ pub(crate) fn lay_places(core: &mut FlagCore, places: &str) {
     }
 }
 
-/// Adds the characters from a position on that a text of as many has there, and a bar.
+/// Adds the characters from a position on, as many as a text has, and a bar.
 pub(crate) fn push_place(
     shown: &mut String,
     core: &FlagCore,
@@ -63,7 +63,7 @@ pub(crate) fn push_place(
     shown.push('|')
 }
 
-/// What stands at the places of a list, between bars.
+/// The texts at the places of a list, between bars.
 pub(crate) fn at_places(
     alloc: Global,
     core: &FlagCore,
@@ -91,7 +91,7 @@ pub(crate) fn registers_shown(alloc: Global, registers: &Registers) -> Result<St
     format!(in alloc; "{i} {a} {b} {compare:?} {overflow}")
 }
 
-/// A card on which the text stands from the left.
+/// A card that begins with the text.
 pub(crate) fn card_of(text: &str) -> Card {
     let mut codes = [Code::blank(); COLUMNS];
     for (column, glyph) in codes.iter_mut().zip(text.as_bytes()) {

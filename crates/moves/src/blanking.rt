@@ -1,4 +1,4 @@
-//! Zeros and commas that become blank at the left of a field.
+//! Zeros and commas at the left of a field made blank.
 
 ghost use Rattle.std.specs.Prelude.{◌≡◌, ◌+◌, ◌≤◌, ℕ, length, min};
 ghost use Rattle.core_store.specs.Storage.{codes_from, put_codes, largest_size};
@@ -7,7 +7,7 @@ ghost use Rattle.moves.specs.Blanked.{ends, leading, faded, blanked};
 use bcd::Code;
 use core_store::Core;
 
-/// What ends the blanking of zeros and commas.
+/// The character at which zeros and commas are no longer made blank.
 #[derive(Clone, Copy, Debug, PartialEq, Eq)]
 pub enum Stop {
     /// Any character but zero, blank and comma.
@@ -17,7 +17,7 @@ pub enum Stop {
 }
 
 impl Stop {
-    /// Whether a character ends the blanking.
+    /// Whether a character is such a stop.
     #[inline(always)]
     #[tactic(auto, unfolding(crate::specs::Blanked::ends, crate::specs::Characters::is_any))]
     fn is_met(self, code: Code) -> bool
@@ -30,7 +30,7 @@ impl Stop {
     }
 }
 
-/// Blank for a zero or a comma.
+/// Blank for a zero or a comma, else the character itself.
 #[inline(always)]
 #[tactic(auto, unfolding(crate::specs::Blanked::faded, crate::specs::Characters::is_any))]
 fn faded(code: Code) -> Code
@@ -42,7 +42,8 @@ fn faded(code: Code) -> Code
     }
 }
 
-/// Blanks zeros and commas from the left, among the first characters of a field, until a stop.
+/// Makes zeros and commas blank from the left, among the first `limit` characters of a field, up to
+/// a stop.
 #[tactic(auto, using(crate::proofs::Starting::blank_none, crate::proofs::Starting::blanked_on, crate::proofs::Starting::none_on, crate::proofs::Starting::stopped_on, crate::proofs::Copying::size_on))]
 pub fn blank_start<C: Core>(core: &mut C, first: u16, count: u16, limit: u16, stop: Stop)
     requires within { first + count ≤ length (C.cells core.old) }

@@ -1,4 +1,4 @@
-//! Characters by zone and numeric part.
+//! Characters as zone and numeric part.
 
 ghost use Rattle.std.specs.Prelude.{◌≡◌, ◌<◌, ◌≤◌, ℕ};
 ghost use Rattle.bcd.specs.Table.{zone_number};
@@ -33,8 +33,8 @@ pub fn bare(code: Code) -> Code
     of_parts(Zone::Bare, part_of(code))
 }
 
-/// The law of zones and numeric parts: the character that is made of two of them is one of the 64,
-/// and is read as of these two.
+/// The law of zones and numeric parts: the character made of a zone and a part is one of the 64,
+/// and its zone and part are these two.
 pub fn parts_are_read()
     ensures { (zone : Zone) (part : ℕ) → part < 16 → IsOfParts zone part (of_parts zone part) }
 {}

@@ -9,7 +9,7 @@ use crate::blanking::{Stop, blank_start};
 use crate::filling::{fill, through_zero, wanted};
 use core_store::{Check, Core, Registers, are_inside, cut_length, field_length};
 
-/// Whether two stretches of positions, which end at A and at B, have one in common.
+/// Whether two ranges of positions, which end at A and at B, have one in common.
 #[inline(always)]
 fn shares(a: u16, a_count: u16, b: u16, b_count: u16) -> bool
     requires a { a < largest_size }
@@ -21,7 +21,7 @@ fn shares(a: u16, a_count: u16, b: u16, b_count: u16) -> bool
     a < b + a_count && b < a + b_count
 }
 
-/// Puts the data into the control, and blanks what stands to the left of the number.
+/// Puts the data into the control field, and makes what is to the left of the number blank.
 #[tactic(auto, using(crate::proofs::Edits::all_edited))]
 fn fill_blanked<C: Core>(core: &mut C, a: u16, a_count: u16, b: u16, b_count: u16)
     requires a_in { a < length (C.cells core.old) }
@@ -42,7 +42,8 @@ fn fill_blanked<C: Core>(core: &mut C, a: u16, a_count: u16, b: u16, b_count: u1
     blank_start(core, b + 1 - b_count, b_count, through, Stop::Digit);
 }
 
-/// Edits the data at A by the control field at B.
+/// Edits the data at A by the control field at B. Check ADDRESS if A or B is outside the storage or
+/// a field would pass position 000, check OVERLAP if data and control field share a position.
 #[tactic(auto, unfolding(crate::specs::Edited::field_edited))]
 pub fn edit<C: Core>(core: &mut C, registers: &mut Registers) -> Result<(), Check>
     ensures done { OnOk result (field_edited (C.cells core.old) registers.old
@@ -71,8 +72,9 @@ pub fn edit<C: Core>(core: &mut C, registers: &mut Registers) -> Result<(), Chec
     Ok(())
 }
 
-/// The law of editing: before zeros and commas become blank, the digit places of the control hold
-/// the data from the right, the units without zone, and blank where there are no more.
+/// The law of editing: before zeros and commas are made blank, the digit places of the control
+/// field hold the data from the right. The units are without zone, and the places left over are
+/// blank.
 pub fn edited_shows_the_data()
     ensures { (control amount : List ℕ) (minus : Bool) (place : ℕ) → place < length control →
         is_place (slice_index control place) ≡ true → IsShown control amount minus place }

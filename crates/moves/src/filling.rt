@@ -18,7 +18,7 @@ fn is_place(code: Code) -> bool
     matches!(code.glyph(), b'0' | b' ')
 }
 
-/// One more where a character is a digit place.
+/// The number of digit places after one more character.
 #[inline(always)]
 fn counted(places: u16, code: Code) -> u16
     requires { places < largest_size }
@@ -28,7 +28,7 @@ fn counted(places: u16, code: Code) -> u16
     if is_place(code) { places + 1 } else { places }
 }
 
-/// How many data characters a control asks for, at least one.
+/// The number of data characters that a control field takes, at least one.
 #[tactic(auto, using(crate::proofs::Edits::places_none, crate::proofs::Edits::places_more))]
 pub fn wanted<C: Core>(core: &C, b: u16, count: u16) -> u16
     requires within { b < length (C.cells core.now) }
@@ -54,7 +54,7 @@ fn is_zero(code: Code) -> bool
     code.glyph() == b'0'
 }
 
-/// How many characters of a control stand up to its rightmost zero.
+/// The number of characters of a control field up to its rightmost zero, or 0 without a zero.
 #[tactic(auto, using(crate::proofs::Edits::no_zero, crate::proofs::Edits::zero_here, crate::proofs::Edits::zero_nowhere))]
 pub fn through_zero<C: Core>(core: &C, b: u16, count: u16) -> u16
     requires within { b < length (C.cells core.now) }
@@ -70,7 +70,7 @@ pub fn through_zero<C: Core>(core: &C, b: u16, count: u16) -> u16
     0
 }
 
-/// The data character at a place from the right, or blank to the left of them.
+/// The data character at an index from the right, or blank to the left of the data.
 #[inline(always)]
 #[tactic(auto, using(crate::proofs::Copying::from_right_bare, crate::proofs::Copying::from_right_none))]
 fn data_at<C: Core>(core: &C, a: u16, count: u16, place: u16) -> Code
@@ -85,8 +85,8 @@ fn data_at<C: Core>(core: &C, a: u16, count: u16, place: u16) -> Code
     }
 }
 
-/// What is made of a character of the control: `count` is the number of the data, `right` that of
-/// the digit places to its right, and `digit` the data character for the next one.
+/// The character that replaces one of the control field. `count` is the number of data characters,
+/// `right` the number of digit places to the right, and `digit` the next data character.
 #[inline(always)]
 #[tactic(auto, unfolding(crate::specs::Edited::filled_code, crate::specs::Edited::is_place, crate::specs::Characters::is_any))]
 fn filled_code(minus: bool, count: u16, right: u16, digit: Code, code: Code) -> Code
@@ -101,7 +101,8 @@ fn filled_code(minus: bool, count: u16, right: u16, digit: Code, code: Code) -> 
     }
 }
 
-/// Puts the data in the digit places of the control, and blank where a character does not stay.
+/// Puts the data into the digit places of the control field, and a blank for each character that is
+/// not kept.
 #[tactic(auto, using(crate::proofs::Edits::fill_none, crate::proofs::Edits::filled_on, crate::proofs::Edits::right_on, crate::proofs::Edits::places_none, crate::proofs::Edits::sign_is, crate::proofs::Copying::size_on))]
 pub fn fill<C: Core>(core: &mut C, a: u16, a_count: u16, b: u16, b_count: u16)
     requires a_in { a < length (C.cells core.old) }

@@ -1,9 +1,9 @@
 //! Moves of fields: move, load, the numeric part and the zone alone, suppress, edit, word marks,
 //! and the clearing of storage.
 //!
-//! Each operation works at the registers A and B. The contract that the layers above use: the
-//! effect on whole fields by the definitions of `specs/`, one for each operation; or the first
-//! check that applies, and then nothing is changed. All is generic over `Core`, and no call takes
+//! Each operation works at registers A and B. The contract for the layers above: the effect on
+//! whole fields by the definitions of `specs/`, one for each operation; or the first check that
+//! applies, and then nothing is changed. Everything is generic over `Core`, and no call takes
 //! memory.
 #![tactic(auto)]
 

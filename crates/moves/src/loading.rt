@@ -1,4 +1,4 @@
-//! A field laid down with its word mark.
+//! A field loaded with its word mark.
 
 ghost use Rattle.std.specs.Prelude.{◌≡◌, ◌≤◌, ℕ, Some, OnOk, OnErr, IfErr, Ok, Err};
 ghost use Rattle.core_store.specs.Storage.{Storage, field_length};
@@ -7,7 +7,9 @@ ghost use Rattle.moves.specs.Loaded.{field_loaded, IsLoaded};
 
 use core_store::{Check, Core, Registers, are_inside, field_length, overlaps};
 
-/// Lays the field at A down at B, with its mark and no other.
+/// Copies the field at A to B with its word mark, and clears the other marks there. Check ADDRESS
+/// if A or B is outside the storage, if the field would pass position 000 at A or at B, or if it
+/// would be overwritten before it is read.
 #[tactic(auto, unfolding(crate::specs::Loaded::field_loaded))]
 pub fn load_field<C: Core>(core: &mut C, registers: &mut Registers) -> Result<(), Check>
     ensures done { OnOk result (field_loaded (C.cells core.old) registers.old
@@ -35,8 +37,8 @@ pub fn load_field<C: Core>(core: &mut C, registers: &mut Registers) -> Result<()
     Ok(())
 }
 
-/// The law of a load: the characters of the field at A stand at B, the leftmost of them is marked
-/// and no other is, and all other positions are as they were.
+/// The law of a load: the characters of the field at A are at B, the leftmost of them is marked and
+/// no other is, and all other positions are unchanged.
 pub fn loaded_is_by_position()
     ensures { (s new : Storage) (r after : Registers) (count : ℕ) →
         field_length s r.a ≡ Some count → field_loaded s r ≡ Ok (new, after) →

@@ -5,7 +5,7 @@ ghost use Rattle.moves.specs.Marks.{marks_put, storage_cleared};
 
 use core_store::{Check, Core, Registers, are_inside, lowered};
 
-/// Sets word marks at A and B.
+/// Sets word marks at A and B. Check ADDRESS if A or B is outside the storage.
 #[tactic(auto, unfolding(crate::specs::Marks::marks_put))]
 pub fn set_mark<C: Core>(core: &mut C, registers: &mut Registers) -> Result<(), Check>
     ensures done { OnOk result (marks_put true (C.cells core.old) registers.old
@@ -25,7 +25,7 @@ pub fn set_mark<C: Core>(core: &mut C, registers: &mut Registers) -> Result<(), 
     Ok(())
 }
 
-/// Clears the word marks at A and B.
+/// Clears the word marks at A and B. Check ADDRESS if A or B is outside the storage.
 #[tactic(auto, unfolding(crate::specs::Marks::marks_put))]
 pub fn clear_mark<C: Core>(core: &mut C, registers: &mut Registers) -> Result<(), Check>
     ensures done { OnOk result (marks_put false (C.cells core.old) registers.old
@@ -45,7 +45,8 @@ pub fn clear_mark<C: Core>(core: &mut C, registers: &mut Registers) -> Result<()
     Ok(())
 }
 
-/// Clears characters and marks from B down to the nearest hundred.
+/// Clears characters and marks from B down to the nearest hundred. Check ADDRESS if B is outside
+/// the storage.
 #[tactic(auto, unfolding(crate::specs::Marks::storage_cleared))]
 pub fn clear_storage<C: Core>(core: &mut C, registers: &mut Registers) -> Result<(), Check>
     ensures done { OnOk result (storage_cleared (C.cells core.old) registers.old

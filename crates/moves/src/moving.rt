@@ -1,4 +1,4 @@
-//! A field moved.
+//! A field moved up to a word mark.
 
 ghost use Rattle.std.specs.Prelude.{◌≡◌, ◌+◌, ◌-◌, ◌<◌, ◌≤◌, ◌&&◌, ℕ, Some, length, nat_le, IfSome, IsTrue, OnOk, OnErr, IfErr, Ok, Err};
 ghost use Rattle.core_store.specs.Storage.{Storage, put_codes, largest_size};
@@ -7,7 +7,7 @@ ghost use Rattle.moves.specs.Moved.{least_of, move_length, moved_codes, moved, I
 
 use core_store::{Check, Core, Registers, are_inside, field_length, overlaps};
 
-/// The smaller of two counts, where there is one at all.
+/// The smaller of two counts; if only one is present, that one.
 #[inline(always)]
 fn least_of(first: Option<u16>, second: Option<u16>) -> Option<u16>
     ensures { result ≡ least_of first second }
@@ -19,8 +19,8 @@ fn least_of(first: Option<u16>, second: Option<u16>) -> Option<u16>
     }
 }
 
-/// How many characters a move takes, where they are sixteen at most and neither field is near
-/// position 000. A far mark of the other field is not sought.
+/// The number of characters of a move, if there are at most sixteen and neither field is near
+/// position 000. A far mark of the other field is not searched for.
 #[inline(always)]
 #[tactic(auto, using(crate::proofs::Shared::near_shared))]
 fn near_shared<C: Core>(core: &C, a: u16, b: u16) -> Option<u16>
@@ -38,7 +38,7 @@ fn near_shared<C: Core>(core: &C, a: u16, b: u16) -> Option<u16>
     Some(count)
 }
 
-/// How many characters a move takes: up to the first mark in either field.
+/// The number of characters of a move: up to the first mark in either field.
 #[inline(always)]
 #[tactic(auto, unfolding(crate::specs::Moved::move_length))]
 fn move_length<C: Core>(core: &C, a: u16, b: u16) -> Option<u16>
@@ -54,7 +54,7 @@ fn move_length<C: Core>(core: &C, a: u16, b: u16) -> Option<u16>
     }
 }
 
-/// Whether so many characters that end at A and at B do not pass position 000.
+/// Whether `count` characters that end at A and at B do not pass position 000.
 #[inline(always)]
 fn have_room(a: u16, b: u16, count: u16) -> bool
     requires a { a < largest_size }
@@ -65,7 +65,7 @@ fn have_room(a: u16, b: u16, count: u16) -> bool
     count <= a + 1 && count <= b + 1
 }
 
-/// Copies the characters up to A to the positions up to B, one by one from the right.
+/// Copies the characters that end at A to those that end at B, one by one from the right.
 #[tactic(auto, using(crate::proofs::Moves::move_none))]
 fn ripple<C: Core>(core: &mut C, a: u16, b: u16, count: u16)
     requires a_in { a < length (C.cells core.old) }
@@ -81,7 +81,7 @@ fn ripple<C: Core>(core: &mut C, a: u16, b: u16, count: u16)
     }
 }
 
-/// The same, all at once where no character is written over before it is copied.
+/// Copies as `ripple` does, but all at once if no character is overwritten before it is copied.
 #[tactic(auto, using(crate::proofs::Moves::moved_apart))]
 fn copy_codes<C: Core>(core: &mut C, a: u16, b: u16, count: u16)
     requires a_in { a < length (C.cells core.old) }
@@ -98,8 +98,8 @@ fn copy_codes<C: Core>(core: &mut C, a: u16, b: u16, count: u16)
     }
 }
 
-/// Moves characters from the field at A to the field at B, as far as the first mark in either.
-/// Marks stay.
+/// Moves characters from the field at A to the field at B, up to the first mark in either. Marks
+/// stay. Check ADDRESS if A or B is outside the storage or a field would pass position 000.
 #[tactic(auto, unfolding(crate::specs::Moved::moved))]
 pub fn move_field<C: Core>(core: &mut C, registers: &mut Registers) -> Result<(), Check>
     ensures done { OnOk result (moved (C.cells core.old) registers.old
@@ -123,8 +123,8 @@ pub fn move_field<C: Core>(core: &mut C, registers: &mut Registers) -> Result<()
     Ok(())
 }
 
-/// The law of a move: each position of the field at B holds the character of its source, and all
-/// other characters and all marks are the old ones.
+/// The law of a move: each position of the field at B holds the character of its source. All other
+/// characters and all marks are unchanged.
 pub fn moved_is_by_position()
     ensures { (s new : Storage) (r after : Registers) (count : ℕ) →
         move_length s r.a r.b ≡ Some count → moved s r ≡ Ok (new, after) →

@@ -6,7 +6,8 @@ ghost use Rattle.moves.specs.Parts.{digit_moved, zone_moved};
 use crate::characters::{of_parts, part_of};
 use core_store::{Check, Core, Registers, are_inside};
 
-/// Moves the numeric part of the character at A to B, whose zone stays.
+/// Moves the numeric part of the character at A to B. The zone at B stays. Check ADDRESS if A or B
+/// is outside the storage.
 #[tactic(auto, unfolding(crate::specs::Parts::digit_moved))]
 pub fn digit<C: Core>(core: &mut C, registers: &mut Registers) -> Result<(), Check>
     ensures done { OnOk result (digit_moved (C.cells core.old) registers.old
@@ -26,7 +27,8 @@ pub fn digit<C: Core>(core: &mut C, registers: &mut Registers) -> Result<(), Che
     Ok(())
 }
 
-/// Moves the zone of the character at A to B, whose numeric part stays.
+/// Moves the zone of the character at A to B. The numeric part at B stays. Check ADDRESS if A or B
+/// is outside the storage.
 #[tactic(auto, unfolding(crate::specs::Parts::zone_moved))]
 pub fn zone<C: Core>(core: &mut C, registers: &mut Registers) -> Result<(), Check>
     ensures done { OnOk result (zone_moved (C.cells core.old) registers.old

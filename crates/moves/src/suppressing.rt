@@ -11,7 +11,7 @@ use crate::characters::bare;
 use bcd::Code;
 use core_store::{Check, Core, Registers, are_inside, field_length, overlaps};
 
-/// The character at a place from the right, which at the units position is without zone.
+/// The character at an index from the right, without its zone if it is the units.
 #[inline(always)]
 pub fn bare_at<C: Core>(core: &C, position: u16, place: u16) -> Code
     requires within { position < length (C.cells core.now) }
@@ -23,7 +23,7 @@ pub fn bare_at<C: Core>(core: &C, position: u16, place: u16) -> Code
     if place == 0 { bare(code) } else { code }
 }
 
-/// Clears the marks of the last positions up to one.
+/// Clears the marks of `count` positions that end at B.
 #[tactic(auto, using(crate::proofs::Copying::unmark_step, crate::proofs::Copying::unmark_none, crate::proofs::Copying::length_with_mark))]
 fn clear_marks<C: Core>(core: &mut C, b: u16, count: u16)
     requires within { b < length (C.cells core.old) }
@@ -37,7 +37,7 @@ fn clear_marks<C: Core>(core: &mut C, b: u16, count: u16)
     }
 }
 
-/// Copies the characters up to A to those up to B, the units without zone.
+/// Copies the characters that end at A to those that end at B, the units without zone.
 #[tactic(auto, using(crate::proofs::Copying::copy_none, crate::proofs::Copying::copied_on, crate::proofs::Copying::size_on))]
 fn copy_bare<C: Core>(core: &mut C, a: u16, b: u16, count: u16)
     requires a_in { a < length (C.cells core.old) }
@@ -56,7 +56,7 @@ fn copy_bare<C: Core>(core: &mut C, a: u16, b: u16, count: u16)
     }
 }
 
-/// Moves the characters up to A to B, without marks and leading zeros.
+/// Moves the characters that end at A to B, without marks and leading zeros.
 #[tactic(auto, using(crate::proofs::Copying::all_suppressed))]
 fn move_suppressed<C: Core>(core: &mut C, a: u16, b: u16, count: u16)
     requires a_in { a < length (C.cells core.old) }
@@ -73,7 +73,9 @@ fn move_suppressed<C: Core>(core: &mut C, a: u16, b: u16, count: u16)
     blank_start(core, b + 1 - count, count, count, Stop::Other);
 }
 
-/// Moves the field at A to B without its leading zeros and without marks.
+/// Moves the field at A to B without its leading zeros and without marks. Check ADDRESS if A or B
+/// is outside the storage or the field would pass position 000, check OVERLAP if the field would be
+/// overwritten before it is read.
 #[tactic(auto, unfolding(crate::specs::Suppressed::zeros_suppressed))]
 pub fn suppress<C: Core>(core: &mut C, registers: &mut Registers) -> Result<(), Check>
     ensures done { OnOk result (zeros_suppressed (C.cells core.old) registers.old

@@ -17,7 +17,8 @@ use crate::halts::stopped_machines_stay;
 use loader::cards_load_the_program;
 use machine::runs_add;
 
-/// A machine that loads a program makes what one makes that begins at the program's start.
+/// The law of beginnings: a machine that loads a program makes the same cards and lines as one that
+/// begins at the program's start.
 pub fn programs_run_from_their_start()
     ensures { (size : Size) (image : List Cell) (start : ℕ) (data_cards : List Card)
         (starts : List Switches) (cards : List Card) (lines : List Line) →

@@ -1,4 +1,4 @@
-//! What is handed in, and what is asked of the office.
+//! What customers hand in, and the commands to the office.
 
 ghost use Rattle.std.specs.Prelude.{◌≡◌};
 ghost use Rattle.office.specs.Kept.{is_query, is_for_free, refused_if, slice_refusal, last_refusal, job_refusal};
@@ -9,7 +9,7 @@ use crate::stretches::MOST_GRANTED;
 use cards::Deck;
 use units::Switches;
 
-/// What kind of deck is handed in.
+/// The kind of a deck that is handed in.
 #[derive(Clone, Copy, Debug, PartialEq, Eq)]
 pub enum Kind {
     /// Cards that load themselves.
@@ -22,7 +22,7 @@ pub enum Kind {
 #[derive(Drop)]
 pub struct Contents {
     pub kind: Kind,
-    /// How many positions of storage the machine is to have.
+    /// The number of positions of storage of the machine.
     pub size: u32,
     /// The switches at the first start.
     pub switches: Switches,
@@ -32,17 +32,18 @@ pub struct Contents {
 /// A command on one job. The last three are queries, which change nothing.
 #[derive(Clone, Copy, Debug, PartialEq, Eq)]
 pub enum JobCommand {
-    /// Runs the job for at most so many instructions.
+    /// Runs the job for at most `limit` instructions.
     Slice { limit: u32 },
-    /// Lets the job go on from a halt, with the switches set anew.
+    /// Starts the job again from a halt, with the switches set anew.
     Start { switches: Switches },
     /// Keeps the job from being run or collected.
     Hold,
     /// Ends a hold.
     Release,
-    /// Hands out what the job has made; after it the job is only looked at.
+    /// Marks the job as collected, and returns the numbers of its cards and lines. After it only
+    /// queries are allowed.
     Collect,
-    /// How the job stands.
+    /// The standing of the job.
     Standing,
     /// The cards that the job has punched.
     Cards,
@@ -73,14 +74,14 @@ pub enum Command {
     Queue,
 }
 
-/// The reason, where the test holds.
+/// The reason, if the test is true.
 fn refused_if(test: bool, reason: Refusal) -> Option<Refusal>
     ensures { result ≡ refused_if test reason }
 {
     if test { Some(reason) } else { None }
 }
 
-/// Why a slice is refused for a job that is free.
+/// Why a slice is refused for a job that is not held.
 fn slice_refusal(limit: u32, job: &Summary) -> Option<Refusal>
     ensures { result ≡ slice_refusal limit job.now }
 {
@@ -92,7 +93,7 @@ fn slice_refusal(limit: u32, job: &Summary) -> Option<Refusal>
 }
 
 impl JobCommand {
-    /// Whether it only asks.
+    /// Whether it is a query.
     fn is_query(self) -> bool
         ensures { result ≡ is_query self }
     {
@@ -102,7 +103,7 @@ impl JobCommand {
         )
     }
 
-    /// Whether it is for a job that isn't held.
+    /// Whether it requires a job that is not held.
     fn is_for_free(self) -> bool
         ensures { result ≡ is_for_free self }
     {
@@ -112,7 +113,7 @@ impl JobCommand {
         )
     }
 
-    /// The last tests of it.
+    /// The last tests of a command: those after the test for a hold.
     fn last_refusal(self, job: &Summary) -> Option<Refusal>
         ensures { result ≡ last_refusal self job.now }
     {
@@ -128,7 +129,7 @@ impl JobCommand {
         }
     }
 
-    /// Why it is refused for a job of which this is told, if it is.
+    /// Why the command is refused for a job with this summary, if it is.
     pub fn refusal(self, job: &Summary) -> Option<Refusal>
         ensures { result ≡ job_refusal self job.now }
     {

@@ -7,9 +7,9 @@ ghost use Rattle.office.specs.Whole.{RunsThrough};
 
 use machine::runs_add;
 
-/// The law of halts: a machine at a halt or check stays as it is; so two runs of one machine that
-/// both end at a halt or check end alike; and one that ends so goes on from each machine that
-/// still runs.
+/// The law of halts: a machine at a halt or check stays as it is. Hence two runs of one machine
+/// that both end at a halt or check end equal, and a run that has not ended yet, continued for the
+/// remaining steps, ends like the whole run.
 pub fn stopped_machines_stay()
     ensures stays { (m : State) (count : ℕ) → is_running m.standing ≡ false → after m count ≡ m }
     ensures one_end { (m : State) (first second : ℕ) →
@@ -23,7 +23,7 @@ pub fn stopped_machines_stay()
     runs_add();
 }
 
-/// Whole runs of one machine with the same starts end alike.
+/// The law of whole runs: whole runs of one machine with the same starts end equal.
 pub fn whole_runs_end_alike()
     ensures { (m : State) (starts : List Switches) (first second : State) →
         RunsThrough m starts first → RunsThrough m starts second → first ≡ second }

@@ -1,4 +1,4 @@
-//! Jobs, and what commands make of them.
+//! Jobs, and the effect of commands on them.
 
 ghost use Rattle.std.specs.Prelude.{◌≡◌, ◌<◌, length, None, OnOk, OnErr, IfOk, IfSome, MatchOption};
 ghost use Rattle.machine.specs.Run.{risen};
@@ -17,7 +17,7 @@ use std::alloc::{AllocError, Global};
 use std::marker::Model;
 use units::{Line, Switches};
 
-/// A job that commands work on: its stretches, its flags and its machine.
+/// A job on which commands work: its stretches, its flags and its machine.
 #[derive(Drop)]
 pub struct Job<C: Core> {
     stretches: Stretches,
@@ -39,7 +39,7 @@ impl<C: Core> Model for Job<C> {
     } };
 }
 
-/// All that there is to know of a job between two calls.
+/// The parts of a job. Between two calls they are its whole state.
 #[derive(Drop)]
 pub struct JobParts<C: Core> {
     pub stretches: Vec<Stretch>,
@@ -62,7 +62,7 @@ impl<C: Core> Model for JobParts<C> {
     } };
 }
 
-/// The parts of a job, as it shows them.
+/// The parts of a job, borrowed from it.
 #[derive(Drop)]
 pub struct ShownJob<'a, C: Core> {
     pub stretches: &'a [Stretch],
@@ -72,7 +72,7 @@ pub struct ShownJob<'a, C: Core> {
     pub machine: &'a Parts<C>,
 }
 
-/// How a machine stands, as it is told.
+/// The standing of a machine, as replies have it.
 fn told<C: Core>(parts: &Parts<C>) -> JobStanding
     ensures { result ≡ told parts.now }
 {
@@ -103,7 +103,8 @@ fn copy_of_lines(alloc: Global, lines: &[Line]) -> Result<Listing, AllocError>
 }
 
 impl<C: Core> Job<C> {
-    /// A job whose machine has loaded a deck, with nothing granted yet.
+    /// Returns a job whose machine has loaded a deck, with nothing granted yet. Fails only if there
+    /// is no memory.
     pub(crate) fn load(
         alloc: Global,
         deck: Deck,
@@ -121,9 +122,9 @@ impl<C: Core> Job<C> {
         })
     }
 
-    /// A job with these parts, or none if no job has them. From what `parts` shows the very job is
-    /// made that showed it. Memory is taken for the machine's second storage alone, and so only
-    /// for parts in range.
+    /// Returns the job with these parts, or `None` if no job has them. From the parts that `parts`
+    /// returns, the same job is made again. Memory is taken for the machine's second storage alone,
+    /// and only for parts in range.
     pub fn from_parts(alloc: Global, parts: JobParts<C>) -> Result<Option<Job<C>>, AllocError>
         ensures job { IfOk result (λ made. IfSome made (λ job. job ≡ parts)) }
         ensures in_range { IfOk result (λ made.
@@ -150,7 +151,7 @@ impl<C: Core> Job<C> {
         }))
     }
 
-    /// All that there is to know of the job.
+    /// The parts of the job: its whole state between two calls.
     pub fn parts(&self) -> ShownJob<'_, C>
         ensures stretches { result.stretches.now ≡ self.now.stretches }
         ensures held { result.held ≡ self.now.held }
@@ -166,7 +167,7 @@ impl<C: Core> Job<C> {
         }
     }
 
-    /// What is told of the job.
+    /// The summary of the job, as replies have it.
     pub fn summary(&self) -> Summary
         ensures { result ≡ summary_of self.now }
     {
@@ -181,7 +182,7 @@ impl<C: Core> Job<C> {
         }
     }
 
-    /// Runs for at most so many instructions.
+    /// Runs for at most `limit` instructions.
     fn slice(&mut self, limit: u32, meter: &mut Meter) -> Result<Reply, AllocError>
         requires { job_refusal (JobCommand.Slice limit) (summary_of self.old) ≡ None }
         ensures reply { IfOk result (λ reply. reply ≡ answered (JobCommand.Slice limit) self.old) }
@@ -201,7 +202,7 @@ impl<C: Core> Job<C> {
         })
     }
 
-    /// Goes on from a halt, with the switches set anew.
+    /// Starts again from a halt, with the switches set anew.
     fn start(&mut self, switches: Switches) -> Result<Reply, AllocError>
         requires { job_refusal (JobCommand.Start switches) (summary_of self.old) ≡ None }
         ensures reply { IfOk result (λ reply.
@@ -214,7 +215,7 @@ impl<C: Core> Job<C> {
         Ok(Reply::Started)
     }
 
-    /// Is held from now on.
+    /// Holds the job.
     fn hold(&mut self) -> Reply
         ensures reply { result ≡ answered JobCommand.Hold self.old }
         ensures job { self.new ≡ changed JobCommand.Hold self.old }
@@ -223,7 +224,7 @@ impl<C: Core> Job<C> {
         Reply::Held
     }
 
-    /// Is held no more.
+    /// Releases the job.
     fn release(&mut self) -> Reply
         ensures reply { result ≡ answered JobCommand.Release self.old }
         ensures job { self.new ≡ changed JobCommand.Release self.old }
@@ -232,7 +233,7 @@ impl<C: Core> Job<C> {
         Reply::Released
     }
 
-    /// Is collected.
+    /// Marks the job as collected.
     fn collect(&mut self) -> Reply
         ensures reply { result ≡ answered JobCommand.Collect self.old }
         ensures job { self.new ≡ changed JobCommand.Collect self.old }
@@ -289,8 +290,9 @@ impl<C: Core> Job<C> {
         }
     }
 
-    /// Carries out a command, unless it is refused; a refusal changes nothing. On want of memory
-    /// the job is as before; the instructions done until then have ticked. Only a slice ticks.
+    /// Carries out a command, unless it is refused; a refusal changes nothing. If there is no
+    /// memory, the job is as before, but the instructions done until then have ticked. Only a slice
+    /// ticks.
     pub fn take(
         &mut self,
         alloc: Global,

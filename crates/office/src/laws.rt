@@ -16,16 +16,16 @@ use crate::halts::whole_runs_end_alike;
 use autocoder::faultless_sources_can_be_loaded;
 use machine::{runs_add, stays_in_range};
 
-/// The law of grants: whatever the pieces, a job at a halt has made the cards and lines of the
-/// whole run from the load button, and no others.
+/// The law of grants: however the grants are split, a job at a halt has made the cards and lines of
+/// the whole run from the load button, and no others.
 pub fn grants_are_whole_runs()
     ensures { (job : Job) → HaltsBetween job → IsAtHalt job → HasRunFromItsDeck job }
 {
     whole_runs_end_alike();
 }
 
-/// Each stretch but the last ends at a halt, in a new job, and whatever is granted more, whichever
-/// flag is set, and however often the machine is started at a halt.
+/// The law of stretches: in a new job, and after every grant, change of a flag and start at a halt,
+/// each stretch but the last ends at a halt.
 pub fn halts_stay_between()
     ensures new { (job : Job) (switches : Switches) →
         HaltsBetween (record job { stretches = one_more switches [] }) }
@@ -37,7 +37,8 @@ pub fn halts_stay_between()
         HaltsBetween (started_job switches job) }
 {}
 
-/// What is granted more, or started, goes on from where the job's machine is.
+/// The law of pictures: a job that is granted more, or started, continues from the picture of its
+/// machine.
 pub fn pictures_go_on()
     ensures sliced { (job : Job) (limit : ℕ) → 0 < length job.stretches →
         picture (sliced_job limit job) ≡ after (picture job) limit }
@@ -58,7 +59,7 @@ pub fn sources_run_as_programs()
     faultless_sources_can_be_loaded();
 }
 
-/// Both laws, of all jobs at once.
+/// The laws of grants and of sources, for all jobs of an office at once.
 pub fn offices_run_whole()
     ensures { (jobs : List Job) → AllByRecursion HaltsBetween jobs →
         AllByRecursion RunsWhole jobs }
@@ -67,8 +68,8 @@ pub fn offices_run_whole()
     sources_run_as_programs();
 }
 
-/// The law of commands: what a command makes of a job with its machine is what it makes of the
-/// job's stretches and flags alone, with the machine where these leave it.
+/// The law of commands: the effect of a command on a job with its machine is its effect on the
+/// job's stretches and flags alone, with the machine that these determine.
 pub fn commands_act_on_pictures()
     ensures { (command : JobCommand) (job : Job) → 0 < length job.stretches →
         (take_kept command (kept_of job)).0 ≡ kept_of (job_after command job) }
@@ -76,8 +77,8 @@ pub fn commands_act_on_pictures()
     pictures_go_on();
 }
 
-/// The law of jobs: what is handed in and not refused is a job, and each command leaves a job one;
-/// and whatever is a job may be kept.
+/// The law of jobs: what is handed in and not refused is a job, each command keeps it a job, and
+/// every job can be kept in the tables.
 pub fn commands_keep_jobs()
     ensures new { (contents : Contents) (job : Job) → job_or_refusal contents ≡ Ok job →
         IsDeck contents.deck → IsDeck (loaded_deck job) → IsJob job }
@@ -87,7 +88,7 @@ pub fn commands_keep_jobs()
     stays_in_range();
 }
 
-/// The law of grants needs that each stretch but the last ends at a halt.
+/// The law of grants requires that each stretch but the last ends at a halt.
 pub fn halts_are_needed()
     ensures { ((job : Job) → IsAtHalt job → HasRunFromItsDeck job) → ⊥ }
 {}

@@ -1,13 +1,14 @@
-//! The office: jobs, the commands on them, and what is replied.
+//! The office: jobs, the commands on them, and the replies.
 //!
-//! Nothing here knows where jobs are kept. A job is its stretches, its flags and its machine;
-//! [`new_job`] makes one of what a customer hands in, and [`Job::take`] carries out a command on
-//! it. [`Job::parts`] shows all that there is to know of it between two calls, and
-//! [`Job::from_parts`] makes it again of that.
+//! Nothing here depends on how jobs are kept. A job is its stretches, its flags and its machine;
+//! [`new_job`] makes one from what a customer hands in, and [`Job::take`] carries out a command on
+//! it. [`Job::parts`] returns the whole state of a job between two calls, and [`Job::from_parts`]
+//! makes the job again from it.
 //!
-//! `specs/Office.antt` says what commands make of the jobs of all customers. The contract that the
-//! layer above uses: a new job and the reply to a command are those of the definitions there, and
-//! want of memory leaves a job as it was. The laws join what was granted in pieces to whole runs.
+//! `specs/Office.antt` defines the effect of commands on the jobs of all customers. The contract
+//! for the layer above: a new job and the reply to a command are those of the definitions there,
+//! and without memory a job stays as it was. The laws relate what was granted in pieces to whole
+//! runs.
 #![tactic(auto)]
 
 mod beginnings;

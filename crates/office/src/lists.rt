@@ -1,4 +1,4 @@
-//! The lists that replies hold.
+//! The lists in replies.
 
 use crate::standings::JobStanding;
 use autocoder::CardFault;
@@ -32,7 +32,7 @@ impl Model for Listing {
     ghost view = { λ list. list.0.items };
 }
 
-/// What the list of a customer's jobs says of one.
+/// An entry of the list of a customer's jobs.
 #[derive(Clone, Copy, Debug, PartialEq, Eq)]
 pub struct JobLine {
     pub number: u32,
@@ -54,7 +54,7 @@ impl Model for JobList {
     ghost view = { λ list. list.0.items };
 }
 
-/// A job in the queue, by its customer and number.
+/// An entry of the queue: a job by its customer and number.
 #[derive(Drop)]
 pub struct QueueLine {
     pub customer: String,
@@ -86,7 +86,7 @@ impl Model for QueueList {
     ghost view = { λ list. list.0.items };
 }
 
-/// The faults of a source in card order, one of a card.
+/// The faults of a source in card order, at most one for each card.
 #[derive(Drop)]
 pub struct SourceFaults(pub Vec<CardFault>);
 

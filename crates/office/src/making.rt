@@ -22,11 +22,11 @@ use std::alloc::Global;
 #[derive(Drop)]
 pub enum NewFault {
     Refused(Refusal),
-    /// There was no memory for the job; nothing was changed.
+    /// There was no memory for the job. Nothing was changed.
     NoMemory,
 }
 
-/// The size with so many positions, if there is one.
+/// The size with this number of positions, if there is one.
 fn size_of(positions: u32) -> Option<Size>
     ensures { result ≡ size_numbered positions }
 {
@@ -50,7 +50,7 @@ fn push_cards(deck: &mut Deck, cards: &[Card]) -> Result<(), DeckFault>
     Ok(())
 }
 
-/// Another deck of the same cards.
+/// Returns a copy of a deck.
 fn copy_of(alloc: Global, deck: &Deck) -> Result<Deck, NewFault>
     ensures copy { IfOk result (λ copy. copy ≡ deck.now) }
     ensures fault { IfErr result (λ fault. fault ≡ NewFault.NoMemory) }
@@ -62,7 +62,7 @@ fn copy_of(alloc: Global, deck: &Deck) -> Result<Deck, NewFault>
     }
 }
 
-/// The deck that loads the program of a source and then its data.
+/// Returns the deck that loads the program of a source and then its data.
 fn program_deck(alloc: Global, deck: &Deck, program: &Program) -> Result<Deck, NewFault>
     requires { IsProgramOf (source_of deck.now) program.now }
     ensures deck { IfOk result (λ loaded. loaded ≡ loaded_of Kind.Autocoder deck.now) }
@@ -76,7 +76,7 @@ fn program_deck(alloc: Global, deck: &Deck, program: &Program) -> Result<Deck, N
     }
 }
 
-/// The program of a source, made ready to load.
+/// Assembles a source, and returns the deck that loads its program.
 fn assembled(alloc: Global, deck: &Deck) -> Result<Deck, NewFault>
     requires { 0 < length deck.now }
     ensures deck { IfOk result (λ loaded. loaded ≡ loaded_of Kind.Autocoder deck.now) }
@@ -92,7 +92,7 @@ fn assembled(alloc: Global, deck: &Deck) -> Result<Deck, NewFault>
     }
 }
 
-/// The deck that a job's machine loads.
+/// Returns the deck that a job's machine loads.
 fn deck_to_load(alloc: Global, kind: Kind, deck: &Deck) -> Result<Deck, NewFault>
     ensures deck { IfOk result (λ loaded. loaded ≡ loaded_of kind deck.now) }
     ensures some { IfOk result (λ loaded. 0 < length loaded) }
@@ -108,8 +108,8 @@ fn deck_to_load(alloc: Global, kind: Kind, deck: &Deck) -> Result<Deck, NewFault
     }
 }
 
-/// The job of what is handed in. It is refused where there is no such size, or no card, or where
-/// the source has faults, or where what would be loaded has over 2,000 cards, in this order.
+/// Makes the job of what is handed in. It is refused if there is no such size, or no card, or if
+/// the source has faults, or if there would be over 2,000 cards to load, in this order.
 pub fn new_job<C: Core>(alloc: Global, contents: &Contents) -> Result<Job<C>, NewFault>
     ensures job { IfOk result (λ job. IsJobOf contents.now job) }
     ensures refused { IfErr result (λ fault. IsWhyNot contents.now fault) }

@@ -1,13 +1,13 @@
-//! How customers and jobs are named, and how much a slice may ask for.
+//! The names of customers and jobs, and the limits of slices.
 
 ghost use Rattle.std.specs.Prelude.{◌≡◌};
 ghost use Rattle.std.specs.List.{list_all};
 ghost use Rattle.office.specs.Names.{is_letter_or_digit, is_name_length, is_customer, is_number, is_limit};
 
-/// The characters of a customer's name.
+/// The characters allowed in a customer's name.
 const NAME_CHARACTERS: &[u8] = b"ABCDEFGHIJKLMNOPQRSTUVWXYZ0123456789";
 
-/// Whether each is a character of names.
+/// Whether each byte is a character of names.
 fn are_name_characters(bytes: &[u8]) -> bool
     ensures { result ≡ list_all is_letter_or_digit bytes.now }
 {
@@ -19,7 +19,7 @@ fn are_name_characters(bytes: &[u8]) -> bool
     true
 }
 
-/// Whether a name may have so many characters.
+/// Whether a name may have this length.
 fn is_name_length(length: usize) -> bool
     ensures { result ≡ is_name_length length }
 {

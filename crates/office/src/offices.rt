@@ -7,8 +7,8 @@ ghost use Rattle.office.specs.Office.{Office, AreDistinct, own, free_jobs, by_nu
 ghost use Rattle.office.specs.declared.commands.Command.{Command};
 ghost use Rattle.office.specs.declared.replies.Reply.{Reply};
 
-/// The law of lists: a customer's jobs in order are these jobs, and the jobs that are not held in
-/// order are those jobs, each below the next.
+/// The law of lists: a customer's list is that customer's jobs, and the list of jobs that are not
+/// held is those jobs, each in rising order.
 pub fn lists_are_in_order()
     ensures own { (customer : List ℕ) (office : Office) →
         IsPermutation (own customer office) (in_order by_number (own customer office)) }
@@ -20,7 +20,7 @@ pub fn lists_are_in_order()
         IsStrictlySortedBy by_name (in_order by_name (free_jobs office)) }
 {}
 
-/// The law of submissions: one that was taken is answered alike when it comes again, and then it
+/// The law of submissions: one that was taken gets the same reply when it comes again, and then
 /// changes nothing.
 pub fn submissions_repeat()
     ensures { (command : Command) (office : Office) (cards : ℕ) →
@@ -28,7 +28,7 @@ pub fn submissions_repeat()
         take command (take command office).0 ≡ ((take command office).0, Reply.Taken cards) }
 {}
 
-/// The law of names: whatever is commanded, no two jobs come to have one name.
+/// The law of names: after any command, no two jobs have the same name.
 pub fn names_stay_apart()
     ensures { (command : Command) (office : Office) → AreDistinct office →
         AreDistinct (take command office).0 }

@@ -14,7 +14,7 @@ pub enum Refusal {
     Number,
     /// There is no machine of this size.
     Size,
-    /// The deck has no card, or what would be loaded has over 2,000.
+    /// The deck has no card, or there would be over 2,000 cards to load.
     Deck,
     /// There is a job of this name with other contents.
     OtherContents,
@@ -30,7 +30,7 @@ pub enum Refusal {
     Held,
     /// The job's machine is not running.
     NotRunning,
-    /// The job's machine is not at a halt; or it is running, where the job is to be collected.
+    /// The job's machine is not at a halt; for a collection, it is still running.
     NotAtHalt,
     /// The job is held already.
     AlreadyHeld,
@@ -38,12 +38,12 @@ pub enum Refusal {
     NotHeld,
     /// The job was collected.
     Collected,
-    /// With this grant more than 1,000,000,000 instructions would have been granted to the job.
+    /// With this grant the job would have been granted more than 1,000,000,000 instructions.
     TooMuch,
 }
 
 impl Refusal {
-    /// The number by which it is told.
+    /// The number that is printed for the refusal.
     pub fn number(&self) -> u8
         ensures { result ≡ refusal_number self.now }
     {

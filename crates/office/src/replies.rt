@@ -1,33 +1,33 @@
-//! What is replied to a command.
+//! The replies to commands.
 
 use crate::lists::{JobList, Listing, PunchedCards, QueueList};
 use crate::refusals::Refusal;
 use crate::standings::{JobStanding, Summary};
 
-/// What is replied to a command.
+/// The reply to a command.
 #[derive(Drop)]
 pub enum Reply {
-    /// The job was taken: so many cards are loaded.
+    /// The job was taken, and this number of cards is loaded.
     Taken {
         cards: u32,
     },
-    /// So many instructions were executed, and so the machine stands.
+    /// The job ran: the number of executed instructions, and the standing after them.
     Ran {
         executed: u32,
         standing: JobStanding,
     },
-    /// The job goes on from its halt.
+    /// The job was started again from its halt.
     Started,
     /// The job is held.
     Held,
-    /// The job is held no more.
+    /// The job is no longer held.
     Released,
-    /// The job was collected: it has made so many cards and lines.
+    /// The job was collected: the numbers of cards and lines that it has made.
     Collected {
         cards: u32,
         lines: u32,
     },
-    /// How the job stands.
+    /// The standing of the job, with its counts and flags.
     Standing(Summary),
     /// The cards that the job has punched.
     Cards(PunchedCards),

@@ -10,18 +10,18 @@ use std::alloc::{AllocError, Global};
 use std::marker::Model;
 use units::Switches;
 
-/// A job is granted at most so many instructions, over all its stretches.
+/// The greatest number of instructions that a job is granted, over all its stretches.
 pub(crate) const MOST_GRANTED: u64 = 1_000_000_000;
 
-/// From one start of a job's machine to the next.
+/// A stretch: from one start of a job's machine to the next.
 #[derive(Clone, Copy, Debug, PartialEq, Eq)]
 pub struct Stretch {
     pub switches: Switches,
-    /// How many instructions were granted, all slices together.
+    /// The number of instructions granted, by all slices together.
     pub granted: u32,
 }
 
-/// How much was granted in all, or the greatest number where that is more.
+/// The number of instructions granted in all, or the greatest number if that is more.
 fn granted_in(stretches: &[Stretch]) -> u32
     ensures { result ≡ min (granted stretches.now) (2 ^ 32 - 1) }
 {
@@ -32,7 +32,7 @@ fn granted_in(stretches: &[Stretch]) -> u32
     total
 }
 
-/// Grants so much more in the last stretch.
+/// Grants more instructions in the last stretch.
 fn grant_more(stretches: &mut [Stretch], limit: u32)
     requires { granted stretches.old + limit ≤ most_granted }
     ensures { stretches.new ≡ granted_more limit stretches.old }
@@ -42,7 +42,7 @@ fn grant_more(stretches: &mut [Stretch], limit: u32)
     }
 }
 
-/// Whether no stretch has a switch beyond the seven.
+/// Whether no stretch has the eighth bit, which is not a switch.
 fn have_switches(stretches: &[Stretch]) -> bool
     ensures { IsTrue result ↔ All HasSwitches stretches.now }
 {
@@ -54,7 +54,7 @@ fn have_switches(stretches: &[Stretch]) -> bool
     true
 }
 
-/// Whether a job may have these stretches: one at least, and in all not too much granted.
+/// Whether a job may have these stretches: at least one, and not too much granted in all.
 fn are_stretches(stretches: &[Stretch]) -> bool
     ensures { IsTrue result ↔ AreStretches stretches.now }
 {
@@ -63,7 +63,7 @@ fn are_stretches(stretches: &[Stretch]) -> bool
         && granted_in(stretches) as u64 <= MOST_GRANTED
 }
 
-/// The stretches of a job: one at least, and in all not too much granted.
+/// The stretches of a job: at least one, and not too much granted in all.
 #[derive(Drop)]
 pub(crate) struct Stretches {
     list: Vec<Stretch>,
@@ -82,7 +82,7 @@ impl Model for Stretches {
 }
 
 impl Stretches {
-    /// One stretch, in which nothing is granted yet.
+    /// One stretch, with nothing granted yet.
     #[tactic(auto, using(crate::proofs::Lasting::first_fits))]
     pub(crate) fn begun(alloc: Global, switches: Switches) -> Result<Stretches, AllocError>
         ensures { IfOk result (λ stretches. stretches ≡ one_more (seven switches) []) }
@@ -117,14 +117,14 @@ impl Stretches {
         &self.list
     }
 
-    /// How much was granted in all.
+    /// The number of instructions granted in all.
     pub(crate) fn granted(&self) -> u32
         ensures { result ≡ granted self.now }
     {
         granted_in(&self.list)
     }
 
-    /// Grants so much more in the last of them.
+    /// Grants more instructions in the last stretch.
     pub(crate) fn grant(&mut self, limit: u32)
         requires { granted self.old + limit ≤ most_granted }
         ensures { self.new ≡ granted_more limit self.old }
@@ -132,7 +132,7 @@ impl Stretches {
         grant_more(&mut self.list, limit);
     }
 
-    /// Begins one more, in which nothing is granted yet.
+    /// Begins one more stretch, with nothing granted yet.
     pub(crate) fn begin(&mut self, switches: Switches) -> Result<(), AllocError>
         ensures begun { OnOk result (self.new ≡ one_more (seven switches) self.old) }
         ensures unchanged { OnErr result (self.new ≡ self.old) }

@@ -6,9 +6,9 @@ ghost use Rattle.office.specs.Office.{Office, own, take, fold};
 ghost use Rattle.office.specs.declared.commands.Command.{Command};
 ghost use Rattle.office_laws.specs.Customers.{names, commands_of, replies_to};
 
-/// The law of customers: the replies to a customer's commands in a list are those to these commands
-/// alone, given to the customer's own part of the office; and commands that name other customers
-/// leave that part as it was, and no reply to the customer another.
+/// The law of customers: the replies to a customer's commands in a list are the replies to these
+/// commands alone, given to the customer's own part of the office. Commands that name other
+/// customers change neither that part nor any reply to the customer.
 pub fn customers_are_apart()
     ensures replies { (customer : List ℕ) (commands : List Command) (office : Office) →
         replies_to customer commands (fold commands office).1

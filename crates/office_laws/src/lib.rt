@@ -1,9 +1,9 @@
 //! Laws of lists of commands to the office.
 //!
-//! Each customer is alone: the replies to a customer's commands depend on no other customer
-//! ([`customers_are_apart`]). And what was handed in once is answered alike whenever it comes again
-//! ([`repeats_in_any_shift`]). They speak of the definitions of `office` that the bureau's replies
-//! and tables are said by, so they hold of every shift.
+//! Each customer is alone: the replies to a customer's commands do not depend on any other customer
+//! ([`customers_are_apart`]). A submission that comes again gets the same reply each time
+//! ([`repeats_in_any_shift`]). Both are about the definitions of `office` by which the bureau's
+//! replies and tables are specified, so they hold of every shift.
 #![tactic(auto)]
 
 mod customers;

@@ -8,10 +8,10 @@ ghost use Rattle.office_laws.specs.Repeats.{IsRepeatOf, IsNumberTaken, IsLastPla
 
 use office::submissions_repeat;
 
-/// The law of repeats: a submission that was taken is answered alike when it comes again after any
-/// further commands, and then it changes nothing. Where the reply was lost, and the job was not
-/// kept, it is answered so too, unless meanwhile the number or the last of the customer's places
-/// was taken.
+/// The law of repeats: a submission that was taken gets the same reply when it comes again after
+/// any further commands, and then changes nothing. If the reply was lost and the job was not kept,
+/// it also gets that reply, unless the number or the last of the customer's places was taken
+/// meanwhile.
 pub fn repeats_in_any_shift()
     ensures kept { (first again : Command) (commands : List Command) (office : Office)
         (cards : ℕ) → IsRepeatOf first again → (take first office).1 ≡ Reply.Taken cards →

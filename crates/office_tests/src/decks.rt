@@ -1,4 +1,4 @@
-//! What is handed in, each card written without its trailing blanks.
+//! Submissions, with each card written without its trailing blanks.
 
 use bitflags::Flags;
 use cards::{COLUMNS, Deck, read_text};
@@ -28,7 +28,7 @@ const SOURCE_THAT_PRINTS: &str = "               CS   332
                END
 ";
 
-/// A source of which each card has a fault; the second is the first for its operand.
+/// A source in which each card has a fault; that of the second is in its operand.
 const FAULTY_SOURCE: &str = "               XYZ
                B    LOST
      *
@@ -45,7 +45,7 @@ const PUNCHES_THREE: &str = ",008015,022029,030031,032033444.\n";
 
 const TWO_CARDS: &str = "HELLO\nWORLD\n";
 
-/// The kind, size, switches, program and data of what is handed in under a name.
+/// The kind, size, switches, program and data of the submission with this name.
 fn handed_in(name: &str) -> Option<(Kind, u32, Switches, &'static str, &'static str)> {
     let (kind, size, switches, program, data) = match name {
         "two lines" => (Kind::Object, 4000, Switches::A, PRINTS_EACH_CARD, TWO_CARDS),
@@ -80,7 +80,7 @@ fn push_cards(text: &mut Vec<u8>, cards: &str) -> Result<(), Fail> {
     Ok(())
 }
 
-/// The deck of these cards, and of so many more that are blank.
+/// The deck of these cards, followed by `blank` blank cards.
 fn deck_of(alloc: Global, program: &str, data: &str, blank: u32) -> Result<Deck, Fail> {
     let mut text = Vec::new(alloc);
     push_cards(&mut text, program)?;
@@ -91,7 +91,7 @@ fn deck_of(alloc: Global, program: &str, data: &str, blank: u32) -> Result<Deck,
     Ok(read_text(alloc, &text)?)
 }
 
-/// What is handed in under a name, with so many blank cards at its end.
+/// The contents of the submission with this name, with `blank` blank cards at its end.
 pub(crate) fn contents_with(alloc: Global, name: &str, blank: u32) -> Result<Contents, Fail> {
     let (kind, size, switches, program, data) = handed_in(name).ok_or("a name")?;
     Ok(Contents {

@@ -53,15 +53,15 @@ ran 0 Instruction at 33|slice 1
 collected 3 0|collect
 ";
 
-/// How a sheet is answered by a job: the first line that is answered otherwise, or else nothing;
-/// and how many instructions were attempted.
+/// The first line of a sheet to which a job gives another reply, or an empty text; and the number
+/// of instructions attempted.
 fn told_by(alloc: Global, job: &mut Job<FlagCore>, sheet: &'static str) -> Result<String, Fail> {
     let mut meter = Meter::new();
     let line = misanswered(alloc, job, &mut meter, sheet)?;
     Ok(format!(in alloc; "{line}{} ticks", meter.ticks())?)
 }
 
-/// The same of a new job by the name of what is handed in.
+/// The same for a new job, by the name of its submission.
 fn told_by_new(alloc: Global, name: &str, sheet: &'static str) -> Result<String, Fail> {
     let contents = contents_with(alloc, name, 0)?;
     let mut job = job_of(alloc, &contents)?;
@@ -80,14 +80,14 @@ fn jobs_answer_commands(rt: HostRuntime) -> Result<(), Fail> {
     Ok(())
 }
 
-/// What a job has printed once it has run for at most so many instructions.
+/// What a job has printed after it has run for at most 2,000 instructions.
 fn printed_by(alloc: Global, job: &mut Job<FlagCore>) -> Result<String, Fail> {
     let mut meter = Meter::new();
     crate::sheets::reply_to(alloc, job, &mut meter, "slice 2000")?;
     crate::sheets::reply_to(alloc, job, &mut meter, "lines")
 }
 
-/// The same of a new job by the name of what is handed in.
+/// The same for a new job, by the name of its submission.
 fn printed_by_new(alloc: Global, name: &str) -> Result<String, Fail> {
     let contents = contents_with(alloc, name, 0)?;
     let mut job = job_of(alloc, &contents)?;

@@ -1,5 +1,5 @@
-//! Tests of the office: sheets of commands on one job, and what is replied to them; what is handed
-//! in and refused; and jobs made of their parts.
+//! Tests of the office: sheets of commands on one job, and the replies to them; submissions and
+//! their refusals; and jobs made from their parts.
 #![tactic(auto)]
 
 #[cfg(test)]

@@ -1,4 +1,4 @@
-//! Jobs made of their parts.
+//! Jobs made from their parts.
 
 use crate::decks::contents_with;
 use crate::sheets::misanswered;
@@ -64,14 +64,14 @@ fn parts_with(alloc: Global, switches: u8, granted: u32) -> Result<JobParts<Flag
     })
 }
 
-/// How a job answers a sheet.
+/// The result of a sheet of commands on a job.
 fn told_by(alloc: Global, job: &mut Job<FlagCore>, sheet: &'static str) -> Result<String, Fail> {
     let mut meter = Meter::new();
     let line = misanswered(alloc, job, &mut meter, sheet)?;
     Ok(format!(in alloc; "{line}{} ticks", meter.ticks())?)
 }
 
-/// How the job of these parts answers a sheet, if there is one.
+/// The result of a sheet of commands on the job of these parts, if there is one.
 fn told_by_parts(
     alloc: Global,
     switches: u8,
@@ -85,7 +85,7 @@ fn told_by_parts(
     }
 }
 
-/// The machine is where its parts say, whatever was granted.
+/// The machine continues from its parts, whatever was granted.
 const GOES_ON_FROM_ITS_PARTS: &str = "\
 ran 1 running|slice 1
 running, false false 9 0 0|standing

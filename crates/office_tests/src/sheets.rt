@@ -40,7 +40,7 @@ fn command_of(words: &str) -> Result<JobCommand, Fail> {
     }
 }
 
-/// How a job's machine stands, in words.
+/// The standing of a job's machine, in words.
 fn standing_text(alloc: Global, standing: JobStanding) -> Result<String, Fail> {
     match standing {
         JobStanding::Running => Ok(String::from_str(alloc, "running")?),
@@ -49,7 +49,7 @@ fn standing_text(alloc: Global, standing: JobStanding) -> Result<String, Fail> {
     }
 }
 
-/// What is told of a job, in words.
+/// The summary of a job, in words.
 pub(crate) fn summary_text(alloc: Global, job: &Summary) -> Result<String, Fail> {
     let standing = standing_text(alloc, job.standing)?;
     let (held, collected, granted) = (job.held, job.collected, job.granted);
@@ -107,8 +107,8 @@ pub(crate) fn reply_to(
     reply_text(alloc, &reply)
 }
 
-/// The first line of a sheet whose command has another reply than the line gives before it; else
-/// nothing.
+/// The first line of a sheet whose command gets another reply than the line gives before it; empty
+/// if there is none.
 pub(crate) fn misanswered(
     alloc: Global,
     job: &mut Job<FlagCore>,

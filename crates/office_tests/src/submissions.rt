@@ -1,4 +1,4 @@
-//! What is handed in: jobs that are taken, and refusals.
+//! Submissions: jobs that are taken, and refusals.
 
 use crate::decks::contents_with;
 use crate::sheets::refusal_text;
@@ -7,7 +7,7 @@ use office::{Contents, Job, NewFault, new_job};
 use std::alloc::Global;
 use std::test::Fail;
 
-/// The job of what is handed in.
+/// The job of a submission.
 pub(crate) fn job_of(alloc: Global, contents: &Contents) -> Result<Job<FlagCore>, Fail> {
     match new_job(alloc, contents) {
         Ok(job) => Ok(job),
@@ -15,14 +15,14 @@ pub(crate) fn job_of(alloc: Global, contents: &Contents) -> Result<Job<FlagCore>
     }
 }
 
-/// How many cards a job has loaded.
+/// The number of cards that a job has loaded.
 fn loaded_by(alloc: Global, job: &Job<FlagCore>) -> Result<String, Fail> {
     let machine = job.parts().machine;
     let cards = machine.units.hopper.deck.cards().len();
     Ok(format!(in alloc; "taken {cards}")?)
 }
 
-/// The number of cards that a job loads, or the refusal of what is handed in.
+/// The number of cards that a job loads, or the refusal of its submission.
 fn told_of(alloc: Global, contents: &Contents) -> Result<String, Fail> {
     match new_job::<FlagCore>(alloc, contents) {
         Ok(job) => loaded_by(alloc, &job),
@@ -31,7 +31,7 @@ fn told_of(alloc: Global, contents: &Contents) -> Result<String, Fail> {
     }
 }
 
-/// The same, by the name of what is handed in and the number of blank cards at its end.
+/// The same, by the name of the submission and the number of blank cards at its end.
 fn told_of_named(alloc: Global, name: &str, blank: u32) -> Result<String, Fail> {
     let contents = contents_with(alloc, name, blank)?;
     told_of(alloc, &contents)

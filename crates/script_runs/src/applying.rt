@@ -1,4 +1,4 @@
-//! The commands of a script, one after the other.
+//! Applying the commands of a script, one after the other.
 
 ghost use Rattle.std.specs.Prelude.{◌≡◌, ◌≤◌, ◌⊎◌, ◌||◌, IsTrue};
 ghost use Rattle.script_runs.specs.Running.{LeavesBeginning, Runs, Ticks};
@@ -14,15 +14,15 @@ use office::Command;
 use sqlite::Alter;
 use std::io::Write;
 
-/// Whether one of two holds.
+/// Whether at least one of two is true.
 fn either(first: bool, second: bool) -> bool
     ensures { result ≡ (first || second) }
 {
     first || second
 }
 
-/// Applies the commands in order, each with its line, up to the first that met a fault or whose
-/// line could not be written.
+/// Applies the commands in order and writes the line of each, up to the first that met a fault or
+/// whose line could not be written.
 pub(crate) fn apply_all<S: Alter, W: Write>(
     writer: &mut W,
     bureau: &mut Bureau<S>,

@@ -1,13 +1,13 @@
-//! How a script ended, and what came of it.
+//! How a script ended, and its result.
 
 use ledger::Fault;
 
-/// What ended a script.
+/// How a script ended.
 #[derive(Clone, Copy, Debug, PartialEq, Eq)]
 pub enum ScriptEnd {
-    /// All commands were replied to.
+    /// Every command was replied to.
     Whole,
-    /// The bytes are no script. Nothing was applied.
+    /// The bytes are not a script. Nothing was applied.
     Bad,
     /// The reader failed. Nothing was applied or written.
     ReadFailed,
@@ -17,15 +17,15 @@ pub enum ScriptEnd {
     Fault(Fault),
 }
 
-/// What came of a script.
+/// The result of a script.
 #[derive(Clone, Copy, Debug, PartialEq, Eq)]
 pub struct Scripted {
-    /// How many commands were replied to by the bureau.
+    /// The number of commands that the bureau replied to.
     pub acknowledged: usize,
-    /// How many bytes went out; the most that is counted is 2^64 - 1.
+    /// The number of bytes written, at most 2^64 - 1.
     pub sent: usize,
     /// Whether a command was refused.
     pub refused: bool,
-    /// What ended it.
+    /// How it ended.
     pub ended: ScriptEnd,
 }

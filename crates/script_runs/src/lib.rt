@@ -1,11 +1,11 @@
 //! Scripts, run at a bureau.
 //!
-//! [`script`] reads a script whole, and carries its commands out in order: each is applied, and
-//! the line of its reply is written before the next. The contract that the layer above uses:
-//! whatever office the tables represented, the lines are those of its replies, the tables represent
-//! the office after the commands that were replied to, and a crash leaves the office after a
-//! beginning of the commands that holds every one that was replied to. Bytes that are no script
-//! change nothing.
+//! [`script`] reads a whole script, and carries its commands out in order: each is applied, and the
+//! line of its reply is written before the next. The contract for the layer above: whatever office
+//! the tables represented, the lines are those of its replies, the tables represent the office
+//! after the commands that were replied to, and a crash leaves the office after a beginning of the
+//! commands that contains every one that was replied to. Bytes that are not a script change
+//! nothing.
 #![tactic(auto)]
 
 mod applying;

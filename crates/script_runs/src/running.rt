@@ -1,4 +1,4 @@
-//! A script, from its first byte on.
+//! Running a script, from its first byte.
 
 ghost use Rattle.std.specs.Prelude.{◌≡◌, ◌≤◌, ◌⊎◌, IsTrue};
 ghost use Rattle.script_runs.specs.Ending.{Ends, GivesUp, HasNoReply, TurnsDown};
@@ -31,7 +31,7 @@ fn give_up<W: Write>(writer: &mut W) -> Scripted
     }
 }
 
-/// Ends a script that is none.
+/// Ends the run of bytes that are not a script.
 fn turn_down<W: Write>(writer: &mut W, fault: ScriptFault) -> Scripted
     ensures end { TurnsDown fault result (W.contents writer.old) (W.contents writer.new) }
     ensures none { HasNoReply result }
@@ -54,8 +54,8 @@ fn turn_down<W: Write>(writer: &mut W, fault: ScriptFault) -> Scripted
 }
 
 /// Reads a script to its end, and then applies its commands in order; the line of each reply is
-/// written before the next command is applied. The first fault ends it with a line. Bytes that are
-/// no script get a line that says why, and no command is applied.
+/// written before the next command is applied. The first fault ends it with a line. For bytes that
+/// are not a script a line with the reason is written, and no command is applied.
 pub fn script<R: Read, W: Write, S: Alter>(
     alloc: Global,
     reader: &mut R,

@@ -16,12 +16,13 @@ use scripts::{write_fault, write_reply};
 use sqlite::Alter;
 use std::io::Write;
 
-/// What came of a command.
+/// The result of a command.
 #[derive(Clone, Copy)]
 pub(crate) enum Step {
-    /// The bureau replied, and the line went out; whether it was a refusal.
+    /// The bureau replied, and the line was written. The value is whether it was a refusal.
     Replied(bool),
-    /// The bureau replied, and the line did not go out whole; whether it was a refusal.
+    /// The bureau replied, and the line was not written whole. The value is whether it was a
+    /// refusal.
     Unwritten(bool),
     /// The command met a fault.
     Faulted(Fault),
@@ -34,7 +35,7 @@ fn is_refusal(reply: &Reply) -> bool
     matches!(reply, Reply::Refused(_))
 }
 
-/// Writes the line of a fault. Where the writer fails, a beginning of it has gone out.
+/// Writes the line of a fault. If the writer fails, a beginning of the line has been written.
 pub(crate) fn report<W: Write>(writer: &mut W, sent: &mut usize, fault: Fault)
     ensures { SendsSome (fault_line (fault_number fault)) (W.contents writer.old)
         (W.contents writer.new) sent.old sent.new }

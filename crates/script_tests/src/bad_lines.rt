@@ -1,9 +1,9 @@
-//! Lines that are no part of a command, by their numbers.
+//! Lines that are not part of a command, by their numbers.
 
 use crate::outcomes::misread;
 use std::test::Fail;
 
-/// Blanks that part no two words, and lines that don't end.
+/// Blanks that do not separate two words, and lines that do not end.
 const BLANKS: &str = "\
 BadLine(1)|;
 BadLine(1)|;queue;
@@ -29,7 +29,7 @@ fn one_blank_parts_two_words(rt: HostRuntime) -> Result<(), Fail> {
     Ok(())
 }
 
-/// Verbs that are none, and too few or too many words.
+/// Unknown verbs, and too few or too many words.
 const WORDS: &str = "\
 BadLine(2)|queue;queu;
 BadLine(1)|Queue;
@@ -61,7 +61,7 @@ fn each_verb_has_its_words(rt: HostRuntime) -> Result<(), Fail> {
     Ok(())
 }
 
-/// Kinds and switches that are none.
+/// Unknown kinds and switches.
 const VALUES: &str = "\
 BadLine(1)|submit ACME 1 Object 4000 - 0;
 BadLine(1)|submit ACME 1 source 4000 - 0;

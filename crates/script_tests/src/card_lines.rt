@@ -3,7 +3,7 @@
 use crate::outcomes::{misread, outcome_of};
 use std::test::Fail;
 
-/// Cards that are too few, and those that end too early.
+/// Too few cards, and cards that end too early.
 const ENDS: &str = "\
 BadLine(2)|submit A 1 object 1 - 1;
 BadLine(3)|submit A 1 object 1 - 2;=X;
@@ -24,7 +24,7 @@ fn cards_are_as_many_as_the_line_says(rt: HostRuntime) -> Result<(), Fail> {
     Ok(())
 }
 
-/// Cards that hold a character that is no glyph.
+/// Cards with a byte that is not a glyph.
 const GLYPHS: &str = "\
 BadLine(2)|submit A 1 object 1 - 1;=x;
 BadLine(3)|submit A 1 object 1 - 2;=X;=Yz;

@@ -25,7 +25,7 @@ fn each_form_is_a_command(rt: HostRuntime) -> Result<(), Fail> {
     Ok(())
 }
 
-/// Commands in their order, and scripts with none.
+/// Commands in order, and scripts without commands.
 const ORDERS: &str = "\
 |
 Queue;Queue;Queue;|queue;queue;queue;
@@ -40,7 +40,7 @@ fn commands_keep_their_order(rt: HostRuntime) -> Result<(), Fail> {
     Ok(())
 }
 
-/// Numbers that are none are 0, and customers may be any word.
+/// Invalid numbers are 0, and a customer may be any word.
 const VALUES: &str = "\
 ACME 999999999 Hold;|hold ACME 999999999;
 ACME 0 Hold;|hold ACME 1000000000;

@@ -1,4 +1,4 @@
-//! How many cards a submission's line says.
+//! The number of cards in the line of a submission.
 
 use crate::outcomes::outcome_of;
 use office::Command;
@@ -6,7 +6,7 @@ use scripts::{ScriptFault, parse};
 use std::alloc::Global;
 use std::test::Fail;
 
-/// A script that hands in so many blank cards, where its line says this.
+/// A script that submits `count` blank cards, with this text as the count in its line.
 fn blank_cards(alloc: Global, said: &str, count: usize) -> Result<String, Fail> {
     let mut script = format!(in alloc; "submit A 1 object 1 - {said}\n")?;
     let card = format!(in alloc; "{:80}\n", "")?;
@@ -39,7 +39,8 @@ fn counts_are_plain(rt: HostRuntime) -> Result<(), Fail> {
     Ok(())
 }
 
-/// How many cards the first command of a script hands in; none where it is no submission.
+/// The number of cards that the first command of a script submits; `None` if it is not a
+/// submission.
 fn cards_of(alloc: Global, script: &str) -> Result<Option<usize>, ScriptFault> {
     let commands = parse(alloc, script.as_bytes())?;
     match commands.first() {

@@ -3,7 +3,7 @@
 use crate::outcomes::{outcome_of, script_of};
 use std::test::Fail;
 
-/// A script whose cards hold all sorts of glyphs, and whose last line is no command.
+/// A script whose cards have all kinds of glyphs, and whose last line is not a command.
 const GLYPHS: &str = "\
 submit 000000000000 15 object 4000 - 3
 =\\    [ I^|UW  : X8 & 5  @Y4 E 9<^4: <  ,   ]M      \"K  } =!A N N I \"-\\  = Z  *
@@ -17,7 +17,7 @@ slice A 1 2000
 x
 ^";
 
-/// A script whose last line misspells a verb.
+/// A script whose last line has a misspelt verb.
 const MISSPELT: &str = "\
 submit ACME 29 object 1400 A 3
 = _]  -0DGF/>   H   _T )    ^@E    TG ;B ^MN    &O*  ? \"@$76 >  /< C   Y # 8U8  |
@@ -84,7 +84,7 @@ fn the_first_bad_line_is_named(rt: HostRuntime) -> Result<(), Fail> {
     Ok(())
 }
 
-/// A script with three submissions, of which one has a number that is none.
+/// A script with three submissions; one has an invalid number.
 const GOOD: &str = "\
 submit ABCDEFGHIJKL 7 object 4000 AB 1
 = 7>  -%FG  _  W     5 *  P   B }# ;   \"O&3NH_ A S 9K W D  ^6A  J     X=   6#P!+

@@ -1,4 +1,4 @@
-//! Lines that say what went wrong.
+//! The lines for what went wrong.
 
 use office::Refusal;
 use scripts::{ScriptFault, write_bad, write_fault, write_refusal};

@@ -58,7 +58,7 @@ fn the_queue_is_listed(rt: HostRuntime) -> Result<(), Fail> {
     Ok(())
 }
 
-/// The refusal of a source with the first so many of three faults.
+/// The refusal of a source with the first `count` of three faults.
 fn faulty(alloc: Global, count: usize) -> Result<Reply, Fail> {
     let mut faults = Vec::new(alloc);
     for (card, fault) in [

@@ -1,4 +1,4 @@
-//! What scripts come to, in words.
+//! The results of scripts, in words.
 
 use cards::{Deck, write_text};
 use office::Command;
@@ -40,7 +40,8 @@ fn command_text(alloc: Global, command: &Command) -> Result<String, Fail> {
     }
 }
 
-/// What the bytes of a script come to, in words: each command and a semicolon, or the fault.
+/// The result of parsing the bytes of a script, in words: each command and a semicolon, or the
+/// fault.
 pub(crate) fn outcome_of(alloc: Global, bytes: &[u8]) -> Result<String, Fail> {
     let commands = match parse(alloc, bytes) {
         Ok(commands) => commands,
@@ -54,8 +55,9 @@ pub(crate) fn outcome_of(alloc: Global, bytes: &[u8]) -> Result<String, Fail> {
     Ok(text)
 }
 
-/// The script of lines that stand each before this character. What follows `=` on a line is filled
-/// up with blanks to 80 columns; `^` after the last line says that its line feed is missing.
+/// The script of lines, each before this character. A line that begins with `=` is a card: the text
+/// after it, padded with blanks to 80 columns. `^` after the last line means that its line feed is
+/// missing.
 pub(crate) fn script_of(alloc: Global, lines: &str, end: char) -> Result<String, Fail> {
     let (lines, is_whole) = match lines.strip_suffix('^') {
         Some(lines) => (lines, false),
@@ -75,8 +77,8 @@ pub(crate) fn script_of(alloc: Global, lines: &str, end: char) -> Result<String,
     Ok(script)
 }
 
-/// The first row of a sheet whose script comes to something other than what the row gives before
-/// it; else nothing. Each line of a script stands before a semicolon.
+/// The first row of a sheet whose script has another result than the row gives before it; empty if
+/// there is none. Each line of a script is before a semicolon.
 pub(crate) fn misread(alloc: Global, sheet: &'static str) -> Result<&'static str, Fail> {
     for row in sheet.lines() {
         let (wanted, lines) = row.split_once('|').ok_or("a script")?;

@@ -5,7 +5,7 @@ use core_store::Check;
 use office::{JobStanding, Refusal, Reply, Summary};
 use std::test::Fail;
 
-/// A job that goes on, has printed two lines, and has these flags.
+/// A job that is running, has printed two lines, and has these flags.
 fn two_lines(held: bool, collected: bool) -> Reply {
     Reply::Standing(Summary {
         standing: JobStanding::Running,
@@ -17,7 +17,7 @@ fn two_lines(held: bool, collected: bool) -> Reply {
     })
 }
 
-/// A job at a halt, with the most of everything.
+/// A job at a halt, with the greatest value in every field.
 fn most() -> Summary {
     Summary {
         standing: JobStanding::Halted { next: 345 },
@@ -29,7 +29,7 @@ fn most() -> Summary {
     }
 }
 
-/// A reply without a list, by a word for it.
+/// A reply without a list, named by a word.
 fn reply_of(word: &str) -> Reply {
     match word {
         "taken" => Reply::Taken { cards: 6 },
@@ -81,7 +81,7 @@ fn standings_have_their_words(rt: HostRuntime) -> Result<(), Fail> {
     Ok(())
 }
 
-/// How a checked machine stands.
+/// The standing of a checked machine.
 fn checked(check: Check) -> JobStanding {
     JobStanding::Checked { check, at: 351 }
 }
@@ -106,7 +106,7 @@ fn halts_and_checks_have_their_words(rt: HostRuntime) -> Result<(), Fail> {
     Ok(())
 }
 
-/// A refusal that says no more than its number.
+/// A refusal that has only its number.
 fn refusal_of(number: u32) -> Refusal {
     match number {
         10 => Refusal::Customer,

@@ -7,7 +7,7 @@ use scripts::{ScriptFault, WriteFailed, write_bad, write_reply};
 use std::alloc::Global;
 use std::test::Fail;
 
-/// A writer that takes so many bytes.
+/// A writer that takes `room` bytes.
 fn writer_of(alloc: Global, room: usize, fails: bool) -> Narrow {
     Narrow {
         taken: Vec::new(alloc),

@@ -5,7 +5,7 @@ use scripts::{MOST_BYTES, ScriptFault, parse};
 use std::alloc::Global;
 use std::test::Fail;
 
-/// A script of so many bytes that asks for the jobs of a customer with a long name.
+/// A script of `count` bytes that asks for the jobs of a customer with a long name.
 fn asking(alloc: Global, count: usize) -> Result<Vec<u8>, Fail> {
     let length = count.checked_sub(1).ok_or("a line feed")?;
     let mut bytes = Vec::new(alloc);
@@ -17,7 +17,8 @@ fn asking(alloc: Global, count: usize) -> Result<Vec<u8>, Fail> {
     Ok(bytes)
 }
 
-/// How many bytes the name of the customer has whose jobs a script first asks for.
+/// The length of the customer's name in the first command of a script, if it asks for the
+/// customer's jobs.
 fn name_length(alloc: Global, script: &[u8]) -> Result<Option<usize>, ScriptFault> {
     match parse(alloc, script)?.first() {
         Some(Command::Jobs { customer }) => Ok(Some(customer.len())),

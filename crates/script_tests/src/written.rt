@@ -5,7 +5,7 @@ use scripts::write_reply;
 use std::alloc::Global;
 use std::test::Fail;
 
-/// Whether a reply is written as this line, and as many bytes are counted.
+/// Whether a reply is written as this line, and the number of bytes counted is right.
 pub(crate) fn is_written(alloc: Global, reply: &Reply, line: &str) -> Result<bool, Fail> {
     let mut writer = Vec::new(alloc);
     let mut sent = 7;

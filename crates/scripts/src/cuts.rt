@@ -5,7 +5,7 @@ ghost use Rattle.scripts.specs.Lines.{IsWithout};
 
 use memchr::memchr;
 
-/// The bytes before the first of these, and those after it.
+/// The bytes before the first one equal to `byte`, and those after it.
 pub(crate) fn cut_at(byte: u8, bytes: &[u8]) -> Option<(&[u8], &[u8])>
     ensures found { IfSome result (λ cut. IsWithout byte cut.0.now
         × (bytes.now ≡ cut.0.now ++ byte ∷ cut.1.now)) }

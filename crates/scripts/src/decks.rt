@@ -7,10 +7,10 @@ use crate::faults::ScriptFault;
 use cards::{COLUMNS, CardError, CardFault, Deck, read_text};
 use std::alloc::Global;
 
-/// How many bytes the line of a card has.
+/// The number of bytes in the line of a card.
 const LINE: usize = COLUMNS + 1;
 
-/// The fault of a script, whose first card has the number 1.
+/// The fault of a script whose first card is line 1.
 fn fault_of(fault: CardFault) -> ScriptFault
     ensures { result ≡ fault_of fault }
 {
@@ -20,8 +20,8 @@ fn fault_of(fault: CardFault) -> ScriptFault
     }
 }
 
-/// The deck of so many cards that the bytes begin with, and the bytes after it. The line of the
-/// first card has the number 1.
+/// Reads the deck of this number of cards at the beginning of the bytes. Returns it and the bytes
+/// after it. The line of the first card has the number 1.
 pub(crate) fn deck_in(
     alloc: Global,
     bytes: &[u8],

@@ -1,14 +1,14 @@
-//! Why bytes are no script.
+//! Why bytes are not a script.
 
 ghost use Rattle.std.specs.Prelude.{◌≡◌};
 ghost use Rattle.scripts.specs.declared.faults.ScriptFault.TheVariants.{NoMemory};
 
 use std::alloc::AllocError;
 
-/// Why bytes are no script. No command of them is applied.
+/// Why bytes are not a script. None of their commands is applied.
 #[derive(Clone, Copy, Debug, PartialEq, Eq)]
 pub enum ScriptFault {
-    /// The line of this number, from 1, is the first that is no part of a command.
+    /// The number, from 1, of the first line that is not part of a command.
     BadLine(usize),
     /// There are more than 4,000,000 bytes.
     TooLong,

@@ -1,12 +1,12 @@
-//! A command, where it was found.
+//! A command and the bytes after it.
 
 use office::Command;
 
-/// A command that some bytes begin with.
+/// The first command of some bytes.
 #[derive(Drop)]
 pub(crate) struct Found<'a> {
     pub(crate) command: Command,
-    /// How many lines it has.
+    /// The number of its lines.
     pub(crate) lines: usize,
     /// The bytes after it.
     pub(crate) rest: &'a [u8],

@@ -10,12 +10,12 @@ pub struct Heading {
     pub customer: String,
     /// The number of the job.
     pub number: u32,
-    /// What kind of deck the cards are.
+    /// The kind of the deck.
     pub kind: Kind,
-    /// How many positions of storage the machine is to have.
+    /// The number of positions of storage of the machine.
     pub size: u32,
     /// The switches at the first start.
     pub switches: Switches,
-    /// How many cards follow.
+    /// The number of cards that follow.
     pub cards: usize,
 }

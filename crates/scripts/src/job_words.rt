@@ -6,7 +6,7 @@ ghost use Rattle.scripts.specs.Commands.{AreFound};
 use crate::texts::{number_of, switches_of};
 use office::JobCommand;
 
-/// The command whose line has no word after the job's number.
+/// The command of a line without a word after the job's number.
 pub(crate) fn plain_command(verb: &[u8]) -> Option<JobCommand>
     ensures { AreFound verb.now [] result }
 {
@@ -19,7 +19,7 @@ pub(crate) fn plain_command(verb: &[u8]) -> Option<JobCommand>
     }
 }
 
-/// The command whose line has one word after the job's number.
+/// The command of a line with one word after the job's number.
 pub(crate) fn worded_command(verb: &[u8], word: &[u8]) -> Option<JobCommand>
     ensures { AreFound verb.now (word.now ∷ []) result }
 {

@@ -1,14 +1,15 @@
 //! Scripts: commands as lines of text, and replies as lines.
 //!
-//! [`read_script`] reads the bytes of a script, and [`parse`] gives its commands, or the number of
-//! the first line that is no part of a command. [`write_reply`] writes the line of a reply, and
-//! [`write_bad`], [`write_fault`] and [`write_refusal`] those that say what went wrong. Writing
-//! takes no memory, and adds to a count how many bytes went out. This crate knows no database.
+//! [`read_script`] reads the bytes of a script, and [`parse`] returns its commands, or the number
+//! of the first line that is not part of a command. [`write_reply`] writes the line of a reply, and
+//! [`write_bad`], [`write_fault`] and [`write_refusal`] write the lines for what went wrong.
+//! Writing takes no memory, and adds the number of bytes written to a count. This crate uses no
+//! database.
 //!
-//! `specs/Commands.antt` says what the words of a line say, `specs/Scripts.antt` which bytes are
-//! the script of which commands and which line is bad, and `specs/Replies.antt` has the line of
-//! each reply. The contract for the layer above: `parse` answers by these definitions alone; a
-//! line goes out whole, or the writer failed and took a beginning of it.
+//! `specs/Commands.antt` defines the meaning of the words of a line, `specs/Scripts.antt` which
+//! bytes are the script of which commands and which line is bad, and `specs/Replies.antt` the line
+//! of each reply. The contract for the layer above: `parse` returns what these definitions say; a
+//! line is written whole, or the writer failed and took a beginning of it.
 #![tactic(auto)]
 
 mod cuts;

@@ -14,10 +14,10 @@ use cards::LINE_FEED;
 use office::{Command, Contents};
 use std::alloc::Global;
 
-/// The most bytes of a script.
+/// The greatest number of bytes of a script.
 pub const MOST_BYTES: usize = 4_000_000;
 
-/// The fault, where so many lines come before.
+/// The fault, with its line number raised by the number of lines before it.
 fn later(lines: usize, fault: ScriptFault) -> ScriptFault
     requires early { lines ≤ most_bytes }
     requires near { IsNear fault }
@@ -29,7 +29,7 @@ fn later(lines: usize, fault: ScriptFault) -> ScriptFault
     }
 }
 
-/// The submission that a heading and the bytes after its line begin with.
+/// Reads the submission of a heading and of the bytes after its line.
 fn submission<'a>(
     alloc: Global,
     heading: Heading,
@@ -61,7 +61,7 @@ fn submission<'a>(
     })
 }
 
-/// The command that the bytes begin with.
+/// Reads the first command of the bytes.
 fn command_in(alloc: Global, bytes: &[u8]) -> Result<Found<'_>, ScriptFault>
     requires { bytes.now ≢ [] }
     ensures found { IfOk result (λ found. Begins bytes.now found.command found.lines
@@ -86,7 +86,9 @@ fn command_in(alloc: Global, bytes: &[u8]) -> Result<Found<'_>, ScriptFault>
     }
 }
 
-/// The commands of a script. It reads all lines before it answers.
+/// Reads the commands of a script. All lines are read before it returns. Fails with `TooLong` over
+/// 4,000,000 bytes, with `BadLine` at the first line that is not part of a command, or if there is
+/// no memory.
 pub fn parse(alloc: Global, bytes: &[u8]) -> Result<Vec<Command>, ScriptFault>
     ensures script { IfOk result (λ commands. IsScriptOf bytes.now commands.items) }
     ensures long { IsErrOf result ScriptFault.TooLong ↔ (most_bytes < length bytes.now) }

@@ -63,7 +63,7 @@ pub(crate) fn put_all<W: Write>(
     Ok(())
 }
 
-/// The words of a check.
+/// The words for a check.
 fn words_of(check: Check) -> &'static str
     ensures { result.now ≡ check_words check }
 {
@@ -78,7 +78,7 @@ fn words_of(check: Check) -> &'static str
     }
 }
 
-/// How a job stands.
+/// The standing of a job, in pieces.
 pub(crate) fn standing(standing: JobStanding) -> [Piece<'static>; 4]
     ensures { flat_map piece_bytes result ≡ standing_words standing }
 {

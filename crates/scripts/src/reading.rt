@@ -15,11 +15,12 @@ pub enum ReadFault {
     ReadFailed,
 }
 
-/// No more of a reader is read: the bytes of a script, and one more, which shows that there are
-/// too many.
+/// How many bytes are read at most: those of a script and one more, so that a longer script is
+/// noticed.
 const MOST_READ: u64 = 4_000_001;
 
-/// What a reader has, up to 4,000,001 bytes.
+/// Reads a reader to its end, or up to 4,000,001 bytes. Fails if there is no memory or if the
+/// reader fails.
 pub fn read_script<R: Read + Drop>(alloc: Global, reader: R) -> Result<Vec<u8>, ReadFault>
     ensures { IfOk result (λ bytes. IsReadOf (R.remaining reader) bytes.items) }
 {

@@ -13,7 +13,7 @@ use autocoder::CardFault;
 use office::{JobLine, JobStanding, QueueLine, Refusal, Reply, Summary};
 use std::io::Write;
 
-/// Writes how far a job ran, and how it stands.
+/// Writes how far a job ran, and its standing.
 fn put_ran<W: Write>(
     writer: &mut W,
     sent: &mut usize,
@@ -56,7 +56,7 @@ fn put_made<W: Write>(writer: &mut W, sent: &mut usize, job: &Summary) -> Result
     put_all(writer, sent, " held ", &pieces)
 }
 
-/// Writes how a job stands, and what it has made.
+/// Writes the standing of a job, and what it has made.
 fn put_summary<W: Write>(writer: &mut W, sent: &mut usize, job: &Summary) -> Result<(), WriteFailed>
     ensures { Writes (line_of (summary_words job.now)) (W.contents writer.old)
         (W.contents writer.new) sent.old sent.new result }
@@ -140,7 +140,7 @@ fn put_faults<W: Write>(
     put(writer, sent, b"\n")
 }
 
-/// Writes the line of a refusal, and adds to the count how many bytes went out.
+/// Writes the line of a refusal, and adds the number of bytes written to the count.
 pub fn write_refusal<W: Write>(
     writer: &mut W,
     sent: &mut usize,
@@ -158,7 +158,8 @@ pub fn write_refusal<W: Write>(
     }
 }
 
-/// Writes the line of a reply, and adds to the count how many bytes went out.
+/// Writes the line of a reply, and adds the number of bytes written to the count. Fails only if the
+/// writer does.
 pub fn write_reply<W: Write>(
     writer: &mut W,
     sent: &mut usize,
@@ -203,7 +204,7 @@ pub fn write_fault<W: Write>(
     put_all(writer, sent, "fault ", &[number, Piece::Text("\n")])
 }
 
-/// Writes the line that says why bytes are no script.
+/// Writes the line for bytes that are not a script. Fails only if the writer does.
 pub fn write_bad<W: Write>(
     writer: &mut W,
     sent: &mut usize,

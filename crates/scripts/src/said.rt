@@ -1,15 +1,15 @@
-//! What a line says.
+//! The meaning of a line.
 
 use crate::headings::Heading;
 use office::Command;
 
-/// What a line says.
+/// The meaning of a line.
 #[derive(Drop)]
 pub enum Said {
     /// A command that has no cards.
     Command(Command),
-    /// A submission, whose cards follow.
+    /// A submission; its cards follow.
     Heading(Heading),
-    /// Neither: the line is bad.
+    /// Neither. The line is bad.
     Nothing,
 }

@@ -1,4 +1,4 @@
-//! What the words of a line say.
+//! The meaning of the words of a line.
 
 ghost use Rattle.std.specs.Prelude.{List, ℕ, ◌≤◌, ◌∷◌, [], IfOk, length, map};
 ghost use Rattle.scripts.specs.Commands.{AreFound, IsSaidBy, IsSaidIn};
@@ -11,7 +11,7 @@ use crate::words::Words;
 use office::{Command, JobCommand};
 use std::alloc::{AllocError, Global};
 
-/// What a line of one word says.
+/// The meaning of a line of one word.
 fn lone(verb: &[u8]) -> Said
     ensures { IsSaidBy (verb.now ∷ []) result }
 {
@@ -22,7 +22,7 @@ fn lone(verb: &[u8]) -> Said
     }
 }
 
-/// What a line of two words says.
+/// The meaning of a line of two words.
 fn on_customer(alloc: Global, verb: &[u8], name: &[u8]) -> Result<Said, AllocError>
     ensures { IfOk result (IsSaidBy (verb.now ∷ name.now ∷ [])) }
 {
@@ -33,7 +33,7 @@ fn on_customer(alloc: Global, verb: &[u8], name: &[u8]) -> Result<Said, AllocErr
     Ok(Said::Command(Command::Jobs { customer }))
 }
 
-/// What a line says that has this command on a job, or none.
+/// The meaning of a line with this command on a job, or with none.
 fn on_job(
     alloc: Global,
     name: &[u8],
@@ -66,7 +66,7 @@ struct HeadingWords<'a> {
     cards: &'a [u8],
 }
 
-/// What a line of seven words says.
+/// The meaning of a line of seven words.
 fn heading(alloc: Global, verb: &[u8], words: &HeadingWords<'_>) -> Result<Said, AllocError>
     ensures { IfOk result (IsSaidBy (verb.now ∷ words.now.name.now ∷ words.now.number.now
         ∷ words.now.kind.now ∷ words.now.size.now ∷ words.now.switches.now
@@ -95,7 +95,7 @@ fn heading(alloc: Global, verb: &[u8], words: &HeadingWords<'_>) -> Result<Said,
     }))
 }
 
-/// What the words say.
+/// The meaning of the words of a line.
 fn said_by(alloc: Global, words: &[&[u8]]) -> Result<Said, AllocError>
     ensures { IfOk result (IsSaidBy (map (λ word. word.now) words.now)) }
 {
@@ -119,7 +119,7 @@ fn said_by(alloc: Global, words: &[&[u8]]) -> Result<Said, AllocError>
     }
 }
 
-/// What a line says.
+/// The meaning of a line.
 pub(crate) fn said_in(alloc: Global, line: &[u8]) -> Result<Said, AllocError>
     ensures { IfOk result (IsSaidIn line.now) }
 {

@@ -1,4 +1,4 @@
-//! What the words of a line spell.
+//! The values of the words of a line.
 
 ghost use Rattle.std.specs.Prelude.{◌≡◌, ◌≢◌, ◌≤◌, ℕ, IfOk, IfSome, IfNone, decimal, string_bytes};
 ghost use Rattle.units.specs.declared.Switches.{Switches};
@@ -10,7 +10,7 @@ use office::Kind;
 use std::alloc::{AllocError, Global};
 use units::Switches;
 
-/// The most cards of a submission.
+/// The greatest number of cards of a submission.
 const MOST_CARDS: u32 = 2_000;
 
 /// The text of a word.
@@ -23,14 +23,14 @@ fn text_of(word: &[u8]) -> &str
     }
 }
 
-/// The name of a customer in a word.
+/// The customer's name in a word.
 pub(crate) fn customer_of(alloc: Global, word: &[u8]) -> Result<String, AllocError>
     ensures { IfOk result (λ customer. string_bytes customer ≡ text_of word.now) }
 {
     String::from_str(alloc, text_of(word))
 }
 
-/// The number in a word, or 0 where the word is none.
+/// The number in a word, or 0 if the word is not one.
 pub(crate) fn number_of(word: &[u8]) -> u32
     ensures { IsNumberOf word.now result }
 {

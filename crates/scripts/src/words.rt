@@ -5,10 +5,10 @@ ghost use Rattle.scripts.specs.Words.{AreFewWords, words_of};
 
 use crate::cuts::cut_at;
 
-/// A line has at most so many words.
+/// The greatest number of words of a line.
 const MOST_WORDS: usize = 7;
 
-/// The words of a line that has at most seven, none of them empty.
+/// The words of a line: at most seven, none of them empty.
 #[derive(Clone, Copy)]
 pub(crate) struct Words<'a> {
     words: [&'a [u8]; MOST_WORDS],

@@ -1,5 +1,5 @@
-//! The areas of storage that the units work on: 001 to 080 is read into, 101 to 180 is punched
-//! and 201 to 332 is printed.
+//! The areas of storage that the units use: a card is read into 001 to 080, punched from 101 to
+//! 180, and a line is printed from 201 to 332.
 
 ghost use Rattle.std.specs.Prelude.{◌≡◌, ◌+◌, ◌<◌, ◌≤◌, length};
 ghost use Rattle.core_store.specs.Storage.{codes_from, put_codes, largest_size};
@@ -7,11 +7,11 @@ ghost use Rattle.core_store.specs.Storage.{codes_from, put_codes, largest_size};
 use bcd::Code;
 use core_store::Core;
 
-/// Where a card is read into.
+/// The first position of the read area.
 pub(crate) const READ_AREA: u16 = 1;
-/// Where a card is punched from.
+/// The first position of the punch area.
 pub(crate) const PUNCH_AREA: u16 = 101;
-/// Where a line is printed from.
+/// The first position of the print area.
 pub(crate) const PRINT_AREA: u16 = 201;
 
 /// Writes characters from a position on. Marks stay.

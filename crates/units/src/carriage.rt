@@ -7,11 +7,11 @@ use crate::printer::Printer;
 use bcd::Code;
 use core_store::Check;
 
-/// A form has so many lines.
+/// The number of lines of a form.
 pub const LINES_OF_FORM: u8 = 66;
-/// The line of a form at which the hole of channel 12 stands.
+/// The line of a form at which the carriage tape has the hole of channel 12.
 pub const LINE_OF_CHANNEL_12: u8 = 60;
-/// The printer stops at the end of this form.
+/// The last form. The printer stops at its end.
 pub const LAST_FORM: u32 = 2_000_000_000;
 
 /// A move of the carriage.
@@ -32,11 +32,11 @@ pub enum Motion {
 pub enum CarriageOrder {
     /// A move that is made at once.
     Now(Motion),
-    /// A move that waits until the next line is printed.
+    /// A move that is made after the next line is printed.
     AfterLine(Motion),
 }
 
-/// Where the carriage stands.
+/// The carriage: its form and line, the move that waits, and channel 12.
 #[derive(Clone, Copy, Debug, PartialEq, Eq)]
 pub struct Carriage {
     /// The form, from 1.
@@ -45,13 +45,13 @@ pub struct Carriage {
     pub line: u8,
     /// The move that waits for the next line.
     pub waiting: Option<Motion>,
-    /// Whether spacing has come to the hole of channel 12 since the last skip.
+    /// Whether spacing has passed the hole of channel 12 since the last skip.
     pub channel_12: bool,
 }
 
 impl CarriageOrder {
-    /// The order that a character names: `J K L` space 1, 2, 3 lines now and `/ S T` after the
-    /// next line; `1` skips to channel 1 now and `A` after the next line.
+    /// The order of a character: `J K L` space 1, 2, 3 lines now and `/ S T` after the next line;
+    /// `1` skips to channel 1 now and `A` after the next line. `None` for any other character.
     #[tactic(auto, unfolding(crate::specs::Carriages::order_of))]
     pub fn of_code(code: Code) -> Option<CarriageOrder>
         ensures { result ≡ order_of code }
@@ -71,7 +71,7 @@ impl CarriageOrder {
 }
 
 impl Carriage {
-    /// The carriage at the top of a new stack of forms.
+    /// Returns the carriage at the first line of the first form.
     pub fn at_the_top() -> Carriage
         ensures { result ≡ record { form = 1; line = 1; waiting = None; channel_12 = false } }
     {
@@ -83,7 +83,7 @@ impl Carriage {
         }
     }
 
-    /// At a line of the next form, unless this is the last one.
+    /// The carriage at a line of the next form, if there is a next form.
     fn on_next_form(self, line: u8) -> Option<Carriage>
         ensures { result ≡ on_next_form self line }
     {
@@ -98,7 +98,7 @@ impl Carriage {
         }
     }
 
-    /// Whether channel 12 is on once the carriage has spaced so many lines.
+    /// Whether channel 12 is on after spacing `count` lines.
     fn sensed(self, count: u8) -> bool
         requires { count ≤ 3 }
         ensures { result ≡ sensed self count }
@@ -108,7 +108,7 @@ impl Carriage {
                 && self.line as u16 + count as u16 >= LINE_OF_CHANNEL_12 as u16
     }
 
-    /// So many lines further down.
+    /// The carriage `count` lines further down, unless that is past the last form.
     fn spaced(self, count: u8) -> Option<Carriage>
         requires { count ≤ 3 }
         ensures { result ≡ spaced self count }
@@ -128,7 +128,7 @@ impl Carriage {
         }
     }
 
-    /// At line 1 of the next form.
+    /// The carriage at line 1 of the next form, if there is a next form.
     fn skipped(self) -> Option<Carriage>
         ensures { result ≡ skipped self }
     {
@@ -139,7 +139,7 @@ impl Carriage {
         carriage.on_next_form(1)
     }
 
-    /// After a move, unless it would pass the last form.
+    /// The carriage after a move, unless the move would pass the last form.
     #[tactic(auto, unfolding(crate::specs::Carriages::moved_by))]
     fn moved_by(self, motion: Motion) -> Option<Carriage>
         ensures { result ≡ moved_by motion self }
@@ -152,7 +152,7 @@ impl Carriage {
         }
     }
 
-    /// After a line: the move that waits, else one space.
+    /// The carriage after a printed line: it makes the move that waits, or else spaces one line.
     #[tactic(auto, unfolding(crate::specs::Carriages::after_line))]
     pub fn after_line(self) -> Option<Carriage>
         ensures { result ≡ after_line self }
@@ -165,7 +165,7 @@ impl Carriage {
         free.moved_by(motion)
     }
 
-    /// After an order, unless a move that is made now would pass the last form.
+    /// The carriage after an order, unless a move that is made now would pass the last form.
     #[tactic(auto, unfolding(crate::specs::Carriages::ordered))]
     fn ordered(self, order: CarriageOrder) -> Option<Carriage>
         ensures { result ≡ ordered order self }
@@ -180,8 +180,8 @@ impl Carriage {
     }
 }
 
-/// Gives the carriage an order. A move now is PRINTER FULL where it would pass the last form. A
-/// move after the next line only waits, in place of one that waited before, and is never a check.
+/// Gives the carriage an order. PRINTER FULL if a move that is made now would pass the last form. A
+/// move after the next line only waits; it replaces one that waited before, and is never a check.
 #[tactic(auto, unfolding(crate::specs::Carriages::carriage_moved))]
 pub fn move_carriage(printer: &mut Printer, order: CarriageOrder) -> Result<(), Check>
     ensures done { OnOk result (carriage_moved order printer.old ≡ Ok printer.new) }

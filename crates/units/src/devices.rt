@@ -4,7 +4,7 @@ ghost use Rattle.std.specs.Prelude.{◌≡◌, ⊤, [], ◌∷◌, codes};
 
 use bitflags::{Flag, Flags, bitflag_items};
 
-/// The units that work together in one operation. The operations `1` to `7` are named by the sum.
+/// A set of units that work together in one operation. The operations `1` to `7` name it by a sum.
 #[derive(Clone, Copy, PartialEq, Eq, Debug)]
 pub struct Devices(u8);
 
@@ -39,8 +39,8 @@ impl Flags for Devices {
 }
 
 impl Devices {
-    /// The units whose numbers have a sum, by which the operations `1` to `7` are named: the
-    /// reader is 1, the printer 2, the punch 4.
+    /// The units of a sum, 1 to 7, which is the character of the operation: the reader is 1, the
+    /// printer 2, the punch 4.
     #[inline(always)]
     pub fn of_sum(sum: u8) -> Devices
         ensures { result ≡ record { 0 = sum } }

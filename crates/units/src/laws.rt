@@ -1,4 +1,4 @@
-//! What the units keep, whatever is done with them.
+//! Laws of all operations of the units.
 
 ghost use Rattle.std.specs.Prelude.{◌≡◌, length, Ok};
 ghost use Rattle.core_store.specs.Storage.{Storage};
@@ -11,8 +11,8 @@ ghost use Rattle.units.specs.Printed.{Printed};
 ghost use Rattle.units.specs.Ranges.{AreUnits, HasPrinted, OnlyAdds};
 ghost use Rattle.units.specs.Units.{operated};
 
-/// The law of the ranges: units in range stay so, whatever operation they do and whatever order
-/// the carriage is given.
+/// The law of the ranges: units in range stay in range after every operation and every order to the
+/// carriage.
 pub fn operating_stays_in_range()
     ensures operation { (devices : Devices) (s t : Storage) (u after : Units) → AreUnits u →
         operated devices s u ≡ Ok (t, after) → AreUnits after }
@@ -20,9 +20,9 @@ pub fn operating_stays_in_range()
         carriage_moved order p ≡ Ok after → HasPrinted after }
 {}
 
-/// The law of what was made: an operation keeps the deck, the switches and the size of the
-/// storage, and the cards and lines that were there are the first of those that are there after
-/// it. An order to the carriage keeps all lines.
+/// The law of what was made: an operation keeps the deck, the switches and the size of the storage.
+/// The cards and lines that it found are the first of those that it leaves. An order to the
+/// carriage keeps all lines.
 pub fn operating_only_adds()
     ensures operation { (devices : Devices) (s t : Storage) (u after : Units) →
         operated devices s u ≡ Ok (t, after) → OnlyAdds u after }
@@ -32,7 +32,7 @@ pub fn operating_only_adds()
         carriage_moved order p ≡ Ok after → after.lines ≡ p.lines }
 {}
 
-/// The law of the lines: those of a printer in range rise by form and line, so `render` gives
+/// The law of the lines: the lines of a printer in range rise by form and line, so `render` returns
 /// their listing.
 pub fn lines_in_range_rise()
     ensures { (p : Printed) → HasPrinted p → IsRising p.lines }

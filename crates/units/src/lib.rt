@@ -1,12 +1,12 @@
-//! The units that are joined to the storage: a card reader, a card punch, a printer with its
-//! carriage, and the sense switches; and the listing of what was printed.
+//! The units that are connected to the storage: a card reader, a card punch, a printer with its
+//! carriage, and the sense switches; and the listing of printed lines.
 //!
-//! The layer stands on `bcd`, `cards` and `core_store`, and is generic over `Core`. Its contract
-//! for the layers above: what a unit does is a definition on storage and unit
-//! (`specs/Units.antt`, `specs/Carriages.antt`), or the first check that applies, and then
-//! nothing is changed. `operate` does the work of several units in one operation. Memory is
-//! taken for a punched card, for a printed line and by `render`; for want of it nothing is
-//! changed. Units in range stay in range (`specs/Ranges.antt`).
+//! The crate uses `bcd`, `cards` and `core_store`, and is generic over `Core`. Its contract for the
+//! layers above: what a unit does is a definition on storage and unit (`specs/Units.antt`,
+//! `specs/Carriages.antt`), or the first check that applies, and then nothing is changed. `operate`
+//! does the work of several units in one operation. Memory is taken for a punched card, for a
+//! printed line and by `render`; if there is none, nothing is changed. Units in range stay in range
+//! (`specs/Ranges.antt`).
 #![tactic(auto)]
 
 mod areas;

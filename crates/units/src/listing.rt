@@ -11,10 +11,10 @@ use std::alloc::{AllocError, Global};
 
 const FORM_FEED: u8 = 12;
 
-/// What the printer shows of each character: thirteen of them are not on its chain.
+/// The byte that the printer shows for each character. Thirteen characters are not on its chain.
 const SHOWN: [u8; 64] = *b" 1234567890#@    /STUVWXYZ|,%   -JKLMNOPQR!$*   &ABCDEFGHI?.)   ";
 
-/// What the printer shows of a character.
+/// The byte that the printer shows for a character.
 #[inline(always)]
 #[tactic(auto, using(crate::proofs::Shown::shown_at))]
 fn shown(code: Code) -> u8
@@ -23,7 +23,7 @@ fn shown(code: Code) -> u8
     SHOWN[code.number() as usize]
 }
 
-/// How many characters there are without the trailing blanks.
+/// The number of characters without the trailing blanks.
 #[tactic(auto, using(crate::proofs::Listings::text_is))]
 fn length_shown(codes: &[Code]) -> usize
     ensures within { result ≤ length codes.now }
@@ -40,7 +40,7 @@ fn length_shown(codes: &[Code]) -> usize
     0
 }
 
-/// Adds what a line shows, without trailing blanks, and its end.
+/// Adds a line as it is shown, without trailing blanks, and its line feed.
 fn push_line(text: &mut Vec<u8>, codes: &[Code; LINE_LENGTH]) -> Result<(), AllocError>
     ensures { OnOk result (text.new.items
         ≡ text.old.items ++ (text_of codes.now ++ line_feed ∷ [])) }
@@ -54,7 +54,7 @@ fn push_line(text: &mut Vec<u8>, codes: &[Code; LINE_LENGTH]) -> Result<(), Allo
     Ok(())
 }
 
-/// Adds so many lines that show nothing.
+/// Adds `count` empty lines.
 fn push_empty_lines(text: &mut Vec<u8>, count: u8) -> Result<(), AllocError>
     ensures { OnOk result (text.new.items ≡ text.old.items ++ replicate count line_feed) }
 {
@@ -64,9 +64,9 @@ fn push_empty_lines(text: &mut Vec<u8>, count: u8) -> Result<(), AllocError>
     Ok(())
 }
 
-/// The listing of printed lines that rise by form and line: each form that holds one, from its
-/// line 1 to its last printed line, each line without trailing blanks and ended by a line feed,
-/// and a form feed between two forms.
+/// Returns the listing of printed lines that rise by form and line. Each form with a printed line
+/// is listed from its line 1 to its last printed line, each line without trailing blanks and ended
+/// by a line feed; between two forms there is a form feed. Fails only if there is no memory.
 pub fn render(alloc: Global, lines: &[Line]) -> Result<Vec<u8>, AllocError>
     ensures { IsRising lines.now → IfOk result (λ text. text.items ≡ rendered lines.now) }
 {

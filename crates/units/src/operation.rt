@@ -15,7 +15,7 @@ use bitflags::Flags;
 use core_store::{Check, Core};
 
 impl Units {
-    /// Whether the reader has no card for an operation.
+    /// Whether the reader has no card for an operation that reads.
     #[tactic(auto, unfolding(crate::specs::Units::reader_works))]
     fn reader_stops(&self, devices: Devices) -> bool
         ensures check { result ≡ true → (s : Storage) →
@@ -48,7 +48,7 @@ impl Units {
         devices.contains(Devices::PRINTER) && self.printer.is_full()
     }
 
-    /// The first check that an operation comes to.
+    /// Returns the first check of an operation, if one applies.
     #[tactic(auto, using(crate::proofs::Together::operation_ready))]
     fn look_for_checks(&self, devices: Devices) -> Result<(), Check>
         ensures ready { OnOk result ((s : Storage) → IsOk (operated devices s self.now)) }
@@ -68,7 +68,7 @@ impl Units {
     }
 }
 
-/// What the punch does in an operation.
+/// Does the punch's part of an operation.
 #[tactic(auto, unfolding(crate::specs::Units::punch_works))]
 fn work_punch<C: Core>(core: &C, punch: &mut Punch, devices: Devices) -> Result<(), Fault>
     requires { punch_area_end ≤ length (C.cells core.now) }
@@ -83,7 +83,7 @@ fn work_punch<C: Core>(core: &C, punch: &mut Punch, devices: Devices) -> Result<
     punch_card(core, punch)
 }
 
-/// What the printer does in an operation.
+/// Does the printer's part of an operation.
 #[tactic(auto, unfolding(crate::specs::Units::printer_works))]
 fn work_printer<C: Core>(core: &C, printer: &mut Printer, devices: Devices) -> Result<(), Fault>
     requires { areas_end ≤ length (C.cells core.now) }
@@ -99,7 +99,7 @@ fn work_printer<C: Core>(core: &C, printer: &mut Printer, devices: Devices) -> R
     print_line(core, printer)
 }
 
-/// What the reader does in an operation, once it is known to have its card.
+/// Does the reader's part of an operation. The reader must have a card for it.
 #[tactic(auto, using(crate::proofs::Together::reader_has), unfolding(crate::specs::Units::reader_works))]
 fn work_reader<C: Core>(core: &mut C, hopper: &mut Hopper, devices: Devices)
     requires size { read_area_end ≤ length (C.cells core.old) }
@@ -112,8 +112,8 @@ fn work_reader<C: Core>(core: &mut C, hopper: &mut Hopper, devices: Devices)
     }
 }
 
-/// Punches a card and prints a line, where these units take part. For want of memory both are as
-/// they were.
+/// Punches a card and prints a line, if these units take part. If there is no memory, both are
+/// unchanged.
 #[tactic(auto, using(crate::proofs::Together::taken_back))]
 fn work_makers<C: Core>(
     core: &C,
@@ -142,9 +142,9 @@ fn work_makers<C: Core>(
     Ok(())
 }
 
-/// One operation of the units that take part in it, each from the storage as it was. All checks
-/// come before anything is done, in this order: READER EMPTY, PUNCH FULL, PRINTER FULL. For want
-/// of memory nothing is done either.
+/// Does one operation. Each unit that takes part sees the storage as it was before. All checks come
+/// before any change, in this order: READER EMPTY, PUNCH FULL, PRINTER FULL. If there is no memory,
+/// nothing is changed either.
 #[tactic(auto, using(crate::proofs::Together::operation_fails, crate::proofs::Together::reader_goes, crate::proofs::Together::operation_is))]
 pub fn operate<C: Core>(core: &mut C, units: &mut Units, devices: Devices) -> Result<(), Fault>
     requires { areas_end ≤ length (C.cells core.old) }

@@ -12,27 +12,27 @@ use bcd::Code;
 use core_store::{Check, Core};
 use std::marker::Model;
 
-/// The printer makes no more lines.
+/// The greatest number of lines that the printer makes.
 pub const MOST_LINES: usize = 20_000;
 
-/// How many characters a printed line has.
+/// The number of characters of a printed line.
 pub const LINE_LENGTH: usize = 132;
 
-/// A printed line: where it stands, and the characters of the print area.
+/// A printed line: its form and line, and the characters of the print area.
 #[derive(Clone, Copy, Debug, PartialEq, Eq)]
 pub struct Line {
     /// The form, from 1.
     pub form: u32,
     /// The line of the form, 1 to 66.
     pub line: u8,
-    /// What stood in the print area, 201 to 332.
+    /// The characters of the print area, 201 to 332, when the line was printed.
     pub codes: [Code; LINE_LENGTH],
 }
 
-/// The lines printed so far, and the carriage.
+/// The printer: the lines printed so far, and the carriage.
 #[derive(Drop)]
 pub struct Printer {
-    /// In the order of printing.
+    /// The lines in the order of printing.
     pub lines: Vec<Line>,
     pub carriage: Carriage,
 }
@@ -47,7 +47,8 @@ impl Model for Printer {
 
 impl Printer {
     #[tactic(auto, unfolding(crate::specs::Units::line_printed))]
-    /// Whether it has made as many lines as it can, or stands where none can be printed.
+    /// Whether the printer has made its greatest number of lines, or the carriage would pass the
+    /// last form after one more.
     pub(crate) fn is_full(&self) -> bool
         ensures check { result ≡ true → (s : Storage) → line_printed s self.now ≡ Err PrinterFull }
         ensures ready { result ≡ false → (s : Storage) → IsOk (line_printed s self.now) }
@@ -56,8 +57,8 @@ impl Printer {
     }
 }
 
-/// Prints the print area, 201 to 332, and moves the carriage, or else PRINTER FULL: it has made as
-/// many lines as it can, or the carriage would pass the last form.
+/// Prints the print area, 201 to 332, and moves the carriage. PRINTER FULL if the printer has made
+/// its greatest number of lines, or if the carriage would pass the last form.
 #[tactic(auto, unfolding(crate::specs::Units::line_printed))]
 pub fn print_line<C: Core>(core: &C, printer: &mut Printer) -> Result<(), Fault>
     requires { areas_end ≤ length (C.cells core.now) }

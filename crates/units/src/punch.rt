@@ -11,10 +11,10 @@ use cards::Card;
 use core_store::{Check, Core};
 use std::marker::Model;
 
-/// The punch makes no more cards.
+/// The greatest number of cards that the punch makes.
 pub const MOST_CARDS: usize = 10_000;
 
-/// The cards punched so far, in order.
+/// The card punch: the cards punched so far, in order.
 #[derive(Drop)]
 pub struct Punch {
     pub cards: Vec<Card>,
@@ -30,7 +30,7 @@ impl Model for Punch {
 }
 
 impl Punch {
-    /// Whether it has made as many cards as it can.
+    /// Whether the punch has made its greatest number of cards.
     #[tactic(auto, unfolding(crate::specs::Units::card_punched))]
     pub(crate) fn is_full(&self) -> bool
         ensures check { result ≡ true → (s : Storage) → card_punched s self.now ≡ Err PunchFull }
@@ -39,14 +39,14 @@ impl Punch {
         self.cards.len() >= MOST_CARDS
     }
 
-    /// How many cards were punched.
+    /// The number of cards punched.
     pub(crate) fn count(&self) -> usize
         ensures { result ≡ length self.now }
     {
         self.cards.len()
     }
 
-    /// Takes back what was punched behind so many cards.
+    /// Removes all cards after the first `count`.
     pub(crate) fn take_back(&mut self, count: usize)
         ensures { self.new ≡ take count self.old }
     {
@@ -54,8 +54,8 @@ impl Punch {
     }
 }
 
-/// Punches the punch area, 101 to 180, into one more card, or else PUNCH FULL: it has made as many
-/// as it can.
+/// Punches the punch area, 101 to 180, into one more card. PUNCH FULL if the punch has made its
+/// greatest number of cards.
 #[tactic(auto, unfolding(crate::specs::Units::card_punched))]
 pub fn punch_card<C: Core>(core: &C, punch: &mut Punch) -> Result<(), Fault>
     requires { punch_area_end ≤ length (C.cells core.now) }

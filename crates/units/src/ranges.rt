@@ -1,4 +1,4 @@
-//! What the units of a picture may hold, and the test of it.
+//! The ranges of the units, and the tests of them.
 
 ghost use Rattle.std.specs.Prelude.{◌≡◌, ◌↔◌, IsTrue};
 ghost use Rattle.units.specs.Ranges.{AreUnits, IsOnForm, IsBelow, HasPrinted, HasRead, line_place, carriage_place};
@@ -9,7 +9,7 @@ use crate::punch::MOST_CARDS;
 use crate::reader::Hopper;
 use crate::units::Units;
 
-/// A place on the printer's forms.
+/// A form and a line on the printer's paper.
 #[derive(Clone, Copy)]
 struct Place {
     form: u32,
@@ -24,7 +24,7 @@ impl Place {
         1 <= self.form && self.form <= LAST_FORM && 1 <= self.line && self.line <= LINES_OF_FORM
     }
 
-    /// Whether it is a line of one of the forms, and further down than another place.
+    /// Whether it is a line of one of the forms, further down than another place.
     fn is_below(self, above: Place) -> bool
         ensures { IsTrue result ↔ IsBelow above self }
     {
@@ -34,7 +34,7 @@ impl Place {
 }
 
 impl Line {
-    /// Where it was printed.
+    /// The place at which the line was printed.
     fn place(&self) -> Place
         ensures { result ≡ line_place self.now }
     {
@@ -46,7 +46,7 @@ impl Line {
 }
 
 impl Carriage {
-    /// Where it stands.
+    /// The place of the carriage.
     fn place(&self) -> Place
         ensures { result ≡ carriage_place self.now }
     {
@@ -58,8 +58,8 @@ impl Carriage {
 }
 
 impl Printer {
-    /// Whether it has made no more lines than it can, each further down than the one before, and
-    /// the carriage stands further down than they do.
+    /// Whether the printer has at most its greatest number of lines, each further down than the one
+    /// before, and the carriage is further down than all of them.
     fn is_in_range(&self) -> bool
         ensures { IsTrue result ↔ HasPrinted self.now }
     {
@@ -79,7 +79,7 @@ impl Printer {
 }
 
 impl Hopper {
-    /// Whether it has read a card, and no more than there are.
+    /// Whether the reader has read at least one card, and no more than the deck has.
     fn is_in_range(&self) -> bool
         ensures { IsTrue result ↔ HasRead self.now }
     {
@@ -88,7 +88,7 @@ impl Hopper {
 }
 
 impl Units {
-    /// Whether these are units that a machine may have.
+    /// Whether a machine may have these units.
     pub fn is_in_range(&self) -> bool
         ensures { IsTrue result ↔ AreUnits self.now }
     {

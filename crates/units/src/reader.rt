@@ -9,11 +9,11 @@ use crate::areas::{READ_AREA, put_codes};
 use cards::{Card, Deck};
 use core_store::{Check, Core};
 
-/// The card reader: a deck, of which the first cards have been read.
+/// The card reader: a deck, and the number of its cards that have been read.
 #[derive(Drop)]
 pub struct Hopper {
     pub deck: Deck,
-    /// How many cards have been read.
+    /// The number of cards read.
     pub taken: u16,
 }
 
@@ -44,7 +44,7 @@ pub fn put_card<C: Core>(core: &mut C, card: &Card)
     put_codes(core, READ_AREA, &card.0);
 }
 
-/// Reads the next card, where there is one.
+/// Reads the next card, if there is one.
 #[tactic(auto, unfolding(crate::specs::Units::card_read))]
 pub(crate) fn take_card<C: Core>(core: &mut C, hopper: &mut Hopper)
     requires size { read_area_end ≤ length (C.cells core.old) }
@@ -55,7 +55,7 @@ pub(crate) fn take_card<C: Core>(core: &mut C, hopper: &mut Hopper)
     hopper.taken += 1;
 }
 
-/// Reads the next card into the read area, or else READER EMPTY: no card is left.
+/// Reads the next card into the read area. READER EMPTY if no card is left.
 #[tactic(auto, unfolding(crate::specs::Units::card_read))]
 pub fn read_card<C: Core>(core: &mut C, hopper: &mut Hopper) -> Result<(), Check>
     requires { read_area_end ≤ length (C.cells core.old) }

@@ -45,7 +45,7 @@ impl Flags for Switches {
 }
 
 impl Switches {
-    /// The same switches, without the eighth bit of the byte, which is no switch.
+    /// The same switches without the eighth bit of the byte, which is not a switch.
     pub fn seven(self) -> Switches
         ensures set { result ≡ seven self }
         ensures are { AreSeven result }
@@ -53,7 +53,7 @@ impl Switches {
         Switches(self.0 % 128)
     }
 
-    /// Whether no bit is on that is no switch.
+    /// Whether no bit is on but those of the seven switches.
     pub fn are_seven(self) -> bool
         ensures { IsTrue result ↔ AreSeven self }
     {

@@ -1,4 +1,4 @@
-//! What is joined to the storage.
+//! The units of a machine, together.
 
 ghost use Rattle.std.specs.Prelude.{◌≡◌};
 ghost use Rattle.units.specs.Units.{is_last_card};
@@ -9,13 +9,13 @@ use crate::reader::Hopper;
 use crate::switches::Switches;
 use bitflags::Flags;
 
-/// What is joined to the storage.
+/// The units of a machine: reader, punch, printer and sense switches.
 #[derive(Drop)]
 pub struct Units {
     pub hopper: Hopper,
     pub punch: Punch,
     pub printer: Printer,
-    /// The sense switches as the operator set them at the start.
+    /// The sense switches as the operator set them at the last start.
     pub switches: Switches,
 }
 
