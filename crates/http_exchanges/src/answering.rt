@@ -70,6 +70,7 @@ fn carry_out<S: Alter>(
     ensures clean { doubt (state S.Store bureau.old.conn).is_clean
         ≤ doubt (state S.Store bureau.new.conn).is_clean }
 {
+    // A law, for the proof: it does nothing.
     lines_rise();
     let reply = match bureau.apply(command, meter) {
         Ok(reply) => reply,

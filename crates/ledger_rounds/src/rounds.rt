@@ -79,5 +79,6 @@ pub fn stops_lose_nothing()
     ensures { (first : Found) → (rounds : List Round) → AreRounds first rounds
         → (office : Office) → AreOf first.0 first.1 office → AreLeftWhole first rounds office }
 {
+    // A law, for the proof: it does nothing.
     kept_offices_run_whole();
 }

@@ -78,6 +78,7 @@ pub fn shift<S: Alter>(
     ensures clean { doubt (state S.Store bureau.old.conn).is_clean
         ≤ doubt (state S.Store bureau.new.conn).is_clean }
 {
+    // A law, for the proof: it does nothing.
     kept_offices_run_whole();
     let mut replies = Vec::new(alloc);
     for command in commands {
