@@ -2,8 +2,8 @@
 use Rattle.std.specs.Prelude.{ℕ, ◌+◌, ◌-◌, ◌%◌, nat_lt, length, Option, Some, None, Result, Ok}
 use Rattle.core_store.specs.Storage.{Storage, code_at}
 use Rattle.core_store.specs.Checked.{require, find_or, and_then}
-use Rattle.core_store.specs.declared.registers.Check.{Check}
-use Rattle.core_store.specs.declared.registers.Check.TheVariants.{Address}
+use Rattle.core_store.specs.declared.checks.Check.{Check}
+use Rattle.core_store.specs.declared.checks.Check.TheVariants.{Address}
 use Rattle.addresses.specs.Addresses.{base, tagged}
 use Rattle.addresses.specs.declared.tagged.IndexLocation.{IndexLocation}
 use Rattle.addresses.specs.declared.tagged.IndexLocation.TheVariants.{First, Second, Third}

@@ -2,8 +2,8 @@
 use Rattle.std.specs.Prelude.{ℕ, ◌-◌, ◌%◌, nat_lt, nat_le, length, Bool, ◌&&◌, Result, Ok}
 use Rattle.core_store.specs.Storage.{Storage, put_codes}
 use Rattle.core_store.specs.Checked.{require}
-use Rattle.core_store.specs.declared.registers.Check.{Check}
-use Rattle.core_store.specs.declared.registers.Check.TheVariants.{Address}
+use Rattle.core_store.specs.declared.checks.Check.{Check}
+use Rattle.core_store.specs.declared.checks.Check.TheVariants.{Address}
 use Rattle.addresses.specs.Addresses.{encoded}
 
 -- whether three characters can end at a position of storage

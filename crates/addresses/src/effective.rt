@@ -1,6 +1,8 @@
 //! The effective position of an address in a storage.
 
-ghost use Rattle.std.specs.Prelude.{◌≡◌, ◌<◌, ◌≤◌, ℕ, length, Some, IfSome, IfOk};
+ghost use Rattle.std.specs.Prelude.{◌≡◌, ◌<◌, ◌≤◌, ℕ, nat_lt, length, Some, IfSome, Ok, IfOk};
+ghost use Rattle.core_store.specs.Checked.{require};
+ghost use Rattle.core_store.specs.declared.checks.Check.TheVariants.{Address};
 ghost use Rattle.core_store.specs.Storage.{largest_size};
 ghost use Rattle.addresses.specs.Effective.{base_ending, with_index, effective, operand};
 
@@ -53,21 +55,40 @@ pub fn indexed<C: Core>(core: &C, tagged: Tagged) -> Result<u16, Check>
     }
 }
 
+/// The position that an operand represents, whether its address has a tag or not. It is outside the
+/// storage if the address cannot be read.
+#[inline(never)]
+#[tactic(auto, unfolding(crate::specs::Effective::operand, crate::specs::Effective::with_index, crate::specs::Addresses::tagged))]
+fn effective_position<C: Core>(core: &C, first: Code, second: Code, third: Code) -> u16
+    ensures { operand (C.cells core.now) first second third
+        ≡ require (nat_lt result (length (C.cells core.now))) Address (Ok result) }
+{
+    let size = core.size();
+    let base = base(first, second, third);
+    match IndexLocation::of_zone(second.zone()) {
+        Some(location) if base < UNREADABLE => match with_index(core, base, location) {
+            Ok(position) => position,
+            Err(_) => size,
+        },
+        Some(_) => size,
+        None => base,
+    }
+}
+
 /// The position of a storage that the three characters of an operand represent. They are looked up
 /// directly in the tables, and an address without a tag needs only that. Check ADDRESS if they
 /// cannot be read or the position is outside the storage.
 #[inline(always)]
-#[tactic(auto, unfolding(crate::specs::Effective::operand, crate::specs::Effective::with_index, crate::specs::Addresses::tagged))]
+#[tactic(auto, unfolding(crate::specs::Effective::operand, crate::specs::Effective::with_index, crate::specs::Addresses::tagged, bcd::specs::Table::zone_of))]
 pub fn operand<C: Core>(core: &C, first: Code, second: Code, third: Code) -> Result<u16, Check>
     ensures position { result ≡ operand (C.cells core.now) first second third }
     ensures inside { IfOk result (λ position. position < length (C.cells core.now)) }
     ensures below { IfOk result (λ position. position < largest_size) }
 {
-    let base = base(first, second, third);
-    let position = match IndexLocation::of_zone(second.zone()) {
-        None => base,
-        Some(_) if base >= UNREADABLE => return Err(Check::Address),
-        Some(location) => with_index(core, base, location)?,
+    let position = if second.number() < 16 {
+        base(first, second, third)
+    } else {
+        effective_position(core, first, second, third)
     };
     if position < core.size() {
         Ok(position)

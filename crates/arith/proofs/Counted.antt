@@ -1,10 +1,11 @@
 -- the counts are those of whole fields
-use Rattle.std.proofs.Common.{◌≡◌, ℕ, Bool, true, false, Option, Some, None, Ok, sym, ◌∙◌, ap, length, ltb, ◌&&◌}
+use Rattle.std.proofs.Common.{◌≡◌, ◌≤◌, ℕ, Bool, true, false, Option, Some, None, Ok, min, refl, sym, ◌∙◌, ap, length, ltb, ◌&&◌}
 use Rattle.std.specs.Option.{option_map}
 use Rattle.core_store.specs.Storage.{Storage, field_length, field, codes_ending}
-use Rattle.core_store.specs.Operands.{cut_length, cut}
+use Rattle.core_store.specs.Operands.{are_inside, cut_length, cut, near_length}
+use Rattle.core_store.proofs.Near.{near_is_field, cut_is_near}
 use Rattle.core_store.specs.Checked.{require, find_or}
-use Rattle.core_store.specs.declared.registers.Check.TheVariants.{Address}
+use Rattle.core_store.specs.declared.checks.Check.TheVariants.{Address}
 use Rattle.arith.specs.Operands.{counts_at, AreOfFields}
 use Rattle.arith.specs.declared.operands.Counts.{Counts}
 
@@ -26,3 +27,10 @@ unfolding counts_at field cut
 are_of_fields s a b counts h =
     let known = both_found (ltb a (length s) && ltb b (length s)) (field_length s b) (cut_length s a) counts h in
     record { field = ap (option_map (codes_ending s b)) known.0; cut = ap (option_map (codes_ending s a)) known.1 }
+
+-- counts that were found among sixteen characters
+pub counts_near : (s : Storage) (a b a_near b_near least : ℕ) → true ≡ are_inside s a b → 15 ≤ a → a_near ≡ near_length s a → b_near ≡ near_length s b → b_near ≤ 16 → least ≡ min a_near b_near →
+    counts_at s a b ≡ Ok (record { a = least; b = b_near })
+unfolding counts_at
+counts_near s a b a_near b_near least inside room is_a is_b few least_is =
+    rw (← inside, ← near_is_field s b b_near is_b few, ← cut_is_near s a b_near a_near is_a few room least least_is) refl

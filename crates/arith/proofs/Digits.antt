@@ -48,7 +48,7 @@ shifted : (x d j : ℕ) → x * 10 ^ (d + suc j) ≡ x * 10 ^ d * 10 * 10 ^ j
 shifted x d j = ap (λ n. x * n) (pow-add 10 d (suc j) ∙ ap (λ n. 10 ^ d * n) (pow-suc 10 j)) ∙ product x (10 ^ d) (10 ^ j)
 
 -- what is added above the lowest j digits does not change them
-spelled_low : (t x d j : ℕ) (zone : Zone) → spelled (t + x * 10 ^ (d + j)) j zone ≡ spelled t j zone
+pub spelled_low : (t x d j : ℕ) (zone : Zone) → spelled (t + x * 10 ^ (d + j)) j zone ≡ spelled t j zone
 unfolding spelled
 spelled_low t x d zero zone = refl
 spelled_low t x d (suc j) zone =

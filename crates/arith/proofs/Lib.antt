@@ -4,5 +4,10 @@ pub mod Numbers
 pub mod Counted
 pub mod Signs
 pub mod Orders
+pub mod Differences
 pub mod Wholes
 pub mod Spelled
+pub mod Selected
+pub mod Added
+pub mod Combined
+pub mod Carried

@@ -4,8 +4,8 @@ use Rattle.bcd.specs.Table.{zone_of}
 use Rattle.core_store.specs.Storage.{Storage, code_at, put_codes}
 use Rattle.core_store.specs.Checked.{require, find_or}
 use Rattle.core_store.specs.declared.registers.Registers.{Registers}
-use Rattle.core_store.specs.declared.registers.Check.{Check}
-use Rattle.core_store.specs.declared.registers.Check.TheVariants.{Address, Data}
+use Rattle.core_store.specs.declared.checks.Check.{Check}
+use Rattle.core_store.specs.declared.checks.Check.TheVariants.{Address, Data}
 use Rattle.addresses.specs.Addresses.{written}
 use Rattle.addresses.specs.Effective.{base_ending}
 use Rattle.addresses.specs.Stored.{has_three}

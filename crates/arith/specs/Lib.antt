@@ -4,3 +4,4 @@ pub mod Sums
 pub mod Order
 pub mod Bases
 pub mod Joining
+pub mod Columns

@@ -3,8 +3,8 @@ use Rattle.std.specs.Prelude.{ℕ, ◌+◌, ◌<◌, ◌≤◌, ◌≡◌, lengt
 use Rattle.core_store.specs.Storage.{Storage, field_length, field, codes_ending, largest_size}
 use Rattle.core_store.specs.Operands.{are_inside, cut_length, cut, is_overlapping}
 use Rattle.core_store.specs.Checked.{require, find_or, and_then}
-use Rattle.core_store.specs.declared.registers.Check.{Check}
-use Rattle.core_store.specs.declared.registers.Check.TheVariants.{Address, Overlap}
+use Rattle.core_store.specs.declared.checks.Check.{Check}
+use Rattle.core_store.specs.declared.checks.Check.TheVariants.{Address, Overlap}
 use Rattle.arith.specs.declared.operands.Counts.{Counts}
 
 -- the lengths of the fields at a and at b, of which a's is cut to b's, or the check

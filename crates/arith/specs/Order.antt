@@ -4,7 +4,7 @@ use Rattle.bcd.specs.Table.{rank_of}
 use Rattle.core_store.specs.Storage.{Storage, codes_ending}
 use Rattle.core_store.specs.Checked.{and_then}
 use Rattle.core_store.specs.declared.registers.Registers.{Registers}
-use Rattle.core_store.specs.declared.registers.Check.{Check}
+use Rattle.core_store.specs.declared.checks.Check.{Check}
 use Rattle.core_store.specs.declared.registers.Compared.{Compared}
 use Rattle.core_store.specs.declared.registers.Compared.TheVariants.{Equal, Low, High}
 use Rattle.core_store.specs.Operands.{lowered}

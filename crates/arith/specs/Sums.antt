@@ -4,8 +4,8 @@ use Rattle.bcd.specs.Table.{zone_of}
 use Rattle.core_store.specs.Storage.{Storage, put_codes, codes_ending}
 use Rattle.core_store.specs.Checked.{require, and_then}
 use Rattle.core_store.specs.declared.registers.Registers.{Registers}
-use Rattle.core_store.specs.declared.registers.Check.{Check}
-use Rattle.core_store.specs.declared.registers.Check.TheVariants.{Data}
+use Rattle.core_store.specs.declared.checks.Check.{Check}
+use Rattle.core_store.specs.declared.checks.Check.TheVariants.{Data}
 use Rattle.arith.specs.Decimal.{value, is_number, units, is_minus, sign_zone, spelled}
 use Rattle.core_store.specs.Operands.{lowered}
 use Rattle.arith.specs.Operands.{counts_apart}

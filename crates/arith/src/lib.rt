@@ -6,11 +6,16 @@
 //! fields, as numbers of any length (`specs/Sums.antt`), by ranks (`specs/Order.antt`), or as
 //! addresses (`specs/Bases.antt`); or the first check that applies, and then nothing is changed.
 //! Everything is generic over `Core`, and no call takes memory.
+//!
+//! Fields of at most sixteen characters are compared all at once, and those of at most fifteen with
+//! the same sign are added so (`lanes`), where they end at position 15 or later. All others go
+//! character by character.
 #![tactic(auto)]
 
 mod bases;
 mod decimal;
 mod joining;
+mod lanes;
 mod operands;
 mod ranks;
 mod sums;

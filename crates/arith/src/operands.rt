@@ -1,6 +1,6 @@
 //! The number of characters that arithmetic reads.
 
-ghost use Rattle.std.specs.Prelude.{◌≡◌, ℕ, false, IfOk, Ok};
+ghost use Rattle.std.specs.Prelude.{◌≡◌, ◌≤◌, ℕ, false, IfOk, IfSome, Ok};
 ghost use Rattle.core_store.specs.Storage.{Storage};
 ghost use Rattle.core_store.specs.Operands.{is_overlapping};
 ghost use Rattle.arith.specs.Operands.{counts_at, counts_apart, AreCounts, AreOfFields};
@@ -49,6 +49,28 @@ pub fn counts_apart<C: Core>(core: &C, a: u16, b: u16) -> Result<Counts, Check>
         return Err(Check::Overlap);
     }
     Ok(counts)
+}
+
+/// The same counts, found at once where sixteen characters end at each position and the B field has
+/// at most that many. `None` says nothing about the fields.
+#[inline(always)]
+#[tactic(auto, unfolding(crate::specs::Operands::counts_at))]
+pub fn near_counts<C: Core>(core: &C, a: u16, b: u16) -> Option<Counts>
+    ensures counts { IfSome result (λ counts. counts_at (C.cells core.now) a b ≡ Ok counts) }
+    ensures known { IfSome result (λ counts. AreCounts (C.cells core.now) a b counts.a counts.b) }
+    ensures room { IfSome result (λ counts. (15 ≤ a) × (15 ≤ b) × (counts.b ≤ 16)) }
+{
+    if !are_inside(core, a, b) || a < 15 || b < 15 {
+        return None;
+    }
+    let b_count = core.near_length(b);
+    if b_count > 16 {
+        return None;
+    }
+    Some(Counts {
+        a: core.near_length(a).min(b_count),
+        b: b_count,
+    })
 }
 
 /// The law of the counts: what is read at B is the field there, and what is read at A is the cut

@@ -1,13 +1,15 @@
 //! Compare, by the ranks of characters.
 
-ghost use Rattle.std.specs.Prelude.{◌≡◌, ◌+◌, ◌<◌, ◌≤◌, ℕ, List, length, OnOk, OnErr, IfErr, Ok, Err};
+ghost use Rattle.std.specs.Prelude.{◌≡◌, ◌+◌, ◌<◌, ◌≤◌, ◌==◌, not, ℕ, List, length, OnOk, OnErr, IfErr, Ok, Err};
+ghost use Rattle.std.specs.Simd.Lanes.{mask_l, zip2};
 ghost use Rattle.bcd.specs.Table.{rank_of};
 ghost use Rattle.core_store.specs.Storage.{code_at, codes_ending};
 ghost use Rattle.arith.specs.Operands.{AreCounts};
 ghost use Rattle.arith.specs.Order.{order, IsOrder, compared, comparison};
 
-use crate::operands::{Counts, counts_at};
+use crate::operands::{Counts, counts_at, near_counts};
 use core_store::{Check, Compared, Core, Registers};
+use std::simd::prelude::*;
 
 /// The rank of the character at a position.
 #[inline(always)]
@@ -18,7 +20,7 @@ fn rank_at<C: Core>(core: &C, position: u16) -> u8
     core.get(position).rank()
 }
 
-/// The order of two sequences of `count` characters that end at A and at B.
+/// The order of two sequences of `count` characters that end at A and at B, one by one.
 #[inline(always)]
 fn order<C: Core>(core: &C, a: u16, b: u16, count: u16) -> Compared
     requires a_in { a < length (C.cells core.now) }
@@ -41,6 +43,41 @@ fn order<C: Core>(core: &C, a: u16, b: u16, count: u16) -> Compared
     Compared::Equal
 }
 
+/// Which of sixteen characters differ from those at the same places of others: bit 0 for the
+/// leftmost.
+#[inline(always)]
+fn differences(a: u8x16, b: u8x16) -> u64
+    requires a { length a ≡ 16 }
+    requires b { length b ≡ 16 }
+    ensures { result ≡ mask_l (zip2 (λ x y. not (x == y)) a b) }
+{
+    a.simd_ne(b).to_bitmask()
+}
+
+/// The order of two sequences of at most sixteen characters that end at A and at B, all at once.
+#[inline(always)]
+fn near_order<C: Core>(core: &C, a: u16, b: u16, count: u16) -> Compared
+    requires a_in { a < length (C.cells core.now) }
+    requires b_in { b < length (C.cells core.now) }
+    requires a_room { 15 ≤ a }
+    requires b_room { 15 ≤ b }
+    requires some { 1 ≤ count }
+    requires most { count ≤ 16 }
+    ensures { result ≡ order (codes_ending (C.cells core.now) a count)
+        (codes_ending (C.cells core.now) b count) }
+{
+    let differ = differences(core.near_codes(a), core.near_codes(b)) >> (16 - count);
+    if differ == 0 {
+        return Compared::Equal;
+    }
+    let left = count - 1 - differ.trailing_zeros() as u16;
+    if rank_at(core, b - left) < rank_at(core, a - left) {
+        Compared::Low
+    } else {
+        Compared::High
+    }
+}
+
 /// The result of comparing the B field with the cut at A.
 #[inline(always)]
 fn comparison<C: Core>(core: &C, a: u16, b: u16, counts: Counts) -> Compared
@@ -55,10 +92,46 @@ fn comparison<C: Core>(core: &C, a: u16, b: u16, counts: Counts) -> Compared
     }
 }
 
+/// The same where sixteen characters end at each position and the B field has at most that many.
+#[inline(always)]
+fn near_comparison<C: Core>(core: &C, a: u16, b: u16, counts: Counts) -> Compared
+    requires counts { AreCounts (C.cells core.now) a b counts.a counts.b }
+    requires a_room { 15 ≤ a }
+    requires b_room { 15 ≤ b }
+    requires most { counts.b ≤ 16 }
+    ensures { result ≡ comparison (codes_ending (C.cells core.now) a counts.a)
+        (codes_ending (C.cells core.now) b counts.b) }
+{
+    if counts.a == counts.b {
+        near_order(core, a, b, counts.b)
+    } else {
+        Compared::High
+    }
+}
+
 /// Compares the cut at A with the B field, and sets the indicator. Storage is unchanged. Fails with
 /// check ADDRESS as `counts_at` does.
 #[tactic(auto, unfolding(crate::specs::Order::compared))]
 pub fn compare<C: Core>(core: &mut C, registers: &mut Registers) -> Result<(), Check>
+    ensures done { OnOk result (compared (C.cells core.old) registers.old
+        ≡ Ok (C.cells core.new, registers.new)) }
+    ensures check { IfErr result (λ check. compared (C.cells core.old) registers.old ≡ Err check) }
+    ensures unchanged { OnErr result ((C.cells core.new ≡ C.cells core.old)
+        × (registers.new ≡ registers.old)) }
+{
+    let Registers { a, b, .. } = *registers;
+    let Some(counts) = near_counts(core, a, b) else {
+        return compare_far(core, registers);
+    };
+    registers.compare = near_comparison(core, a, b, counts);
+    registers.lower(counts.a, counts.b);
+    Ok(())
+}
+
+/// Compares as `compare` does, fields of any length.
+#[inline(never)]
+#[tactic(auto, unfolding(crate::specs::Order::compared))]
+fn compare_far<C: Core>(core: &mut C, registers: &mut Registers) -> Result<(), Check>
     ensures done { OnOk result (compared (C.cells core.old) registers.old
         ≡ Ok (C.cells core.new, registers.new)) }
     ensures check { IfErr result (λ check. compared (C.cells core.old) registers.old ≡ Err check) }

@@ -8,8 +8,10 @@ ghost use Rattle.arith.specs.Sums.{added, sum_codes, sum_overflows};
 
 use crate::decimal::{is_number, sign_zone};
 use crate::joining::{Joined, join};
-use crate::operands::{Counts, counts_apart};
-use core_store::{Check, Core, Registers, is_minus};
+use crate::lanes::{greater, is_over, last_of, parts, sum, written};
+use crate::operands::{Counts, counts_apart, near_counts};
+use core_store::{Check, Core, Registers, is_minus, overlaps};
+use std::simd::prelude::*;
 
 /// Adds the A digits to the B field. Fails as `counts_apart` does, and with check DATA if a
 /// character has no numeric value.
@@ -38,8 +40,58 @@ pub fn subtract<C: Core>(core: &mut C, registers: &mut Registers) -> Result<(), 
 
 /// Adds the A digits to the B field. A subtraction reverses the sign of A.
 #[inline(always)]
-#[tactic(auto, unfolding(crate::specs::Sums::added))]
 fn combine<C: Core>(core: &mut C, registers: &mut Registers, reversed: bool) -> Result<(), Check>
+    ensures done { OnOk result (added reversed (C.cells core.old) registers.old
+        ≡ Ok (C.cells core.new, registers.new)) }
+    ensures check { IfErr result (λ check. added reversed (C.cells core.old) registers.old
+        ≡ Err check) }
+    ensures unchanged { OnErr result ((C.cells core.new ≡ C.cells core.old)
+        × (registers.new ≡ registers.old)) }
+{
+    if combine_near(core, registers, reversed) {
+        return Ok(());
+    }
+    combine_far(core, registers, reversed)
+}
+
+/// Combines as `combine` does, all digits at once, where the signs are the same and the B field has
+/// at most fifteen digits. Returns whether it did; if not, nothing is changed.
+#[inline(always)]
+fn combine_near<C: Core>(core: &mut C, registers: &mut Registers, reversed: bool) -> bool
+    ensures done { result ≡ true → added reversed (C.cells core.old) registers.old
+        ≡ Ok (C.cells core.new, registers.new) }
+    ensures unchanged { result ≡ false → (C.cells core.new ≡ C.cells core.old)
+        × (registers.new ≡ registers.old) }
+{
+    let Registers { a, b, .. } = *registers;
+    let Some(counts) = near_counts(core, a, b) else {
+        return false;
+    };
+    let minus_a = is_minus(core, a) != reversed;
+    if counts.b > 15 || overlaps(a, b, counts.a) || minus_a != is_minus(core, b) {
+        return false;
+    }
+    let old = core.near_codes(b);
+    let parts_a = parts(core.near_codes(a), counts.a);
+    let parts_b = parts(old, counts.b);
+    if is_over(greater(parts_a, parts_b), 10) {
+        return false;
+    }
+    let digits = sum(parts_a, parts_b);
+    core.put_near_codes(b, written(digits, old, counts.b));
+    registers.lower(counts.a, counts.b);
+    registers.overflow |= is_over(last_of(counts.b, u8x16::splat(0), digits), 0);
+    true
+}
+
+/// Combines as `combine` does, digit by digit.
+#[inline(never)]
+#[tactic(auto, unfolding(crate::specs::Sums::added))]
+fn combine_far<C: Core>(
+    core: &mut C,
+    registers: &mut Registers,
+    reversed: bool,
+) -> Result<(), Check>
     ensures done { OnOk result (added reversed (C.cells core.old) registers.old
         ≡ Ok (C.cells core.new, registers.new)) }
     ensures check { IfErr result (λ check. added reversed (C.cells core.old) registers.old

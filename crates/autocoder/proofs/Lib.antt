@@ -1,5 +1,3 @@
-pub mod Standing
-pub mod Passes
-pub mod Assembling
-pub mod Lines
-pub mod Loading
+pub mod ProgramLemmas
+pub mod ListingLemmas
+pub mod LoadingLaw

@@ -1,7 +1,5 @@
 pub mod Assembly
-pub mod Image
-pub mod Tables
-pub mod Telling
+pub mod Faults
 pub mod Programs
 pub mod Listing
 pub mod Loadable

@@ -8,8 +8,8 @@ use Rattle.autocoder_layout.specs.Slots.{place_after}
 use Rattle.autocoder_layout.specs.Literals.{Characters, literals_of}
 use Rattle.autocoder_layout.specs.Layout.{slots_of}
 use Rattle.autocoder.specs.Programs.{layout_for}
-use Rattle.autocoder_layout.specs.declared.slots.Kind.{Kind}
-use Rattle.autocoder_layout.specs.declared.slots.Kind.TheVariants.{Instruction, Constant}
+use Rattle.autocoder_layout.specs.declared.slots.Role.{Role}
+use Rattle.autocoder_layout.specs.declared.slots.Role.TheVariants.{Instruction, Constant}
 use Rattle.autocoder_layout.specs.declared.slots.Slot.{Slot}
 use Rattle.cards.specs.Files.{line_feed}
 
@@ -33,15 +33,15 @@ position_field position = right zero_digit 5 position
 abbrev pub glyphs_of : List ℕ → List ℕ
 glyphs_of text = map glyph_of text
 
--- whether a card of this kind fills positions
-abbrev pub fills : Kind → Bool
+-- whether a card of this role fills positions
+abbrev pub fills : Role → Bool
 fills Instruction = true
 fills Constant = true
-fills kind = false
+fills role = false
 
 -- the first position of an instruction or a constant in five digits; for any other card blanks
 unfoldable pub place_field : Slot → List ℕ
-place_field slot = if fills slot.kind then position_field slot.before else replicate 5 blank
+place_field slot = if fills slot.role then position_field slot.before else replicate 5 blank
 
 -- the line of a card: its number, its place and its 80 columns
 unfoldable pub card_line : ℕ → Slot → Card → List ℕ
@@ -54,21 +54,21 @@ literal_line place literal =
     ((codes "LIT  " ++ position_field place) ++ blank ∷ []) ++ glyphs_of literal
 
 -- a line without the blanks at its end, and with a line feed
-unfoldable pub listed : List ℕ → List ℕ
-listed line = take (length line - suffix_len (λ g. g == blank) line) line ++ line_feed ∷ []
+unfoldable pub line_text : List ℕ → List ℕ
+line_text line = take (length line - suffix_len (λ g. g == blank) line) line ++ line_feed ∷ []
 
 -- the lines of these cards, which are numbered from this number on
 unfoldable pub card_lines : ℕ → List Card → List Slot → List ℕ
 card_lines number [] slots = []
 card_lines number (card ∷ cards) [] = []
 card_lines number (card ∷ cards) (slot ∷ slots) =
-    listed (card_line number slot card) ++ card_lines (number + 1) cards slots
+    line_text (card_line number slot card) ++ card_lines (number + 1) cards slots
 
 -- the lines of these literals, which are placed one after the other from a place on
 unfoldable pub literal_lines : ℕ → List Characters → List ℕ
 literal_lines place [] = []
 literal_lines place (literal ∷ literals) =
-    listed (literal_line place literal) ++ literal_lines (place + length literal) literals
+    line_text (literal_line place literal) ++ literal_lines (place + length literal) literals
 
 -- the listing of these cards with their slots, and then of the literals
 unfoldable pub listing_of : List Card → List Slot → List Characters → List ℕ

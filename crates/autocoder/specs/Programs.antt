@@ -13,8 +13,8 @@ use Rattle.autocoder_layout.specs.Literals.{literals_of}
 use Rattle.autocoder_layout.specs.Layout.{Laid, slots_of, layout_of}
 use Rattle.autocoder_layout.specs.declared.cells.Cell.{Cell}
 use Rattle.autocoder_layout.specs.declared.slots.Slot.{Slot}
-use Rattle.autocoder.specs.Image.{image_of}
-use Rattle.autocoder.specs.Telling.{faults_of}
+use Rattle.autocoder_layout.specs.Image.{image_of}
+use Rattle.autocoder_layout.specs.CardFaults.{faults_of}
 use Rattle.autocoder.specs.declared.faults.Faults.{Faults}
 use Rattle.autocoder.specs.declared.faults.Faults.TheVariants.{Source, NoMemory}
 use Rattle.autocoder.specs.Assembly.{Assembly}
@@ -33,7 +33,7 @@ abbrev pub start_by : ℕ → List Slot → Line → ℕ
 start_by size slots (Ok (statement.End (Some expression) labelled)) =
     position_in (value_in size slots expression)
 start_by size slots (Ok (statement.End None labelled)) =
-    option_map_or (λ slot. slot.before) (find (λ slot. is_instruction slot.kind) slots) 0
+    option_map_or (λ slot. slot.before) (find (λ slot. is_instruction slot.role) slots) 0
 start_by size slots line = 0
 
 -- the line of the last card of a source
@@ -54,6 +54,7 @@ pub record IsProgramOf (source : List Card) (program : Assembly) : Type 0 where
   pub image : program.image ≡ image_for source
   pub start : program.start ≡ start_for source
   pub last : program.last ≡ length source
+  pub lines : program.lines ≡ lines_of false source
   pub slots : program.slots ≡ slots_of (layout_for source)
   pub literals : program.literals
       ≡ literals_of (lines_of false source) (slots_of (layout_for source))

@@ -1,18 +1,9 @@
 //! The faults of a source.
 
-ghost use Rattle.std.specs.Prelude.{◌≡◌, ◌≢◌, ◌++◌, [], IsTrue, IsFalse, OnOk};
-ghost use Rattle.autocoder.specs.Telling.{fault_list, fault_then, told_to_end};
+ghost use Rattle.std.specs.Prelude.{◌≡◌, ◌≢◌, [], IsTrue, IsFalse};
+ghost use Rattle.autocoder.specs.Faults.{fault_list};
 
-use autocoder_layout::SourceFault;
-use std::alloc::AllocError;
-
-/// The lowest fault of a card, with the card's number.
-#[derive(Clone, Copy)]
-pub struct CardFault {
-    /// The card's number, from 1; 0 for a fault of no card.
-    pub card: u32,
-    pub fault: SourceFault,
-}
+use autocoder_layout::{CardFault, SourceFault};
 
 /// Why a source has no program.
 #[derive(Drop)]
@@ -39,43 +30,6 @@ impl Faults {
             Faults::NoMemory => &NO_MEMORY,
         }
     }
-}
-
-/// Adds the fault of a card to the list, if it has one.
-pub(crate) fn tell(
-    faults: &mut Vec<CardFault>,
-    card: u32,
-    fault: Option<SourceFault>,
-) -> Result<(), AllocError>
-    ensures { OnOk result (faults.new.items ≡ faults.old.items ++ fault_then card fault []) }
-{
-    let Some(fault) = fault else {
-        return Ok(());
-    };
-    faults.push(CardFault { card, fault })?;
-    Ok(())
-}
-
-/// Adds the fault of a source without an end, if its last card has no fault of its own.
-pub(crate) fn tell_no_end(
-    faults: &mut Vec<CardFault>,
-    ended: bool,
-    last: Option<SourceFault>,
-    card: u32,
-) -> Result<(), AllocError>
-    ensures { OnOk result (faults.new.items ≡ told_to_end ended faults.old.items last card) }
-{
-    if ended {
-        return Ok(());
-    }
-    if last.is_some() {
-        return Ok(());
-    }
-    faults.push(CardFault {
-        card,
-        fault: SourceFault::NoEnd,
-    })?;
-    Ok(())
 }
 
 /// Whether there are faults.

@@ -7,7 +7,7 @@ ghost use Rattle.autocoder.specs.Programs.{IsFaultless, image_for, size_for, sta
 
 /// The law of faultless sources: the program of a source that has no fault can be loaded by cards
 /// into a storage of the source's size.
-#[tactic(auto, using(crate::proofs::Loading::faultless_loads))]
+#[tactic(auto, using(crate::proofs::LoadingLaw::faultless_loads))]
 pub fn faultless_sources_can_be_loaded()
     ensures { (source : List Card) → IsFaultless source →
         IsLoadable (size_for source) (image_for source) (start_for source) }

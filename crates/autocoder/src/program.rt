@@ -1,21 +1,15 @@
 //! A program, assembled.
 
-ghost use Rattle.std.specs.Prelude.{◌≡◌, IfOk, IfErr, OnOk};
-ghost use Rattle.autocoder_layout.specs.Bounds.{IsWithin};
-ghost use Rattle.autocoder_layout.specs.Literals.{texts};
-ghost use Rattle.autocoder_layout.specs.Source.{IsInRange, source_of};
+ghost use Rattle.std.specs.Prelude.{◌≡◌, ◌-◌, length, slice_index_or, IfOk, IfErr, OnOk};
+ghost use Rattle.core_store.specs.Storage.{positions_of};
+ghost use Rattle.autocoder_layout.specs.Source.{IsInRange, silent, source_of};
 ghost use Rattle.autocoder.specs.Loadable.{CanBeLoaded, IsRising};
-ghost use Rattle.autocoder.specs.Programs.{start_by, last_line, IsProgramOf, IsFaultless, AreFaults};
+ghost use Rattle.autocoder.specs.Programs.{start_by, IsProgramOf, IsFaultless, AreFaults};
 
-use crate::faults::{Faults, has_some, tell_no_end};
-use crate::judging::judge;
-use crate::tables::{cells_in, empty_table};
-use autocoder_layout::{
-    Cell, FARTHEST, Line, Literal, Slot, Value, first_instruction, has_end, lay_out, literals_of,
-    size_of, source_of, value_in,
-};
-use autocoder_statements::{Statement, read};
-use cards::{Card, Deck};
+use crate::faults::{Faults, has_some};
+use autocoder_layout::{Cell, Judgement, Layout, Line, Slot, Source, Value, first_instruction};
+use autocoder_statements::{Statement, Text};
+use cards::Deck;
 use core_store::Size;
 use std::alloc::Global;
 use std::marker::Model;
@@ -23,38 +17,33 @@ use std::marker::Model;
 /// The program of a source without faults. Only `assemble` makes one, so cards can load it.
 #[derive(Drop)]
 pub struct Program {
-    /// The size of storage that it requires.
-    size: Size,
+    /// The layout of its source.
+    layout: Layout,
     /// The filled positions, in rising order.
     image: Vec<Cell>,
     /// The position at which it starts.
     start: u32,
-    /// The number of the card that ends the source.
-    last: u32,
-    /// The slot of each card of the source.
-    slots: Vec<Slot>,
-    /// The literals, in the order of their places.
-    literals: Vec<Literal>,
 }
 
 impl Model for Program {
+    ghost use Rattle.std.specs.Prelude.{length};
     ghost use Rattle.core_store.specs.Storage.{positions_of};
-    ghost use Rattle.autocoder_layout.specs.Literals.{texts};
     ghost use Rattle.autocoder.specs.Assembly.{Assembly};
     ghost use Rattle.autocoder.specs.Loadable.{IsLoadable, IsRising};
 
     ghost Value = { Assembly };
 
     ghost view = { λ p. record {
-      size = p.size;
+      size = p.layout.source.size;
       image = p.image.items;
       start = p.start;
-      last = p.last;
-      slots = p.slots.items;
-      literals = texts p.literals.items;
+      last = length p.layout.source.lines;
+      lines = p.layout.source.lines;
+      slots = p.layout.slots;
+      literals = p.layout.literals;
     } };
 
-    ghost invariant = { λ p. IsLoadable (positions_of p.size) p.image.items p.start
+    ghost invariant = { λ p. IsLoadable (positions_of p.layout.source.size) p.image.items p.start
         × IsRising p.image.items };
 }
 
@@ -63,7 +52,7 @@ impl Program {
     pub fn size(&self) -> Size
         ensures { result ≡ self.now.size }
     {
-        self.size
+        self.layout.source().size()
     }
 
     /// The filled positions in rising order, each at least 081 and below the size.
@@ -86,29 +75,38 @@ impl Program {
     pub fn last(&self) -> u32
         ensures { result ≡ self.now.last }
     {
-        self.last
+        self.layout.source().lines().len() as u32
+    }
+
+    /// The layout of the source.
+    pub fn layout(&self) -> &Layout
+        ensures size { result.now.source.size ≡ self.now.size }
+        ensures lines { result.now.source.lines ≡ self.now.lines }
+        ensures slots { result.now.slots ≡ self.now.slots }
+        ensures literals { result.now.literals ≡ self.now.literals }
+    {
+        &self.layout
     }
 
     /// The slot of each card of the source.
     pub fn slots(&self) -> &[Slot]
         ensures { result.now ≡ self.now.slots }
     {
-        &self.slots
+        self.layout.slots()
     }
 
     /// The literals, in the order of their places.
-    pub fn literals(&self) -> &[Literal]
-        ensures { texts result.now ≡ self.now.literals }
+    pub fn literals(&self) -> &[Text]
+        ensures { result.now ≡ self.now.literals }
     {
-        &self.literals
+        self.layout.literals()
     }
 }
 
 /// The start of a program whose source ends with this line.
-fn start_by(size: u16, slots: &[Slot], line: Line) -> u32
-    requires names { IsWithin FARTHEST slots.now }
-    requires range { IsInRange line }
-    ensures { result ≡ start_by size slots.now line }
+fn start_by(layout: &Layout, line: &Line) -> u32
+    requires { IsInRange line.now }
+    ensures { result ≡ start_by (positions_of layout.now.source.size) layout.now.slots line.now }
 {
     match line {
         Ok(
@@ -116,11 +114,11 @@ fn start_by(size: u16, slots: &[Slot], line: Line) -> u32
                 start: Some(expression),
                 ..
             },
-        ) => match value_in(size, slots, expression) {
+        ) => match layout.value_of(*expression) {
             Value::At(position) => position as u32,
             _ => 0,
         },
-        Ok(Statement::End { start: None, .. }) => match first_instruction(slots) {
+        Ok(Statement::End { start: None, .. }) => match first_instruction(layout.slots()) {
             Some(slot) => slot.before,
             None => 0,
         },
@@ -128,16 +126,15 @@ fn start_by(size: u16, slots: &[Slot], line: Line) -> u32
     }
 }
 
-/// The line of the last card of a source.
-#[tactic(auto, unfolding(crate::specs::Programs::last_line))]
-fn last_line(source: &[Card]) -> Line
-    ensures line { result ≡ last_line source.now }
-    ensures range { IsInRange result }
+/// The position at which a program starts.
+fn start_of(layout: &Layout) -> u32
+    ensures { result ≡ start_by (positions_of layout.now.source.size) layout.now.slots
+        (slice_index_or layout.now.source.lines (length layout.now.source.lines - 1) silent) }
 {
-    if source.is_empty() {
-        return Ok(Statement::Comment);
+    match layout.source().lines() {
+        [] => 0,
+        [.., last] => start_by(layout, last),
     }
-    read(&source[source.len() - 1])
 }
 
 /// Assembles the source at the beginning of a deck: its cards up to the first END card. Returns the
@@ -150,46 +147,22 @@ pub fn assemble(alloc: Global, deck: &Deck) -> Result<Program, Faults>
     ensures faultless { OnOk result (IsFaultless (source_of deck.now)) }
     ensures faults { IfErr result (AreFaults (source_of deck.now)) }
 {
-    let source = source_of(deck.cards());
-    let size = size_of(source);
-    let positions = size.positions();
-    let Ok(slots) = lay_out(alloc, positions, source) else {
+    let Ok(source) = Source::read(alloc, deck) else {
         return Err(Faults::NoMemory);
     };
-    let Ok(literals) = literals_of(alloc, source, &slots) else {
+    let Ok(layout) = Layout::of(alloc, source) else {
         return Err(Faults::NoMemory);
     };
-    let Ok(mut table) = empty_table(alloc, positions) else {
-        return Err(Faults::NoMemory);
-    };
-    let mut faults = Vec::new(alloc);
-    let Ok(last) = judge(
-        alloc,
-        positions,
-        source,
-        &slots,
-        &literals,
-        &mut table,
-        &mut faults,
-    ) else {
-        return Err(Faults::NoMemory);
-    };
-    let count = source.len() as u32;
-    let Ok(()) = tell_no_end(&mut faults, has_end(source), last, count) else {
+    let Ok(Judgement { image, faults }) = layout.judge(alloc) else {
         return Err(Faults::NoMemory);
     };
     if has_some(&faults) {
         return Err(Faults::Source(faults));
     }
-    let Ok(image) = cells_in(alloc, &table) else {
-        return Err(Faults::NoMemory);
-    };
+    let start = start_of(&layout);
     Ok(Program {
-        size,
+        layout,
         image,
-        start: start_by(positions, &slots, last_line(source)),
-        last: count,
-        slots,
-        literals,
+        start,
     })
 }

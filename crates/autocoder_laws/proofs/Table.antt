@@ -1,4 +1,4 @@
--- the table of mnemonics beside that of meanings
+-- for `instructions_are_decoded`: the table of mnemonics beside that of meanings
 use Rattle.std.proofs.Common.{◌≡◌, ℕ, Some, refl}
 use Rattle.bcd.specs.Table.{glyph_of}
 use Rattle.machine.specs.Branches.{condition_of, test_of}
@@ -10,9 +10,9 @@ use Rattle.machine.specs.declared.decode.Modifier.TheVariants.{Plain, OnConditio
 use Rattle.machine.specs.declared.decode.Operation.TheVariants.{OnFields, ClearStorage, Branch, Operate, StoreA, StoreB, Halt, NoOperation}
 use Rattle.autocoder_statements.specs.Mnemonics.{mnemonics, code_of}
 use Rattle.autocoder_laws.specs.Meanings.{meanings}
-use Rattle.autocoder_laws.proofs.Lasts.{switches, tests, orders}
-use Rattle.autocoder_laws.proofs.Rows.{AllFit}
-use Rattle.autocoder_laws.proofs.Suiting.{Agrees}
+use Rattle.autocoder_laws.proofs.LastCharacters.{switches, tests, orders}
+use Rattle.autocoder_laws.proofs.RowLemmas.{AllFit}
+use Rattle.autocoder_laws.proofs.SuitLemmas.{Agrees}
 
 -- what holds of the first row, and what holds of the others
 infixr 5 ◌▸◌

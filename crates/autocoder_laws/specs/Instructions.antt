@@ -1,5 +1,5 @@
 -- instructions as the assembler makes them and the machine reads them
-use Rattle.std.specs.Prelude.{ℕ, ◌≡◌, ◌⊎◌, ◌+◌, ◌-◌, ⊤, nat_lt, true, List, length, slice_index, Option, Some, None, Ok, is_some}
+use Rattle.std.specs.Prelude.{ℕ, ◌≡◌, ◌+◌, ◌-◌, ⊤, nat_lt, true, List, length, slice_index, Option, Some, None, Ok, is_some}
 use Rattle.std.specs.List.{All}
 use Rattle.cards.specs.declared.decks.Card.{Card}
 use Rattle.core_store.specs.Storage.{Storage, cell_at, is_marked}
@@ -8,15 +8,14 @@ use Rattle.core_store.specs.declared.registers.Registers.{Registers}
 use Rattle.machine.specs.Word as machine
 use Rattle.machine.specs.declared.decode.Decoded.{Decoded}
 use Rattle.machine.specs.declared.decode.Modifier as modifier
-use Rattle.autocoder_statements.specs.Characters.{padded}
+use Rattle.autocoder_statements.specs.Characters.{with_blanks}
 use Rattle.autocoder_statements.specs.Mnemonics.{entry, instruction_length}
 use Rattle.autocoder_statements.specs.Operands.{is_modifier}
 use Rattle.autocoder_statements.specs.Statements.{operation_columns, operation_field, word}
-use Rattle.autocoder_statements.specs.declared.forms.Form.{Form}
-use Rattle.autocoder_statements.specs.declared.forms.Form.TheVariants.{Empty, Modifier, One, OneAndModifier, Two, TwoAndModifier}
-use Rattle.autocoder_statements.specs.declared.forms.Modifiers.{Modifiers}
+use Rattle.autocoder_statements.specs.declared.operand_forms.OperandForm.{OperandForm}
+use Rattle.autocoder_statements.specs.declared.operand_forms.OperandForm.TheVariants.{Empty, Modifier, One, OneAndModifier, Two, TwoAndModifier}
+use Rattle.autocoder_statements.specs.declared.modifiers.Modifiers.{Modifiers}
 use Rattle.autocoder_statements.specs.declared.operands.Operands.{Operands}
-use Rattle.autocoder_statements.specs.declared.operations.Forms.{Forms}
 use Rattle.autocoder_statements.specs.declared.operations.Instruction.{Instruction}
 use Rattle.autocoder_layout.specs.Cells.{field, instruction_codes}
 use Rattle.autocoder_layout.specs.Literals.{Characters}
@@ -26,12 +25,8 @@ use Rattle.autocoder_laws.specs.Meanings.{Meaning, meanings}
 
 -- ---- the forms of a mnemonic
 
--- the form is one of these
-abbrev pub IsAmong : Forms → Form → Type 0
-IsAmong forms form = (forms.form ≡ form) ⊎ ((forms.other ≡ Some form) ⊎ (forms.third ≡ Some form))
-
 -- how many addresses a form has
-abbrev pub address_count : Form → ℕ
+abbrev pub address_count : OperandForm → ℕ
 address_count Empty = 0
 address_count (Modifier modifiers) = 0
 address_count (One kind) = 1
@@ -40,7 +35,7 @@ address_count (Two kind other) = 2
 address_count (TwoAndModifier kind other modifiers) = 2
 
 -- the characters of which a form ends in one
-abbrev pub last_characters : Form → Option Modifiers
+abbrev pub last_characters : OperandForm → Option Modifiers
 last_characters Empty = None
 last_characters (Modifier modifiers) = Some modifiers
 last_characters (One kind) = None
@@ -56,7 +51,7 @@ IsAllowed (Some modifiers) None = ⊥
 IsAllowed (Some modifiers) (Some code) = is_modifier modifiers code ≡ true
 
 -- operands of a form: as many addresses as it has, and a last character that it allows
-pub record IsOfForm (form : Form) (operands : Operands) : Type 0 where
+pub record IsOfForm (form : OperandForm) (operands : Operands) : Type 0 where
   pub first : is_some operands.first ≡ nat_lt 0 (address_count form)
   pub second : is_some operands.second ≡ nat_lt 1 (address_count form)
   pub last : IsAllowed (last_characters form) operands.modifier
@@ -108,4 +103,4 @@ IsAssembledAs mnemonic spelled =
 
 -- the word in a card's operation field, filled up with blanks
 abbrev pub mnemonic_on : Card → List ℕ
-mnemonic_on card = padded operation_columns (word (operation_field card))
+mnemonic_on card = with_blanks operation_columns (word (operation_field card))

@@ -14,7 +14,7 @@ use Rattle.machine.specs.declared.decode.Modifier.{Modifier}
 use Rattle.machine.specs.declared.decode.Modifier.TheVariants.{Plain, OnCondition, OnCharacter, OnTest, ByOrder}
 use Rattle.machine.specs.declared.decode.Operation.{Operation}
 use Rattle.machine.specs.declared.decode.Operation.TheVariants.{OnFields, ClearStorage, Branch, BranchOnMarkOrZone, Operate, MoveCarriage, StoreA, StoreB, Halt, NoOperation}
-use Rattle.autocoder_statements.specs.Mnemonics.{named}
+use Rattle.autocoder_statements.specs.Mnemonics.{name_field}
 
 -- an operation of the machine, and what the last character of its instruction says
 pub record Meaning : Type 0 where
@@ -23,7 +23,7 @@ pub record Meaning : Type 0 where
 
 -- a mnemonic by its name, with its meaning
 abbrev pub means : List ℕ → Operation → (ℕ → Option Modifier) → List ℕ × Meaning
-means name operation says = (named name, record { operation = operation; says = says })
+means name operation says = (name_field name, record { operation = operation; says = says })
 
 -- a mnemonic whose last character says nothing of its own
 abbrev pub plain : List ℕ → Operation → List ℕ × Meaning

@@ -2,8 +2,8 @@
 use Rattle.std.specs.Prelude.{ℕ, ◌%◌, nat_lt, List, length, None, Result, Ok}
 use Rattle.core_store.specs.Storage.{Storage, largest_size}
 use Rattle.core_store.specs.Checked.{require, and_then}
-use Rattle.core_store.specs.declared.registers.Check.{Check}
-use Rattle.core_store.specs.declared.registers.Check.TheVariants as check
+use Rattle.core_store.specs.declared.checks.Check.{Check}
+use Rattle.core_store.specs.declared.checks.Check.TheVariants as check
 use Rattle.addresses.specs.Effective.{effective}
 use Rattle.addresses.specs.declared.tagged.Tagged.{Tagged}
 use Rattle.autocoder_statements.specs.declared.operands.Operand.{Operand}

@@ -77,8 +77,8 @@ instruction_codes size slots literals spelled =
     ++ operand_codes size slots literals spelled.second ++ option_to_list spelled.modifier
 
 -- the blank with a word mark after an instruction, if the next card with a place requires it
-abbrev pub blank_behind : List Slot → ℕ → List Cell
-blank_behind later place = if is_closed later then cell place blank true ∷ [] else []
+abbrev pub blank_after : List Slot → ℕ → List Cell
+blank_after later place = if is_closed later then cell place blank true ∷ [] else []
 
 -- ---- a card
 
@@ -89,9 +89,9 @@ constant_codes (Blanks count) = replicate count blank
 
 -- a constant with at most one blank more than storage has positions, as any further would change
 -- nothing
-abbrev pub shortened : ℕ → constant.Constant → constant.Constant
-shortened size (text.Characters characters) = text.Characters characters
-shortened size (Blanks count) = Blanks (min count (size + 1))
+abbrev pub cut_constant : ℕ → constant.Constant → constant.Constant
+cut_constant size (text.Characters characters) = text.Characters characters
+cut_constant size (Blanks count) = Blanks (min count (size + 1))
 
 -- the cells that a card fills if its slot has no fault, with the names and literals of the whole
 -- source
@@ -100,7 +100,7 @@ filled_by size slots literals later slot (Ok (statement.Constant label marked co
     field marked slot.before (constant_codes constant)
 filled_by size slots literals later slot (Ok (statement.Instruction label spelled)) =
     field true slot.before (instruction_codes size slots literals spelled)
-    ++ blank_behind later slot.after
+    ++ blank_after later slot.after
 filled_by size slots literals later slot (Ok (statement.End start labelled)) =
     literal_cells slot.before literals
 filled_by size slots literals later slot line = []

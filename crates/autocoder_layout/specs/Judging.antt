@@ -91,7 +91,7 @@ pub record IsCut (size : ℕ) (cells cut : List Cell) : Type 0 where
   pub rest : List Cell
   pub all : cells ≡ cut ++ rest
   pub beyond : All (λ c. size ≤ c.position) rest
-  pub told : (rest ≡ []) ⊎ (fills_outside size cut ≡ true)
+  pub enough : (rest ≡ []) ⊎ (fills_outside size cut ≡ true)
 
 -- ---- the lowest fault
 

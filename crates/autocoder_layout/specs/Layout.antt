@@ -1,7 +1,8 @@
 -- the one layout of a source
 use Rattle.std.specs.Prelude.{ℕ, ◌≡◌, ◌+◌, ◌<◌, List, [], ◌∷◌, ◌++◌, length, take, drop, map, Option, None, slice_index_or}
 use Rattle.std.specs.List.{flat_map}
-use Rattle.autocoder_layout.specs.Source.{Line, silent}
+use Rattle.core_store.specs.Storage.{positions_of}
+use Rattle.autocoder_layout.specs.Source.{Line, Source, silent}
 use Rattle.autocoder_layout.specs.Slots.{origin, slot_of, slots_from}
 use Rattle.autocoder_layout.specs.Literals.{Characters, literals_of}
 use Rattle.autocoder_layout.specs.Cells.{cells_of}
@@ -74,3 +75,23 @@ laid_with size slots lines = laid_from size slots (literals_of lines slots) [] s
 -- the one layout of these lines
 unfoldable pub layout_of : ℕ → List Line → List Laid
 layout_of size lines = laid_with size (slots_from size [] lines) lines
+
+-- ---- the layout as a value
+
+-- a source, the slot of each of its cards, and its literals in the order of their places
+pub record Layout : Type 0 where
+  pub source : Source
+  pub slots : List Slot
+  pub literals : List Characters
+
+-- a source with the slots and literals of its one layout
+abbrev pub laid_out : Source → Layout
+laid_out source = record {
+  source = source;
+  slots = slots_from (positions_of source.size) [] source.lines;
+  literals = literals_of source.lines (slots_from (positions_of source.size) [] source.lines);
+}
+
+-- the one layout of a source
+abbrev pub layout_in : Source → List Laid
+layout_in source = layout_of (positions_of source.size) source.lines

@@ -7,3 +7,6 @@ pub mod Literals
 pub mod Cells
 pub mod Judging
 pub mod Layout
+pub mod Tables
+pub mod Image
+pub mod CardFaults

@@ -1,25 +1,15 @@
 -- the literals of a source, in the order of their first use, and their places
-use Rattle.std.specs.Prelude.{ℕ, ◌+◌, ◌-◌, Bool, if◌then◌else◌, List, [], ◌∷◌, ◌++◌, length, map, take, min, Option, Some, Ok, is_some, bytes_eq}
+use Rattle.std.specs.Prelude.{ℕ, ◌+◌, ◌-◌, Bool, if◌then◌else◌, List, [], ◌∷◌, ◌++◌, length, Option, Some, Ok, is_some, bytes_eq}
 use Rattle.std.specs.List.{list_any}
 use Rattle.autocoder_statements.specs.declared.operands.Operand.{Operand}
 use Rattle.autocoder_statements.specs.declared.operands.Operand.TheVariants as operand
 use Rattle.autocoder_statements.specs.declared.reading.Statement.TheVariants as statement
 use Rattle.autocoder_layout.specs.Source.{Line}
-use Rattle.autocoder_layout.specs.declared.literals.Literal.{Literal}
 use Rattle.autocoder_layout.specs.declared.slots.Slot.{Slot}
-use Rattle.autocoder_statements.specs.Limits.{longest_text}
 
 -- a string of characters
 abbrev pub Characters : Type 0
 Characters = List ℕ
-
--- the characters of a literal as the code keeps it
-abbrev pub characters : Literal → Characters
-characters literal = take (min literal.count longest_text) literal.codes
-
--- the characters of each of these literals
-abbrev pub texts : List Literal → List Characters
-texts literals = map characters literals
 
 -- the literal of an operand, if it is one
 abbrev pub literal_in : Option Operand → List Characters

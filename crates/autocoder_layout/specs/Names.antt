@@ -38,16 +38,16 @@ base_number slots (Number number) = Some number
 base_number slots (Name wanted) = address_of wanted slots
 
 -- the value of an address by its base's number and its adjustment
-abbrev pub adjusted : ℕ → Adjustment → ℕ → Value
-adjusted size Nothing number = within size number
-adjusted size (Plus more) number = within size (number + more)
-adjusted size (Minus less) number = if nat_lt number less then Outside
+abbrev pub value_with : ℕ → Adjustment → ℕ → Value
+value_with size Nothing number = within size number
+value_with size (Plus more) number = within size (number + more)
+value_with size (Minus less) number = if nat_lt number less then Outside
     else within size (number - less)
 
 -- the value of an address by its base's number, or unknown if the base's name is not defined
 abbrev pub value_by : ℕ → Adjustment → Option ℕ → Value
 value_by size adjustment None = Unknown
-value_by size adjustment (Some number) = adjusted size adjustment number
+value_by size adjustment (Some number) = value_with size adjustment number
 
 -- the value of an expression: its base plus or minus a number
 unfoldable pub value_in : ℕ → List Slot → Expression → Value

@@ -13,8 +13,8 @@ use Rattle.autocoder_layout.specs.declared.names.Value.{Value}
 use Rattle.autocoder_layout.specs.declared.names.Value.TheVariants.{Unknown, Outside, At}
 use Rattle.autocoder_layout.specs.declared.faults.SourceFault.{SourceFault}
 use Rattle.autocoder_layout.specs.declared.faults.SourceFault.TheVariants as fault
-use Rattle.autocoder_layout.specs.declared.slots.Kind.{Kind}
-use Rattle.autocoder_layout.specs.declared.slots.Kind.TheVariants.{Nothing, Instruction, Constant, Passing}
+use Rattle.autocoder_layout.specs.declared.slots.Role.{Role}
+use Rattle.autocoder_layout.specs.declared.slots.Role.TheVariants.{Nothing, Instruction, Constant, Passing}
 use Rattle.autocoder_layout.specs.declared.slots.Slot.{Slot}
 
 -- the place of the first card of a source without ORG: the position after the print area
@@ -30,7 +30,7 @@ origin = record {
   after = first_place;
   defines = None;
   fault = None;
-  kind = Nothing;
+  role = Nothing;
   closes = false;
 }
 
@@ -39,27 +39,27 @@ abbrev pub place_after : List Slot → ℕ
 place_after slots = (slice_index_or slots (length slots - 1) origin).after
 
 -- whether a slot is of a card without a place
-abbrev pub is_nothing : Kind → Bool
+abbrev pub is_nothing : Role → Bool
 is_nothing Nothing = true
 is_nothing other = false
 
 -- whether a slot is of an instruction
-abbrev pub is_instruction : Kind → Bool
+abbrev pub is_instruction : Role → Bool
 is_instruction Instruction = true
 is_instruction other = false
 
 -- whether a card has a place
-abbrev pub stands : Slot → Bool
-stands slot = not (is_nothing slot.kind)
+abbrev pub has_place : Slot → Bool
+has_place slot = not (is_nothing slot.role)
 
 -- whether there is a slot and it is of an instruction
 abbrev pub is_an_instruction : Option Slot → Bool
 is_an_instruction None = false
-is_an_instruction (Some slot) = is_instruction slot.kind
+is_an_instruction (Some slot) = is_instruction slot.role
 
 -- whether the last card with a place is an instruction
 unfoldable pub is_open : List Slot → Bool
-is_open earlier = is_an_instruction (find stands (reverse earlier))
+is_open earlier = is_an_instruction (find has_place (reverse earlier))
 
 -- whether there is a slot and it requires a marked blank after an instruction before it
 abbrev pub does_close : Option Slot → Bool
@@ -68,12 +68,12 @@ does_close (Some slot) = slot.closes
 
 -- whether the next card with a place requires a marked blank after an instruction before it
 unfoldable pub is_closed : List Slot → Bool
-is_closed later = does_close (find stands later)
+is_closed later = does_close (find has_place later)
 
 -- the place of a card that requires a marked blank after an instruction: after that blank, if the
 -- last card is an instruction
-unfoldable pub place_behind : List Slot → ℕ
-place_behind earlier = if is_open earlier then place_after earlier + 1 else place_after earlier
+unfoldable pub place_after_blank : List Slot → ℕ
+place_after_blank earlier = if is_open earlier then place_after earlier + 1 else place_after earlier
 
 -- ---- a card
 
@@ -84,18 +84,18 @@ stays earlier fault = record {
   after = place_after earlier;
   defines = None;
   fault = fault;
-  kind = Nothing;
+  role = Nothing;
   closes = false;
 }
 
 -- the slot of a card that takes the positions from one place up to another
-abbrev pub takes : Kind → Bool → ℕ → ℕ → Slot
-takes kind closes before after = record {
+abbrev pub takes : Role → Bool → ℕ → ℕ → Slot
+takes role closes before after = record {
   before = before;
   after = after;
   defines = None;
   fault = None;
-  kind = kind;
+  role = role;
   closes = closes;
 }
 
@@ -106,14 +106,14 @@ with_label slot name address = record {
   after = slot.after;
   defines = Some (record { name = name; address = address });
   fault = slot.fault;
-  kind = slot.kind;
+  role = slot.role;
   closes = slot.closes;
 }
 
 -- the slot of a card that may have a label, or with a fault if an earlier card defines the name
-unfoldable pub labelled : List Slot → Option Name → ℕ → Slot → Slot
-labelled earlier None address slot = slot
-labelled earlier (Some name) address slot =
+unfoldable pub with_any_label : List Slot → Option Name → ℕ → Slot → Slot
+with_any_label earlier None address slot = slot
+with_any_label earlier (Some name) address slot =
     if is_some (address_of name earlier) then stays earlier (Some fault.TakenLabel)
     else with_label slot name address
 
@@ -121,7 +121,8 @@ labelled earlier (Some name) address slot =
 abbrev pub moved_to : List Slot → Value → Slot
 moved_to earlier Unknown = stays earlier (Some fault.UnknownName)
 moved_to earlier Outside = stays earlier (Some fault.Outside)
-moved_to earlier (At position) = takes Passing (is_open earlier) (place_behind earlier) position
+moved_to earlier (At position) =
+    takes Passing (is_open earlier) (place_after_blank earlier) position
 
 -- the slot of an EQU card, which defines a name as this value
 abbrev pub equal_to : List Slot → Name → Value → Slot
@@ -132,7 +133,7 @@ equal_to earlier name (At position) = with_label (stays earlier None) name posit
 -- whether a program has a start: an address on the END card, or else an instruction
 abbrev pub has_start : List Slot → Option Expression → Bool
 has_start earlier (Some start) = true
-has_start earlier None = is_some (find (λ slot. is_instruction slot.kind) earlier)
+has_start earlier None = is_some (find (λ slot. is_instruction slot.role) earlier)
 
 -- the lowest fault of an END card: its program has no start, or it has a label
 abbrev pub end_fault : List Slot → Option Expression → Bool → Option StatementFault
@@ -142,54 +143,56 @@ end_fault earlier start labelled =
 
 -- the slot of an END card, which has no place if it has a fault
 abbrev pub ends : List Slot → Option StatementFault → Slot
-ends earlier (Some told) = stays earlier (Some (fault.Statement told))
-ends earlier None = takes Passing (is_open earlier) (place_behind earlier) (place_behind earlier)
+ends earlier (Some reason) = stays earlier (Some (fault.Statement reason))
+ends earlier None =
+    takes Passing (is_open earlier) (place_after_blank earlier) (place_after_blank earlier)
 
 -- the slot of an END card with this operand, with or without a label
-abbrev pub ended : List Slot → Option Expression → Bool → Slot
-ended earlier start labelled = ends earlier (end_fault earlier start labelled)
+abbrev pub end_slot : List Slot → Option Expression → Bool → Slot
+end_slot earlier start labelled = ends earlier (end_fault earlier start labelled)
 
 -- the slot of a card that takes so many positions from a place on, with its label for the last of
 -- them
-abbrev pub run : List Slot → Option Name → Kind → Bool → ℕ → ℕ → Slot
-run earlier label kind closes place count =
-    labelled earlier label (place + count - 1) (takes kind closes place (place + count))
+abbrev pub run : List Slot → Option Name → Role → Bool → ℕ → ℕ → Slot
+run earlier label role closes place count =
+    with_any_label earlier label (place + count - 1) (takes role closes place (place + count))
 
 -- the slot of a constant; one without a word mark requires a marked blank after an instruction
 abbrev pub constant : List Slot → Option Name → Bool → ℕ → Slot
 constant earlier label true count = run earlier label Constant false (place_after earlier) count
 constant earlier label false count =
-    run earlier label Constant (is_open earlier) (place_behind earlier) count
+    run earlier label Constant (is_open earlier) (place_after_blank earlier) count
 
 -- the slot of a DS card, which passes so many positions
 abbrev pub area : List Slot → Option Name → ℕ → Slot
-area earlier label count = run earlier label Passing (is_open earlier) (place_behind earlier) count
+area earlier label count =
+    run earlier label Passing (is_open earlier) (place_after_blank earlier) count
 
 -- the slot of an instruction, with its label for its first position
 abbrev pub instruction : List Slot → Option Name → ℕ → Slot
-instruction earlier label count = labelled earlier label (place_after earlier)
+instruction earlier label count = with_any_label earlier label (place_after earlier)
     (takes Instruction false (place_after earlier) (place_after earlier + count))
 
 -- the slot of an EQU card with this expression, or with a fault if an earlier card defines the name
-abbrev pub equated : ℕ → List Slot → Name → Expression → Slot
-equated size earlier label expression =
+abbrev pub equate_slot : ℕ → List Slot → Name → Expression → Slot
+equate_slot size earlier label expression =
     if is_some (address_of label earlier) then stays earlier (Some fault.TakenLabel)
     else equal_to earlier label (value_in size earlier expression)
 
 -- the slot of a card by those of the earlier cards; names that later cards define do not count here
 unfoldable pub slot_of : ℕ → List Slot → Line → Slot
-slot_of size earlier (Err told) = stays earlier (Some (fault.Statement told))
+slot_of size earlier (Err reason) = stays earlier (Some (fault.Statement reason))
 slot_of size earlier (Ok statement.Comment) = stays earlier None
 slot_of size earlier (Ok statement.Job) = stays earlier None
-slot_of size earlier (Ok (statement.Control told)) = stays earlier None
+slot_of size earlier (Ok (statement.Control given)) = stays earlier None
 slot_of size earlier (Ok (statement.Origin expression)) =
     moved_to earlier (value_in size earlier expression)
 slot_of size earlier (Ok (statement.Equate label expression)) =
-    equated size earlier label expression
+    equate_slot size earlier label expression
 slot_of size earlier (Ok (statement.Constant label marked text)) =
     constant earlier label marked (constant_length text)
 slot_of size earlier (Ok (statement.Area label positions)) = area earlier label positions
-slot_of size earlier (Ok (statement.End start labelled)) = ended earlier start labelled
+slot_of size earlier (Ok (statement.End start labelled)) = end_slot earlier start labelled
 slot_of size earlier (Ok (statement.Instruction label spelled)) =
     instruction earlier label (instruction_length spelled)
 

@@ -78,13 +78,28 @@ further other = Err fault.Operand
 
 -- the statement on a card or its lowest fault, by whether an earlier card was a CTL card
 unfoldable pub line_on : Bool → Card → Line
-line_on told card = if told && is_control card then further (statement_on card)
+line_on has_size card = if has_size && is_control card then further (statement_on card)
     else statement_on card
 
 -- the statement on each card or its lowest fault, by whether an earlier card was a CTL card
 unfoldable pub lines_of : Bool → List Card → List Line
-lines_of told [] = []
-lines_of told (card ∷ cards) = line_on told card ∷ lines_of (told || is_control card) cards
+lines_of has_size [] = []
+lines_of has_size (card ∷ cards) =
+    line_on has_size card ∷ lines_of (has_size || is_control card) cards
+
+-- a source, read: the size of its storage, the line of each card, and whether it has an END card
+pub record Source : Type 0 where
+  pub size : Size
+  pub lines : List Line
+  pub is_ended : Bool
+
+-- these cards, read as a source
+abbrev pub source_read : List Card → Source
+source_read cards = record {
+  size = size_of cards;
+  lines = lines_of false cards;
+  is_ended = has_end cards;
+}
 
 -- the line of a comment
 abbrev pub silent : Line

@@ -1,23 +1,22 @@
 //! The positions that a card fills.
 
-ghost use Rattle.std.specs.Prelude.{◌≡◌, ◌+◌, ◌≤◌, ◌<◌, ◌++◌, length, option_to_list, replicate, IfSome, Some, IfOk, OnOk};
-ghost use Rattle.core_store.specs.Storage.{largest_size};
-ghost use Rattle.autocoder_layout.specs.Bounds.{IsWithin};
-ghost use Rattle.autocoder_layout.specs.Slots.{place_after};
-ghost use Rattle.autocoder_layout.specs.Source.{IsInRange};
-ghost use Rattle.autocoder_layout.specs.Literals.{texts};
+ghost use Rattle.std.specs.Prelude.{◌≡◌, ◌+◌, ◌≤◌, ◌<◌, ◌++◌, length, drop, slice_index_or, option_to_list, replicate, IfSome, Some, IfOk, OnOk};
+ghost use Rattle.core_store.specs.Storage.{largest_size, positions_of};
+ghost use Rattle.autocoder_layout.specs.Bounds.{farthest, most_literals};
+ghost use Rattle.autocoder_layout.specs.Slots.{origin};
+ghost use Rattle.autocoder_layout.specs.Source.{silent};
 ghost use Rattle.autocoder_layout.specs.Names.{IsValueWithin};
-ghost use Rattle.autocoder_layout.specs.Cells.{blank, row, field, literal_cells, tag, position_in, operand_codes, instruction_codes, blank_behind, constant_codes, shortened, cells_of};
+ghost use Rattle.autocoder_layout.specs.Cells.{blank, row, field, literal_cells, tag, position_in, operand_codes, instruction_codes, blank_after, constant_codes, cut_constant, cells_of};
 ghost use Rattle.autocoder_layout.specs.Judging.{IsCut};
 ghost use Rattle.autocoder_statements.specs.Ranges.{IsConstantInRange, IsInstructionInRange, IsOperandInRange};
 ghost use Rattle.autocoder_statements.specs.Limits.{number_limit};
 
-use crate::literals::{Literal, MOST_LITERALS, literal_end};
-use crate::names::{Value, value_in};
-use crate::slots::{FARTHEST, Slot, is_closed, place_after};
-use crate::source::Line;
+use crate::layout::Layout;
+use crate::literals::literal_end;
+use crate::names::Value;
+use crate::slots::{Slot, is_closed, place_after};
 use addresses::{IndexLocation, encode_tagged};
-use autocoder_statements::{Constant, Instruction, Operand, Statement};
+use autocoder_statements::{Constant, Instruction, Operand, Statement, Text};
 use bcd::{Code, Zone};
 use core_store::LARGEST_SIZE;
 use std::alloc::{AllocError, Global};
@@ -103,60 +102,11 @@ fn position_in(value: Value) -> u16
     }
 }
 
-/// An operand as an address of three characters.
-fn operand_codes(size: u16, slots: &[Slot], literals: &[Literal], operand: &Operand) -> [Code; 3]
-    requires size { size ≤ largest_size }
-    requires names { IsWithin FARTHEST slots.now }
-    requires count { length literals.now ≤ MOST_LITERALS }
-    requires place { place_after slots.now ≤ FARTHEST }
-    requires range { IsOperandInRange operand.now }
-    ensures { result ≡ operand_codes size slots.now (texts literals.now) (Some operand.now) }
-{
-    match operand {
-        Operand::Address(address) => {
-            let position = position_in(value_in(size, slots, address.expression));
-            encode_tagged(position, tag(address.index))
-        }
-        Operand::Literal(text) => {
-            let end = literal_end(place_after(slots), literals, text.characters());
-            encode_tagged((end % LARGEST_SIZE as u32) as u16, Zone::Bare)
-        }
-    }
-}
-
-/// Adds the address characters of an operand, if there is one.
-fn push_operand(
-    codes: &mut Vec<Code>,
-    size: u16,
-    slots: &[Slot],
-    literals: &[Literal],
-    operand: &Option<Operand>,
-) -> Result<(), AllocError>
-    requires size { size ≤ largest_size }
-    requires names { IsWithin FARTHEST slots.now }
-    requires count { length literals.now ≤ MOST_LITERALS }
-    requires place { place_after slots.now ≤ FARTHEST }
-    requires range { IfSome operand.now IsOperandInRange }
-    ensures codes { OnOk result (codes.new.items
-        ≡ codes.old.items ++ operand_codes size slots.now (texts literals.now) operand.now) }
-    ensures length { OnOk result (length codes.new.items ≤ length codes.old.items + 3) }
-{
-    let Some(operand) = operand else {
-        return Ok(());
-    };
-    let [first, second, third] = operand_codes(size, slots, literals, operand);
-    codes.push(first)?;
-    codes.push(second)?;
-    codes.push(third)?;
-    Ok(())
-}
-
 /// Fills positions with literals, one after the other from a place on.
-fn push_literals(cells: &mut Vec<Cell>, place: u32, literals: &[Literal]) -> Result<(), AllocError>
-    requires place { place ≤ FARTHEST }
-    requires count { length literals.now ≤ MOST_LITERALS }
-    ensures { OnOk result (cells.new.items
-        ≡ cells.old.items ++ literal_cells place (texts literals.now)) }
+fn push_literals(cells: &mut Vec<Cell>, place: u32, literals: &[Text]) -> Result<(), AllocError>
+    requires place { place ≤ farthest }
+    requires count { length literals.now ≤ most_literals }
+    ensures { OnOk result (cells.new.items ≡ cells.old.items ++ literal_cells place literals.now) }
 {
     let mut here = place;
     for literal in literals {
@@ -184,7 +134,7 @@ fn push_blank_row(cells: &mut Vec<Cell>, place: u32, count: u32) -> Result<(), A
 }
 
 /// Fills positions with blanks, the leftmost with or without a mark.
-#[tactic(auto, using(crate::proofs::Filling::blank_field))]
+#[tactic(auto, using(crate::proofs::CellLemmas::blank_field))]
 fn push_blanks(
     cells: &mut Vec<Cell>,
     marked: bool,
@@ -205,32 +155,6 @@ fn push_blanks(
     push_blank_row(cells, place + 1, count - 1)
 }
 
-/// The characters of an instruction: its operation, its addresses, its last character.
-#[tactic(auto, unfolding(crate::specs::Cells::instruction_codes))]
-fn instruction_codes(
-    alloc: Global,
-    size: u16,
-    slots: &[Slot],
-    literals: &[Literal],
-    spelled: &Instruction,
-) -> Result<Vec<Code>, AllocError>
-    requires size { size ≤ largest_size }
-    requires names { IsWithin FARTHEST slots.now }
-    requires count { length literals.now ≤ MOST_LITERALS }
-    requires place { place_after slots.now ≤ FARTHEST }
-    requires range { IsInstructionInRange spelled.now }
-    ensures codes { IfOk result (λ codes.
-        codes.items ≡ instruction_codes size slots.now (texts literals.now) spelled.now) }
-    ensures length { IfOk result (λ codes. length codes.items ≤ number_limit) }
-{
-    let mut codes = Vec::new(alloc);
-    codes.push(spelled.operation)?;
-    push_operand(&mut codes, size, slots, literals, &spelled.first)?;
-    push_operand(&mut codes, size, slots, literals, &spelled.second)?;
-    push_modifier(&mut codes, spelled.modifier)?;
-    Ok(codes)
-}
-
 /// Adds the last character of an instruction, if there is one.
 fn push_modifier(codes: &mut Vec<Code>, modifier: Option<Code>) -> Result<(), AllocError>
     ensures codes { OnOk result (codes.new.items ≡ codes.old.items ++ option_to_list modifier) }
@@ -244,8 +168,8 @@ fn push_modifier(codes: &mut Vec<Code>, modifier: Option<Code>) -> Result<(), Al
 }
 
 /// Adds the marked blank after an instruction, if the next card with a place ends it.
-fn push_blank_behind(cells: &mut Vec<Cell>, later: &[Slot], place: u32) -> Result<(), AllocError>
-    ensures { OnOk result (cells.new.items ≡ cells.old.items ++ blank_behind later.now place) }
+fn push_blank_after(cells: &mut Vec<Cell>, later: &[Slot], place: u32) -> Result<(), AllocError>
+    ensures { OnOk result (cells.new.items ≡ cells.old.items ++ blank_after later.now place) }
 {
     if !is_closed(later) {
         return Ok(());
@@ -267,10 +191,10 @@ fn push_constant(
     place: u32,
     constant: &Constant,
 ) -> Result<(), AllocError>
-    requires place { place ≤ FARTHEST }
+    requires place { place ≤ farthest }
     requires range { IsConstantInRange constant.now }
     ensures { OnOk result (cells.new.items
-        ≡ cells.old.items ++ field marked place (constant_codes (shortened size constant.now))) }
+        ≡ cells.old.items ++ field marked place (constant_codes (cut_constant size constant.now))) }
 {
     match constant {
         Constant::Characters(text) => push_field(cells, marked, place, text.characters()),
@@ -280,54 +204,106 @@ fn push_constant(
     }
 }
 
-/// Returns the cells that a card fills, given the names and literals of the whole source: all of
-/// them, or only the first ones if they go past the end of the storage. Fails only if there is no
-/// memory.
-#[tactic(auto, unfolding(crate::specs::Cells::cells_of), using(crate::proofs::Cutting::uncut, crate::proofs::Cutting::constant_cut))]
-pub fn cells_of(
-    alloc: Global,
-    size: u16,
-    slots: &[Slot],
-    literals: &[Literal],
-    later: &[Slot],
-    slot: &Slot,
-    line: &Line,
-) -> Result<Vec<Cell>, AllocError>
-    requires size { size ≤ largest_size }
-    requires names { IsWithin FARTHEST slots.now }
-    requires count { length literals.now ≤ MOST_LITERALS }
-    requires place { place_after slots.now ≤ FARTHEST }
-    requires before { slot.now.before ≤ FARTHEST }
-    requires range { IsInRange line.now }
-    ensures cells { IfOk result (λ cells.
-        IsCut size (cells_of size slots.now (texts literals.now) later.now slot.now line.now)
-        cells.items) }
-{
-    let mut cells = Vec::new(alloc);
-    if slot.fault.is_some() {
-        return Ok(cells);
+impl Layout {
+    /// An operand as an address of three characters.
+    fn operand_codes(&self, operand: &Operand) -> [Code; 3]
+        requires { IsOperandInRange operand.now }
+        ensures { result ≡ operand_codes (positions_of self.now.source.size) self.now.slots
+            self.now.literals (Some operand.now) }
+    {
+        match operand {
+            Operand::Address(address) => {
+                let position = position_in(self.value_of(address.expression));
+                encode_tagged(position, tag(address.index))
+            }
+            Operand::Literal(text) => {
+                let place = place_after(self.slots());
+                let end = literal_end(place, self.literals(), text.characters());
+                encode_tagged((end % LARGEST_SIZE as u32) as u16, Zone::Bare)
+            }
+        }
     }
-    match line {
-        Ok(
-            Statement::Constant {
-                marked,
-                constant,
-                ..
-            },
-        ) => {
-            push_constant(&mut cells, size, *marked, slot.before, constant)?;
-            Ok(cells)
+
+    /// Adds the address characters of an operand, if there is one.
+    fn push_operand(
+        &self,
+        codes: &mut Vec<Code>,
+        operand: &Option<Operand>,
+    ) -> Result<(), AllocError>
+        requires { IfSome operand.now IsOperandInRange }
+        ensures codes { OnOk result (codes.new.items ≡ codes.old.items
+            ++ operand_codes (positions_of self.now.source.size) self.now.slots
+            self.now.literals operand.now) }
+        ensures length { OnOk result (length codes.new.items ≤ length codes.old.items + 3) }
+    {
+        let Some(operand) = operand else {
+            return Ok(());
+        };
+        let [first, second, third] = self.operand_codes(operand);
+        codes.push(first)?;
+        codes.push(second)?;
+        codes.push(third)?;
+        Ok(())
+    }
+
+    /// The characters of an instruction: its operation, its addresses, its last character.
+    #[tactic(auto, unfolding(crate::specs::Cells::instruction_codes))]
+    fn instruction_codes(
+        &self,
+        alloc: Global,
+        spelled: &Instruction,
+    ) -> Result<Vec<Code>, AllocError>
+        requires { IsInstructionInRange spelled.now }
+        ensures codes { IfOk result (λ codes. codes.items
+            ≡ instruction_codes (positions_of self.now.source.size) self.now.slots
+            self.now.literals spelled.now) }
+        ensures length { IfOk result (λ codes. length codes.items ≤ number_limit) }
+    {
+        let mut codes = Vec::new(alloc);
+        codes.push(spelled.operation)?;
+        self.push_operand(&mut codes, &spelled.first)?;
+        self.push_operand(&mut codes, &spelled.second)?;
+        push_modifier(&mut codes, spelled.modifier)?;
+        Ok(codes)
+    }
+
+    /// Returns the cells that a card fills, by its index: all of them, or only the first ones if
+    /// they go past the end of the storage. Fails only if there is no memory.
+    #[tactic(auto, unfolding(crate::specs::Cells::cells_of), using(crate::proofs::CellCuts::uncut, crate::proofs::CellCuts::constant_cut))]
+    pub fn cells(&self, alloc: Global, index: usize) -> Result<Vec<Cell>, AllocError>
+        requires { index < length self.now.source.lines }
+        ensures { IfOk result (λ cells. IsCut (positions_of self.now.source.size)
+            (cells_of (positions_of self.now.source.size) self.now.slots self.now.literals
+            (drop (index + 1) self.now.slots) (slice_index_or self.now.slots index origin)
+            (slice_index_or self.now.source.lines index silent)) cells.items) }
+    {
+        let slot = &self.slots()[index];
+        let mut cells = Vec::new(alloc);
+        if slot.fault.is_some() {
+            return Ok(cells);
         }
-        Ok(Statement::Instruction { instruction, .. }) => {
-            let codes = instruction_codes(alloc, size, slots, literals, instruction)?;
-            push_field(&mut cells, true, slot.before, &codes)?;
-            push_blank_behind(&mut cells, later, slot.after)?;
-            Ok(cells)
+        match &self.source().lines()[index] {
+            Ok(
+                Statement::Constant {
+                    marked,
+                    constant,
+                    ..
+                },
+            ) => {
+                push_constant(&mut cells, self.size(), *marked, slot.before, constant)?;
+                Ok(cells)
+            }
+            Ok(Statement::Instruction { instruction, .. }) => {
+                let codes = self.instruction_codes(alloc, instruction)?;
+                push_field(&mut cells, true, slot.before, &codes)?;
+                push_blank_after(&mut cells, &self.slots()[index + 1..], slot.after)?;
+                Ok(cells)
+            }
+            Ok(Statement::End { .. }) => {
+                push_literals(&mut cells, slot.before, self.literals())?;
+                Ok(cells)
+            }
+            _ => Ok(cells),
         }
-        Ok(Statement::End { .. }) => {
-            push_literals(&mut cells, slot.before, literals)?;
-            Ok(cells)
-        }
-        _ => Ok(cells),
     }
 }

@@ -1,16 +1,18 @@
 //! The lowest fault of a card.
 
-ghost use Rattle.std.specs.Prelude.{◌≡◌, ◌≤◌, ◌||◌, IfSome};
-ghost use Rattle.autocoder_layout.specs.Bounds.{IsWithin};
-ghost use Rattle.autocoder_layout.specs.Source.{IsInRange};
+ghost use Rattle.std.specs.Prelude.{◌≡◌, ◌<◌, length, slice_index_or, IfSome};
+ghost use Rattle.core_store.specs.Storage.{positions_of};
+ghost use Rattle.autocoder_layout.specs.Slots.{origin};
+ghost use Rattle.autocoder_layout.specs.Source.{IsInRange, silent};
 ghost use Rattle.autocoder_layout.specs.Judging.{expression_in, expressions_of, is_unknown, is_outside, has_unknown_name, has_value_outside, names_unknown, names_outside, passes_outside, fills_outside, fills_reserved, is_beyond, fault_by};
 ghost use Rattle.autocoder_statements.specs.Ranges.{IsOperandInRange, IsExpressionInRange};
 
 use crate::cells::{Cell, FIRST_FREE};
 use crate::faults::SourceFault;
-use crate::names::{Value, value_in};
-use crate::slots::{FARTHEST, Slot};
-use crate::source::{Line, either};
+use crate::layout::Layout;
+use crate::names::Value;
+use crate::slots::Slot;
+use crate::source::Line;
 use autocoder_statements::{Expression, Operand, Statement};
 
 /// The expression of an operand, if it is an address.
@@ -65,58 +67,6 @@ impl Value {
     }
 }
 
-/// Whether an expression has a name that is not defined.
-fn has_unknown_name(size: u16, slots: &[Slot], expression: Option<Expression>) -> bool
-    requires names { IsWithin FARTHEST slots.now }
-    requires range { IfSome expression IsExpressionInRange }
-    ensures { result ≡ has_unknown_name size slots.now expression }
-{
-    match expression {
-        None => false,
-        Some(expression) => value_in(size, slots, expression).is_unknown(),
-    }
-}
-
-/// Whether an expression is not a position of the storage.
-fn has_value_outside(size: u16, slots: &[Slot], expression: Option<Expression>) -> bool
-    requires names { IsWithin FARTHEST slots.now }
-    requires range { IfSome expression IsExpressionInRange }
-    ensures { result ≡ has_value_outside size slots.now expression }
-{
-    match expression {
-        None => false,
-        Some(expression) => value_in(size, slots, expression).is_outside(),
-    }
-}
-
-/// Whether a name of the card is not defined.
-#[tactic(auto, unfolding(crate::specs::Judging::names_unknown))]
-fn names_unknown(size: u16, slots: &[Slot], line: &Line) -> bool
-    requires names { IsWithin FARTHEST slots.now }
-    requires range { IsInRange line.now }
-    ensures { result ≡ names_unknown size slots.now line.now }
-{
-    let (first, second) = expressions_of(line);
-    either(
-        has_unknown_name(size, slots, first),
-        has_unknown_name(size, slots, second),
-    )
-}
-
-/// Whether an address of the card is not in storage.
-#[tactic(auto, unfolding(crate::specs::Judging::names_outside))]
-fn names_outside(size: u16, slots: &[Slot], line: &Line) -> bool
-    requires names { IsWithin FARTHEST slots.now }
-    requires range { IsInRange line.now }
-    ensures { result ≡ names_outside size slots.now line.now }
-{
-    let (first, second) = expressions_of(line);
-    either(
-        has_value_outside(size, slots, first),
-        has_value_outside(size, slots, second),
-    )
-}
-
 /// Whether a position that the card passes is not in storage.
 fn passes_outside(size: u16, slot: &Slot, line: &Line) -> bool
     ensures { result ≡ passes_outside size slot.now line.now }
@@ -141,48 +91,91 @@ fn fills_reserved(cells: &[Cell]) -> bool
     cells.iter().any(|cell| cell.position < FIRST_FREE)
 }
 
-/// Whether an address or a position of the card is not in storage.
-#[tactic(auto, unfolding(crate::specs::Judging::is_beyond))]
-fn is_beyond(size: u16, slots: &[Slot], slot: &Slot, cells: &[Cell], line: &Line) -> bool
-    requires names { IsWithin FARTHEST slots.now }
-    requires range { IsInRange line.now }
-    ensures { result ≡ is_beyond size slots.now slot.now cells.now line.now }
-{
-    either(
-        names_outside(size, slots, line),
-        either(passes_outside(size, slot, line), fills_outside(size, cells)),
-    )
-}
+impl Layout {
+    /// Whether an expression has a name that is not defined.
+    fn has_unknown_name(&self, expression: Option<Expression>) -> bool
+        requires { IfSome expression IsExpressionInRange }
+        ensures { result ≡ has_unknown_name (positions_of self.now.source.size) self.now.slots
+            expression }
+    {
+        match expression {
+            None => false,
+            Some(expression) => self.value_of(expression).is_unknown(),
+        }
+    }
 
-/// The lowest fault of a card, if it has one. `overlaps` is whether an earlier card fills one of
-/// its positions.
-#[tactic(auto, unfolding(crate::specs::Judging::fault_by))]
-pub fn fault_by(
-    size: u16,
-    slots: &[Slot],
-    overlaps: bool,
-    slot: &Slot,
-    cells: &[Cell],
-    line: &Line,
-) -> Option<SourceFault>
-    requires names { IsWithin FARTHEST slots.now }
-    requires range { IsInRange line.now }
-    ensures { result ≡ fault_by size slots.now overlaps slot.now cells.now line.now }
-{
-    if slot.fault.is_some() {
-        return slot.fault;
+    /// Whether an expression is not a position of the storage.
+    fn has_value_outside(&self, expression: Option<Expression>) -> bool
+        requires { IfSome expression IsExpressionInRange }
+        ensures { result ≡ has_value_outside (positions_of self.now.source.size) self.now.slots
+            expression }
+    {
+        match expression {
+            None => false,
+            Some(expression) => self.value_of(expression).is_outside(),
+        }
     }
-    if names_unknown(size, slots, line) {
-        return Some(SourceFault::UnknownName);
+
+    /// Whether a name of a card is not defined.
+    #[tactic(auto, unfolding(crate::specs::Judging::names_unknown))]
+    fn names_unknown(&self, line: &Line) -> bool
+        requires { IsInRange line.now }
+        ensures { result ≡ names_unknown (positions_of self.now.source.size) self.now.slots
+            line.now }
+    {
+        let (first, second) = expressions_of(line);
+        self.has_unknown_name(first) || self.has_unknown_name(second)
     }
-    if is_beyond(size, slots, slot, cells, line) {
-        return Some(SourceFault::Outside);
+
+    /// Whether an address of a card is not in storage.
+    #[tactic(auto, unfolding(crate::specs::Judging::names_outside))]
+    fn names_outside(&self, line: &Line) -> bool
+        requires { IsInRange line.now }
+        ensures { result ≡ names_outside (positions_of self.now.source.size) self.now.slots
+            line.now }
+    {
+        let (first, second) = expressions_of(line);
+        self.has_value_outside(first) || self.has_value_outside(second)
     }
-    if fills_reserved(cells) {
-        return Some(SourceFault::Reserved);
+
+    /// Whether an address or a position of a card is not in storage.
+    #[tactic(auto, unfolding(crate::specs::Judging::is_beyond))]
+    fn is_beyond(&self, slot: &Slot, cells: &[Cell], line: &Line) -> bool
+        requires { IsInRange line.now }
+        ensures { result ≡ is_beyond (positions_of self.now.source.size) self.now.slots slot.now
+            cells.now line.now }
+    {
+        self.names_outside(line)
+            || passes_outside(self.size(), slot, line)
+            || fills_outside(self.size(), cells)
     }
-    if overlaps {
-        return Some(SourceFault::Filled);
+
+    /// The lowest fault of a card that fills these cells, by the card's index. `overlaps` is
+    /// whether an earlier card fills one of them.
+    #[tactic(auto, unfolding(crate::specs::Judging::fault_by))]
+    pub fn fault(&self, index: usize, overlaps: bool, cells: &[Cell]) -> Option<SourceFault>
+        requires { index < length self.now.source.lines }
+        ensures { result ≡ fault_by (positions_of self.now.source.size) self.now.slots overlaps
+            (slice_index_or self.now.slots index origin) cells.now
+            (slice_index_or self.now.source.lines index silent) }
+    {
+        let slot = &self.slots()[index];
+        let line = &self.source().lines()[index];
+        if slot.fault.is_some() {
+            return slot.fault;
+        }
+        if self.names_unknown(line) {
+            return Some(SourceFault::UnknownName);
+        }
+        if self.is_beyond(slot, cells, line) {
+            return Some(SourceFault::Outside);
+        }
+        if fills_reserved(cells) {
+            return Some(SourceFault::Reserved);
+        }
+        if overlaps {
+            return Some(SourceFault::Filled);
+        }
+        None
     }
-    None
 }

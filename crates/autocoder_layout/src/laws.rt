@@ -16,7 +16,7 @@ pub fn layout_is_unique()
 
 /// The law of literals: no two literals of a source are equal; each that is used is among them, and
 /// no other; and one more use adds its literal at the end, if no use before it is of that literal.
-pub fn literals_stand_once()
+pub fn literals_are_placed_once()
     ensures once { (lines : List Line) (slots : List Slot) →
         AllPairs (λ one other. one ≢ other) (literals_of lines slots) }
     ensures used { (lines : List Line) (slots : List Slot) (literal : Characters) →

@@ -1,70 +1,33 @@
 //! The literals of a source: their order, and their places.
 
-ghost use Rattle.std.specs.Prelude.{◌≡◌, ◌+◌, ◌*◌, ◌≤◌, ◌++◌, [], length, false, bytes_eq, IfOk, OnOk};
-ghost use Rattle.autocoder_layout.specs.Source.{lines_of};
+ghost use Rattle.std.specs.Prelude.{◌≡◌, ◌+◌, ◌*◌, ◌≤◌, ◌++◌, [], length, bytes_eq, IfOk, OnOk};
 ghost use Rattle.std.specs.List.{list_any};
 ghost use Rattle.autocoder_statements.specs.Limits.{longest_text};
-ghost use Rattle.cards.specs.Decks.{largest_deck};
-ghost use Rattle.autocoder_layout.specs.Literals.{characters, texts, literal_in, uses_in, uses_of, firsts, literals_of, literal_end};
+ghost use Rattle.autocoder_layout.specs.Bounds.{farthest, most_literals};
+ghost use Rattle.autocoder_layout.specs.Literals.{literal_in, uses_in, uses_of, firsts, literals_of, literal_end};
 
-use crate::slots::{FARTHEST, Slot};
-use crate::source::{Line, either, is_control, line_on};
-use autocoder_statements::{LONGEST_TEXT, Operand, Statement, Text};
+use crate::slots::Slot;
+use crate::source::{Line, Source};
+use autocoder_statements::{Operand, Statement, Text};
 use bcd::Code;
-use cards::Card;
 use std::alloc::{AllocError, Global};
 
-/// The greatest number of literals of a source: two on each card.
-pub const MOST_LITERALS: usize = 4000;
-
-/// Characters that are placed after the source.
-#[derive(Clone, Copy)]
-pub struct Literal {
-    codes: [Code; LONGEST_TEXT],
-    count: usize,
-}
-
-impl Literal {
-    /// The literal of a text.
-    fn of(text: &Text) -> Literal
-        ensures { characters result ≡ text.now }
-    {
-        let mut codes = [Code::blank(); LONGEST_TEXT];
-        let written = text.characters();
-        codes[..written.len()].copy_from_slice(written);
-        Literal {
-            codes,
-            count: written.len(),
-        }
-    }
-
-    /// Its characters.
-    pub fn characters(&self) -> &[Code]
-        ensures characters { result.now ≡ characters self.now }
-        ensures limit { length result.now ≤ longest_text }
-    {
-        &self.codes[..self.count.min(LONGEST_TEXT)]
-    }
-}
-
 /// Adds the literal of an operand, if it is one.
-fn push_literal(uses: &mut Vec<Literal>, operand: &Option<Operand>) -> Result<(), AllocError>
-    ensures uses { OnOk result (texts uses.new.items
-        ≡ texts uses.old.items ++ literal_in operand.now) }
+fn push_literal(uses: &mut Vec<Text>, operand: &Option<Operand>) -> Result<(), AllocError>
+    ensures uses { OnOk result (uses.new.items ≡ uses.old.items ++ literal_in operand.now) }
     ensures count { OnOk result (length uses.new.items ≤ length uses.old.items + 1) }
 {
     let Some(Operand::Literal(text)) = operand else {
         return Ok(());
     };
-    uses.push(Literal::of(text))?;
+    uses.push(*text)?;
     Ok(())
 }
 
 /// Adds the literals that a card uses, unless it counts as a comment.
 #[tactic(auto, unfolding(crate::specs::Literals::uses_in))]
-fn push_uses(uses: &mut Vec<Literal>, line: &Line, slot: &Slot) -> Result<(), AllocError>
-    ensures uses { OnOk result (texts uses.new.items
-        ≡ texts uses.old.items ++ uses_in line.now slot.now) }
+fn push_uses(uses: &mut Vec<Text>, line: &Line, slot: &Slot) -> Result<(), AllocError>
+    ensures uses { OnOk result (uses.new.items ≡ uses.old.items ++ uses_in line.now slot.now) }
     ensures count { OnOk result (length uses.new.items ≤ length uses.old.items + 2) }
 {
     let Ok(Statement::Instruction { instruction, .. }) = line else {
@@ -78,33 +41,29 @@ fn push_uses(uses: &mut Vec<Literal>, line: &Line, slot: &Slot) -> Result<(), Al
 }
 
 /// The literals that a source uses, in order of card and operand.
-fn uses(alloc: Global, source: &[Card], slots: &[Slot]) -> Result<Vec<Literal>, AllocError>
-    requires deck { length source.now ≤ largest_deck }
-    requires slots { length slots.now ≡ length source.now }
-    ensures uses { IfOk result (λ uses.
-        texts uses.items ≡ uses_of (lines_of false source.now) slots.now) }
-    ensures count { IfOk result (λ uses. length uses.items ≤ MOST_LITERALS) }
+fn uses(alloc: Global, source: &Source, slots: &[Slot]) -> Result<Vec<Text>, AllocError>
+    requires { length slots.now ≡ length source.now.lines }
+    ensures uses { IfOk result (λ uses. uses.items ≡ uses_of source.now.lines slots.now) }
+    ensures count { IfOk result (λ uses. length uses.items ≤ most_literals) }
 {
     let mut uses = Vec::new(alloc);
-    let mut told = false;
-    for i in 0..source.len() {
-        let card = &source[i];
-        push_uses(&mut uses, &line_on(told, card), &slots[i])?;
-        told = either(told, is_control(card));
+    let lines = source.lines();
+    for i in 0..lines.len() {
+        push_uses(&mut uses, &lines[i], &slots[i])?;
     }
     Ok(uses)
 }
 
 /// Whether a literal has these characters.
-fn is_same(literal: &Literal, other: &[Code]) -> bool
-    ensures { result ≡ bytes_eq (characters literal.now) other.now }
+fn is_same(literal: &Text, other: &[Code]) -> bool
+    ensures { result ≡ bytes_eq literal.now other.now }
 {
     literal.characters() == other
 }
 
 /// Whether a literal is among those that are used.
-fn is_used(uses: &[Literal], literal: &[Code]) -> bool
-    ensures { result ≡ list_any (λ used. bytes_eq (characters used) literal.now) uses.now }
+fn is_used(uses: &[Text], literal: &[Code]) -> bool
+    ensures { result ≡ list_any (λ used. bytes_eq used literal.now) uses.now }
 {
     uses.iter().any(|used| is_same(used, literal))
 }
@@ -112,16 +71,15 @@ fn is_used(uses: &[Literal], literal: &[Code]) -> bool
 /// Returns the literals of a source in the order of their first use. Fails only if there is no
 /// memory.
 #[tactic(auto, unfolding(crate::specs::Literals::literals_of))]
-pub fn literals_of(
+pub(crate) fn literals_of(
     alloc: Global,
-    source: &[Card],
+    source: &Source,
     slots: &[Slot],
-) -> Result<Vec<Literal>, AllocError>
-    requires deck { length source.now ≤ largest_deck }
-    requires slots { length slots.now ≡ length source.now }
+) -> Result<Vec<Text>, AllocError>
+    requires { length slots.now ≡ length source.now.lines }
     ensures literals { IfOk result (λ literals.
-        texts literals.items ≡ literals_of (lines_of false source.now) slots.now) }
-    ensures count { IfOk result (λ literals. length literals.items ≤ MOST_LITERALS) }
+        literals.items ≡ literals_of source.now.lines slots.now) }
+    ensures count { IfOk result (λ literals. length literals.items ≤ most_literals) }
 {
     let uses = uses(alloc, source, slots)?;
     let literals = firsts(alloc, &uses)?;
@@ -129,10 +87,10 @@ pub fn literals_of(
 }
 
 /// The uses without repetitions: each literal at its first use only.
-fn firsts(alloc: Global, uses: &[Literal]) -> Result<Vec<Literal>, AllocError>
-    requires { length uses.now ≤ MOST_LITERALS }
-    ensures firsts { IfOk result (λ literals. texts literals.items ≡ firsts [] (texts uses.now)) }
-    ensures count { IfOk result (λ literals. length literals.items ≤ MOST_LITERALS) }
+fn firsts(alloc: Global, uses: &[Text]) -> Result<Vec<Text>, AllocError>
+    requires { length uses.now ≤ most_literals }
+    ensures firsts { IfOk result (λ literals. literals.items ≡ firsts [] uses.now) }
+    ensures count { IfOk result (λ literals. length literals.items ≤ most_literals) }
 {
     let mut literals = Vec::new(alloc);
     for i in 0..uses.len() {
@@ -146,11 +104,11 @@ fn firsts(alloc: Global, uses: &[Literal]) -> Result<Vec<Literal>, AllocError>
 }
 
 /// The last position of a literal, if the literals are placed one after the other from a place on.
-pub(crate) fn literal_end(place: u32, literals: &[Literal], wanted: &[Code]) -> u32
-    requires place { place ≤ FARTHEST }
-    requires count { length literals.now ≤ MOST_LITERALS }
+pub(crate) fn literal_end(place: u32, literals: &[Text], wanted: &[Code]) -> u32
+    requires place { place ≤ farthest }
+    requires count { length literals.now ≤ most_literals }
     requires limit { length wanted.now ≤ longest_text }
-    ensures { result ≡ literal_end place (texts literals.now) wanted.now }
+    ensures { result ≡ literal_end place literals.now wanted.now }
 {
     let mut here = place;
     for literal in literals {

@@ -2,10 +2,10 @@
 
 ghost use Rattle.std.specs.Prelude.{◌≡◌, ◌≤◌, IfSome, find, option_copied};
 ghost use Rattle.autocoder_layout.specs.Names.{defines, address_of, within, base_number, value_in, IsValueWithin};
-ghost use Rattle.autocoder_layout.specs.Bounds.{IsWithin};
+ghost use Rattle.autocoder_layout.specs.Bounds.{IsWithin, farthest};
 ghost use Rattle.autocoder_statements.specs.Ranges.{IsBaseInRange, IsExpressionInRange};
 
-use crate::slots::{FARTHEST, Slot};
+use crate::slots::Slot;
 use autocoder_statements::{Adjustment, Base, Expression, Name};
 
 /// The value of an expression.
@@ -61,12 +61,12 @@ fn within(size: u16, number: u32) -> Value
 }
 
 /// The number of a base, if its name is defined.
-#[tactic(auto, using(crate::proofs::Bounds::address_within))]
+#[tactic(auto, using(crate::proofs::SlotBounds::address_within))]
 fn base_number(slots: &[Slot], base: Base) -> Option<u32>
-    requires names { IsWithin FARTHEST slots.now }
+    requires names { IsWithin farthest slots.now }
     requires range { IsBaseInRange base }
     ensures number { result ≡ base_number slots.now base }
-    ensures limit { IfSome result (λ number. number ≤ FARTHEST) }
+    ensures limit { IfSome result (λ number. number ≤ farthest) }
 {
     match base {
         Base::Number(number) => Some(number),
@@ -76,8 +76,8 @@ fn base_number(slots: &[Slot], base: Base) -> Option<u32>
 
 /// The value of an expression, given the cards that define names.
 #[tactic(auto, unfolding(crate::specs::Names::value_in))]
-pub fn value_in(size: u16, slots: &[Slot], expression: Expression) -> Value
-    requires names { IsWithin FARTHEST slots.now }
+pub(crate) fn value_in(size: u16, slots: &[Slot], expression: Expression) -> Value
+    requires names { IsWithin farthest slots.now }
     requires range { IsExpressionInRange expression }
     ensures value { result ≡ value_in size slots.now expression }
     ensures within { IsValueWithin size result }

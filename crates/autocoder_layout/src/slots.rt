@@ -1,28 +1,21 @@
 //! The slot of a card: its place, its label and its fault.
 
-ghost use Rattle.std.specs.Prelude.{◌≡◌, ◌+◌, ◌≤◌, ◌<◌, [], length, false, reverse, find, option_copied, IfOk};
-ghost use Rattle.core_store.specs.Storage.{largest_size};
+ghost use Rattle.std.specs.Prelude.{◌≡◌, ◌+◌, ◌≤◌, ◌<◌, [], length, reverse, find, option_copied, IfOk};
 ghost use Rattle.cards.specs.Decks.{largest_deck};
-ghost use Rattle.autocoder_layout.specs.Bounds.{IsWithin};
-ghost use Rattle.autocoder_layout.specs.Source.{IsInRange, lines_of};
+ghost use Rattle.core_store.specs.Storage.{positions_of};
+ghost use Rattle.autocoder_layout.specs.Bounds.{IsWithin, farthest, last_place};
+ghost use Rattle.autocoder_layout.specs.Source.{IsInRange};
 ghost use Rattle.autocoder_statements.specs.Ranges.{IsExpressionInRange};
-ghost use Rattle.autocoder_layout.specs.Slots.{place_after, is_nothing, is_instruction, stands, is_open, is_closed, place_behind, stays, takes, with_label, labelled, moved_to, equal_to, has_start, end_fault, ended, run, constant, area, instruction, equated, slot_of, slots_from};
+ghost use Rattle.autocoder_layout.specs.Slots.{place_after, is_nothing, is_instruction, has_place, is_open, is_closed, place_after_blank, stays, takes, with_label, with_any_label, moved_to, equal_to, has_start, end_fault, end_slot, run, constant, area, instruction, equate_slot, slot_of, slots_from};
 
 use crate::faults::SourceFault;
 use crate::names::{Value, address_of, value_in};
-use crate::source::{Line, either, is_control, line_on};
+use crate::source::{Line, Source};
 use autocoder_statements::{Expression, Name, Statement, StatementFault};
-use cards::Card;
 use std::alloc::{AllocError, Global};
 
 /// The place of the first card.
 pub const FIRST_PLACE: u32 = 333;
-
-/// No place is above this one: each of 2,000 cards takes fewer than 100,000 positions.
-pub const FARTHEST: u32 = 300_000_000;
-
-/// No place before a card is above this one.
-pub const LAST_PLACE: u32 = 299_000_000;
 
 /// A name and its address.
 #[derive(Clone, Copy)]
@@ -34,7 +27,7 @@ pub struct Definition {
 
 /// What a card does at its place.
 #[derive(Clone, Copy, Debug, PartialEq, Eq)]
-pub enum Kind {
+pub enum Role {
     /// Nothing, and it has no place: a comment, or a card that counts as one.
     Nothing,
     /// It fills positions with an instruction.
@@ -55,19 +48,19 @@ pub struct Slot {
     /// The name that its label defines, if it has one.
     pub defines: Option<Definition>,
     pub fault: Option<SourceFault>,
-    pub kind: Kind,
+    pub role: Role,
     /// Whether the card ends an instruction before it; then a marked blank is placed after that
     /// instruction.
     pub closes: bool,
 }
 
-impl Kind {
-    /// Whether a card of this kind has no place.
+impl Role {
+    /// Whether a card of this role has no place.
     fn is_nothing(self) -> bool
         ensures { result ≡ is_nothing self }
     {
         match self {
-            Kind::Nothing => true,
+            Role::Nothing => true,
             _ => false,
         }
     }
@@ -77,7 +70,7 @@ impl Kind {
         ensures { result ≡ is_instruction self }
     {
         match self {
-            Kind::Instruction => true,
+            Role::Instruction => true,
             _ => false,
         }
     }
@@ -85,10 +78,10 @@ impl Kind {
 
 impl Slot {
     /// Whether the card has a place.
-    fn stands(&self) -> bool
-        ensures { result ≡ stands self.now }
+    fn has_place(&self) -> bool
+        ensures { result ≡ has_place self.now }
     {
-        !self.kind.is_nothing()
+        !self.role.is_nothing()
     }
 }
 
@@ -103,17 +96,17 @@ pub fn place_after(slots: &[Slot]) -> u32
 }
 
 /// The last card that has a place.
-fn last_standing(slots: &[Slot]) -> Option<&Slot>
-    ensures { option_copied result ≡ find stands (reverse slots.now) }
+fn last_with_place(slots: &[Slot]) -> Option<&Slot>
+    ensures { option_copied result ≡ find has_place (reverse slots.now) }
 {
-    slots.iter().rev().find(|slot| slot.stands())
+    slots.iter().rev().find(|slot| slot.has_place())
 }
 
 /// The first card that has a place.
-fn first_standing(slots: &[Slot]) -> Option<&Slot>
-    ensures { option_copied result ≡ find stands slots.now }
+fn first_with_place(slots: &[Slot]) -> Option<&Slot>
+    ensures { option_copied result ≡ find has_place slots.now }
 {
-    slots.iter().find(|slot| slot.stands())
+    slots.iter().find(|slot| slot.has_place())
 }
 
 /// Whether the last card that has a place is an instruction.
@@ -121,10 +114,10 @@ fn first_standing(slots: &[Slot]) -> Option<&Slot>
 fn is_open(earlier: &[Slot]) -> bool
     ensures { result ≡ is_open earlier.now }
 {
-    let Some(slot) = last_standing(earlier) else {
+    let Some(slot) = last_with_place(earlier) else {
         return false;
     };
-    slot.kind.is_instruction()
+    slot.role.is_instruction()
 }
 
 /// Whether the next card that has a place ends an instruction before it.
@@ -132,7 +125,7 @@ fn is_open(earlier: &[Slot]) -> bool
 pub(crate) fn is_closed(later: &[Slot]) -> bool
     ensures { result ≡ is_closed later.now }
 {
-    let Some(slot) = first_standing(later) else {
+    let Some(slot) = first_with_place(later) else {
         return false;
     };
     slot.closes
@@ -140,16 +133,16 @@ pub(crate) fn is_closed(later: &[Slot]) -> bool
 
 /// The first instruction.
 pub fn first_instruction(slots: &[Slot]) -> Option<&Slot>
-    ensures { option_copied result ≡ find (λ slot. is_instruction slot.kind) slots.now }
+    ensures { option_copied result ≡ find (λ slot. is_instruction slot.role) slots.now }
 {
-    slots.iter().find(|slot| slot.kind.is_instruction())
+    slots.iter().find(|slot| slot.role.is_instruction())
 }
 
 /// The place of a card that ends an instruction before it.
-#[tactic(auto, unfolding(crate::specs::Slots::place_behind))]
-fn place_behind(earlier: &[Slot]) -> u32
-    requires { place_after earlier.now < FARTHEST }
-    ensures place { result ≡ place_behind earlier.now }
+#[tactic(auto, unfolding(crate::specs::Slots::place_after_blank))]
+fn place_after_blank(earlier: &[Slot]) -> u32
+    requires { place_after earlier.now < farthest }
+    ensures place { result ≡ place_after_blank earlier.now }
     ensures limit { result ≤ place_after earlier.now + 1 }
 {
     if is_open(earlier) {
@@ -169,21 +162,21 @@ fn stays(earlier: &[Slot], fault: Option<SourceFault>) -> Slot
         after: place,
         defines: None,
         fault,
-        kind: Kind::Nothing,
+        role: Role::Nothing,
         closes: false,
     }
 }
 
 /// The slot of a card that takes the positions from `before` up to but not including `after`.
-fn takes(kind: Kind, closes: bool, before: u32, after: u32) -> Slot
-    ensures { result ≡ takes kind closes before after }
+fn takes(role: Role, closes: bool, before: u32, after: u32) -> Slot
+    ensures { result ≡ takes role closes before after }
 {
     Slot {
         before,
         after,
         defines: None,
         fault: None,
-        kind,
+        role,
         closes,
     }
 }
@@ -198,15 +191,15 @@ impl Slot {
             after: self.after,
             defines: Some(Definition { name, address }),
             fault: self.fault,
-            kind: self.kind,
+            role: self.role,
             closes: self.closes,
         }
     }
 
     /// The slot with the card's label, if it has one, which no earlier card may define.
-    #[tactic(auto, unfolding(crate::specs::Slots::labelled))]
-    fn labelled(&self, earlier: &[Slot], label: Option<Name>, address: u32) -> Slot
-        ensures { result ≡ labelled earlier.now label address self.now }
+    #[tactic(auto, unfolding(crate::specs::Slots::with_any_label))]
+    fn with_any_label(&self, earlier: &[Slot], label: Option<Name>, address: u32) -> Slot
+        ensures { result ≡ with_any_label earlier.now label address self.now }
     {
         let Some(name) = label else {
             return *self;
@@ -220,16 +213,16 @@ impl Slot {
 
 /// The slot of a card that moves the place to a position.
 fn moved_to(earlier: &[Slot], value: Value) -> Slot
-    requires { place_after earlier.now < FARTHEST }
+    requires { place_after earlier.now < farthest }
     ensures { result ≡ moved_to earlier.now value }
 {
     match value {
         Value::Unknown => stays(earlier, Some(SourceFault::UnknownName)),
         Value::Outside => stays(earlier, Some(SourceFault::Outside)),
         Value::At(position) => takes(
-            Kind::Passing,
+            Role::Passing,
             is_open(earlier),
-            place_behind(earlier),
+            place_after_blank(earlier),
             position as u32,
         ),
     }
@@ -270,48 +263,48 @@ fn end_fault(earlier: &[Slot], start: Option<Expression>, labelled: bool) -> Opt
 }
 
 /// The slot of a card that ends the source.
-fn ended(earlier: &[Slot], start: Option<Expression>, labelled: bool) -> Slot
-    requires { place_after earlier.now < FARTHEST }
-    ensures { result ≡ ended earlier.now start labelled }
+fn end_slot(earlier: &[Slot], start: Option<Expression>, labelled: bool) -> Slot
+    requires { place_after earlier.now < farthest }
+    ensures { result ≡ end_slot earlier.now start labelled }
 {
     if let Some(fault) = end_fault(earlier, start, labelled) {
         return stays(earlier, Some(SourceFault::Statement(fault)));
     }
-    let place = place_behind(earlier);
-    takes(Kind::Passing, is_open(earlier), place, place)
+    let place = place_after_blank(earlier);
+    takes(Role::Passing, is_open(earlier), place, place)
 }
 
 /// The slot of a card that takes `count` positions from a place on. Its label is the last of them.
 fn run(
     earlier: &[Slot],
     label: Option<Name>,
-    kind: Kind,
+    role: Role,
     closes: bool,
     place: u32,
     count: u32,
 ) -> Slot
     requires some { 0 < count }
-    requires limit { place + count ≤ FARTHEST }
-    ensures { result ≡ run earlier.now label kind closes place count }
+    requires limit { place + count ≤ farthest }
+    ensures { result ≡ run earlier.now label role closes place count }
 {
-    takes(kind, closes, place, place + count).labelled(earlier, label, place + count - 1)
+    takes(role, closes, place, place + count).with_any_label(earlier, label, place + count - 1)
 }
 
 /// The slot of a constant. One without a mark ends an instruction before it.
 fn constant(earlier: &[Slot], label: Option<Name>, marked: bool, count: u32) -> Slot
     requires some { 0 < count }
-    requires limit { place_after earlier.now + 1 + count ≤ FARTHEST }
+    requires limit { place_after earlier.now + 1 + count ≤ farthest }
     ensures { result ≡ constant earlier.now label marked count }
 {
     if marked {
         let place = place_after(earlier);
-        run(earlier, label, Kind::Constant, false, place, count)
+        run(earlier, label, Role::Constant, false, place, count)
     } else {
-        let place = place_behind(earlier);
+        let place = place_after_blank(earlier);
         run(
             earlier,
             label,
-            Kind::Constant,
+            Role::Constant,
             is_open(earlier),
             place,
             count,
@@ -322,14 +315,14 @@ fn constant(earlier: &[Slot], label: Option<Name>, marked: bool, count: u32) -> 
 /// The slot of a card that passes positions.
 fn area(earlier: &[Slot], label: Option<Name>, count: u32) -> Slot
     requires some { 0 < count }
-    requires limit { place_after earlier.now + 1 + count ≤ FARTHEST }
+    requires limit { place_after earlier.now + 1 + count ≤ farthest }
     ensures { result ≡ area earlier.now label count }
 {
-    let place = place_behind(earlier);
+    let place = place_after_blank(earlier);
     run(
         earlier,
         label,
-        Kind::Passing,
+        Role::Passing,
         is_open(earlier),
         place,
         count,
@@ -338,18 +331,20 @@ fn area(earlier: &[Slot], label: Option<Name>, count: u32) -> Slot
 
 /// The slot of an instruction. Its label is its first position.
 fn instruction(earlier: &[Slot], label: Option<Name>, count: u16) -> Slot
-    requires { place_after earlier.now + count ≤ FARTHEST }
+    requires { place_after earlier.now + count ≤ farthest }
     ensures { result ≡ instruction earlier.now label count }
 {
     let place = place_after(earlier);
-    takes(Kind::Instruction, false, place, place + count as u32).labelled(earlier, label, place)
+    takes(Role::Instruction, false, place, place + count as u32).with_any_label(
+        earlier, label, place,
+    )
 }
 
 /// The slot of a card that equates a name with an expression.
-fn equated(size: u16, earlier: &[Slot], label: Name, expression: Expression) -> Slot
-    requires names { IsWithin FARTHEST earlier.now }
+fn equate_slot(size: u16, earlier: &[Slot], label: Name, expression: Expression) -> Slot
+    requires names { IsWithin farthest earlier.now }
     requires range { IsExpressionInRange expression }
-    ensures { result ≡ equated size earlier.now label expression }
+    ensures { result ≡ equate_slot size earlier.now label expression }
 {
     if address_of(earlier, &label).is_some() {
         return stays(earlier, Some(SourceFault::TakenLabel));
@@ -358,10 +353,10 @@ fn equated(size: u16, earlier: &[Slot], label: Name, expression: Expression) -> 
 }
 
 /// The slot of a card, given the slots of the earlier cards. No name of a later card counts.
-#[tactic(auto, unfolding(crate::specs::Slots::slot_of), using(crate::proofs::Bounds::constant_length_in_range))]
+#[tactic(auto, unfolding(crate::specs::Slots::slot_of), using(crate::proofs::SlotBounds::constant_length_in_range))]
 fn slot_of(size: u16, earlier: &[Slot], line: Line) -> Slot
-    requires names { IsWithin FARTHEST earlier.now }
-    requires place { place_after earlier.now ≤ LAST_PLACE }
+    requires names { IsWithin farthest earlier.now }
+    requires place { place_after earlier.now ≤ last_place }
     requires range { IsInRange line }
     ensures { result ≡ slot_of size earlier.now line }
 {
@@ -374,14 +369,14 @@ fn slot_of(size: u16, earlier: &[Slot], line: Line) -> Slot
         Statement::Job => stays(earlier, None),
         Statement::Control(_) => stays(earlier, None),
         Statement::Origin(expression) => moved_to(earlier, value_in(size, earlier, expression)),
-        Statement::Equate { label, expression } => equated(size, earlier, label, expression),
+        Statement::Equate { label, expression } => equate_slot(size, earlier, label, expression),
         Statement::Constant {
             label,
             marked,
             constant: text,
         } => constant(earlier, label, marked, text.length()),
         Statement::Area { label, positions } => area(earlier, label, positions),
-        Statement::End { start, labelled } => ended(earlier, start, labelled),
+        Statement::End { start, labelled } => end_slot(earlier, start, labelled),
         Statement::Instruction {
             label,
             instruction: spelled,
@@ -390,21 +385,19 @@ fn slot_of(size: u16, earlier: &[Slot], line: Line) -> Slot
 }
 
 /// Returns the slot of each card of a source. Fails only if there is no memory.
-pub fn lay_out(alloc: Global, size: u16, source: &[Card]) -> Result<Vec<Slot>, AllocError>
-    requires count { length source.now ≤ largest_deck }
-    requires size { size ≤ largest_size }
+pub(crate) fn lay_out(alloc: Global, source: &Source) -> Result<Vec<Slot>, AllocError>
     ensures slots { IfOk result (λ slots.
-        slots.items ≡ slots_from size [] (lines_of false source.now)) }
-    ensures within { IfOk result (λ slots. IsWithin FARTHEST slots.items) }
-    ensures count { IfOk result (λ slots. length slots.items ≡ length source.now) }
-    ensures place { IfOk result (λ slots. place_after slots.items ≤ FARTHEST) }
+        slots.items ≡ slots_from (positions_of source.now.size) [] source.now.lines) }
+    ensures within { IfOk result (λ slots. IsWithin farthest slots.items) }
+    ensures count { IfOk result (λ slots. length slots.items ≡ length source.now.lines) }
+    ensures few { IfOk result (λ slots. length slots.items ≤ largest_deck) }
+    ensures place { IfOk result (λ slots. place_after slots.items ≤ farthest) }
 {
+    let size = source.size().positions();
     let mut slots = Vec::new(alloc);
-    let mut told = false;
-    for card in source {
-        let slot = slot_of(size, &slots, line_on(told, card));
+    for line in source.lines() {
+        let slot = slot_of(size, &slots, *line);
         slots.push(slot)?;
-        told = either(told, is_control(card));
     }
     Ok(slots)
 }

@@ -1,5 +1,5 @@
-pub mod Fillings
-pub mod Lists
-pub mod Wholes
-pub mod Readings
-pub mod Exact
+pub mod CardLemmas
+pub mod LineLemmas
+pub mod ListingLemmas
+pub mod ReadingLemmas
+pub mod CodeLaw

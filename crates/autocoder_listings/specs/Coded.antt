@@ -5,7 +5,7 @@ use Rattle.cards.specs.declared.decks.Card.{Card}
 use Rattle.autocoder_layout.specs.Layout.{Laid}
 use Rattle.autocoder_layout.specs.declared.cells.Cell.{Cell}
 use Rattle.autocoder_layout.specs.declared.slots.Slot.{Slot}
-use Rattle.autocoder.specs.Listing.{blank, right, listed, card_line}
+use Rattle.autocoder.specs.Listing.{blank, right, line_text, card_line}
 use Rattle.autocoder_listings.specs.Rows.{rows_for, row_at, with_row}
 
 -- a card with how many characters it places
@@ -27,13 +27,13 @@ further_line cells number = with_row (replicate 98 blank) (row_at cells number)
 -- the lines of the further rows
 unfoldable pub further_lines : List Cell → List ℕ
 further_lines cells =
-    flat_map (λ number. listed (further_line cells number))
+    flat_map (λ number. line_text (further_line cells number))
     (range_with_len 1 (rows_for (length cells) - 1))
 
 -- the lines of a card with this number, where it places these characters
 unfoldable pub lines_with_code : ℕ → Slot → Card → List Cell → List ℕ
 lines_with_code number slot card cells =
-    listed (first_line number slot card cells) ++ further_lines cells
+    line_text (first_line number slot card cells) ++ further_lines cells
 
 -- the lines of cards, each with its number, from the first number on, and its part of the layout
 unfoldable pub cards_with_code : ℕ → List Card → List Laid → List ℕ

@@ -10,7 +10,7 @@ use Rattle.autocoder_statements.specs.declared.reading.Statement.TheVariants as 
 use Rattle.autocoder_layout.specs.Source.{Line}
 use Rattle.autocoder_layout.specs.declared.slots.Definition.{Definition}
 use Rattle.autocoder_layout.specs.declared.slots.Slot.{Slot}
-use Rattle.autocoder.specs.Listing.{blank, right, position_field, glyphs_of, listed}
+use Rattle.autocoder.specs.Listing.{blank, right, position_field, glyphs_of, line_text}
 use Rattle.autocoder_listings.specs.Rows.{rows_for, row_at}
 
 -- ---- which cards use a name
@@ -58,12 +58,12 @@ users_line cards number = replicate 12 blank ++ numbers_of (row_at cards number)
 -- the lines of the further rows
 unfoldable pub users_lines : List ℕ → List ℕ
 users_lines cards =
-    flat_map (λ number. listed (users_line cards number))
+    flat_map (λ number. line_text (users_line cards number))
     (range_with_len 1 (rows_for (length cards) - 1))
 
 -- the lines of a name with the cards that use it
 unfoldable pub lines_of_name : Definition → List ℕ → List ℕ
-lines_of_name definition cards = listed (name_line definition cards) ++ users_lines cards
+lines_of_name definition cards = line_text (name_line definition cards) ++ users_lines cards
 
 -- the lines of the name that a card defines, if it defines one
 unfoldable pub lines_of_defined : List Line → Option Definition → List ℕ
@@ -77,4 +77,4 @@ heading = codes "NAME   PLACE CARDS"
 -- the table of the names of a source, in the order of the cards that define them
 unfoldable pub table_of_names : List Line → List Slot → List ℕ
 table_of_names lines slots =
-    listed heading ++ flat_map (λ slot. lines_of_defined lines slot.defines) slots
+    line_text heading ++ flat_map (λ slot. lines_of_defined lines slot.defines) slots

@@ -10,8 +10,8 @@ abbrev pub mark_sign : ℕ
 mark_sign = byte (codes "'")
 
 -- a character as it is shown
-abbrev pub shown : Cell → List ℕ
-shown c = if c.marked then mark_sign ∷ glyph_of c.code ∷ [] else glyph_of c.code ∷ []
+abbrev pub glyphs_shown : Cell → List ℕ
+glyphs_shown c = if c.marked then mark_sign ∷ glyph_of c.code ∷ [] else glyph_of c.code ∷ []
 
 -- how many rows of twenty so many things take
 abbrev pub rows_for : ℕ → ℕ
@@ -28,4 +28,5 @@ address_of (c ∷ row) = c.position
 
 -- a line that begins with a text and goes on with a row: its address and its characters
 unfoldable pub with_row : List ℕ → List Cell → List ℕ
-with_row text row = ((text ++ position_field (address_of row)) ++ blank ∷ []) ++ flat_map shown row
+with_row text row =
+    ((text ++ position_field (address_of row)) ++ blank ∷ []) ++ flat_map glyphs_shown row

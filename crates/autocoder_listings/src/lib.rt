@@ -8,7 +8,6 @@
 
 mod cards_shown;
 mod laws;
-mod lines;
 mod listings;
 mod names;
 mod rows;

@@ -8,7 +8,7 @@ ghost use Rattle.autocoder_listings.specs.Listing.{listing_with_code_for};
 use crate::cards_shown::push_cards;
 use crate::names::push_names;
 use autocoder::Program;
-use autocoder_layout::{lay_out, source_of};
+use autocoder_layout::source_of;
 use cards::Deck;
 use std::alloc::{AllocError, Global};
 
@@ -29,11 +29,9 @@ pub fn listing_with_code(
     requires faultless { IsFaultless (source_of deck.now) }
     ensures { IfOk result (λ text. text.items ≡ listing_with_code_for deck.now) }
 {
-    let source = source_of(deck.cards());
-    let size = program.size().positions();
-    let slots = lay_out(alloc, size, source)?;
+    let layout = program.layout();
     let mut text = Vec::new(alloc);
-    push_cards(alloc, &mut text, size, source, &slots, program.literals())?;
-    push_names(alloc, &mut text, source, &slots)?;
+    push_cards(alloc, &mut text, source_of(deck.cards()), layout)?;
+    push_names(alloc, &mut text, layout)?;
     Ok(text)
 }

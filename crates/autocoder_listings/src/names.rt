@@ -1,18 +1,15 @@
 //! The names of a source: their addresses, and the cards that use them.
 
-ghost use Rattle.std.specs.Prelude.{◌≡◌, ◌*◌, ◌≤◌, ◌++◌, ◌∷◌, ◌||◌, [], length, codes, false, flat_map, IfOk, OnOk};
+ghost use Rattle.std.specs.Prelude.{◌≡◌, ◌*◌, ◌≤◌, ◌++◌, ◌∷◌, ◌||◌, [], length, codes, flat_map, IfOk, OnOk};
 ghost use Rattle.std.specs.List.{items_where_true};
-ghost use Rattle.autocoder_layout.specs.Source.{lines_of};
 ghost use Rattle.cards.specs.Decks.{largest_deck};
 ghost use Rattle.autocoder_listings.specs.Rows.{row_at};
 ghost use Rattle.autocoder_listings.specs.Names.{is_name, has_name, uses, users, numbers_of, name_line, users_line, users_lines, lines_of_name, lines_of_defined, heading, table_of_names};
 
-use crate::cards_shown::is_told;
-use crate::lines::{push_fillers, push_glyphs, push_line, push_number};
 use crate::rows::{ROW_LENGTH, rows_for};
-use autocoder_layout::{Definition, Line, Slot, line_on};
+use autocoder::{push_fillers, push_glyphs, push_line, push_number};
+use autocoder_layout::{Definition, Layout, Line, Slot};
 use autocoder_statements::{Base, Name, Operand, Statement};
-use cards::Card;
 use std::alloc::{AllocError, Global};
 
 /// The width of the part of a line before its cards.
@@ -78,16 +75,13 @@ fn push_user(cards: &mut Vec<u64>, number: u64, is_user: bool) -> Result<(), All
 }
 
 /// The numbers of the cards that use a name.
-fn users(alloc: Global, wanted: &Name, source: &[Card]) -> Result<Vec<u64>, AllocError>
-    requires { length source.now ≤ largest_deck }
-    ensures { IfOk result (λ cards. cards.items ≡ users wanted.now (lines_of false source.now)) }
+fn users(alloc: Global, wanted: &Name, lines: &[Line]) -> Result<Vec<u64>, AllocError>
+    requires { length lines.now ≤ largest_deck }
+    ensures { IfOk result (λ cards. cards.items ≡ users wanted.now lines.now) }
 {
     let mut cards = Vec::new(alloc);
-    let mut told = false;
-    for i in 0..source.len() {
-        let card = &source[i];
-        push_user(&mut cards, i as u64 + 1, uses(wanted, &line_on(told, card)))?;
-        told = is_told(told, card);
+    for i in 0..lines.len() {
+        push_user(&mut cards, i as u64 + 1, uses(wanted, &lines[i]))?;
     }
     Ok(cards)
 }
@@ -168,17 +162,17 @@ fn push_name(
 fn push_defined(
     alloc: Global,
     text: &mut Vec<u8>,
-    source: &[Card],
+    lines: &[Line],
     slot: &Slot,
 ) -> Result<(), AllocError>
-    requires { length source.now ≤ largest_deck }
+    requires { length lines.now ≤ largest_deck }
     ensures { OnOk result (text.new.items
-        ≡ text.old.items ++ lines_of_defined (lines_of false source.now) slot.now.defines) }
+        ≡ text.old.items ++ lines_of_defined lines.now slot.now.defines) }
 {
     let Some(definition) = slot.defines else {
         return Ok(());
     };
-    let cards = users(alloc, &definition.name, source)?;
+    let cards = users(alloc, &definition.name, lines)?;
     push_name(alloc, text, &definition, &cards)
 }
 
@@ -186,15 +180,15 @@ fn push_defined(
 fn push_defined_names(
     alloc: Global,
     text: &mut Vec<u8>,
-    source: &[Card],
+    lines: &[Line],
     slots: &[Slot],
 ) -> Result<(), AllocError>
-    requires { length source.now ≤ largest_deck }
+    requires { length lines.now ≤ largest_deck }
     ensures { OnOk result (text.new.items ≡ text.old.items
-        ++ flat_map (λ slot. lines_of_defined (lines_of false source.now) slot.defines) slots.now) }
+        ++ flat_map (λ slot. lines_of_defined lines.now slot.defines) slots.now) }
 {
     for slot in slots {
-        push_defined(alloc, text, source, slot)?;
+        push_defined(alloc, text, lines, slot)?;
     }
     Ok(())
 }
@@ -204,14 +198,12 @@ fn push_defined_names(
 pub(crate) fn push_names(
     alloc: Global,
     text: &mut Vec<u8>,
-    source: &[Card],
-    slots: &[Slot],
+    layout: &Layout,
 ) -> Result<(), AllocError>
-    requires { length source.now ≤ largest_deck }
     ensures { OnOk result (text.new.items
-        ≡ text.old.items ++ table_of_names (lines_of false source.now) slots.now) }
+        ≡ text.old.items ++ table_of_names layout.now.source.lines layout.now.slots) }
 {
     push_line(text, b"NAME   PLACE CARDS")?;
-    push_defined_names(alloc, text, source, slots)?;
+    push_defined_names(alloc, text, layout.source().lines(), layout.slots())?;
     Ok(())
 }

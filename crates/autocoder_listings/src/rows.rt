@@ -1,10 +1,10 @@
 //! The rows in which the code of a card is shown.
 
 ghost use Rattle.std.specs.Prelude.{◌≡◌, ◌*◌, ◌≤◌, ◌++◌, length, flat_map, IfOk, OnOk};
-ghost use Rattle.autocoder_listings.specs.Rows.{shown, rows_for, row_at, address_of, with_row};
+ghost use Rattle.autocoder_listings.specs.Rows.{glyphs_shown, rows_for, row_at, address_of, with_row};
 ghost use Rattle.autocoder_listings.specs.Coded.{further_line, further_lines};
 
-use crate::lines::{push_fillers, push_line, push_number};
+use autocoder::{push_fillers, push_line, push_number};
 use autocoder_layout::Cell;
 use std::alloc::{AllocError, Global};
 
@@ -32,7 +32,7 @@ pub(crate) fn row_at(cells: &[Cell], number: usize) -> &[Cell]
 
 /// Adds a character, after an apostrophe if it has a word mark.
 fn push_shown(line: &mut Vec<u8>, cell: &Cell) -> Result<(), AllocError>
-    ensures { OnOk result (line.new.items ≡ line.old.items ++ shown cell.now) }
+    ensures { OnOk result (line.new.items ≡ line.old.items ++ glyphs_shown cell.now) }
 {
     if cell.marked {
         line.push(b'\'')?;
@@ -43,7 +43,7 @@ fn push_shown(line: &mut Vec<u8>, cell: &Cell) -> Result<(), AllocError>
 
 /// Adds the characters of a row.
 fn push_characters(line: &mut Vec<u8>, row: &[Cell]) -> Result<(), AllocError>
-    ensures { OnOk result (line.new.items ≡ line.old.items ++ flat_map shown row.now) }
+    ensures { OnOk result (line.new.items ≡ line.old.items ++ flat_map glyphs_shown row.now) }
 {
     for cell in row {
         push_shown(line, cell)?;

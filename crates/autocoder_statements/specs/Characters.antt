@@ -59,5 +59,5 @@ number_of [] = 0
 number_of (digit ∷ digits) = digit_value digit * 10 ^ length digits + number_of digits
 
 -- a word with blanks after it, so many characters in all
-unfoldable pub padded : ℕ → List ℕ → List ℕ
-padded size word = word ++ replicate (size - length word) 0
+unfoldable pub with_blanks : ℕ → List ℕ → List ℕ
+with_blanks size word = word ++ replicate (size - length word) 0

@@ -14,8 +14,8 @@ unfoldable pub quoted_run : List ℕ → ℕ
 quoted_run text = if begins (codes "@") text then run Quoted (drop 1 text) else 0
 
 -- one or more characters between two @, without these
-unfoldable pub quoted : List ℕ → Option (List ℕ × ℕ)
-quoted text =
+unfoldable pub quoted_text : List ℕ → Option (List ℕ × ℕ)
+quoted_text text =
     if quoted_run text == 0 then None
     else (if begins (codes "@") (drop (1 + quoted_run text) text)
     then Some (take (quoted_run text) (drop 1 text), 2 + quoted_run text)
@@ -27,20 +27,23 @@ sign_zone text = if begins (codes "&") text then AB
     else (if begins (codes "-") text then B else Bare)
 
 -- these digits with a zone over the last of them
-unfoldable pub zoned : Zone → List ℕ → List ℕ
-zoned zone digits = slice_set digits (length digits - 1)
+unfoldable pub with_zone : Zone → List ℕ → List ℕ
+with_zone zone digits = slice_set digits (length digits - 1)
     (digit_under zone (digit_value (slice_index digits (length digits - 1))))
 
 -- a sign and one or more digits, as digits with the sign's zone over the last
-unfoldable pub signed : List ℕ → Option (List ℕ × ℕ)
-signed text =
+unfoldable pub signed_digits : List ℕ → Option (List ℕ × ℕ)
+signed_digits text =
     if signed_run text == 0 then None
-    else Some (zoned (sign_zone text) (take (signed_run text) (drop 1 text)), 1 + signed_run text)
+    else Some (
+      with_zone (sign_zone text) (take (signed_run text) (drop 1 text)),
+      1 + signed_run text,
+    )
 
 -- a literal: characters between two @, or digits with a sign, in place of the address of a field
 -- that holds them
 unfoldable pub literal : List ℕ → Option (List ℕ × ℕ)
-literal text = if begins (codes "@") text then quoted text else signed text
+literal text = if begins (codes "@") text then quoted_text text else signed_digits text
 
 -- a constant: a number of blanks, digits with a sign or without, or characters between two @
 unfoldable pub constant : List ℕ → Option (Constant × ℕ)

@@ -51,14 +51,14 @@ base text =
     else option_map (λ found. (Number found.0, found.1)) (number text)
 
 -- the adjustment by a number: added after &, taken away after -
-abbrev pub adjusted : Bool → ℕ → Adjustment
-adjusted plus n = if plus then Plus n else Minus n
+abbrev pub adjustment_by : Bool → ℕ → Adjustment
+adjustment_by plus n = if plus then Plus n else Minus n
 
 -- the adjustment of an address: a number after a sign, or nothing if no digit follows a sign
 unfoldable pub adjustment : List ℕ → Option (Adjustment × ℕ)
 adjustment text =
     if signed_run text == 0 then Some (Nothing, 0)
-    else option_map (λ found. (adjusted (begins (codes "&") text) found.0, 1 + found.1))
+    else option_map (λ found. (adjustment_by (begins (codes "&") text) found.0, 1 + found.1))
     (number (drop 1 text))
 
 -- the index location after &: X1, X2, X3 or none
@@ -77,12 +77,12 @@ expression text = do
   Some (record { base = base.0; adjustment = adjustment.0 }, base.1 + adjustment.1)
 
 -- an address: an expression and its index location, and how many characters both take
-abbrev pub indexed : Expression → ℕ → Option IndexLocation × ℕ → Address × ℕ
-indexed expression count index =
+abbrev pub address_with : Expression → ℕ → Option IndexLocation × ℕ → Address × ℕ
+address_with expression count index =
     (record { expression = expression; index = index.0 }, count + index.1)
 
 -- an address: an expression and an index location, if one is given
 unfoldable pub address : List ℕ → Option (Address × ℕ)
 address text = do
   found ← expression text
-  Some (indexed found.0 found.1 (index (drop found.1 text)))
+  Some (address_with found.0 found.1 (index (drop found.1 text)))

@@ -5,7 +5,7 @@ use Rattle.addresses.specs.Digits.{digit_under}
 use Rattle.autocoder_statements.specs.Characters.{begins}
 use Rattle.autocoder_statements.specs.Operands.{operands}
 use Rattle.autocoder_statements.specs.Mnemonics.{orders, mnemonics}
-use Rattle.autocoder_statements.specs.declared.forms.Form.{Form}
+use Rattle.autocoder_statements.specs.declared.operand_forms.OperandForm.{OperandForm}
 
 -- the names of all operations, orders and mnemonics
 unfoldable pub names : List (List ℕ)
@@ -19,7 +19,7 @@ IsOneOperation word =
     begins (slice_index_or names j []) word ≡ true → i ≡ j
 
 -- whether an operand field has this form
-abbrev pub fits : Form → List ℕ → Bool
+abbrev pub fits : OperandForm → List ℕ → Bool
 fits form text = is_some (operands form text)
 
 -- a number in so many digits, the highest first

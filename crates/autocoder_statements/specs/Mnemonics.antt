@@ -1,14 +1,14 @@
 -- the names in the operation field: orders to the assembler, and mnemonics of instructions
-use Rattle.std.specs.Prelude.{ℕ, ◌+◌, ◌*◌, ◌-◌, ◌==◌, if◌then◌else◌, List, [], ◌∷◌, ◌++◌, length, replicate, Option, Some, None, option_map, unwrap_or, codes, position}
+use Rattle.std.specs.Prelude.{ℕ, ◌≡◌, ◌⊎◌, ◌+◌, ◌*◌, ◌-◌, ◌==◌, if◌then◌else◌, List, [], ◌∷◌, ◌++◌, length, replicate, Option, Some, None, option_map, unwrap_or, codes, position}
 use Rattle.bcd.specs.Table.{glyphs, byte}
 use Rattle.autocoder_statements.specs.Characters.{begins}
 use Rattle.autocoder_statements.specs.Operands.{operands}
-use Rattle.autocoder_statements.specs.declared.forms.Form.{Form}
-use Rattle.autocoder_statements.specs.declared.forms.Form.TheVariants.{Empty, Modifier, One, OneAndModifier, Two, TwoAndModifier}
-use Rattle.autocoder_statements.specs.declared.forms.Kind.TheVariants.{Branch, Field}
-use Rattle.autocoder_statements.specs.declared.forms.Modifiers.TheVariants.{Any, Switches, ZonesAndMarks, Carriage}
+use Rattle.autocoder_statements.specs.declared.operand_forms.OperandForm.{OperandForm}
+use Rattle.autocoder_statements.specs.declared.operand_forms.OperandForm.TheVariants.{Empty, Modifier, One, OneAndModifier, Two, TwoAndModifier}
+use Rattle.autocoder_statements.specs.declared.operand_kinds.OperandKind.TheVariants.{Branch, Field}
+use Rattle.autocoder_statements.specs.declared.modifiers.Modifiers.TheVariants.{Any, Switches, ZonesAndMarks, Carriage}
 use Rattle.autocoder_statements.specs.declared.operands.Operands.{Operands}
-use Rattle.autocoder_statements.specs.declared.operations.Forms.{Forms}
+use Rattle.autocoder_statements.specs.declared.operand_forms.OperandForms.{OperandForms}
 use Rattle.autocoder_statements.specs.declared.operations.Mnemonic.{Mnemonic}
 use Rattle.autocoder_statements.specs.declared.operations.Operation.{Operation}
 use Rattle.autocoder_statements.specs.declared.operations.Operation.TheVariants as operation
@@ -17,48 +17,52 @@ use Rattle.autocoder_statements.specs.declared.operations.Instruction.{Instructi
 -- ---- the table
 
 -- a name with blanks after it, as wide as the five columns of the operation field
-abbrev pub named : List ℕ → List ℕ
-named name = name ++ replicate (5 - length name) (byte (codes " "))
+abbrev pub name_field : List ℕ → List ℕ
+name_field name = name ++ replicate (5 - length name) (byte (codes " "))
 
 -- the operand forms of an operation that has one form
-abbrev pub one_form : Form → Forms
+abbrev pub one_form : OperandForm → OperandForms
 one_form form = record { form = form; other = None; third = None }
 
 -- the operand forms of an operation that has either of two
-abbrev pub two_forms : Form → Form → Forms
+abbrev pub two_forms : OperandForm → OperandForm → OperandForms
 two_forms form other = record { form = form; other = Some other; third = None }
 
 -- the operand forms of an operation that has any of three
-abbrev pub three_forms : Form → Form → Form → Forms
+abbrev pub three_forms : OperandForm → OperandForm → OperandForm → OperandForms
 three_forms form other third = record { form = form; other = Some other; third = Some third }
+
+-- the form is one of these
+abbrev pub IsAmong : OperandForms → OperandForm → Type 0
+IsAmong forms form = (forms.form ≡ form) ⊎ ((forms.other ≡ Some form) ⊎ (forms.third ≡ Some form))
 
 -- a row of the table of mnemonics: name, operation character, last character if it is fixed,
 -- operand forms
 abbrev pub Row : Type 0
-Row = List ℕ × (ℕ × Option ℕ × Forms)
+Row = List ℕ × (ℕ × Option ℕ × OperandForms)
 
 -- the row of a mnemonic without a fixed last character
-abbrev pub plain : List ℕ → List ℕ → Forms → Row
-plain name operation forms = (named name, (byte operation, None, forms))
+abbrev pub plain : List ℕ → List ℕ → OperandForms → Row
+plain name operation forms = (name_field name, (byte operation, None, forms))
 
 -- the row of a mnemonic with a fixed last character, the instruction's d-character
-abbrev pub fixed : List ℕ → List ℕ → List ℕ → Forms → Row
-fixed name operation last forms = (named name, (byte operation, Some (byte last), forms))
+abbrev pub fixed : List ℕ → List ℕ → List ℕ → OperandForms → Row
+fixed name operation last forms = (name_field name, (byte operation, Some (byte last), forms))
 
 -- the forms with no operand, or with an address to branch to
-abbrev pub none_or_branch : Forms
+abbrev pub none_or_branch : OperandForms
 none_or_branch = two_forms Empty (One Branch)
 
 -- the forms with no operand, or with two fields
-abbrev pub none_or_two : Forms
+abbrev pub none_or_two : OperandForms
 none_or_two = two_forms Empty (Two Field Field)
 
 -- the forms with no operand, or with one field or two
-abbrev pub none_one_or_two : Forms
+abbrev pub none_one_or_two : OperandForms
 none_one_or_two = three_forms Empty (One Field) (Two Field Field)
 
 -- the form with an address to branch to
-abbrev pub branch : Forms
+abbrev pub branch : OperandForms
 branch = one_form (One Branch)
 
 -- the table of mnemonics
@@ -108,14 +112,14 @@ mnemonics =
 -- the table of orders to the assembler
 unfoldable pub orders : List (List ℕ × Operation)
 orders =
-    (named (codes "JOB"), operation.Job)
-    ∷ (named (codes "CTL"), operation.Control)
-    ∷ (named (codes "ORG"), operation.Origin)
-    ∷ (named (codes "EQU"), operation.Equate)
-    ∷ (named (codes "DCW"), operation.MarkedConstant)
-    ∷ (named (codes "DC"), operation.Constant)
-    ∷ (named (codes "DS"), operation.Area)
-    ∷ (named (codes "END"), operation.End)
+    (name_field (codes "JOB"), operation.Job)
+    ∷ (name_field (codes "CTL"), operation.Control)
+    ∷ (name_field (codes "ORG"), operation.Origin)
+    ∷ (name_field (codes "EQU"), operation.Equate)
+    ∷ (name_field (codes "DCW"), operation.MarkedConstant)
+    ∷ (name_field (codes "DC"), operation.Constant)
+    ∷ (name_field (codes "DS"), operation.Area)
+    ∷ (name_field (codes "END"), operation.End)
     ∷ []
 
 -- ---- the operation that a word names
@@ -131,7 +135,7 @@ or_else (Some x) other = Some x
 or_else None other = other
 
 -- the mnemonic of a row's operation character, last character and operand forms
-abbrev pub mnemonic_of : (ℕ × Option ℕ × Forms) → Mnemonic
+abbrev pub mnemonic_of : (ℕ × Option ℕ × OperandForms) → Mnemonic
 mnemonic_of row = record { operation = row.0; modifier = row.1; forms = row.2 }
 
 -- the operation that a word of five characters names, if it names one
@@ -146,19 +150,19 @@ unfoldable pub code_of : ℕ → ℕ
 code_of glyph = unwrap_or (position (λ g. g == glyph) glyphs) 0
 
 -- the operands in a field, if there is a form and the field has it
-abbrev pub operands_if : Option Form → List ℕ → Option Operands
+abbrev pub operands_if : Option OperandForm → List ℕ → Option Operands
 operands_if None text = None
 operands_if (Some form) text = operands form text
 
 -- the operands in a field, by the first of the forms that it has
-unfoldable pub operands_in : Forms → List ℕ → Option Operands
+unfoldable pub operands_in : OperandForms → List ℕ → Option Operands
 operands_in forms text = or_else (operands forms.form text)
     (or_else (operands_if forms.other text) (operands_if forms.third text))
 
 -- the instruction of a mnemonic with these operands; its last character is the field's, or else the
 -- mnemonic's own
-abbrev pub built : Mnemonic → Operands → Instruction
-built mnemonic operands = record {
+abbrev pub instruction_with : Mnemonic → Operands → Instruction
+instruction_with mnemonic operands = record {
   operation = code_of mnemonic.operation;
   first = operands.first;
   second = operands.second;
@@ -167,7 +171,7 @@ built mnemonic operands = record {
 
 -- the instruction of a mnemonic with a whole operand field
 unfoldable pub instruction : Mnemonic → List ℕ → Option Instruction
-instruction mnemonic text = option_map (built mnemonic) (operands_in mnemonic.forms text)
+instruction mnemonic text = option_map (instruction_with mnemonic) (operands_in mnemonic.forms text)
 
 -- how many there are: 1, or 0 if there is none
 abbrev pub present : {A : Type 0} → Option A → ℕ

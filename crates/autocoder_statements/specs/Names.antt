@@ -1,6 +1,6 @@
 -- names: labels, and the names that addresses begin with
 use Rattle.std.specs.Prelude.{ℕ, ◌==◌, nat_le, Bool, not, ◌&&◌, ◌||◌, if◌then◌else◌, List, length, Option, Some, None, codes}
-use Rattle.autocoder_statements.specs.Characters.{run, begins, begins_with_letter, padded}
+use Rattle.autocoder_statements.specs.Characters.{run, begins, begins_with_letter, with_blanks}
 use Rattle.autocoder_statements.specs.declared.characters.Class.TheVariants.{LetterOrDigit}
 use Rattle.autocoder_statements.specs.declared.names.Name.{Name}
 
@@ -27,4 +27,4 @@ is_name word = begins_with_letter word
 -- the name that a word is, if it is one
 unfoldable pub name_of : List ℕ → Option Name
 name_of word =
-    if is_name word then Some (record { characters = padded longest_name word }) else None
+    if is_name word then Some (record { characters = with_blanks longest_name word }) else None

@@ -5,12 +5,12 @@ use Rattle.bcd.specs.Table.{glyph_of}
 use Rattle.autocoder_statements.specs.Characters.{begins, is_blank, is_ended}
 use Rattle.autocoder_statements.specs.Expressions.{◌>>=◌, address}
 use Rattle.autocoder_statements.specs.Constants.{literal}
-use Rattle.autocoder_statements.specs.declared.forms.Kind.{Kind}
-use Rattle.autocoder_statements.specs.declared.forms.Kind.TheVariants.{Branch, Field}
-use Rattle.autocoder_statements.specs.declared.forms.Modifiers.{Modifiers}
-use Rattle.autocoder_statements.specs.declared.forms.Modifiers.TheVariants.{Any, Switches, ZonesAndMarks, Carriage}
-use Rattle.autocoder_statements.specs.declared.forms.Form.{Form}
-use Rattle.autocoder_statements.specs.declared.forms.Form.TheVariants.{Empty, Modifier, One, OneAndModifier, Two, TwoAndModifier}
+use Rattle.autocoder_statements.specs.declared.operand_kinds.OperandKind.{OperandKind}
+use Rattle.autocoder_statements.specs.declared.operand_kinds.OperandKind.TheVariants.{Branch, Field}
+use Rattle.autocoder_statements.specs.declared.modifiers.Modifiers.{Modifiers}
+use Rattle.autocoder_statements.specs.declared.modifiers.Modifiers.TheVariants.{Any, Switches, ZonesAndMarks, Carriage}
+use Rattle.autocoder_statements.specs.declared.operand_forms.OperandForm.{OperandForm}
+use Rattle.autocoder_statements.specs.declared.operand_forms.OperandForm.TheVariants.{Empty, Modifier, One, OneAndModifier, Two, TwoAndModifier}
 use Rattle.autocoder_statements.specs.declared.operands.Operand.{Operand}
 use Rattle.autocoder_statements.specs.declared.operands.Operand.TheVariants.{Address, Literal}
 use Rattle.autocoder_statements.specs.declared.operands.Operands.{Operands}
@@ -20,14 +20,14 @@ abbrev pub begins_literal : List ℕ → Bool
 begins_literal text = list_any (λ glyph. begins (glyph ∷ []) text) (codes "@&-")
 
 -- an operand of this kind: an address, or for a field also a literal
-unfoldable pub operand : Kind → List ℕ → Option (Operand × ℕ)
+unfoldable pub operand : OperandKind → List ℕ → Option (Operand × ℕ)
 operand Branch text = option_map (λ found. (Address found.0, found.1)) (address text)
 operand Field text =
     if begins_literal text then option_map (λ found. (Literal found.0, found.1)) (literal text)
     else option_map (λ found. (Address found.0, found.1)) (address text)
 
 -- an operand of this kind after a comma
-unfoldable pub next_operand : Kind → List ℕ → Option (Operand × ℕ)
+unfoldable pub next_operand : OperandKind → List ℕ → Option (Operand × ℕ)
 next_operand kind text =
     if begins (codes ",") text
     then option_map (λ found. (found.0, 1 + found.1)) (operand kind (drop 1 text))
@@ -60,24 +60,24 @@ abbrev pub with_modifier : Option Operand → Option Operand → ℕ → Operand
 with_modifier first second code = record { first = first; second = second; modifier = Some code }
 
 -- the operands of an instruction without a last character, if the field ends here
-abbrev pub ended : Option Operand → Option Operand → List ℕ → Option Operands
-ended first second text = if is_ended text
+abbrev pub without_modifier : Option Operand → Option Operand → List ℕ → Option Operands
+without_modifier first second text = if is_ended text
     then Some (record { first = first; second = second; modifier = None }) else None
 
 -- the operands of a whole operand field in this form
-unfoldable pub operands : Form → List ℕ → Option Operands
-operands Empty text = ended None None text
+unfoldable pub operands : OperandForm → List ℕ → Option Operands
+operands Empty text = without_modifier None None text
 operands (Modifier modifiers) text = option_map (with_modifier None None) (modifier modifiers text)
 operands (One kind) text = do
   first ← operand kind text
-  ended (Some first.0) None (drop first.1 text)
+  without_modifier (Some first.0) None (drop first.1 text)
 operands (OneAndModifier kind modifiers) text = do
   first ← operand kind text
   option_map (with_modifier (Some first.0) None) (next_modifier modifiers (drop first.1 text))
 operands (Two kind other) text = do
   first ← operand kind text
   second ← next_operand other (drop first.1 text)
-  ended (Some first.0) (Some second.0) (drop second.1 (drop first.1 text))
+  without_modifier (Some first.0) (Some second.0) (drop second.1 (drop first.1 text))
 operands (TwoAndModifier kind other modifiers) text = do
   first ← operand kind text
   second ← next_operand other (drop first.1 text)

@@ -4,7 +4,7 @@ use Rattle.std.specs.List.{list_all}
 use Rattle.cards.specs.declared.decks.Card.{Card}
 use Rattle.core_store.specs.declared.sizes.Size.{Size}
 use Rattle.core_store.specs.declared.sizes.Size.TheVariants.{Positions1400, Positions2000, Positions4000}
-use Rattle.autocoder_statements.specs.Characters.{run, begins, is_blank, is_ended, padded}
+use Rattle.autocoder_statements.specs.Characters.{run, begins, is_blank, is_ended, with_blanks}
 use Rattle.autocoder_statements.specs.Names.{name_of}
 use Rattle.autocoder_statements.specs.Expressions.{positive, expression}
 use Rattle.autocoder_statements.specs.Constants.{constant}
@@ -59,7 +59,7 @@ is_broken field = not (list_all is_blank (drop (word_run field) field))
 
 -- the operation that the word of an operation field names
 unfoldable pub operation_in : List ℕ → Option Operation
-operation_in field = operation_named (padded operation_columns (word field))
+operation_in field = operation_named (with_blanks operation_columns (word field))
 
 -- the operation of a card, whatever other faults the card has
 unfoldable pub operation_of : Card → Option Operation
@@ -94,8 +94,8 @@ abbrev pub is_labelled : List ℕ → Bool
 is_labelled field = not (word_run field == 0)
 
 -- the statement of a card that must not have a label, or the fault of a label
-unfoldable pub unlabelled : List ℕ → Statement → Result Statement StatementFault
-unlabelled field statement = if word_run field == 0 then Ok statement else Err fault.Label
+unfoldable pub may_not_label : List ℕ → Statement → Result Statement StatementFault
+may_not_label field statement = if word_run field == 0 then Ok statement else Err fault.Label
 
 -- ---- operand fields
 
@@ -122,13 +122,13 @@ start field = if is_ended field then Some None else option_map Some (whole field
 -- the statement of an operation with this label and operand field, or its fault, the operand
 -- field's first; whether END may have its label depends on the whole source
 unfoldable pub statement_of : Operation → List ℕ → List ℕ → Result Statement StatementFault
-statement_of operation.Job label field = unlabelled label statement.Job
+statement_of operation.Job label field = may_not_label label statement.Job
 statement_of operation.Control label field = do
   size ← or_fault fault.Operand (whole field (size field))
-  unlabelled label (statement.Control size)
+  may_not_label label (statement.Control size)
 statement_of operation.Origin label field = do
   expression ← or_fault fault.Operand (whole field (expression field))
-  unlabelled label (statement.Origin expression)
+  may_not_label label (statement.Origin expression)
 statement_of operation.Equate label field = do
   expression ← or_fault fault.Operand (whole field (expression field))
   name ← must_label label

@@ -2,7 +2,7 @@
 
 ghost use Rattle.std.specs.Prelude.{◌≡◌, ◌<◌, ◌≤◌, ◌^◌, length, IsTrue};
 ghost use Rattle.autocoder_statements.specs.Expressions.{most_digits};
-ghost use Rattle.autocoder_statements.specs.Characters.{is_of, run, begins, begins_with_letter, is_between, is_blank, is_ended, number_of, digit_value, padded};
+ghost use Rattle.autocoder_statements.specs.Characters.{is_of, run, begins, begins_with_letter, is_between, is_blank, is_ended, number_of, digit_value, with_blanks};
 
 use bcd::Code;
 
@@ -122,9 +122,9 @@ pub fn number_of(digits: &[Code]) -> u32
 }
 
 /// A word padded with blanks at its end.
-pub fn padded<const SIZE: usize>(word: &[Code]) -> [Code; SIZE]
+pub fn with_blanks<const SIZE: usize>(word: &[Code]) -> [Code; SIZE]
     requires { length word.now ≤ SIZE }
-    ensures { result ≡ padded SIZE word.now }
+    ensures { result ≡ with_blanks SIZE word.now }
 {
     let mut codes = [Code::blank(); SIZE];
     codes[..word.len()].copy_from_slice(word);

@@ -6,7 +6,7 @@ ghost use Rattle.autocoder_statements.specs.Limits.{longest_text};
 ghost use Rattle.autocoder_statements.specs.Characters.{is_blank};
 ghost use Rattle.autocoder_statements.specs.Statements.{label_field, operation_field, operand_field, is_comment, is_broken, operation_in, operation_of, operation_columns};
 
-use crate::characters::{Class, begins, is_blank, padded};
+use crate::characters::{Class, begins, is_blank, with_blanks};
 use crate::operations::{LONGEST_OPERATION, Operation, operation_named};
 use bcd::Code;
 use cards::Card;
@@ -66,7 +66,7 @@ pub fn operation_in(field: &[Code]) -> Option<Operation>
     requires { length field.now ≡ operation_columns }
     ensures { result ≡ operation_in field.now }
 {
-    let word: [Code; LONGEST_OPERATION] = padded(&field[..Class::Filled.run(field)]);
+    let word: [Code; LONGEST_OPERATION] = with_blanks(&field[..Class::Filled.run(field)]);
     operation_named(&word)
 }
 

@@ -3,7 +3,7 @@
 //! Each reader returns what it read and how many characters that takes.
 
 ghost use Rattle.std.specs.Prelude.{◌≡◌, ◌<◌, ◌≤◌, length, IfSome};
-ghost use Rattle.autocoder_statements.specs.Constants.{quoted_run, quoted, sign_zone, zoned, signed, literal, constant, constant_length};
+ghost use Rattle.autocoder_statements.specs.Constants.{quoted_run, quoted_text, sign_zone, with_zone, signed_digits, literal, constant, constant_length};
 ghost use Rattle.autocoder_statements.specs.Ranges.{IsTextInRange, IsConstantInRange};
 ghost use Rattle.autocoder_statements.specs.Limits.{longest_text};
 
@@ -39,7 +39,7 @@ impl Constant {
 fn quoted_run(text: &[Code]) -> usize
     ensures run { result ≡ quoted_run text.now }
     ensures within { result ≤ length text.now }
-    ensures behind { 0 < result → result < length text.now }
+    ensures below { 0 < result → result < length text.now }
 {
     if !begins(text, b"@") {
         return 0;
@@ -48,10 +48,10 @@ fn quoted_run(text: &[Code]) -> usize
 }
 
 /// Reads one or more characters between two `@`.
-#[tactic(auto, unfolding(crate::specs::Constants::quoted))]
+#[tactic(auto, unfolding(crate::specs::Constants::quoted_text))]
 fn read_quoted(text: &[Code]) -> Option<(Text, usize)>
     requires { length text.now ≤ longest_text }
-    ensures text { result ≡ quoted text.now }
+    ensures text { result ≡ quoted_text text.now }
     ensures range { IfSome result (λ found. IsTextInRange found.0) }
     ensures within { IfSome result (λ found. found.1 ≤ length text.now) }
 {
@@ -62,8 +62,8 @@ fn read_quoted(text: &[Code]) -> Option<(Text, usize)>
     if !begins(&text[1 + count..], b"@") {
         return None;
     }
-    let behind = &text[1..];
-    Some((Text::of(&behind[..count]), 2 + count))
+    let rest = &text[1..];
+    Some((Text::of(&rest[..count]), 2 + count))
 }
 
 /// The zone that a sign gives to the last digit.
@@ -80,10 +80,10 @@ fn sign_zone(text: &[Code]) -> Zone
 }
 
 /// Digits, the last of them with a zone.
-fn zoned(zone: Zone, digits: &[Code]) -> Text
+fn with_zone(zone: Zone, digits: &[Code]) -> Text
     requires some { 0 < length digits.now }
     requires limit { length digits.now ≤ longest_text }
-    ensures text { result ≡ zoned zone digits.now }
+    ensures text { result ≡ with_zone zone digits.now }
     ensures length { length result ≡ length digits.now }
 {
     let mut codes = [Code::blank(); LONGEST_TEXT];
@@ -95,10 +95,10 @@ fn zoned(zone: Zone, digits: &[Code]) -> Text
 }
 
 /// Reads a sign and one or more digits.
-#[tactic(auto, unfolding(crate::specs::Constants::signed))]
+#[tactic(auto, unfolding(crate::specs::Constants::signed_digits))]
 fn read_signed(text: &[Code]) -> Option<(Text, usize)>
     requires { length text.now ≤ longest_text }
-    ensures text { result ≡ signed text.now }
+    ensures text { result ≡ signed_digits text.now }
     ensures range { IfSome result (λ found. IsTextInRange found.0) }
     ensures within { IfSome result (λ found. found.1 ≤ length text.now) }
 {
@@ -106,8 +106,8 @@ fn read_signed(text: &[Code]) -> Option<(Text, usize)>
     if count == 0 {
         return None;
     }
-    let behind = &text[1..];
-    Some((zoned(sign_zone(text), &behind[..count]), 1 + count))
+    let rest = &text[1..];
+    Some((with_zone(sign_zone(text), &rest[..count]), 1 + count))
 }
 
 /// Reads a literal: the characters whose address a field means.

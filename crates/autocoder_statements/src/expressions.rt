@@ -5,7 +5,7 @@
 ghost use Rattle.std.specs.Prelude.{◌≡◌, ◌<◌, ◌≤◌, length, IfSome};
 ghost use Rattle.autocoder_statements.specs.Ranges.{IsBaseInRange, IsAdjustmentInRange, IsExpressionInRange, IsPositiveInRange};
 ghost use Rattle.autocoder_statements.specs.Limits.{number_limit};
-ghost use Rattle.autocoder_statements.specs.Expressions.{number, adjusted, positive, signed_run, base, adjustment, index, expression, address};
+ghost use Rattle.autocoder_statements.specs.Expressions.{number, adjustment_by, positive, signed_run, base, adjustment, index, expression, address};
 
 use crate::characters::{Class, begins, begins_with_letter, number_of};
 use crate::names::{Name, name_of};
@@ -92,7 +92,7 @@ pub fn read_positive(text: &[Code]) -> Option<(u32, usize)>
 pub fn signed_run(text: &[Code]) -> usize
     ensures run { result ≡ signed_run text.now }
     ensures within { result ≤ length text.now }
-    ensures behind { 0 < result → result < length text.now }
+    ensures below { 0 < result → result < length text.now }
 {
     if begins(text, b"&") {
         return Class::Digit.run(&text[1..]);
@@ -120,9 +120,9 @@ fn read_base(text: &[Code]) -> Option<(Base, usize)>
 }
 
 /// The adjustment by a number that is added or subtracted.
-fn adjusted(plus: bool, number: u32) -> Adjustment
+fn adjustment_by(plus: bool, number: u32) -> Adjustment
     requires { number < number_limit }
-    ensures adjustment { result ≡ adjusted plus number }
+    ensures adjustment { result ≡ adjustment_by plus number }
     ensures range { IsAdjustmentInRange result }
 {
     if plus {
@@ -143,7 +143,7 @@ fn read_adjustment(text: &[Code]) -> Option<(Adjustment, usize)>
         return Some((Adjustment::Nothing, 0));
     }
     let (number, count) = read_number(&text[1..])?;
-    Some((adjusted(begins(text, b"&"), number), 1 + count))
+    Some((adjustment_by(begins(text, b"&"), number), 1 + count))
 }
 
 /// Reads the index location that is named, if any.

@@ -3,8 +3,8 @@
 ghost use Rattle.std.specs.Prelude.{◌≡◌, ◌<◌, ◌≤◌, ◌^◌, ◌++◌, ℕ, List, Some, true, false};
 ghost use Rattle.autocoder_statements.specs.Expressions.{digit_run, most_digits, number};
 ghost use Rattle.autocoder_statements.specs.Laws.{IsOneOperation, digits_of, fits};
-ghost use Rattle.autocoder_statements.specs.declared.forms.Form.TheVariants.{Empty, One, Two};
-ghost use Rattle.autocoder_statements.specs.declared.forms.Kind.{Kind};
+ghost use Rattle.autocoder_statements.specs.declared.operand_forms.OperandForm.TheVariants.{Empty, One, Two};
+ghost use Rattle.autocoder_statements.specs.declared.operand_kinds.OperandKind.{OperandKind};
 
 /// The law of numbers: a number spelled in one to five digits is read as that number, if no digit
 /// follows.
@@ -21,10 +21,10 @@ pub fn a_word_names_one_operation()
 /// The law of forms: a field has at most one of the forms without a last character. Hence the order
 /// in which the forms of a mnemonic are tried does not matter.
 pub fn a_field_has_one_form()
-    ensures none_or_one { (kind : Kind) (text : List ℕ) → fits Empty text ≡ true →
+    ensures none_or_one { (kind : OperandKind) (text : List ℕ) → fits Empty text ≡ true →
         fits (One kind) text ≡ false }
-    ensures none_or_two { (kind other : Kind) (text : List ℕ) → fits Empty text ≡ true →
+    ensures none_or_two { (kind other : OperandKind) (text : List ℕ) → fits Empty text ≡ true →
         fits (Two kind other) text ≡ false }
-    ensures one_or_two { (kind other third : Kind) (text : List ℕ) → fits (One kind) text ≡ true →
-        fits (Two other third) text ≡ false }
+    ensures one_or_two { (kind other third : OperandKind) (text : List ℕ) →
+        fits (One kind) text ≡ true → fits (Two other third) text ≡ false }
 {}

@@ -4,16 +4,16 @@ ghost use Rattle.std.specs.Prelude.{◌≡◌, ◌==◌, ◌&&◌, ◌||◌};
 ghost use Rattle.autocoder_statements.specs.Characters.{run};
 ghost use Rattle.autocoder_statements.specs.Names.{is_index_name, is_name, name_of};
 
-use crate::characters::{Class, begins, begins_with_letter, padded};
+use crate::characters::{Class, begins, begins_with_letter, with_blanks};
 use bcd::Code;
 
 /// The greatest number of characters of a name.
 pub const LONGEST_NAME: usize = 6;
 
-/// A name: one to six letters and digits, a letter first, padded with blanks.
+/// A name: one to six letters and digits, a letter first, with_blanks with blanks.
 #[derive(Clone, Copy, PartialEq, Eq)]
 pub struct Name {
-    /// Its characters, padded with blanks to six.
+    /// Its characters, with_blanks with blanks to six.
     pub characters: [Code; LONGEST_NAME],
 }
 
@@ -42,6 +42,6 @@ pub fn name_of(word: &[Code]) -> Option<Name>
         return None;
     }
     Some(Name {
-        characters: padded(word),
+        characters: with_blanks(word),
     })
 }

@@ -2,28 +2,19 @@
 
 ghost use Rattle.std.specs.Prelude.{◌≡◌, ◌≤◌, length, IfSome, option_map};
 ghost use Rattle.autocoder_statements.specs.Characters.{begins};
-ghost use Rattle.autocoder_statements.specs.Mnemonics.{orders, mnemonics, entry, operation_named, code_of, operands_if, operands_in, instruction, or_else, present, instruction_length};
-ghost use Rattle.autocoder_statements.specs.Ranges.{AreOperandsInRange, IsInstructionInRange};
+ghost use Rattle.autocoder_statements.specs.Mnemonics.{orders, mnemonics, entry, operation_named, code_of, instruction, or_else, present, instruction_length};
+ghost use Rattle.autocoder_statements.specs.Ranges.{IsInstructionInRange};
 ghost use Rattle.autocoder_statements.specs.Limits.{longest_text};
 
 use crate::characters::begins;
-use crate::forms::{Form, Kind, Modifiers};
-use crate::operands::{Operand, Operands};
+use crate::modifiers::Modifiers;
+use crate::operand_forms::{OperandForm, OperandForms};
+use crate::operand_kinds::OperandKind;
+use crate::operands::Operand;
 use bcd::Code;
 
 /// The number of columns of the operation field.
 pub const LONGEST_OPERATION: usize = 5;
-
-/// One to three forms.
-#[derive(Clone, Copy)]
-pub struct Forms {
-    /// The form that is tried first.
-    pub form: Form,
-    /// The form that is tried second.
-    pub other: Option<Form>,
-    /// The form that is tried third.
-    pub third: Option<Form>,
-}
 
 /// The operation that a mnemonic means, and the forms of its operand field.
 #[derive(Clone, Copy)]
@@ -33,7 +24,7 @@ pub struct Mnemonic {
     /// The glyph of the last character, if it is fixed.
     pub modifier: Option<u8>,
     /// The forms of its operand field.
-    pub forms: Forms,
+    pub forms: OperandForms,
 }
 
 /// The operation of a card.
@@ -85,114 +76,118 @@ const ORDERS: [([u8; LONGEST_OPERATION], Operation); 8] = [
 ];
 
 /// Two fields.
-const FIELDS: Form = Form::Two(Kind::Field, Kind::Field);
+const FIELDS: OperandForm = OperandForm::Two(OperandKind::Field, OperandKind::Field);
 
 /// A field.
-const FIELD: Form = Form::One(Kind::Field);
+const FIELD: OperandForm = OperandForm::One(OperandKind::Field);
 
 /// A branch address.
-const PLACE: Form = Form::One(Kind::Branch);
+const PLACE: OperandForm = OperandForm::One(OperandKind::Branch);
 
 /// An empty field.
-const NONE: Forms = Forms {
-    form: Form::Empty,
+const NONE: OperandForms = OperandForms {
+    form: OperandForm::Empty,
     other: None,
     third: None,
 };
 
 /// A branch address.
-const BRANCH: Forms = Forms {
+const BRANCH: OperandForms = OperandForms {
     form: PLACE,
     other: None,
     third: None,
 };
 
 /// An empty field, or a branch address.
-const NONE_OR_BRANCH: Forms = Forms {
-    form: Form::Empty,
+const NONE_OR_BRANCH: OperandForms = OperandForms {
+    form: OperandForm::Empty,
     other: Some(PLACE),
     third: None,
 };
 
 /// An empty field, or two fields.
-const NONE_OR_TWO: Forms = Forms {
-    form: Form::Empty,
+const NONE_OR_TWO: OperandForms = OperandForms {
+    form: OperandForm::Empty,
     other: Some(FIELDS),
     third: None,
 };
 
 /// An empty field, a field, or two fields.
-const NONE_ONE_OR_TWO: Forms = Forms {
-    form: Form::Empty,
+const NONE_ONE_OR_TWO: OperandForms = OperandForms {
+    form: OperandForm::Empty,
     other: Some(FIELD),
     third: Some(FIELDS),
 };
 
 /// A field, or two fields.
-const ONE_OR_TWO: Forms = Forms {
+const ONE_OR_TWO: OperandForms = OperandForms {
     form: FIELD,
     other: Some(FIELDS),
     third: None,
 };
 
 /// A field.
-const ONE: Forms = Forms {
+const ONE: OperandForms = OperandForms {
     form: FIELD,
     other: None,
     third: None,
 };
 
 /// Two fields.
-const TWO: Forms = Forms {
+const TWO: OperandForms = OperandForms {
     form: FIELDS,
     other: None,
     third: None,
 };
 
 /// An empty field, a field, or a branch address and a field.
-const CLEAR: Forms = Forms {
-    form: Form::Empty,
+const CLEAR: OperandForms = OperandForms {
+    form: OperandForm::Empty,
     other: Some(FIELD),
-    third: Some(Form::Two(Kind::Branch, Kind::Field)),
+    third: Some(OperandForm::Two(OperandKind::Branch, OperandKind::Field)),
 };
 
 /// A branch address and a sense switch.
-const SWITCH: Forms = Forms {
-    form: Form::OneAndModifier(Kind::Branch, Modifiers::Switches),
+const SWITCH: OperandForms = OperandForms {
+    form: OperandForm::OneAndModifier(OperandKind::Branch, Modifiers::Switches),
     other: None,
     third: None,
 };
 
 /// A branch address, a field and a character.
-const CHARACTER: Forms = Forms {
-    form: Form::TwoAndModifier(Kind::Branch, Kind::Field, Modifiers::Any),
+const CHARACTER: OperandForms = OperandForms {
+    form: OperandForm::TwoAndModifier(OperandKind::Branch, OperandKind::Field, Modifiers::Any),
     other: None,
     third: None,
 };
 
 /// A branch address, a field and a test of it.
-const ZONE: Forms = Forms {
-    form: Form::TwoAndModifier(Kind::Branch, Kind::Field, Modifiers::ZonesAndMarks),
+const ZONE: OperandForms = OperandForms {
+    form: OperandForm::TwoAndModifier(
+        OperandKind::Branch,
+        OperandKind::Field,
+        Modifiers::ZonesAndMarks,
+    ),
     other: None,
     third: None,
 };
 
 /// A branch address and a field.
-const MARK: Forms = Forms {
-    form: Form::Two(Kind::Branch, Kind::Field),
+const MARK: OperandForms = OperandForms {
+    form: OperandForm::Two(OperandKind::Branch, OperandKind::Field),
     other: None,
     third: None,
 };
 
 /// An order to the carriage.
-const CARRIAGE: Forms = Forms {
-    form: Form::Modifier(Modifiers::Carriage),
+const CARRIAGE: OperandForms = OperandForms {
+    form: OperandForm::Modifier(Modifiers::Carriage),
     other: None,
     third: None,
 };
 
 /// The mnemonics: name, operation, the fixed last character, forms of the operand field.
-const MNEMONICS: [([u8; LONGEST_OPERATION], (u8, Option<u8>, Forms)); 39] = [
+const MNEMONICS: [([u8; LONGEST_OPERATION], (u8, Option<u8>, OperandForms)); 39] = [
     (*b"A    ", (b'A', None, NONE_ONE_OR_TWO)),
     (*b"S    ", (b'S', None, NONE_ONE_OR_TWO)),
     (*b"ZA   ", (b'?', None, NONE_ONE_OR_TWO)),
@@ -262,7 +257,7 @@ fn order_named(word: &[Code]) -> Option<Operation>
 }
 
 /// The entry of a word in the table of mnemonics.
-fn row_named(word: &[Code]) -> Option<(u8, Option<u8>, Forms)>
+fn row_named(word: &[Code]) -> Option<(u8, Option<u8>, OperandForms)>
     ensures { result ≡ entry mnemonics word.now }
 {
     entry(&MNEMONICS, word)
@@ -302,33 +297,6 @@ fn last(read: Option<Code>, fixed: Option<u8>) -> Option<Code>
         return read;
     }
     Some(code_of(fixed?))
-}
-
-/// The operands of a field in a form, if there is a form.
-fn operands_if(form: Option<Form>, text: &[Code]) -> Option<Operands>
-    requires { length text.now ≤ longest_text }
-    ensures operands { result ≡ operands_if form text.now }
-    ensures range { IfSome result (λ found. AreOperandsInRange found) }
-{
-    form?.read(text)
-}
-
-impl Forms {
-    /// The operands of a field, in the first form that it has.
-    #[tactic(auto, unfolding(crate::specs::Mnemonics::operands_in))]
-    fn read(&self, text: &[Code]) -> Option<Operands>
-        requires { length text.now ≤ longest_text }
-        ensures operands { result ≡ operands_in self.now text.now }
-        ensures range { IfSome result (λ found. AreOperandsInRange found) }
-    {
-        if let Some(operands) = self.form.read(text) {
-            return Some(operands);
-        }
-        if let Some(operands) = operands_if(self.other, text) {
-            return Some(operands);
-        }
-        operands_if(self.third, text)
-    }
 }
 
 impl Mnemonic {

@@ -3,7 +3,7 @@
 ghost use Rattle.std.specs.Prelude.{◌≡◌, ◌≤◌, length, IfSome, IfOk, ◌||◌, if◌then◌else◌};
 ghost use Rattle.autocoder_statements.specs.Expressions.{positive, expression};
 ghost use Rattle.autocoder_statements.specs.Constants.{constant};
-ghost use Rattle.autocoder_statements.specs.Statements.{must_label, may_label, is_broken, label_field, operation_field, unlabelled, whole, size, start, statement_of, statement_on};
+ghost use Rattle.autocoder_statements.specs.Statements.{must_label, may_label, is_broken, label_field, operation_field, may_not_label, whole, size, start, statement_of, statement_on};
 ghost use Rattle.autocoder_statements.specs.Ranges.{IsExpressionInRange, IsConstantInRange, IsPositiveInRange, IsStatementInRange};
 ghost use Rattle.autocoder_statements.specs.Limits.{longest_text};
 
@@ -84,9 +84,9 @@ fn may_label(field: &[Code]) -> Result<Option<Name>, StatementFault>
 }
 
 /// The statement of a card that may not have a label.
-#[tactic(auto, unfolding(crate::specs::Statements::unlabelled))]
-fn unlabelled(field: &[Code], statement: Statement) -> Result<Statement, StatementFault>
-    ensures statement { result ≡ unlabelled field.now statement }
+#[tactic(auto, unfolding(crate::specs::Statements::may_not_label))]
+fn may_not_label(field: &[Code], statement: Statement) -> Result<Statement, StatementFault>
+    ensures statement { result ≡ may_not_label field.now statement }
     ensures same { IfOk result (λ found. found ≡ statement) }
 {
     if Class::Filled.run(field) == 0 {
@@ -174,7 +174,7 @@ fn control_statement(label: &[Code], field: &[Code]) -> Result<Statement, Statem
     let Some(size) = whole(field, read_size(field)) else {
         return Err(StatementFault::Operand);
     };
-    unlabelled(label, Statement::Control(size))
+    may_not_label(label, Statement::Control(size))
 }
 
 /// The statement of an `ORG`.
@@ -186,7 +186,7 @@ fn origin_statement(label: &[Code], field: &[Code]) -> Result<Statement, Stateme
     let Some(expression) = whole_expression(field) else {
         return Err(StatementFault::Operand);
     };
-    unlabelled(label, Statement::Origin(expression))
+    may_not_label(label, Statement::Origin(expression))
 }
 
 /// The statement of an `EQU`.
@@ -283,7 +283,7 @@ fn statement_of(
     ensures range { IfOk result IsStatementInRange }
 {
     match operation {
-        Operation::Job => unlabelled(label, Statement::Job),
+        Operation::Job => may_not_label(label, Statement::Job),
         Operation::Control => control_statement(label, field),
         Operation::Origin => origin_statement(label, field),
         Operation::Equate => equate_statement(label, field),

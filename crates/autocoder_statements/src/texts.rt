@@ -3,7 +3,7 @@
 ghost use Rattle.std.specs.Prelude.{◌≡◌, ◌≤◌, length};
 ghost use Rattle.autocoder_statements.specs.Limits.{longest_text};
 
-use crate::characters::padded;
+use crate::characters::with_blanks;
 use bcd::Code;
 use std::marker::Model;
 
@@ -13,7 +13,7 @@ pub const LONGEST_TEXT: usize = 52;
 /// A text: at most 52 characters.
 #[derive(Clone, Copy)]
 pub struct Text {
-    /// The characters, padded with blanks.
+    /// The characters, with_blanks with blanks.
     characters: [Code; LONGEST_TEXT],
     /// The number of characters.
     count: usize,
@@ -45,7 +45,7 @@ impl Text {
         ensures { result ≡ characters.now }
     {
         Text {
-            characters: padded(characters),
+            characters: with_blanks(characters),
             count: characters.len(),
         }
     }

@@ -52,7 +52,7 @@ pub(crate) fn push_glyphs(text: &mut String, codes: &[Code]) -> Result<(), Fail>
 
 /// The filled positions: the first position of each row of them, and their glyphs, each after an
 /// apostrophe if it has a word mark.
-pub(crate) fn image_told(alloc: Global, cells: &[Cell]) -> Result<String, Fail> {
+pub(crate) fn image_text(alloc: Global, cells: &[Cell]) -> Result<String, Fail> {
     let mut text = String::new(alloc);
     let mut next = 0;
     for cell in cells {

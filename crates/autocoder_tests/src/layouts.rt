@@ -3,10 +3,9 @@
 ghost use Rattle.std.specs.Prelude.{IfSome};
 ghost use Rattle.autocoder_statements.specs.Ranges.{IsExpressionInRange};
 
-use crate::coding_sheets::{columns_of, deck_of, image_told, push_glyphs};
+use crate::coding_sheets::{columns_of, deck_of, image_text, push_glyphs};
 use autocoder_layout::{
-    Cell, FARTHEST, Slot, SourceFault, cells_of, fault_by, first_instruction, has_end, is_control,
-    lay_out, line_on, literals_of, place_after, size_of, source_of, value_in,
+    Cell, Layout, Line, Slot, Source, SourceFault, first_instruction, place_after,
 };
 use autocoder_statements::{Expression, Statement, StatementFault, read};
 use bcd::Code;
@@ -32,32 +31,43 @@ A|SW|@B@,A&1|
 T|DC|@CD@|
 ";
 
+/// The source of a sheet.
+fn source_on(alloc: Global, sheet: &str) -> Result<Source, Fail> {
+    let deck = deck_of(alloc, sheet)?;
+    Ok(Source::read(alloc, &deck)?)
+}
+
+/// The layout of a sheet's source.
+fn layout_on(alloc: Global, sheet: &str) -> Result<Layout, Fail> {
+    Ok(Layout::of(alloc, source_on(alloc, sheet)?)?)
+}
+
 /// The number of cards of a sheet's source, whether it has an end, and its size.
 fn extent(alloc: Global, sheet: &str) -> Result<String, Fail> {
-    let deck = deck_of(alloc, sheet)?;
-    let source = source_of(deck.cards());
-    let count = source.len();
-    let ends = has_end(source);
-    let positions = size_of(source).positions();
+    let source = source_on(alloc, sheet)?;
+    let count = source.lines().len();
+    let ends = source.is_ended();
+    let positions = source.size().positions();
     Ok(format!(in alloc; "{count} cards, {ends}, {positions} positions")?)
 }
 
-/// Whether the card of a line gives the size.
-fn gives_a_size(line: &str) -> Result<bool, Fail> {
-    let columns: [Code; COLUMNS] = columns_of(line)?;
-    let card = Card(columns);
-    Ok(is_control(&card))
+/// The size that a card gives, 0 for any other card, or the number of its fault.
+fn size_in(line: &Line) -> u16 {
+    match line {
+        Ok(Statement::Control(size)) => size.positions(),
+        Ok(_) => 0,
+        Err(fault) => fault.number() as u16,
+    }
 }
 
-/// The size that the card of a line gives, if an earlier card gave one or none did; or its fault.
-fn size_on(given: bool, line: &str) -> Result<u16, Fail> {
-    let columns: [Code; COLUMNS] = columns_of(line)?;
-    let card = Card(columns);
-    match line_on(given, &card) {
-        Ok(Statement::Control(size)) => Ok(size.positions()),
-        Ok(_) => Ok(0),
-        Err(fault) => Ok(fault.number() as u16),
+/// What the cards of a source say of its size, one after the other.
+fn sizes(alloc: Global, sheet: &str) -> Result<String, Fail> {
+    let source = source_on(alloc, sheet)?;
+    let mut text = String::new(alloc);
+    for line in source.lines() {
+        write!(&mut text, "{} ", size_in(line))?;
     }
+    Ok(text)
 }
 
 #[test]
@@ -69,10 +79,8 @@ fn ends_and_sizes_of_sources(rt: HostRuntime) -> Result<(), Fail> {
     assert_eq!(rt; unended.as_str(), "4 cards, false, 2000 positions");
     let one = extent(alloc, "|ORG|500|")?;
     assert_eq!(rt; one.as_str(), "1 cards, false, 4000 positions");
-    assert!(rt; gives_a_size("|CTL|2|")?);
-    assert!(rt; !gives_a_size("|ORG|500|")?);
-    assert_eq!(rt; size_on(false, "|CTL|2|")?, 2000);
-    assert_eq!(rt; size_on(true, "|CTL|2|")?, 42);
+    let given = sizes(alloc, "|ORG|500|\n|CTL|2|\n|CTL|1|\n|END||\n|CTL|3|\n")?;
+    assert_eq!(rt; given.as_str(), "0 2000 42 0 ");
     Ok(())
 }
 
@@ -82,7 +90,7 @@ fn push_slot(text: &mut String, slot: &Slot) -> Result<(), Fail> {
     let Slot {
         before,
         after,
-        kind,
+        role,
         closes,
         ..
     } = *slot;
@@ -90,31 +98,29 @@ fn push_slot(text: &mut String, slot: &Slot) -> Result<(), Fail> {
         None => 0,
         Some(fault) => fault.number(),
     };
-    Ok(writeln!(text, "{before} {after} {kind:?} {closes} {fault}")?)
+    Ok(writeln!(text, "{before} {after} {role:?} {closes} {fault}")?)
 }
 
 /// The places of the cards of a source, the place of its literals, and its first instruction.
-fn standing(alloc: Global, sheet: &str) -> Result<String, Fail> {
-    let deck = deck_of(alloc, sheet)?;
-    let source = source_of(deck.cards());
-    let slots = lay_out(alloc, size_of(source).positions(), source)?;
+fn places_in(alloc: Global, sheet: &str) -> Result<String, Fail> {
+    let layout = layout_on(alloc, sheet)?;
     let mut text = String::new(alloc);
-    for slot in &slots {
+    for slot in layout.slots() {
         push_slot(&mut text, slot)?;
     }
-    writeln!(&mut text, "{} ends", place_after(&slots))?;
-    let first = first_instruction(&slots).ok_or("an instruction")?;
+    writeln!(&mut text, "{} ends", place_after(layout.slots()))?;
+    let first = first_instruction(layout.slots()).ok_or("an instruction")?;
     write!(
         &mut text,
         "{} {}",
         first.before,
-        first.kind.is_instruction()
+        first.role.is_instruction()
     )?;
     Ok(text)
 }
 
 #[test]
-fn where_cards_stand(rt: HostRuntime) -> Result<(), Fail> {
+fn places_of_cards(rt: HostRuntime) -> Result<(), Fail> {
     let wanted = "\
 333 333 Nothing false 0
 333 500 Passing false 0
@@ -123,7 +129,7 @@ fn where_cards_stand(rt: HostRuntime) -> Result<(), Fail> {
 510 510 Passing false 0
 510 ends
 500 true";
-    assert_eq!(rt; standing(rt.alloc(), SOURCE)?.as_str(), wanted);
+    assert_eq!(rt; places_in(rt.alloc(), SOURCE)?.as_str(), wanted);
     Ok(())
 }
 
@@ -139,14 +145,13 @@ fn origin_on(card: &Card) -> Option<Expression>
 
 /// The value in the source of the expression on a line's card.
 fn value_on(alloc: Global, line: &str) -> Result<String, Fail> {
-    let deck = deck_of(alloc, SOURCE)?;
-    let slots = lay_out(alloc, 2000, source_of(deck.cards()))?;
+    let layout = layout_on(alloc, SOURCE)?;
     let columns: [Code; COLUMNS] = columns_of(line)?;
     let card = Card(columns);
     let Some(expression) = origin_on(&card) else {
         return Err(Fail::from("an expression"));
     };
-    Ok(format!(in alloc; "{:?}", value_in(2000, &slots, expression))?)
+    Ok(format!(in alloc; "{:?}", layout.value_of(expression))?)
 }
 
 /// Cards that move the place, each after the value of its expression.
@@ -179,11 +184,9 @@ fn values_of_addresses(rt: HostRuntime) -> Result<(), Fail> {
 
 /// The literals of the source, with a bar after each.
 fn literals(alloc: Global) -> Result<String, Fail> {
-    let deck = deck_of(alloc, SOURCE)?;
-    let source = source_of(deck.cards());
-    let slots = lay_out(alloc, 2000, source)?;
+    let layout = layout_on(alloc, SOURCE)?;
     let mut text = String::new(alloc);
-    for literal in &literals_of(alloc, source, &slots)? {
+    for literal in layout.literals() {
         push_glyphs(&mut text, literal.characters())?;
         text.push('|')?;
     }
@@ -192,21 +195,12 @@ fn literals(alloc: Global) -> Result<String, Fail> {
 
 /// The positions filled by the card of the source that has this index.
 fn filled_by(alloc: Global, index: usize) -> Result<String, Fail> {
-    let deck = deck_of(alloc, SOURCE)?;
-    let source = source_of(deck.cards());
-    let slots = lay_out(alloc, 2000, source)?;
-    let literals = literals_of(alloc, source, &slots)?;
-    let card = source.get(index).ok_or("a card")?;
-    let (_, behind) = slots.split_at(index);
-    let [slot, later @ ..] = behind else {
-        return Err(Fail::from("a slot"));
-    };
-    if slot.before > FARTHEST {
-        return Err(Fail::from("a place"));
+    let layout = layout_on(alloc, SOURCE)?;
+    if index >= layout.source().lines().len() {
+        return Err(Fail::from("a card"));
     }
-    let line = line_on(true, card);
-    let cells = cells_of(alloc, 2000, &slots, &literals, later, slot, &line)?;
-    image_told(alloc, &cells)
+    let cells = layout.cells(alloc, index)?;
+    image_text(alloc, &cells)
 }
 
 #[test]
@@ -220,21 +214,19 @@ fn what_cards_fill(rt: HostRuntime) -> Result<(), Fail> {
 }
 
 /// The number of the lowest fault, 0 for none, of a line's card in place of the source's
-/// instruction, in a storage of `size` positions. The card fills `position`, and `overlaps` is
-/// whether an earlier card fills it too.
-fn judged(alloc: Global, size: u16, overlaps: bool, position: u32, line: &str) -> Result<u8, Fail> {
-    let deck = deck_of(alloc, SOURCE)?;
-    let slots = lay_out(alloc, 2000, source_of(deck.cards()))?;
-    let slot = slots.get(2).ok_or("a slot")?;
+/// instruction. The card fills `position`, and `overlaps` is whether an earlier card fills it too.
+fn judged(alloc: Global, overlaps: bool, position: u32, line: &str) -> Result<u8, Fail> {
+    let sheet = format!(in alloc; "|CTL|2|\n|ORG|500|\n{line}\nT|DC|@CD@|\n|END||\n")?;
+    let layout = layout_on(alloc, sheet.as_str())?;
+    if layout.source().lines().len() < 3 {
+        return Err(Fail::from("a card"));
+    }
     let cell = Cell {
         position,
         code: Code::blank(),
         marked: false,
     };
-    let columns: [Code; COLUMNS] = columns_of(line)?;
-    let card = Card(columns);
-    let line = line_on(true, &card);
-    match fault_by(size, &slots, overlaps, slot, &[cell], &line) {
+    match layout.fault(2, overlaps, &[cell]) {
         None => Ok(0),
         Some(fault) => Ok(fault.number()),
     }
@@ -243,16 +235,16 @@ fn judged(alloc: Global, size: u16, overlaps: bool, position: u32, line: &str) -
 #[test]
 fn the_lowest_fault(rt: HostRuntime) -> Result<(), Fail> {
     let known = "A|SW|@B@,A&1|";
-    for (size, overlaps, position, line, number) in [
-        (2000, false, 500, known, 0),
-        (2000, true, 500, known, 48),
-        (2000, true, 80, known, 47),
-        (2000, true, 2000, known, 46),
-        (501, false, 500, known, 46),
-        (2000, true, 2000, "|B|LOST|", 45),
+    for (overlaps, position, line, number) in [
+        (false, 500, known, 0),
+        (true, 500, known, 48),
+        (true, 80, known, 47),
+        (true, 2000, known, 46),
+        (false, 500, "A|SW|@B@,A&1499|", 0),
+        (false, 500, "A|SW|@B@,A&1500|", 46),
+        (true, 2000, "|B|LOST|", 45),
     ] {
-        let found = judged(rt.alloc(), size, overlaps, position, line)?;
-        assert_eq!(rt; found, number);
+        assert_eq!(rt; judged(rt.alloc(), overlaps, position, line)?, number);
     }
     Ok(())
 }

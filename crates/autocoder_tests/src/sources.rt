@@ -1,20 +1,21 @@
 //! Worked sources: their programs, listings and faults.
 
-use crate::coding_sheets::{columns_of, deck_of, image_told};
-use autocoder::{CardFault, Faults, Program, assemble, listing};
+use crate::coding_sheets::{columns_of, deck_of, image_text};
+use autocoder::{Faults, Program, assemble, listing};
+use autocoder_layout::CardFault;
 use bcd::Code;
 use cards::{COLUMNS, Card, Deck};
 use std::alloc::Global;
 use std::test::Fail;
 
 /// The start of a program, the number of the card that ends its source, and its image.
-fn program_told(alloc: Global, program: &Program) -> Result<String, Fail> {
-    let image = image_told(alloc, program.image())?;
+fn program_text(alloc: Global, program: &Program) -> Result<String, Fail> {
+    let image = image_text(alloc, program.image())?;
     Ok(format!(in alloc; "from {} by {}:{image}", program.start(), program.last())?)
 }
 
 /// The faults of a source, each with its card and its number.
-fn faults_told(alloc: Global, faults: &[CardFault]) -> Result<String, Fail> {
+fn faults_text(alloc: Global, faults: &[CardFault]) -> Result<String, Fail> {
     let mut text = String::from_str(alloc, "faults")?;
     for fault in faults {
         write!(&mut text, " {}:{}", fault.card, fault.fault.number())?;
@@ -25,8 +26,8 @@ fn faults_told(alloc: Global, faults: &[CardFault]) -> Result<String, Fail> {
 /// The program or the faults of a source, in words.
 fn assembled(alloc: Global, deck: &Deck) -> Result<String, Fail> {
     match assemble(alloc, deck) {
-        Ok(program) => program_told(alloc, &program),
-        Err(Faults::Source(faults)) => faults_told(alloc, &faults),
+        Ok(program) => program_text(alloc, &program),
+        Err(Faults::Source(faults)) => faults_text(alloc, &faults),
         Err(Faults::NoMemory) => Err(Fail::from("no memory")),
     }
 }

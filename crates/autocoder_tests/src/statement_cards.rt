@@ -420,7 +420,7 @@ fn push_statement(text: &mut String, statement: &Statement) -> Result<(), Fail> 
 }
 
 /// The statement of a line's card, in words.
-fn told_by(alloc: Global, line: &str) -> Result<String, Fail> {
+fn statement_text(alloc: Global, line: &str) -> Result<String, Fail> {
     let columns: [Code; COLUMNS] = columns_of(line)?;
     let card = Card(columns);
     let mut text = String::new(alloc);
@@ -433,10 +433,10 @@ fn told_by(alloc: Global, line: &str) -> Result<String, Fail> {
 
 /// The first line of a sheet whose card has another statement than the line has before the card, or
 /// an empty text if there is none.
-fn mistold(alloc: Global, sheet: &'static str) -> Result<&'static str, Fail> {
+fn wrong_statement(alloc: Global, sheet: &'static str) -> Result<&'static str, Fail> {
     for line in sheet.lines() {
         let (wanted, card) = line.split_once('|').ok_or("what it says")?;
-        if told_by(alloc, card)?.as_str() != wanted {
+        if statement_text(alloc, card)?.as_str() != wanted {
             return Ok(line);
         }
     }
@@ -500,7 +500,7 @@ comment|* A B|XYZ|@|
 fn what_cards_say(rt: HostRuntime) -> Result<(), Fail> {
     let alloc = rt.alloc();
     for sheet in [LABELS_THAT_ARE_READ, INSTRUCTIONS, CONSTANTS, ORDERS] {
-        assert_eq!(rt; mistold(alloc, sheet)?, "");
+        assert_eq!(rt; wrong_statement(alloc, sheet)?, "");
     }
     Ok(())
 }

@@ -4,10 +4,10 @@ use Rattle.std.specs.Io.KnownBytes.{Appends, Keeps}
 use Rattle.counter.specs.Assembling.{Assembles}
 use Rattle.counter.specs.Runs.{Tells}
 use Rattle.counter.specs.Tasks.{IsMisuse, Wants}
-use Rattle.counter.specs.Told.{IsTextShown, fault_words, misuse_message, misuse_status}
+use Rattle.counter.specs.Printed.{IsTextShown, fault_words, misuse_message, misuse_status}
 use Rattle.counter_tasks.specs.declared.faults.Fault.TheVariants.{Device}
 use Rattle.counter_tasks.specs.declared.statuses.Status.{Status}
-use Rattle.counter_tasks.specs.declared.statuses.Status.TheVariants.{Told}
+use Rattle.counter_tasks.specs.declared.statuses.Status.TheVariants.{NotDone}
 use Rattle.counter_tasks.specs.declared.tasks.Misuse.{Misuse}
 use Rattle.counter_tasks.specs.declared.tasks.Task.{Task}
 use Rattle.counter_tasks.specs.declared.tasks.Task.TheVariants as task
@@ -34,7 +34,7 @@ pub record HasAssembledText (status : Status) (output_old output_new errors_old 
 -- the source's text was assembled, or its file could not be opened
 abbrev pub HasAssembled : Status → Bytes → Bytes → Bytes → Bytes → Type 0
 HasAssembled status output_old output_new errors_old errors_new =
-    ((status ≡ Told) × Keeps output_old output_new
+    ((status ≡ NotDone) × Keeps output_old output_new
     × Appends errors_old errors_new (fault_words Device ++ 10 ∷ []))
     ⊎ HasAssembledText status output_old output_new errors_old errors_new
 

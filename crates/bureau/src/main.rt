@@ -9,7 +9,7 @@
 
 ghost use Rattle.std.specs.Prelude.{◌≡◌, Option, IfOk, IfErr};
 ghost use Rattle.std.specs.Process.{exit_status};
-ghost use Rattle.counter.specs.Told.{IsTextShown, status_code};
+ghost use Rattle.counter.specs.Printed.{IsTextShown, status_code};
 ghost use Rattle.counter_words.specs.Asked.{IsHelp, IsVersion, page_of};
 ghost use Rattle.counter_words.specs.Plain.{texts};
 ghost use Rattle.counter_words.specs.declared.RowName.{RowName};
@@ -118,11 +118,11 @@ fn done(rt: &HostRuntime) -> io::Result<Status> {
 /// printed, it is 1.
 fn exit_code(outcome: io::Result<Status>) -> ExitCode
     ensures ok { IfOk outcome (λ status. exit_status result ≡ status_code status) }
-    ensures err { IfErr outcome (λ _. exit_status result ≡ status_code Status.Told) }
+    ensures err { IfErr outcome (λ _. exit_status result ≡ status_code Status.NotDone) }
 {
     match outcome {
         Ok(status) => ExitCode::from(status.code()),
-        Err(_) => ExitCode::from(Status::Told.code()),
+        Err(_) => ExitCode::from(Status::NotDone.code()),
     }
 }
 

@@ -1,6 +1,7 @@
 -- the outcomes of the rows for a bureau's file
 use Rattle.std.specs.Prelude.{ℕ, List, [], ◌∷◌, ◌++◌, Option, codes, decimal}
 use Rattle.std.specs.Io.KnownBytes.{Appends, Keeps}
+use Rattle.cards.specs.Files.{line_feed}
 use Rattle.counter_tasks.specs.declared.statuses.Status.{Status}
 use Rattle.counter_tasks.specs.declared.statuses.Status.TheVariants as status
 use Rattle.ledger_tables.specs.declared.openings.OpenFault.{OpenFault}
@@ -12,14 +13,14 @@ use Rattle.bureau_rows.specs.declared.outcomes.Outcome.TheVariants as outcome
 -- wrong
 abbrev pub status_of : Outcome → Status
 status_of outcome.Done = status.Done
-status_of outcome.Shown = status.Told
+status_of outcome.Shown = status.NotDone
 status_of (outcome.Stopped acknowledged) = status.Unusable
-status_of (outcome.Refused number) = status.Told
-status_of (outcome.Fault opening.NoMemory) = status.Told
+status_of (outcome.Refused number) = status.NotDone
+status_of (outcome.Fault opening.NoMemory) = status.NotDone
 status_of (outcome.Fault opening.Store) = status.Unusable
 status_of (outcome.Fault opening.NotABureau) = status.Unusable
 status_of (outcome.Fault opening.Old) = status.Unusable
-status_of outcome.Device = status.Told
+status_of outcome.Device = status.NotDone
 
 -- the number of a fault at opening: of memory, of the store, of a file that is no bureau's or a
 -- later version's, or of an earlier version's
@@ -31,7 +32,7 @@ number_of opening.Old = 51
 
 -- this line was printed, with a line feed
 abbrev pub IsLine : List ℕ → Option (List ℕ) → Option (List ℕ) → Type 0
-IsLine line old new = Appends old new (line ++ 10 ∷ [])
+IsLine line old new = Appends old new (line ++ line_feed ∷ [])
 
 -- what was printed on the standard error: one line, but nothing if all was done or the output has
 -- what went wrong

@@ -32,8 +32,8 @@ impl Outcome {
     {
         match self {
             Outcome::Done => Status::Done,
-            Outcome::Shown | Outcome::Refused(_) | Outcome::Device => Status::Told,
-            Outcome::Fault(OpenFault::NoMemory) => Status::Told,
+            Outcome::Shown | Outcome::Refused(_) | Outcome::Device => Status::NotDone,
+            Outcome::Fault(OpenFault::NoMemory) => Status::NotDone,
             Outcome::Fault(_) | Outcome::Stopped(_) => Status::Unusable,
         }
     }

@@ -1,8 +1,10 @@
 pub mod Marks
 pub mod Fields
 pub mod Cuts
-mod Near
+pub mod Near
 mod Lanes
 mod Copies
 mod PlaneLemmas
 mod Stretches
+mod Words
+pub mod Sixteens

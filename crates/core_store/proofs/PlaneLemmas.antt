@@ -1,16 +1,21 @@
 -- planes of codes and marks
-use Rattle.std.proofs.Common.{◌≡◌, ◌≢◌, ℕ, zero, suc, ◌+◌, ◌-◌, ◌<◌, ◌≤◌, ◌∙◌, Bool, true, false, not, eqb, ltb, List, [], ◌∷◌, Option, Some, None, get_or, set, length, replicate, map, ap, sym, refl, arith}
+use Rattle.std.proofs.Common.{◌≡◌, ◌≢◌, ℕ, zero, suc, ◌+◌, ◌-◌, ◌<◌, ◌≤◌, ◌∙◌, Bool, true, false, not, cond, ◌%◌, ◌^◌, eqb, ltb, leb, ◌||◌, All, drop, List, [], ◌∷◌, Option, Some, None, get_or, set, length, replicate, map, ap, ap₂, sym, refl, arith}
 use Rattle.std.proofs.lemmas.Bool.{eqb-true, lt-ltb}
 use Rattle.std.specs.Simd.Lanes.{mask_l, chunk}
-use Rattle.std.proofs.lemmas.Simd.{none_from_empty_mask, length-chunk, get_or-chunk, trailing_mask_l, run_in_chunk_le, run_in_chunk_fails, run_in_chunk_stops}
+use Rattle.std.proofs.lemmas.Simd.{tops_compared, zip2_splat_left, mask_l-mod, none_from_empty_mask, length-chunk, get_or-chunk, trailing_mask_l, run_in_chunk_le, run_in_chunk_fails, run_in_chunk_stops}
 use lib.Count.{count_trailing_zeros}
-use Rattle.std.specs.List.{prefix_len}
+use lib.Lanes.{top, zip2}
+use mir.Syntax.{w8}
+use mir.Val.{bits, hbits}
+use Rattle.std.proofs.lemmas.List.{length-map}
+use Rattle.std.specs.List.{prefix_len, AllByRecursion}
+use Rattle.std.proofs.lemmas.List.Elements.{recursion_from_All, All-take, All-drop}
 use Rattle.core_store.specs.Storage.{is_marked, put, with_mark, greatest_mark, least_mark}
 use Rattle.core_store.specs.Operands.{near_length}
 use Rattle.core_store.proofs.Near.{Bare, near_marked, near_unmarked}
 use Rattle.std.proofs.Math.Decide.{dec_lt}
 use Rattle.core_store.proofs.Marks.{none_below, greatest_is, least_is, none_among}
-use Rattle.core_store.specs.Planes.{joined_planes, IsLastMark}
+use Rattle.core_store.specs.Planes.{IsBit, joined_planes, IsLastMark}
 
 pub not_other : (b : Bool) → not b ≡ false → b ≡ true
 not_other true h = refl
@@ -78,6 +83,31 @@ is_some x = not (eqb x 0)
 pub some_is : (n : ℕ) → not (eqb n 0) ≡ true → n ≢ 0
 some_is zero h = absurd (cc)
 some_is (suc n) h = omega arith
+
+-- of the bytes of marks, those that are not 0 are the ones from 128 on
+zero_or_full : (x : ℕ) (zero_there full : Bool) → eqb x 0 ≡ zero_there → eqb x 255 ≡ full → (zero_there || full) ≡ true → leb 128 x ≡ is_some x
+zero_or_full x true full zero_is full_is h = let e : x ≡ 0 = eqb-true x 0 zero_is in rw e refl
+zero_or_full x false true zero_is full_is h = let e : x ≡ 255 = eqb-true x 255 full_is in rw e refl
+zero_or_full x false false zero_is full_is h = absurd (cc)
+
+top_is_some : (x : ℕ) → IsBit x → leb 128 x ≡ is_some x
+top_is_some x bit = zero_or_full x (eqb x 0) (eqb x 255) refl refl bit
+
+tops_are_some : (xs : List ℕ) → AllByRecursion IsBit xs → map (leb 128) xs ≡ map is_some xs
+tops_are_some [] bits = refl
+tops_are_some (x ∷ xs) bits = ap₂ (λ b bs. b ∷ bs) (top_is_some x bits.0) (tops_are_some xs bits.1)
+
+pub tops_chunk : (marks : List ℕ) (at count : ℕ) → All IsBit marks → map (leb 128) (chunk at count marks) ≡ map is_some (chunk at count marks)
+tops_chunk marks at count bits =
+    tops_are_some (chunk at count marks) (recursion_from_All IsBit (chunk at count marks) (All-take IsBit count (drop at marks) (All-drop IsBit at marks bits)))
+
+-- the mask of the bytes from 128 on is that of the marks
+pub bitmask_marks : (marks : List ℕ) (at count : ℕ) → at + count ≤ length marks → count ≤ 64 → All IsBit marks →
+    mask_l (map (top (hbits w8)) (zip2 (λ a b. cond (leb a b) (2 ^ bits w8 - 1) 0) (replicate count 128) (chunk at count marks))) % 2 ^ 64 ≡ mask_l (map is_some (chunk at count marks))
+bitmask_marks marks at count room few all =
+    let long : length (chunk at count marks) ≡ count = length-chunk at count marks room in
+    ap (λ ms. mask_l ms % 2 ^ 64) (tops_compared w8 leb (replicate count 128) (chunk at count marks) ∙ zip2_splat_left leb 128 count (chunk at count marks) long ∙ tops_chunk marks at count all)
+    ∙ mask_l-mod (map is_some (chunk at count marks)) 64 (omega (arith, long, length-map (chunk at count marks) is_some))
 
 -- where the mask of some bytes is not 0, one of them passes
 abbrev SomePasses : (ℕ → Bool) → List ℕ → Type 0

@@ -58,7 +58,7 @@ copied_within old new src dest n j copied lt =
     copied.0 (dest + j) 0 (omega arith) (omega arith) ∙ ap (λ k. get_or old k 0) back
 
 -- a plane that is lent and written back
-written_back : (n : ℕ) (lent plane : List ℕ) → length lent ≡ length plane → length plane ≤ n → take n (lent ++ drop (length lent) plane) ≡ lent
+pub written_back : (n : ℕ) (lent plane : List ℕ) → length lent ≡ length plane → length plane ≤ n → take n (lent ++ drop (length lent) plane) ≡ lent
 written_back n lent plane size le =
     ap (λ rest. take n (lent ++ rest)) (drop_all (length lent) plane (omega arith)) ∙ ap (take n) (append-nil lent) ∙ take_all n lent (omega arith)
 

@@ -1,3 +1,4 @@
+pub mod Checks
 pub mod Storage
 pub mod Checked
 pub mod Operands

@@ -1,5 +1,5 @@
 -- storage as a list of cells, position 0 first: a character and whether it has a word mark
-use Rattle.std.specs.Prelude.{[], ◌∷◌, ℕ, zero, suc, ◌≡◌, ◌+◌, ◌-◌, ◌<◌, ◌≤◌, List, Bool, true, false, if◌then◌else◌, Option, Some, None, slice_index_or, slice_set, slice_range, map, replicate, MatchOption}
+use Rattle.std.specs.Prelude.{[], ◌∷◌, ℕ, zero, suc, ◌≡◌, ◌==◌, ◌+◌, ◌-◌, ◌<◌, ◌≤◌, List, Bool, true, false, if◌then◌else◌, Option, Some, None, slice_index_or, slice_set, slice_range, map, replicate, MatchOption}
 use Rattle.std.specs.Option.{option_map}
 use Rattle.core_store.specs.declared.sizes.Size.{Size}
 use Rattle.core_store.specs.declared.sizes.Size.TheVariants.{Positions1400, Positions2000, Positions4000}
@@ -21,6 +21,14 @@ abbrev pub positions_of : Size → ℕ
 positions_of Positions1400 = 1400
 positions_of Positions2000 = 2000
 positions_of Positions4000 = 4000
+
+-- the size of storage with so many positions: 1400, 2000 or 4000, or none
+abbrev pub size_numbered : ℕ → Option Size
+size_numbered size =
+    if size == 1400 then Some Positions1400 else
+    if size == 2000 then Some Positions2000 else
+    if size == 4000 then Some Positions4000 else
+    None
 
 -- a blank without a word mark
 abbrev pub blank_cell : ℕ × Bool

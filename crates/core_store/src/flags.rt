@@ -6,6 +6,7 @@ use crate::{Core, Size};
 use bcd::Code;
 use std::alloc::{AllocError, Global};
 use std::marker::Model;
+use std::simd::prelude::*;
 
 /// A storage as a vector of pairs, a character and its word mark.
 #[derive(Drop)]
@@ -44,12 +45,32 @@ impl Core for FlagCore {
         self.cells[position as usize].0
     }
 
+    fn get_after(&self, position: u16, count: u16) -> Code {
+        self.cells[position as usize + count as usize].0
+    }
+
     fn is_marked(&self, position: u16) -> bool {
         self.cells[position as usize].1
     }
 
     fn put(&mut self, position: u16, code: Code) {
         self.cells[position as usize].0 = code;
+    }
+
+    fn near_codes(&self, position: u16) -> u8x16 {
+        let mut codes = [0; 16];
+        for place in 0..16 {
+            codes[place as usize] = self.get(position - 15 + place).number();
+        }
+        u8x16::from_array(codes)
+    }
+
+    fn put_near_codes(&mut self, position: u16, codes: u8x16) {
+        let codes = codes.to_array();
+        for place in (0..16).rev() {
+            let code = Code::from_number(codes[place as usize]).unwrap();
+            self.put(position - 15 + place, code);
+        }
     }
 
     fn set_mark(&mut self, position: u16) {
@@ -108,5 +129,13 @@ impl Core for FlagCore {
             }
         }
         None
+    }
+
+    fn word_end(&self, position: u16) -> Option<u16> {
+        if self.is_marked(position) {
+            self.mark_after(position)
+        } else {
+            None
+        }
     }
 }

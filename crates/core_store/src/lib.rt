@@ -10,23 +10,26 @@
 //! whether operands overlap, and how registers are lowered (`specs/Operands.antt`).
 #![tactic(auto)]
 
+mod checks;
 mod flags;
 mod operands;
 mod planes;
 mod registers;
 mod sizes;
 
-ghost use Rattle.std.specs.Prelude.{◌≡◌, ◌+◌, ◌-◌, ◌<◌, ◌≤◌, ℕ, List, Bool, true, false, length, replicate, IfOk, IfSome};
+ghost use Rattle.std.specs.Prelude.{◌≡◌, ◌+◌, ◌-◌, ◌<◌, ◌≤◌, ℕ, All, List, Bool, true, false, length, replicate, None, IfOk, IfSome, if◌then◌else◌};
 ghost use Rattle.core_store.specs.Storage.{blank_cell, blank_storage, cells_ending, code_at, codes_ending, is_marked, put, put_cells, put_codes, with_mark, greatest_mark, largest_size, least_mark, GreatestMark, LeastMark, Storage, positions_of};
 ghost use Rattle.core_store.specs.Operands.{is_overlapping, near_length};
 
 use bcd::Code;
+pub use checks::Check;
 pub use flags::FlagCore;
 pub use operands::{are_inside, cut_length, field_length, is_minus, overlaps};
 pub use planes::PlaneCore;
-pub use registers::{Check, Compared, Registers, lowered};
+pub use registers::{Compared, Registers, lowered};
 pub use sizes::Size;
 use std::alloc::{AllocError, Global};
+use std::simd::prelude::*;
 
 /// The largest size of a storage, in positions. Every address is below this number.
 pub const LARGEST_SIZE: u16 = 16000;
@@ -56,6 +59,11 @@ pub trait Core: Sized + Drop {
         requires { position < length (cells self.now) }
         ensures { result ≡ code_at (cells self.now) position };
 
+    /// The character `count` positions after a position.
+    fn get_after(&self, position: u16, count: u16) -> Code
+        requires { position + count < length (cells self.now) }
+        ensures { result ≡ code_at (cells self.now) (position + count) };
+
     /// Whether a position has a word mark.
     fn is_marked(&self, position: u16) -> bool
         requires { position < length (cells self.now) }
@@ -65,6 +73,21 @@ pub trait Core: Sized + Drop {
     fn put(&mut self, position: u16, code: Code)
         requires { position < length (cells self.old) }
         ensures { cells self.new ≡ put (cells self.old) position code };
+
+    /// The sixteen characters that end at a position, the leftmost first.
+    fn near_codes(&self, position: u16) -> u8x16
+        requires within { position < length (cells self.now) }
+        requires room { 15 ≤ position }
+        ensures codes { result ≡ codes_ending (cells self.now) position 16 }
+        ensures below { All (λ code. code < 64) result };
+
+    /// Writes the sixteen characters that end at a position, the leftmost first. Marks stay.
+    fn put_near_codes(&mut self, position: u16, codes: u8x16)
+        requires within { position < length (cells self.old) }
+        requires room { 15 ≤ position }
+        requires sixteen { length codes ≡ 16 }
+        requires below { All (λ code. code < 64) codes }
+        ensures { cells self.new ≡ put_codes (cells self.old) (position - 15) codes };
 
     /// Sets a word mark. The character stays.
     fn set_mark(&mut self, position: u16)
@@ -123,6 +146,15 @@ pub trait Core: Sized + Drop {
     fn mark_after(&self, position: u16) -> Option<u16>
         requires { position < length (cells self.now) }
         ensures mark { result ≡ least_mark (cells self.now) (position + 1) 8 }
+        ensures within { IfSome result (λ found. (position < found) × (found ≤ position + 8)
+            × (found < length (cells self.now))) };
+
+    /// The end of the word that begins at a position: its next mark, among the next eight
+    /// positions. `None` if there is none, or if the position itself has no mark.
+    fn word_end(&self, position: u16) -> Option<u16>
+        requires { position < length (cells self.now) }
+        ensures end { result ≡ (if is_marked (cells self.now) position
+            then least_mark (cells self.now) (position + 1) 8 else None) }
         ensures within { IfSome result (λ found. (position < found) × (found ≤ position + 8)
             × (found < length (cells self.now))) };
 }

@@ -1,4 +1,4 @@
-//! The registers, and the checks that stop the machine.
+//! The registers.
 
 ghost use Rattle.std.specs.Prelude.{◌≡◌, ◌<◌, ◌≤◌};
 ghost use Rattle.core_store.specs.Storage.{largest_size};
@@ -56,24 +56,4 @@ impl Registers {
         self.a = lowered(self.a, a_count);
         self.b = lowered(self.b, b_count);
     }
-}
-
-/// Why the machine stops during an instruction.
-#[derive(Clone, Copy, Debug, PartialEq, Eq)]
-pub enum Check {
-    /// An address that cannot be read or is outside the storage, or a field that would pass
-    /// position 000.
-    Address,
-    /// There is no instruction of the machine at register I.
-    Instruction,
-    /// A character without a numeric value in arithmetic.
-    Data,
-    /// Operands that would overwrite each other.
-    Overlap,
-    /// No card is left to read.
-    ReaderEmpty,
-    /// The punch has made its greatest number of cards.
-    PunchFull,
-    /// The printer has made its greatest number of lines or forms.
-    PrinterFull,
 }

@@ -1,7 +1,7 @@
 //! The sizes of storage.
 
 ghost use Rattle.std.specs.Prelude.{◌≡◌, ◌≢◌, ◌≤◌, IfSome, IfNone};
-ghost use Rattle.core_store.specs.Storage.{positions_of, largest_size};
+ghost use Rattle.core_store.specs.Storage.{positions_of, size_numbered, largest_size};
 
 /// The sizes of storage that a machine may have.
 #[derive(Clone, Copy, Debug, PartialEq, Eq)]
@@ -25,7 +25,8 @@ impl Size {
     }
 
     /// The size with this number of positions, if there is one.
-    pub fn of_positions(positions: u16) -> Option<Size>
+    pub fn of_positions(positions: u32) -> Option<Size>
+        ensures size { result ≡ size_numbered positions }
         ensures found { IfSome result (λ size. positions_of size ≡ positions) }
         ensures missing { IfNone result ((size : Size) → positions_of size ≢ positions) }
     {

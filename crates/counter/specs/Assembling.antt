@@ -7,12 +7,13 @@ use Rattle.cards.specs.Files.{text_of}
 use Rattle.autocoder_layout.specs.Source.{has_end, source_of}
 use Rattle.autocoder.specs.Listing.{listing_for}
 use Rattle.autocoder.specs.Programs.{IsFaultless, layout_for}
-use Rattle.autocoder.specs.Telling.{faults_of, no_memory}
-use Rattle.autocoder.specs.declared.faults.CardFault.{CardFault}
+use Rattle.autocoder_layout.specs.CardFaults.{faults_of}
+use Rattle.autocoder.specs.Faults.{no_memory}
+use Rattle.autocoder_layout.specs.declared.card_faults.CardFault.{CardFault}
 use Rattle.loader.specs.Decks.{runnable_deck}
 use Rattle.counter_tasks.specs.declared.faults.Fault.{Fault}
 use Rattle.counter_tasks.specs.declared.faults.Fault.TheVariants as fault
-use Rattle.counter_endings.specs.Endings.{Ending, IsTold, Made, assembled, faulty, hindered}
+use Rattle.counter_endings.specs.Endings.{Ending, IsPrinted, Made, assembled, faulty, hindered}
 use Rattle.counter_endings.specs.declared.showing.Assembled.{Assembled}
 use Rattle.counter_runs.specs.Runs.{IsTextFault}
 
@@ -72,4 +73,4 @@ Ends text (hindered f) = Hinders text f
 abbrev pub Assembles : List ℕ → Assembled → Option (List ℕ) → Option (List ℕ) → Option (List ℕ) →
     Option (List ℕ) → Type 0
 Assembles text answer output_old output_new errors_old errors_new = (ending : Ending)
-    × Ends text ending × IsTold ending answer output_old output_new errors_old errors_new
+    × Ends text ending × IsPrinted ending answer output_old output_new errors_old errors_new

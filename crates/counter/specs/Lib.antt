@@ -1,5 +1,5 @@
 pub use Rattle.counter_values.specs.Switches
-pub use Rattle.counter_tasks.specs.Told
+pub use Rattle.counter_tasks.specs.Printed
 pub use Rattle.counter_tasks.specs.Tasks
 pub use Rattle.counter_runs.specs.Reports
 pub use Rattle.counter_runs.specs.Runs

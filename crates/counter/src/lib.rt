@@ -14,10 +14,8 @@ mod assembling;
 
 pub use assembling::assemble_deck;
 pub use counter_endings::Assembled;
-pub use counter_runs::{
-    MOST_BYTES, MOST_INSTRUCTIONS, Report, Stand, no_deck_is_cut_off, run_deck,
-};
+pub use counter_runs::{MOST_BYTES, MOST_INSTRUCTIONS, Report, no_deck_is_cut_off, run_deck};
 pub use counter_tasks::{
-    Fault, Misuse, Source, Status, Task, show_help, show_version, task_of, tell_fault, tell_misuse,
+    Fault, Input, Misuse, Status, Task, show_help, show_version, task_of, tell_fault, tell_misuse,
 };
 pub use counter_values::{size_of, switches_of};

@@ -2,10 +2,11 @@
 use Rattle.std.specs.Prelude.{◌≡◌, ◌⊎◌, ◌++◌, ◌∷◌, [], ℕ, List, Option, Some, None, option_map, codes, decimal}
 use Rattle.std.specs.List.{flat_map}
 use Rattle.std.specs.Io.KnownBytes.{Appends, Keeps}
+use Rattle.cards.specs.Files.{line_feed}
 use Rattle.autocoder_layout.specs.Faults.{fault_number}
-use Rattle.autocoder.specs.Telling.{fault_list}
-use Rattle.autocoder.specs.declared.faults.CardFault.{CardFault}
-use Rattle.counter_tasks.specs.Told.{fault_words}
+use Rattle.autocoder.specs.Faults.{fault_list}
+use Rattle.autocoder_layout.specs.declared.card_faults.CardFault.{CardFault}
+use Rattle.counter_tasks.specs.Printed.{fault_words}
 use Rattle.counter_tasks.specs.declared.faults.Fault.{Fault}
 use Rattle.counter_tasks.specs.declared.faults.Fault.TheVariants as fault
 use Rattle.counter_tasks.specs.declared.statuses.Status.{Status}
@@ -41,7 +42,8 @@ ending_by (hindrance.Fault f) = hindered f
 -- the line for a fault of a source: the card's number and the fault's number
 abbrev pub fault_line : CardFault → List ℕ
 fault_line f =
-    codes "card " ++ decimal f.card ++ codes " fault " ++ decimal (fault_number f.fault) ++ 10 ∷ []
+    codes "card " ++ decimal f.card ++ codes " fault " ++ decimal (fault_number f.fault)
+    ++ line_feed ∷ []
 
 -- the lines for the faults of a source
 abbrev pub fault_lines : List CardFault → List ℕ
@@ -50,8 +52,8 @@ fault_lines told = flat_map fault_line told
 -- the exit status after an assembly that ended so
 abbrev pub status_of : Ending → Status
 status_of (assembled made) = status.Done
-status_of (faulty told) = status.Told
-status_of (hindered f) = status.Told
+status_of (faulty told) = status.NotDone
+status_of (hindered f) = status.NotDone
 
 -- the text for OUT, if the assembly made one
 abbrev pub out_of : Ending → Option (List ℕ)
@@ -70,7 +72,7 @@ Outputs (hindered f) old new = (f ≡ fault.Device) ⊎ Keeps old new
 abbrev pub Complains : Ending → Option (List ℕ) → Option (List ℕ) → Type 0
 Complains (assembled made) old new = Keeps old new
 Complains (faulty told) old new = Keeps old new
-Complains (hindered f) old new = Appends old new (fault_words f ++ 10 ∷ [])
+Complains (hindered f) old new = Appends old new (fault_words f ++ line_feed ∷ [])
 
 -- the bytes for OUT in an answer, if there are any
 abbrev pub out_in : Assembled → Option (List ℕ)
@@ -78,12 +80,12 @@ out_in answer = option_map (λ bytes. bytes.items) answer.out
 
 -- the answer for a fault: exit status 1, no bytes for OUT, and the fault was printed
 abbrev pub IsHindrance : Fault → Assembled → Option (List ℕ) → Option (List ℕ) → Type 0
-IsHindrance f answer old new = (answer.status ≡ status.Told) × (out_in answer ≡ None)
-    × Appends old new (fault_words f ++ 10 ∷ [])
+IsHindrance f answer old new = (answer.status ≡ status.NotDone) × (out_in answer ≡ None)
+    × Appends old new (fault_words f ++ line_feed ∷ [])
 
 -- the assembly ended so: its listing or faults were printed, and the answer has its status and
 -- bytes for OUT
-pub record IsTold (ending : Ending) (answer : Assembled)
+pub record IsPrinted (ending : Ending) (answer : Assembled)
     (output_old output_new errors_old errors_new : Option (List ℕ)) : Type 0 where
   pub status : answer.status ≡ status_of ending
   pub out : out_in answer ≡ out_of ending
@@ -94,5 +96,5 @@ pub record IsTold (ending : Ending) (answer : Assembled)
 abbrev pub IsShown : Ending → Assembled → Option (List ℕ) → Option (List ℕ) → Option (List ℕ) →
     Option (List ℕ) → Type 0
 IsShown ending answer output_old output_new errors_old errors_new =
-    IsTold ending answer output_old output_new errors_old errors_new
-    ⊎ IsTold (hindered fault.Device) answer output_old output_new errors_old errors_new
+    IsPrinted ending answer output_old output_new errors_old errors_new
+    ⊎ IsPrinted (hindered fault.Device) answer output_old output_new errors_old errors_new

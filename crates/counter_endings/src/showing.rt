@@ -4,7 +4,8 @@ ghost use Rattle.std.specs.Prelude.{◌≡◌, IfOk};
 ghost use Rattle.counter_endings.specs.Endings.{IsHindrance, IsShown, ending_by, made_by, assembled, faulty};
 
 use crate::source_faults::put_fault_lines;
-use autocoder::{CardFault, Faults};
+use autocoder::Faults;
+use autocoder_layout::CardFault;
 use counter_tasks::{Fault, Status, put_out, tell_fault};
 use std::io;
 use std::io::Write;
@@ -76,7 +77,7 @@ fn show_faults<W: Write, E: Write>(
         return hinder(errors, Fault::Device);
     }
     Ok(Assembled {
-        status: Status::Told,
+        status: Status::NotDone,
         out: None,
     })
 }

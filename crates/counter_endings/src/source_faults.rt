@@ -4,7 +4,7 @@ ghost use Rattle.std.specs.Prelude.{OnOk};
 ghost use Rattle.std.specs.Io.KnownBytes.{Appends};
 ghost use Rattle.counter_endings.specs.Endings.{fault_line, fault_lines};
 
-use autocoder::CardFault;
+use autocoder_layout::CardFault;
 use std::io;
 use std::io::Write;
 

@@ -5,7 +5,7 @@ ghost use Rattle.counter_runs.specs.Runs.{Tells};
 
 use core_store::Size;
 use counter_runs::run_deck;
-use counter_tasks::{Fault, Source, Status, tell_fault};
+use counter_tasks::{Fault, Input, Status, tell_fault};
 use std::fs::File;
 use std::io;
 use std::io::Write;
@@ -16,7 +16,7 @@ use units::Switches;
 /// can be printed.
 pub fn run_source<W: Write, E: Write>(
     rt: &HostRuntime,
-    deck: Source<'_>,
+    deck: Input<'_>,
     size: Size,
     switches: Switches,
     output: &mut W,
@@ -27,8 +27,8 @@ pub fn run_source<W: Write, E: Write>(
         (E.contents errors.old) (E.contents errors.new)) }
 {
     match deck {
-        Source::Input => run_deck(rt.alloc(), rt.stdin(), output, errors, size, switches),
-        Source::File(path) => match File::open(rt, path) {
+        Input::Standard => run_deck(rt.alloc(), rt.stdin(), output, errors, size, switches),
+        Input::File(path) => match File::open(rt, path) {
             Ok(file) => run_deck(rt.alloc(), file, output, errors, size, switches),
             Err(_) => tell_fault(errors, Fault::Device),
         },

@@ -1,6 +1,7 @@
 -- the run of a deck, and what is printed of it
 use Rattle.std.specs.Prelude.{◌≡◌, ◌⊎◌, ◌<◌, ◌++◌, ◌∷◌, [], ℕ, List, length, take, Option, Result, Ok, Err, IfSome}
 use Rattle.std.specs.Io.KnownBytes.{Appends, Keeps}
+use Rattle.cards.specs.Files.{line_feed}
 use Rattle.cards.specs.declared.Card.{Card}
 use Rattle.cards.specs.declared.CardFault.{CardFault}
 use Rattle.cards.specs.Decks.{IsDeck}
@@ -10,13 +11,14 @@ use Rattle.core_store.specs.declared.sizes.Size.{Size}
 use Rattle.units.specs.declared.switches.Switches.{Switches}
 use Rattle.units.specs.Listing.{rendered}
 use Rattle.machine.specs.Run.{State, after, lines_of, loaded}
+use Rattle.machine.specs.Standings.{standing_of}
 use Rattle.counter_tasks.specs.declared.faults.Fault.{Fault}
 use Rattle.counter_tasks.specs.declared.faults.Fault.TheVariants as fault
 use Rattle.counter_runs.specs.declared.reports.Report.{Report}
 use Rattle.counter_runs.specs.declared.running.Outcome.{Outcome}
 use Rattle.counter_tasks.specs.declared.statuses.Status.{Status}
 use Rattle.counter_tasks.specs.declared.statuses.Status.TheVariants as status
-use Rattle.counter_tasks.specs.Told.{fault_words}
+use Rattle.counter_tasks.specs.Printed.{fault_words}
 use Rattle.counter_runs.specs.Reports.{report_words, status_at}
 
 -- the most bytes that are read of a deck's text: one more than the longest such text has
@@ -36,7 +38,7 @@ abbrev pub report_of : State → Report
 report_of m = record {
   cards = length m.works.units.punch;
   lines = length (lines_of m);
-  stand = record { standing = m.standing; next = m.works.registers.i };
+  standing = standing_of m;
 }
 
 -- what a run gives: the listing of its lines, and the report
@@ -80,13 +82,13 @@ Ends text size switches (Err f) = Refuses text f
 
 -- the exit status after a run that ended so
 abbrev pub status_of : Result Shown Fault → Status
-status_of (Ok shown) = status_at shown.report.stand.standing
-status_of (Err f) = status.Told
+status_of (Ok shown) = status_at shown.report.standing
+status_of (Err f) = status.NotDone
 
 -- the line on the standard error after a run that ended so: the report, or the fault
 abbrev pub message_of : Result Shown Fault → List ℕ
-message_of (Ok shown) = report_words shown.report ++ 10 ∷ []
-message_of (Err f) = fault_words f ++ 10 ∷ []
+message_of (Ok shown) = report_words shown.report ++ line_feed ∷ []
+message_of (Err f) = fault_words f ++ line_feed ∷ []
 
 -- what is printed on the output: the listing, or after a fault nothing, unless the device that
 -- failed is the output
@@ -95,7 +97,7 @@ Outputs (Ok shown) old new = Appends old new shown.listing
 Outputs (Err f) old new = (f ≡ fault.Device) ⊎ Keeps old new
 
 -- the run ended so: this is its exit status, and its listing and message were printed
-pub record IsTold (ending : Result Shown Fault) (ended : Status)
+pub record IsPrinted (ending : Result Shown Fault) (ended : Status)
     (output_old output_new errors_old errors_new : Option (List ℕ)) : Type 0 where
   pub status : ended ≡ status_of ending
   pub output : Outputs ending output_old output_new
@@ -105,8 +107,8 @@ pub record IsTold (ending : Result Shown Fault) (ended : Status)
 abbrev pub IsShown : Shown → Status → Option (List ℕ) → Option (List ℕ) → Option (List ℕ) →
     Option (List ℕ) → Type 0
 IsShown shown ended output_old output_new errors_old errors_new =
-    IsTold (Ok shown) ended output_old output_new errors_old errors_new
-    ⊎ IsTold (Err fault.Device) ended output_old output_new errors_old errors_new
+    IsPrinted (Ok shown) ended output_old output_new errors_old errors_new
+    ⊎ IsPrinted (Err fault.Device) ended output_old output_new errors_old errors_new
 
 -- the run of the text ended in some way, and what it gave was printed
 abbrev pub Tells : List ℕ → Size → Switches → Status → Option (List ℕ) → Option (List ℕ) →
@@ -114,4 +116,4 @@ abbrev pub Tells : List ℕ → Size → Switches → Status → Option (List �
 Tells text size switches ended output_old output_new errors_old errors_new =
     (ending : Result Shown Fault)
     × Ends text size switches ending
-    × IsTold ending ended output_old output_new errors_old errors_new
+    × IsPrinted ending ended output_old output_new errors_old errors_new

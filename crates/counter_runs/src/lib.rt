@@ -10,5 +10,5 @@
 mod reports;
 mod running;
 
-pub use reports::{Report, Stand};
+pub use reports::Report;
 pub use running::{MOST_BYTES, MOST_INSTRUCTIONS, no_deck_is_cut_off, run_deck, text_in};

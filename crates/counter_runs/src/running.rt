@@ -8,7 +8,7 @@ ghost use Rattle.cards.specs.Files.{text_of};
 ghost use Rattle.cards.specs.declared.Card.{Card};
 ghost use Rattle.counter_runs.specs.Runs.{IsRunOf, IsShown, Reads, Refuses, Tells, shown_by, shown_of, most_bytes, most_instructions};
 
-use crate::reports::{Report, Stand};
+use crate::reports::Report;
 use cards::{Deck, read_text};
 use core_store::{PlaneCore, Size};
 use counter_tasks::{Fault, Status, put_out, tell_fault};
@@ -70,10 +70,7 @@ fn outcome_in(alloc: Global, machine: &Machine<PlaneCore>) -> Result<Outcome, Al
     let report = Report {
         cards: parts.units.punch.cards.len(),
         lines: parts.units.printer.lines.len(),
-        stand: Stand {
-            standing: parts.standing,
-            next: parts.registers.i,
-        },
+        standing: parts.standing_at(),
     };
     Ok(Outcome { listing, report })
 }
@@ -110,7 +107,7 @@ fn show<W: Write, E: Write>(outcome: &Outcome, output: &mut W, errors: &mut E) -
     }
     let report = outcome.report;
     writeln!(errors, "{report}")?;
-    Ok(report.stand.status())
+    Ok(report.status())
 }
 
 /// Runs the deck whose text a reader has, and returns how the program ends.

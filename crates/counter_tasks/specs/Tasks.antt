@@ -11,7 +11,7 @@ use Rattle.counter_words.specs.declared.WordsFault.TheVariants.{Memory}
 use Rattle.counter_values.specs.Switches.{text_of}
 use Rattle.counter_tasks.specs.declared.tasks.Misuse.{Misuse}
 use Rattle.counter_tasks.specs.declared.tasks.Misuse.TheVariants as misuse
-use Rattle.counter_tasks.specs.declared.tasks.Source.TheVariants.{Input, File}
+use Rattle.counter_tasks.specs.declared.tasks.Input.TheVariants.{Standard, File}
 use Rattle.counter_tasks.specs.declared.tasks.Task.{Task}
 use Rattle.counter_tasks.specs.declared.tasks.Task.TheVariants.{Apply, Assemble, Export, Help, Init, Run, Serve, Version}
 
@@ -45,7 +45,7 @@ IsNumberOf text number =
 abbrev pub Wants : List (List ℕ) → Task → Type 0
 Wants words (Help row) = IsHelp row words
 Wants words Version = IsVersion words
-Wants words (Run Input s w) = (words ≡ []) × (s ≡ Positions4000) × (text_of w ≡ codes "A")
+Wants words (Run Standard s w) = (words ≡ []) × (s ≡ Positions4000) × (text_of w ≡ codes "A")
 Wants words (Run (File path) s w) =
     HasValues name.Run (path.now ∷ decimal (positions_of s) ∷ text_of w ∷ []) words × AreSeven w
 Wants words (Assemble source out) =

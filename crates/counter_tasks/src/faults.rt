@@ -2,7 +2,7 @@
 
 ghost use Rattle.std.specs.Prelude.{◌≡◌, Some};
 ghost use Rattle.std.specs.IoError.{error_kind};
-ghost use Rattle.counter_tasks.specs.Told.{fault_words, reading_fault};
+ghost use Rattle.counter_tasks.specs.Printed.{fault_words, reading_fault};
 
 use cards::{CardError, CardFault, DeckFault};
 use std::alloc::AllocError;
@@ -65,7 +65,7 @@ impl Error for Fault {}
 
 impl From<DeckFault> for Fault {
     ghost use Rattle.std.specs.Prelude.{◌≡◌};
-    ghost use Rattle.counter_tasks.specs.Told.{fault_of_deck};
+    ghost use Rattle.counter_tasks.specs.Printed.{fault_of_deck};
 
     ghost from_gives = { λ deck_fault fault. fault ≡ fault_of_deck deck_fault };
 

@@ -3,8 +3,8 @@
 //! The crate uses `counter_words`, which finds the row that words spell, and `counter_values`,
 //! which reads the values in them. Its contracts for the layers above: the task of words is the one
 //! that they ask for, or else the misuse is what is wrong with them (`specs/Tasks.antt`); and what
-//! is printed, for a fault, for a misuse or as help, is exactly the text of `specs/Told.antt`, or
-//! the writer failed.
+//! is printed, for a fault, for a misuse or as help, is exactly the text of `specs/Printed.antt`,
+//! or the writer failed.
 #![tactic(auto)]
 
 mod faults;
@@ -15,5 +15,5 @@ mod telling;
 
 pub use faults::Fault;
 pub use statuses::Status;
-pub use tasks::{Misuse, Source, Task, task_of};
+pub use tasks::{Input, Misuse, Task, task_of};
 pub use telling::{put_out, show_help, show_version, tell_fault, tell_misuse};

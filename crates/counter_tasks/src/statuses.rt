@@ -1,7 +1,7 @@
 //! How the program ends.
 
 ghost use Rattle.std.specs.Prelude.{◌≡◌};
-ghost use Rattle.counter_tasks.specs.Told.{status_code};
+ghost use Rattle.counter_tasks.specs.Printed.{status_code};
 
 /// How the program ends. Its code is the exit status.
 #[derive(Clone, Copy, Debug, PartialEq, Eq)]
@@ -9,7 +9,7 @@ pub enum Status {
     /// Everything was done, and a machine that ran is at a halt.
     Done,
     /// A fault or a refusal was printed, or a machine that ran is not at a halt.
-    Told,
+    NotDone,
     /// The words do not ask for a task.
     Misused,
     /// The bureau's file could not be used.
@@ -23,7 +23,7 @@ impl Status {
     {
         match self {
             Status::Done => 0,
-            Status::Told => 1,
+            Status::NotDone => 1,
             Status::Misused => 2,
             Status::Unusable => 3,
         }

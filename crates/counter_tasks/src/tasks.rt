@@ -5,7 +5,7 @@ ghost use Rattle.counter_words.specs.Asked.{IsHelp, IsVersion};
 ghost use Rattle.counter_words.specs.Plain.{texts};
 ghost use Rattle.counter_words.specs.declared.RowName.{RowName};
 ghost use Rattle.counter_words.specs.declared.WordsFault.TheVariants.{Memory};
-ghost use Rattle.counter_tasks.specs.Told.{asks_for_help, is_want_of_memory};
+ghost use Rattle.counter_tasks.specs.Printed.{asks_for_help, is_want_of_memory};
 ghost use Rattle.counter_tasks.specs.Tasks.{IsMisuse, IsServeMisuse, IsValueMisuse, Wants, WantsRun, WantsServe};
 ghost use Rattle.counter_tasks.specs.declared.tasks.Task.{Task};
 
@@ -22,9 +22,9 @@ use units::Switches;
 
 /// Where a deck's text is read from.
 #[derive(Clone, Copy, Debug, PartialEq, Eq)]
-pub enum Source<'a> {
+pub enum Input<'a> {
     /// The standard input.
-    Input,
+    Standard,
     /// The file at a path.
     File(&'a str),
 }
@@ -38,7 +38,7 @@ pub enum Task<'a> {
     Version,
     /// Run a deck without a bureau.
     Run {
-        deck: Source<'a>,
+        deck: Input<'a>,
         size: Size,
         switches: Switches,
     },
@@ -119,7 +119,7 @@ impl<'a> Misuse<'a> {
 
 impl<'a> Display for Misuse<'a> {
     ghost use Rattle.std.specs.Prelude.{Some};
-    ghost use Rattle.counter_tasks.specs.Told.{misuse_words};
+    ghost use Rattle.counter_tasks.specs.Printed.{misuse_words};
 
     ghost output = { λ misuse. Some (misuse_words misuse) };
 
@@ -140,7 +140,7 @@ impl<'a> Display for Misuse<'a> {
 impl<'a> Error for Misuse<'a> {}
 
 impl<'a> From<AllocError> for Misuse<'a> {
-    ghost use Rattle.counter_tasks.specs.Told.{want_of_memory};
+    ghost use Rattle.counter_tasks.specs.Printed.{want_of_memory};
 
     ghost from_gives = { λ _ misuse. misuse ≡ want_of_memory };
 
@@ -152,7 +152,7 @@ impl<'a> From<AllocError> for Misuse<'a> {
 /// The misuse of a process whose words cannot be read.
 impl<'a> From<io::Error> for Misuse<'a> {
     ghost use Rattle.std.specs.IoError.{error_kind};
-    ghost use Rattle.counter_tasks.specs.Told.{misuse_of};
+    ghost use Rattle.counter_tasks.specs.Printed.{misuse_of};
 
     ghost from_gives = { λ error misuse. misuse ≡ misuse_of (error_kind error) };
 
@@ -178,7 +178,7 @@ fn run_task<'a>(deck: &'a str, size: &str, switches: &str) -> Result<Task<'a>, M
         return Err(Misuse::Switches);
     };
     Ok(Task::Run {
-        deck: Source::File(deck),
+        deck: Input::File(deck),
         size,
         switches,
     })
@@ -215,7 +215,7 @@ pub fn task_of<'a>(alloc: Global, words: &'a [String]) -> Result<Task<'a>, Misus
         Ok(Words::Help(row)) => Ok(Task::Help(row)),
         Ok(Words::Version) => Ok(Task::Version),
         Ok(Words::Standard) => Ok(Task::Run {
-            deck: Source::Input,
+            deck: Input::Standard,
             size: Size::Positions4000,
             switches: Switches::A,
         }),

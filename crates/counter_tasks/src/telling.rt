@@ -3,7 +3,7 @@
 ghost use Rattle.std.specs.Prelude.{◌≡◌, ◌∷◌, [], ◌++◌, IfOk, OnOk};
 ghost use Rattle.std.specs.Io.KnownBytes.{Appends};
 ghost use Rattle.counter_words.specs.Asked.{page_of};
-ghost use Rattle.counter_tasks.specs.Told.{IsTextShown, fault_words, misuse_message, misuse_status};
+ghost use Rattle.counter_tasks.specs.Printed.{IsTextShown, fault_words, misuse_message, misuse_status};
 
 use crate::faults::Fault;
 use crate::statuses::Status;
@@ -22,11 +22,11 @@ pub fn put_out<W: Write>(output: &mut W, bytes: &[u8]) -> io::Result<()>
 
 /// Prints a fault. An error is the writer's.
 pub fn tell_fault<E: Write>(errors: &mut E, fault: Fault) -> io::Result<Status>
-    ensures { IfOk result (λ status. (status ≡ Status.Told)
+    ensures { IfOk result (λ status. (status ≡ Status.NotDone)
         × Appends (E.contents errors.old) (E.contents errors.new) (fault_words fault ++ 10 ∷ [])) }
 {
     writeln!(errors, "{fault}")?;
-    Ok(Status::Told)
+    Ok(Status::NotDone)
 }
 
 /// Prints what is wrong with the words, and the usage line; or, if they ask for help without

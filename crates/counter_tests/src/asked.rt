@@ -104,7 +104,7 @@ fn asked_by(alloc: Global, line: &str) -> Result<String, Fail> {
 /// Lines after what their words ask for: tasks, invalid sizes and switches, and words that are not
 /// read.
 const TASKS: &str = "\
-Ok(Run { deck: Input, size: Positions4000, switches: Switches(1) })|
+Ok(Run { deck: Standard, size: Positions4000, switches: Switches(1) })|
 Ok(Run { deck: File(\"D\"), size: Positions1400, switches: Switches(0) })|run D 1400 -
 Ok(Run { deck: File(\"-\"), size: Positions2000, switches: Switches(127) })|run - 2000 ABCDEFG
 Ok(Assemble { source: \"S\", out: \"-\" })|assemble S -

@@ -56,7 +56,7 @@ fn tells(alloc: Global, text: &[u8], output: &str, errors: &str) -> Result<bool,
     let is_none = written.answer.out.is_none();
     let is_put = written.output.as_slice() == output.as_bytes();
     let is_told = written.errors.as_slice() == errors.as_bytes();
-    Ok(written.answer.status == Status::Told && is_none && is_put && is_told)
+    Ok(written.answer.status == Status::NotDone && is_none && is_put && is_told)
 }
 
 /// Cards of three faults.
@@ -110,7 +110,7 @@ fn written_of_torn(alloc: Global) -> Result<(Vec<u8>, Vec<u8>), Fail> {
     let mut output = Vec::new(alloc);
     let mut errors = Vec::new(alloc);
     let answer = assemble_deck(alloc, Torn::unread(), &mut output, &mut errors)?;
-    if answer.status == Status::Told && answer.out.is_none() {
+    if answer.status == Status::NotDone && answer.out.is_none() {
         Ok((output, errors))
     } else {
         Err("another status, or a deck".into())
@@ -134,7 +134,7 @@ fn output_fails(alloc: Global, text: &[u8], room: usize) -> Result<bool, Fail> {
     let mut errors = Vec::new(alloc);
     let answer = assemble_deck(alloc, text, &mut Full { room }, &mut errors)?;
     let is_told = errors.as_slice() == b"fault device\n".as_slice();
-    Ok(answer.status == Status::Told && answer.out.is_none() && is_told)
+    Ok(answer.status == Status::NotDone && answer.out.is_none() && is_told)
 }
 
 #[test]
@@ -157,7 +157,7 @@ fn flush_fails(alloc: Global, text: &[u8]) -> Result<bool, Fail> {
     let mut errors = Vec::new(alloc);
     let answer = assemble_deck(alloc, text, &mut Unflushed::empty(), &mut errors)?;
     let is_told = errors.as_slice() == b"fault device\n".as_slice();
-    Ok(answer.status == Status::Told && answer.out.is_none() && is_told)
+    Ok(answer.status == Status::NotDone && answer.out.is_none() && is_told)
 }
 
 #[test]

@@ -35,19 +35,19 @@ fn a_run_puts_its_listing_out_and_tells_how_it_stands(rt: HostRuntime) -> Result
     assert!(rt; runs_as(alloc, &text, large, Status::Done, lines, halted)?);
     let empty = "cards 0 lines 0 check READER EMPTY at 342\n";
     let loading = text.get(..4 * 81).ok_or("four cards")?;
-    assert!(rt; runs_as(alloc, loading, large, Status::Told, "", empty)?);
+    assert!(rt; runs_as(alloc, loading, large, Status::NotDone, "", empty)?);
     let running = "cards 0 lines 0 running\n";
     let text = text_of(alloc, ",008012B008")?;
-    assert!(rt; runs_as(alloc, &text, large, Status::Told, "", running)?);
+    assert!(rt; runs_as(alloc, &text, large, Status::NotDone, "", running)?);
     let checked = "cards 0 lines 0 check ADDRESS at 8\n";
     let text = text_of(alloc, ",008015L000200")?;
-    assert!(rt; runs_as(alloc, &text, small, Status::Told, "", checked)?);
+    assert!(rt; runs_as(alloc, &text, small, Status::NotDone, "", checked)?);
     Ok(())
 }
 
 /// Whether a run of the deck of this text writes this fault and nothing else.
 fn tells(alloc: Global, text: &[u8], fault: &str) -> Result<bool, Fail> {
-    runs_as(alloc, text, Size::Positions4000, Status::Told, "", fault)
+    runs_as(alloc, text, Size::Positions4000, Status::NotDone, "", fault)
 }
 
 #[test]
@@ -75,7 +75,7 @@ fn output_fails(alloc: Global, text: &[u8], room: usize) -> Result<bool, Fail> {
     let mut told = Vec::new(alloc);
     let status = run_deck(alloc, text, &mut Full { room }, &mut told, size, switches)?;
     let is_told = told.as_slice() == b"fault device\n".as_slice();
-    Ok(status == Status::Told && is_told)
+    Ok(status == Status::NotDone && is_told)
 }
 
 /// Whether a run whose second writer takes only `room` bytes fails.
@@ -91,7 +91,7 @@ fn written_of_torn(alloc: Global) -> Result<(Vec<u8>, Vec<u8>), Fail> {
     let mut out = Vec::new(alloc);
     let mut told = Vec::new(alloc);
     match run_deck(alloc, Torn::unread(), &mut out, &mut told, size, switches)? {
-        Status::Told => Ok((out, told)),
+        Status::NotDone => Ok((out, told)),
         _ => Err("another status".into()),
     }
 }
@@ -118,7 +118,7 @@ fn a_listing_that_is_not_flushed_is_a_fault(rt: HostRuntime) -> Result<(), Fail>
     let mut out = Unflushed::empty();
     let mut told = Vec::new(alloc);
     let status = run_deck(alloc, text.as_slice(), &mut out, &mut told, size, switches)?;
-    assert!(rt; status == Status::Told);
+    assert!(rt; status == Status::NotDone);
     assert!(rt; told.as_slice() == b"fault device\n".as_slice());
     Ok(())
 }

@@ -5,7 +5,7 @@ ghost use Rattle.core_store.specs.Storage.{positions_of};
 ghost use Rattle.core_store.specs.declared.sizes.Size.{Size};
 
 use crate::numbers::number_of;
-use core_store::{LARGEST_SIZE, Size};
+use core_store::Size;
 
 /// The size whose number of positions the text spells in plain decimal, if there is one.
 pub fn size_of(text: &str) -> Option<Size>
@@ -15,8 +15,5 @@ pub fn size_of(text: &str) -> Option<Size>
     let Some(number) = number_of(text) else {
         return None;
     };
-    if number > LARGEST_SIZE as u32 {
-        return None;
-    }
-    Size::of_positions(number as u16)
+    Size::of_positions(number)
 }

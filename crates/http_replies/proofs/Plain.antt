@@ -10,11 +10,13 @@ use Rattle.std.proofs.lemmas.Grind.{flat_map-append}
 use Rattle.std.proofs.lemmas.Slice.Eq.{bytes_eq-Decides}
 use Rattle.json.specs.Print.{escape, escape_byte}
 use Rattle.bcd.proofs.Tables.{at_each}
-use Rattle.core_store.specs.declared.registers.Check.{Check}
-use Rattle.core_store.specs.declared.registers.Check.TheVariants as check
-use Rattle.office.specs.declared.standings.JobStanding.{JobStanding}
-use Rattle.office.specs.declared.standings.JobStanding.TheVariants as standing
-use Rattle.http_replies.specs.Bodies.{check_words, queued_text, standing_words}
+use Rattle.core_store.specs.declared.checks.Check.{Check}
+use Rattle.core_store.specs.declared.checks.Check.TheVariants as check
+use Rattle.machine.specs.declared.standings.StandingAt.{StandingAt}
+use Rattle.machine.specs.declared.standings.StandingAt.TheVariants as standing
+use Rattle.core_store.specs.Checks.{check_name}
+use Rattle.machine.specs.Standings.{standing_words}
+use Rattle.http_replies.specs.Bodies.{queued_text}
 
 abbrev pub IsPlain : List ℕ → Type 0
 IsPlain text = escape text ≡ text
@@ -45,7 +47,7 @@ decimal_plain : (n : ℕ) → IsPlain (decimal n)
 unfolding digits
 decimal_plain n = digits_plain 64 n [] refl
 
-check_plain : (kind : Check) → IsPlain (check_words kind)
+check_plain : (kind : Check) → IsPlain (check_name kind)
 unfolding escape_byte
 check_plain check.Address = refl
 check_plain check.Instruction = refl
@@ -72,12 +74,12 @@ unfolding escape_byte
 at_plain = refl
 
 -- the words of a standing are not escaped
-pub standing_plain : (s : JobStanding) → IsPlain (standing_words s)
+pub standing_plain : (s : StandingAt) → IsPlain (standing_words s)
 standing_plain standing.Running = running_plain
 standing_plain (standing.Halted next) = joined_plain _ (decimal next) halted_plain (decimal_plain next)
 standing_plain (standing.Checked kind at) =
     joined_plain _ (decimal at)
-    (joined_plain _ (codes " at ") (joined_plain (codes "check ") (check_words kind) checked_plain (check_plain kind)) at_plain)
+    (joined_plain _ (codes " at ") (joined_plain (codes "check ") (check_name kind) checked_plain (check_plain kind)) at_plain)
     (decimal_plain at)
 
 -- ---- a customer's name

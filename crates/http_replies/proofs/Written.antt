@@ -2,7 +2,7 @@
 use Rattle.std.proofs.Common.{◌≡◌, ◌≢◌, ◌∙◌, ℕ, List, [], ◌∷◌, ◌++◌, ◌||◌, Bool, true, false, codes, decimal, map, refl, sym, ap, append_assoc}
 use Rattle.std.specs.Fmt.{digits}
 use Rattle.std.specs.List.{join_with_byte}
-use Rattle.autocoder.specs.declared.faults.CardFault.{CardFault}
+use Rattle.autocoder_layout.specs.declared.card_faults.CardFault.{CardFault}
 use Rattle.cards.specs.declared.faults.CardFault as deck
 use Rattle.json.specs.Print.{escape}
 use Rattle.office.specs.Queued.{QueuedJob}
@@ -11,13 +11,14 @@ use Rattle.office.specs.Numbers.{refusal_number}
 use Rattle.office.specs.declared.refusals.Refusal.{Refusal}
 use Rattle.office.specs.declared.refusals.Refusal.TheVariants as refusal
 use Rattle.office.specs.declared.replies.Reply.TheVariants as reply
-use Rattle.office.specs.declared.standings.JobStanding.{JobStanding}
-use Rattle.office.specs.declared.standings.Summary.{Summary}
+use Rattle.machine.specs.declared.standings.StandingAt.{StandingAt}
+use Rattle.office.specs.declared.summaries.Summary.{Summary}
 use Rattle.serde_json.specs.Data.{Data}
 use Rattle.serde_json.specs.View.{items_of}
 use Rattle.serde_json.specs.Written.{compact_text, has_float, items_have_float, items_text}
 use Rattle.serde_json.proofs.OnLiterals.{serde_json_on_literals}
-use Rattle.http_replies.specs.Bodies.{body_of, deck_fault_body, fault_text, job_text, listed, queued_text, refusal_body, standing_words, summary_body, truth}
+use Rattle.machine.specs.Standings.{standing_words}
+use Rattle.http_replies.specs.Bodies.{body_of, deck_fault_body, fault_text, job_text, listed, queued_text, refusal_body, summary_body, truth}
 use Rattle.http_replies.specs.Values.{reply_data, taken_data, ran_data, collected_data, summary_data, job_data, queued_data, fault_data, jobs_data, queue_data, faults_data, refusal_data, deck_fault_data}
 use Rattle.http_replies.proofs.Plain.{standing_plain}
 
@@ -59,19 +60,19 @@ deck_fault_text : (f : deck.CardFault) → IsText (deck_fault_data f) (deck_faul
 unfolding serde_json_on_literals
 deck_fault_text f = (refl, simp append_assoc)
 
-ran_text_of : (executed : ℕ) (s : JobStanding) → compact_text (ran_data executed s)
+ran_text_of : (executed : ℕ) (s : StandingAt) → compact_text (ran_data executed s)
     ≡ codes "{\"executed\":" ++ decimal executed ++ codes ",\"reply\":\"ran\",\"standing\":\"" ++ escape (standing_words s) ++ codes "\"}"
 unfolding serde_json_on_literals
 ran_text_of executed s = simp append_assoc
 
-ran_text : (executed : ℕ) (s : JobStanding) → IsText (ran_data executed s) (body_of (reply.Ran executed s))
+ran_text : (executed : ℕ) (s : StandingAt) → IsText (ran_data executed s) (body_of (reply.Ran executed s))
 ran_text executed s = (
   refl,
   ran_text_of executed s
       ∙ ap (λ (w : List ℕ). codes "{\"executed\":" ++ decimal executed ++ codes ",\"reply\":\"ran\",\"standing\":\"" ++ w ++ codes "\"}") (standing_plain s),
 )
 
-summary_text_of : (cards granted lines : ℕ) (collected held : Bool) (s : JobStanding)
+summary_text_of : (cards granted lines : ℕ) (collected held : Bool) (s : StandingAt)
     → compact_text (summary_data (record { standing = s; held = held; collected = collected; granted = granted; cards = cards; lines = lines }))
     ≡ codes "{\"cards\":" ++ decimal cards ++ codes ",\"collected\":" ++ truth collected ++ codes ",\"granted\":" ++ decimal granted
     ++ codes ",\"held\":" ++ truth held ++ codes ",\"lines\":" ++ decimal lines
@@ -93,7 +94,7 @@ summary_text job = (
 
 -- ---- with lists
 
-job_row_of : (number : ℕ) (collected held : Bool) (s : JobStanding)
+job_row_of : (number : ℕ) (collected held : Bool) (s : StandingAt)
     → compact_text (job_data (record { number = number; held = held; collected = collected; standing = s }))
     ≡ codes "{\"collected\":" ++ truth collected ++ codes ",\"held\":" ++ truth held ++ codes ",\"number\":" ++ decimal number
     ++ codes ",\"standing\":\"" ++ escape (standing_words s) ++ codes "\"}"
@@ -165,7 +166,7 @@ faults_text faults = (
 pub taken_is : (d : Data) (cards : ℕ) (written : List ℕ) → d ≡ taken_data cards → (has_float d ≡ false → written ≡ compact_text d) → written ≡ body_of (reply.Taken cards)
 taken_is d cards written same found = by_text d _ written _ (taken_text cards) same found
 
-pub ran_is : (d : Data) (executed : ℕ) (s : JobStanding) (written : List ℕ) → d ≡ ran_data executed s → (has_float d ≡ false → written ≡ compact_text d) → written ≡ body_of (reply.Ran executed s)
+pub ran_is : (d : Data) (executed : ℕ) (s : StandingAt) (written : List ℕ) → d ≡ ran_data executed s → (has_float d ≡ false → written ≡ compact_text d) → written ≡ body_of (reply.Ran executed s)
 ran_is d executed s written same found = by_text d _ written _ (ran_text executed s) same found
 
 pub started_is : (d : Data) (written : List ℕ) → d ≡ reply_data (codes "started") → (has_float d ≡ false → written ≡ compact_text d) → written ≡ body_of reply.Started

@@ -1,15 +1,14 @@
 -- the bodies of replies
 use Rattle.std.specs.Prelude.{ℕ, List, ◌++◌, Bool, if◌then◌else◌, codes, decimal, map}
 use Rattle.std.specs.List.{join_with_byte}
-use Rattle.autocoder.specs.declared.faults.CardFault.{CardFault}
+use Rattle.autocoder_layout.specs.declared.card_faults.CardFault.{CardFault}
 use Rattle.bcd.specs.Table.{byte}
 use Rattle.cards.specs.Files.{punch_file_of}
 use Rattle.cards.specs.Numbers.{card_error_number}
 use Rattle.cards.specs.declared.faults.CardFault as deck
-use Rattle.core_store.specs.declared.registers.Check.{Check}
-use Rattle.core_store.specs.declared.registers.Check.TheVariants as check
 use Rattle.json.specs.Print.{quoted}
 use Rattle.autocoder_layout.specs.Faults.{fault_number}
+use Rattle.machine.specs.Standings.{standing_words}
 use Rattle.office.specs.Numbers.{refusal_number}
 use Rattle.office.specs.Queued.{QueuedJob}
 use Rattle.office.specs.declared.lists.JobLine.{JobLine}
@@ -17,28 +16,8 @@ use Rattle.office.specs.declared.refusals.Refusal.{Refusal}
 use Rattle.office.specs.declared.refusals.Refusal.TheVariants as refusal
 use Rattle.office.specs.declared.replies.Reply.{Reply}
 use Rattle.office.specs.declared.replies.Reply.TheVariants as reply
-use Rattle.office.specs.declared.standings.JobStanding.{JobStanding}
-use Rattle.office.specs.declared.standings.JobStanding.TheVariants as standing
-use Rattle.office.specs.declared.standings.Summary.{Summary}
+use Rattle.office.specs.declared.summaries.Summary.{Summary}
 use Rattle.units.specs.Listing.{rendered}
-
--- the name of a check, as replies print it
-abbrev pub check_words : Check → List ℕ
-check_words check.Address = codes "ADDRESS"
-check_words check.Instruction = codes "INSTRUCTION"
-check_words check.Data = codes "DATA"
-check_words check.Overlap = codes "OVERLAP"
-check_words check.ReaderEmpty = codes "READER EMPTY"
-check_words check.PunchFull = codes "PUNCH FULL"
-check_words check.PrinterFull = codes "PRINTER FULL"
-
--- the standing of a job, as replies print it: at a halt with the next position, at a check with its
--- name and position
-abbrev pub standing_words : JobStanding → List ℕ
-standing_words standing.Running = codes "running"
-standing_words (standing.Halted next) = codes "halted next " ++ decimal next
-standing_words (standing.Checked check at) =
-    codes "check " ++ check_words check ++ codes " at " ++ decimal at
 
 -- a truth value in JSON
 abbrev pub truth : Bool → List ℕ

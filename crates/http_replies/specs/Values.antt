@@ -1,16 +1,16 @@
 -- the bodies of replies as JSON, with the members of each object by their names
 use Rattle.std.specs.Prelude.{ℕ, List, Bool, codes}
-use Rattle.autocoder.specs.declared.faults.CardFault.{CardFault}
+use Rattle.autocoder_layout.specs.declared.card_faults.CardFault.{CardFault}
 use Rattle.cards.specs.Numbers.{card_error_number}
 use Rattle.cards.specs.declared.faults.CardFault as deck
 use Rattle.autocoder_layout.specs.Faults.{fault_number}
 use Rattle.office.specs.Queued.{QueuedJob}
 use Rattle.office.specs.declared.lists.JobLine.{JobLine}
-use Rattle.office.specs.declared.standings.JobStanding.{JobStanding}
-use Rattle.office.specs.declared.standings.Summary.{Summary}
+use Rattle.machine.specs.declared.standings.StandingAt.{StandingAt}
+use Rattle.office.specs.declared.summaries.Summary.{Summary}
 use Rattle.serde_json.specs.Data.{Data, boolean, string, number, unsigned, object, Members, member, no_members, array}
 use Rattle.serde_json.specs.View.{items_of}
-use Rattle.http_replies.specs.Bodies.{standing_words}
+use Rattle.machine.specs.Standings.{standing_words}
 
 -- the members of an object with a number as the first
 abbrev pub count : List ℕ → ℕ → Members → Members
@@ -38,7 +38,7 @@ taken_data cards =
     object (count (codes "cards") cards (text (codes "reply") (codes "taken") no_members))
 
 -- the JSON object of `ran`: how many instructions were executed, and the job's standing
-abbrev pub ran_data : ℕ → JobStanding → Data
+abbrev pub ran_data : ℕ → StandingAt → Data
 ran_data executed standing =
     object (count (codes "executed") executed
     (text (codes "reply") (codes "ran")

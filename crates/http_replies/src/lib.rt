@@ -18,7 +18,6 @@ mod laws;
 mod lists;
 mod replies;
 mod sending;
-mod standings;
 mod values;
 
 pub use fixed::{Fault, refused};

@@ -4,8 +4,7 @@ ghost use Rattle.std.specs.Prelude.{◌≡◌, IfOk, map};
 ghost use Rattle.serde_json.specs.View.{view};
 ghost use Rattle.http_replies.specs.Values.{fault_data, faults_data, job_data, jobs_data, queue_data, queued_data};
 
-use crate::standings::standing_words;
-use autocoder::CardFault;
+use autocoder_layout::CardFault;
 use office::{JobLine, JobList, QueueLine, QueueList, SourceFaults};
 use serde_json::{Value, json};
 use std::alloc::{AllocError, Global};
@@ -14,7 +13,8 @@ use std::alloc::{AllocError, Global};
 fn job(alloc: Global, job: &JobLine) -> Result<Value, AllocError>
     ensures { IfOk result (λ value. view value ≡ job_data job.now) }
 {
-    let words = standing_words(alloc, job.standing)?;
+    let standing = job.standing;
+    let words = format!(in alloc; "{standing}")?;
     json!(in alloc; {
         "collected": job.collected,
         "held": job.held,

@@ -5,9 +5,9 @@ ghost use Rattle.serde_json.specs.View.{view};
 ghost use Rattle.serde_json.specs.Written.{compact_text, has_float};
 ghost use Rattle.http_replies.specs.Values.{collected_data, deck_fault_data, ran_data, refusal_data, reply_data, summary_data, taken_data};
 
-use crate::standings::standing_words;
 use cards::CardFault;
-use office::{JobStanding, Summary};
+use machine::StandingAt;
+use office::Summary;
 use serde_json::{Value, json};
 use std::alloc::{AllocError, Global};
 
@@ -34,10 +34,10 @@ pub(crate) fn taken(alloc: Global, cards: u32) -> Result<Value, AllocError>
 }
 
 /// The value for a job that ran.
-pub(crate) fn ran(alloc: Global, executed: u32, standing: JobStanding) -> Result<Value, AllocError>
+pub(crate) fn ran(alloc: Global, executed: u32, standing: StandingAt) -> Result<Value, AllocError>
     ensures { IfOk result (λ value. view value ≡ ran_data executed standing) }
 {
-    let words = standing_words(alloc, standing)?;
+    let words = format!(in alloc; "{standing}")?;
     json!(in alloc; {"executed": executed, "reply": "ran", "standing": words})
 }
 
@@ -52,7 +52,8 @@ pub(crate) fn collected(alloc: Global, cards: u32, lines: u32) -> Result<Value, 
 pub(crate) fn summary(alloc: Global, job: &Summary) -> Result<Value, AllocError>
     ensures { IfOk result (λ value. view value ≡ summary_data job.now) }
 {
-    let words = standing_words(alloc, job.standing)?;
+    let standing = job.standing;
+    let words = format!(in alloc; "{standing}")?;
     json!(in alloc; {
         "cards": job.cards,
         "collected": job.collected,

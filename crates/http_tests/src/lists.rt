@@ -4,7 +4,8 @@ use crate::answers::is_answered;
 use bcd::Code;
 use cards::{Card, read_text};
 use core_store::Check;
-use office::{JobLine, JobList, JobStanding, Listing, PunchedCards, QueueLine, QueueList, Reply};
+use machine::StandingAt;
+use office::{JobLine, JobList, Listing, PunchedCards, QueueLine, QueueList, Reply};
 use std::alloc::Global;
 use std::test::Fail;
 use units::Line;
@@ -15,19 +16,19 @@ const JOBS: [JobLine; 3] = [
         number: 1,
         held: false,
         collected: false,
-        standing: JobStanding::Running,
+        standing: StandingAt::Running,
     },
     JobLine {
         number: 20,
         held: true,
         collected: false,
-        standing: JobStanding::Halted { next: 1 },
+        standing: StandingAt::Halted { next: 1 },
     },
     JobLine {
         number: 999_999,
         held: false,
         collected: true,
-        standing: JobStanding::Checked {
+        standing: StandingAt::Checked {
             check: Check::ReaderEmpty,
             at: 0,
         },

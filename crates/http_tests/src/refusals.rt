@@ -1,8 +1,7 @@
 //! Refusals, faults of decks, and answers that are fixed.
 
 use crate::answers::{answer_of, is_answered};
-use autocoder::CardFault;
-use autocoder_layout::SourceFault;
+use autocoder_layout::{CardFault, SourceFault};
 use autocoder_statements::StatementFault;
 use cards::read_text;
 use http_replies::{Fault, deck_fault, refused};

@@ -3,13 +3,14 @@
 use crate::answers::is_answered;
 use core_store::Check;
 use http_replies::reply_to;
-use office::{JobStanding, Refusal, Reply, Summary};
+use machine::StandingAt;
+use office::{Refusal, Reply, Summary};
 use std::test::Fail;
 
 /// A running job that has printed two lines.
 fn two_lines() -> Summary {
     Summary {
-        standing: JobStanding::Running,
+        standing: StandingAt::Running,
         held: false,
         collected: false,
         granted: 34,
@@ -21,7 +22,7 @@ fn two_lines() -> Summary {
 /// A job with a different value in every field.
 fn three_cards() -> Summary {
     Summary {
-        standing: JobStanding::Halted { next: 345 },
+        standing: StandingAt::Halted { next: 345 },
         held: true,
         collected: true,
         granted: 1_000_000_000,
@@ -31,8 +32,8 @@ fn three_cards() -> Summary {
 }
 
 /// The standing of a checked machine.
-fn checked(check: Check) -> JobStanding {
-    JobStanding::Checked { check, at: 351 }
+fn checked(check: Check) -> StandingAt {
+    StandingAt::Checked { check, at: 351 }
 }
 
 /// A reply without a list, named by a word.
@@ -41,7 +42,7 @@ fn reply_of(word: &str) -> Reply {
         "taken" => Reply::Taken { cards: 6 },
         "ran" => Reply::Ran {
             executed: 34,
-            standing: JobStanding::Running,
+            standing: StandingAt::Running,
         },
         "started" => Reply::Started,
         "held" => Reply::Held,
@@ -97,7 +98,7 @@ fn replies_have_their_words(rt: HostRuntime) -> Result<(), Fail> {
 #[test]
 fn halts_and_checks_have_their_words(rt: HostRuntime) -> Result<(), Fail> {
     for (standing, length, words) in [
-        (JobStanding::Halted { next: 15999 }, 59, "halted next 15999"),
+        (StandingAt::Halted { next: 15999 }, 59, "halted next 15999"),
         (checked(Check::Address), 62, "check ADDRESS at 351"),
         (checked(Check::Instruction), 66, "check INSTRUCTION at 351"),
         (checked(Check::Data), 59, "check DATA at 351"),

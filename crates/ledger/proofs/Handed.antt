@@ -17,7 +17,8 @@ use Rattle.core_store.specs.declared.sizes.Size.TheVariants.{Positions1400, Posi
 use Rattle.machine.specs.Run.{State, after, lines_of}
 use Rattle.office.specs.Jobs.{Job, loaded_deck, picture, resumed, IsJob}
 use Rattle.office.specs.Kept.{Kept, kept_of}
-use Rattle.office.specs.New.{size_numbered, deck_refusal, new_job, job_unless_refused, job_of_size, job_or_refusal}
+use Rattle.core_store.specs.Storage.{size_numbered}
+use Rattle.office.specs.New.{deck_refusal, new_job, job_unless_refused, job_of_size, job_or_refusal}
 use Rattle.office.specs.Office.{Entry, Office, is_entry, job_of, and_job}
 use Rattle.office.specs.declared.commands.Contents.{Contents}
 use Rattle.office.specs.declared.refusals.Refusal.{Refusal}

@@ -5,9 +5,9 @@ use Rattle.std.specs.Ordering.{is_gt}
 use Rattle.std.proofs.lemmas.List.{map-append}
 use Rattle.std.proofs.lemmas.Slice.Eq.{bytes_eq-Decides}
 use Rattle.machine.specs.Run.{is_running}
-use Rattle.machine.specs.declared.parts.Standing.{Standing}
-use Rattle.machine.specs.declared.parts.Standing.TheVariants as standing
-use Rattle.office.specs.Kept.{told_at, goes_on}
+use Rattle.machine.specs.declared.standings.Standing.{Standing}
+use Rattle.machine.specs.declared.standings.Standing.TheVariants as standing
+use Rattle.machine.specs.Standings.{standing_at, goes_on}
 use Rattle.office.specs.Office.{Entry, Office, is_entry, job_of, own, free_jobs, by_number, by_name, queued_job, runs}
 use Rattle.office.specs.Orders.{put_among, in_order}
 use Rattle.office.specs.Queued.{QueuedJob}
@@ -151,7 +151,7 @@ passed_on {X = X} f test xs more x is =
 
 -- ---- how a machine stands
 
-pub running_goes_on : (at : Standing) (i : ℕ) → goes_on (told_at at i) ≡ is_running at
+pub running_goes_on : (at : Standing) (i : ℕ) → goes_on (standing_at at i) ≡ is_running at
 running_goes_on standing.Running i = refl
 running_goes_on standing.Halted i = refl
 running_goes_on (standing.Checked check) i = refl

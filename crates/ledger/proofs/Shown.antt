@@ -1,13 +1,14 @@
 -- What is shown of a job, and commands that need no more.
 use Rattle.std.proofs.Common.{◌≡◌, ◌≤◌, ◌-◌, ◌^◌, ℕ, min, Bool, Option, None, Some, refl, ap, arith}
 use Rattle.office.specs.Jobs.{Job, granted, picture, IsJob}
-use Rattle.office.specs.Kept.{Kept, kept_of, told, summary_of, job_refusal, answered, attempts_unless, attempted_on, taken_unless, take_kept}
+use Rattle.machine.specs.Standings.{standing_of}
+use Rattle.office.specs.Kept.{Kept, kept_of, summary_of, job_refusal, answered, attempts_unless, attempted_on, taken_unless, take_kept}
 use Rattle.office.specs.Limits.{most_granted}
 use Rattle.office.specs.Office.{attempted_of}
 use Rattle.office.specs.declared.commands.JobCommand.{JobCommand}
 use Rattle.office.specs.declared.refusals.Refusal.{Refusal}
-use Rattle.office.specs.declared.standings.JobStanding.{JobStanding}
-use Rattle.office.specs.declared.standings.Summary.{Summary}
+use Rattle.machine.specs.declared.standings.StandingAt.{StandingAt}
+use Rattle.office.specs.declared.summaries.Summary.{Summary}
 use Rattle.ledger_rows.specs.Progress.{progress_of}
 use Rattle.ledger.specs.Light.{command_of}
 use Rattle.ledger.specs.Saving.{flagged_job}
@@ -18,7 +19,7 @@ use Rattle.ledger.specs.declared.light_commands.LightCommand.TheVariants.{Hold, 
 pub granted_fits : (job : Job) (n : ℕ) → granted job.stretches ≤ most_granted → n ≡ min (granted job.stretches) (2 ^ 32 - 1) → n ≡ granted job.stretches
 granted_fits job n fits is = omega (arith, fits, is)
 
-pub summary_is : (standing : JobStanding) (held collected : Bool) (granted_to cards lines : ℕ) (job : Job) → standing ≡ told (picture job) → held ≡ job.held → collected ≡ job.collected → granted_to ≡ granted job.stretches
+pub summary_is : (standing : StandingAt) (held collected : Bool) (granted_to cards lines : ℕ) (job : Job) → standing ≡ standing_of (picture job) → held ≡ job.held → collected ≡ job.collected → granted_to ≡ granted job.stretches
     → cards ≡ (progress_of (picture job)).cards → lines ≡ (progress_of (picture job)).lines
     → ◌≡◌ {A = Summary} (record { standing = standing; held = held; collected = collected; granted = granted_to; cards = cards; lines = lines }) (summary_of (kept_of job))
 summary_is standing held collected granted_to cards lines job one two three four five six = rw (one, two, three, four, five, six)

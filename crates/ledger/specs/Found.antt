@@ -5,9 +5,10 @@ use Rattle.machine.specs.Run.{State}
 use Rattle.units.specs.declared.switches.Switches.{Switches}
 use Rattle.ledger_rows.specs.declared.parts.Media.{Media}
 use Rattle.office.specs.Jobs.{Job, loaded_deck, picture, granted}
-use Rattle.office.specs.Kept.{Kept, kept_of, told, summary_of}
-use Rattle.office.specs.declared.standings.JobStanding.{JobStanding}
-use Rattle.office.specs.declared.standings.Summary.{Summary}
+use Rattle.machine.specs.Standings.{standing_of}
+use Rattle.office.specs.Kept.{Kept, kept_of, summary_of}
+use Rattle.machine.specs.declared.standings.StandingAt.{StandingAt}
+use Rattle.office.specs.declared.summaries.Summary.{Summary}
 use Rattle.office.specs.declared.stretches.Stretch.{Stretch}
 use Rattle.ledger_rows.specs.Columns.{IsLine}
 use Rattle.ledger_rows.specs.Progress.{progress_of}
@@ -80,8 +81,8 @@ abbrev pub HasProgress : Option Job → Progress → Type 0
 HasProgress here found = (job : Job) → here ≡ Some job → found ≡ progress_of (picture job)
 
 -- if there is the job, this is its standing
-abbrev pub HasStanding : Option Job → JobStanding → Type 0
-HasStanding here found = (job : Job) → here ≡ Some job → found ≡ told (picture job)
+abbrev pub HasStanding : Option Job → StandingAt → Type 0
+HasStanding here found = (job : Job) → here ≡ Some job → found ≡ standing_of (picture job)
 
 -- if there is the job, this is how many instructions were granted to it
 abbrev pub HasGranted : Option Job → ℕ → Type 0

@@ -1,7 +1,7 @@
 -- what is read from the tables for the lists of jobs
 use Rattle.std.specs.Prelude.{◌≡◌, ℕ, List, [], ◌∷◌, ◌++◌, map, filter, Some}
 use Rattle.std.specs.List.{AllByRecursion}
-use Rattle.office.specs.Office.{Entry, Office, job_of, job_line, jobs_told, queued_job, queue_told, runs}
+use Rattle.office.specs.Office.{Entry, Office, job_of, job_line, jobs_listed, queued_job, queue_listed, runs}
 use Rattle.office.specs.Queued.{QueuedJob}
 use Rattle.office.specs.declared.lists.JobLine.{JobLine}
 use Rattle.office.specs.declared.replies.Reply.{Reply}
@@ -30,7 +30,7 @@ HasLines customer rows office found =
 
 -- the office, unchanged, and the reply with the list of a customer's jobs
 abbrev pub with_jobs_told : List ℕ → Office → Office × Reply
-with_jobs_told customer office = (office, reply.Jobs (jobs_told customer office))
+with_jobs_told customer office = (office, reply.Jobs (jobs_listed customer office))
 
 -- ---- the queue
 
@@ -53,4 +53,4 @@ AreQueued rows office found =
 
 -- the office, unchanged, and the reply with the queue
 abbrev pub with_queue_told : Office → Office × Reply
-with_queue_told office = (office, reply.Queue (queue_told office))
+with_queue_told office = (office, reply.Queue (queue_listed office))

@@ -1,7 +1,7 @@
 //! The lists of jobs: a customer's, and the queue.
 
 ghost use Rattle.std.specs.Prelude.{◌≡◌, ◌++◌, []};
-ghost use Rattle.office.specs.Office.{jobs_told, queue_told};
+ghost use Rattle.office.specs.Office.{jobs_listed, queue_listed};
 ghost use Rattle.office.specs.declared.replies.Reply.{Reply};
 ghost use Rattle.ledger_tables.specs.Steps.{IsStep, IsOpenStep};
 ghost use Rattle.ledger.specs.Listed.{HasLine, HasLines, IsQueued, AreQueued, with_jobs_told, with_queue_told};

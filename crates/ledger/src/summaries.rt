@@ -3,7 +3,6 @@
 
 ghost use Rattle.std.specs.Prelude.{◌≡◌, ◌-◌, ◌^◌, min};
 ghost use Rattle.office.specs.Jobs.{granted};
-ghost use Rattle.office.specs.Kept.{told_at};
 ghost use Rattle.ledger_tables.specs.Steps.{IsOpenStep};
 ghost use Rattle.ledger.specs.Found.{HasProgress, HasStanding, HasGranted, HasSummary};
 ghost use Rattle.ledger.specs.Saving.{job_in};
@@ -12,23 +11,9 @@ ghost use Rattle.ledger.specs.Steps.{FindsIn};
 use crate::reading::find_stretches;
 use ledger_rows::{Progress, read_progress, read_truth};
 use ledger_tables::{Fault, JobName, JobRow, OpenTables};
-use machine::Standing;
-use office::{JobStanding, Stretch, Summary, commands_keep_jobs};
+use machine::StandingAt;
+use office::{Stretch, Summary, commands_keep_jobs};
 use sqlite::Alter;
-
-/// The standing of a machine with this progress.
-fn standing_of(progress: Progress) -> JobStanding
-    ensures { result ≡ told_at progress.standing progress.i }
-{
-    match progress.standing {
-        Standing::Running => JobStanding::Running,
-        Standing::Halted => JobStanding::Halted { next: progress.i },
-        Standing::Checked(check) => JobStanding::Checked {
-            check,
-            at: progress.i,
-        },
-    }
-}
 
 /// Finds the progress of the job of this name.
 fn find_progress<S: Alter>(
@@ -54,13 +39,13 @@ fn find_progress<S: Alter>(
 pub fn find_standing<S: Alter>(
     tables: &mut OpenTables<'_, '_, S>,
     name: JobName<'_>,
-) -> Result<JobStanding, Fault>
+) -> Result<StandingAt, Fault>
     ensures step { IsOpenStep S.Store tables.old tables.new result }
     ensures found { FindsIn S.Store tables.old tables.new result
         (λ office found. HasStanding (job_in name.entry office) found) }
 {
     let progress = find_progress(tables, name)?;
-    Ok(standing_of(progress))
+    Ok(StandingAt::new(progress.standing, progress.i))
 }
 
 /// The number of instructions granted in all, or the greatest number if that is more.
@@ -103,7 +88,7 @@ pub fn find_summary<S: Alter>(
     let granted = find_granted(tables, name)?;
     let progress = find_progress(tables, name)?;
     Ok(Summary {
-        standing: standing_of(progress),
+        standing: StandingAt::new(progress.standing, progress.i),
         held,
         collected,
         granted,

@@ -3,12 +3,12 @@ use Rattle.std.specs.Prelude.{ℕ, ◌≡◌, ◌+◌, ◌<◌, Bool, true, fals
 use Rattle.cards.specs.declared.decks.Card.{Card}
 use Rattle.cards.specs.Decks.{AreCharacters}
 use Rattle.core_store.specs.Storage.{Storage}
-use Rattle.core_store.specs.declared.registers.Check.{Check}
-use Rattle.core_store.specs.declared.registers.Check.TheVariants.{Address, Instruction, Data, Overlap, ReaderEmpty, PunchFull, PrinterFull}
+use Rattle.core_store.specs.declared.checks.Check.{Check}
+use Rattle.core_store.specs.declared.checks.Check.TheVariants.{Address, Instruction, Data, Overlap, ReaderEmpty, PunchFull, PrinterFull}
 use Rattle.core_store.specs.declared.registers.Compared.{Compared}
 use Rattle.core_store.specs.declared.registers.Compared.TheVariants.{Equal, Low, High}
-use Rattle.machine.specs.declared.parts.Standing.{Standing}
-use Rattle.machine.specs.declared.parts.Standing.TheVariants.{Running, Halted, Checked}
+use Rattle.machine.specs.declared.standings.Standing.{Standing}
+use Rattle.machine.specs.declared.standings.Standing.TheVariants.{Running, Halted, Checked}
 use Rattle.units.specs.declared.printer.Line.{Line}
 use Rattle.units.specs.declared.carriage.Motion.{Motion}
 use Rattle.units.specs.declared.carriage.Motion.TheVariants.{Space, DoubleSpace, TripleSpace, SkipToChannel1}

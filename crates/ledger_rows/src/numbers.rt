@@ -2,7 +2,7 @@
 
 ghost use Rattle.std.specs.Prelude.{◌≡◌, ◌<◌, Bool, Option, Some, IfSome};
 ghost use Rattle.core_store.specs.declared.registers.Compared.{Compared};
-ghost use Rattle.machine.specs.declared.parts.Standing.{Standing};
+ghost use Rattle.machine.specs.declared.standings.Standing.{Standing};
 ghost use Rattle.units.specs.declared.carriage.Motion.{Motion};
 ghost use Rattle.units.specs.declared.switches.Switches.{Switches};
 ghost use Rattle.units.specs.Switches.{AreSeven};

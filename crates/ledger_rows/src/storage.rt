@@ -66,7 +66,7 @@ fn size_of(bytes: &[u8]) -> Option<Size>
     ensures found { IfSome result (λ size. positions_of size ≡ length bytes.now) }
     ensures missing { IsNone result → (size : Size) → positions_of size ≢ length bytes.now }
 {
-    let Ok(positions) = u16::try_from(bytes.len()) else {
+    let Ok(positions) = u32::try_from(bytes.len()) else {
         return None;
     };
     Size::of_positions(positions)

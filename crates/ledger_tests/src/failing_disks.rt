@@ -1,6 +1,7 @@
 //! A bureau whose disk fails.
 
 use crate::commands::{misanswered, reply_to};
+use crate::connections::connection_to;
 use crate::sessions::new_bureau;
 use ledger::Bureau;
 use machine::Meter;
@@ -60,7 +61,7 @@ fn failure_on_disks(
         log: Fuse::new(Memory::new(alloc), log_calls),
         db: Fuse::new(Memory::new(alloc), db_calls),
     };
-    match Connection::open_files(alloc, files, Options::new(1)) {
+    match connection_to(alloc, files, Options::new(1)) {
         Ok(conn) => failure(alloc, conn, sheet),
         Err(_) => Err("not opened")?,
     }

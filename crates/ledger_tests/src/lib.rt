@@ -10,6 +10,8 @@ mod adopting;
 #[cfg(test)]
 mod commands;
 #[cfg(test)]
+mod connections;
+#[cfg(test)]
 mod decks;
 #[cfg(test)]
 mod failing_disks;

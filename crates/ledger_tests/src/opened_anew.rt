@@ -4,6 +4,7 @@
 ghost use Rattle.std.specs.Prelude.{IsTrue, IfOk};
 ghost use Rattle.sqlite_disk.specs.Memory.{memory_is_usable};
 
+use crate::connections::{connection_to, files_of};
 use crate::decks::deck_named;
 use crate::replies::reply_text;
 use crate::sessions::adopted;
@@ -68,11 +69,10 @@ pub(crate) fn open(
         log: copy(alloc, &disks.log)?,
         db: copy(alloc, &disks.db)?,
     };
-    Ok(
-        Connection::open_files(alloc, files, Options::new(1))
-            .ok()
-            .ok_or("opened")?,
-    )
+    match connection_to(alloc, files, Options::new(1)) {
+        Ok(conn) => Ok(conn),
+        Err(_) => Err("not opened")?,
+    }
 }
 
 /// The connection of a new bureau.
@@ -89,7 +89,7 @@ pub(crate) fn created<S: Alter + Drop>(
 /// The disks of a connection after it is closed.
 fn closed(conn: Result<Connection<FileStore<Memory>>, Fail>) -> Result<Files<Memory>, Fail> {
     match conn {
-        Ok(conn) => Ok(conn.into_store().close()),
+        Ok(conn) => Ok(files_of(conn)),
         Err(fail) => Err(fail),
     }
 }

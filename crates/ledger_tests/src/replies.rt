@@ -2,17 +2,18 @@
 
 use cards::Card;
 use ledger::Fault;
-use office::{JobLine, JobStanding, QueueLine, Refusal, Reply, Summary};
+use machine::StandingAt;
+use office::{JobLine, QueueLine, Refusal, Reply, Summary};
 use std::alloc::Global;
 use std::test::Fail;
 use units::{Line, render};
 
 /// The standing of a job's machine, in words.
-fn standing_text(alloc: Global, standing: JobStanding) -> Result<String, Fail> {
+fn standing_text(alloc: Global, standing: StandingAt) -> Result<String, Fail> {
     match standing {
-        JobStanding::Running => Ok(String::from_str(alloc, "running")?),
-        JobStanding::Halted { next } => Ok(format!(in alloc; "halted, next {next}")?),
-        JobStanding::Checked { check, at } => Ok(format!(in alloc; "{check:?} at {at}")?),
+        StandingAt::Running => Ok(String::from_str(alloc, "running")?),
+        StandingAt::Halted { next } => Ok(format!(in alloc; "halted, next {next}")?),
+        StandingAt::Checked { check, at } => Ok(format!(in alloc; "{check:?} at {at}")?),
     }
 }
 

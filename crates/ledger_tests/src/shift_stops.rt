@@ -2,6 +2,7 @@
 //! again.
 
 use crate::commands::command_of;
+use crate::connections::{connection_to, files_of};
 use crate::opened_anew::{apply, copy, new_disks, open};
 use crate::replies::reply_text;
 use crate::stops::{Calls, Failing};
@@ -9,7 +10,7 @@ use ledger::Bureau;
 use ledger_shifts::shift;
 use machine::Meter;
 use office::Command;
-use sqlite::{Alter, Connection, FileStore, Files, Options};
+use sqlite::{Alter, Connection, Files, Options};
 use sqlite_disk::{Fuse, Memory};
 use std::alloc::Global;
 use std::test::Fail;
@@ -154,20 +155,8 @@ fn worked<S: Alter + Drop>(
     }
 }
 
-/// The files after a shift over a connection in which this number of commands is acknowledged.
-fn files_after(
-    alloc: Global,
-    conn: Connection<FileStore<Fuse<Memory>>>,
-    commands: &[Command],
-    acknowledged: &mut usize,
-) -> Files<Fuse<Memory>> {
-    worked(alloc, conn, commands, acknowledged)
-        .into_store()
-        .close()
-}
-
-/// The same over copies of disks, which fail after these numbers of calls. The log is often copied
-/// into the database file.
+/// The files after a shift over copies of disks, which fail after these numbers of calls, and in
+/// which this number of commands is acknowledged. The log is often copied into the database file.
 fn run(
     alloc: Global,
     disks: &Files<Memory>,
@@ -181,9 +170,9 @@ fn run(
     };
     let mut options = Options::new(1);
     options.checkpoint_frames = 3;
-    match Connection::open_files(alloc, files, options) {
-        Ok(conn) => Ok(files_after(alloc, conn, commands, acknowledged)),
-        Err((_, left)) => Ok(left.into_files()),
+    match connection_to(alloc, files, options) {
+        Ok(conn) => Ok(files_of(worked(alloc, conn, commands, acknowledged))),
+        Err(files) => Ok(files),
     }
 }
 

@@ -2,13 +2,14 @@
 //! again.
 
 use crate::commands::command_of;
+use crate::connections::{connection_to, files_of};
 use crate::opened_anew::{apply, apply_anew, copy, new_disks, open};
 use crate::replies::reply_text;
 use crate::sessions::{adopted, rows_of};
 use ledger::{Bureau, Fault};
 use machine::Meter;
 use office::{Command, Reply};
-use sqlite::{Alter, Connection, FileStore, Files, Options};
+use sqlite::{Alter, Connection, Files, Options};
 use sqlite_disk::{Fuse, Memory};
 use std::alloc::Global;
 use std::test::Fail;
@@ -95,18 +96,8 @@ fn worked<S: Alter + Drop>(
     }
 }
 
-/// The files after a command to the bureau over a connection that gets this reply.
-fn files_after(
-    alloc: Global,
-    conn: Connection<FileStore<Fuse<Memory>>>,
-    command: &Command,
-    reply: &mut Result<Reply, Fault>,
-) -> Files<Fuse<Memory>> {
-    worked(alloc, conn, command, reply).into_store().close()
-}
-
-/// The same over copies of disks, which fail after these numbers of calls. The log is often copied
-/// into the database file.
+/// The files after a command that gets this reply, over copies of disks, which fail after these
+/// numbers of calls. The log is often copied into the database file.
 fn run(
     alloc: Global,
     disks: &Files<Memory>,
@@ -120,9 +111,9 @@ fn run(
     };
     let mut options = Options::new(1);
     options.checkpoint_frames = 3;
-    match Connection::open_files(alloc, files, options) {
-        Ok(conn) => Ok(files_after(alloc, conn, command, reply)),
-        Err((_, left)) => Ok(left.into_files()),
+    match connection_to(alloc, files, options) {
+        Ok(conn) => Ok(files_of(worked(alloc, conn, command, reply))),
+        Err(files) => Ok(files),
     }
 }
 

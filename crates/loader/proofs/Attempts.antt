@@ -11,7 +11,7 @@ use Rattle.machine.specs.declared.decode.Decoded.{Decoded}
 use Rattle.machine.specs.declared.decode.Operation.TheVariants.{OnFields, ClearStorage, Operate, NoOperation}
 use Rattle.machine.specs.declared.decode.FieldOperation.TheVariants.{Load, SetMark, ClearMark}
 use Rattle.machine.specs.declared.operations.Course.TheVariants.{GoesOn}
-use Rattle.machine.specs.declared.parts.Standing.TheVariants.{Running}
+use Rattle.machine.specs.declared.standings.Standing.TheVariants.{Running}
 use Rattle.machine.specs.Word.{word_length, decoded_of, devices}
 use Rattle.machine.specs.Effect.{Works, attempt, effect, next_of}
 use Rattle.machine.specs.Run.{State, step}

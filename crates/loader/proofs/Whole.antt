@@ -12,7 +12,7 @@ use Rattle.addresses.specs.Addresses.{written}
 use Rattle.units.specs.declared.switches.Switches.{Switches}
 use Rattle.units.specs.declared.units.Units.{Units}
 use Rattle.autocoder_layout.specs.declared.cells.Cell.{Cell}
-use Rattle.machine.specs.declared.parts.Standing.TheVariants.{Running}
+use Rattle.machine.specs.declared.standings.Standing.TheVariants.{Running}
 use Rattle.machine.specs.Run.{State, step, after, loaded}
 use Rattle.machine.proofs.Steps.{after-after}
 use Rattle.autocoder.specs.Loadable.{IsLoadable, CanBeLoaded}

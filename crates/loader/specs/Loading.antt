@@ -6,7 +6,7 @@ use Rattle.core_store.specs.Storage.{Storage, blank_storage, positions_of, is_ma
 use Rattle.core_store.specs.declared.sizes.Size.{Size}
 use Rattle.core_store.specs.declared.registers.Compared.TheVariants.{Equal}
 use Rattle.machine.specs.Run.{State, after, loaded}
-use Rattle.machine.specs.declared.parts.Standing.TheVariants.{Running}
+use Rattle.machine.specs.declared.standings.Standing.TheVariants.{Running}
 use Rattle.units.specs.declared.switches.Switches.{Switches}
 use Rattle.units.specs.Switches.{seven}
 use Rattle.autocoder_layout.specs.declared.cells.Cell.{Cell}

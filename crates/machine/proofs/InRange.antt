@@ -8,8 +8,8 @@ use Rattle.core_store.specs.Operands.{are_inside, cut_length}
 use Rattle.core_store.specs.declared.sizes.Size.{Size}
 use Rattle.core_store.specs.declared.sizes.Size.TheVariants.{Positions1400, Positions2000, Positions4000}
 use Rattle.core_store.specs.declared.registers.Registers.{Registers}
-use Rattle.core_store.specs.declared.registers.Check.{Check}
-use Rattle.core_store.specs.declared.registers.Check.TheVariants.{Address, Data, Instruction}
+use Rattle.core_store.specs.declared.checks.Check.{Check}
+use Rattle.core_store.specs.declared.checks.Check.TheVariants.{Address, Data, Instruction}
 use Rattle.addresses.specs.Addresses.{tagged}
 use Rattle.addresses.specs.Effective.{base_ending, effective, operand}
 use Rattle.addresses.specs.Stored.{address_stored}

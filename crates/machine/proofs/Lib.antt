@@ -1,3 +1,9 @@
 pub mod Steps
 pub mod InRange
 pub mod Ends
+pub mod Named
+pub mod FormTables
+pub mod Executed
+pub mod Conditions
+pub mod Decoding
+pub mod Listed

@@ -10,8 +10,8 @@ use Rattle.core_store.specs.declared.sizes.Size.TheVariants.{Positions1400, Posi
 use Rattle.core_store.specs.Checked.{and_then}
 use Rattle.core_store.proofs.Fields.{length-codes_from, length-put, length-put_codes, length-put_cells}
 use Rattle.core_store.specs.declared.registers.Registers.{Registers}
-use Rattle.core_store.specs.declared.registers.Check.{Check}
-use Rattle.core_store.specs.declared.registers.Check.TheVariants.{Address, Data, Instruction}
+use Rattle.core_store.specs.declared.checks.Check.{Check}
+use Rattle.core_store.specs.declared.checks.Check.TheVariants.{Address, Data, Instruction}
 use Rattle.addresses.specs.Effective.{base_ending}
 use Rattle.addresses.specs.Stored.{address_stored}
 use Rattle.arith.specs.Operands.{counts_at, counts_apart}
@@ -37,8 +37,8 @@ use Rattle.machine.specs.declared.decode.Modifier.{Modifier}
 use Rattle.machine.specs.declared.decode.Modifier.TheVariants.{Plain, OnCondition, OnCharacter, OnTest, ByOrder}
 use Rattle.machine.specs.declared.decode.Decoded.{Decoded}
 use Rattle.machine.specs.declared.operations.Course.{Course}
-use Rattle.machine.specs.declared.parts.Standing.{Standing}
-use Rattle.machine.specs.declared.parts.Standing.TheVariants.{Checked}
+use Rattle.machine.specs.declared.standings.Standing.{Standing}
+use Rattle.machine.specs.declared.standings.Standing.TheVariants.{Running, Halted, Checked}
 use Rattle.machine.specs.declared.runs.Checkpoint.{Checkpoint}
 use Rattle.machine.specs.Word.{word, word_length, decoded, decoded_of}
 use Rattle.machine.specs.Effect.{Works, attempt, effect, filled, next_of, ordered_by, worked}
@@ -109,6 +109,11 @@ unfolding attempts
 attempts_one m h = ap (λ b. (if b then 1 else 0) + 0) h
 
 -- ---- how one step goes by how its attempt went
+
+pub runs : (standing : Standing) → is_running standing ≡ true → standing ≡ Running
+runs Running h = refl
+runs Halted h = absurd (cc)
+runs (Checked check) h = absurd (cc)
 
 pub step_ok : (m : State) (w after_it : Works) (course : Course) → w ≡ m.works → is_running m.standing ≡ true → attempt w ≡ Ok (after_it, course) →
     record { works = after_it; standing = standing_after course } ≡ step m

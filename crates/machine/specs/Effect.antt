@@ -4,8 +4,8 @@ use Rattle.core_store.specs.Storage.{Storage, code_at}
 use Rattle.core_store.specs.Operands.{lowered}
 use Rattle.core_store.specs.Checked.{require, find_or, and_then}
 use Rattle.core_store.specs.declared.registers.Registers.{Registers}
-use Rattle.core_store.specs.declared.registers.Check.{Check}
-use Rattle.core_store.specs.declared.registers.Check.TheVariants.{Address, Instruction}
+use Rattle.core_store.specs.declared.checks.Check.{Check}
+use Rattle.core_store.specs.declared.checks.Check.TheVariants.{Address, Instruction}
 use Rattle.addresses.specs.Stored.{address_stored}
 use Rattle.arith.specs.Sums.{added, zero_added}
 use Rattle.arith.specs.Order.{compared}

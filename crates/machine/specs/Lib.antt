@@ -1,6 +1,9 @@
 pub mod Glyphs
 pub mod Branches
 pub mod Word
+pub mod Instructions
+pub mod Operations
 pub mod Effect
 pub mod Run
+pub mod Standings
 pub mod Ranges

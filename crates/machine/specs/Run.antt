@@ -3,14 +3,14 @@ use Rattle.std.specs.Prelude.{ℕ, zero, suc, ◌≡◌, ◌<◌, ◌+◌, ◌-�
 use Rattle.cards.specs.declared.decks.Card.{Card}
 use Rattle.core_store.specs.Storage.{Storage, blank_storage, put_codes, with_mark, positions_of}
 use Rattle.core_store.specs.declared.sizes.Size.{Size}
-use Rattle.core_store.specs.declared.registers.Check.{Check}
+use Rattle.core_store.specs.declared.checks.Check.{Check}
 use Rattle.core_store.specs.declared.registers.Compared.TheVariants.{Equal}
 use Rattle.machine.specs.declared.operations.Course.{Course}
 use Rattle.machine.specs.declared.operations.Course.TheVariants.{GoesOn, Halts}
-use Rattle.machine.specs.declared.parts.Standing.{Standing}
-use Rattle.machine.specs.declared.parts.Standing.TheVariants.{Running, Halted, Checked}
-use Rattle.machine.specs.declared.parts.Event.{Event}
-use Rattle.machine.specs.declared.parts.Event.TheVariants.{Next, Halt, Stop}
+use Rattle.machine.specs.declared.standings.Standing.{Standing}
+use Rattle.machine.specs.declared.standings.Standing.TheVariants.{Running, Halted, Checked}
+use Rattle.machine.specs.declared.standings.Event.{Event}
+use Rattle.machine.specs.declared.standings.Event.TheVariants.{Next, Halt, Stop}
 use Rattle.units.specs.declared.printer.Line.{Line}
 use Rattle.machine.specs.declared.runs.Checkpoint.{Checkpoint}
 use Rattle.units.specs.declared.switches.Switches.{Switches}

@@ -3,8 +3,8 @@ use Rattle.std.specs.Prelude.{ℕ, ◌≡◌, ◌≤◌, ◌⊎◌, ◌+◌, ◌
 use Rattle.std.specs.Option.{option_map, option_or}
 use Rattle.core_store.specs.Storage.{Storage, IsLeastMark, is_marked, code_at, least_mark, codes_from}
 use Rattle.core_store.specs.Checked.{require, find_or, and_then}
-use Rattle.core_store.specs.declared.registers.Check.{Check}
-use Rattle.core_store.specs.declared.registers.Check.TheVariants.{Instruction}
+use Rattle.core_store.specs.declared.checks.Check.{Check}
+use Rattle.core_store.specs.declared.checks.Check.TheVariants.{Instruction}
 use Rattle.core_store.specs.declared.registers.Registers.{Registers}
 use Rattle.machine.specs.declared.decode.Operation.{Operation}
 use Rattle.machine.specs.declared.decode.Operation.TheVariants.{OnFields, ClearStorage, Branch, BranchOnMarkOrZone, Operate, MoveCarriage, StoreA, StoreB, Halt, NoOperation}

@@ -3,6 +3,7 @@
 ghost use Rattle.std.specs.Prelude.{◌≡◌, ◌<◌, ◌==◌, length};
 ghost use Rattle.bcd.specs.Table.{zone_number};
 ghost use Rattle.machine.specs.Branches.{condition_of, is_met, once_tested, test_of, passes, has_zone};
+ghost use Rattle.machine.specs.Instructions.{condition_by, place_of};
 
 use bcd::{Code, Zone};
 use bitflags::Flags;
@@ -41,6 +42,25 @@ pub enum PositionTest {
     HasZone(Zone),
     /// `3`, `C`, `L`, `T`: has this zone, or a word mark.
     HasZoneOrMark(Zone),
+}
+
+/// The results of a comparison at which each character's condition is met: bit 0 equal, bit 1 low,
+/// bit 2 high. 0 where the condition is another one.
+const MET: [u8; 64] = [
+    7, 0, 0, 0, 0, 0, 0, 0, 0, 0, 0, 0, 0, 0, 0, 0, 0, 6, 1, 2, 4, 0, 0, 0, 0, 0, 0, 0, 0, 0, 0, 0,
+    0, 0, 0, 0, 0, 0, 0, 0, 0, 0, 0, 0, 0, 0, 0, 0, 0, 0, 0, 0, 0, 0, 0, 0, 0, 0, 0, 0, 0, 0, 0, 0,
+];
+
+/// The bit of `MET` that the result of a comparison has.
+#[inline(always)]
+fn place_of(compared: Compared) -> u8
+    ensures { result ≡ place_of compared }
+{
+    match compared {
+        Compared::Equal => 0,
+        Compared::Low => 1,
+        Compared::High => 2,
+    }
 }
 
 impl Condition {
@@ -87,17 +107,41 @@ impl Condition {
         }
     }
 
-    /// The registers after the test: the test of overflow turns its indicator off.
-    pub fn once_tested(self, registers: Registers) -> Registers
-        ensures { result ≡ once_tested self registers }
+    /// Turns the indicator of overflow off if the condition tests it.
+    fn reset(self, registers: &mut Registers)
+        ensures { registers.new ≡ once_tested self registers.old }
     {
-        match self {
-            Condition::Overflow => Registers {
-                overflow: false,
-                ..registers
-            },
-            _ => registers,
+        if let Condition::Overflow = self {
+            registers.overflow = false;
         }
+    }
+
+    /// Tests the condition that a character names. One that names none is met.
+    #[inline(never)]
+    #[tactic(auto, unfolding(crate::specs::Instructions::condition_by))]
+    fn test_named(code: Code, registers: &mut Registers, units: &Units) -> bool
+        ensures met { result ≡ is_met (condition_by code) registers.old units.now }
+        ensures registers { registers.new ≡ once_tested (condition_by code) registers.old }
+    {
+        let Some(condition) = Condition::of_code(code) else {
+            return true;
+        };
+        let is_met = condition.is_met(registers, units);
+        condition.reset(registers);
+        is_met
+    }
+
+    /// Tests the condition that a character names. The conditions of the comparison are looked up.
+    #[inline(always)]
+    pub fn test(code: Code, registers: &mut Registers, units: &Units) -> bool
+        ensures met { result ≡ is_met (condition_by code) registers.old units.now }
+        ensures registers { registers.new ≡ once_tested (condition_by code) registers.old }
+    {
+        let met = MET[code.number() as usize];
+        if met == 0 {
+            return Condition::test_named(code, registers, units);
+        }
+        (met >> place_of(registers.compare)) % 2 == 1
     }
 }
 

@@ -4,17 +4,19 @@ ghost use Rattle.std.specs.Prelude.{◌≡◌, ◌+◌, ◌%◌, ◌<◌, ◌≤
 ghost use Rattle.core_store.specs.Storage.{largest_size};
 ghost use Rattle.machine.specs.Effect.{attempt, works_of, Fails, next_of};
 ghost use Rattle.units.specs.Units.{areas_end, Makes};
-ghost use Rattle.machine.specs.Run.{step, attempts, risen, is_running, is_checked, is_halted, standing_after, event_of};
+ghost use Rattle.machine.specs.Run.{step, attempts, risen, is_running, is_checked, is_halted};
 
 use crate::decode::{Word, decode, word_length};
 use crate::meter::Meter;
 use crate::operations::{Course, execute};
-use crate::parts::{Event, Parts, Standing};
+use crate::parts::Parts;
+use crate::standings::Standing;
 use core_store::{Check, Core, LARGEST_SIZE, Registers};
 use std::alloc::AllocError;
 use units::{Fault, Units};
 
 /// The position after an instruction of `count` characters, modulo 16000.
+#[inline(always)]
 fn next_of(i: u16, count: u16) -> u16
     requires { i + count ≤ largest_size }
     ensures { result ≡ next_of i count }
@@ -24,6 +26,7 @@ fn next_of(i: u16, count: u16) -> u16
 }
 
 /// Reads the instruction at register I and executes it.
+#[inline(always)]
 #[tactic(auto, unfolding(crate::specs::Effect::attempt, crate::specs::Word::word))]
 fn attempt<C: Core>(
     core: &mut C,
@@ -51,48 +54,11 @@ fn attempt<C: Core>(
         first: i,
         length: count,
     };
-    let decoded = match decode(core, registers, word) {
-        Ok(decoded) => decoded,
+    let instruction = match decode(core, registers, word) {
+        Ok(instruction) => instruction,
         Err(check) => return Err(Fault::Stopped(check)),
     };
-    execute(core, registers, units, decoded, next_of(i, count))
-}
-
-/// The standing after an instruction.
-fn standing_after(course: Course) -> Standing
-    ensures { result ≡ standing_after course }
-{
-    match course {
-        Course::GoesOn => Standing::Running,
-        Course::Halts => Standing::Halted,
-    }
-}
-
-impl Standing {
-    /// The event that a step returns for this standing.
-    pub fn event(self) -> Event
-        ensures { result ≡ event_of self }
-    {
-        match self {
-            Standing::Running => Event::Next,
-            Standing::Halted => Event::Halt,
-            Standing::Checked(check) => Event::Stop(check),
-        }
-    }
-
-    /// Whether the machine is running.
-    pub fn is_running(self) -> bool
-        ensures { result ≡ is_running self }
-    {
-        matches!(self, Standing::Running)
-    }
-
-    /// Whether the machine was stopped by a check.
-    pub fn is_checked(self) -> bool
-        ensures { result ≡ is_checked self }
-    {
-        matches!(self, Standing::Checked(_))
-    }
+    execute(core, registers, units, instruction, next_of(i, count))
 }
 
 impl<C: Core> Parts<C> {
@@ -116,8 +82,12 @@ impl<C: Core> Parts<C> {
             return Ok(());
         }
         match attempt(&mut self.core, &mut self.registers, &mut self.units) {
-            Ok(course) => {
-                self.standing = standing_after(course);
+            Ok(Course::GoesOn) => {
+                meter.tick();
+                Ok(())
+            }
+            Ok(Course::Halts) => {
+                self.standing = Standing::Halted;
                 meter.tick();
                 Ok(())
             }

@@ -1,10 +1,13 @@
 //! Decoding an instruction.
 
-ghost use Rattle.std.specs.Prelude.{◌≡◌, ◌↔◌, ◌+◌, ◌-◌, ◌<◌, ◌≤◌, ℕ, length, slice_index, unwrap_or, true, Some, IfSome, IfOk};
-ghost use Rattle.core_store.specs.Storage.{Storage, codes_from, least_mark, largest_size};
-ghost use Rattle.machine.specs.Word.{word_length, field_operation_of, other_operation_of, operation_of, has_field_form, has_form, modifier_of, addresses_in, operand_at, operands_of, decoded_of, WantsTwo, LooksInside, IsInstruction};
+ghost use Rattle.std.specs.Prelude.{◌≡◌, ◌↔◌, ◌+◌, ◌-◌, ◌<◌, ◌≤◌, ◌==◌, ℕ, length, slice_index, unwrap_or, min, if◌then◌else◌, Some, None, IfSome, Ok, Err, IfOk, IfErr};
+ghost use Rattle.core_store.specs.Storage.{Storage, codes_from, is_marked, least_mark, largest_size};
+ghost use Rattle.machine.specs.Word.{word_length, ending_in, operand_at, operands_of, decoded_of, LooksInside, IsInstruction};
+ghost use Rattle.machine.specs.Instructions.{decoded_by, Names};
 
 use crate::branches::{Condition, PositionTest};
+use crate::forms::{addresses_in, allows, has_form};
+use crate::instruction::Instruction;
 use addresses::operand;
 use bcd::Code;
 use core_store::{Check, Core, Registers};
@@ -102,145 +105,6 @@ pub struct Decoded {
     pub modifier: Modifier,
 }
 
-/// The operation on fields that a character names.
-#[inline(always)]
-#[tactic(auto, unfolding(crate::specs::Word::field_operation_of))]
-fn field_operation_of(code: Code) -> Option<FieldOperation>
-    ensures { result ≡ field_operation_of code }
-{
-    match code.glyph() {
-        b'A' => Some(FieldOperation::Add),
-        b'S' => Some(FieldOperation::Subtract),
-        b'?' => Some(FieldOperation::ZeroAdd),
-        b'!' => Some(FieldOperation::ZeroSubtract),
-        b'C' => Some(FieldOperation::Compare),
-        b'#' => Some(FieldOperation::ModifyAddress),
-        b'M' => Some(FieldOperation::Move),
-        b'L' => Some(FieldOperation::Load),
-        b'D' => Some(FieldOperation::MoveDigit),
-        b'Y' => Some(FieldOperation::MoveZone),
-        b'Z' => Some(FieldOperation::Suppress),
-        b'E' => Some(FieldOperation::Edit),
-        b',' => Some(FieldOperation::SetMark),
-        b')' => Some(FieldOperation::ClearMark),
-        _ => None,
-    }
-}
-
-/// Any other operation that a character names.
-#[inline(always)]
-#[tactic(auto, unfolding(crate::specs::Word::other_operation_of))]
-fn other_operation_of(code: Code) -> Option<Operation>
-    ensures { result ≡ other_operation_of code }
-{
-    match code.glyph() {
-        b'/' => Some(Operation::ClearStorage),
-        b'B' => Some(Operation::Branch),
-        b'V' => Some(Operation::BranchOnMarkOrZone),
-        b'1' => Some(Operation::Operate(Devices::of_sum(1))),
-        b'2' => Some(Operation::Operate(Devices::of_sum(2))),
-        b'3' => Some(Operation::Operate(Devices::of_sum(3))),
-        b'4' => Some(Operation::Operate(Devices::of_sum(4))),
-        b'5' => Some(Operation::Operate(Devices::of_sum(5))),
-        b'6' => Some(Operation::Operate(Devices::of_sum(6))),
-        b'7' => Some(Operation::Operate(Devices::of_sum(7))),
-        b'F' => Some(Operation::MoveCarriage),
-        b'Q' => Some(Operation::StoreA),
-        b'H' => Some(Operation::StoreB),
-        b'.' => Some(Operation::Halt),
-        b'N' => Some(Operation::NoOperation),
-        _ => None,
-    }
-}
-
-/// The operation that a character names.
-#[inline(always)]
-#[tactic(auto, unfolding(crate::specs::Word::operation_of))]
-fn operation_of(code: Code) -> Option<Operation>
-    ensures { result ≡ operation_of code }
-{
-    match field_operation_of(code) {
-        Some(operation) => Some(Operation::OnFields(operation)),
-        None => other_operation_of(code),
-    }
-}
-
-impl FieldOperation {
-    /// Whether the operation has a form of `count` characters.
-    #[inline(always)]
-    #[tactic(auto, unfolding(crate::specs::Word::has_field_form))]
-    fn has_form(self, count: u16) -> bool
-        ensures { result ≡ has_field_form self count }
-    {
-        match self {
-            FieldOperation::Add
-            | FieldOperation::Subtract
-            | FieldOperation::ZeroAdd
-            | FieldOperation::ZeroSubtract => count == 1 || count == 4 || count == 7,
-            FieldOperation::ModifyAddress => count == 7,
-            FieldOperation::SetMark | FieldOperation::ClearMark => count == 4 || count == 7,
-            _ => count == 1 || count == 7,
-        }
-    }
-}
-
-impl Operation {
-    /// Whether the operation has a form of `count` characters.
-    #[inline(always)]
-    #[tactic(auto, unfolding(crate::specs::Word::has_form))]
-    fn has_form(self, count: u16) -> bool
-        ensures { result ≡ has_form self count }
-    {
-        match self {
-            Operation::OnFields(operation) => operation.has_form(count),
-            Operation::ClearStorage => count == 1 || count == 4 || count == 7,
-            Operation::Branch => count == 4 || count == 5 || count == 8,
-            Operation::BranchOnMarkOrZone => count == 8,
-            Operation::Operate(_) | Operation::Halt => count == 1 || count == 4,
-            Operation::MoveCarriage => count == 2,
-            Operation::StoreA | Operation::StoreB => count == 4,
-            Operation::NoOperation => {
-                count == 1 || count == 2 || count == 4 || count == 5 || count == 7 || count == 8
-            }
-        }
-    }
-
-    /// What the last character of a form means; `None` if the form does not allow it.
-    #[inline(always)]
-    #[tactic(auto, unfolding(crate::specs::Word::modifier_of, crate::specs::Word::addresses_in, crate::specs::Word::has_form))]
-    fn modifier(self, count: u16, last: Code) -> Option<Modifier>
-        requires { has_form self count ≡ true }
-        ensures modifier { result ≡ modifier_of self count last }
-        ensures two { IfSome result (λ modifier. WantsTwo modifier (addresses_in self count)) }
-    {
-        match self {
-            Operation::Branch if count == 5 => {
-                Some(Modifier::OnCondition(Condition::of_code(last)?))
-            }
-            Operation::Branch if count == 8 => Some(Modifier::OnCharacter(last)),
-            Operation::BranchOnMarkOrZone => Some(Modifier::OnTest(PositionTest::of_code(last)?)),
-            Operation::MoveCarriage => Some(Modifier::ByOrder(CarriageOrder::of_code(last)?)),
-            _ => Some(Modifier::Plain),
-        }
-    }
-
-    /// The number of addresses that a form reads.
-    #[inline(always)]
-    #[tactic(auto, unfolding(crate::specs::Word::addresses_in))]
-    fn addresses_in(self, count: u16) -> u16
-        ensures count { result ≡ addresses_in self count }
-        ensures one { 0 < result → 4 ≤ count }
-        ensures two { 1 < result → 7 ≤ count }
-    {
-        match self {
-            Operation::NoOperation => 0,
-            _ if count < 4 => 0,
-            _ if count < 7 => 1,
-            _ => 2,
-        }
-    }
-}
-
 /// The next mark within eight positions, or else the eighth position.
 #[inline(always)]
 fn next_mark<C: Core>(core: &C, i: u16) -> u16
@@ -255,6 +119,30 @@ fn next_mark<C: Core>(core: &C, i: u16) -> u16
     }
 }
 
+/// The number of characters of the instruction at a position that begins with a comma, if a word
+/// begins there and the storage has those characters.
+#[inline(never)]
+fn comma_length<C: Core>(core: &C, i: u16) -> Option<u16>
+    requires within { i < length (C.cells core.now) }
+    requires below { i < largest_size }
+    ensures length { result ≡ (if is_marked (C.cells core.now) i
+        then ending_in (C.cells core.now) i
+        (min (unwrap_or (least_mark (C.cells core.now) (i + 1) 8) (i + 8) - i) 7)
+        else None) }
+    ensures within { IfSome result (λ count. (1 ≤ count) × (count ≤ 8)
+        × (i + count ≤ length (C.cells core.now))) }
+{
+    if !core.is_marked(i) {
+        return None;
+    }
+    let count = (next_mark(core, i) - i).min(7);
+    if i + count <= core.size() {
+        Some(count)
+    } else {
+        None
+    }
+}
+
 /// The number of characters of the instruction at a position, if one begins and ends there.
 #[inline(always)]
 #[tactic(auto, unfolding(crate::specs::Word::word_length))]
@@ -265,21 +153,12 @@ pub fn word_length<C: Core>(core: &C, i: u16) -> Option<u16>
     ensures within { IfSome result (λ count. (1 ≤ count) × (count ≤ 8)
         × (i + count ≤ length (C.cells core.now))) }
 {
-    if !core.is_marked(i) {
-        return None;
-    }
     if core.get(i).glyph() == b',' {
-        let count = (next_mark(core, i) - i).min(7);
-        if i + count <= core.size() {
-            Some(count)
-        } else {
-            None
-        }
-    } else {
-        match core.mark_after(i) {
-            Some(end) => Some(end - i),
-            None => None,
-        }
+        return comma_length(core, i);
+    }
+    match core.word_end(i) {
+        Some(end) => Some(end - i),
+        None => None,
     }
 }
 
@@ -292,7 +171,7 @@ fn character<C: Core>(core: &C, word: Word, place: u16) -> Code
     requires most { word.length ≤ 8 }
     ensures { result ≡ slice_index (codes_from (C.cells core.now) word.first word.length) place }
 {
-    core.get(word.first + place)
+    core.get_after(word.first, place)
 }
 
 /// The position of the operand whose address begins at an index of an instruction.
@@ -315,6 +194,58 @@ fn operand_at<C: Core>(core: &C, word: Word, place: u16) -> Result<u16, Check>
     )
 }
 
+/// The first operand of an instruction with this number of addresses.
+#[inline(always)]
+fn first_operand<C: Core>(
+    core: &C,
+    registers: &Registers,
+    word: Word,
+    count: u16,
+) -> Result<u16, Check>
+    requires within { word.first + word.length ≤ length (C.cells core.now) }
+    requires below { word.first < largest_size }
+    requires one { 0 < count → 4 ≤ word.length }
+    requires most { word.length ≤ 8 }
+    ensures { result ≡ (if count == 0 then Ok registers.now.a
+        else operand_at (C.cells core.now)
+        (codes_from (C.cells core.now) word.first word.length) 1) }
+{
+    if count == 0 {
+        return Ok(registers.a);
+    }
+    operand_at(core, word, 1)
+}
+
+/// The second operand of an instruction with this number of addresses. With one address both
+/// operands are the same.
+#[inline(always)]
+fn second_operand<C: Core>(
+    core: &C,
+    registers: &Registers,
+    word: Word,
+    count: u16,
+    first: u16,
+) -> Result<u16, Check>
+    requires within { word.first + word.length ≤ length (C.cells core.now) }
+    requires below { word.first < largest_size }
+    requires two { 1 < count → 7 ≤ word.length }
+    requires most { word.length ≤ 8 }
+    ensures operand { result ≡ (if count == 0 then Ok registers.now.b
+        else (if count == 1 then Ok first
+        else operand_at (C.cells core.now)
+        (codes_from (C.cells core.now) word.first word.length) 4)) }
+    ensures inside { IfOk result (λ operand. 1 < count → operand < length (C.cells core.now)) }
+    ensures below { IfOk result (λ operand. 1 < count → operand < largest_size) }
+{
+    if count == 0 {
+        return Ok(registers.b);
+    }
+    if count == 1 {
+        return Ok(first);
+    }
+    operand_at(core, word, 4)
+}
+
 /// The operands of an instruction with this number of addresses.
 #[inline(always)]
 #[tactic(auto, unfolding(crate::specs::Word::operands_of))]
@@ -334,49 +265,49 @@ fn operands_of<C: Core>(
     ensures inside { IfOk result (λ operands. 1 < count → operands.1 < length (C.cells core.now)) }
     ensures below { IfOk result (λ operands. 1 < count → operands.1 < largest_size) }
 {
-    if count == 0 {
-        return Ok((registers.a, registers.b));
-    }
-    let first = operand_at(core, word, 1)?;
-    if count == 1 {
-        return Ok((first, first));
-    }
-    let second = operand_at(core, word, 4)?;
+    let first = first_operand(core, registers, word, count)?;
+    let second = second_operand(core, registers, word, count, first)?;
     Ok((first, second))
 }
 
 /// Decodes the instruction in `word`. Check INSTRUCTION if its operation, length or last character
 /// is not the machine's; check ADDRESS if an address cannot be read or is outside the storage.
 #[inline(always)]
-#[tactic(auto, unfolding(crate::specs::Word::decoded_of))]
-pub fn decode<C: Core>(core: &C, registers: &Registers, word: Word) -> Result<Decoded, Check>
+pub fn decode<C: Core>(core: &C, registers: &Registers, word: Word) -> Result<Instruction, Check>
     requires some { 1 ≤ word.length }
     requires most { word.length ≤ 8 }
     requires within { word.first + word.length ≤ length (C.cells core.now) }
     requires below { word.first < largest_size }
-    ensures decoded { result ≡ decoded_of (C.cells core.now) word.length registers.now
-        (codes_from (C.cells core.now) word.first word.length) }
-    ensures inside { IfOk result (λ decoded.
-        LooksInside decoded.modifier decoded.b (length (C.cells core.now))) }
-    ensures below { IfOk result (λ decoded. LooksInside decoded.modifier decoded.b largest_size) }
+    ensures decoded { IfOk result (λ instruction.
+        decoded_of (C.cells core.now) word.length registers.now
+        (codes_from (C.cells core.now) word.first word.length) ≡ Ok (decoded_by instruction)) }
+    ensures names { IfOk result (λ instruction. Names instruction (decoded_by instruction)) }
+    ensures check { IfErr result (λ check.
+        decoded_of (C.cells core.now) word.length registers.now
+        (codes_from (C.cells core.now) word.first word.length) ≡ Err check) }
+    ensures inside { IfOk result (λ instruction. LooksInside (decoded_by instruction).modifier
+        instruction.b (length (C.cells core.now))) }
+    ensures below { IfOk result (λ instruction. LooksInside (decoded_by instruction).modifier
+        instruction.b largest_size) }
 {
-    let Some(operation) = operation_of(character(core, word, 0)) else {
-        return Err(Check::Instruction);
-    };
-    if !operation.has_form(word.length) {
+    let first = character(core, word, 0);
+    if !has_form(first, word.length) {
         return Err(Check::Instruction);
     }
     let last = character(core, word, word.length - 1);
-    let Some(modifier) = operation.modifier(word.length, last) else {
+    if !allows(first, word.length, last) {
         return Err(Check::Instruction);
+    }
+    let (a, b) = match operands_of(core, registers, word, addresses_in(first, word.length)) {
+        Ok(operands) => operands,
+        Err(check) => return Err(check),
     };
-    let (a, b) = operands_of(core, registers, word, operation.addresses_in(word.length))?;
-    Ok(Decoded {
-        operation,
+    Ok(Instruction {
+        first,
         length: word.length,
         a,
         b,
-        modifier,
+        last,
     })
 }
 

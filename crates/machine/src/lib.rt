@@ -8,15 +8,21 @@
 #![tactic(auto)]
 
 mod branches;
+mod characters;
 mod cycle;
 mod decode;
+mod forms;
+mod instruction;
 mod meter;
 mod operations;
 mod parts;
 mod ranges;
 mod runs;
+mod standings;
 
 pub use decode::instructions_end_at_marks;
+pub use forms::operations_are_listed;
 pub use meter::Meter;
-pub use parts::{Event, Parts, Standing};
+pub use parts::Parts;
 pub use runs::{Machine, Ran, runs_add, runs_only_add, stays_in_range};
+pub use standings::{Event, Standing, StandingAt};

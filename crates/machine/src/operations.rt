@@ -1,161 +1,36 @@
 //! What the operations do.
 
-ghost use Rattle.std.specs.Prelude.{◌≡◌, ◌≤◌, ◌<◌, ℕ, length, Ok, Err, IfOk, IfErr, OnErr, OnOk};
-ghost use Rattle.core_store.specs.Storage.{largest_size};
+ghost use Rattle.std.specs.Prelude.{◌≡◌, ◌≤◌, ◌<◌, ◌==◌, ℕ, length, Ok, Err, IfOk, IfErr, OnErr, OnOk, if◌then◌else◌};
+ghost use Rattle.core_store.specs.Storage.{Storage, largest_size, code_at};
+ghost use Rattle.core_store.specs.Operands.{lowered};
 ghost use Rattle.units.specs.declared.units.Units.{Units};
 ghost use Rattle.units.specs.Units.{areas_end};
-ghost use Rattle.machine.specs.declared.decode.Operation.TheVariants.{OnFields, ClearStorage, StoreA, StoreB};
-ghost use Rattle.machine.specs.Effect.{effect, worked, ordered_by, Fails, works_of, branched, at, after_unit, after_halt, after_clear, after_branch, is_taken, looked_at, passed, passed_by};
-ghost use Rattle.machine.specs.Word.{LooksInside};
+ghost use Rattle.machine.specs.declared.decode.Operation.TheVariants.{OnFields, ClearStorage, StoreA, StoreB, Branch, BranchOnMarkOrZone, Halt, Operate, MoveCarriage};
+ghost use Rattle.machine.specs.Branches.{is_met, once_tested, test_of};
+ghost use Rattle.machine.specs.Effect.{effect, worked, Fails, works_of, branched, after_branch, after_halt};
+ghost use Rattle.machine.specs.Instructions.{decoded_by, operation_by, condition_by};
+ghost use Rattle.machine.specs.Word.{LooksInside, devices};
 
-use crate::decode::{Decoded, FieldOperation, Modifier, Operation};
+use crate::branches::{Condition, PositionTest};
+use crate::characters::*;
+use crate::decode::FieldOperation::{
+    self, Add, ClearMark, Compare, Edit, Load, ModifyAddress, Move, MoveDigit, MoveZone, SetMark,
+    Subtract, Suppress, ZeroAdd, ZeroSubtract,
+};
+use crate::instruction::Instruction;
 use addresses::store;
 use arith::{add, compare, modify, subtract, zero_add, zero_subtract};
 use core_store::{Check, Core, Registers, lowered};
 use moves::{
     clear_mark, clear_storage, digit, edit, load_field, move_field, set_mark, suppress, zone,
 };
-use units::{Fault, Printer, Units, move_carriage, operate};
+use units::{CarriageOrder, Devices, Fault, Units, move_carriage, operate};
 
 /// How an instruction without a check ended.
 #[derive(Clone, Copy)]
 pub enum Course {
     GoesOn,
     Halts,
-}
-
-/// The registers after a branch that is taken.
-fn branched(decoded: Decoded, next: u16, registers: Registers) -> Registers
-    ensures { result ≡ branched decoded next registers }
-{
-    Registers {
-        i: decoded.a,
-        a: decoded.a,
-        b: next,
-        ..registers
-    }
-}
-
-/// The registers before the next instruction.
-fn at(next: u16, registers: Registers) -> Registers
-    ensures { result ≡ at next registers }
-{
-    Registers {
-        i: next,
-        ..registers
-    }
-}
-
-/// The registers after an instruction of the units, which branches if it has an address.
-fn after_unit(decoded: Decoded, next: u16, registers: Registers) -> Registers
-    ensures { result ≡ after_unit decoded next registers }
-{
-    if decoded.length == 4 {
-        branched(decoded, next, registers)
-    } else {
-        at(next, registers)
-    }
-}
-
-/// The registers after a halt, which goes on at its own address if it has one.
-fn after_halt(decoded: Decoded, next: u16, registers: Registers) -> Registers
-    ensures { result ≡ after_halt decoded next registers }
-{
-    if decoded.length == 4 {
-        Registers {
-            i: decoded.a,
-            a: decoded.a,
-            ..registers
-        }
-    } else {
-        at(next, registers)
-    }
-}
-
-/// The registers after clearing storage, which branches if the instruction has two addresses.
-fn after_clear(decoded: Decoded, next: u16, registers: Registers) -> Registers
-    ensures { result ≡ after_clear decoded next registers }
-{
-    if decoded.length == 7 {
-        branched(decoded, next, registers)
-    } else {
-        at(next, registers)
-    }
-}
-
-/// Whether a branch is taken.
-#[inline(always)]
-fn is_taken<C: Core>(
-    core: &C,
-    registers: &Registers,
-    units: &Units,
-    modifier: Modifier,
-    b: u16,
-) -> bool
-    requires { LooksInside modifier b (length (C.cells core.now)) }
-    ensures { result ≡ is_taken modifier b (works_of (C.cells core.now) registers.now units.now) }
-{
-    match modifier {
-        Modifier::Plain | Modifier::ByOrder(_) => true,
-        Modifier::OnCondition(condition) => condition.is_met(registers, units),
-        Modifier::OnCharacter(code) => core.get(b).number() == code.number(),
-        Modifier::OnTest(test) => test.passes(core, b),
-    }
-}
-
-/// The registers after a branch has tested whether it is taken.
-fn looked_at(modifier: Modifier, registers: Registers) -> Registers
-    ensures { result ≡ looked_at modifier registers }
-{
-    match modifier {
-        Modifier::OnCondition(condition) => condition.once_tested(registers),
-        _ => registers,
-    }
-}
-
-/// Register B after a branch that is not taken.
-fn passed(modifier: Modifier, b: u16, old: u16) -> u16
-    requires { LooksInside modifier b largest_size }
-    ensures { result ≡ passed modifier b old }
-{
-    match modifier {
-        Modifier::OnCharacter(_) | Modifier::OnTest(_) => lowered(b, 1),
-        _ => old,
-    }
-}
-
-/// The registers after a branch that is not taken.
-fn passed_by(decoded: Decoded, next: u16, registers: Registers) -> Registers
-    requires { LooksInside decoded.modifier decoded.b largest_size }
-    ensures { result ≡ passed_by decoded next registers }
-{
-    Registers {
-        i: next,
-        a: decoded.a,
-        b: passed(decoded.modifier, decoded.b, registers.b),
-        ..registers
-    }
-}
-
-/// The registers after a branch.
-fn after_branch<C: Core>(
-    core: &C,
-    registers: &Registers,
-    units: &Units,
-    decoded: Decoded,
-    next: u16,
-) -> Registers
-    requires inside { LooksInside decoded.modifier decoded.b (length (C.cells core.now)) }
-    requires below { LooksInside decoded.modifier decoded.b largest_size }
-    ensures { result
-        ≡ after_branch decoded next (works_of (C.cells core.now) registers.now units.now) }
-{
-    let looked_at = looked_at(decoded.modifier, *registers);
-    if is_taken(core, registers, units, decoded.modifier, decoded.b) {
-        branched(decoded, next, looked_at)
-    } else {
-        passed_by(decoded, next, looked_at)
-    }
 }
 
 /// Does an operation on the fields at registers A and B.
@@ -174,32 +49,20 @@ fn work<C: Core>(
         × (registers.new ≡ registers.old)) }
 {
     match operation {
-        FieldOperation::Add => add(core, registers),
-        FieldOperation::Subtract => subtract(core, registers),
-        FieldOperation::ZeroAdd => zero_add(core, registers),
-        FieldOperation::ZeroSubtract => zero_subtract(core, registers),
-        FieldOperation::Compare => compare(core, registers),
-        FieldOperation::ModifyAddress => modify(core, registers),
-        FieldOperation::Move => move_field(core, registers),
-        FieldOperation::Load => load_field(core, registers),
-        FieldOperation::MoveDigit => digit(core, registers),
-        FieldOperation::MoveZone => zone(core, registers),
-        FieldOperation::Suppress => suppress(core, registers),
-        FieldOperation::Edit => edit(core, registers),
-        FieldOperation::SetMark => set_mark(core, registers),
-        FieldOperation::ClearMark => clear_mark(core, registers),
-    }
-}
-
-/// Gives the carriage the order of an instruction.
-fn give_order(printer: &mut Printer, modifier: Modifier) -> Result<(), Check>
-    ensures done { OnOk result (ordered_by modifier printer.old ≡ Ok printer.new) }
-    ensures check { IfErr result (λ check. ordered_by modifier printer.old ≡ Err check) }
-    ensures unchanged { OnErr result (printer.new ≡ printer.old) }
-{
-    match modifier {
-        Modifier::ByOrder(order) => move_carriage(printer, order),
-        _ => Ok(()),
+        Add => add(core, registers),
+        Subtract => subtract(core, registers),
+        ZeroAdd => zero_add(core, registers),
+        ZeroSubtract => zero_subtract(core, registers),
+        Compare => compare(core, registers),
+        ModifyAddress => modify(core, registers),
+        Move => move_field(core, registers),
+        Load => load_field(core, registers),
+        MoveDigit => digit(core, registers),
+        MoveZone => zone(core, registers),
+        Suppress => suppress(core, registers),
+        Edit => edit(core, registers),
+        SetMark => set_mark(core, registers),
+        ClearMark => clear_mark(core, registers),
     }
 }
 
@@ -210,22 +73,23 @@ fn work_on_fields<C: Core>(
     core: &mut C,
     registers: &mut Registers,
     operation: FieldOperation,
-    decoded: Decoded,
+    instruction: Instruction,
     next: u16,
 ) -> Result<Course, Fault>
     ensures done { IfOk result (λ course. (units : Units) →
-        effect (OnFields operation) decoded next (works_of (C.cells core.old) registers.old units)
+        effect (OnFields operation) (decoded_by instruction) next
+        (works_of (C.cells core.old) registers.old units)
         ≡ Ok (works_of (C.cells core.new) registers.new units, course)) }
     ensures refused { IfErr result (λ fault. (units : Units) →
         Fails fault (works_of (C.cells core.old) registers.old units)
-        (effect (OnFields operation) decoded next
+        (effect (OnFields operation) (decoded_by instruction) next
         (works_of (C.cells core.old) registers.old units))) }
     ensures unchanged { OnErr result ((C.cells core.new ≡ C.cells core.old)
         × (registers.new ≡ registers.old)) }
 {
     let Registers { a, b, .. } = *registers;
-    registers.a = decoded.a;
-    registers.b = decoded.b;
+    registers.a = instruction.a;
+    registers.b = instruction.b;
     if let Err(check) = work(core, registers, operation) {
         registers.a = a;
         registers.b = b;
@@ -235,143 +99,377 @@ fn work_on_fields<C: Core>(
     Ok(Course::GoesOn)
 }
 
-/// Clears storage from the address of its instruction down.
+/// Does one of the rarer operations on fields, out of line.
+#[inline(never)]
+fn work_rarely<C: Core>(
+    core: &mut C,
+    registers: &mut Registers,
+    operation: FieldOperation,
+    instruction: Instruction,
+    next: u16,
+) -> Result<Course, Fault>
+    ensures done { IfOk result (λ course. (units : Units) →
+        effect (OnFields operation) (decoded_by instruction) next
+        (works_of (C.cells core.old) registers.old units)
+        ≡ Ok (works_of (C.cells core.new) registers.new units, course)) }
+    ensures refused { IfErr result (λ fault. (units : Units) →
+        Fails fault (works_of (C.cells core.old) registers.old units)
+        (effect (OnFields operation) (decoded_by instruction) next
+        (works_of (C.cells core.old) registers.old units))) }
+    ensures unchanged { OnErr result ((C.cells core.new ≡ C.cells core.old)
+        × (registers.new ≡ registers.old)) }
+{
+    work_on_fields(core, registers, operation, instruction, next)
+}
+
+/// Sets the registers after a branch that is taken.
+#[inline(always)]
+fn take_branch(registers: &mut Registers, instruction: Instruction, next: u16)
+    ensures { registers.new ≡ branched (decoded_by instruction) next registers.old }
+{
+    registers.i = instruction.a;
+    registers.a = instruction.a;
+    registers.b = next;
+}
+
+/// Sets the registers after a branch that tested a position and is not taken.
+#[inline(always)]
+fn pass_position(registers: &mut Registers, instruction: Instruction, next: u16)
+    requires { instruction.b < largest_size }
+    ensures { registers.new ≡ record registers.old {
+      i = next;
+      a = instruction.a;
+      b = lowered instruction.b 1;
+    } }
+{
+    registers.i = next;
+    registers.a = instruction.a;
+    registers.b = lowered(instruction.b, 1);
+}
+
+/// Branches if the condition is met that the last character names.
+#[inline(always)]
+fn branch_on_condition(
+    registers: &mut Registers,
+    units: &Units,
+    instruction: Instruction,
+    next: u16,
+)
+    ensures { registers.new ≡ (if is_met (condition_by instruction.last) registers.old units.now
+        then branched (decoded_by instruction) next
+        (once_tested (condition_by instruction.last) registers.old)
+        else record (once_tested (condition_by instruction.last) registers.old)
+        { i = next; a = instruction.a }) }
+{
+    if Condition::test(instruction.last, registers, units) {
+        take_branch(registers, instruction, next);
+    } else {
+        registers.i = next;
+        registers.a = instruction.a;
+    }
+}
+
+/// Branches if the character at the second address is the last one of the instruction.
+#[inline(always)]
+fn branch_on_character<C: Core>(
+    core: &C,
+    registers: &mut Registers,
+    instruction: Instruction,
+    next: u16,
+)
+    requires inside { instruction.b < length (C.cells core.now) }
+    requires below { instruction.b < largest_size }
+    ensures { registers.new ≡ (if code_at (C.cells core.now) instruction.b == instruction.last
+        then branched (decoded_by instruction) next registers.old
+        else record registers.old
+        { i = next; a = instruction.a; b = lowered instruction.b 1 }) }
+{
+    if core.get(instruction.b).number() == instruction.last.number() {
+        take_branch(registers, instruction, next);
+    } else {
+        pass_position(registers, instruction, next);
+    }
+}
+
+/// Branches, on a condition or on a character at a position.
+#[inline(always)]
+fn branch<C: Core>(
+    core: &C,
+    registers: &mut Registers,
+    units: &Units,
+    instruction: Instruction,
+    next: u16,
+)
+    requires branch { operation_by instruction.first ≡ Branch }
+    requires inside { LooksInside (decoded_by instruction).modifier instruction.b
+        (length (C.cells core.now)) }
+    requires below { LooksInside (decoded_by instruction).modifier instruction.b largest_size }
+    ensures { registers.new ≡ after_branch (decoded_by instruction) next
+        (works_of (C.cells core.now) registers.old units.now) }
+{
+    if instruction.length == 5 {
+        branch_on_condition(registers, units, instruction, next);
+        return;
+    }
+    if instruction.length == 8 {
+        branch_on_character(core, registers, instruction, next);
+        return;
+    }
+    take_branch(registers, instruction, next);
+}
+
+/// Branches if the position at the second address passes the test that the last character names.
+#[inline(never)]
+fn branch_on_test<C: Core>(
+    core: &C,
+    registers: &mut Registers,
+    units: &Units,
+    instruction: Instruction,
+    next: u16,
+)
+    requires branch { operation_by instruction.first ≡ BranchOnMarkOrZone }
+    requires inside { LooksInside (decoded_by instruction).modifier instruction.b
+        (length (C.cells core.now)) }
+    requires below { LooksInside (decoded_by instruction).modifier instruction.b largest_size }
+    ensures { registers.new ≡ after_branch (decoded_by instruction) next
+        (works_of (C.cells core.now) registers.old units.now) }
+{
+    let Some(test) = PositionTest::of_code(instruction.last) else {
+        take_branch(registers, instruction, next);
+        return;
+    };
+    if test.passes(core, instruction.b) {
+        take_branch(registers, instruction, next);
+    } else {
+        pass_position(registers, instruction, next);
+    }
+}
+
+/// Clears storage from the address of its instruction down, and branches if it has two.
+#[inline(never)]
 #[tactic(auto, unfolding(crate::specs::Effect::effect))]
 fn clear<C: Core>(
     core: &mut C,
     registers: &mut Registers,
-    decoded: Decoded,
+    instruction: Instruction,
     next: u16,
 ) -> Result<Course, Fault>
     ensures done { IfOk result (λ course. (units : Units) →
-        effect ClearStorage decoded next (works_of (C.cells core.old) registers.old units)
+        effect ClearStorage (decoded_by instruction) next
+        (works_of (C.cells core.old) registers.old units)
         ≡ Ok (works_of (C.cells core.new) registers.new units, course)) }
     ensures refused { IfErr result (λ fault. (units : Units) →
         Fails fault (works_of (C.cells core.old) registers.old units)
-        (effect ClearStorage decoded next (works_of (C.cells core.old) registers.old units))) }
+        (effect ClearStorage (decoded_by instruction) next
+        (works_of (C.cells core.old) registers.old units))) }
     ensures unchanged { OnErr result ((C.cells core.new ≡ C.cells core.old)
         × (registers.new ≡ registers.old)) }
 {
     let mut filled = Registers {
-        a: decoded.a,
-        b: decoded.b,
+        a: instruction.a,
+        b: instruction.b,
         ..*registers
     };
     if let Err(check) = clear_storage(core, &mut filled) {
         return Err(Fault::Stopped(check));
     }
-    *registers = after_clear(decoded, next, filled);
+    *registers = filled;
+    if instruction.length == 7 {
+        take_branch(registers, instruction, next);
+        return Ok(Course::GoesOn);
+    }
+    registers.i = next;
     Ok(Course::GoesOn)
 }
 
 /// Stores the A register.
+#[inline(never)]
 #[tactic(auto, unfolding(crate::specs::Effect::effect))]
 fn store_a<C: Core>(
     core: &mut C,
     registers: &mut Registers,
-    decoded: Decoded,
+    instruction: Instruction,
     next: u16,
 ) -> Result<Course, Fault>
     ensures done { IfOk result (λ course. (units : Units) →
-        effect StoreA decoded next (works_of (C.cells core.old) registers.old units)
+        effect StoreA (decoded_by instruction) next
+        (works_of (C.cells core.old) registers.old units)
         ≡ Ok (works_of (C.cells core.new) registers.new units, course)) }
     ensures refused { IfErr result (λ fault. (units : Units) →
         Fails fault (works_of (C.cells core.old) registers.old units)
-        (effect StoreA decoded next (works_of (C.cells core.old) registers.old units))) }
+        (effect StoreA (decoded_by instruction) next
+        (works_of (C.cells core.old) registers.old units))) }
     ensures unchanged { OnErr result ((C.cells core.new ≡ C.cells core.old)
         × (registers.new ≡ registers.old)) }
 {
-    if let Err(check) = store(core, decoded.a, registers.a) {
+    if let Err(check) = store(core, instruction.a, registers.a) {
         return Err(Fault::Stopped(check));
     }
-    *registers = Registers {
-        i: next,
-        b: lowered(decoded.a, 3),
-        ..*registers
-    };
+    registers.i = next;
+    registers.b = lowered(instruction.a, 3);
     Ok(Course::GoesOn)
 }
 
 /// Stores the B register.
+#[inline(never)]
 #[tactic(auto, unfolding(crate::specs::Effect::effect))]
 fn store_b<C: Core>(
     core: &mut C,
     registers: &mut Registers,
-    decoded: Decoded,
+    instruction: Instruction,
     next: u16,
 ) -> Result<Course, Fault>
     ensures done { IfOk result (λ course. (units : Units) →
-        effect StoreB decoded next (works_of (C.cells core.old) registers.old units)
+        effect StoreB (decoded_by instruction) next
+        (works_of (C.cells core.old) registers.old units)
         ≡ Ok (works_of (C.cells core.new) registers.new units, course)) }
     ensures refused { IfErr result (λ fault. (units : Units) →
         Fails fault (works_of (C.cells core.old) registers.old units)
-        (effect StoreB decoded next (works_of (C.cells core.old) registers.old units))) }
+        (effect StoreB (decoded_by instruction) next
+        (works_of (C.cells core.old) registers.old units))) }
     ensures unchanged { OnErr result ((C.cells core.new ≡ C.cells core.old)
         × (registers.new ≡ registers.old)) }
 {
-    if let Err(check) = store(core, decoded.a, registers.b) {
+    if let Err(check) = store(core, instruction.a, registers.b) {
         return Err(Fault::Stopped(check));
     }
-    *registers = Registers {
-        i: next,
-        a: lowered(decoded.a, 3),
-        ..*registers
-    };
+    registers.i = next;
+    registers.a = lowered(instruction.a, 3);
     Ok(Course::GoesOn)
 }
 
-/// Executes one operation. `next` is the position after its instruction. Fails with the first check
-/// that applies, or if there is no memory for a card or a line.
+/// Does an operation of the units, and branches if its instruction has an address.
+#[inline(never)]
 #[tactic(auto, unfolding(crate::specs::Effect::effect))]
-pub fn execute<C: Core>(
+fn operate_units<C: Core>(
     core: &mut C,
     registers: &mut Registers,
     units: &mut Units,
-    decoded: Decoded,
+    instruction: Instruction,
     next: u16,
 ) -> Result<Course, Fault>
-    requires size { areas_end ≤ length (C.cells core.old) }
-    requires inside { LooksInside decoded.modifier decoded.b (length (C.cells core.old)) }
-    requires below { LooksInside decoded.modifier decoded.b largest_size }
+    requires { areas_end ≤ length (C.cells core.old) }
     ensures done { IfOk result (λ course.
-        effect decoded.operation decoded next (works_of (C.cells core.old) registers.old units.old)
+        effect (Operate (devices instruction.first)) (decoded_by instruction) next
+        (works_of (C.cells core.old) registers.old units.old)
         ≡ Ok (works_of (C.cells core.new) registers.new units.new, course)) }
     ensures refused { IfErr result (λ fault.
         Fails fault (works_of (C.cells core.old) registers.old units.old)
-        (effect decoded.operation decoded next
+        (effect (Operate (devices instruction.first)) (decoded_by instruction) next
         (works_of (C.cells core.old) registers.old units.old))) }
     ensures unchanged { OnErr result (works_of (C.cells core.new) registers.new units.new
         ≡ works_of (C.cells core.old) registers.old units.old) }
 {
-    match decoded.operation {
-        Operation::OnFields(operation) => {
-            work_on_fields(core, registers, operation, decoded, next)
+    operate(core, units, Devices::of_sum(instruction.first.number()))?;
+    if instruction.length == 4 {
+        take_branch(registers, instruction, next);
+        return Ok(Course::GoesOn);
+    }
+    registers.i = next;
+    Ok(Course::GoesOn)
+}
+
+/// Gives the carriage the order that the last character names.
+#[inline(never)]
+#[tactic(auto, unfolding(crate::specs::Effect::effect))]
+fn give_order(
+    registers: &mut Registers,
+    units: &mut Units,
+    instruction: Instruction,
+    next: u16,
+) -> Result<Course, Fault>
+    requires { operation_by instruction.first ≡ MoveCarriage }
+    ensures done { IfOk result (λ course. (s : Storage) →
+        effect MoveCarriage (decoded_by instruction) next (works_of s registers.old units.old)
+        ≡ Ok (works_of s registers.new units.new, course)) }
+    ensures refused { IfErr result (λ fault. (s : Storage) →
+        Fails fault (works_of s registers.old units.old)
+        (effect MoveCarriage (decoded_by instruction) next
+        (works_of s registers.old units.old))) }
+    ensures unchanged { OnErr result ((registers.new ≡ registers.old)
+        × (units.new ≡ units.old)) }
+{
+    if let Some(order) = CarriageOrder::of_code(instruction.last) {
+        if let Err(check) = move_carriage(&mut units.printer, order) {
+            return Err(Fault::Stopped(check));
         }
-        Operation::ClearStorage => clear(core, registers, decoded, next),
-        Operation::StoreA => store_a(core, registers, decoded, next),
-        Operation::StoreB => store_b(core, registers, decoded, next),
-        Operation::Branch | Operation::BranchOnMarkOrZone => {
-            *registers = after_branch(core, registers, units, decoded, next);
+        registers.i = next;
+        return Ok(Course::GoesOn);
+    }
+    registers.i = next;
+    Ok(Course::GoesOn)
+}
+
+/// Sets the registers after a halt, which goes on at its own address if it has one.
+fn halt(registers: &mut Registers, instruction: Instruction, next: u16)
+    ensures { registers.new ≡ after_halt (decoded_by instruction) next registers.old }
+{
+    registers.i = next;
+    if instruction.length == 4 {
+        registers.i = instruction.a;
+        registers.a = instruction.a;
+    }
+}
+
+/// Executes one operation. `next` is the position after its instruction. Fails with the first check
+/// that applies, or if there is no memory for a card or a line.
+#[inline(always)]
+pub fn execute<C: Core>(
+    core: &mut C,
+    registers: &mut Registers,
+    units: &mut Units,
+    instruction: Instruction,
+    next: u16,
+) -> Result<Course, Fault>
+    requires size { areas_end ≤ length (C.cells core.old) }
+    requires inside { LooksInside (decoded_by instruction).modifier instruction.b
+        (length (C.cells core.old)) }
+    requires below { LooksInside (decoded_by instruction).modifier instruction.b largest_size }
+    ensures done { IfOk result (λ course.
+        effect (decoded_by instruction).operation (decoded_by instruction) next
+        (works_of (C.cells core.old) registers.old units.old)
+        ≡ Ok (works_of (C.cells core.new) registers.new units.new, course)) }
+    ensures refused { IfErr result (λ fault.
+        Fails fault (works_of (C.cells core.old) registers.old units.old)
+        (effect (decoded_by instruction).operation (decoded_by instruction) next
+        (works_of (C.cells core.old) registers.old units.old))) }
+    ensures unchanged { OnErr result (works_of (C.cells core.new) registers.new units.new
+        ≡ works_of (C.cells core.old) registers.old units.old) }
+{
+    match instruction.first.number() {
+        ADD => work_on_fields(core, registers, Add, instruction, next),
+        SUBTRACT => work_on_fields(core, registers, Subtract, instruction, next),
+        COMPARE => work_on_fields(core, registers, Compare, instruction, next),
+        MOVE => work_on_fields(core, registers, Move, instruction, next),
+        LOAD => work_on_fields(core, registers, Load, instruction, next),
+        BRANCH => {
+            branch(core, registers, units, instruction, next);
             Ok(Course::GoesOn)
         }
-        Operation::Operate(devices) => {
-            operate(core, units, devices)?;
-            *registers = after_unit(decoded, next, *registers);
+        ZERO_ADD => work_rarely(core, registers, ZeroAdd, instruction, next),
+        ZERO_SUBTRACT => work_rarely(core, registers, ZeroSubtract, instruction, next),
+        MODIFY_ADDRESS => work_rarely(core, registers, ModifyAddress, instruction, next),
+        MOVE_DIGIT => work_rarely(core, registers, MoveDigit, instruction, next),
+        MOVE_ZONE => work_rarely(core, registers, MoveZone, instruction, next),
+        SUPPRESS => work_rarely(core, registers, Suppress, instruction, next),
+        EDIT => work_rarely(core, registers, Edit, instruction, next),
+        SET_MARK => work_rarely(core, registers, SetMark, instruction, next),
+        CLEAR_MARK => work_rarely(core, registers, ClearMark, instruction, next),
+        CLEAR_STORAGE => clear(core, registers, instruction, next),
+        BRANCH_ON_MARK_OR_ZONE => {
+            branch_on_test(core, registers, units, instruction, next);
             Ok(Course::GoesOn)
         }
-        Operation::MoveCarriage => {
-            if let Err(check) = give_order(&mut units.printer, decoded.modifier) {
-                return Err(Fault::Stopped(check));
-            }
-            *registers = at(next, *registers);
-            Ok(Course::GoesOn)
-        }
-        Operation::Halt => {
-            *registers = after_halt(decoded, next, *registers);
+        FIRST_OF_UNITS..=LAST_OF_UNITS => operate_units(core, registers, units, instruction, next),
+        MOVE_CARRIAGE => give_order(registers, units, instruction, next),
+        STORE_A => store_a(core, registers, instruction, next),
+        STORE_B => store_b(core, registers, instruction, next),
+        HALT => {
+            halt(registers, instruction, next);
             Ok(Course::Halts)
         }
-        Operation::NoOperation => {
-            *registers = at(next, *registers);
+        _ => {
+            registers.i = next;
             Ok(Course::GoesOn)
         }
     }

@@ -1,30 +1,12 @@
 //! The parts of a machine.
 
-use core_store::{Check, Core, Registers};
+ghost use Rattle.std.specs.Prelude.{◌≡◌};
+ghost use Rattle.machine.specs.Standings.{standing_of};
+
+use crate::standings::{Standing, StandingAt};
+use core_store::{Core, Registers};
 use std::marker::Model;
 use units::Units;
-
-/// Whether a machine is running, is at a halt, or is at a check.
-#[derive(Clone, Copy, Debug, PartialEq, Eq)]
-pub enum Standing {
-    /// It continues with the instruction at register I.
-    Running,
-    /// It is at a halt, from which the operator may start it again.
-    Halted,
-    /// The instruction at register I stopped it for good.
-    Checked(Check),
-}
-
-/// What a step returns: the standing after it.
-#[derive(Clone, Copy, Debug, PartialEq, Eq)]
-pub enum Event {
-    /// It is running.
-    Next,
-    /// It is at a halt.
-    Halt,
-    /// It is at a check.
-    Stop(Check),
-}
 
 /// The picture of a machine: storage, registers, units and standing. Between two calls the picture
 /// is the whole state.
@@ -48,4 +30,13 @@ impl<C: Core> Model for Parts<C> {
     } };
 
     ghost invariant = { λ p. 1400 ≤ length (C.cells p.core) };
+}
+
+impl<C: Core> Parts<C> {
+    /// The standing of the machine, with its address.
+    pub fn standing_at(&self) -> StandingAt
+        ensures { result ≡ standing_of self.now }
+    {
+        StandingAt::new(self.standing, self.registers.i)
+    }
 }

@@ -21,7 +21,7 @@ impl<C: Core> Parts<C> {
     fn has_size(&self) -> bool
         ensures { IsTrue result ↔ HasSize self.now.works.storage }
     {
-        Size::of_positions(self.core.size()).is_some()
+        Size::of_positions(u32::from(self.core.size())).is_some()
     }
 
     /// Whether this picture is in range.

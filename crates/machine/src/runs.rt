@@ -12,7 +12,8 @@ ghost use Rattle.machine.specs.Effect.{works_of};
 ghost use Rattle.machine.specs.Ranges.{IsInRange};
 
 use crate::meter::Meter;
-use crate::parts::{Event, Parts, Standing};
+use crate::parts::Parts;
+use crate::standings::{Event, Standing};
 use cards::Deck;
 use core_store::{Compared, Core, Registers, Size};
 use std::alloc::{AllocError, Global};
@@ -136,7 +137,7 @@ impl<C: Core> Machine<C> {
         if !parts.is_in_range() {
             return Ok(None);
         }
-        let Some(size) = Size::of_positions(parts.core.size()) else {
+        let Some(size) = Size::of_positions(u32::from(parts.core.size())) else {
             return Ok(None);
         };
         let spare = C::blank(alloc, size)?;

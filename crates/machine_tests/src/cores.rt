@@ -76,6 +76,57 @@ fn marks_are_found_near_and_far(rt: HostRuntime) -> Result<(), Fail> {
     check::<Search>(rt.alloc(), SEARCHES)
 }
 
+/// The end of the word at a position, after marks were set and cleared.
+fn word_end<C: Core>(alloc: Global, position: u16, marks: &str) -> Result<Option<u16>, AllocError> {
+    let mut core = C::blank(alloc, Size::Positions1400)?;
+    for word in marks.split_whitespace() {
+        mark(&mut core, word);
+    }
+    if position >= core.size() {
+        return Ok(None);
+    }
+    Ok(core.word_end(position))
+}
+
+/// The ends of words. Input: a position of 1400, and the marks that are set and cleared. Output: the
+/// end of the word at that position, by both kinds of storage.
+struct Word;
+
+impl Case for Word {
+    fn outcome(alloc: Global, given: &str) -> Result<String, Fail> {
+        let (position, marks) = cut(given, "|");
+        let position = number(position);
+        let end = word_end::<FlagCore>(alloc, position, marks)?;
+        if end != word_end::<PlaneCore>(alloc, position, marks)? {
+            return Err("two answers".into());
+        }
+        Ok(format!(in alloc; "{end:?}")?)
+    }
+}
+
+/// Words of one to nine characters, one that does not begin, and words at the end of storage.
+const WORDS: &str = "\
+0|0 1 -> Some(1)
+0|0 7 8 -> Some(7)
+0|0 8 -> Some(8)
+0|0 9 -> None
+0|8 -> None
+40|0 40 42 44 -42 -> Some(44)
+1383|1383 1391 -> Some(1391)
+1384|1384 1392 -> Some(1392)
+1385|1385 1393 -> Some(1393)
+1391|1391 1399 -> Some(1399)
+1390|1390 1399 -> None
+1398|1398 1399 -> Some(1399)
+1398|1399 -> None
+1399|1399 -> None
+";
+
+#[test]
+fn ends_of_words(rt: HostRuntime) -> Result<(), Fail> {
+    check::<Word>(rt.alloc(), WORDS)
+}
+
 /// Marks a position, or clears its mark.
 fn put_mark<C: Core>(core: &mut C, position: u16, marked: bool) {
     if position >= core.size() {
@@ -130,6 +181,7 @@ fn agree(flags: &FlagCore, planes: &PlaneCore, position: u16) -> bool {
         && position < planes.size()
         && flags.mark_at_or_below(position) == planes.mark_at_or_below(position)
         && flags.mark_after(position) == planes.mark_after(position)
+        && flags.word_end(position) == planes.word_end(position)
 }
 
 /// The first position of 1400 from which two storages find different marks.
@@ -164,9 +216,13 @@ fn both_storages_find_every_mark(rt: HostRuntime) -> Result<(), Fail> {
     Ok(())
 }
 
-/// Whether there is an `A` at the last of 2000 positions, marked or not.
+/// Whether there is an `A` at the last of 2000 positions, marked or not, and none before it.
 fn ends_with_a<C: Core>(core: &C, is_marked: bool) -> bool {
-    core.size() == 2000 && core.get(1999) == code(b'A') && core.is_marked(1999) == is_marked
+    core.size() == 2000
+        && core.get(1999) == code(b'A')
+        && core.get_after(1991, 8) == code(b'A')
+        && core.get_after(1991, 7) == code(b' ')
+        && core.is_marked(1999) == is_marked
 }
 
 /// Whether the last of 2000 positions has no mark after a letter was put there, and has both in a
@@ -287,7 +343,7 @@ fn are_lowered() -> bool {
 
 /// Whether there is a size with this number of positions.
 fn is_size(positions: u16) -> bool {
-    match Size::of_positions(positions) {
+    match Size::of_positions(u32::from(positions)) {
         Some(size) => size.positions() == positions,
         None => false,
     }

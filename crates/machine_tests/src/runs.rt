@@ -47,7 +47,7 @@ fn units_of(alloc: Global, units: &Units) -> Result<Units, DeckFault> {
 
 /// A copy of a picture.
 fn copy_of(alloc: Global, parts: &Parts<FlagCore>) -> Result<Parts<FlagCore>, Fail> {
-    let size = Size::of_positions(parts.core.size()).ok_or("a size")?;
+    let size = Size::of_positions(u32::from(parts.core.size())).ok_or("a size")?;
     let mut core = FlagCore::blank(alloc, size)?;
     core.copy_from(&parts.core);
     Ok(Parts {

@@ -4,7 +4,7 @@ use Rattle.std.proofs.Math.Decide.{dec_lt}
 use Rattle.std.proofs.lemmas.Bool.{eq-eqb, ne_eqb}
 use Rattle.std.proofs.lemmas.List.{length-set}
 use Rattle.core_store.specs.Storage.{Storage, code_at, put, put_codes, codes_ending, codes_from, with_mark}
-use Rattle.core_store.proofs.Fields.{length-put, codes_ending_more, codes_ending-none, length-codes_ending, cell-put_codes_below, cell-put_codes_above, codes_ending-with_mark}
+use Rattle.core_store.proofs.Fields.{length-put, length-put_codes, codes_ending_more, codes_ending-none, length-codes_ending, cell-put_codes_below, cell-put_codes_above, codes_ending-with_mark}
 use Rattle.moves.specs.Characters.{bare, bare_units, from_right, blank}
 use Rattle.core_store.specs.Operands.{is_overlapping}
 use Rattle.core_store.proofs.Cuts.{not_overlapping}
@@ -154,3 +154,6 @@ pub copied_on : (s : Storage) (a b count i : ℕ) → a < length s → count ≤
     (new : Storage) → new ≡ put now (b - i) code → new ≡ put_codes s (b + 1 - (i + 1)) (bare_units (codes_ending s a (i + 1)))
 copied_on s a b count i a_in a_from b_in b_from i_in apart now is code code_is new new_is =
     new_is ∙ ap (put now (b - i)) code_is ∙ copy_step s a b count i a_in a_from b_in b_from i_in apart now is
+
+pub put_codes_long : (s new : Storage) (first : ℕ) (codes : List ℕ) → new ≡ put_codes s first codes → length new ≡ length s
+put_codes_long s new first codes is = ap length is ∙ length-put_codes s first codes

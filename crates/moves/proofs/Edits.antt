@@ -1,10 +1,12 @@
 -- a control that is filled with data from right to left
-use Rattle.std.proofs.Common.{◌⊎◌, inl, inr, zero, ◌≡◌, ℕ, suc, ◌+◌, ◌-◌, ◌<◌, ◌≤◌, Bool, true, false, List, [], ◌∷◌, refl, sym, ◌∙◌, ap, arith, length, get_or, reverse, min, if◌then◌else◌, add-one, codes}
+use Rattle.std.proofs.Common.{◌⊎◌, inl, inr, zero, ◌≡◌, ℕ, suc, ◌+◌, ◌-◌, ◌<◌, ◌≤◌, Bool, true, false, List, [], ◌∷◌, refl, sym, ◌∙◌, ap, arith, length, get_or, reverse, min, nat_lt, ◌==◌, ◌&&◌, ◌||◌, ◌≢◌, if◌then◌else◌, add-one, codes}
+use Rattle.std.proofs.Math.Decide.{dec_lt}
+use Rattle.std.proofs.lemmas.Bool.{lt-ltb, le-ltb, ne_eqb}
 use Rattle.std.proofs.lemmas.Bool.Decides.{nat_tests}
 use Rattle.std.proofs.lemmas.List.{get_or-reverse, length-reverse}
-use Rattle.bcd.specs.Table.{zone_of}
+use Rattle.bcd.specs.Table.{glyph_of, zone_of}
 use Rattle.core_store.specs.Storage.{Storage, code_at, put, put_codes, codes_ending, codes_from}
-use Rattle.core_store.proofs.Fields.{codes_ending_more, codes_ending-none, length-codes_ending, cell-put_codes_below, codes_ending-put_apart}
+use Rattle.core_store.proofs.Fields.{codes_ending_more, codes_ending-none, length-codes_ending, codes_ending_is_from, cell-put_codes_below, codes_ending-put_apart}
 use Rattle.moves.specs.Characters.{is_any, bare_units, from_right}
 use Rattle.core_store.specs.Operands.{is_minus_zone}
 use Rattle.moves.specs.Blanked.{ends, leading, blanked}
@@ -92,6 +94,25 @@ sign_is s a a_count a_in some from =
     let whole : a ≡ a - 0 = omega arith in
     ap (λ c. is_minus_zone (zone_of c)) (ap (code_at s) whole ∙ sym (from_right-ending s a a_count 0 a_in from (omega arith)))
 
+-- ---- a character that is a digit place, or is not
+
+pub place_is_digit : (minus : Bool) (count right digit code : ℕ) → is_place code ≡ true → digit ≡ filled_code minus count right digit code
+unfolding filled_code
+place_is_digit minus count right digit code place = rw place refl
+
+pub other_is_kept : (minus : Bool) (count right d e code : ℕ) → is_place code ≡ false → filled_code minus count right d code ≡ filled_code minus count right e code
+unfolding filled_code
+other_is_kept minus count right d e code other = rw other refl
+
+-- no zero is among the other characters
+pub other_is_no_zero : (through left code next : ℕ) → is_place code ≡ false → next ≡ through → next ≡ (if through == 0 && is_any (codes "0") code then left else through)
+unfolding is_place is_any
+other_is_no_zero through left code next other is = is ∙ kept (through == 0) (glyph_of code == 48) _ other where
+  kept : (a b c : Bool) → (b || c) ≡ false → through ≡ (if a && (b || false) then left else through)
+  kept a true c h = absurd (cc)
+  kept true false c h = refl
+  kept false false c h = refl
+
 -- ---- the rightmost `0`
 
 nth : (s : Storage) (b n j k : ℕ) → b < length s → n ≤ b + 1 → k + j + 1 ≡ n → get_or (codes_ending s b n) k 0 ≡ code_at s (b - j)
@@ -111,33 +132,82 @@ module _ (s : Storage) (b n : ℕ) (b_in : b < length s) (b_from : n ≤ b + 1) 
       let long = length-codes_ending s b n b_in b_from in
       get_or-reverse (codes_ending s b n) j 0 (omega arith) ∙ nth s b n j (length (codes_ending s b n) - 1 - j) b_in b_from (omega arith)
 
-  pub no_zero : (j : ℕ) → j < n → j ≤ leading (is_any (codes "0")) (reverse (codes_ending s b n)) → is_any (codes "0") (code_at s (b - j)) ≡ false → j + 1 ≤ leading (is_any (codes "0")) (reverse (codes_ending s b n))
-  no_zero j h le differs = leading_more (is_any (codes "0")) (reverse (codes_ending s b n)) j (omega (arith, length-backward)) le (ap (is_any (codes "0")) (backward j h) ∙ differs)
+-- after the rightmost i characters: how many the control field has up to its rightmost `0`, or 0 if it is not among them
+abbrev pub through_seen : List ℕ → ℕ → ℕ
+through_seen control i =
+    if nat_lt (leading (is_any (codes "0")) (reverse control)) i then length control - leading (is_any (codes "0")) (reverse control) else 0
 
-  pub zero_here : (j : ℕ) → j < n → j ≤ leading (is_any (codes "0")) (reverse (codes_ending s b n)) → is_any (codes "0") (code_at s (b - j)) ≡ true → n - j ≡ through_zero (codes_ending s b n)
-  unfolding through_zero
-  zero_here j h le passes =
-      let here = leading_here (is_any (codes "0")) (reverse (codes_ending s b n)) j (omega (arith, length-backward)) le (ap (is_any (codes "0")) (backward j h) ∙ passes) in
-      let long = length-codes_ending s b n b_in b_from in
-      omega arith
+module _ (control : List ℕ) (i : ℕ) (i_in : i < length control) where
+  abbrev first : ℕ
+  first = leading (is_any (codes "0")) (reverse control)
 
-  pub zero_nowhere : n ≤ leading (is_any (codes "0")) (reverse (codes_ending s b n)) → 0 ≡ through_zero (codes_ending s b n)
-  unfolding through_zero
-  zero_nowhere le = let long = length-codes_ending s b n b_in b_from in omega arith
+  inside : i < length (reverse control)
+  inside = omega (arith, length-reverse control)
+
+  later : (next through : ℕ) (zero_here : Bool) → first < i → through ≡ through_seen control i → next ≡ (if through == 0 && zero_here then length control - i else through) → next ≡ through_seen control (i + 1)
+  later next through zero_here before is next_is =
+      let known : through ≡ length control - first = is ∙ ap (λ b. if b then length control - first else 0) (lt-ltb first i before) in
+      let some : through ≢ 0 = omega arith in
+      let kept : next ≡ through = next_is ∙ ap (λ b. if b && zero_here then length control - i else through) (ne_eqb through 0 some) in
+      kept ∙ known ∙ sym (ap (λ b. if b then length control - first else 0) (lt-ltb first (i + 1) (omega arith)))
+
+  now : (next through : ℕ) (zero_here : Bool) → zero_here ≡ is_any (codes "0") (get_or (reverse control) i 0) → i ≤ first → through ≡ through_seen control i →
+      next ≡ (if through == 0 && zero_here then length control - i else through) → next ≡ through_seen control (i + 1)
+  now next through true here from is next_is =
+      let none : through ≡ 0 = is ∙ ap (λ b. if b then length control - first else 0) (le-ltb first i from) in
+      let same : first ≡ i = leading_here (is_any (codes "0")) (reverse control) i inside from (sym here) in
+      let given : next ≡ length control - first = next_is ∙ ap (λ n. if n == 0 && true then length control - i else n) none ∙ ap (λ n. length control - n) (sym same) in
+      given ∙ sym (ap (λ b. if b then length control - first else 0) (lt-ltb first (i + 1) (omega arith)))
+  now next through false here from is next_is =
+      let none : through ≡ 0 = is ∙ ap (λ b. if b then length control - first else 0) (le-ltb first i from) in
+      let more : i + 1 ≤ first = leading_more (is_any (codes "0")) (reverse control) i inside from (sym here) in
+      let kept : next ≡ 0 = next_is ∙ ap (λ n. if n == 0 && false then length control - i else n) none in
+      kept ∙ sym (ap (λ b. if b then length control - first else 0) (le-ltb first (i + 1) more))
+
+  pub seen_more : (next through : ℕ) (zero_here : Bool) → zero_here ≡ is_any (codes "0") (get_or (reverse control) i 0) → through ≡ through_seen control i →
+      next ≡ (if through == 0 && zero_here then length control - i else through) → next ≡ through_seen control (i + 1)
+  seen_more next through zero_here here is next_is =
+      elim (dec_lt first i) [
+        | yes before ↦ later next through zero_here before is next_is
+        | no from ↦ now next through zero_here here (omega arith) is next_is
+      ]
+
+pub seen_none : (control : List ℕ) → 0 ≡ through_seen control 0
+seen_none control = sym (ap (λ b. if b then length control - leading (is_any (codes "0")) (reverse control) else 0) (le-ltb (leading (is_any (codes "0")) (reverse control)) 0 (omega arith)))
+
+pub seen_all : (control : List ℕ) (i through : ℕ) → i ≡ length control → through ≡ through_seen control i → through ≡ through_zero control
+unfolding through_zero
+seen_all control i through all is =
+    let first = leading (is_any (codes "0")) (reverse control) in
+    elim (dec_lt first i) [
+      | yes before ↦ is ∙ ap (λ b. if b then length control - first else 0) (lt-ltb first i before)
+      | no past ↦ let none : 0 ≡ length control - first = omega arith in is ∙ ap (λ b. if b then length control - first else 0) (le-ltb first i (omega arith)) ∙ none
+    ]
+
+pub through_within : (control : List ℕ) → through_zero control ≤ length control
+unfolding through_zero
+through_within control = omega arith
 
 -- ---- the whole of an edit
 
 pub all_edited : (s : Storage) (b n : ℕ) → b < length s → n ≤ b + 1 → (amount : List ℕ) (minus : Bool) (through : ℕ) → through ≡ through_zero (codes_ending s b n) →
     (t : Storage) → t ≡ put_codes s (b + 1 - n) (filled (codes_ending s b n) amount minus) →
-    (new : Storage) → new ≡ put_codes t (b + 1 - n) (blanked (min through (leading (ends Digit) (codes_from t (b + 1 - n) n))) (codes_from t (b + 1 - n) n)) →
+    (new : Storage) → new ≡ put_codes t (b + 1 - n) (blanked (min through (leading (ends Digit) (codes_ending t b n))) (codes_ending t b n)) →
     new ≡ put_codes s (b + 1 - n) (edited (codes_ending s b n) amount minus)
 unfolding edited
 all_edited s b n b_in b_from amount minus through through_is t t_is new new_is =
     let long : length (filled (codes_ending s b n) amount minus) ≡ n = length-filled (codes_ending s b n) amount minus ∙ length-codes_ending s b n b_in b_from in
     new_is
+    ∙ ap (λ xs. put_codes t (b + 1 - n) (blanked (min through (leading (ends Digit) xs)) xs)) (codes_ending_is_from t b n (b + 1 - n) (omega arith))
     ∙ ap (λ x. put_codes x (b + 1 - n) (blanked (min through (leading (ends Digit) (codes_from x (b + 1 - n) n))) (codes_from x (b + 1 - n) n))) t_is
     ∙ blank_after s (b + 1 - n) n through (ends Digit) (filled (codes_ending s b n) amount minus) long (omega arith)
     ∙ ap (λ k. put_codes s (b + 1 - n) (blanked (min k (leading (ends Digit) (filled (codes_ending s b n) amount minus))) (filled (codes_ending s b n) amount minus))) through_is
+
+pub ending_is_from : (s new : Storage) (b n through : ℕ) → n ≤ b + 1 →
+    new ≡ put_codes s (b + 1 - n) (blanked (min through (leading (ends Digit) (codes_from s (b + 1 - n) n))) (codes_from s (b + 1 - n) n)) →
+    new ≡ put_codes s (b + 1 - n) (blanked (min through (leading (ends Digit) (codes_ending s b n))) (codes_ending s b n))
+ending_is_from s new b n through le new_is =
+    new_is ∙ ap (λ xs. put_codes s (b + 1 - n) (blanked (min through (leading (ends Digit) xs)) xs)) (sym (codes_ending_is_from s b n (b + 1 - n) (omega arith)))
 
 -- the steps of the loop, of what the calls answered
 module _ (s : Storage) (a a_count b b_count i : ℕ) (a_in : a < length s) (a_from : a_count ≤ a + 1) (b_in : b < length s) (b_from : b_count ≤ b + 1) (i_in : i < b_count)
@@ -153,3 +223,13 @@ module _ (s : Storage) (a a_count b b_count i : ℕ) (a_in : a < length s) (a_fr
   pub right_on : (next : ℕ) → next ≡ (if is_place code then right + 1 else right) → next ≡ places (codes_ending s b (i + 1))
   right_on next next_is =
       next_is ∙ places_more s b i b_in (omega arith) right code right_is (code_is ∙ read_control s a a_count b b_count i a_in a_from b_in b_from i_in apart minus now is)
+
+  pub through_on : (left : ℕ) → left ≡ b_count - i → (through : ℕ) → through ≡ through_seen (codes_ending s b b_count) i →
+      (next : ℕ) → next ≡ (if through == 0 && is_any (codes "0") code then left else through) → next ≡ through_seen (codes_ending s b b_count) (i + 1)
+  through_on left left_is through through_is next next_is =
+      let control = codes_ending s b b_count in
+      let long : length control ≡ b_count = length-codes_ending s b b_count b_in b_from in
+      let here : is_any (codes "0") code ≡ is_any (codes "0") (get_or (reverse control) i 0) =
+      ap (is_any (codes "0")) (code_is ∙ read_control s a a_count b b_count i a_in a_from b_in b_from i_in apart minus now is ∙ sym (backward s b b_count b_in b_from i i_in)) in
+      let same : left ≡ length control - i = omega arith in
+      seen_more control i (omega arith) next through (is_any (codes "0") code) here through_is (next_is ∙ ap (λ n. if through == 0 && is_any (codes "0") code then n else through) same)

@@ -6,3 +6,8 @@ pub mod Positions
 pub mod Shown
 pub mod Read
 pub mod Shared
+pub mod Sixteen
+pub mod Fading
+pub mod Unmarked
+pub mod NearLoads
+pub mod NearMoves

@@ -6,7 +6,7 @@ use Rattle.core_store.specs.Storage.{Storage, code_at, cell_at, is_marked, great
 use Rattle.core_store.specs.Operands.{are_inside}
 use Rattle.core_store.specs.Checked.{require, find_or}
 use Rattle.core_store.specs.declared.registers.Registers.{Registers}
-use Rattle.core_store.specs.declared.registers.Check.TheVariants.{Address}
+use Rattle.core_store.specs.declared.checks.Check.TheVariants.{Address}
 use Rattle.core_store.proofs.Marks.{greatest_is_greatest}
 use Rattle.core_store.proofs.Fields.{cell-put_codes_below, cell-put_codes_above, code_at-put_codes, is_marked-put_codes, cell-put_cells_below, cell-put_cells_above, cell-put_cells, nth-cells_ending, length-cells_ending}
 use Rattle.moves.specs.Moved.{moved_codes, moved, move_length, IsMoved}
@@ -77,11 +77,11 @@ is_moved s new r after count many h =
 
 -- ---- a field
 
-record IsField (s : Storage) (p count : ℕ) : Type 0 where
-  some : 1 ≤ count
-  from : count ≤ p + 1
-  first : is_marked s (p + 1 - count) ≡ true
-  others : (i : ℕ) → i + 1 < count → is_marked s (p - i) ≡ false
+pub record IsField (s : Storage) (p count : ℕ) : Type 0 where
+  pub some : 1 ≤ count
+  pub from : count ≤ p + 1
+  pub first : is_marked s (p + 1 - count) ≡ true
+  pub others : (i : ℕ) → i + 1 < count → is_marked s (p - i) ≡ false
 
 field_of : (s : Storage) (p count : ℕ) (found : Option ℕ) → GreatestMark s p found → option_map (λ first. p + 1 - first) found ≡ Some count → IsField s p count
 field_of s p count None h e = absurd (cc)
@@ -96,7 +96,7 @@ field_of s p count (Some q) h e =
       others = λ i lt. h.none_between (p - i) (omega arith) (omega arith);
     }
 
-field_is : (s : Storage) (p count : ℕ) → field_length s p ≡ Some count → IsField s p count
+pub field_is : (s : Storage) (p count : ℕ) → field_length s p ≡ Some count → IsField s p count
 unfolding field_length
 field_is s p count h = field_of s p count (greatest_mark s p) (greatest_is_greatest s p) h
 

@@ -5,8 +5,8 @@ use Rattle.core_store.specs.Storage.{Storage, field_length, codes_ending, put_co
 use Rattle.core_store.specs.Operands.{are_inside, cut_length, is_minus_zone, lowered_by}
 use Rattle.core_store.specs.Checked.{require, find_or}
 use Rattle.core_store.specs.declared.registers.Registers.{Registers}
-use Rattle.core_store.specs.declared.registers.Check.{Check}
-use Rattle.core_store.specs.declared.registers.Check.TheVariants.{Address, Overlap}
+use Rattle.core_store.specs.declared.checks.Check.{Check}
+use Rattle.core_store.specs.declared.checks.Check.TheVariants.{Address, Overlap}
 use Rattle.moves.specs.declared.blanking.Stop.TheVariants.{Digit}
 use Rattle.moves.specs.Characters.{is_any, blank, bare_units, from_right}
 use Rattle.moves.specs.Blanked.{ends, leading, blanked}

@@ -4,8 +4,8 @@ use Rattle.core_store.specs.Storage.{Storage, cell_at, code_at, is_marked, put_c
 use Rattle.core_store.specs.Operands.{are_inside, is_overlapping, lowered_by}
 use Rattle.core_store.specs.Checked.{require, find_or}
 use Rattle.core_store.specs.declared.registers.Registers.{Registers}
-use Rattle.core_store.specs.declared.registers.Check.{Check}
-use Rattle.core_store.specs.declared.registers.Check.TheVariants.{Address}
+use Rattle.core_store.specs.declared.checks.Check.{Check}
+use Rattle.core_store.specs.declared.checks.Check.TheVariants.{Address}
 
 -- storage and registers after the field at A is loaded at B with its word mark and no other; it
 -- must not pass position 0, nor write over its mark before that is read

@@ -4,8 +4,8 @@ use Rattle.core_store.specs.Storage.{Storage, with_mark, put_cells, blank_cell}
 use Rattle.core_store.specs.Operands.{are_inside, lowered, lowered_by}
 use Rattle.core_store.specs.Checked.{require}
 use Rattle.core_store.specs.declared.registers.Registers.{Registers}
-use Rattle.core_store.specs.declared.registers.Check.{Check}
-use Rattle.core_store.specs.declared.registers.Check.TheVariants.{Address}
+use Rattle.core_store.specs.declared.checks.Check.{Check}
+use Rattle.core_store.specs.declared.checks.Check.TheVariants.{Address}
 
 -- storage and registers after word marks are set at A and B, or cleared
 unfoldable pub marks_put : Bool → Storage → Registers → Result (Storage × Registers) Check

@@ -4,8 +4,8 @@ use Rattle.core_store.specs.Storage.{Storage, code_at, is_marked, put_codes, fie
 use Rattle.core_store.specs.Operands.{are_inside, lowered_by}
 use Rattle.core_store.specs.Checked.{require, find_or}
 use Rattle.core_store.specs.declared.registers.Registers.{Registers}
-use Rattle.core_store.specs.declared.registers.Check.{Check}
-use Rattle.core_store.specs.declared.registers.Check.TheVariants.{Address}
+use Rattle.core_store.specs.declared.checks.Check.{Check}
+use Rattle.core_store.specs.declared.checks.Check.TheVariants.{Address}
 
 -- the smaller of two counts, or the one that is there
 abbrev pub least_of : Option ℕ → Option ℕ → Option ℕ

@@ -5,8 +5,8 @@ use Rattle.core_store.specs.Storage.{Storage, code_at, put}
 use Rattle.core_store.specs.Operands.{are_inside, lowered_by}
 use Rattle.core_store.specs.Checked.{require}
 use Rattle.core_store.specs.declared.registers.Registers.{Registers}
-use Rattle.core_store.specs.declared.registers.Check.{Check}
-use Rattle.core_store.specs.declared.registers.Check.TheVariants.{Address}
+use Rattle.core_store.specs.declared.checks.Check.{Check}
+use Rattle.core_store.specs.declared.checks.Check.TheVariants.{Address}
 use Rattle.moves.specs.Characters.{part_of, of_parts}
 
 -- storage and registers after the numeric part at A is moved to B, whose zone stays

@@ -4,8 +4,8 @@ use Rattle.core_store.specs.Storage.{Storage, field_length, codes_ending, put_co
 use Rattle.core_store.specs.Operands.{are_inside, is_overlapping, lowered_by}
 use Rattle.core_store.specs.Checked.{require, find_or}
 use Rattle.core_store.specs.declared.registers.Registers.{Registers}
-use Rattle.core_store.specs.declared.registers.Check.{Check}
-use Rattle.core_store.specs.declared.registers.Check.TheVariants.{Address, Overlap}
+use Rattle.core_store.specs.declared.checks.Check.{Check}
+use Rattle.core_store.specs.declared.checks.Check.TheVariants.{Address, Overlap}
 use Rattle.moves.specs.declared.blanking.Stop.TheVariants.{Other}
 use Rattle.moves.specs.Characters.{bare_units}
 use Rattle.moves.specs.Blanked.{ends, leading, blanked}

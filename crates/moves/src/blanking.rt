@@ -1,9 +1,11 @@
 //! Zeros and commas at the left of a field made blank.
 
-ghost use Rattle.std.specs.Prelude.{◌≡◌, ◌+◌, ◌≤◌, ℕ, length, min};
-ghost use Rattle.core_store.specs.Storage.{codes_from, put_codes, largest_size};
+ghost use Rattle.std.specs.Prelude.{◌≡◌, ◌+◌, ◌-◌, ◌<◌, ◌≤◌, ℕ, length, min};
+ghost use Rattle.core_store.specs.Storage.{codes_ending, codes_from, put_codes, largest_size};
 ghost use Rattle.moves.specs.Blanked.{ends, leading, faded, blanked};
 
+use crate::lanes;
+use crate::near::put_last;
 use bcd::Code;
 use core_store::Core;
 
@@ -61,4 +63,21 @@ pub fn blank_start<C: Core>(core: &mut C, first: u16, count: u16, limit: u16, st
         }
         core.put(first + i, faded(code));
     }
+}
+
+/// Does the same to at most sixteen characters that end at B, all at once.
+#[inline(always)]
+#[tactic(auto, using(crate::proofs::Sixteen::near_long))]
+pub fn blank_near<C: Core>(core: &mut C, b: u16, count: u16, limit: u16, stop: Stop)
+    requires within { b < length (C.cells core.old) }
+    requires room { 15 ≤ b }
+    requires most { count ≤ 16 }
+    requires limit { limit ≤ count }
+    ensures codes { C.cells core.new ≡ put_codes (C.cells core.old) (b + 1 - count)
+        (blanked (min limit (leading (ends stop) (codes_ending (C.cells core.old) b count)))
+        (codes_ending (C.cells core.old) b count)) }
+    ensures size { length (C.cells core.new) ≡ length (C.cells core.old) }
+{
+    let codes = core.near_codes(b);
+    put_last(core, b, count, lanes::blanked(codes, count, limit, stop));
 }

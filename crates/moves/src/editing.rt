@@ -1,12 +1,14 @@
 //! Data edited by a control field.
 
-ghost use Rattle.std.specs.Prelude.{◌≡◌, ◌+◌, ◌-◌, ◌<◌, ◌≤◌, ℕ, List, Bool, true, false, length, slice_index, OnOk, OnErr, IfErr, Ok, Err};
+ghost use Rattle.std.specs.Prelude.{◌≡◌, ◌+◌, ◌-◌, ◌<◌, ◌≤◌, ℕ, List, Bool, true, false, length, min, slice_index, OnOk, OnErr, IfErr, Ok, Err};
 ghost use Rattle.core_store.specs.Storage.{codes_ending, put_codes, largest_size};
+ghost use Rattle.moves.specs.Blanked.{ends, leading, blanked};
 ghost use Rattle.moves.specs.Characters.{bare_units};
+ghost use Rattle.moves.specs.declared.blanking.Stop.TheVariants.{Digit};
 ghost use Rattle.moves.specs.Edited.{edited, is_minus, is_place, is_sharing, field_edited, IsShown};
 
-use crate::blanking::{Stop, blank_start};
-use crate::filling::{fill, through_zero, wanted};
+use crate::blanking::{Stop, blank_near, blank_start};
+use crate::filling::{fill, wanted};
 use core_store::{Check, Core, Registers, are_inside, cut_length, field_length};
 
 /// Whether two ranges of positions, which end at A and at B, have one in common.
@@ -21,7 +23,29 @@ fn shares(a: u16, a_count: u16, b: u16, b_count: u16) -> bool
     a < b + a_count && b < a + b_count
 }
 
+/// Makes zeros and commas of a control field blank from the left, among its first `through`
+/// characters, up to a digit from 1 to 9.
+#[inline(always)]
+#[tactic(auto, using(crate::proofs::Edits::ending_is_from))]
+fn blank_left<C: Core>(core: &mut C, b: u16, count: u16, through: u16)
+    requires within { b < length (C.cells core.old) }
+    requires from { count ≤ b + 1 }
+    requires below { b < largest_size }
+    requires limit { through ≤ count }
+    ensures codes { C.cells core.new ≡ put_codes (C.cells core.old) (b + 1 - count)
+        (blanked (min through (leading (ends Digit) (codes_ending (C.cells core.old) b count)))
+        (codes_ending (C.cells core.old) b count)) }
+    ensures size { length (C.cells core.new) ≡ length (C.cells core.old) }
+{
+    if b >= 15 && count <= 16 {
+        blank_near(core, b, count, through, Stop::Digit);
+    } else {
+        blank_start(core, b + 1 - count, count, through, Stop::Digit);
+    }
+}
+
 /// Puts the data into the control field, and makes what is to the left of the number blank.
+#[inline(always)]
 #[tactic(auto, using(crate::proofs::Edits::all_edited))]
 fn fill_blanked<C: Core>(core: &mut C, a: u16, a_count: u16, b: u16, b_count: u16)
     requires a_in { a < length (C.cells core.old) }
@@ -37,13 +61,13 @@ fn fill_blanked<C: Core>(core: &mut C, a: u16, a_count: u16, b: u16, b_count: u1
         (is_minus (codes_ending (C.cells core.old) a a_count))) }
     ensures size { length (C.cells core.new) ≡ length (C.cells core.old) }
 {
-    let through = through_zero(core, b, b_count);
-    fill(core, a, a_count, b, b_count);
-    blank_start(core, b + 1 - b_count, b_count, through, Stop::Digit);
+    let through = fill(core, a, a_count, b, b_count);
+    blank_left(core, b, b_count, through);
 }
 
 /// Edits the data at A by the control field at B. Check ADDRESS if A or B is outside the storage or
 /// a field would pass position 000, check OVERLAP if data and control field share a position.
+#[inline(never)]
 #[tactic(auto, unfolding(crate::specs::Edited::field_edited))]
 pub fn edit<C: Core>(core: &mut C, registers: &mut Registers) -> Result<(), Check>
     ensures done { OnOk result (field_edited (C.cells core.old) registers.old

@@ -1,10 +1,11 @@
 //! The digit places of a control field, and the data put into them.
 
-ghost use Rattle.std.specs.Prelude.{◌≡◌, ◌+◌, ◌-◌, ◌<◌, ◌≤◌, ℕ, false, length, codes, max, if◌then◌else◌};
+ghost use Rattle.std.specs.Prelude.{◌≡◌, ◌+◌, ◌-◌, ◌<◌, ◌≤◌, ◌==◌, ◌&&◌, ℕ, false, length, codes, max, if◌then◌else◌};
 ghost use Rattle.core_store.specs.Storage.{codes_ending, put_codes, largest_size};
 ghost use Rattle.moves.specs.Characters.{is_any, bare_units, from_right};
 ghost use Rattle.moves.specs.Edited.{is_place, places, filled_code, filled, through_zero, is_minus, is_sharing};
 
+use crate::lanes;
 use crate::suppressing::bare_at;
 use bcd::Code;
 use core_store::{Core, is_minus};
@@ -28,8 +29,42 @@ fn counted(places: u16, code: Code) -> u16
     if is_place(code) { places + 1 } else { places }
 }
 
-/// The number of data characters that a control field takes, at least one.
+/// The number of digit places of a control field, counted one by one.
+#[inline(never)]
 #[tactic(auto, using(crate::proofs::Edits::places_none, crate::proofs::Edits::places_more))]
+fn places_far<C: Core>(core: &C, b: u16, count: u16) -> u16
+    requires within { b < length (C.cells core.now) }
+    requires from { count ≤ b + 1 }
+    requires below { b < largest_size }
+    ensures places { result ≡ places (codes_ending (C.cells core.now) b count) }
+    ensures limit { result ≤ count }
+{
+    let mut places = 0;
+    for i in 0..count {
+        places = counted(places, core.get(b - i));
+    }
+    places
+}
+
+/// The number of digit places of a control field.
+#[inline(always)]
+#[tactic(auto, using(crate::proofs::Sixteen::near_long, crate::proofs::Sixteen::near_places))]
+fn places<C: Core>(core: &C, b: u16, count: u16) -> u16
+    requires within { b < length (C.cells core.now) }
+    requires from { count ≤ b + 1 }
+    requires below { b < largest_size }
+    ensures places { result ≡ places (codes_ending (C.cells core.now) b count) }
+    ensures limit { result ≤ count }
+{
+    if b >= 15 && count <= 16 {
+        lanes::places(core.near_codes(b), count)
+    } else {
+        places_far(core, b, count)
+    }
+}
+
+/// The number of data characters that a control field takes, at least one.
+#[inline(always)]
 pub fn wanted<C: Core>(core: &C, b: u16, count: u16) -> u16
     requires within { b < length (C.cells core.now) }
     requires from { count ≤ b + 1 }
@@ -38,11 +73,7 @@ pub fn wanted<C: Core>(core: &C, b: u16, count: u16) -> u16
     ensures some { 1 ≤ result }
     ensures limit { result ≤ largest_size }
 {
-    let mut places = 0;
-    for i in 0..count {
-        places = counted(places, core.get(b - i));
-    }
-    if places == 0 { 1 } else { places }
+    places(core, b, count).max(1)
 }
 
 /// Whether a character is a zero without zone.
@@ -54,20 +85,19 @@ fn is_zero(code: Code) -> bool
     code.glyph() == b'0'
 }
 
-/// The number of characters of a control field up to its rightmost zero, or 0 without a zero.
-#[tactic(auto, using(crate::proofs::Edits::no_zero, crate::proofs::Edits::zero_here, crate::proofs::Edits::zero_nowhere))]
-pub fn through_zero<C: Core>(core: &C, b: u16, count: u16) -> u16
-    requires within { b < length (C.cells core.now) }
-    requires from { count ≤ b + 1 }
-    ensures through { result ≡ through_zero (codes_ending (C.cells core.now) b count) }
-    ensures limit { result ≤ count }
+/// The number of characters up to the rightmost zero, after one more character from the right.
+/// `through` is the number before it, 0 if there was no zero, and `left` counts the characters up
+/// to it.
+#[inline(always)]
+fn through_more(through: u16, left: u16, code: Code) -> u16
+    ensures through { result ≡ (if through == 0 && is_any (codes "0") code then left else through) }
+    ensures limit { result ≤ max through left }
 {
-    for i in 0..count {
-        if is_zero(core.get(b - i)) {
-            return count - i;
-        }
+    if through == 0 && is_zero(code) {
+        left
+    } else {
+        through
     }
-    0
 }
 
 /// The data character at an index from the right, or blank to the left of the data.
@@ -102,9 +132,10 @@ fn filled_code(minus: bool, count: u16, right: u16, digit: Code, code: Code) -> 
 }
 
 /// Puts the data into the digit places of the control field, and a blank for each character that is
-/// not kept.
-#[tactic(auto, using(crate::proofs::Edits::fill_none, crate::proofs::Edits::filled_on, crate::proofs::Edits::right_on, crate::proofs::Edits::places_none, crate::proofs::Edits::sign_is, crate::proofs::Copying::size_on))]
-pub fn fill<C: Core>(core: &mut C, a: u16, a_count: u16, b: u16, b_count: u16)
+/// not kept. Returns the number of characters of the control field up to its rightmost zero, or 0
+/// without a zero.
+#[tactic(auto, using(crate::proofs::Edits::fill_none, crate::proofs::Edits::places_none, crate::proofs::Edits::sign_is, crate::proofs::Edits::seen_none))]
+pub fn fill<C: Core>(core: &mut C, a: u16, a_count: u16, b: u16, b_count: u16) -> u16
     requires a_in { a < length (C.cells core.old) }
     requires b_in { b < length (C.cells core.old) }
     requires a_from { a_count ≤ a + 1 }
@@ -117,13 +148,23 @@ pub fn fill<C: Core>(core: &mut C, a: u16, a_count: u16, b: u16, b_count: u16)
         (bare_units (codes_ending (C.cells core.old) a a_count))
         (is_minus (codes_ending (C.cells core.old) a a_count))) }
     ensures size { length (C.cells core.new) ≡ length (C.cells core.old) }
+    ensures through { result ≡ through_zero (codes_ending (C.cells core.old) b b_count) }
+    ensures limit { result ≤ b_count }
 {
     let minus = is_minus(core, a);
     let mut right = 0;
+    let mut through = 0;
     for i in 0..b_count {
         let code = core.get(b - i);
-        let digit = data_at(core, a, a_count, right);
-        core.put(b - i, filled_code(minus, a_count, right, digit, code));
-        right = counted(right, code);
+        if is_place(code) {
+            through = through_more(through, b_count - i, code);
+            let digit = data_at(core, a, a_count, right);
+            core.put(b - i, digit);
+            right += 1;
+        } else {
+            let kept = filled_code(minus, a_count, right, Code::blank(), code);
+            core.put(b - i, kept);
+        }
     }
+    through
 }

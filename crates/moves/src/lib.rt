@@ -11,9 +11,11 @@ mod blanking;
 mod characters;
 mod editing;
 mod filling;
+mod lanes;
 mod loading;
 mod marks;
 mod moving;
+mod near;
 mod parts;
 mod suppressing;
 

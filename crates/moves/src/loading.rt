@@ -1,17 +1,59 @@
 //! A field loaded with its word mark.
 
-ghost use Rattle.std.specs.Prelude.{◌≡◌, ◌≤◌, ℕ, Some, OnOk, OnErr, IfErr, Ok, Err};
-ghost use Rattle.core_store.specs.Storage.{Storage, field_length};
+ghost use Rattle.std.specs.Prelude.{◌≡◌, ◌+◌, ◌-◌, ◌<◌, ◌≤◌, ℕ, Some, length, OnOk, OnErr, IfErr, Ok, Err};
+ghost use Rattle.core_store.specs.Storage.{Storage, cells_ending, field_length, put_cells, largest_size};
 ghost use Rattle.core_store.specs.declared.registers.Registers.{Registers};
 ghost use Rattle.moves.specs.Loaded.{field_loaded, IsLoaded};
 
+use crate::near::{clear_near_marks, near_field, put_last};
 use core_store::{Check, Core, Registers, are_inside, field_length, overlaps};
+
+/// Copies a field of at most sixteen characters to B, all at once.
+#[inline(always)]
+#[tactic(auto, using(crate::proofs::Sixteen::near_long))]
+fn load_near<C: Core>(core: &mut C, a: u16, b: u16, count: u16)
+    requires a_in { a < length (C.cells core.old) }
+    requires b_in { b < length (C.cells core.old) }
+    requires a_room { 15 ≤ a }
+    requires b_room { 15 ≤ b }
+    requires most { count ≤ 16 }
+    requires below { b < largest_size }
+    requires field { field_length (C.cells core.old) a ≡ Some count }
+    ensures { C.cells core.new ≡ put_cells (C.cells core.old) (b + 1 - count)
+        (cells_ending (C.cells core.old) a count) }
+{
+    let codes = core.near_codes(a);
+    put_last(core, b, count, codes);
+    clear_near_marks(core, b, count);
+    core.set_mark(b + 1 - count);
+}
 
 /// Copies the field at A to B with its word mark, and clears the other marks there. Check ADDRESS
 /// if A or B is outside the storage, if the field would pass position 000 at A or at B, or if it
 /// would be overwritten before it is read.
-#[tactic(auto, unfolding(crate::specs::Loaded::field_loaded))]
+#[inline(never)]
+#[tactic(auto)]
 pub fn load_field<C: Core>(core: &mut C, registers: &mut Registers) -> Result<(), Check>
+    ensures done { OnOk result (field_loaded (C.cells core.old) registers.old
+        ≡ Ok (C.cells core.new, registers.new)) }
+    ensures check { IfErr result (λ check. field_loaded (C.cells core.old) registers.old
+        ≡ Err check) }
+    ensures unchanged { OnErr result ((C.cells core.new ≡ C.cells core.old)
+        × (registers.new ≡ registers.old)) }
+{
+    let Registers { a, b, .. } = *registers;
+    let Some(count) = near_field(core, a, b) else {
+        return load_far(core, registers);
+    };
+    load_near(core, a, b, count);
+    registers.lower(count, count);
+    Ok(())
+}
+
+/// Loads as `load_field` does, a field of any length.
+#[inline(never)]
+#[tactic(auto, unfolding(crate::specs::Loaded::field_loaded))]
+fn load_far<C: Core>(core: &mut C, registers: &mut Registers) -> Result<(), Check>
     ensures done { OnOk result (field_loaded (C.cells core.old) registers.old
         ≡ Ok (C.cells core.new, registers.new)) }
     ensures check { IfErr result (λ check. field_loaded (C.cells core.old) registers.old

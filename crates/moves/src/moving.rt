@@ -1,10 +1,12 @@
 //! A field moved up to a word mark.
 
-ghost use Rattle.std.specs.Prelude.{◌≡◌, ◌+◌, ◌-◌, ◌<◌, ◌≤◌, ◌&&◌, ℕ, Some, length, nat_le, IfSome, IsTrue, OnOk, OnErr, IfErr, Ok, Err};
+ghost use Rattle.std.specs.Prelude.{◌≡◌, ◌+◌, ◌-◌, ◌<◌, ◌≤◌, ◌&&◌, ℕ, true, false, Some, length, nat_le, IfSome, IsTrue, OnOk, OnErr, IfErr, Ok, Err};
 ghost use Rattle.core_store.specs.Storage.{Storage, put_codes, largest_size};
+ghost use Rattle.core_store.specs.Operands.{are_inside, is_overlapping};
 ghost use Rattle.core_store.specs.declared.registers.Registers.{Registers};
 ghost use Rattle.moves.specs.Moved.{least_of, move_length, moved_codes, moved, IsMoved};
 
+use crate::near::put_last;
 use core_store::{Check, Core, Registers, are_inside, field_length, overlaps};
 
 /// The smaller of two counts; if only one is present, that one.
@@ -27,6 +29,7 @@ fn near_shared<C: Core>(core: &C, a: u16, b: u16) -> Option<u16>
     requires a_in { a < length (C.cells core.now) }
     requires b_in { b < length (C.cells core.now) }
     ensures length { IfSome result (λ count. move_length (C.cells core.now) a b ≡ Some count) }
+    ensures room { IfSome result (λ count. (15 ≤ a) × (15 ≤ b) × (count ≤ 16)) }
 {
     if a < 15 || b < 15 {
         return None;
@@ -98,10 +101,67 @@ fn copy_codes<C: Core>(core: &mut C, a: u16, b: u16, count: u16)
     }
 }
 
+/// The number of characters of a move, if there are at most sixteen, sixteen characters end at A
+/// and at B, and none is overwritten before it is copied. `None` says nothing about the fields.
+#[inline(always)]
+fn near_count<C: Core>(core: &C, a: u16, b: u16) -> Option<u16>
+    ensures inside { IfSome result (λ count. are_inside (C.cells core.now) a b ≡ true) }
+    ensures within { IfSome result (λ count. (a < length (C.cells core.now))
+        × (b < length (C.cells core.now)) × (a < largest_size) × (b < largest_size)) }
+    ensures length { IfSome result (λ count. move_length (C.cells core.now) a b ≡ Some count) }
+    ensures room { IfSome result (λ count. (15 ≤ a) × (15 ≤ b) × (count ≤ 16)) }
+    ensures apart { IfSome result (λ count. is_overlapping a b count ≡ false) }
+{
+    if !are_inside(core, a, b) {
+        return None;
+    }
+    let count = near_shared(core, a, b)?;
+    if overlaps(a, b, count) {
+        return None;
+    }
+    Some(count)
+}
+
+/// Copies at most sixteen characters at once.
+#[inline(always)]
+#[tactic(auto, using(crate::proofs::Sixteen::near_long))]
+fn move_near<C: Core>(core: &mut C, a: u16, b: u16, count: u16)
+    requires a_in { a < length (C.cells core.old) }
+    requires b_in { b < length (C.cells core.old) }
+    requires a_room { 15 ≤ a }
+    requires b_room { 15 ≤ b }
+    requires most { count ≤ 16 }
+    requires apart { is_overlapping a b count ≡ false }
+    ensures { C.cells core.new
+        ≡ put_codes (C.cells core.old) (b + 1 - count) (moved_codes (C.cells core.old) a b count) }
+{
+    let codes = core.near_codes(a);
+    put_last(core, b, count, codes);
+}
+
 /// Moves characters from the field at A to the field at B, up to the first mark in either. Marks
 /// stay. Check ADDRESS if A or B is outside the storage or a field would pass position 000.
-#[tactic(auto, unfolding(crate::specs::Moved::moved))]
+#[inline(always)]
 pub fn move_field<C: Core>(core: &mut C, registers: &mut Registers) -> Result<(), Check>
+    ensures done { OnOk result (moved (C.cells core.old) registers.old
+        ≡ Ok (C.cells core.new, registers.new)) }
+    ensures check { IfErr result (λ check. moved (C.cells core.old) registers.old ≡ Err check) }
+    ensures unchanged { OnErr result ((C.cells core.new ≡ C.cells core.old)
+        × (registers.new ≡ registers.old)) }
+{
+    let Registers { a, b, .. } = *registers;
+    let Some(count) = near_count(core, a, b) else {
+        return move_far(core, registers);
+    };
+    move_near(core, a, b, count);
+    registers.lower(count, count);
+    Ok(())
+}
+
+/// Moves as `move_field` does, fields of any length.
+#[inline(never)]
+#[tactic(auto, unfolding(crate::specs::Moved::moved))]
+fn move_far<C: Core>(core: &mut C, registers: &mut Registers) -> Result<(), Check>
     ensures done { OnOk result (moved (C.cells core.old) registers.old
         ≡ Ok (C.cells core.new, registers.new)) }
     ensures check { IfErr result (λ check. moved (C.cells core.old) registers.old ≡ Err check) }

@@ -8,6 +8,8 @@ ghost use Rattle.moves.specs.Suppressed.{zeros_suppressed, unmarked, suppressed}
 
 use crate::blanking::{Stop, blank_start};
 use crate::characters::bare;
+use crate::lanes;
+use crate::near::{clear_marks, clear_near_marks, near_field, put_last};
 use bcd::Code;
 use core_store::{Check, Core, Registers, are_inside, field_length, overlaps};
 
@@ -21,20 +23,6 @@ pub fn bare_at<C: Core>(core: &C, position: u16, place: u16) -> Code
 {
     let code = core.get(position - place);
     if place == 0 { bare(code) } else { code }
-}
-
-/// Clears the marks of `count` positions that end at B.
-#[tactic(auto, using(crate::proofs::Copying::unmark_step, crate::proofs::Copying::unmark_none, crate::proofs::Copying::length_with_mark))]
-fn clear_marks<C: Core>(core: &mut C, b: u16, count: u16)
-    requires within { b < length (C.cells core.old) }
-    requires from { count ≤ b + 1 }
-    requires below { b < largest_size }
-    ensures marks { C.cells core.new ≡ unmarked (C.cells core.old) (b + 1 - count) count }
-    ensures size { length (C.cells core.new) ≡ length (C.cells core.old) }
-{
-    for i in 0..count {
-        core.clear_mark(b - i);
-    }
 }
 
 /// Copies the characters that end at A to those that end at B, the units without zone.
@@ -58,7 +46,7 @@ fn copy_bare<C: Core>(core: &mut C, a: u16, b: u16, count: u16)
 
 /// Moves the characters that end at A to B, without marks and leading zeros.
 #[tactic(auto, using(crate::proofs::Copying::all_suppressed))]
-fn move_suppressed<C: Core>(core: &mut C, a: u16, b: u16, count: u16)
+fn move_far<C: Core>(core: &mut C, a: u16, b: u16, count: u16)
     requires a_in { a < length (C.cells core.old) }
     requires b_in { b < length (C.cells core.old) }
     requires a_from { count ≤ a + 1 }
@@ -73,11 +61,54 @@ fn move_suppressed<C: Core>(core: &mut C, a: u16, b: u16, count: u16)
     blank_start(core, b + 1 - count, count, count, Stop::Other);
 }
 
+/// Moves at most sixteen characters as `move_far` does, all at once.
+#[inline(always)]
+#[tactic(auto, using(crate::proofs::Sixteen::near_long))]
+fn move_near<C: Core>(core: &mut C, a: u16, b: u16, count: u16)
+    requires a_in { a < length (C.cells core.old) }
+    requires b_in { b < length (C.cells core.old) }
+    requires a_room { 15 ≤ a }
+    requires b_room { 15 ≤ b }
+    requires most { count ≤ 16 }
+    requires below { b < largest_size }
+    ensures { C.cells core.new ≡ put_codes (unmarked (C.cells core.old) (b + 1 - count) count)
+        (b + 1 - count) (suppressed (bare_units (codes_ending (C.cells core.old) a count))) }
+{
+    clear_near_marks(core, b, count);
+    let bare = lanes::bare_units(core.near_codes(a));
+    put_last(
+        core,
+        b,
+        count,
+        lanes::blanked(bare, count, count, Stop::Other),
+    );
+}
+
 /// Moves the field at A to B without its leading zeros and without marks. Check ADDRESS if A or B
 /// is outside the storage or the field would pass position 000, check OVERLAP if the field would be
 /// overwritten before it is read.
-#[tactic(auto, unfolding(crate::specs::Suppressed::zeros_suppressed))]
+#[inline(never)]
 pub fn suppress<C: Core>(core: &mut C, registers: &mut Registers) -> Result<(), Check>
+    ensures done { OnOk result (zeros_suppressed (C.cells core.old) registers.old
+        ≡ Ok (C.cells core.new, registers.new)) }
+    ensures check { IfErr result (λ check. zeros_suppressed (C.cells core.old) registers.old
+        ≡ Err check) }
+    ensures unchanged { OnErr result ((C.cells core.new ≡ C.cells core.old)
+        × (registers.new ≡ registers.old)) }
+{
+    let Registers { a, b, .. } = *registers;
+    let Some(count) = near_field(core, a, b) else {
+        return suppress_far(core, registers);
+    };
+    move_near(core, a, b, count);
+    registers.lower(count, count);
+    Ok(())
+}
+
+/// Suppresses as `suppress` does, a field of any length.
+#[inline(never)]
+#[tactic(auto, unfolding(crate::specs::Suppressed::zeros_suppressed))]
+fn suppress_far<C: Core>(core: &mut C, registers: &mut Registers) -> Result<(), Check>
     ensures done { OnOk result (zeros_suppressed (C.cells core.old) registers.old
         ≡ Ok (C.cells core.new, registers.new)) }
     ensures check { IfErr result (λ check. zeros_suppressed (C.cells core.old) registers.old
@@ -98,7 +129,7 @@ pub fn suppress<C: Core>(core: &mut C, registers: &mut Registers) -> Result<(), 
     if overlaps(a, b, count) {
         return Err(Check::Overlap);
     }
-    move_suppressed(core, a, b, count);
+    move_far(core, a, b, count);
     registers.lower(count, count);
     Ok(())
 }

@@ -2,16 +2,17 @@
 use Rattle.std.proofs.Common.{◌≡◌, ℕ, ◌+◌, ◌<◌, ◌≤◌, nat_lt, length, Bool, true, false, Option, None, Some, refl, sym, ap, arith}
 use Rattle.std.proofs.lemmas.Bool.Decides.{nat_tests}
 use Rattle.machine.specs.Run.{State, after, started}
-use Rattle.machine.specs.declared.parts.Standing.{Standing}
-use Rattle.machine.specs.declared.parts.Standing.TheVariants as standing
+use Rattle.machine.specs.Standings.{goes_on, is_at_halt, standing_at}
+use Rattle.machine.specs.declared.standings.Standing.{Standing}
+use Rattle.machine.specs.declared.standings.Standing.TheVariants as standing
 use Rattle.units.specs.Switches.{seven}
 use Rattle.units.specs.declared.switches.Switches.{Switches}
 use Rattle.office.specs.Limits.{most_granted}
 use Rattle.office.specs.Jobs.{Job, picture, sliced_job, started_job}
-use Rattle.office.specs.Kept.{Kept, kept_of, summary_of, goes_on, is_at_halt, told_at, job_refusal, changed, taken_unless, take_kept, changed_job, job_unless, job_after}
+use Rattle.office.specs.Kept.{Kept, kept_of, summary_of, job_refusal, changed, taken_unless, take_kept, changed_job, job_unless, job_after}
 use Rattle.office.specs.declared.commands.JobCommand.{JobCommand}
 use Rattle.office.specs.declared.commands.JobCommand.TheVariants.{Slice, Start, Hold, Release, Collect, Standing as Tell, Cards, Lines}
-use Rattle.office.specs.declared.standings.Summary.{Summary}
+use Rattle.office.specs.declared.summaries.Summary.{Summary}
 use Rattle.office.specs.declared.refusals.Refusal.{Refusal}
 
 -- ---- what is known of a command that isn't refused
@@ -35,7 +36,7 @@ at_halt_by switches job none = go job.collected refl job.held refl (is_at_halt j
     go false one false two false three = absurd (let e = rw (one, two, three) at none in cc)
     go false one false two true three = three
 
-halted_at : (at : Standing) (i : ℕ) → is_at_halt (told_at at i) ≡ true → at ≡ standing.Halted
+halted_at : (at : Standing) (i : ℕ) → is_at_halt (standing_at at i) ≡ true → at ≡ standing.Halted
 halted_at standing.Running i is = absurd (let e = is in cc)
 halted_at standing.Halted i is = refl
 halted_at (standing.Checked check) i is = absurd (let e = is in cc)

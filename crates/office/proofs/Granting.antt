@@ -5,7 +5,7 @@ use Rattle.std.proofs.Math.Decide.{dec_lt}
 use Rattle.cards.specs.declared.decks.Card.{Card}
 use Rattle.core_store.specs.declared.sizes.Size.{Size}
 use Rattle.machine.specs.Run.{State, loaded, after, started, is_running, lines_of}
-use Rattle.machine.specs.declared.parts.Standing.TheVariants.{Halted}
+use Rattle.machine.specs.declared.standings.Standing.TheVariants.{Halted}
 use Rattle.units.specs.declared.printer.Line.{Line}
 use Rattle.units.specs.declared.switches.Switches.{Switches}
 use Rattle.office.specs.declared.stretches.Stretch.{Stretch}

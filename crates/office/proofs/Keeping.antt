@@ -3,7 +3,7 @@ use Rattle.std.proofs.Common.{◌≡◌, ℕ, ◌<◌, List, [], ◌∷◌, leng
 use Rattle.cards.specs.declared.decks.Card.{Card}
 use Rattle.cards.specs.Decks.{IsDeck}
 use Rattle.core_store.specs.declared.sizes.Size.{Size}
-use Rattle.autocoder.specs.declared.faults.CardFault.{CardFault}
+use Rattle.autocoder_layout.specs.declared.card_faults.CardFault.{CardFault}
 use Rattle.loader.specs.Cards.{loading_cards}
 use Rattle.loader.specs.Decks.{runnable_deck}
 use Rattle.machine.specs.Ranges.{IsInRange}
@@ -12,7 +12,8 @@ use Rattle.units.specs.Switches.{seven}
 use Rattle.units.specs.declared.switches.Switches.{Switches}
 use Rattle.office.specs.Jobs.{Job, loaded_of, loaded_deck, resumed, all_off, beginning, IsJob}
 use Rattle.office.specs.Kept.{kept_of, loaded_kept, summary_of, job_refusal, changed_job, job_unless, job_after, IsJobInRange}
-use Rattle.office.specs.New.{size_numbered, faults_in, refusal_for, deck_refusal, new_job, job_unless_refused, job_of_size, job_or_refusal}
+use Rattle.core_store.specs.Storage.{size_numbered}
+use Rattle.office.specs.New.{faults_in, refusal_for, deck_refusal, new_job, job_unless_refused, job_of_size, job_or_refusal}
 use Rattle.office.specs.declared.commands.Contents.{Contents}
 use Rattle.office.specs.declared.commands.Kind.{Kind}
 use Rattle.office.specs.declared.commands.Kind.TheVariants.{Object, Autocoder}

@@ -18,7 +18,8 @@ use Rattle.office.specs.declared.replies.Reply.{Reply}
 use Rattle.office.specs.declared.replies.Reply.TheVariants as reply
 use Rattle.office.specs.Jobs.{Job, loaded_deck}
 use Rattle.office.specs.Kept.{Kept, kept_of, summary_of, job_refusal, answered, taken_unless, take_kept}
-use Rattle.office.specs.New.{size_numbered, deck_refusal, new_job, job_unless_refused, job_of_size, job_or_refusal}
+use Rattle.core_store.specs.Storage.{size_numbered}
+use Rattle.office.specs.New.{deck_refusal, new_job, job_unless_refused, job_of_size, job_or_refusal}
 use Rattle.cards.specs.Decks.{deck_bytes}
 use Rattle.office.specs.Office.{Office, is_entry, job_of, has_most_jobs, added, submitted_as, is_same_kind, is_of, submitted, commanded, early_refusal, served, taken, take}
 

@@ -2,8 +2,8 @@
 use Rattle.std.proofs.Common.{true≢false, ◌≡◌, ℕ, zero, suc, ◌+◌, ◌-◌, ◌≤◌, true, false, List, [], ◌∷◌, refl, sym, ap, subst, ◌∙◌, arith}
 use Rattle.std.proofs.Math.Decide.{dec_lt}
 use Rattle.machine.specs.Run.{State, step, after, started, is_running, is_halted}
-use Rattle.machine.specs.declared.parts.Standing.{Standing}
-use Rattle.machine.specs.declared.parts.Standing.TheVariants.{Running, Halted, Checked}
+use Rattle.machine.specs.declared.standings.Standing.{Standing}
+use Rattle.machine.specs.declared.standings.Standing.TheVariants.{Running, Halted, Checked}
 use Rattle.units.specs.declared.switches.Switches.{Switches}
 use Rattle.office.specs.Whole.{RunsToHalt, RunsThrough}
 

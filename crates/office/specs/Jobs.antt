@@ -10,7 +10,7 @@ use Rattle.autocoder.specs.Programs.{image_for, size_for, start_for, IsFaultless
 use Rattle.loader.specs.Decks.{data_of, runnable_deck}
 use Rattle.loader.specs.Loading.{at_the_start}
 use Rattle.machine.specs.Run.{State, loaded, started, after, lines_of}
-use Rattle.machine.specs.declared.parts.Standing.TheVariants.{Halted}
+use Rattle.machine.specs.declared.standings.Standing.TheVariants.{Halted}
 use Rattle.units.specs.Switches.{AreSeven}
 use Rattle.units.specs.declared.printer.Line.{Line}
 use Rattle.units.specs.declared.switches.Switches.{Switches}

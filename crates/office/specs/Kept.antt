@@ -4,8 +4,7 @@ use Rattle.cards.specs.declared.decks.Card.{Card}
 use Rattle.core_store.specs.declared.sizes.Size.{Size}
 use Rattle.machine.specs.Ranges.{IsInRange}
 use Rattle.machine.specs.Run.{State, loaded, after, attempts, executed, lines_of, started}
-use Rattle.machine.specs.declared.parts.Standing.{Standing}
-use Rattle.machine.specs.declared.parts.Standing.TheVariants as standing
+use Rattle.machine.specs.Standings.{standing_of, goes_on, is_at_halt}
 use Rattle.units.specs.Switches.{seven}
 use Rattle.units.specs.Units.{Makes}
 use Rattle.units.specs.declared.switches.Switches.{Switches}
@@ -13,9 +12,7 @@ use Rattle.office.specs.Limits.{most_granted}
 use Rattle.office.specs.Jobs.{Job, picture, granted, granted_more, one_more, sliced_job, started_job, AreStretches}
 use Rattle.office.specs.declared.commands.JobCommand.{JobCommand}
 use Rattle.office.specs.declared.commands.JobCommand.TheVariants.{Slice, Start, Hold, Release, Collect, Standing as Tell, Cards, Lines}
-use Rattle.office.specs.declared.standings.JobStanding.{JobStanding}
-use Rattle.office.specs.declared.standings.JobStanding.TheVariants.{Running, Halted, Checked}
-use Rattle.office.specs.declared.standings.Summary.{Summary}
+use Rattle.office.specs.declared.summaries.Summary.{Summary}
 use Rattle.office.specs.declared.stretches.Stretch.{Stretch}
 use Rattle.office.specs.declared.refusals.Refusal.{Refusal}
 use Rattle.office.specs.declared.refusals.Refusal.TheVariants as refusal
@@ -54,40 +51,17 @@ pub record IsJobInRange (k : Kept) : Type 0 where
 
 -- ---- the standing of a job
 
--- the standing of a job: running, at a halt with the position of the next instruction, or at a
--- check with the position of the instruction that met it
-abbrev pub told_at : Standing → ℕ → JobStanding
-told_at standing.Running i = Running
-told_at standing.Halted i = Halted i
-told_at (standing.Checked check) i = Checked check i
-
--- the standing of a job whose machine is in this state
-abbrev pub told : State → JobStanding
-told m = told_at m.standing m.works.registers.i
-
 -- the summary of a job: its standing, its flags, the instructions granted, and how many cards and
 -- lines it has made
 abbrev pub summary_of : Kept → Summary
 summary_of k = record {
-  standing = told k.machine;
+  standing = standing_of k.machine;
   held = k.held;
   collected = k.collected;
   granted = granted k.stretches;
   cards = length k.machine.works.units.punch;
   lines = length (lines_of k.machine);
 }
-
--- whether a job with this standing is running
-abbrev pub goes_on : JobStanding → Bool
-goes_on Running = true
-goes_on (Halted next) = false
-goes_on (Checked check at) = false
-
--- whether a job with this standing is at a halt, and so may be started
-abbrev pub is_at_halt : JobStanding → Bool
-is_at_halt Running = false
-is_at_halt (Halted next) = true
-is_at_halt (Checked check at) = false
 
 -- ---- what is refused
 
@@ -165,7 +139,8 @@ changed Lines k = k
 
 -- the reply to a command that is not refused
 abbrev pub answered : JobCommand → Kept → Reply
-answered (Slice limit) k = reply.Ran (executed k.machine limit) (told (after k.machine limit))
+answered (Slice limit) k =
+    reply.Ran (executed k.machine limit) (standing_of (after k.machine limit))
 answered (Start switches) k = reply.Started
 answered Hold k = reply.Held
 answered Release k = reply.Released

@@ -2,11 +2,11 @@
 use Rattle.std.specs.Prelude.{◌≡◌, ℕ, ◌<◌, ◌==◌, nat_lt, if◌then◌else◌, List, [], ◌∷◌, length, false, Option, Some, None, IsSome, Result, Ok, Err}
 use Rattle.cards.specs.declared.decks.Card.{Card}
 use Rattle.core_store.specs.declared.sizes.Size.{Size}
-use Rattle.core_store.specs.declared.sizes.Size.TheVariants.{Positions1400, Positions2000, Positions4000}
+use Rattle.core_store.specs.Storage.{size_numbered}
 use Rattle.autocoder_layout.specs.Source.{has_end, source_of}
 use Rattle.autocoder.specs.Programs.{layout_for}
-use Rattle.autocoder.specs.Telling.{faults_of}
-use Rattle.autocoder.specs.declared.faults.CardFault.{CardFault}
+use Rattle.autocoder_layout.specs.CardFaults.{faults_of}
+use Rattle.autocoder_layout.specs.declared.card_faults.CardFault.{CardFault}
 use Rattle.units.specs.Switches.{seven}
 use Rattle.office.specs.Limits.{most_loaded}
 use Rattle.office.specs.Jobs.{Job, loaded_of, one_more}
@@ -18,14 +18,6 @@ use Rattle.office.specs.declared.refusals.Refusal.{Refusal}
 use Rattle.office.specs.declared.refusals.Refusal.TheVariants as refusal
 use Rattle.office.specs.declared.making.NewFault.{NewFault}
 use Rattle.office.specs.declared.making.NewFault.TheVariants.{Refused, NoMemory}
-
--- the size of storage with so many positions: 1400, 2000 or 4000, or none
-abbrev pub size_numbered : ℕ → Option Size
-size_numbered size =
-    if size == 1400 then Some Positions1400 else
-    if size == 2000 then Some Positions2000 else
-    if size == 4000 then Some Positions4000 else
-    None
 
 -- the faults of a deck by its kind: of a source its faults, of an object deck none
 abbrev pub faults_in : Kind → List Card → List CardFault

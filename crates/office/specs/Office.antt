@@ -12,7 +12,8 @@ use Rattle.units.specs.declared.switches.Switches.{Switches}
 use Rattle.office.specs.Limits.{most_jobs}
 use Rattle.office.specs.Names.{is_customer, is_number, is_limit}
 use Rattle.office.specs.Jobs.{Job, loaded_deck, picture}
-use Rattle.office.specs.Kept.{kept_of, told, take_kept, job_after, attempted_on}
+use Rattle.machine.specs.Standings.{standing_of, goes_on}
+use Rattle.office.specs.Kept.{kept_of, take_kept, job_after, attempted_on}
 use Rattle.office.specs.New.{job_or_refusal}
 use Rattle.office.specs.Orders.{in_order}
 use Rattle.office.specs.declared.commands.Command.{Command}
@@ -144,7 +145,7 @@ job_line e = record {
   number = e.number;
   held = e.job.held;
   collected = e.job.collected;
-  standing = told (picture e.job);
+  standing = standing_of (picture e.job);
 }
 
 -- two jobs compared by their numbers
@@ -152,8 +153,8 @@ abbrev pub by_number : Entry → Entry → Ordering
 by_number a b = nat_cmp a.number b.number
 
 -- the list of a customer's jobs, in the order of their numbers
-abbrev pub jobs_told : List ℕ → Office → List JobLine
-jobs_told customer office = map job_line (in_order by_number (own customer office))
+abbrev pub jobs_listed : List ℕ → Office → List JobLine
+jobs_listed customer office = map job_line (in_order by_number (own customer office))
 
 -- a row of the queue: the job's customer and number
 abbrev pub queued_job : Entry → QueuedJob
@@ -172,8 +173,8 @@ abbrev pub runs : Entry → Bool
 runs e = is_running (picture e.job).standing
 
 -- the queue: the jobs that are running and not held, in the order of their names
-abbrev pub queue_told : Office → List QueuedJob
-queue_told office = map queued_job (filter runs (in_order by_name (free_jobs office)))
+abbrev pub queue_listed : Office → List QueuedJob
+queue_listed office = map queued_job (filter runs (in_order by_name (free_jobs office)))
 
 -- ---- any command
 
@@ -210,8 +211,8 @@ served (Submit customer number contents) office =
 served (OnJob customer number c) office =
     let name : List ℕ = string_bytes customer in
     commanded name number c office (job_of name number office)
-served (Jobs customer) office = (office, reply.Jobs (jobs_told (string_bytes customer) office))
-served Queue office = (office, reply.Queue (queue_told office))
+served (Jobs customer) office = (office, reply.Jobs (jobs_listed (string_bytes customer) office))
+served Queue office = (office, reply.Queue (queue_listed office))
 
 -- the office and the reply: an early refusal changes nothing
 abbrev pub taken : Command → Office → Option Refusal → Office × Reply

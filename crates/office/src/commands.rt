@@ -4,8 +4,8 @@ ghost use Rattle.std.specs.Prelude.{◌≡◌};
 ghost use Rattle.office.specs.Kept.{is_query, is_for_free, refused_if, slice_refusal, last_refusal, job_refusal};
 
 use crate::refusals::Refusal;
-use crate::standings::Summary;
 use crate::stretches::MOST_GRANTED;
+use crate::summaries::Summary;
 use cards::Deck;
 use units::Switches;
 

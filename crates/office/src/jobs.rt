@@ -2,17 +2,17 @@
 
 ghost use Rattle.std.specs.Prelude.{◌≡◌, ◌<◌, length, None, OnOk, OnErr, IfOk, IfSome, MatchOption};
 ghost use Rattle.machine.specs.Run.{risen};
-ghost use Rattle.office.specs.Kept.{IsJobInRange, loaded_kept, told, summary_of, job_refusal, changed, answered, take_kept, attempts_of, attempted_on, limit_of, MakesOn, MayWant};
+ghost use Rattle.office.specs.Kept.{IsJobInRange, loaded_kept, summary_of, job_refusal, changed, answered, take_kept, attempts_of, attempted_on, limit_of, MakesOn, MayWant};
 ghost use Rattle.office.specs.Meters.{RisenAtMost};
 
 use crate::commands::JobCommand;
 use crate::lists::{Listing, PunchedCards};
 use crate::replies::Reply;
-use crate::standings::{JobStanding, Summary};
 use crate::stretches::{Stretch, Stretches};
+use crate::summaries::Summary;
 use cards::{Card, Deck};
 use core_store::{Core, Size};
-use machine::{Machine, Meter, Parts, Standing};
+use machine::{Machine, Meter, Parts};
 use std::alloc::{AllocError, Global};
 use std::marker::Model;
 use units::{Line, Switches};
@@ -70,18 +70,6 @@ pub struct ShownJob<'a, C: Core> {
     pub collected: bool,
     /// The picture of its machine.
     pub machine: &'a Parts<C>,
-}
-
-/// The standing of a machine, as replies have it.
-fn told<C: Core>(parts: &Parts<C>) -> JobStanding
-    ensures { result ≡ told parts.now }
-{
-    let address = parts.registers.i;
-    match parts.standing {
-        Standing::Running => JobStanding::Running,
-        Standing::Halted => JobStanding::Halted { next: address },
-        Standing::Checked(check) => JobStanding::Checked { check, at: address },
-    }
 }
 
 /// A copy of the cards.
@@ -173,7 +161,7 @@ impl<C: Core> Job<C> {
     {
         let parts = self.machine.parts();
         Summary {
-            standing: told(parts),
+            standing: parts.standing_at(),
             held: self.held,
             collected: self.collected,
             granted: self.stretches.granted(),
@@ -198,7 +186,7 @@ impl<C: Core> Job<C> {
         self.stretches.grant(limit);
         Ok(Reply::Ran {
             executed: ran.executed,
-            standing: told(self.machine.parts()),
+            standing: self.machine.parts().standing_at(),
         })
     }
 

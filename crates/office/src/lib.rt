@@ -22,8 +22,8 @@ mod names;
 mod offices;
 mod refusals;
 mod replies;
-mod standings;
 mod stretches;
+mod summaries;
 
 pub use beginnings::programs_run_from_their_start;
 pub use commands::{Command, Contents, JobCommand, Kind};
@@ -39,5 +39,5 @@ pub use names::{is_customer, is_limit, is_number};
 pub use offices::{lists_are_in_order, names_stay_apart, submissions_repeat};
 pub use refusals::Refusal;
 pub use replies::Reply;
-pub use standings::{JobStanding, Summary};
 pub use stretches::Stretch;
+pub use summaries::Summary;

@@ -1,8 +1,8 @@
 //! The lists in replies.
 
-use crate::standings::JobStanding;
-use autocoder::CardFault;
+use autocoder_layout::CardFault;
 use cards::Card;
+use machine::StandingAt;
 use std::marker::Model;
 use units::Line;
 
@@ -38,7 +38,7 @@ pub struct JobLine {
     pub number: u32,
     pub held: bool,
     pub collected: bool,
-    pub standing: JobStanding,
+    pub standing: StandingAt,
 }
 
 /// A customer's jobs, by number.
@@ -92,7 +92,7 @@ pub struct SourceFaults(pub Vec<CardFault>);
 
 impl Model for SourceFaults {
     ghost use Rattle.std.specs.Prelude.{List};
-    ghost use Rattle.autocoder.specs.declared.faults.CardFault.{CardFault};
+    ghost use Rattle.autocoder_layout.specs.declared.card_faults.CardFault.{CardFault};
 
     ghost Value = { List CardFault };
 

@@ -6,7 +6,7 @@ ghost use Rattle.autocoder_layout.specs.Source.{source_of};
 ghost use Rattle.autocoder.specs.Programs.{IsProgramOf};
 ghost use Rattle.office.specs.Limits.{most_loaded};
 ghost use Rattle.office.specs.Jobs.{loaded_of};
-ghost use Rattle.office.specs.New.{size_numbered, deck_refusal, IsWhyNotLoaded, IsTooLong, IsJobOf, IsWhyNot};
+ghost use Rattle.office.specs.New.{deck_refusal, IsWhyNotLoaded, IsTooLong, IsJobOf, IsWhyNot};
 
 use crate::commands::{Contents, Kind};
 use crate::jobs::Job;
@@ -24,18 +24,6 @@ pub enum NewFault {
     Refused(Refusal),
     /// There was no memory for the job. Nothing was changed.
     NoMemory,
-}
-
-/// The size with this number of positions, if there is one.
-fn size_of(positions: u32) -> Option<Size>
-    ensures { result ≡ size_numbered positions }
-{
-    match positions {
-        1400 => Some(Size::Positions1400),
-        2000 => Some(Size::Positions2000),
-        4000 => Some(Size::Positions4000),
-        _ => None,
-    }
 }
 
 /// Adds some cards to a deck.
@@ -114,7 +102,7 @@ pub fn new_job<C: Core>(alloc: Global, contents: &Contents) -> Result<Job<C>, Ne
     ensures job { IfOk result (λ job. IsJobOf contents.now job) }
     ensures refused { IfErr result (λ fault. IsWhyNot contents.now fault) }
 {
-    let Some(size) = size_of(contents.size) else {
+    let Some(size) = Size::of_positions(contents.size) else {
         return Err(NewFault::Refused(Refusal::Size));
     };
     let deck = match deck_to_load(alloc, contents.kind, &contents.deck) {

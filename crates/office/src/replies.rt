@@ -2,20 +2,16 @@
 
 use crate::lists::{JobList, Listing, PunchedCards, QueueList};
 use crate::refusals::Refusal;
-use crate::standings::{JobStanding, Summary};
+use crate::summaries::Summary;
+use machine::StandingAt;
 
 /// The reply to a command.
 #[derive(Drop)]
 pub enum Reply {
     /// The job was taken, and this number of cards is loaded.
-    Taken {
-        cards: u32,
-    },
+    Taken { cards: u32 },
     /// The job ran: the number of executed instructions, and the standing after them.
-    Ran {
-        executed: u32,
-        standing: JobStanding,
-    },
+    Ran { executed: u32, standing: StandingAt },
     /// The job was started again from its halt.
     Started,
     /// The job is held.
@@ -23,10 +19,7 @@ pub enum Reply {
     /// The job is no longer held.
     Released,
     /// The job was collected: the numbers of cards and lines that it has made.
-    Collected {
-        cards: u32,
-        lines: u32,
-    },
+    Collected { cards: u32, lines: u32 },
     /// The standing of the job, with its counts and flags.
     Standing(Summary),
     /// The cards that the job has punched.

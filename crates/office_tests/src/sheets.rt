@@ -2,8 +2,8 @@
 
 use bitflags::Flags;
 use core_store::FlagCore;
-use machine::Meter;
-use office::{Job, JobCommand, JobStanding, Refusal, Reply, Summary};
+use machine::{Meter, StandingAt};
+use office::{Job, JobCommand, Refusal, Reply, Summary};
 use std::alloc::Global;
 use std::test::Fail;
 use units::{Switches, render};
@@ -41,11 +41,11 @@ fn command_of(words: &str) -> Result<JobCommand, Fail> {
 }
 
 /// The standing of a job's machine, in words.
-fn standing_text(alloc: Global, standing: JobStanding) -> Result<String, Fail> {
+fn standing_text(alloc: Global, standing: StandingAt) -> Result<String, Fail> {
     match standing {
-        JobStanding::Running => Ok(String::from_str(alloc, "running")?),
-        JobStanding::Halted { next } => Ok(format!(in alloc; "halted next {next}")?),
-        JobStanding::Checked { check, at } => Ok(format!(in alloc; "{check:?} at {at}")?),
+        StandingAt::Running => Ok(String::from_str(alloc, "running")?),
+        StandingAt::Halted { next } => Ok(format!(in alloc; "halted next {next}")?),
+        StandingAt::Checked { check, at } => Ok(format!(in alloc; "{check:?} at {at}")?),
     }
 }
 

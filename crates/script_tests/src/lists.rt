@@ -1,11 +1,11 @@
 //! Replies that hold lists.
 
 use crate::written::is_written;
-use autocoder::CardFault;
-use autocoder_layout::SourceFault;
+use autocoder_layout::{CardFault, SourceFault};
 use autocoder_statements::StatementFault;
 use core_store::Check;
-use office::{JobLine, JobList, JobStanding, QueueLine, QueueList, Refusal, Reply, SourceFaults};
+use machine::StandingAt;
+use office::{JobLine, JobList, QueueLine, QueueList, Refusal, Reply, SourceFaults};
 use std::alloc::Global;
 use std::test::Fail;
 
@@ -17,7 +17,7 @@ fn jobs(alloc: Global, numbers: &[u32]) -> Result<Reply, Fail> {
             number: *number,
             held: true,
             collected: false,
-            standing: JobStanding::Checked {
+            standing: StandingAt::Checked {
                 check: Check::Data,
                 at: 9,
             },

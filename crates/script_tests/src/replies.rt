@@ -2,13 +2,14 @@
 
 use crate::written::is_written;
 use core_store::Check;
-use office::{JobStanding, Refusal, Reply, Summary};
+use machine::StandingAt;
+use office::{Refusal, Reply, Summary};
 use std::test::Fail;
 
 /// A job that is running, has printed two lines, and has these flags.
 fn two_lines(held: bool, collected: bool) -> Reply {
     Reply::Standing(Summary {
-        standing: JobStanding::Running,
+        standing: StandingAt::Running,
         held,
         collected,
         granted: 34,
@@ -20,7 +21,7 @@ fn two_lines(held: bool, collected: bool) -> Reply {
 /// A job at a halt, with the greatest value in every field.
 fn most() -> Summary {
     Summary {
-        standing: JobStanding::Halted { next: 345 },
+        standing: StandingAt::Halted { next: 345 },
         held: true,
         collected: true,
         granted: 1_000_000_000,
@@ -36,7 +37,7 @@ fn reply_of(word: &str) -> Reply {
         "taken whole" => Reply::Taken { cards: 2000 },
         "ran" => Reply::Ran {
             executed: 34,
-            standing: JobStanding::Running,
+            standing: StandingAt::Running,
         },
         "started" => Reply::Started,
         "held" => Reply::Held,
@@ -82,14 +83,14 @@ fn standings_have_their_words(rt: HostRuntime) -> Result<(), Fail> {
 }
 
 /// The standing of a checked machine.
-fn checked(check: Check) -> JobStanding {
-    JobStanding::Checked { check, at: 351 }
+fn checked(check: Check) -> StandingAt {
+    StandingAt::Checked { check, at: 351 }
 }
 
 #[test]
 fn halts_and_checks_have_their_words(rt: HostRuntime) -> Result<(), Fail> {
     for (standing, words) in [
-        (JobStanding::Halted { next: 15999 }, "halted next 15999"),
+        (StandingAt::Halted { next: 15999 }, "halted next 15999"),
         (checked(Check::Address), "check ADDRESS at 351"),
         (checked(Check::Instruction), "check INSTRUCTION at 351"),
         (checked(Check::Data), "check DATA at 351"),

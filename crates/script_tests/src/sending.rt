@@ -2,7 +2,8 @@
 
 use crate::devices::Narrow;
 use core_store::Check;
-use office::{JobStanding, Reply, Summary};
+use machine::StandingAt;
+use office::{Reply, Summary};
 use scripts::{ScriptFault, WriteFailed, write_bad, write_reply};
 use std::alloc::Global;
 use std::test::Fail;
@@ -18,7 +19,7 @@ fn writer_of(alloc: Global, room: usize, fails: bool) -> Narrow {
 
 /// A job whose line has the most pieces.
 const JOB: Summary = Summary {
-    standing: JobStanding::Checked {
+    standing: StandingAt::Checked {
         check: Check::Overlap,
         at: 351,
     },

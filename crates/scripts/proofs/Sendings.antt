@@ -8,10 +8,10 @@ use Rattle.std.proofs.lemmas.List.{take-append-le}
 use Rattle.std.proofs.KnownBytes.{Appends-trans}
 use Rattle.std.specs.Io.KnownBytes.{Appends}
 use Rattle.std.specs.Prelude.{Option}
-use Rattle.autocoder.specs.declared.faults.CardFault.{CardFault}
+use Rattle.autocoder_layout.specs.declared.card_faults.CardFault.{CardFault}
 use Rattle.autocoder_layout.specs.Faults.{fault_number}
 use Rattle.office.specs.Queued.{QueuedJob}
-use Rattle.office.specs.declared.standings.Summary.{Summary}
+use Rattle.office.specs.declared.summaries.Summary.{Summary}
 use Rattle.scripts.specs.Replies.{fault_words, line_of, made_words, queued_words, truth}
 use Rattle.scripts.specs.Sending.{Writes, WritesPart, counted}
 use Rattle.scripts.specs.declared.write_failed.WriteFailed.{WriteFailed}

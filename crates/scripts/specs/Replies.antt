@@ -1,10 +1,10 @@
 -- the line of each reply
 use Rattle.std.specs.Prelude.{ℕ, List, [], ◌∷◌, ◌++◌, Bool, if◌then◌else◌, codes, decimal}
 use Rattle.std.specs.List.{flat_map}
-use Rattle.autocoder.specs.declared.faults.CardFault.{CardFault}
-use Rattle.core_store.specs.declared.registers.Check.{Check}
-use Rattle.core_store.specs.declared.registers.Check.TheVariants as check
+use Rattle.cards.specs.Files.{line_feed}
+use Rattle.autocoder_layout.specs.declared.card_faults.CardFault.{CardFault}
 use Rattle.autocoder_layout.specs.Faults.{fault_number}
+use Rattle.machine.specs.Standings.{standing_words}
 use Rattle.office.specs.Numbers.{refusal_number}
 use Rattle.office.specs.Queued.{QueuedJob}
 use Rattle.office.specs.declared.lists.JobLine.{JobLine}
@@ -12,29 +12,9 @@ use Rattle.office.specs.declared.refusals.Refusal.{Refusal}
 use Rattle.office.specs.declared.refusals.Refusal.TheVariants as refusal
 use Rattle.office.specs.declared.replies.Reply.{Reply}
 use Rattle.office.specs.declared.replies.Reply.TheVariants as reply
-use Rattle.office.specs.declared.standings.JobStanding.{JobStanding}
-use Rattle.office.specs.declared.standings.JobStanding.TheVariants as standing
-use Rattle.office.specs.declared.standings.Summary.{Summary}
+use Rattle.office.specs.declared.summaries.Summary.{Summary}
 use Rattle.scripts.specs.declared.faults.ScriptFault.{ScriptFault}
 use Rattle.scripts.specs.declared.faults.ScriptFault.TheVariants as fault
-
--- the name of a check, as replies print it
-abbrev pub check_words : Check → List ℕ
-check_words check.Address = codes "ADDRESS"
-check_words check.Instruction = codes "INSTRUCTION"
-check_words check.Data = codes "DATA"
-check_words check.Overlap = codes "OVERLAP"
-check_words check.ReaderEmpty = codes "READER EMPTY"
-check_words check.PunchFull = codes "PUNCH FULL"
-check_words check.PrinterFull = codes "PRINTER FULL"
-
--- the standing of a job, as replies print it: at a halt with the next position, at a check with its
--- name and position
-abbrev pub standing_words : JobStanding → List ℕ
-standing_words standing.Running = codes "running"
-standing_words (standing.Halted next) = codes "halted next " ++ decimal next
-standing_words (standing.Checked check at) =
-    codes "check " ++ check_words check ++ codes " at " ++ decimal at
 
 -- a flag as a digit: 1 if it is set, else 0
 abbrev pub truth : Bool → List ℕ
@@ -91,7 +71,7 @@ reply_words (reply.Refused reason) = refusal_words reason
 
 -- these words with a line feed after them
 abbrev pub line_of : List ℕ → List ℕ
-line_of words = words ++ 10 ∷ []
+line_of words = words ++ line_feed ∷ []
 
 -- the line that a reply is printed on
 abbrev pub reply_line : Reply → List ℕ

@@ -3,14 +3,14 @@
 ghost use Rattle.std.specs.Prelude.{◌≡◌, ◌++◌};
 ghost use Rattle.std.specs.List.{flat_map};
 ghost use Rattle.scripts.specs.Pieces.{piece_bytes};
-ghost use Rattle.scripts.specs.Replies.{check_words, standing_words, truth};
+ghost use Rattle.machine.specs.Standings.{standing_words};
+ghost use Rattle.scripts.specs.Replies.{truth};
 ghost use Rattle.scripts.specs.Sending.{Writes};
 
 use crate::sending::put;
 use crate::write_failed::WriteFailed;
-use core_store::Check;
 use itoa::Buffer;
-use office::JobStanding;
+use machine::StandingAt;
 use std::io::Write;
 
 /// A piece of a line.
@@ -63,41 +63,26 @@ pub(crate) fn put_all<W: Write>(
     Ok(())
 }
 
-/// The words for a check.
-fn words_of(check: Check) -> &'static str
-    ensures { result.now ≡ check_words check }
-{
-    match check {
-        Check::Address => "ADDRESS",
-        Check::Instruction => "INSTRUCTION",
-        Check::Data => "DATA",
-        Check::Overlap => "OVERLAP",
-        Check::ReaderEmpty => "READER EMPTY",
-        Check::PunchFull => "PUNCH FULL",
-        Check::PrinterFull => "PRINTER FULL",
-    }
-}
-
 /// The standing of a job, in pieces.
-pub(crate) fn standing(standing: JobStanding) -> [Piece<'static>; 4]
+pub(crate) fn standing(standing: StandingAt) -> [Piece<'static>; 4]
     ensures { flat_map piece_bytes result ≡ standing_words standing }
 {
     match standing {
-        JobStanding::Running => [
+        StandingAt::Running => [
             Piece::Text("running"),
             Piece::Text(""),
             Piece::Text(""),
             Piece::Text(""),
         ],
-        JobStanding::Halted { next } => [
+        StandingAt::Halted { next } => [
             Piece::Text("halted next "),
             Piece::Number(u64::from(next)),
             Piece::Text(""),
             Piece::Text(""),
         ],
-        JobStanding::Checked { check, at } => [
+        StandingAt::Checked { check, at } => [
             Piece::Text("check "),
-            Piece::Text(words_of(check)),
+            Piece::Text(check.name()),
             Piece::Text(" at "),
             Piece::Number(u64::from(at)),
         ],

@@ -2,15 +2,17 @@
 
 ghost use Rattle.std.specs.Prelude.{◌++◌, codes, decimal};
 ghost use Rattle.std.specs.List.{flat_map};
-ghost use Rattle.scripts.specs.Replies.{bad_line, fault_line, fault_words, job_words, line_of, made_words, queued_words, refusal_line, reply_line, standing_words, summary_words};
+ghost use Rattle.machine.specs.Standings.{standing_words};
+ghost use Rattle.scripts.specs.Replies.{bad_line, fault_line, fault_words, job_words, line_of, made_words, queued_words, refusal_line, reply_line, summary_words};
 ghost use Rattle.scripts.specs.Sending.{Writes};
 
 use crate::faults::ScriptFault;
 use crate::pieces::{Piece, put_all, standing, truth};
 use crate::sending::put;
 use crate::write_failed::WriteFailed;
-use autocoder::CardFault;
-use office::{JobLine, JobStanding, QueueLine, Refusal, Reply, Summary};
+use autocoder_layout::CardFault;
+use machine::StandingAt;
+use office::{JobLine, QueueLine, Refusal, Reply, Summary};
 use std::io::Write;
 
 /// Writes how far a job ran, and its standing.
@@ -18,7 +20,7 @@ fn put_ran<W: Write>(
     writer: &mut W,
     sent: &mut usize,
     executed: u32,
-    now: JobStanding,
+    now: StandingAt,
 ) -> Result<(), WriteFailed>
     ensures { Writes (line_of (codes "ran " ++ decimal executed ++ codes " " ++ standing_words now))
         (W.contents writer.old) (W.contents writer.new) sent.old sent.new result }

@@ -7,7 +7,7 @@ use Rattle.std.proofs.lemmas.Option.{slice_get_within}
 use Rattle.std.proofs.Math.Seq.{take-append_seam}
 use Rattle.cards.specs.declared.decks.Card.{Card}
 use Rattle.core_store.specs.Storage.{Storage, codes_from, put_codes}
-use Rattle.core_store.specs.declared.registers.Check.TheVariants.{ReaderEmpty, PunchFull, PrinterFull}
+use Rattle.core_store.specs.declared.checks.Check.TheVariants.{ReaderEmpty, PunchFull, PrinterFull}
 use Rattle.core_store.proofs.Fields.{length-put_codes}
 use Rattle.units.specs.declared.carriage.Carriage.{Carriage}
 use Rattle.units.specs.declared.carriage.CarriageOrder.{CarriageOrder}

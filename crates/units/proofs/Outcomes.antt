@@ -1,7 +1,7 @@
 -- facts of what an operation leaves, where there is no check
 use Rattle.std.proofs.Common.{◌≡◌, Bool, true, false, Option, Some, None, IfSome, Result, Ok, Err, if◌then◌else◌, refl, subst}
 use Rattle.core_store.specs.Checked.{require, find_or, and_then}
-use Rattle.core_store.specs.declared.registers.Check.{Check}
+use Rattle.core_store.specs.declared.checks.Check.{Check}
 
 -- a fact of the value where there is no check
 abbrev pub Each : {T : Type 0} → (T → Type 0) → Result T Check → Type 0

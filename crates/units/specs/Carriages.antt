@@ -2,8 +2,8 @@
 use Rattle.std.specs.Prelude.{ℕ, ◌+◌, ◌-◌, nat_le, nat_lt, ◌&&◌, ◌||◌, ◌==◌, Bool, false, if◌then◌else◌, List, Option, Some, None, Result, Ok, unwrap_or, codes}
 use Rattle.bcd.specs.Table.{glyph_of, byte}
 use Rattle.core_store.specs.Checked.{find_or}
-use Rattle.core_store.specs.declared.registers.Check.{Check}
-use Rattle.core_store.specs.declared.registers.Check.TheVariants.{PrinterFull}
+use Rattle.core_store.specs.declared.checks.Check.{Check}
+use Rattle.core_store.specs.declared.checks.Check.TheVariants.{PrinterFull}
 use Rattle.units.specs.declared.carriage.Carriage.{Carriage}
 use Rattle.units.specs.declared.carriage.CarriageOrder.{CarriageOrder}
 use Rattle.units.specs.declared.carriage.CarriageOrder.TheVariants.{Now, AfterLine}

@@ -5,8 +5,8 @@ use Rattle.cards.specs.declared.decks.Card.{Card}
 use Rattle.cards.specs.Decks.{card_columns}
 use Rattle.core_store.specs.Storage.{Storage, put_codes, codes_from}
 use Rattle.core_store.specs.Checked.{require, find_or, and_then}
-use Rattle.core_store.specs.declared.registers.Check.{Check}
-use Rattle.core_store.specs.declared.registers.Check.TheVariants.{ReaderEmpty, PunchFull, PrinterFull}
+use Rattle.core_store.specs.declared.checks.Check.{Check}
+use Rattle.core_store.specs.declared.checks.Check.TheVariants.{ReaderEmpty, PunchFull, PrinterFull}
 use Rattle.units.specs.declared.devices.Devices.{Devices}
 use Rattle.units.specs.declared.fault.Fault.{Fault}
 use Rattle.units.specs.declared.fault.Fault.TheVariants.{Stopped, NoMemory}

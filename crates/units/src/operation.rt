@@ -2,7 +2,7 @@
 
 ghost use Rattle.std.specs.Prelude.{◌≡◌, ◌≤◌, ◌⊎◌, true, false, length, Ok, Err, IsOk, OnOk, OnErr, IfErr};
 ghost use Rattle.core_store.specs.Storage.{Storage};
-ghost use Rattle.core_store.specs.declared.registers.Check.TheVariants.{ReaderEmpty, PunchFull, PrinterFull};
+ghost use Rattle.core_store.specs.declared.checks.Check.TheVariants.{ReaderEmpty, PunchFull, PrinterFull};
 ghost use Rattle.units.specs.Units.{areas_end, punch_area_end, read_area_end, reader_works, punch_works, printer_works, operated, PunchFails, PrintFails, OperationFails};
 
 use crate::devices::Devices;

@@ -2,7 +2,7 @@
 
 ghost use Rattle.std.specs.Prelude.{◌≡◌, ◌≤◌, true, false, length, Ok, Err, IsOk, OnOk, OnErr, IfErr};
 ghost use Rattle.core_store.specs.Storage.{Storage};
-ghost use Rattle.core_store.specs.declared.registers.Check.TheVariants.{PrinterFull};
+ghost use Rattle.core_store.specs.declared.checks.Check.TheVariants.{PrinterFull};
 ghost use Rattle.units.specs.Units.{areas_end, line_printed, PrintFails};
 
 use crate::areas::{PRINT_AREA, codes_at};

@@ -2,7 +2,7 @@
 
 ghost use Rattle.std.specs.Prelude.{◌≡◌, ◌≤◌, true, false, length, take, Ok, Err, IsOk, OnOk, OnErr, IfErr};
 ghost use Rattle.core_store.specs.Storage.{Storage};
-ghost use Rattle.core_store.specs.declared.registers.Check.TheVariants.{PunchFull};
+ghost use Rattle.core_store.specs.declared.checks.Check.TheVariants.{PunchFull};
 ghost use Rattle.units.specs.Units.{punch_area_end, card_punched, PunchFails};
 
 use crate::areas::{PUNCH_AREA, codes_at};

@@ -2,7 +2,7 @@
 
 ghost use Rattle.std.specs.Prelude.{◌≡◌, ◌==◌, ◌<◌, ◌≤◌, true, false, length, Ok, Err, IsOk, OnOk, OnErr, IfErr};
 ghost use Rattle.core_store.specs.Storage.{Storage, put_codes};
-ghost use Rattle.core_store.specs.declared.registers.Check.TheVariants.{ReaderEmpty};
+ghost use Rattle.core_store.specs.declared.checks.Check.TheVariants.{ReaderEmpty};
 ghost use Rattle.units.specs.Units.{read_area_end, card_read};
 
 use crate::areas::{READ_AREA, put_codes};

@@ -1,13 +1,12 @@
 use Rattle.std.proofs.Common.{◌∙◌, length, ap, arith}
 use Rattle.autocoder_layout.specs.Source.{source_of}
-use Rattle.autocoder_layout.proofs.Firsts.{length-texts}
-use Rattle.autocoder.proofs.Lines.{few_literals, listing_is}
+use Rattle.autocoder.proofs.ListingLemmas.{few_literals, listing_is}
 use Rattle.autocoder.proofs.listings.listing.Goals as goal
 
 pub push_literals-requires : goal.push_literals-requires
 push_literals-requires c =
     let source_is = c.source_of.ensures.source ∙ ap source_of c.cards.ensures.cards in
-    omega (arith, few_literals c.args.deck.now c.source_of.result.now c.args.program.now c.requires.program source_is (omega (arith, c.source_of.ensures.limit, c.cards.ensures.limit)), ap length c.literals.ensures, length-texts c.literals.result.now)
+    omega (arith, few_literals c.args.deck.now c.source_of.result.now c.args.program.now c.requires.program source_is (omega (arith, c.source_of.ensures.limit, c.cards.ensures.limit)), ap length c.literals.ensures)
 
 pub returns : goal.returns
 returns c =

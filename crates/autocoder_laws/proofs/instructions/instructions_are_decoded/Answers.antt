@@ -1,4 +1,4 @@
-use Rattle.autocoder_laws.proofs.Laws.{forms_law, cards_law}
+use Rattle.autocoder_laws.proofs.InstructionLaw.{forms_law, cards_law}
 use Rattle.autocoder_laws.proofs.instructions.instructions_are_decoded.Goals as goal
 
 pub returns-clause-forms : goal.returns-clause-forms

@@ -1,4 +1,4 @@
-use Rattle.autocoder_laws.proofs.Addresses.{first_law, second_law}
+use Rattle.autocoder_laws.proofs.OperandLaw.{first_law, second_law}
 use Rattle.autocoder_laws.proofs.operands.operands_are_read.Goals as goal
 
 pub returns-clause-first : goal.returns-clause-first

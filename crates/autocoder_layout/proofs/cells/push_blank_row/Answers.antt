@@ -1,6 +1,6 @@
 use Rattle.std.proofs.Common.{◌∙◌, ◌+◌, ◌++◌, ◌∷◌, [], false, ap}
 use Rattle.autocoder_layout.specs.Cells.{cell}
-use Rattle.autocoder_layout.proofs.Filling.{blank_row_step, blank_row_past}
+use Rattle.autocoder_layout.proofs.CellLemmas.{blank_row_step, blank_row_past}
 use Rattle.autocoder_layout.proofs.cells.push_blank_row.Goals as goal
 
 pub loop-offset-preserved : goal.loop-offset-preserved

@@ -1,5 +1,5 @@
 use Rattle.std.proofs.Common.{◌∙◌, arith}
-use Rattle.autocoder_layout.proofs.Filling.{literal_cells_step, literal_cells_past}
+use Rattle.autocoder_layout.proofs.CellLemmas.{literal_cells_step, literal_cells_past}
 use Rattle.autocoder_layout.proofs.cells.push_literals.Goals as goal
 
 pub loop-literal-preserved : goal.loop-literal-preserved

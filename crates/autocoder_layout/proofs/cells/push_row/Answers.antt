@@ -1,5 +1,5 @@
 use Rattle.std.proofs.Common.{◌∙◌, arith}
-use Rattle.autocoder_layout.proofs.Filling.{row_step, row_past}
+use Rattle.autocoder_layout.proofs.CellLemmas.{row_step, row_past}
 use Rattle.autocoder_layout.proofs.cells.push_row.Goals as goal
 
 pub loop-code-preserved : goal.loop-code-preserved

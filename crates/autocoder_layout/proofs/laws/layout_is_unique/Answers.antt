@@ -1,5 +1,5 @@
 use Rattle.autocoder_layout.specs.Layout.{layout_of}
-use Rattle.autocoder_layout.proofs.Layouts.{there_is_one, no_other}
+use Rattle.autocoder_layout.proofs.LayoutLemmas.{there_is_one, no_other}
 use Rattle.autocoder_layout.proofs.laws.layout_is_unique.Goals as goal
 
 pub returns-clause-one : goal.returns-clause-one

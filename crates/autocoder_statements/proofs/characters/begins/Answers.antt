@@ -1,5 +1,5 @@
 use Rattle.std.proofs.Common.{◌≡◌, ◌∙◌, sym, length, drop, arith}
-use Rattle.autocoder_statements.proofs.Runs.{begins_short, begins_differs, begins_goes, begins_ends}
+use Rattle.autocoder_statements.proofs.CharacterLemmas.{begins_short, begins_differs, begins_goes, begins_ends}
 use Rattle.autocoder_statements.proofs.characters.begins.Goals as goal
 
 pub returns-then-index-text-clause-begins : goal.returns-then-index-text-clause-begins

@@ -1,5 +1,5 @@
 use Rattle.std.proofs.Common.{◌≡◌, length, arith}
-use Rattle.autocoder_statements.proofs.Runs.{number_goes, number_below, number_ends}
+use Rattle.autocoder_statements.proofs.CharacterLemmas.{number_goes, number_below, number_ends}
 use Rattle.autocoder_statements.proofs.characters.number_of.Goals as goal
 
 pub loop-digit-preserved : goal.loop-digit-preserved

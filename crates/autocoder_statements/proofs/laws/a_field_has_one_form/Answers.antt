@@ -1,4 +1,4 @@
-use Rattle.autocoder_statements.proofs.FormLemmas.{none_or_one, none_or_two, one_or_two}
+use Rattle.autocoder_statements.proofs.OperandFormLaw.{none_or_one, none_or_two, one_or_two}
 use Rattle.autocoder_statements.proofs.laws.a_field_has_one_form.Goals as goal
 
 pub returns-clause-none_or_one : goal.returns-clause-none_or_one

@@ -1,5 +1,5 @@
 use Rattle.std.proofs.Common.{◌∙◌, refl}
-use Rattle.autocoder_statements.proofs.Glyphs.{code_found, code_missing}
+use Rattle.autocoder_statements.proofs.GlyphLemmas.{code_found, code_missing}
 use Rattle.autocoder_statements.proofs.operations.code_of.Goals as goal
 
 pub returns-in-Some : goal.returns-in-Some

@@ -1,6 +1,6 @@
 use Rattle.std.proofs.Common.{◌≡◌, ◌∙◌, sym, ap, length, drop, arith}
 use Rattle.autocoder_statements.specs.Mnemonics.{entry}
-use Rattle.autocoder_statements.proofs.Rows.{entry_at, entry_past, entry_ends}
+use Rattle.autocoder_statements.proofs.OperationLemmas.{entry_at, entry_past, entry_ends}
 use Rattle.autocoder_statements.proofs.operations.entry.Goals as goal
 
 pub returns-then-is_named : goal.returns-then-is_named

@@ -1,5 +1,5 @@
 use Rattle.autocoder_statements.specs.Ranges.{IsConstantInRange}
-use Rattle.autocoder_statements.proofs.Wholes.{whole_keeps}
+use Rattle.autocoder_statements.proofs.ReadingLemmas.{whole_keeps}
 use Rattle.autocoder_statements.proofs.reading.whole_constant.Goals as goal
 
 pub returns-clause-range : goal.returns-clause-range

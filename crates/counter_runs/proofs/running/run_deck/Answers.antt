@@ -10,13 +10,13 @@ use Rattle.counter_tasks.specs.declared.faults.Fault.TheVariants as fault
 use Rattle.counter_tasks.specs.declared.statuses.Status.{Status}
 use Rattle.counter_tasks.specs.declared.statuses.Status.TheVariants as status
 use Rattle.counter_runs.specs.Runs.{Refuses, Tells}
-use Rattle.counter_tasks.specs.Told.{fault_words}
+use Rattle.counter_tasks.specs.Printed.{fault_words}
 use Rattle.counter_runs.proofs.Unread.{kept, some_text}
 use Rattle.counter_runs.proofs.running.run_deck.Goals as goal
 
 -- a fault that was told, with nothing put out
 told : (text : List ℕ) (size : Size) (switches : Switches) (f : Fault) (ended : Status) (output errors_old errors_new : Option (List ℕ))
-    → Refuses text f → (ended ≡ status.Told) × Appends errors_old errors_new (fault_words f ++ 10 ∷ [])
+    → Refuses text f → (ended ≡ status.NotDone) × Appends errors_old errors_new (fault_words f ++ 10 ∷ [])
     → Tells text size switches ended output output errors_old errors_new
 told text size switches f ended output errors_old errors_new refused is =
     (Err f, refused, record { status = is.0; output = inr (kept output); errors = is.1 })

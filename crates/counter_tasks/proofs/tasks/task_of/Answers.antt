@@ -12,7 +12,7 @@ use Rattle.counter_words.specs.declared.WordsFault.{WordsFault}
 use Rattle.counter_values.specs.Switches.{text_of}
 use Rattle.counter_tasks.specs.Tasks.{Wants, WantsRun, WantsServe}
 use Rattle.counter_tasks.specs.declared.tasks.Misuse.TheVariants as misuse
-use Rattle.counter_tasks.specs.declared.tasks.Source.TheVariants.{File, Input}
+use Rattle.counter_tasks.specs.declared.tasks.Input.TheVariants.{File, Standard}
 use Rattle.counter_tasks.specs.declared.tasks.Task.{Task}
 use Rattle.counter_tasks.specs.declared.tasks.Task.TheVariants as task
 use Rattle.counter_tasks.proofs.tasks.task_of.Goals as goal
@@ -21,7 +21,7 @@ use Rattle.counter_tasks.proofs.tasks.task_of.Goals as goal
 asks : (words : List (List ℕ)) (t : Task) → Wants words t → (asked : Words) × Asks words asked
 asks words (task.Help page) wants = (row.Help page, wants)
 asks words task.Version wants = (row.Version, wants)
-asks words (task.Run Input s w) wants = (row.Standard, wants.0)
+asks words (task.Run Standard s w) wants = (row.Standard, wants.0)
 asks words (task.Run (File path) s w) wants =
     (row.Run path (record path { now = decimal (positions_of s) }) (record path { now = text_of w }), wants.0)
 asks words (task.Assemble source out) wants = (row.Assemble source out, wants)
@@ -39,7 +39,7 @@ run_wanted : (words : List (List ℕ)) (deck size switches : List ℕ) (t : Task
     → Wants words t → WantsRun deck size switches t
 run_wanted words deck size switches (task.Help page) spelt wants = absurd (no_help name.Run page deck (size ∷ switches ∷ []) words spelt wants)
 run_wanted words deck size switches task.Version spelt wants = absurd (no_version name.Run deck (size ∷ switches ∷ []) words spelt wants)
-run_wanted words deck size switches (task.Run Input s w) spelt wants = absurd (some_word name.Run _ words spelt wants.0)
+run_wanted words deck size switches (task.Run Standard s w) spelt wants = absurd (some_word name.Run _ words spelt wants.0)
 run_wanted words deck size switches (task.Run (File path) s w) spelt wants =
     let e = (one_row name.Run name.Run (deck ∷ size ∷ switches ∷ []) (path.now ∷ decimal (positions_of s) ∷ text_of w ∷ []) words spelt wants.0).1 in
     (cc, cc, wants.1, cc)
@@ -54,7 +54,7 @@ serve_wanted : (words : List (List ℕ)) (file port count : List ℕ) (t : Task)
     → Wants words t → WantsServe file port count t
 serve_wanted words file port count (task.Help page) spelt wants = absurd (no_help name.Serve page file (port ∷ count ∷ []) words spelt wants)
 serve_wanted words file port count task.Version spelt wants = absurd (no_version name.Serve file (port ∷ count ∷ []) words spelt wants)
-serve_wanted words file port count (task.Run Input s w) spelt wants = absurd (some_word name.Serve _ words spelt wants.0)
+serve_wanted words file port count (task.Run Standard s w) spelt wants = absurd (some_word name.Serve _ words spelt wants.0)
 serve_wanted words file port count (task.Run (File path) s w) spelt wants = absurd (other_row name.Serve name.Run _ _ words (λ e. cc) spelt wants.0)
 serve_wanted words file port count (task.Assemble source out) spelt wants = absurd (other_row name.Serve name.Assemble _ _ words (λ e. cc) spelt wants)
 serve_wanted words file port count (task.Init f) spelt wants = absurd (other_row name.Serve name.Init _ _ words (λ e. cc) spelt wants)

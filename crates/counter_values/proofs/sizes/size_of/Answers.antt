@@ -20,12 +20,6 @@ weaker : {X P Q : Type 0} (o : Option X) → (P → Q) → IfNone o P → IfNone
 weaker None f p = f p
 weaker (Some x) f p = p
 
-pub returns-then-number-clause-none : goal.returns-then-number-clause-none
-returns-then-number-clause-none c size e =
-    let count = c.in-Some.ensures.some in
-    let limit = positions_small size in
-    let same = same_number c.args.text.now c.in-Some.number size count.1 count.2 e in omega arith
-
 pub returns-clause-none : goal.returns-clause-none
 returns-clause-none c =
     let count = c.in-Some.ensures.some in

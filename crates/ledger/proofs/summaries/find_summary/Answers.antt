@@ -1,6 +1,6 @@
 use Rattle.std.proofs.Common.{sym, ap, ◌∙◌, arith}
 use Rattle.sqlite.specs.State.{HasCleanDisk}
-use Rattle.office.specs.Kept.{told_at}
+use Rattle.machine.specs.Standings.{standing_at}
 use Rattle.ledger_rows.specs.declared.progress.Progress.{Progress}
 use Rattle.ledger_tables.specs.Cells.{JobCells}
 use Rattle.ledger_tables.specs.Steps.{seen}
@@ -21,5 +21,5 @@ returns-clause-found g c clean inside office s =
           let held = some_is (sym c.in-Some-Some.is-0 ∙ c.read_truth.ensures.all job.held (ap (λ (r : JobCells). r.held) cells)) in
           let collected = some_is (sym c.in-Some-Some.is-1 ∙ c.read_truth-2.ensures.all job.collected (ap (λ (r : JobCells). r.collected) cells)) in
           let progress = rest.1 job is in
-          summary_is _ _ _ _ _ _ job (c.standing_of.ensures ∙ ap (λ (p : Progress). told_at p.standing p.i) progress) held collected (found.1 job is) (ap (λ (p : Progress). p.cards) progress) (ap (λ (p : Progress). p.lines) progress),
+          summary_is _ _ _ _ _ _ job (c.new.ensures ∙ ap (λ (p : Progress). standing_at p.standing p.i) progress) held collected (found.1 job is) (ap (λ (p : Progress). p.cards) progress) (ap (λ (p : Progress). p.lines) progress),
     )

@@ -4,5 +4,5 @@ use Rattle.machine.proofs.decode.character.Goals as goal
 
 pub returns : goal.returns
 returns g c =
-    c.get.ensures
+    c.get_after.ensures
     ∙ sym (code-codes_from (g.C.Core.cells c.args.core.now) c.args.word.first c.args.word.length c.args.place c.requires.among c.requires.within)

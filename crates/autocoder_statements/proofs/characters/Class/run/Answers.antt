@@ -1,6 +1,6 @@
 use Rattle.std.proofs.Common.{◌≡◌, length, drop, arith, sym, ◌∙◌, ap}
 use Rattle.autocoder_statements.specs.Characters.{run}
-use Rattle.autocoder_statements.proofs.Runs.{run_stops, run_goes, run_ends}
+use Rattle.autocoder_statements.proofs.CharacterLemmas.{run_stops, run_goes, run_ends}
 use Rattle.autocoder_statements.proofs.characters.Class.run.Goals as goal
 
 pub returns-then-not-has-clause-run : goal.returns-then-not-has-clause-run

@@ -13,5 +13,5 @@ returns c =
     let size' : length marks ≡ length core.marks.items = c.fill-2.ensures.size ∙ ap length c.deref_mut-2.ensures.value in
     both_written_back core.codes.len codes core.codes.items size (omega arith) core.marks.len marks core.marks.items size' (omega arith)
     ∙ cells_cleared core.codes.items core.marks.items codes marks c.args.first c.args.last core.even c.requires.order (omega (arith, long)) size size'
-    (filled_as core.codes.items c.deref_mut.result.now codes c.args.first (c.args.last + 1) _ 0 c.deref_mut.ensures.value c.blank.ensures c.fill.ensures.filled c.fill.ensures.kept)
+    (filled_as core.codes.items c.deref_mut.result.now codes c.args.first (c.args.last + 1) _ 0 c.deref_mut.ensures.value (c.number.ensures.same ∙ c.blank.ensures) c.fill.ensures.filled c.fill.ensures.kept)
     (filled_as core.marks.items c.deref_mut-2.result.now marks c.args.first (c.args.last + 1) 0 0 c.deref_mut-2.ensures.value refl c.fill-2.ensures.filled c.fill-2.ensures.kept)

@@ -1,0 +1,9 @@
+use Rattle.std.proofs.Common.{◌∙◌, sym, arith}
+use Rattle.arith.proofs.Orders.{comparison_shorter, comparison_same}
+use Rattle.arith.proofs.ranks.near_comparison.Goals as goal
+
+pub returns-then-counts : goal.returns-then-counts
+returns-then-counts g c = c.near_order.ensures ∙ comparison_same (g.C.Core.cells c.args.core.now) c.args.a c.args.b c.args.counts c.requires.counts (omega arith)
+
+pub returns-else-counts : goal.returns-else-counts
+returns-else-counts g c = sym (comparison_shorter (g.C.Core.cells c.args.core.now) c.args.a c.args.b c.args.counts c.requires.counts (omega (arith, c.requires.counts.cut, c.if-counts.false)))

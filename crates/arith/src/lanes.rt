@@ -1,0 +1,197 @@
+//! Digits of at most sixteen characters, all at once.
+
+ghost use Rattle.std.specs.Prelude.{◌≡◌, ◌+◌, ◌-◌, ◌<◌, ◌≤◌, ◌%◌, ◌^◌, ◌==◌, ◌++◌, ℕ, All, List, bit_and, length, map, max, nat_lt, replicate, slice_index, take, drop, if◌then◌else◌, [], ◌∷◌, true};
+ghost use Rattle.std.specs.List.{list_any};
+ghost use Rattle.std.specs.Simd.Lanes.{sum_l, zip2};
+ghost use Rattle.bcd.specs.Table.{zone_of};
+ghost use Rattle.arith.specs.Columns.{characters, digit_of_part, number};
+
+use std::simd::prelude::*;
+
+/// Sixteen bytes that are 0, and sixteen that are 255.
+const EDGE: [u8; 32] = [
+    0, 0, 0, 0, 0, 0, 0, 0, 0, 0, 0, 0, 0, 0, 0, 0, 255, 255, 255, 255, 255, 255, 255, 255, 255,
+    255, 255, 255, 255, 255, 255, 255,
+];
+
+/// The last `count` lanes, after the first lanes of others.
+#[inline(always)]
+pub fn last_of(count: u16, lanes: u8x16, others: u8x16) -> u8x16
+    requires most { count ≤ 16 }
+    requires lanes { length lanes ≡ 16 }
+    requires others { length others ≡ 16 }
+    ensures { result ≡ take (16 - count) others ++ drop (16 - count) lanes }
+{
+    u8x16::from_slice(&EDGE[count as usize..])
+        .simd_ge(u8x16::splat(128))
+        .select(lanes, others)
+}
+
+/// Some bits of each lane.
+#[inline(always)]
+fn masked(lanes: u8x16, bits: u8) -> u8x16
+    requires { length lanes ≡ 16 }
+    ensures { result ≡ map (λ lane. bit_and lane bits) lanes }
+{
+    lanes & u8x16::splat(bits)
+}
+
+/// The lanes with `new` in place of `old`.
+#[inline(always)]
+fn replaced(lanes: u8x16, old: u8, new: u8) -> u8x16
+    requires { length lanes ≡ 16 }
+    ensures { result ≡ map (λ lane. if lane == old then new else lane) lanes }
+{
+    lanes
+        .simd_eq(u8x16::splat(old))
+        .select(u8x16::splat(new), lanes)
+}
+
+/// The numeric parts of the last `count` characters, after lanes of 0.
+#[inline(always)]
+pub fn parts(codes: u8x16, count: u16) -> u8x16
+    requires most { count ≤ 16 }
+    requires sixteen { length codes ≡ 16 }
+    ensures { result ≡ replicate (16 - count) 0
+        ++ map (λ code. code % 16) (drop (16 - count) codes) }
+{
+    last_of(count, masked(codes, 15), u8x16::splat(0))
+}
+
+/// The greater of the two lanes at each place.
+#[inline(always)]
+pub fn greater(a: u8x16, b: u8x16) -> u8x16
+    ensures { result ≡ zip2 max a b }
+{
+    a.simd_max(b)
+}
+
+/// Whether a lane is more than `most`.
+#[inline(always)]
+pub fn is_over(lanes: u8x16, most: u8) -> bool
+    requires { length lanes ≡ 16 }
+    ensures { result ≡ list_any (λ lane. nat_lt most lane) lanes }
+{
+    lanes.simd_gt(u8x16::splat(most)).to_bitmask() != 0
+}
+
+/// The digits of numeric parts: part 10 is the digit 0.
+#[inline(always)]
+pub fn digits(parts: u8x16) -> u8x16
+    requires { length parts ≡ 16 }
+    ensures { result ≡ map digit_of_part parts }
+{
+    replaced(parts, 10, 0)
+}
+
+/// The sum of the two lanes at each place.
+#[inline(always)]
+pub fn totals(a: u8x16, b: u8x16) -> u8x16
+    requires a { All (λ lane. lane < 128) a }
+    requires b { All (λ lane. lane < 128) b }
+    ensures { result ≡ zip2 (λ x y. x + y) a b }
+{
+    a + b
+}
+
+/// The characters of the last `count` digits, after the first of the old characters. The last has
+/// the zone of the last old character.
+#[inline(always)]
+pub fn written(digits: u8x16, old: u8x16, count: u16) -> u8x16
+    requires some { 1 ≤ count }
+    requires most { count ≤ 16 }
+    requires sixteen { length digits ≡ 16 }
+    requires sixteen_old { length old ≡ 16 }
+    requires digits { All (λ digit. digit < 10) digits }
+    requires codes { All (λ code. code < 64) old }
+    ensures codes { result ≡ take (16 - count) old
+        ++ characters (zone_of (slice_index old 15)) (drop (16 - count) digits) }
+    ensures sixteen { length result ≡ 16 }
+    ensures below { All (λ code. code < 64) result }
+{
+    let zone = last_of(1, masked(old, 48), u8x16::splat(0));
+    last_of(count, totals(replaced(digits, 0, 10), zone), old)
+}
+
+/// The carries of digits that may be more than 9: 1 from each of them, and 0 from the others.
+#[inline(always)]
+fn carries(sums: u8x16) -> u8x16
+    requires { length sums ≡ 16 }
+    ensures { result ≡ map (λ sum. if nat_lt 9 sum then 1 else 0) sums }
+{
+    sums.simd_gt(u8x16::splat(9))
+        .select(u8x16::splat(1), u8x16::splat(0))
+}
+
+/// The same digits without their carries.
+#[inline(always)]
+fn units(sums: u8x16) -> u8x16
+    requires sixteen { length sums ≡ 16 }
+    requires most { All (λ sum. sum ≤ 18) sums }
+    ensures { result ≡ map (λ sum. if nat_lt 9 sum then sum - 10 else sum) sums }
+{
+    sums.simd_gt(u8x16::splat(9))
+        .select(sums - u8x16::splat(10), sums)
+}
+
+/// Each lane at the place before its own, and 0 at the last place.
+#[inline(always)]
+fn one_left(lanes: u8x16) -> u8x16
+    requires sixteen { length lanes ≡ 16 }
+    requires first { slice_index lanes 0 ≡ 0 }
+    ensures { result ≡ drop 1 lanes ++ 0 ∷ [] }
+{
+    lanes.rotate_elements_left::<1>()
+}
+
+/// The digits of the same number after each carry has gone to the digit before its own.
+#[inline(always)]
+fn carried_once(sums: u8x16) -> u8x16
+    requires sixteen { length sums ≡ 16 }
+    requires most { All (λ sum. sum ≤ 18) sums }
+    requires room { number sums < 10 ^ 16 }
+    ensures number { number result ≡ number sums }
+    ensures sixteen { length result ≡ 16 }
+    ensures most { All (λ sum. sum ≤ 18) result }
+    ensures fewer { list_any (λ sum. nat_lt 9 sum) sums ≡ true → sum_l result < sum_l sums }
+{
+    totals(units(sums), one_left(carries(sums)))
+}
+
+/// The digits of the same number, each carry added to the digits before it.
+#[inline(never)]
+fn carried(sums: u8x16) -> u8x16
+    requires sixteen { length sums ≡ 16 }
+    requires most { All (λ sum. sum ≤ 18) sums }
+    requires room { number sums < 10 ^ 16 }
+    ensures number { number result ≡ number sums }
+    ensures digits { All (λ digit. digit < 10) result }
+    ensures sixteen { length result ≡ 16 }
+{
+    let mut sums = sums;
+    while is_over(sums, 9) {
+        sums = carried_once(sums);
+    }
+    sums
+}
+
+/// The digits of the sum of two numbers, which are given by their numeric parts.
+#[inline(always)]
+pub fn sum(a: u8x16, b: u8x16) -> u8x16
+    requires a { length a ≡ 16 }
+    requires b { length b ≡ 16 }
+    requires a_digits { All (λ part. part ≤ 10) a }
+    requires b_digits { All (λ part. part ≤ 10) b }
+    requires room { number (map digit_of_part a) + number (map digit_of_part b) < 10 ^ 16 }
+    ensures number { number result
+        ≡ number (map digit_of_part a) + number (map digit_of_part b) }
+    ensures digits { All (λ digit. digit < 10) result }
+    ensures sixteen { length result ≡ 16 }
+{
+    let sums = totals(digits(a), digits(b));
+    if is_over(sums, 9) {
+        carried(sums)
+    } else {
+        sums
+    }
+}

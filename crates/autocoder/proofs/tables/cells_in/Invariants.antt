@@ -1,6 +1,0 @@
-use Rattle.std.proofs.Common.{◌≡◌, ◌++◌, drop}
-use Rattle.autocoder.specs.Tables.{cells_in}
-use Rattle.autocoder.proofs.tables.cells_in.Given as goal
-
-abbrev pub invariant-loop-entry : goal.invariant-loop-entry
-invariant-loop-entry l = l.cells.items ++ cells_in (drop l.entry-index l.table) ≡ cells_in l.table

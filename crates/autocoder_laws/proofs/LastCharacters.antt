@@ -1,0 +1,121 @@
+-- for `instructions_are_decoded`: the last characters that operands may give, by their glyphs
+use Rattle.std.proofs.Common.{◌≡◌, ℕ, ◌==◌, true, subst, List, [], ◌∷◌, Some, refl}
+use Rattle.std.specs.Prelude.{⊤, codes}
+use Rattle.std.specs.List.{list_any}
+use Rattle.std.proofs.lemmas.Bool.{eqb-true}
+use Rattle.bcd.specs.Table.{glyph_of}
+use Rattle.bcd.specs.declared.Zone.TheVariants.{Bare, A, B, AB}
+use Rattle.units.specs.Carriages.{order_of}
+use Rattle.units.specs.declared.carriage.CarriageOrder.{CarriageOrder}
+use Rattle.units.specs.declared.carriage.CarriageOrder.TheVariants.{Now, AfterLine}
+use Rattle.units.specs.declared.carriage.Motion.TheVariants.{Space, DoubleSpace, TripleSpace, SkipToChannel1}
+use Rattle.machine.specs.Branches.{switch, condition_of, test_of}
+use Rattle.machine.specs.Word.{modifier_of}
+use Rattle.machine.specs.declared.branches.Condition.TheVariants.{SwitchOn}
+use Rattle.machine.specs.declared.branches.PositionTest.{PositionTest}
+use Rattle.machine.specs.declared.branches.PositionTest.TheVariants.{HasMark, HasZone, HasZoneOrMark}
+use Rattle.machine.specs.declared.decode.Modifier.TheVariants.{OnCondition, OnTest, ByOrder}
+use Rattle.machine.specs.declared.decode.Operation.TheVariants as operation
+use Rattle.autocoder_statements.specs.Operands.{is_modifier}
+use Rattle.autocoder_statements.specs.declared.modifiers.Modifiers.TheVariants.{Switches, ZonesAndMarks, Carriage}
+use Rattle.autocoder_laws.specs.Meanings.{Meaning, switch_named, switch_asked, test_asked, order_asked}
+use Rattle.autocoder_laws.proofs.SuitLemmas.{Agrees}
+use Rattle.autocoder_statements.proofs.Tests.{either}
+
+-- ---- a fact of each of some glyphs
+
+abbrev EachOf : (ℕ → Type 0) → List ℕ → Type 0
+EachOf P [] = ⊤
+EachOf P (glyph ∷ glyphs) = P glyph × EachOf P glyphs
+
+among : (P : ℕ → Type 0) (glyphs : List ℕ) → EachOf P glyphs → (glyph : ℕ) → list_any (λ other. other == glyph) glyphs ≡ true → P glyph
+among P [] all glyph h = absurd (cc)
+among P (other ∷ glyphs) all glyph h =
+    either (other == glyph) (list_any (λ x. x == glyph) glyphs) h
+    (λ here. subst P (eqb-true other glyph here) all.0)
+    (λ later. among P glyphs all.1 glyph later)
+
+-- a fact of the first glyph, and of the others
+infixr 5 ◌▸◌
+abbrev ◌▸◌ : {A B : Type 0} → A → B → A × B
+first ▸ others = (first, others)
+
+-- ---- the letters of switches
+
+abbrev asks_switch : Meaning
+asks_switch = record { operation = operation.Branch; says = switch_asked }
+
+AtSwitch : ℕ → ℕ → Type 0
+AtSwitch code glyph = glyph_of code ≡ glyph → Agrees asks_switch 5 code
+
+at_switch : (code bit : ℕ) → condition_of code ≡ Some (SwitchOn (switch bit)) → switch_named code ≡ Some (switch bit) → Agrees asks_switch 5 code
+unfolding modifier_of
+at_switch code bit read named = record { modifier = OnCondition (SwitchOn (switch bit)); read = rw read refl; meant = rw named refl }
+
+pub switches : (code : ℕ) → is_modifier Switches code ≡ true → Agrees asks_switch 5 code
+unfolding is_modifier condition_of AtSwitch
+switches code h =
+    among (AtSwitch code) (codes "BCDEFG")
+    ((λ e. at_switch code 2 (rw e refl) (rw e refl))
+    ▸ (λ e. at_switch code 4 (rw e refl) (rw e refl))
+    ▸ (λ e. at_switch code 8 (rw e refl) (rw e refl))
+    ▸ (λ e. at_switch code 16 (rw e refl) (rw e refl))
+    ▸ (λ e. at_switch code 32 (rw e refl) (rw e refl))
+    ▸ (λ e. at_switch code 64 (rw e refl) (rw e refl))
+    ▸ tt)
+    (glyph_of code) h refl
+
+-- ---- the tests of a position
+
+abbrev asks_test : Meaning
+asks_test = record { operation = operation.BranchOnMarkOrZone; says = test_asked }
+
+AtTest : ℕ → ℕ → ℕ → Type 0
+AtTest code count glyph = glyph_of code ≡ glyph → Agrees asks_test count code
+
+at_test : (code count : ℕ) (test : PositionTest) → test_of code ≡ Some test → Agrees asks_test count code
+unfolding modifier_of
+at_test code count test named = record { modifier = OnTest test; read = rw named refl; meant = rw named refl }
+
+pub tests : (code count : ℕ) → is_modifier ZonesAndMarks code ≡ true → Agrees asks_test count code
+unfolding is_modifier test_of AtTest
+tests code count h =
+    among (AtTest code count) (codes "12BKS3CLT")
+    ((λ e. at_test code count HasMark (rw e refl))
+    ▸ (λ e. at_test code count (HasZone Bare) (rw e refl))
+    ▸ (λ e. at_test code count (HasZone AB) (rw e refl))
+    ▸ (λ e. at_test code count (HasZone B) (rw e refl))
+    ▸ (λ e. at_test code count (HasZone A) (rw e refl))
+    ▸ (λ e. at_test code count (HasZoneOrMark Bare) (rw e refl))
+    ▸ (λ e. at_test code count (HasZoneOrMark AB) (rw e refl))
+    ▸ (λ e. at_test code count (HasZoneOrMark B) (rw e refl))
+    ▸ (λ e. at_test code count (HasZoneOrMark A) (rw e refl))
+    ▸ tt)
+    (glyph_of code) h refl
+
+-- ---- the orders to the carriage
+
+abbrev asks_order : Meaning
+asks_order = record { operation = operation.MoveCarriage; says = order_asked }
+
+AtOrder : ℕ → ℕ → ℕ → Type 0
+AtOrder code count glyph = glyph_of code ≡ glyph → Agrees asks_order count code
+
+at_order : (code count : ℕ) (order : CarriageOrder) → order_of code ≡ Some order → Agrees asks_order count code
+unfolding modifier_of
+at_order code count order named = record { modifier = ByOrder order; read = rw named refl; meant = rw named refl }
+
+pub orders : (code count : ℕ) → is_modifier Carriage code ≡ true → Agrees asks_order count code
+unfolding is_modifier order_of AtOrder
+orders code count h =
+    among (AtOrder code count) (codes "JKL/ST1A")
+    ((λ e. at_order code count (Now Space) (rw e refl))
+    ▸ (λ e. at_order code count (Now DoubleSpace) (rw e refl))
+    ▸ (λ e. at_order code count (Now TripleSpace) (rw e refl))
+    ▸ (λ e. at_order code count (AfterLine Space) (rw e refl))
+    ▸ (λ e. at_order code count (AfterLine DoubleSpace) (rw e refl))
+    ▸ (λ e. at_order code count (AfterLine TripleSpace) (rw e refl))
+    ▸ (λ e. at_order code count (Now SkipToChannel1) (rw e refl))
+    ▸ (λ e. at_order code count (AfterLine SkipToChannel1) (rw e refl))
+    ▸ tt)
+    (glyph_of code) h refl

@@ -1,0 +1,80 @@
+//! Fields of at most sixteen characters, written at once.
+
+ghost use Rattle.std.specs.Prelude.{◌≡◌, ◌+◌, ◌-◌, ◌<◌, ◌≤◌, ℕ, All, drop, length, true, false, Some, IfSome};
+ghost use Rattle.core_store.specs.Storage.{field_length, put_codes, largest_size};
+ghost use Rattle.core_store.specs.Operands.{are_inside, is_overlapping};
+ghost use Rattle.moves.specs.Suppressed.{unmarked};
+
+use crate::lanes::last_of;
+use core_store::{Core, are_inside, overlaps};
+use std::simd::prelude::*;
+
+/// Writes the last `count` of sixteen characters to the positions that end at B. Marks stay.
+#[inline(always)]
+#[tactic(auto, using(crate::proofs::Sixteen::near_long, crate::proofs::Sixteen::last_put, crate::proofs::Sixteen::lanes_long, crate::proofs::Sixteen::lanes_below, crate::proofs::Copying::put_codes_long))]
+pub fn put_last<C: Core>(core: &mut C, b: u16, count: u16, codes: u8x16)
+    requires within { b < length (C.cells core.old) }
+    requires room { 15 ≤ b }
+    requires most { count ≤ 16 }
+    requires sixteen { length codes ≡ 16 }
+    requires below { All (λ code. code < 64) codes }
+    ensures codes { C.cells core.new ≡ put_codes (C.cells core.old) (b + 1 - count)
+        (drop (16 - count) codes) }
+    ensures size { length (C.cells core.new) ≡ length (C.cells core.old) }
+{
+    let lanes = last_of(count, codes, core.near_codes(b));
+    core.put_near_codes(b, lanes);
+}
+
+/// Clears the marks of `count` positions that end at B.
+#[tactic(auto, using(crate::proofs::Copying::unmark_step, crate::proofs::Copying::unmark_none, crate::proofs::Copying::length_with_mark))]
+pub fn clear_marks<C: Core>(core: &mut C, b: u16, count: u16)
+    requires within { b < length (C.cells core.old) }
+    requires from { count ≤ b + 1 }
+    requires below { b < largest_size }
+    ensures marks { C.cells core.new ≡ unmarked (C.cells core.old) (b + 1 - count) count }
+    ensures size { length (C.cells core.new) ≡ length (C.cells core.old) }
+{
+    for i in 0..count {
+        core.clear_mark(b - i);
+    }
+}
+
+/// Clears the marks of at most sixteen positions that end at B, if one of them has a mark.
+#[inline(always)]
+#[tactic(auto, using(crate::proofs::Unmarked::none_to_clear))]
+pub fn clear_near_marks<C: Core>(core: &mut C, b: u16, count: u16)
+    requires within { b < length (C.cells core.old) }
+    requires room { 15 ≤ b }
+    requires most { count ≤ 16 }
+    requires below { b < largest_size }
+    ensures marks { C.cells core.new ≡ unmarked (C.cells core.old) (b + 1 - count) count }
+    ensures size { length (C.cells core.new) ≡ length (C.cells core.old) }
+{
+    if core.near_length(b) <= count {
+        clear_marks(core, b, count);
+    }
+}
+
+/// The number of characters of the field at A, if it has at most sixteen, sixteen characters end at
+/// A and at B, and none of the field is overwritten before it is read when it is copied to B.
+/// `None` says nothing about the field.
+#[inline(always)]
+#[tactic(auto, using(crate::proofs::Unmarked::near_field))]
+pub fn near_field<C: Core>(core: &C, a: u16, b: u16) -> Option<u16>
+    ensures inside { IfSome result (λ count. are_inside (C.cells core.now) a b ≡ true) }
+    ensures within { IfSome result (λ count. (a < length (C.cells core.now))
+        × (b < length (C.cells core.now)) × (a < largest_size) × (b < largest_size)) }
+    ensures field { IfSome result (λ count. field_length (C.cells core.now) a ≡ Some count) }
+    ensures room { IfSome result (λ count. (15 ≤ a) × (15 ≤ b) × (count ≤ 16)) }
+    ensures apart { IfSome result (λ count. is_overlapping a b count ≡ false) }
+{
+    if !are_inside(core, a, b) || a < 15 || b < 15 {
+        return None;
+    }
+    let count = core.near_length(a);
+    if count > 16 || overlaps(a, b, count) {
+        return None;
+    }
+    Some(count)
+}
