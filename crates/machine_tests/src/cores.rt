@@ -181,6 +181,7 @@ fn agree(flags: &FlagCore, planes: &PlaneCore, position: u16) -> bool {
         && position < planes.size()
         && flags.mark_at_or_below(position) == planes.mark_at_or_below(position)
         && flags.mark_after(position) == planes.mark_after(position)
+        && (position < 15 || flags.near_length(position) == planes.near_length(position))
         && flags.word_end(position) == planes.word_end(position)
 }
 
@@ -244,6 +245,38 @@ fn keeps<C: Core>(alloc: Global) -> Result<bool, AllocError> {
 fn characters_and_marks_are_kept_apart(rt: HostRuntime) -> Result<(), Fail> {
     assert!(rt; keeps::<FlagCore>(rt.alloc())?);
     assert!(rt; keeps::<PlaneCore>(rt.alloc())?);
+    Ok(())
+}
+
+/// Whether sixteen characters that are copied at once, from the end of storage to its beginning and
+/// to the positions after, are what they were, one by one, and whether marks stay.
+fn copies_sixteen<C: Core>(alloc: Global) -> Result<bool, AllocError> {
+    let mut core = C::blank(alloc, Size::Positions1400)?;
+    if core.size() != 1400 {
+        return Ok(false);
+    }
+    core.put(1384, code(b'A'));
+    core.put(1399, code(b'B'));
+    core.set_mark(1399);
+    core.set_mark(0);
+    let codes = core.near_codes(1399);
+    core.put_near_codes(15, codes);
+    core.put_near_codes(31, codes);
+    Ok(core.get(0) == code(b'A')
+        && core.get(1) == code(b' ')
+        && core.get(15) == code(b'B')
+        && core.get(16) == code(b'A')
+        && core.get(31) == code(b'B')
+        && core.get(32) == code(b' ')
+        && core.is_marked(0)
+        && !core.is_marked(15)
+        && !core.is_marked(31))
+}
+
+#[test]
+fn sixteen_characters_are_copied_at_once(rt: HostRuntime) -> Result<(), Fail> {
+    assert!(rt; copies_sixteen::<FlagCore>(rt.alloc())?);
+    assert!(rt; copies_sixteen::<PlaneCore>(rt.alloc())?);
     Ok(())
 }
 
