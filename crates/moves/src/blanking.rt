@@ -35,7 +35,7 @@ impl Stop {
 /// Blank for a zero or a comma, else the character itself.
 #[inline(always)]
 #[tactic(auto, unfolding(crate::specs::Blanked::faded, crate::specs::Characters::is_any))]
-fn faded(code: Code) -> Code
+fn fade(code: Code) -> Code
     ensures { result ≡ faded code }
 {
     match code.glyph() {
@@ -61,7 +61,7 @@ pub fn blank_start<C: Core>(core: &mut C, first: u16, count: u16, limit: u16, st
         if stop.is_met(code) {
             return;
         }
-        core.put(first + i, faded(code));
+        core.put(first + i, fade(code));
     }
 }
 
@@ -79,5 +79,10 @@ pub fn blank_near<C: Core>(core: &mut C, b: u16, count: u16, limit: u16, stop: S
     ensures size { length (C.cells core.new) ≡ length (C.cells core.old) }
 {
     let codes = core.near_codes(b);
-    put_last(core, b, count, lanes::blanked(codes, count, limit, stop));
+    put_last(
+        core,
+        b,
+        count,
+        lanes::blank_codes(codes, count, limit, stop),
+    );
 }

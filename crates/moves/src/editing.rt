@@ -8,7 +8,7 @@ ghost use Rattle.moves.specs.declared.blanking.Stop.TheVariants.{Digit};
 ghost use Rattle.moves.specs.Edited.{edited, is_minus, is_place, is_sharing, field_edited, IsShown};
 
 use crate::blanking::{Stop, blank_near, blank_start};
-use crate::filling::{fill, wanted};
+use crate::filling::{data_count, fill};
 use core_store::{Check, Core, Registers, are_inside, cut_length, field_length};
 
 /// Whether two ranges of positions, which end at A and at B, have one in common.
@@ -84,7 +84,7 @@ pub fn edit<C: Core>(core: &mut C, registers: &mut Registers) -> Result<(), Chec
     let Some(b_count) = field_length(core, b) else {
         return Err(Check::Address);
     };
-    let Some(a_count) = cut_length(core, a, wanted(core, b, b_count)) else {
+    let Some(a_count) = cut_length(core, a, data_count(core, b, b_count)) else {
         return Err(Check::Address);
     };
     if shares(a, a_count, b, b_count) {

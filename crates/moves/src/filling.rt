@@ -21,7 +21,7 @@ fn is_place(code: Code) -> bool
 
 /// The number of digit places after one more character.
 #[inline(always)]
-fn counted(places: u16, code: Code) -> u16
+fn add_place(places: u16, code: Code) -> u16
     requires { places < largest_size }
     ensures count { result ≡ (if is_place code then places + 1 else places) }
     ensures more { result ≤ places + 1 }
@@ -41,7 +41,7 @@ fn places_far<C: Core>(core: &C, b: u16, count: u16) -> u16
 {
     let mut places = 0;
     for i in 0..count {
-        places = counted(places, core.get(b - i));
+        places = add_place(places, core.get(b - i));
     }
     places
 }
@@ -65,7 +65,7 @@ fn places<C: Core>(core: &C, b: u16, count: u16) -> u16
 
 /// The number of data characters that a control field takes, at least one.
 #[inline(always)]
-pub fn wanted<C: Core>(core: &C, b: u16, count: u16) -> u16
+pub fn data_count<C: Core>(core: &C, b: u16, count: u16) -> u16
     requires within { b < length (C.cells core.now) }
     requires from { count ≤ b + 1 }
     requires below { b < largest_size }

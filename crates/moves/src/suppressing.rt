@@ -80,7 +80,7 @@ fn move_near<C: Core>(core: &mut C, a: u16, b: u16, count: u16)
         core,
         b,
         count,
-        lanes::blanked(bare, count, count, Stop::Other),
+        lanes::blank_codes(bare, count, count, Stop::Other),
     );
 }
 

@@ -10,8 +10,8 @@ pub loop-place-preserved : goal.loop-place-preserved
 loop-place-preserved c =
     let room : c.loop-place.place < 132 = omega (arith, c.type_inv.codes, c.length_shown-length.ensures.within) in
     let within : c.loop-place.place < length c.args.codes.now = omega (arith, c.type_inv.codes) in
-    filled_step c.args.codes.now c.loop-place.line c.loop-place.place c.index-codes-place.result c.shown.result within room c.index-codes-place.is
-    (c.shown.ensures ∙ ap shown (sym c.index-codes-place.is)) c.loop-place.invariant
+    filled_step c.args.codes.now c.loop-place.line c.loop-place.place c.index-codes-place.result c.shown_glyph.result within room c.index-codes-place.is
+    (c.shown_glyph.ensures ∙ ap shown (sym c.index-codes-place.is)) c.loop-place.invariant
 
 pub returns : goal.returns
 returns c =

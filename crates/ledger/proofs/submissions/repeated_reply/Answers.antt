@@ -5,7 +5,7 @@ use Rattle.office.specs.Office.{is_of}
 use Rattle.office.specs.declared.replies.Reply.TheVariants.{Taken}
 use Rattle.ledger_tables.specs.Cells.{JobCells}
 use Rattle.ledger.proofs.Replies.{cards_counted}
-use Rattle.ledger.proofs.submissions.repeated.Goals as goal
+use Rattle.ledger.proofs.submissions.repeated_reply.Goals as goal
 
 pub returns-in-Ok : goal.returns-in-Ok
 returns-in-Ok c job row first can =

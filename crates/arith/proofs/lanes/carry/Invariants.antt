@@ -1,7 +1,7 @@
 use Rattle.std.proofs.Common.{◌≡◌, ◌≤◌, All, length}
 use Rattle.std.specs.Simd.Lanes.{sum_l}
 use Rattle.arith.specs.Columns.{number}
-use Rattle.arith.proofs.lanes.carried.Given as goal
+use Rattle.arith.proofs.lanes.carry.Given as goal
 
 -- the number stays
 abbrev pub invariant-loop-sums : goal.invariant-loop-sums

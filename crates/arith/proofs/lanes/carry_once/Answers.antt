@@ -3,7 +3,7 @@ use Rattle.std.specs.Simd.Lanes.{sum_l, zip2}
 use Rattle.std.proofs.lemmas.List.Elements.{All-same}
 use Rattle.arith.specs.Columns.{number}
 use Rattle.arith.proofs.Carried.{unit, units_small, left_small, first_carry, no_carry_out, step_number, step_long, step_most, step_fewer}
-use Rattle.arith.proofs.lanes.carried_once.Goals as goal
+use Rattle.arith.proofs.lanes.carry_once.Goals as goal
 
 pub one_left-requires-clause-first : goal.one_left-requires-clause-first
 one_left-requires-clause-first c =

@@ -1,6 +1,6 @@
 use Rattle.std.proofs.Common.{arith}
 use Rattle.http_routes.proofs.Free.{all_rows, next_free, next_rows}
-use Rattle.http_routes.proofs.paths.routed.Goals as goal
+use Rattle.http_routes.proofs.paths.router_of.Goals as goal
 
 pub add-requires : goal.add-requires
 add-requires c = next_free c.args.table.now c.requires c.loop-entry.entry-index c.loop-entry-test.true _ c.loop-entry.router c.loop-entry.invariant
