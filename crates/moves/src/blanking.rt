@@ -46,7 +46,7 @@ fn fade(code: Code) -> Code
 
 /// Makes zeros and commas blank from the left, among the first `limit` characters of a field, up to
 /// a stop.
-#[tactic(auto, using(crate::proofs::Starting::blank_none, crate::proofs::Starting::blanked_on, crate::proofs::Starting::none_on, crate::proofs::Starting::stopped_on, crate::proofs::Copying::size_on))]
+#[tactic(auto, using(crate::proofs::BlankingLemmas::blank_none, crate::proofs::BlankingLemmas::blanked_on, crate::proofs::BlankingLemmas::none_on, crate::proofs::BlankingLemmas::stopped_on, crate::proofs::Copying::size_on))]
 pub fn blank_start<C: Core>(core: &mut C, first: u16, count: u16, limit: u16, stop: Stop)
     requires within { first + count ≤ length (C.cells core.old) }
     requires limit { limit ≤ count }
@@ -67,7 +67,7 @@ pub fn blank_start<C: Core>(core: &mut C, first: u16, count: u16, limit: u16, st
 
 /// Does the same to at most sixteen characters that end at B, all at once.
 #[inline(always)]
-#[tactic(auto, using(crate::proofs::Sixteen::near_long))]
+#[tactic(auto, using(crate::proofs::LaneLemmas::near_long))]
 pub fn blank_near<C: Core>(core: &mut C, b: u16, count: u16, limit: u16, stop: Stop)
     requires within { b < length (C.cells core.old) }
     requires room { 15 ≤ b }

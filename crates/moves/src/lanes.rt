@@ -79,7 +79,7 @@ pub fn bare_units(codes: u8x16) -> u8x16
 
 /// The characters with a blank for each zero and comma.
 #[inline(always)]
-#[tactic(auto, using(crate::proofs::Fading::lanes_faded))]
+#[tactic(auto, using(crate::proofs::LaneBlanks::lanes_faded))]
 fn fade_codes(codes: u8x16) -> u8x16
     requires sixteen { length codes ≡ 16 }
     requires below { All (λ code. code < 64) codes }

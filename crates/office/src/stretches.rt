@@ -83,7 +83,7 @@ impl Model for Stretches {
 
 impl Stretches {
     /// One stretch, with nothing granted yet.
-    #[tactic(auto, using(crate::proofs::Lasting::first_fits))]
+    #[tactic(auto, using(crate::proofs::StretchLemmas::first_fits))]
     pub(crate) fn of_one(alloc: Global, switches: Switches) -> Result<Stretches, AllocError>
         ensures { IfOk result (λ stretches. stretches ≡ one_more (seven switches) []) }
     {

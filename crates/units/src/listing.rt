@@ -16,7 +16,7 @@ const SHOWN: [u8; 64] = *b" 1234567890#@    /STUVWXYZ|,%   -JKLMNOPQR!$*   &ABCD
 
 /// The byte that the printer shows for a character.
 #[inline(always)]
-#[tactic(auto, using(crate::proofs::Shown::shown_at))]
+#[tactic(auto, using(crate::proofs::ListingGlyphs::shown_at))]
 fn shown_glyph(code: Code) -> u8
     ensures { result ≡ shown code }
 {
@@ -24,7 +24,7 @@ fn shown_glyph(code: Code) -> u8
 }
 
 /// The number of characters without the trailing blanks.
-#[tactic(auto, using(crate::proofs::Listings::text_is))]
+#[tactic(auto, using(crate::proofs::ListingLines::text_is))]
 fn length_shown(codes: &[Code]) -> usize
     ensures within { result ≤ length codes.now }
     ensures blank_from_there { (k : ℕ) → result ≤ k → k < length codes.now →

@@ -2,7 +2,7 @@ use Rattle.std.proofs.Common.{◌++◌, [], ◌∷◌, ◌+◌, ◌<◌, ◌≤�
 use Rattle.std.specs.Simd.Lanes.{sum_l, zip2}
 use Rattle.std.proofs.lemmas.List.Elements.{All-same}
 use Rattle.arith.specs.Columns.{number}
-use Rattle.arith.proofs.Carried.{unit, units_small, left_small, first_carry, no_carry_out, step_number, step_long, step_most, step_fewer}
+use Rattle.arith.proofs.LaneCarries.{unit, units_small, left_small, first_carry, no_carry_out, step_number, step_long, step_most, step_fewer}
 use Rattle.arith.proofs.lanes.carry_once.Goals as goal
 
 pub one_left-requires-clause-first : goal.one_left-requires-clause-first

@@ -1,5 +1,5 @@
 use Rattle.std.proofs.Common.{◌++◌, ◌-◌, ◌∙◌, ap, arith, take, drop, replicate}
-use Rattle.arith.proofs.Selected.{parts_are}
+use Rattle.arith.proofs.LaneLemmas.{parts_are}
 use Rattle.arith.proofs.lanes.parts.Goals as goal
 
 pub returns : goal.returns

@@ -2,7 +2,7 @@ use Rattle.std.proofs.Common.{◌+◌, ◌<◌, ◌≤◌, ◌∙◌, sym, ap, a
 use Rattle.std.specs.Simd.Lanes.{zip2}
 use Rattle.std.proofs.lemmas.List.Elements.{All-same}
 use Rattle.arith.specs.Columns.{number, digit_of_part}
-use Rattle.arith.proofs.Added.{digits_small, sum_is, sum_long, sums_most}
+use Rattle.arith.proofs.LaneSums.{digits_small, sum_is, sum_long, sums_most}
 use Rattle.arith.proofs.lanes.sum.Goals.{then-is_over, else-is_over}
 use Rattle.arith.proofs.lanes.sum.Goals as goal
 

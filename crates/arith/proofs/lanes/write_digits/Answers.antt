@@ -3,7 +3,7 @@ use Rattle.std.specs.Simd.Lanes.{zip2}
 use Rattle.std.proofs.lemmas.List.Elements.{All-same, All-append, All-take, All-drop}
 use Rattle.bcd.specs.Table.{zone_of}
 use Rattle.arith.specs.Columns.{characters}
-use Rattle.arith.proofs.Selected.{part, parts_small, zone_small, written_is, characters_below}
+use Rattle.arith.proofs.LaneLemmas.{part, parts_small, zone_small, written_is, characters_below}
 use Rattle.arith.proofs.lanes.write_digits.Goals as goal
 
 pub totals-requires-clause-a : goal.totals-requires-clause-a

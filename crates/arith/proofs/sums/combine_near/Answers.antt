@@ -3,8 +3,8 @@ use Rattle.std.specs.List.{list_any}
 use Rattle.core_store.specs.Storage.{codes_ending, put_codes}
 use Rattle.arith.specs.Decimal.{value}
 use Rattle.arith.specs.Columns.{number, digit_of_part}
-use Rattle.arith.proofs.Added.{neither_over}
-use Rattle.arith.proofs.Combined.{parts_long, field_number, field_value, sum_bound, not_differing, combined_is}
+use Rattle.arith.proofs.LaneSums.{neither_over}
+use Rattle.arith.proofs.SumLanes.{parts_long, field_number, field_value, sum_bound, not_differing, combined_is}
 use Rattle.arith.proofs.sums.combine_near.Goals as goal
 
 pub sum-digits-requires-clause-a_digits : goal.sum-digits-requires-clause-a_digits

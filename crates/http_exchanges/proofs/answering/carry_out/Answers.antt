@@ -1,5 +1,5 @@
 use Rattle.std.proofs.Common.{Err, ap}
-use Rattle.http_exchanges.proofs.Carried.{made, no_memory, not_made, store_failed}
+use Rattle.http_exchanges.proofs.AnsweringLemmas.{made, no_memory, not_made, store_failed}
 use Rattle.http_exchanges.proofs.answering.carry_out.Goals as goal
 
 pub returns-in-Err-NoMemory-clause-comes : goal.returns-in-Err-NoMemory-clause-comes

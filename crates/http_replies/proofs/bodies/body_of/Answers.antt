@@ -1,7 +1,7 @@
 use Rattle.std.proofs.Common.{◌∙◌, ap, sym}
 use Rattle.std.proofs.lemmas.Result.{IfOk-weaker}
 use Rattle.http_replies.specs.Bodies.{body_of}
-use Rattle.http_replies.proofs.Written.{taken_is, ran_is, started_is, held_is, released_is, collected_is, summary_is, jobs_is, queue_is}
+use Rattle.http_replies.proofs.BodyTexts.{taken_is, ran_is, started_is, held_is, released_is, collected_is, summary_is, jobs_is, queue_is}
 use Rattle.http_replies.proofs.bodies.body_of.Goals as goal
 
 pub returns-in_ok-taken_reply-in-Taken : goal.returns-in_ok-taken_reply-in-Taken

@@ -1,7 +1,7 @@
 use Rattle.std.proofs.Common.{◌≡◌, rules}
 use Rattle.std.specs.Fmt.{digits}
 use Rattle.http_replies.specs.Fixed.{refusing_status}
-use Rattle.http_replies.proofs.Statuses.{answer_at, answer_else}
+use Rattle.http_replies.proofs.FixedStatuses.{answer_at, answer_else}
 use Rattle.http_replies.proofs.fixed.refusal_answer.Goals as goal
 
 pub returns-in-404 : goal.returns-in-404

@@ -1,5 +1,5 @@
 use Rattle.std.proofs.Common.{arith}
-use Rattle.http_routes.proofs.Free.{all_rows, next_free, next_rows}
+use Rattle.http_routes.proofs.PathLemmas.{all_rows, next_free, next_rows}
 use Rattle.http_routes.proofs.paths.router_of.Goals as goal
 
 pub add-requires : goal.add-requires

@@ -1,4 +1,4 @@
-use Rattle.moves.proofs.Fading.{near_blanked}
+use Rattle.moves.proofs.LaneBlanks.{near_blanked}
 use Rattle.moves.proofs.blanking.blank_near.Goals as goal
 
 pub returns-clause-codes : goal.returns-clause-codes

@@ -1,7 +1,7 @@
 use Rattle.std.proofs.Common.{◌-◌, ◌++◌, ◌∙◌, ap, arith, take, drop}
 use Rattle.std.proofs.lemmas.List.{length-drop}
 use Rattle.moves.specs.Blanked.{ends, blanked}
-use Rattle.moves.proofs.Fading.{blanks_are, last_blanked, all_below, all_sixteen}
+use Rattle.moves.proofs.LaneBlanks.{blanks_are, last_blanked, all_below, all_sixteen}
 use Rattle.moves.proofs.lanes.blank_codes.Goals as goal
 
 pub returns-clause-last : goal.returns-clause-last

@@ -4,7 +4,7 @@ use Rattle.std.proofs.lemmas.List.{length-map}
 use Rattle.std.proofs.lemmas.Simd.{bitmask_splat}
 use mir.Syntax.{w8}
 use Rattle.moves.specs.Blanked.{faded}
-use Rattle.moves.proofs.Fading.{lanes_other}
+use Rattle.moves.proofs.LaneBlanks.{lanes_other}
 use Rattle.moves.proofs.lanes.others.Goals as goal
 
 pub returns : goal.returns

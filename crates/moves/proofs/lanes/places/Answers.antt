@@ -1,6 +1,6 @@
 use Rattle.std.proofs.Common.{◌-◌, arith, drop}
 use Rattle.std.proofs.lemmas.List.{length-drop}
-use Rattle.moves.proofs.Sixteen.{places_are_ones, places_most}
+use Rattle.moves.proofs.LaneLemmas.{places_are_ones, places_most}
 use Rattle.moves.proofs.lanes.places.Goals as goal
 
 pub returns-clause-places : goal.returns-clause-places

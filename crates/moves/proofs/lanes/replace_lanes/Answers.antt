@@ -2,7 +2,7 @@ use Rattle.std.proofs.Common.{◌∙◌, ap, eqb, replicate}
 use Rattle.std.specs.Simd.Lanes.{sel_l}
 use Rattle.std.proofs.lemmas.Simd.{tops_compared, zip2_splat}
 use mir.Syntax.{w8}
-use Rattle.moves.proofs.Sixteen.{sel_map}
+use Rattle.moves.proofs.LaneLemmas.{sel_map}
 use Rattle.moves.proofs.lanes.replace_lanes.Goals as goal
 
 pub returns : goal.returns

@@ -1,4 +1,4 @@
-use Rattle.moves.proofs.Fading.{near_suppressed}
+use Rattle.moves.proofs.LaneBlanks.{near_suppressed}
 use Rattle.moves.proofs.suppressing.move_near.Goals as goal
 
 pub returns : goal.returns

@@ -3,7 +3,7 @@ use Rattle.std.proofs.lemmas.Result.{IfOk-weaker}
 use Rattle.std.proofs.lemmas.Bool.Decides.{nat_tests}
 use Rattle.cards.specs.declared.decks.Card.{Card}
 use Rattle.office.specs.declared.commands.Kind.TheVariants.{Autocoder}
-use Rattle.office.proofs.Keeping.{some_loaded}
+use Rattle.office.proofs.KeepingLaw.{some_loaded}
 use Rattle.office.proofs.making.deck_to_load.Goals as goal
 
 pub returns-in-Autocoder-clause-some : goal.returns-in-Autocoder-clause-some

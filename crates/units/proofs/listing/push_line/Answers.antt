@@ -1,6 +1,6 @@
 use Rattle.std.proofs.Common.{◌≡◌, ◌<◌, length, sym, ◌∙◌, ap, subst, arith}
 use Rattle.units.specs.Listing.{shown}
-use Rattle.units.proofs.Listings.{IsFilled, filled_none, filled_step, line_pushed}
+use Rattle.units.proofs.ListingLines.{IsFilled, filled_none, filled_step, line_pushed}
 use Rattle.units.proofs.listing.push_line.Goals as goal
 
 pub loop-place-init : goal.loop-place-init

@@ -1,4 +1,4 @@
-use Rattle.http_requests.proofs.Reading.{asked_read, refused_request}
+use Rattle.http_requests.proofs.RequestReads.{asked_read, refused_request}
 use Rattle.http_requests.proofs.request.Request.read.Goals as goal
 
 pub returns-in-Refused-clause-request : goal.returns-in-Refused-clause-request
