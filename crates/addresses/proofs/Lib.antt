@@ -1,3 +1,3 @@
-pub mod Spelling
+pub mod TableLemmas
 pub mod DigitLemmas
-pub mod Threes
+pub mod StoredLemmas

@@ -46,7 +46,7 @@ fn with_index<C: Core>(core: &C, base: u16, location: IndexLocation) -> Result<u
 /// The number that an address represents: its base, plus the number at its index location if it
 /// names one. Check ADDRESS if the index location cannot be read.
 #[tactic(auto, unfolding(crate::specs::Effective::with_index))]
-pub fn indexed<C: Core>(core: &C, tagged: Tagged) -> Result<u16, Check>
+pub fn effective_address<C: Core>(core: &C, tagged: Tagged) -> Result<u16, Check>
     ensures { result ≡ effective (C.cells core.now) tagged }
 {
     match tagged.index {

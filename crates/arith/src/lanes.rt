@@ -29,7 +29,7 @@ pub fn last_of(count: u16, lanes: u8x16, others: u8x16) -> u8x16
 
 /// Some bits of each lane.
 #[inline(always)]
-fn masked(lanes: u8x16, bits: u8) -> u8x16
+fn mask(lanes: u8x16, bits: u8) -> u8x16
     requires { length lanes ≡ 16 }
     ensures { result ≡ map (λ lane. bit_and lane bits) lanes }
 {
@@ -38,7 +38,7 @@ fn masked(lanes: u8x16, bits: u8) -> u8x16
 
 /// The lanes with `new` in place of `old`.
 #[inline(always)]
-fn replaced(lanes: u8x16, old: u8, new: u8) -> u8x16
+fn replace_lanes(lanes: u8x16, old: u8, new: u8) -> u8x16
     requires { length lanes ≡ 16 }
     ensures { result ≡ map (λ lane. if lane == old then new else lane) lanes }
 {
@@ -55,7 +55,7 @@ pub fn parts(codes: u8x16, count: u16) -> u8x16
     ensures { result ≡ replicate (16 - count) 0
         ++ map (λ code. code % 16) (drop (16 - count) codes) }
 {
-    last_of(count, masked(codes, 15), u8x16::splat(0))
+    last_of(count, mask(codes, 15), u8x16::splat(0))
 }
 
 /// The greater of the two lanes at each place.
@@ -81,7 +81,7 @@ pub fn digits(parts: u8x16) -> u8x16
     requires { length parts ≡ 16 }
     ensures { result ≡ map digit_of_part parts }
 {
-    replaced(parts, 10, 0)
+    replace_lanes(parts, 10, 0)
 }
 
 /// The sum of the two lanes at each place.
@@ -97,7 +97,7 @@ pub fn totals(a: u8x16, b: u8x16) -> u8x16
 /// The characters of the last `count` digits, after the first of the old characters. The last has
 /// the zone of the last old character.
 #[inline(always)]
-pub fn written(digits: u8x16, old: u8x16, count: u16) -> u8x16
+pub fn write_digits(digits: u8x16, old: u8x16, count: u16) -> u8x16
     requires some { 1 ≤ count }
     requires most { count ≤ 16 }
     requires sixteen { length digits ≡ 16 }
@@ -109,8 +109,8 @@ pub fn written(digits: u8x16, old: u8x16, count: u16) -> u8x16
     ensures sixteen { length result ≡ 16 }
     ensures below { All (λ code. code < 64) result }
 {
-    let zone = last_of(1, masked(old, 48), u8x16::splat(0));
-    last_of(count, totals(replaced(digits, 0, 10), zone), old)
+    let zone = last_of(1, mask(old, 48), u8x16::splat(0));
+    last_of(count, totals(replace_lanes(digits, 0, 10), zone), old)
 }
 
 /// The carries of digits that may be more than 9: 1 from each of them, and 0 from the others.
@@ -146,7 +146,7 @@ fn one_left(lanes: u8x16) -> u8x16
 
 /// The digits of the same number after each carry has gone to the digit before its own.
 #[inline(always)]
-fn carried_once(sums: u8x16) -> u8x16
+fn carry_once(sums: u8x16) -> u8x16
     requires sixteen { length sums ≡ 16 }
     requires most { All (λ sum. sum ≤ 18) sums }
     requires room { number sums < 10 ^ 16 }
@@ -160,7 +160,7 @@ fn carried_once(sums: u8x16) -> u8x16
 
 /// The digits of the same number, each carry added to the digits before it.
 #[inline(never)]
-fn carried(sums: u8x16) -> u8x16
+fn carry(sums: u8x16) -> u8x16
     requires sixteen { length sums ≡ 16 }
     requires most { All (λ sum. sum ≤ 18) sums }
     requires room { number sums < 10 ^ 16 }
@@ -170,7 +170,7 @@ fn carried(sums: u8x16) -> u8x16
 {
     let mut sums = sums;
     while is_over(sums, 9) {
-        sums = carried_once(sums);
+        sums = carry_once(sums);
     }
     sums
 }
@@ -189,9 +189,5 @@ pub fn sum(a: u8x16, b: u8x16) -> u8x16
     ensures sixteen { length result ≡ 16 }
 {
     let sums = totals(digits(a), digits(b));
-    if is_over(sums, 9) {
-        carried(sums)
-    } else {
-        sums
-    }
+    if is_over(sums, 9) { carry(sums) } else { sums }
 }

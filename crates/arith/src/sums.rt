@@ -8,7 +8,7 @@ ghost use Rattle.arith.specs.Sums.{added, sum_codes, sum_overflows};
 
 use crate::decimal::{is_number, sign_zone};
 use crate::joining::{Joined, join};
-use crate::lanes::{greater, is_over, last_of, parts, sum, written};
+use crate::lanes::{greater, is_over, last_of, parts, sum, write_digits};
 use crate::operands::{Counts, counts_apart, near_counts};
 use core_store::{Check, Core, Registers, is_minus, overlaps};
 use std::simd::prelude::*;
@@ -78,7 +78,7 @@ fn combine_near<C: Core>(core: &mut C, registers: &mut Registers, reversed: bool
         return false;
     }
     let digits = sum(parts_a, parts_b);
-    core.put_near_codes(b, written(digits, old, counts.b));
+    core.put_near_codes(b, write_digits(digits, old, counts.b));
     registers.lower(counts.a, counts.b);
     registers.overflow |= is_over(last_of(counts.b, u8x16::splat(0), digits), 0);
     true

@@ -11,7 +11,7 @@ use Rattle.core_store.proofs.Marks.{past_end}
 use Rattle.machine.specs.Glyphs.{is_glyph}
 use Rattle.machine.specs.Word.{EndsAt, IsInstruction, word, decoded, decoded_of, operation_of, has_form, modifier_of, operands_of, addresses_in}
 use Rattle.machine.specs.declared.decode.Modifier.{Modifier}
-use Rattle.machine.proofs.Ends.{ends_length}
+use Rattle.machine.proofs.DecodeLaw.{ends_length}
 use Rattle.autocoder_layout.specs.Cells.{row, field}
 use Rattle.autocoder_layout.specs.declared.cells.Cell.{Cell}
 use Rattle.autocoder_laws.specs.Meanings.{Meaning}

@@ -2,9 +2,9 @@
 //!
 //! What the words ask for, what is printed and how the program ends is proved below, and connected
 //! here in [`answer`]. The clauses of the kit do not mention the process's own words and streams,
-//! nor the contents of a file. So [`words_given`] and [`done`] have no contract; `cases/check` and
-//! `examples/check` test that the right files are read and written, and that OUT is written only if
-//! a deck was made.
+//! nor the contents of a file. So [`words_given`] and [`carry_out`] have no contract; `cases/check`
+//! and `examples/check` test that the right files are read and written, and that OUT is written
+//! only if a deck was made.
 #![tactic(auto)]
 
 ghost use Rattle.std.specs.Prelude.{◌≡◌, Option, IfOk, IfErr};
@@ -102,7 +102,7 @@ fn answer<W: Write, E: Write>(
 }
 
 /// Does what the process's words ask for.
-fn done(rt: &HostRuntime) -> io::Result<Status> {
+fn carry_out(rt: &HostRuntime) -> io::Result<Status> {
     let mut output = rt.stdout();
     let mut errors = rt.stderr();
     let words = match words_given(rt) {
@@ -127,5 +127,5 @@ fn exit_code(outcome: io::Result<Status>) -> ExitCode
 }
 
 fn main(rt: HostRuntime) -> ExitCode {
-    exit_code(done(&rt))
+    exit_code(carry_out(&rt))
 }

@@ -1,4 +1,4 @@
-pub mod Columns
-pub mod Lines
+pub mod FormColumns
+pub mod ReadingColumns
 pub mod Pieces
-pub mod Places
+pub mod ReadingLaw

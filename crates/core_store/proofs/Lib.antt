@@ -1,10 +1,10 @@
 pub mod Marks
 pub mod Fields
-pub mod Cuts
-pub mod Near
-mod Lanes
-mod Copies
+pub mod OperandCuts
+pub mod NearMarks
+mod PlaneLanes
+mod FlagCopies
 mod PlaneLemmas
-mod Stretches
-mod Words
-pub mod Sixteens
+mod PlaneStretches
+mod PlaneWords
+pub mod NearCodes

@@ -12,7 +12,7 @@ use Rattle.std.specs.List.{prefix_len, AllByRecursion}
 use Rattle.std.proofs.lemmas.List.Elements.{recursion_from_All, All-take, All-drop}
 use Rattle.core_store.specs.Storage.{is_marked, put, with_mark, greatest_mark, least_mark}
 use Rattle.core_store.specs.Operands.{near_length}
-use Rattle.core_store.proofs.Near.{Bare, near_marked, near_unmarked}
+use Rattle.core_store.proofs.NearMarks.{Bare, near_marked, near_unmarked}
 use Rattle.std.proofs.Math.Decide.{dec_lt}
 use Rattle.core_store.proofs.Marks.{none_below, greatest_is, least_is, none_among}
 use Rattle.core_store.specs.Planes.{IsBit, joined_planes, IsLastMark}

@@ -26,7 +26,7 @@ pub use checks::Check;
 pub use flags::FlagCore;
 pub use operands::{are_inside, cut_length, field_length, is_minus, overlaps};
 pub use planes::PlaneCore;
-pub use registers::{Compared, Registers, lowered};
+pub use registers::{Compared, Registers, lower};
 pub use sizes::Size;
 use std::alloc::{AllocError, Global};
 use std::simd::prelude::*;

@@ -28,7 +28,7 @@ pub fn overlaps(a: u16, b: u16, count: u16) -> bool
 
 /// The number of characters of the field at a position, if a mark begins it.
 #[inline(always)]
-#[tactic(auto, unfolding(crate::specs::Storage::field_length), using(crate::proofs::Near::near_is_field))]
+#[tactic(auto, unfolding(crate::specs::Storage::field_length), using(crate::proofs::NearMarks::near_is_field))]
 pub fn field_length<C: Core>(core: &C, position: u16) -> Option<u16>
     requires within { position < length (C.cells core.now) }
     requires below { position < largest_size }
@@ -70,7 +70,7 @@ fn cut_by_steps<C: Core>(core: &C, position: u16, limit: u16) -> Option<u16>
 /// The number of characters read at a position, at most `limit`: up to the first mark. No mark is
 /// searched for beyond the limit.
 #[inline(always)]
-#[tactic(auto, using(crate::proofs::Near::cut_is_near))]
+#[tactic(auto, using(crate::proofs::NearMarks::cut_is_near))]
 pub fn cut_length<C: Core>(core: &C, position: u16, limit: u16) -> Option<u16>
     requires within { position < length (C.cells core.now) }
     requires below { position < largest_size }

@@ -31,7 +31,7 @@ pub struct Registers {
 
 /// A register lowered by `count` positions, modulo 16000.
 #[inline(always)]
-pub fn lowered(register: u16, count: u16) -> u16
+pub fn lower(register: u16, count: u16) -> u16
     requires register { register < largest_size }
     requires count { count ≤ largest_size }
     ensures { result ≡ lowered register count }
@@ -53,7 +53,7 @@ impl Registers {
         requires b_count { b_count ≤ largest_size }
         ensures { self.new ≡ lowered_by self.old a_count b_count }
     {
-        self.a = lowered(self.a, a_count);
-        self.b = lowered(self.b, b_count);
+        self.a = lower(self.a, a_count);
+        self.b = lower(self.b, b_count);
     }
 }

@@ -1,1 +1,1 @@
-pub mod Letters
+pub mod SwitchLetters

@@ -32,7 +32,7 @@ mod row_values;
 
 use crate::commands::bureau_command;
 use crate::found::row_in;
-use crate::misreading::{misread, odd_word};
+use crate::misreading::{fault_of_words, odd_word};
 use crate::options::{after_dashes, option_in};
 use crate::row_values::row_of_words;
 pub use asked::{Words, WordsFault};
@@ -43,7 +43,7 @@ pub use row_names::RowName;
 use std::alloc::Global;
 
 /// The result of clap on the words.
-fn parsed<'a>(alloc: Global, words: &'a [String]) -> Result<ArgMatches<'a>, WordsFault<'a>>
+fn parse<'a>(alloc: Global, words: &'a [String]) -> Result<ArgMatches<'a>, WordsFault<'a>>
     ensures ok { IfOk result (λ m. (fault_of bureau (texts words.entry.now) ≡ [])
         × (subcommand_rows_of m ≡ subcommand_of bureau (texts words.entry.now))) }
     ensures err { IfErr result (λ fault. (fault ≡ WordsFault.Memory)
@@ -59,7 +59,7 @@ fn parsed<'a>(alloc: Global, words: &'a [String]) -> Result<ArgMatches<'a>, Word
             if error.kind() == ErrorKind::OutOfMemory {
                 Err(WordsFault::Memory)
             } else {
-                Err(misread(words))
+                Err(fault_of_words(words))
             }
         }
     }
@@ -74,13 +74,13 @@ fn row_of<'a>(alloc: Global, words: &'a [String]) -> Result<Words<'a>, WordsFaul
     ensures fault { IfErr result (λ fault. (fault ≡ WordsFault.Memory)
         ⊎ (misreading_by fault ≡ misreading (texts words.entry.now))) }
 {
-    let matches = match parsed(alloc, words) {
+    let matches = match parse(alloc, words) {
         Ok(matches) => matches,
         Err(fault) => return Err(fault),
     };
     match row_in(&matches) {
         Some(row) => Ok(row),
-        None => Err(misread(words)),
+        None => Err(fault_of_words(words)),
     }
 }
 
@@ -101,11 +101,11 @@ pub fn words<'a>(alloc: Global, words: &'a [String]) -> Result<Words<'a>, WordsF
     if let Some((row, values)) = after_dashes(words) {
         return match row_of_words(row, values) {
             Some(asked) => Ok(asked),
-            None => Err(misread(words)),
+            None => Err(fault_of_words(words)),
         };
     }
     if odd_word(words).is_some() {
-        return Err(misread(words));
+        return Err(fault_of_words(words));
     }
     row_of(alloc, words)
 }

@@ -43,7 +43,7 @@ pub(crate) fn odd_word<'a>(words: &'a [String]) -> Option<&'a str>
 }
 
 /// What is wrong with the words after a row's name.
-fn misread_after<'a>(row: RowName, values: &'a [String]) -> WordsFault<'a>
+fn fault_after<'a>(row: RowName, values: &'a [String]) -> WordsFault<'a>
     ensures { misreading_by result ≡ misread_values row (texts values.entry.now) }
 {
     let Some((first, _)) = first_word(values) else {
@@ -59,7 +59,7 @@ fn misread_after<'a>(row: RowName, values: &'a [String]) -> WordsFault<'a>
 }
 
 /// The fault of words that begin with `help`.
-fn misread_after_help<'a>(words: &[String]) -> WordsFault<'a>
+fn fault_after_help<'a>(words: &[String]) -> WordsFault<'a>
     ensures { misreading_by result ≡ misread_help (texts words.now) }
 {
     let Some((word, more)) = first_word(words) else {
@@ -75,17 +75,17 @@ fn misread_after_help<'a>(words: &[String]) -> WordsFault<'a>
 }
 
 /// What is wrong with words that do not ask for anything.
-pub(crate) fn misread<'a>(words: &'a [String]) -> WordsFault<'a>
+pub(crate) fn fault_of_words<'a>(words: &'a [String]) -> WordsFault<'a>
     ensures { misreading_by result ≡ misreading (texts words.entry.now) }
 {
     let Some((word, more)) = first_word(words) else {
         return WordsFault::Row;
     };
     if let Some(row) = RowName::of(word) {
-        return misread_after(row, more);
+        return fault_after(row, more);
     }
     if word == "help" {
-        misread_after_help(more)
+        fault_after_help(more)
     } else {
         WordsFault::Row
     }

@@ -1,2 +1,2 @@
-pub mod Lines
-pub mod Carried
+pub mod AnsweringLines
+pub mod AnsweringLemmas

@@ -15,9 +15,9 @@ ghost use Rattle.http_exchanges.specs.Exchanges.{Comes, ComesOfBroken, ComesTo, 
 ghost use Rattle.http_exchanges.specs.Messages.{bytes_in};
 
 use crate::laws::lines_rise;
-use crate::messages::{Bytes, Message, faulted};
+use crate::messages::{Bytes, Message, fault_message};
 use cards::CardFault;
-use http_replies::{Fault, deck_fault, refused, reply_to, status_of};
+use http_replies::{Fault, deck_fault, refusal_answer, reply_to, status_of};
 use http_requests::{Request, RequestFault, Routes};
 use ledger::Bureau;
 use machine::Meter;
@@ -33,7 +33,7 @@ fn refusal(status: u16) -> Message
 {
     Message {
         status,
-        bytes: Bytes::Fixed(refused(status)),
+        bytes: Bytes::Fixed(refusal_answer(status)),
     }
 }
 
@@ -47,7 +47,7 @@ fn bad_deck(alloc: Global, fault: CardFault) -> Message
             status: 400,
             bytes: Bytes::Made(bytes),
         },
-        Err(_) => faulted(Fault::NoMemory),
+        Err(_) => fault_message(Fault::NoMemory),
     }
 }
 
@@ -74,15 +74,15 @@ fn carry_out<S: Alter>(
     lines_rise();
     let reply = match bureau.apply(command, meter) {
         Ok(reply) => reply,
-        Err(ledger::Fault::NoMemory) => return faulted(Fault::NoMemory),
-        Err(ledger::Fault::Store) => return faulted(Fault::Store),
+        Err(ledger::Fault::NoMemory) => return fault_message(Fault::NoMemory),
+        Err(ledger::Fault::Store) => return fault_message(Fault::Store),
     };
     match reply_to(alloc, &reply) {
         Ok(bytes) => Message {
             status: status_of(&reply),
             bytes: Bytes::Made(bytes),
         },
-        Err(_) => faulted(Fault::NoMemoryForReply),
+        Err(_) => fault_message(Fault::NoMemoryForReply),
     }
 }
 
@@ -139,7 +139,7 @@ pub(crate) fn answer_next<R: Read, S: Alter>(
 {
     match Request::read(alloc, routes, reader) {
         Ok(request) => Some(answer(alloc, &request, bureau, meter)),
-        Err(RequestFault::NoMemory) => Some(faulted(Fault::NoMemory)),
+        Err(RequestFault::NoMemory) => Some(fault_message(Fault::NoMemory)),
         Err(RequestFault::ReadFailed) => None,
     }
 }

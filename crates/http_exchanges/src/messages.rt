@@ -35,7 +35,7 @@ impl Bytes {
 }
 
 /// The answer to a command that met a fault.
-pub(crate) fn faulted(fault: Fault) -> Message
+pub(crate) fn fault_message(fault: Fault) -> Message
     ensures status { result.status ≡ fault_status fault }
     ensures bytes { bytes_in result.bytes ≡ fault_bytes fault }
 {

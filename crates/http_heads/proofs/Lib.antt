@@ -1,4 +1,4 @@
-pub mod Pieces
-pub mod Said
-pub mod Judged
-pub mod Filled
+pub mod ReadingPieces
+pub mod FieldLemmas
+pub mod HeadVerdicts
+pub mod BodyFills

@@ -1,4 +1,4 @@
-pub mod Begun
-pub mod Spelled
-pub mod Handed
-pub mod Unended
+pub mod HeadLaw
+pub mod AskingLaw
+pub mod RequestLaw
+pub mod HeadEnds

@@ -1,4 +1,4 @@
-pub mod Pieces
-pub mod Plain
-pub mod Statuses
-pub mod Written
+pub mod SendingLemmas
+pub mod NameLaw
+pub mod FixedStatuses
+pub mod BodyTexts

@@ -26,15 +26,15 @@ pub(crate) fn body_of(alloc: Global, reply: &Reply) -> Result<Vec<u8>, AllocErro
     ensures { HasLinesInOrder reply.now → IfOk result (λ body. body.items ≡ body_of reply.now) }
 {
     match reply {
-        Reply::Taken { cards } => text_of(alloc, values::taken(alloc, *cards)?),
+        Reply::Taken { cards } => text_of(alloc, values::taken_reply(alloc, *cards)?),
         Reply::Ran { executed, standing } => {
-            text_of(alloc, values::ran(alloc, *executed, *standing)?)
+            text_of(alloc, values::ran_reply(alloc, *executed, *standing)?)
         }
-        Reply::Started => text_of(alloc, values::named(alloc, "started")?),
-        Reply::Held => text_of(alloc, values::named(alloc, "held")?),
-        Reply::Released => text_of(alloc, values::named(alloc, "released")?),
+        Reply::Started => text_of(alloc, values::named_reply(alloc, "started")?),
+        Reply::Held => text_of(alloc, values::named_reply(alloc, "held")?),
+        Reply::Released => text_of(alloc, values::named_reply(alloc, "released")?),
         Reply::Collected { cards, lines } => {
-            text_of(alloc, values::collected(alloc, *cards, *lines)?)
+            text_of(alloc, values::collected_reply(alloc, *cards, *lines)?)
         }
         Reply::Standing(job) => text_of(alloc, values::summary(alloc, job)?),
         Reply::Cards(cards) => write_punched_cards(alloc, &cards.0),

@@ -89,7 +89,7 @@ const NO_MEMORY_FOR_REPLY: &[u8] = b"HTTP/1.1 500 Internal Server Error\r\n\
 
 /// The answer that refuses a request by its status alone: 400, 404, 405, 411, 413 or 431. For any
 /// other status it is the answer of 400.
-pub fn refused(status: u16) -> &'static [u8]
+pub fn refusal_answer(status: u16) -> &'static [u8]
     ensures { result.now ≡ refused_bytes (refusing_status status) }
 {
     match status {

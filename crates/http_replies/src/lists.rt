@@ -43,19 +43,19 @@ pub(crate) fn jobs(alloc: Global, jobs: &JobList) -> Result<Value, AllocError>
 }
 
 /// The value of a job in the queue.
-fn queued(alloc: Global, job: &QueueLine) -> Result<Value, AllocError>
+fn queue_row(alloc: Global, job: &QueueLine) -> Result<Value, AllocError>
     ensures { IfOk result (λ value. view value ≡ queued_data job.now) }
 {
     json!(in alloc; {"customer": job.customer.as_str(), "number": job.number})
 }
 
 /// The values of the jobs in the queue, in order.
-fn queued_rows(alloc: Global, jobs: &[QueueLine]) -> Result<Vec<Value>, AllocError>
+fn queue_rows(alloc: Global, jobs: &[QueueLine]) -> Result<Vec<Value>, AllocError>
     ensures { IfOk result (λ rows. map view rows.items ≡ map queued_data jobs.now) }
 {
     let mut rows = Vec::new(alloc);
     for job in jobs {
-        rows.push(queued(alloc, job)?)?;
+        rows.push(queue_row(alloc, job)?)?;
     }
     Ok(rows)
 }
@@ -64,7 +64,7 @@ fn queued_rows(alloc: Global, jobs: &[QueueLine]) -> Result<Vec<Value>, AllocErr
 pub(crate) fn queue(alloc: Global, jobs: &QueueList) -> Result<Value, AllocError>
     ensures { IfOk result (λ value. view value ≡ queue_data (map queued_data jobs.now)) }
 {
-    let rows = Value::Array(queued_rows(alloc, &jobs.0)?);
+    let rows = Value::Array(queue_rows(alloc, &jobs.0)?);
     json!(in alloc; {"queue": rows, "reply": "queue"})
 }
 

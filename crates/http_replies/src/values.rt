@@ -20,21 +20,25 @@ pub(crate) fn text_of(alloc: Global, value: Value) -> Result<Vec<u8>, AllocError
 }
 
 /// The value of a reply that has only its name.
-pub(crate) fn named(alloc: Global, name: &str) -> Result<Value, AllocError>
+pub(crate) fn named_reply(alloc: Global, name: &str) -> Result<Value, AllocError>
     ensures { IfOk result (λ value. view value ≡ reply_data name.now) }
 {
     json!(in alloc; {"reply": name})
 }
 
 /// The value for a job that was taken.
-pub(crate) fn taken(alloc: Global, cards: u32) -> Result<Value, AllocError>
+pub(crate) fn taken_reply(alloc: Global, cards: u32) -> Result<Value, AllocError>
     ensures { IfOk result (λ value. view value ≡ taken_data cards) }
 {
     json!(in alloc; {"cards": cards, "reply": "taken"})
 }
 
 /// The value for a job that ran.
-pub(crate) fn ran(alloc: Global, executed: u32, standing: StandingAt) -> Result<Value, AllocError>
+pub(crate) fn ran_reply(
+    alloc: Global,
+    executed: u32,
+    standing: StandingAt,
+) -> Result<Value, AllocError>
     ensures { IfOk result (λ value. view value ≡ ran_data executed standing) }
 {
     let words = format!(in alloc; "{standing}")?;
@@ -42,7 +46,7 @@ pub(crate) fn ran(alloc: Global, executed: u32, standing: StandingAt) -> Result<
 }
 
 /// The value for a job that was collected.
-pub(crate) fn collected(alloc: Global, cards: u32, lines: u32) -> Result<Value, AllocError>
+pub(crate) fn collected_reply(alloc: Global, cards: u32, lines: u32) -> Result<Value, AllocError>
     ensures { IfOk result (λ value. view value ≡ collected_data cards lines) }
 {
     json!(in alloc; {"cards": cards, "lines": lines, "reply": "collected"})

@@ -1,2 +1,2 @@
-pub mod Refusing
-pub mod Reading
+pub mod RequestStatuses
+pub mod RequestReads

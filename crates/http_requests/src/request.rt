@@ -24,7 +24,7 @@ pub enum Request {
 }
 
 /// The request that is refused with this status; with 400 if the status is not one of the six.
-fn refused(status: u16) -> Request
+fn refusal(status: u16) -> Request
     ensures one { HasRefusingStatus result }
     ensures same { IsRefusingStatus status → result ≡ Request.Refused status }
 {
@@ -68,7 +68,7 @@ impl Request {
     {
         let head = Head::read(reader);
         match head.verdict(&routes.router) {
-            Verdict::Refused(status) => Ok(refused(status)),
+            Verdict::Refused(status) => Ok(refusal(status)),
             Verdict::Asks {
                 asked,
                 count,

@@ -1,2 +1,2 @@
-pub mod Steps
-pub mod Free
+pub mod PartLemmas
+pub mod PathLemmas

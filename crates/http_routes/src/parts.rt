@@ -25,7 +25,7 @@ fn before_slash(text: &str) -> &str
 }
 
 /// The part of a text with this index, from 0. After the last part all parts are empty.
-#[tactic(auto, using(crate::proofs::Steps::part_next, crate::proofs::Steps::part_last))]
+#[tactic(auto, using(crate::proofs::PartLemmas::part_next, crate::proofs::PartLemmas::part_last))]
 pub fn part(text: &str, place: usize) -> &str
     ensures { result.now ≡ part place text.now }
 {

@@ -71,7 +71,7 @@ fn add(router: &mut Router<Route>, path: &str, route: Route) -> Result<(), Alloc
 }
 
 /// The router of a table of paths. Fails only if there is no memory.
-fn routed(alloc: Global, table: &[(&str, Route)]) -> Result<Router<Route>, AllocError>
+fn router_of(alloc: Global, table: &[(&str, Route)]) -> Result<Router<Route>, AllocError>
     requires { map path_of table.now ≡ paths }
     ensures { IfOk result (λ router. router ≡ routed paths) }
 {
@@ -86,11 +86,11 @@ fn routed(alloc: Global, table: &[(&str, Route)]) -> Result<Router<Route>, Alloc
 pub fn router(alloc: Global) -> Result<Router<Route>, AllocError>
     ensures { IfOk result (λ router. router ≡ routed paths) }
 {
-    routed(alloc, &PATHS)
+    router_of(alloc, &PATHS)
 }
 
 /// What a target asks for, by the first of a router's paths that it matches.
-fn found(router: &Router<Route>, target: &str) -> Option<Route>
+fn find_route(router: &Router<Route>, target: &str) -> Option<Route>
     ensures { result ≡ option_map (λ row. row.value) (first router.now target.now) }
 {
     match router.at(target) {
@@ -105,5 +105,5 @@ pub fn route_at(router: &Router<Route>, target: &str) -> Option<Route>
     requires { router.now ≡ routed paths }
     ensures { result ≡ route_at target.now }
 {
-    found(router, target)
+    find_route(router, target)
 }

@@ -4,7 +4,7 @@ use crate::answers::{answer_of, is_answered};
 use autocoder_layout::{CardFault, SourceFault};
 use autocoder_statements::StatementFault;
 use cards::read_text;
-use http_replies::{Fault, deck_fault, refused};
+use http_replies::{Fault, deck_fault, refusal_answer};
 use office::{Refusal, Reply, SourceFaults};
 use std::alloc::Global;
 use std::test::Fail;
@@ -127,9 +127,12 @@ fn requests_are_refused_by_their_status(rt: HostRuntime) -> Result<(), Fail> {
         let body = format!(in rt.alloc(); "{{\"status\":{status}}}")?;
         let line = format!(in rt.alloc(); "{status} {phrase}|application/json|14|{body}")?;
         let wanted = answer_of(rt.alloc(), line.as_str())?;
-        assert!(rt; refused(status) == wanted.as_str().as_bytes(), "{line}");
+        assert!(rt;
+            refusal_answer(status) == wanted.as_str().as_bytes(),
+            "{line}"
+        );
     }
-    assert!(rt; refused(200) == refused(400));
+    assert!(rt; refusal_answer(200) == refusal_answer(400));
     Ok(())
 }
 

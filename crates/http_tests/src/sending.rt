@@ -1,7 +1,7 @@
 //! Writers that take all bytes, or some.
 
 use crate::devices::Narrow;
-use http_replies::{Sent, refused, send};
+use http_replies::{Sent, refusal_answer, send};
 use std::alloc::Global;
 use std::test::Fail;
 
@@ -16,7 +16,7 @@ fn writer_of(alloc: Global, room: usize, fails: bool) -> Narrow {
 
 #[test]
 fn bytes_go_out_whole(rt: HostRuntime) -> Result<(), Fail> {
-    let bytes = refused(404);
+    let bytes = refusal_answer(404);
     let mut all = Vec::new(rt.alloc());
     assert_eq!(rt; send(&mut all, bytes), Sent::Whole);
     assert!(rt; all.as_slice() == bytes);
@@ -28,7 +28,7 @@ fn bytes_go_out_whole(rt: HostRuntime) -> Result<(), Fail> {
 
 #[test]
 fn what_went_out_is_counted(rt: HostRuntime) -> Result<(), Fail> {
-    let bytes = refused(404);
+    let bytes = refusal_answer(404);
     for room in 0..bytes.len() {
         for fails in [false, true] {
             let mut writer = writer_of(rt.alloc(), room, fails);

@@ -19,7 +19,7 @@ use Rattle.ledger_tables.specs.Tables as tables
 use Rattle.ledger_tables.specs.declared.names.JobName.{JobName}
 use Rattle.ledger.specs.Saving.{job_in, IsAfter}
 use Rattle.ledger.specs.Standing.{StandsIn, Served, named}
-use Rattle.ledger.proofs.Changed.{same_job}
+use Rattle.ledger.proofs.SavingChanges.{same_job}
 
 -- ---- submissions
 

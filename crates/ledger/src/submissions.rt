@@ -53,7 +53,7 @@ fn is_same(alloc: Global, handed: &Handed, contents: &Contents) -> Result<bool, 
 }
 
 /// The reply to a job that was handed in before.
-fn repeated(alloc: Global, handed: &Handed, contents: &Contents) -> Result<Reply, Fault>
+fn repeated_reply(alloc: Global, handed: &Handed, contents: &Contents) -> Result<Reply, Fault>
     ensures { IfOk result (λ reply. (job : KnownJob) → handed.now.row ≡ job_cells job
         → IsFirst handed.now.switches job.stretches → CanBeKept job
         → reply ≡ repeated contents.now job) }
@@ -142,7 +142,7 @@ pub fn submit<S: Alter>(
 {
     match find_handed(tables, name)? {
         Some(handed) => {
-            let reply = repeated(tables.alloc, &handed, contents)?;
+            let reply = repeated_reply(tables.alloc, &handed, contents)?;
             Ok(reply)
         }
         None => submit_new(tables, name, contents),

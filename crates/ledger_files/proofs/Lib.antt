@@ -1,3 +1,3 @@
-pub mod Found
-pub mod Leftovers
-pub mod Stopped
+pub mod OpeningFinds
+pub mod OpeningLeftovers
+pub mod StopLemmas

@@ -1,4 +1,4 @@
-pub mod Bytes
-pub mod Cells
-pub mod Pictured
-pub mod Rows
+pub mod DeckBytes
+pub mod StorageCells
+pub mod PartPictures
+pub mod FromCellsRows

@@ -1,2 +1,2 @@
-pub mod WholeJobs
-pub mod Turns
+pub mod WholeJobsLaw
+pub mod ShiftLemmas

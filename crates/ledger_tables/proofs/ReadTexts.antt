@@ -13,9 +13,9 @@ use Rattle.sqlite_value.specs.Keys.{ascending}
 use Rattle.sqlite_value.specs.declared.keys.Key.{Key}
 use Rattle.ledger_tables.specs.Schema.{bureau_schema}
 use Rattle.ledger_tables.specs.Versions.{select_version}
-use Rattle.ledger_tables.proofs.Inserting.{Means}
-use Rattle.ledger_tables.proofs.Selecting.{plain_query, ordered_query}
-use Rattle.ledger_tables.proofs.Ordered.{sorting_query}
+use Rattle.ledger_tables.proofs.InsertStatement.{Means}
+use Rattle.ledger_tables.proofs.LookupStatement.{plain_query, ordered_query}
+use Rattle.ledger_tables.proofs.LookupOrder.{sorting_query}
 
 -- the text means this query, which does not read the listing of tables
 abbrev pub Selects : List ℕ → Query → List (List ℕ) → Type 0

@@ -7,8 +7,8 @@ use Rattle.sqlite.specs.Command.TheVariants.{Insert}
 use Rattle.sqlite_tied.specs.Compute.{everything}
 use Rattle.sqlite.specs.Listing.{understood}
 use Rattle.ledger_tables.specs.Schema.{bureau, jobs, stretches, pictures, cards, lines, no_schema, up_to_bureau, up_to_jobs, up_to_stretches, up_to_pictures, up_to_cards, bureau_schema}
-use Rattle.ledger_tables.proofs.Creating.{Creates}
-use Rattle.ledger_tables.proofs.Inserting.{Means}
+use Rattle.ledger_tables.proofs.CreateStatement.{Creates}
+use Rattle.ledger_tables.proofs.InsertStatement.{Means}
 
 abbrev pub create_bureau : List ℕ
 create_bureau = codes "CREATE TABLE bureau (id INTEGER NOT NULL PRIMARY KEY, version INTEGER NOT NULL) STRICT"

@@ -27,7 +27,7 @@ pub fn stretches_are_longest()
 /// follow them (`loads`). It is proved card by card: after the boot card's instructions, and after
 /// those of each load card, the machine is ready for the next card, and has filled the positions of
 /// those stretches and no others (`by_cards`).
-#[tactic(auto, using(crate::proofs::Whole::brought, crate::proofs::Whole::by_cards))]
+#[tactic(auto, using(crate::proofs::LoadingLaw::brought, crate::proofs::LoadingLaw::by_cards))]
 pub fn cards_load_the_program()
     ensures loads { (size : Size) (image : List Cell) (start : ℕ) (data_cards : List Card)
         (switches : Switches) → IsLoadable (positions_of size) image start →
@@ -42,7 +42,7 @@ pub fn cards_load_the_program()
 
 /// The law of larger storages: a program that cards can load into a storage can be loaded into a
 /// larger one.
-#[tactic(auto, using(crate::proofs::Whole::wider))]
+#[tactic(auto, using(crate::proofs::LoadingLaw::wider))]
 pub fn larger_storages_can_be_loaded()
     ensures { (size larger : ℕ) (image : List Cell) (start : ℕ) → size ≤ larger →
         IsLoadable size image start → IsLoadable larger image start }

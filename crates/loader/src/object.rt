@@ -48,7 +48,7 @@ fn push_cards(deck: &mut Deck, cards: &[Card]) -> Result<(), DeckFault>
 /// Returns the deck that loads a program and starts it: a boot card, a card for each stretch of its
 /// image, and a last one. Fails with `TooManyCards` if there would be over 2,000, or if there is no
 /// memory.
-#[tactic(auto, unfolding(crate::specs::Cards::loading_cards), using(crate::proofs::Whole::deck_loads))]
+#[tactic(auto, unfolding(crate::specs::Cards::loading_cards), using(crate::proofs::LoadingLaw::deck_loads))]
 pub fn object_deck(alloc: Global, program: &Program) -> Result<Deck, DeckFault>
     ensures deck { IfOk result (λ deck. deck ≡ loading_cards program.now.image program.now.start) }
     ensures full { IsErrOf result DeckFault.TooManyCards →
@@ -76,7 +76,7 @@ pub fn deck_to_run(alloc: Global, program: &Program, data: &[Card]) -> Result<De
 }
 
 /// The data of a deck: its cards after the source.
-#[tactic(auto, using(crate::proofs::Behind::source_within))]
+#[tactic(auto, using(crate::proofs::ObjectSources::source_within))]
 fn data_of<'a>(deck: &'a Deck, program: &Program) -> &'a [Card]
     requires program { IsProgramOf (source_of deck.now) program.now }
     ensures { result.now ≡ data_of deck.now }

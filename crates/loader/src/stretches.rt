@@ -72,7 +72,7 @@ fn mark_limit(cells: &[Cell]) -> usize
 }
 
 /// Whether a card can carry these positions.
-#[tactic(auto, unfolding(crate::specs::Stretches::is_lawful), using(crate::proofs::Stretching::marks_counted))]
+#[tactic(auto, unfolding(crate::specs::Stretches::is_lawful), using(crate::proofs::StretchLemmas::marks_counted))]
 fn is_lawful(cells: &[Cell]) -> bool
     ensures { result ≡ is_lawful cells.now }
 {

@@ -26,7 +26,7 @@ use Rattle.moves.specs.Edited.{field_edited}
 use Rattle.units.specs.declared.switches.Switches.{Switches}
 use Rattle.units.specs.Printed.{Printed}
 use Rattle.units.specs.Ranges.{AreUnits, HasPrinted}
-use Rattle.units.proofs.Outcomes.{Each, each_require, each_where, each_find, each_then}
+use Rattle.units.proofs.OperationOutcomes.{Each, each_require, each_where, each_find, each_then}
 use Rattle.units.proofs.InRange.{operated_in_range, carriage_printed}
 use Rattle.machine.specs.declared.branches.Condition.{Condition}
 use Rattle.machine.specs.declared.branches.Condition.TheVariants.{Always, IsUnequal, IsEqual, IsLow, IsHigh, Overflow, LastCard, SwitchOn, Channel12}

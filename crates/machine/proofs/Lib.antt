@@ -1,9 +1,9 @@
 pub mod Steps
 pub mod InRange
-pub mod Ends
-pub mod Named
+pub mod DecodeLaw
+pub mod OperationNames
 pub mod FormTables
-pub mod Executed
-pub mod Conditions
-pub mod Decoding
-pub mod Listed
+pub mod OperationEffects
+pub mod BranchConditions
+pub mod DecodeLemmas
+pub mod FormLaw

@@ -27,7 +27,7 @@ use Rattle.moves.specs.Edited.{field_edited}
 use Rattle.units.specs.declared.units.Units.{Units}
 use Rattle.units.specs.Printed.{Printed}
 use Rattle.units.specs.Units.{operated, Makes}
-use Rattle.units.proofs.Outcomes.{Each, each_require, each_find, each_then}
+use Rattle.units.proofs.OperationOutcomes.{Each, each_require, each_find, each_then}
 use Rattle.units.proofs.InRange.{Begins, begins_same, begins_take, Keeps, operated_keeps, carriage_keeps}
 use Rattle.machine.specs.declared.decode.Operation.{Operation}
 use Rattle.machine.specs.declared.decode.Operation.TheVariants.{OnFields, ClearStorage, Branch, BranchOnMarkOrZone, Operate, MoveCarriage, StoreA, StoreB, Halt, NoOperation}

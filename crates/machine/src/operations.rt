@@ -20,7 +20,7 @@ use crate::decode::FieldOperation::{
 use crate::instruction::Instruction;
 use addresses::store;
 use arith::{add, compare, modify, subtract, zero_add, zero_subtract};
-use core_store::{Check, Core, Registers, lowered};
+use core_store::{Check, Core, Registers, lower};
 use moves::{
     clear_mark, clear_storage, digit, edit, load_field, move_field, set_mark, suppress, zone,
 };
@@ -144,7 +144,7 @@ fn pass_position(registers: &mut Registers, instruction: Instruction, next: u16)
 {
     registers.i = next;
     registers.a = instruction.a;
-    registers.b = lowered(instruction.b, 1);
+    registers.b = lower(instruction.b, 1);
 }
 
 /// Branches if the condition is met that the last character names.
@@ -306,7 +306,7 @@ fn store_a<C: Core>(
         return Err(Fault::Stopped(check));
     }
     registers.i = next;
-    registers.b = lowered(instruction.a, 3);
+    registers.b = lower(instruction.a, 3);
     Ok(Course::GoesOn)
 }
 
@@ -334,7 +334,7 @@ fn store_b<C: Core>(
         return Err(Fault::Stopped(check));
     }
     registers.i = next;
-    registers.a = lowered(instruction.a, 3);
+    registers.a = lower(instruction.a, 3);
     Ok(Course::GoesOn)
 }
 

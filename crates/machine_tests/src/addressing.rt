@@ -2,7 +2,7 @@
 
 use crate::sheets::{Case, check, cut, number};
 use crate::storage::{at_places, blank, code, lay};
-use addresses::{Tagged, decode, encode, indexed, operand, store};
+use addresses::{Tagged, decode, effective_address, encode, operand, store};
 use bcd::Code;
 use core_store::{Check, Core, FlagCore, LARGEST_SIZE, Size};
 use std::alloc::Global;
@@ -70,7 +70,7 @@ fn addresses_read_and_written(rt: HostRuntime) -> Result<(), Fail> {
 /// The number that an address represents with this text in the second index location, or the check.
 fn number_of(core: &mut FlagCore, address: Tagged, index: &str) -> Result<u16, Check> {
     lay(core, 92, index);
-    indexed(core, address)
+    effective_address(core, address)
 }
 
 /// Indexing. Input: an address, and the text in the second index location of 1400 positions.

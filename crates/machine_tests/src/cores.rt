@@ -4,7 +4,7 @@ use crate::sheets::{Case, check, cut, number};
 use crate::storage::{blank, code};
 use core_store::{
     Compared, Core, FlagCore, PlaneCore, Registers, Size, are_inside, cut_length, field_length,
-    is_minus, lowered, overlaps,
+    is_minus, lower, overlaps,
 };
 use std::alloc::{AllocError, Global};
 use std::test::Fail;
@@ -385,7 +385,7 @@ fn is_size(positions: u16) -> bool {
 #[test]
 fn registers_and_sizes(rt: HostRuntime) {
     assert!(rt; are_lowered());
-    assert!(rt; lowered(0, 1) == 15999);
+    assert!(rt; lower(0, 1) == 15999);
     for positions in [1400, 2000, 4000] {
         assert!(rt; is_size(positions));
     }

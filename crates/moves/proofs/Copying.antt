@@ -7,11 +7,11 @@ use Rattle.core_store.specs.Storage.{Storage, code_at, put, put_codes, codes_end
 use Rattle.core_store.proofs.Fields.{length-put, length-put_codes, codes_ending_more, codes_ending-none, length-codes_ending, cell-put_codes_below, cell-put_codes_above, codes_ending-with_mark}
 use Rattle.moves.specs.Characters.{bare, bare_units, from_right, blank}
 use Rattle.core_store.specs.Operands.{is_overlapping}
-use Rattle.core_store.proofs.Cuts.{not_overlapping}
+use Rattle.core_store.proofs.OperandCuts.{not_overlapping}
 use Rattle.moves.specs.Suppressed.{unmarked, suppressed}
 use Rattle.moves.specs.Blanked.{ends, leading, blanked}
 use Rattle.moves.specs.declared.blanking.Stop.TheVariants.{Other}
-use Rattle.moves.proofs.Starting.{blank_after, leading_within}
+use Rattle.moves.proofs.BlankingLemmas.{blank_after, leading_within}
 
 -- ---- marks
 

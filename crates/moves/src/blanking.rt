@@ -35,7 +35,7 @@ impl Stop {
 /// Blank for a zero or a comma, else the character itself.
 #[inline(always)]
 #[tactic(auto, unfolding(crate::specs::Blanked::faded, crate::specs::Characters::is_any))]
-fn faded(code: Code) -> Code
+fn fade(code: Code) -> Code
     ensures { result ≡ faded code }
 {
     match code.glyph() {
@@ -46,7 +46,7 @@ fn faded(code: Code) -> Code
 
 /// Makes zeros and commas blank from the left, among the first `limit` characters of a field, up to
 /// a stop.
-#[tactic(auto, using(crate::proofs::Starting::blank_none, crate::proofs::Starting::blanked_on, crate::proofs::Starting::none_on, crate::proofs::Starting::stopped_on, crate::proofs::Copying::size_on))]
+#[tactic(auto, using(crate::proofs::BlankingLemmas::blank_none, crate::proofs::BlankingLemmas::blanked_on, crate::proofs::BlankingLemmas::none_on, crate::proofs::BlankingLemmas::stopped_on, crate::proofs::Copying::size_on))]
 pub fn blank_start<C: Core>(core: &mut C, first: u16, count: u16, limit: u16, stop: Stop)
     requires within { first + count ≤ length (C.cells core.old) }
     requires limit { limit ≤ count }
@@ -61,13 +61,13 @@ pub fn blank_start<C: Core>(core: &mut C, first: u16, count: u16, limit: u16, st
         if stop.is_met(code) {
             return;
         }
-        core.put(first + i, faded(code));
+        core.put(first + i, fade(code));
     }
 }
 
 /// Does the same to at most sixteen characters that end at B, all at once.
 #[inline(always)]
-#[tactic(auto, using(crate::proofs::Sixteen::near_long))]
+#[tactic(auto, using(crate::proofs::LaneLemmas::near_long))]
 pub fn blank_near<C: Core>(core: &mut C, b: u16, count: u16, limit: u16, stop: Stop)
     requires within { b < length (C.cells core.old) }
     requires room { 15 ≤ b }
@@ -79,5 +79,10 @@ pub fn blank_near<C: Core>(core: &mut C, b: u16, count: u16, limit: u16, stop: S
     ensures size { length (C.cells core.new) ≡ length (C.cells core.old) }
 {
     let codes = core.near_codes(b);
-    put_last(core, b, count, lanes::blanked(codes, count, limit, stop));
+    put_last(
+        core,
+        b,
+        count,
+        lanes::blank_codes(codes, count, limit, stop),
+    );
 }

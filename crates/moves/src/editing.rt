@@ -8,7 +8,7 @@ ghost use Rattle.moves.specs.declared.blanking.Stop.TheVariants.{Digit};
 ghost use Rattle.moves.specs.Edited.{edited, is_minus, is_place, is_sharing, field_edited, IsShown};
 
 use crate::blanking::{Stop, blank_near, blank_start};
-use crate::filling::{fill, wanted};
+use crate::filling::{data_count, fill};
 use core_store::{Check, Core, Registers, are_inside, cut_length, field_length};
 
 /// Whether two ranges of positions, which end at A and at B, have one in common.
@@ -26,7 +26,7 @@ fn shares(a: u16, a_count: u16, b: u16, b_count: u16) -> bool
 /// Makes zeros and commas of a control field blank from the left, among its first `through`
 /// characters, up to a digit from 1 to 9.
 #[inline(always)]
-#[tactic(auto, using(crate::proofs::Edits::ending_is_from))]
+#[tactic(auto, using(crate::proofs::FillingLemmas::ending_is_from))]
 fn blank_left<C: Core>(core: &mut C, b: u16, count: u16, through: u16)
     requires within { b < length (C.cells core.old) }
     requires from { count ≤ b + 1 }
@@ -46,7 +46,7 @@ fn blank_left<C: Core>(core: &mut C, b: u16, count: u16, through: u16)
 
 /// Puts the data into the control field, and makes what is to the left of the number blank.
 #[inline(always)]
-#[tactic(auto, using(crate::proofs::Edits::all_edited))]
+#[tactic(auto, using(crate::proofs::FillingLemmas::all_edited))]
 fn fill_blanked<C: Core>(core: &mut C, a: u16, a_count: u16, b: u16, b_count: u16)
     requires a_in { a < length (C.cells core.old) }
     requires b_in { b < length (C.cells core.old) }
@@ -84,7 +84,7 @@ pub fn edit<C: Core>(core: &mut C, registers: &mut Registers) -> Result<(), Chec
     let Some(b_count) = field_length(core, b) else {
         return Err(Check::Address);
     };
-    let Some(a_count) = cut_length(core, a, wanted(core, b, b_count)) else {
+    let Some(a_count) = cut_length(core, a, data_count(core, b, b_count)) else {
         return Err(Check::Address);
     };
     if shares(a, a_count, b, b_count) {

@@ -21,7 +21,7 @@ fn is_place(code: Code) -> bool
 
 /// The number of digit places after one more character.
 #[inline(always)]
-fn counted(places: u16, code: Code) -> u16
+fn add_place(places: u16, code: Code) -> u16
     requires { places < largest_size }
     ensures count { result ≡ (if is_place code then places + 1 else places) }
     ensures more { result ≤ places + 1 }
@@ -31,7 +31,7 @@ fn counted(places: u16, code: Code) -> u16
 
 /// The number of digit places of a control field, counted one by one.
 #[inline(never)]
-#[tactic(auto, using(crate::proofs::Edits::places_none, crate::proofs::Edits::places_more))]
+#[tactic(auto, using(crate::proofs::FillingLemmas::places_none, crate::proofs::FillingLemmas::places_more))]
 fn places_far<C: Core>(core: &C, b: u16, count: u16) -> u16
     requires within { b < length (C.cells core.now) }
     requires from { count ≤ b + 1 }
@@ -41,14 +41,14 @@ fn places_far<C: Core>(core: &C, b: u16, count: u16) -> u16
 {
     let mut places = 0;
     for i in 0..count {
-        places = counted(places, core.get(b - i));
+        places = add_place(places, core.get(b - i));
     }
     places
 }
 
 /// The number of digit places of a control field.
 #[inline(always)]
-#[tactic(auto, using(crate::proofs::Sixteen::near_long, crate::proofs::Sixteen::near_places))]
+#[tactic(auto, using(crate::proofs::LaneLemmas::near_long, crate::proofs::LaneLemmas::near_places))]
 fn places<C: Core>(core: &C, b: u16, count: u16) -> u16
     requires within { b < length (C.cells core.now) }
     requires from { count ≤ b + 1 }
@@ -65,7 +65,7 @@ fn places<C: Core>(core: &C, b: u16, count: u16) -> u16
 
 /// The number of data characters that a control field takes, at least one.
 #[inline(always)]
-pub fn wanted<C: Core>(core: &C, b: u16, count: u16) -> u16
+pub fn data_count<C: Core>(core: &C, b: u16, count: u16) -> u16
     requires within { b < length (C.cells core.now) }
     requires from { count ≤ b + 1 }
     requires below { b < largest_size }
@@ -134,7 +134,7 @@ fn filled_code(minus: bool, count: u16, right: u16, digit: Code, code: Code) -> 
 /// Puts the data into the digit places of the control field, and a blank for each character that is
 /// not kept. Returns the number of characters of the control field up to its rightmost zero, or 0
 /// without a zero.
-#[tactic(auto, using(crate::proofs::Edits::fill_none, crate::proofs::Edits::places_none, crate::proofs::Edits::sign_is, crate::proofs::Edits::seen_none))]
+#[tactic(auto, using(crate::proofs::FillingLemmas::fill_none, crate::proofs::FillingLemmas::places_none, crate::proofs::FillingLemmas::sign_is, crate::proofs::FillingLemmas::seen_none))]
 pub fn fill<C: Core>(core: &mut C, a: u16, a_count: u16, b: u16, b_count: u16) -> u16
     requires a_in { a < length (C.cells core.old) }
     requires b_in { b < length (C.cells core.old) }

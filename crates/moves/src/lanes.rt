@@ -31,7 +31,7 @@ pub fn last_of(count: u16, lanes: u8x16, others: u8x16) -> u8x16
 
 /// The lanes with `new` in place of `old`.
 #[inline(always)]
-fn replaced(lanes: u8x16, old: u8, new: u8) -> u8x16
+fn replace_lanes(lanes: u8x16, old: u8, new: u8) -> u8x16
     requires { length lanes ≡ 16 }
     ensures { result ≡ map (λ lane. if lane == old then new else lane) lanes }
 {
@@ -58,7 +58,7 @@ pub fn places(codes: u8x16, count: u16) -> u16
     ensures places { result ≡ places (drop (16 - count) codes) }
     ensures limit { result ≤ count }
 {
-    let places = equal(replaced(codes, 10, 0), 0) >> (16 - count);
+    let places = equal(replace_lanes(codes, 10, 0), 0) >> (16 - count);
     places.count_ones() as u16
 }
 
@@ -79,13 +79,13 @@ pub fn bare_units(codes: u8x16) -> u8x16
 
 /// The characters with a blank for each zero and comma.
 #[inline(always)]
-#[tactic(auto, using(crate::proofs::Fading::lanes_faded))]
-fn faded(codes: u8x16) -> u8x16
+#[tactic(auto, using(crate::proofs::LaneBlanks::lanes_faded))]
+fn fade_codes(codes: u8x16) -> u8x16
     requires sixteen { length codes ≡ 16 }
     requires below { All (λ code. code < 64) codes }
     ensures { result ≡ map faded codes }
 {
-    replaced(replaced(codes, 10, 0), 27, 0)
+    replace_lanes(replace_lanes(codes, 10, 0), 27, 0)
 }
 
 /// Which characters are none of zero, blank and comma: bit 0 for the first.
@@ -95,7 +95,7 @@ fn others(codes: u8x16) -> u64
     requires below { All (λ code. code < 64) codes }
     ensures { result ≡ mask_l (map (ends Other) codes) }
 {
-    faded(codes).simd_ne(u8x16::splat(0)).to_bitmask()
+    fade_codes(codes).simd_ne(u8x16::splat(0)).to_bitmask()
 }
 
 /// Which characters are a digit from 1 to 9: bit 0 for the first.
@@ -126,7 +126,7 @@ fn stops(codes: u8x16, stop: Stop) -> u64
 /// The characters with a blank for each zero and comma from the left of the last `count`, among the
 /// first `limit` of these, up to a stop.
 #[inline(always)]
-pub fn blanked(codes: u8x16, count: u16, limit: u16, stop: Stop) -> u8x16
+pub fn blank_codes(codes: u8x16, count: u16, limit: u16, stop: Stop) -> u8x16
     requires most { count ≤ 16 }
     requires limit { limit ≤ count }
     requires sixteen { length codes ≡ 16 }
@@ -139,5 +139,5 @@ pub fn blanked(codes: u8x16, count: u16, limit: u16, stop: Stop) -> u8x16
 {
     let stops = stops(codes, stop) >> (16 - count);
     let blanks = limit.min(stops.trailing_zeros() as u16);
-    last_of(count - blanks, codes, faded(codes))
+    last_of(count - blanks, codes, fade_codes(codes))
 }

@@ -10,7 +10,7 @@ use core_store::{Check, Core, Registers, are_inside, field_length, overlaps};
 
 /// Copies a field of at most sixteen characters to B, all at once.
 #[inline(always)]
-#[tactic(auto, using(crate::proofs::Sixteen::near_long))]
+#[tactic(auto, using(crate::proofs::LaneLemmas::near_long))]
 fn load_near<C: Core>(core: &mut C, a: u16, b: u16, count: u16)
     requires a_in { a < length (C.cells core.old) }
     requires b_in { b < length (C.cells core.old) }

@@ -3,7 +3,7 @@
 ghost use Rattle.std.specs.Prelude.{◌≡◌, true, false, OnOk, OnErr, IfErr, Ok, Err};
 ghost use Rattle.moves.specs.Marks.{marks_put, storage_cleared};
 
-use core_store::{Check, Core, Registers, are_inside, lowered};
+use core_store::{Check, Core, Registers, are_inside, lower};
 
 /// Sets word marks at A and B. Check ADDRESS if A or B is outside the storage.
 #[tactic(auto, unfolding(crate::specs::Marks::marks_put))]
@@ -62,6 +62,6 @@ pub fn clear_storage<C: Core>(core: &mut C, registers: &mut Registers) -> Result
     }
     let first = last / 100 * 100;
     core.clear(first, last);
-    registers.b = lowered(first, 1);
+    registers.b = lower(first, 1);
     Ok(())
 }

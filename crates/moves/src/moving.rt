@@ -24,7 +24,7 @@ fn least_of(first: Option<u16>, second: Option<u16>) -> Option<u16>
 /// The number of characters of a move, if there are at most sixteen and neither field is near
 /// position 000. A far mark of the other field is not searched for.
 #[inline(always)]
-#[tactic(auto, using(crate::proofs::Shared::near_shared))]
+#[tactic(auto, using(crate::proofs::MovingEnds::near_shared))]
 fn near_shared<C: Core>(core: &C, a: u16, b: u16) -> Option<u16>
     requires a_in { a < length (C.cells core.now) }
     requires b_in { b < length (C.cells core.now) }
@@ -69,7 +69,7 @@ fn have_room(a: u16, b: u16, count: u16) -> bool
 }
 
 /// Copies the characters that end at A to those that end at B, one by one from the right.
-#[tactic(auto, using(crate::proofs::Moves::move_none))]
+#[tactic(auto, using(crate::proofs::MovingLemmas::move_none))]
 fn ripple<C: Core>(core: &mut C, a: u16, b: u16, count: u16)
     requires a_in { a < length (C.cells core.old) }
     requires b_in { b < length (C.cells core.old) }
@@ -85,7 +85,7 @@ fn ripple<C: Core>(core: &mut C, a: u16, b: u16, count: u16)
 }
 
 /// Copies as `ripple` does, but all at once if no character is overwritten before it is copied.
-#[tactic(auto, using(crate::proofs::Moves::moved_apart))]
+#[tactic(auto, using(crate::proofs::MovingLemmas::moved_apart))]
 fn copy_codes<C: Core>(core: &mut C, a: u16, b: u16, count: u16)
     requires a_in { a < length (C.cells core.old) }
     requires b_in { b < length (C.cells core.old) }
@@ -124,7 +124,7 @@ fn near_count<C: Core>(core: &C, a: u16, b: u16) -> Option<u16>
 
 /// Copies at most sixteen characters at once.
 #[inline(always)]
-#[tactic(auto, using(crate::proofs::Sixteen::near_long))]
+#[tactic(auto, using(crate::proofs::LaneLemmas::near_long))]
 fn move_near<C: Core>(core: &mut C, a: u16, b: u16, count: u16)
     requires a_in { a < length (C.cells core.old) }
     requires b_in { b < length (C.cells core.old) }

@@ -11,7 +11,7 @@ use std::simd::prelude::*;
 
 /// Writes the last `count` of sixteen characters to the positions that end at B. Marks stay.
 #[inline(always)]
-#[tactic(auto, using(crate::proofs::Sixteen::near_long, crate::proofs::Sixteen::last_put, crate::proofs::Sixteen::lanes_long, crate::proofs::Sixteen::lanes_below, crate::proofs::Copying::put_codes_long))]
+#[tactic(auto, using(crate::proofs::LaneLemmas::near_long, crate::proofs::LaneLemmas::last_put, crate::proofs::LaneLemmas::lanes_long, crate::proofs::LaneLemmas::lanes_below, crate::proofs::Copying::put_codes_long))]
 pub fn put_last<C: Core>(core: &mut C, b: u16, count: u16, codes: u8x16)
     requires within { b < length (C.cells core.old) }
     requires room { 15 ≤ b }
@@ -42,7 +42,7 @@ pub fn clear_marks<C: Core>(core: &mut C, b: u16, count: u16)
 
 /// Clears the marks of at most sixteen positions that end at B, if one of them has a mark.
 #[inline(always)]
-#[tactic(auto, using(crate::proofs::Unmarked::none_to_clear))]
+#[tactic(auto, using(crate::proofs::NearLemmas::none_to_clear))]
 pub fn clear_near_marks<C: Core>(core: &mut C, b: u16, count: u16)
     requires within { b < length (C.cells core.old) }
     requires room { 15 ≤ b }
@@ -60,7 +60,7 @@ pub fn clear_near_marks<C: Core>(core: &mut C, b: u16, count: u16)
 /// A and at B, and none of the field is overwritten before it is read when it is copied to B.
 /// `None` says nothing about the field.
 #[inline(always)]
-#[tactic(auto, using(crate::proofs::Unmarked::near_field))]
+#[tactic(auto, using(crate::proofs::NearLemmas::near_field))]
 pub fn near_field<C: Core>(core: &C, a: u16, b: u16) -> Option<u16>
     ensures inside { IfSome result (λ count. are_inside (C.cells core.now) a b ≡ true) }
     ensures within { IfSome result (λ count. (a < length (C.cells core.now))

@@ -63,7 +63,7 @@ fn move_far<C: Core>(core: &mut C, a: u16, b: u16, count: u16)
 
 /// Moves at most sixteen characters as `move_far` does, all at once.
 #[inline(always)]
-#[tactic(auto, using(crate::proofs::Sixteen::near_long))]
+#[tactic(auto, using(crate::proofs::LaneLemmas::near_long))]
 fn move_near<C: Core>(core: &mut C, a: u16, b: u16, count: u16)
     requires a_in { a < length (C.cells core.old) }
     requires b_in { b < length (C.cells core.old) }
@@ -80,7 +80,7 @@ fn move_near<C: Core>(core: &mut C, a: u16, b: u16, count: u16)
         core,
         b,
         count,
-        lanes::blanked(bare, count, count, Stop::Other),
+        lanes::blank_codes(bare, count, count, Stop::Other),
     );
 }
 

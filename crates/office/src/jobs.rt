@@ -103,7 +103,7 @@ impl<C: Core> Job<C> {
         ensures { IfOk result (λ job. job ≡ loaded_kept deck size switches) }
     {
         Ok(Job {
-            stretches: Stretches::begun(alloc, switches)?,
+            stretches: Stretches::of_one(alloc, switches)?,
             held: false,
             collected: false,
             machine: Machine::load(alloc, deck, size, switches.seven())?,
@@ -164,7 +164,7 @@ impl<C: Core> Job<C> {
             standing: parts.standing_at(),
             held: self.held,
             collected: self.collected,
-            granted: self.stretches.granted(),
+            granted: self.stretches.total_grant(),
             cards: parts.units.punch.cards.len() as u32,
             lines: parts.units.printer.lines.len() as u32,
         }

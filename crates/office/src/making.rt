@@ -65,7 +65,7 @@ fn program_deck(alloc: Global, deck: &Deck, program: &Program) -> Result<Deck, N
 }
 
 /// Assembles a source, and returns the deck that loads its program.
-fn assembled(alloc: Global, deck: &Deck) -> Result<Deck, NewFault>
+fn assemble_source(alloc: Global, deck: &Deck) -> Result<Deck, NewFault>
     requires { 0 < length deck.now }
     ensures deck { IfOk result (λ loaded. loaded ≡ loaded_of Kind.Autocoder deck.now) }
     ensures taken { IfOk result (λ _. deck_refusal Kind.Autocoder deck.now ≡ None) }
@@ -92,7 +92,7 @@ fn deck_to_load(alloc: Global, kind: Kind, deck: &Deck) -> Result<Deck, NewFault
     }
     match kind {
         Kind::Object => copy_of(alloc, deck),
-        Kind::Autocoder => assembled(alloc, deck),
+        Kind::Autocoder => assemble_source(alloc, deck),
     }
 }
 

@@ -83,8 +83,8 @@ impl Model for Stretches {
 
 impl Stretches {
     /// One stretch, with nothing granted yet.
-    #[tactic(auto, using(crate::proofs::Lasting::first_fits))]
-    pub(crate) fn begun(alloc: Global, switches: Switches) -> Result<Stretches, AllocError>
+    #[tactic(auto, using(crate::proofs::StretchLemmas::first_fits))]
+    pub(crate) fn of_one(alloc: Global, switches: Switches) -> Result<Stretches, AllocError>
         ensures { IfOk result (λ stretches. stretches ≡ one_more (seven switches) []) }
     {
         let mut list = Vec::new(alloc);
@@ -118,7 +118,7 @@ impl Stretches {
     }
 
     /// The number of instructions granted in all.
-    pub(crate) fn granted(&self) -> u32
+    pub(crate) fn total_grant(&self) -> u32
         ensures { result ≡ granted self.now }
     {
         granted_in(&self.list)

@@ -1,2 +1,2 @@
-pub mod Owning
-pub mod Again
+pub mod CustomerLaw
+pub mod RepeatLaw

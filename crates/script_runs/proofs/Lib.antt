@@ -1,2 +1,2 @@
-pub mod Folding
-pub mod Closing
+pub mod ApplyingLemmas
+pub mod RunningLemmas

@@ -1,6 +1,6 @@
-pub mod Parting
-pub mod Spelling
-pub mod NoCommands
-pub mod Standing
-pub mod Lining
-pub mod Sendings
+pub mod WordLemmas
+pub mod TextLemmas
+pub mod SayingLemmas
+pub mod DeckLemmas
+pub mod ParsingLemmas
+pub mod SendingLemmas

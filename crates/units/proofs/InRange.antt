@@ -24,7 +24,7 @@ use Rattle.units.specs.Listing.{IsRising, IsAbove}
 use Rattle.units.specs.Printed.{Printed}
 use Rattle.units.specs.Ranges.{AreRising, AreUnits, HasPrinted, HasRead, IsBelow, IsOnForm, OnlyAdds, carriage_place, line_place, places_then, the_top}
 use Rattle.units.specs.Units.{most_cards, most_lines, card_read, card_punched, line_printed, reads, punches, prints, reader_works, punch_works, printer_works, operated}
-use Rattle.units.proofs.Outcomes.{Each, each_require, each_where, each_find, each_found, each_then, each_if, some_where, some_choice, of_ok}
+use Rattle.units.proofs.OperationOutcomes.{Each, each_require, each_where, each_find, each_found, each_then, each_if, some_where, some_choice, of_ok}
 
 -- ---- the reader
 

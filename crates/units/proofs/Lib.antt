@@ -1,6 +1,6 @@
-pub mod Writing
-pub mod Together
-pub mod Listings
-pub mod Outcomes
+pub mod AreaLemmas
+pub mod OperationLemmas
+pub mod ListingLines
+pub mod OperationOutcomes
 pub mod InRange
-pub mod Shown
+pub mod ListingGlyphs

@@ -15,7 +15,7 @@ pub(crate) const PUNCH_AREA: u16 = 101;
 pub(crate) const PRINT_AREA: u16 = 201;
 
 /// Writes characters from a position on. Marks stay.
-#[tactic(auto, using(crate::proofs::Writing::write_none, crate::proofs::Writing::write_all))]
+#[tactic(auto, using(crate::proofs::AreaLemmas::write_none, crate::proofs::AreaLemmas::write_all))]
 pub(crate) fn put_codes<C: Core>(core: &mut C, first: u16, codes: &[Code])
     requires within { first + length codes.now ≤ length (C.cells core.old) }
     requires below { first + length codes.now ≤ largest_size }
@@ -27,7 +27,7 @@ pub(crate) fn put_codes<C: Core>(core: &mut C, first: u16, codes: &[Code])
 }
 
 /// The characters from a position on.
-#[tactic(auto, using(crate::proofs::Writing::read_all))]
+#[tactic(auto, using(crate::proofs::AreaLemmas::read_all))]
 pub(crate) fn codes_at<C: Core, const N: usize>(core: &C, first: u16) -> [Code; N]
     requires within { first + N ≤ length (C.cells core.now) }
     requires below { first + N ≤ largest_size }

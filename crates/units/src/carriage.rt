@@ -99,7 +99,7 @@ impl Carriage {
     }
 
     /// Whether channel 12 is on after spacing `count` lines.
-    fn sensed(self, count: u8) -> bool
+    fn senses_channel_12(self, count: u8) -> bool
         requires { count ≤ 3 }
         ensures { result ≡ sensed self count }
     {
@@ -109,13 +109,13 @@ impl Carriage {
     }
 
     /// The carriage `count` lines further down, unless that is past the last form.
-    fn spaced(self, count: u8) -> Option<Carriage>
+    fn space(self, count: u8) -> Option<Carriage>
         requires { count ≤ 3 }
         ensures { result ≡ spaced self count }
     {
         let line = self.line as u16 + count as u16;
         let carriage = Carriage {
-            channel_12: self.sensed(count),
+            channel_12: self.senses_channel_12(count),
             ..self
         };
         if line <= LINES_OF_FORM as u16 {
@@ -129,7 +129,7 @@ impl Carriage {
     }
 
     /// The carriage at line 1 of the next form, if there is a next form.
-    fn skipped(self) -> Option<Carriage>
+    fn skip(self) -> Option<Carriage>
         ensures { result ≡ skipped self }
     {
         let carriage = Carriage {
@@ -145,10 +145,10 @@ impl Carriage {
         ensures { result ≡ moved_by motion self }
     {
         match motion {
-            Motion::Space => self.spaced(1),
-            Motion::DoubleSpace => self.spaced(2),
-            Motion::TripleSpace => self.spaced(3),
-            Motion::SkipToChannel1 => self.skipped(),
+            Motion::Space => self.space(1),
+            Motion::DoubleSpace => self.space(2),
+            Motion::TripleSpace => self.space(3),
+            Motion::SkipToChannel1 => self.skip(),
         }
     }
 
@@ -167,7 +167,7 @@ impl Carriage {
 
     /// The carriage after an order, unless a move that is made now would pass the last form.
     #[tactic(auto, unfolding(crate::specs::Carriages::ordered))]
-    fn ordered(self, order: CarriageOrder) -> Option<Carriage>
+    fn order(self, order: CarriageOrder) -> Option<Carriage>
         ensures { result ≡ ordered order self }
     {
         match order {
@@ -188,7 +188,7 @@ pub fn move_carriage(printer: &mut Printer, order: CarriageOrder) -> Result<(), 
     ensures check { IfErr result (λ check. carriage_moved order printer.old ≡ Err check) }
     ensures unchanged { OnErr result (printer.new ≡ printer.old) }
 {
-    let Some(carriage) = printer.carriage.ordered(order) else {
+    let Some(carriage) = printer.carriage.order(order) else {
         return Err(Check::PrinterFull);
     };
     printer.carriage = carriage;

@@ -16,15 +16,15 @@ const SHOWN: [u8; 64] = *b" 1234567890#@    /STUVWXYZ|,%   -JKLMNOPQR!$*   &ABCD
 
 /// The byte that the printer shows for a character.
 #[inline(always)]
-#[tactic(auto, using(crate::proofs::Shown::shown_at))]
-fn shown(code: Code) -> u8
+#[tactic(auto, using(crate::proofs::ListingGlyphs::shown_at))]
+fn shown_glyph(code: Code) -> u8
     ensures { result ≡ shown code }
 {
     SHOWN[code.number() as usize]
 }
 
 /// The number of characters without the trailing blanks.
-#[tactic(auto, using(crate::proofs::Listings::text_is))]
+#[tactic(auto, using(crate::proofs::ListingLines::text_is))]
 fn length_shown(codes: &[Code]) -> usize
     ensures within { result ≤ length codes.now }
     ensures blank_from_there { (k : ℕ) → result ≤ k → k < length codes.now →
@@ -33,7 +33,7 @@ fn length_shown(codes: &[Code]) -> usize
     ensures text { text_of codes.now ≡ map shown (take result codes.now) }
 {
     for length in (0..codes.len()).rev() {
-        if shown(codes[length]) != b' ' {
+        if shown_glyph(codes[length]) != b' ' {
             return length + 1;
         }
     }
@@ -48,7 +48,7 @@ fn push_line(text: &mut Vec<u8>, codes: &[Code; LINE_LENGTH]) -> Result<(), Allo
     let length = length_shown(codes);
     let mut line = [LINE_FEED; LINE_LENGTH + 1];
     for place in 0..length {
-        line[place] = shown(codes[place]);
+        line[place] = shown_glyph(codes[place]);
     }
     text.extend_from_slice(&line[..length + 1])?;
     Ok(())

@@ -49,7 +49,7 @@ impl Units {
     }
 
     /// Returns the first check of an operation, if one applies.
-    #[tactic(auto, using(crate::proofs::Together::operation_ready))]
+    #[tactic(auto, using(crate::proofs::OperationLemmas::operation_ready))]
     fn look_for_checks(&self, devices: Devices) -> Result<(), Check>
         ensures ready { OnOk result ((s : Storage) → IsOk (operated devices s self.now)) }
         ensures check { IfErr result (λ check. (s : Storage) →
@@ -100,7 +100,7 @@ fn work_printer<C: Core>(core: &C, printer: &mut Printer, devices: Devices) -> R
 }
 
 /// Does the reader's part of an operation. The reader must have a card for it.
-#[tactic(auto, using(crate::proofs::Together::reader_has), unfolding(crate::specs::Units::reader_works))]
+#[tactic(auto, using(crate::proofs::OperationLemmas::reader_has), unfolding(crate::specs::Units::reader_works))]
 fn work_reader<C: Core>(core: &mut C, hopper: &mut Hopper, devices: Devices)
     requires size { read_area_end ≤ length (C.cells core.old) }
     requires ready { IsOk (reader_works devices (C.cells core.old) hopper.old) }
@@ -114,7 +114,7 @@ fn work_reader<C: Core>(core: &mut C, hopper: &mut Hopper, devices: Devices)
 
 /// Punches a card and prints a line, if these units take part. If there is no memory, both are
 /// unchanged.
-#[tactic(auto, using(crate::proofs::Together::taken_back))]
+#[tactic(auto, using(crate::proofs::OperationLemmas::taken_back))]
 fn work_makers<C: Core>(
     core: &C,
     punch: &mut Punch,
@@ -145,7 +145,7 @@ fn work_makers<C: Core>(
 /// Does one operation. Each unit that takes part sees the storage as it was before. All checks come
 /// before any change, in this order: READER EMPTY, PUNCH FULL, PRINTER FULL. If there is no memory,
 /// nothing is changed either.
-#[tactic(auto, using(crate::proofs::Together::operation_fails, crate::proofs::Together::reader_goes, crate::proofs::Together::operation_is))]
+#[tactic(auto, using(crate::proofs::OperationLemmas::operation_fails, crate::proofs::OperationLemmas::reader_goes, crate::proofs::OperationLemmas::operation_is))]
 pub fn operate<C: Core>(core: &mut C, units: &mut Units, devices: Devices) -> Result<(), Fault>
     requires { areas_end ≤ length (C.cells core.old) }
     ensures done { OnOk result (operated devices (C.cells core.old) units.old

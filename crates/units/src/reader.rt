@@ -26,7 +26,7 @@ impl Hopper {
     }
 
     /// Whether no card is left to read.
-    #[tactic(auto, using(crate::proofs::Together::card_there, crate::proofs::Together::no_card))]
+    #[tactic(auto, using(crate::proofs::OperationLemmas::card_there, crate::proofs::OperationLemmas::no_card))]
     pub(crate) fn has_no_card(&self) -> bool
         ensures left { result ≡ false → self.now.taken < length self.now.deck }
         ensures check { result ≡ true → (s : Storage) → card_read s self.now ≡ Err ReaderEmpty }

@@ -2,7 +2,7 @@ use Rattle.std.proofs.Common.{sym, subst, inl, inr, List}
 use Rattle.std.specs.Prelude.{Option}
 use Rattle.clap.specs.Words.{Row, Text}
 use Rattle.counter_words.specs.Asked.{IsRow}
-use Rattle.counter_words.proofs.Taken.{asked_fault, asked_row, row_asked}
+use Rattle.counter_words.proofs.CommandWords.{asked_fault, asked_row, row_asked}
 use Rattle.counter_words.proofs.row_of.Goals as goal
 
 pub returns-in-Err-clause-err : goal.returns-in-Err-clause-err

@@ -2,7 +2,7 @@ use Rattle.std.proofs.Common.{◌∙◌, sym, subst}
 use Rattle.std.proofs.lemmas.Result.{IfOk-at_ok, IfOk-weaker, IfErr-weaker}
 use Rattle.counter_words.specs.Plain.{ArePlain, texts}
 use Rattle.counter_words.specs.declared.asked.Words.TheVariants as row
-use Rattle.counter_words.proofs.Ways.{all_plain, dashes_odd, no_help_spelt, no_version_spelt, none_none, none_odd, option, dashes, plain, same_dashes, some_none, spelt, way_of}
+use Rattle.counter_words.proofs.AskedWays.{all_plain, dashes_odd, no_help_spelt, no_version_spelt, none_none, none_odd, option, dashes, plain, same_dashes, some_none, spelt, way_of}
 use Rattle.counter_words.proofs.words.Goals as goal
 
 pub returns-in-None-clause-err : goal.returns-in-None-clause-err

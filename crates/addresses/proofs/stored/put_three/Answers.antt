@@ -1,5 +1,5 @@
 use Rattle.std.proofs.Common.{arith}
-use Rattle.addresses.proofs.Threes.{put_three}
+use Rattle.addresses.proofs.StoredLemmas.{put_three}
 use Rattle.addresses.proofs.stored.put_three.Goals as goal
 
 pub returns : goal.returns

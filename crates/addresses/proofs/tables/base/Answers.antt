@@ -1,5 +1,5 @@
 use Rattle.addresses.specs.Addresses.{base, weighed}
-use Rattle.addresses.proofs.Spelling.{spells}
+use Rattle.addresses.proofs.TableLemmas.{spells}
 use Rattle.addresses.proofs.tables.base.Goals as goal
 
 pub returns : goal.returns

@@ -1,4 +1,4 @@
-use Rattle.addresses.proofs.Spelling.{first_at, first_most, first_below}
+use Rattle.addresses.proofs.TableLemmas.{first_at, first_most, first_below}
 use Rattle.addresses.proofs.tables.of_first.Goals as goal
 
 pub returns-clause-entry : goal.returns-clause-entry

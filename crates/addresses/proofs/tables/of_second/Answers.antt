@@ -1,4 +1,4 @@
-use Rattle.addresses.proofs.Spelling.{second_at, second_most, second_below}
+use Rattle.addresses.proofs.TableLemmas.{second_at, second_most, second_below}
 use Rattle.addresses.proofs.tables.of_second.Goals as goal
 
 pub returns-clause-entry : goal.returns-clause-entry

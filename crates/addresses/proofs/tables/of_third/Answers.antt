@@ -1,4 +1,4 @@
-use Rattle.addresses.proofs.Spelling.{third_at, third_most, third_below}
+use Rattle.addresses.proofs.TableLemmas.{third_at, third_most, third_below}
 use Rattle.addresses.proofs.tables.of_third.Goals as goal
 
 pub returns-clause-entry : goal.returns-clause-entry

@@ -2,7 +2,7 @@ use Rattle.std.proofs.Common.{◌≡◌, ◌+◌, ◌-◌, ◌≤◌, ◌∙◌,
 use Rattle.bcd.specs.Table.{digit_of}
 use Rattle.core_store.specs.Storage.{codes_ending}
 use Rattle.arith.specs.Decimal.{is_number}
-use Rattle.arith.proofs.Numbers.{number_none, number_more, not_number, both_hold}
+use Rattle.arith.proofs.DecimalNumbers.{number_none, number_more, not_number, both_hold}
 use Rattle.arith.proofs.decimal.is_number.Goals as goal
 
 pub loop-i-init : goal.loop-i-init

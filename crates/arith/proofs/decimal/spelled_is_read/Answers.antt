@@ -1,4 +1,4 @@
-use Rattle.arith.proofs.Spelled.{spelled_read}
+use Rattle.arith.proofs.DecimalLaw.{spelled_read}
 use Rattle.arith.proofs.decimal.spelled_is_read.Goals as goal
 
 pub returns : goal.returns

@@ -1,7 +1,7 @@
 use Rattle.std.proofs.Common.{◌≡◌, ◌+◌, ◌-◌, refl, ◌≤◌, ◌∙◌, ap, arith, length}
 use Rattle.addresses.specs.Digits.{digit_under}
 use Rattle.core_store.proofs.Fields.{length-put}
-use Rattle.arith.proofs.Places.{carry_next, codes_next, total_none, put_codes_none, carry_at_end}
+use Rattle.arith.proofs.JoiningLemmas.{carry_next, codes_next, total_none, put_codes_none, carry_at_end}
 use Rattle.arith.proofs.joining.join.Goals as goal
 
 pub loop-i-init : goal.loop-i-init

@@ -2,7 +2,7 @@ use Rattle.std.proofs.Common.{◌∙◌, ap, ltb, replicate}
 use Rattle.std.specs.Simd.Lanes.{sel_l}
 use Rattle.std.proofs.lemmas.Simd.{tops_compared, zip2_splat_left}
 use mir.Syntax.{w8}
-use Rattle.arith.proofs.Carried.{carries_are}
+use Rattle.arith.proofs.LaneCarries.{carries_are}
 use Rattle.arith.proofs.lanes.carries.Goals as goal
 
 pub returns : goal.returns

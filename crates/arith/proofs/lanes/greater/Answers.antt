@@ -2,7 +2,7 @@ use Rattle.std.proofs.Common.{◌∙◌, ap, ltb}
 use Rattle.std.specs.Simd.Lanes.{sel_l}
 use Rattle.std.proofs.lemmas.Simd.{tops_compared}
 use mir.Syntax.{w8}
-use Rattle.arith.proofs.Selected.{sel_max}
+use Rattle.arith.proofs.LaneLemmas.{sel_max}
 use Rattle.arith.proofs.lanes.greater.Goals as goal
 
 pub returns : goal.returns

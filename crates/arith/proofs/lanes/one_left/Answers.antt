@@ -1,7 +1,7 @@
 use Rattle.std.proofs.Common.{◌++◌, [], ◌∷◌, ◌∙◌, ap, arith, get_or}
 use Rattle.std.proofs.lemmas.List.{length-append}
 use Rattle.std.proofs.lemmas.Simd.{pick_l-range_with_len}
-use Rattle.arith.proofs.Carried.{turned_left}
+use Rattle.arith.proofs.LaneCarries.{turned_left}
 use Rattle.arith.proofs.lanes.one_left.Goals as goal
 
 pub returns : goal.returns

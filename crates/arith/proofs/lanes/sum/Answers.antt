@@ -2,7 +2,7 @@ use Rattle.std.proofs.Common.{◌+◌, ◌<◌, ◌≤◌, ◌∙◌, sym, ap, a
 use Rattle.std.specs.Simd.Lanes.{zip2}
 use Rattle.std.proofs.lemmas.List.Elements.{All-same}
 use Rattle.arith.specs.Columns.{number, digit_of_part}
-use Rattle.arith.proofs.Added.{digits_small, sum_is, sum_long, sums_most}
+use Rattle.arith.proofs.LaneSums.{digits_small, sum_is, sum_long, sums_most}
 use Rattle.arith.proofs.lanes.sum.Goals.{then-is_over, else-is_over}
 use Rattle.arith.proofs.lanes.sum.Goals as goal
 
@@ -17,18 +17,18 @@ is_over-requires c =
     let sums = c.totals-sums.ensures ∙ ap (λ xs. zip2 (λ x y. x + y) xs c.digits-2.result) c.digits.ensures ∙ ap (zip2 (λ x y. x + y) (map digit_of_part c.args.a)) c.digits-2.ensures in
     ap length sums ∙ sum_long c.args.a c.args.b c.requires.a c.requires.b
 
-pub carried-requires-clause-most : goal.carried-requires-clause-most
-carried-requires-clause-most c =
+pub carry-requires-clause-most : goal.carry-requires-clause-most
+carry-requires-clause-most c =
     let sums = c.totals-sums.ensures ∙ ap (λ xs. zip2 (λ x y. x + y) xs c.digits-2.result) c.digits.ensures ∙ ap (zip2 (λ x y. x + y) (map digit_of_part c.args.a)) c.digits-2.ensures in
     All-same (λ z. z ≤ 18) _ _ sums (sums_most c.args.a c.args.b c.requires.a_digits c.requires.b_digits)
 
-pub carried-requires-clause-sixteen : goal.carried-requires-clause-sixteen
-carried-requires-clause-sixteen c =
+pub carry-requires-clause-sixteen : goal.carry-requires-clause-sixteen
+carry-requires-clause-sixteen c =
     let sums = c.totals-sums.ensures ∙ ap (λ xs. zip2 (λ x y. x + y) xs c.digits-2.result) c.digits.ensures ∙ ap (zip2 (λ x y. x + y) (map digit_of_part c.args.a)) c.digits-2.ensures in
     ap length sums ∙ sum_long c.args.a c.args.b c.requires.a c.requires.b
 
-pub carried-requires-clause-room : goal.carried-requires-clause-room
-carried-requires-clause-room c =
+pub carry-requires-clause-room : goal.carry-requires-clause-room
+carry-requires-clause-room c =
     let sums = c.totals-sums.ensures ∙ ap (λ xs. zip2 (λ x y. x + y) xs c.digits-2.result) c.digits.ensures ∙ ap (zip2 (λ x y. x + y) (map digit_of_part c.args.a)) c.digits-2.ensures in
     let number_is = ap number sums ∙ sum_is c.args.a c.args.b (c.requires.a ∙ sym c.requires.b) in
     omega (arith, number_is, c.requires.room)

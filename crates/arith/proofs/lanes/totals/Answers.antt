@@ -1,4 +1,4 @@
-use Rattle.arith.proofs.Selected.{sums_wrapped}
+use Rattle.arith.proofs.LaneLemmas.{sums_wrapped}
 use Rattle.arith.proofs.lanes.totals.Goals as goal
 
 pub returns : goal.returns

@@ -2,7 +2,7 @@ use Rattle.std.proofs.Common.{◌+◌, ◌-◌, ◌%◌, ◌∙◌, ap, ltb, rep
 use Rattle.std.specs.Simd.Lanes.{sel_l, zip2}
 use Rattle.std.proofs.lemmas.Simd.{tops_compared, zip2_splat_left}
 use mir.Syntax.{w8}
-use Rattle.arith.proofs.Carried.{units_are}
+use Rattle.arith.proofs.LaneCarries.{units_are}
 use Rattle.arith.proofs.lanes.units.Goals as goal
 
 pub returns : goal.returns

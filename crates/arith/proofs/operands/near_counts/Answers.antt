@@ -1,5 +1,5 @@
 use Rattle.std.proofs.Common.{arith}
-use Rattle.arith.proofs.Counted.{counts_near}
+use Rattle.arith.proofs.OperandCounts.{counts_near}
 use Rattle.arith.proofs.operands.near_counts.Goals as goal
 
 pub returns-clause-counts : goal.returns-clause-counts

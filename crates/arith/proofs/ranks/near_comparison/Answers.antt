@@ -1,5 +1,5 @@
 use Rattle.std.proofs.Common.{◌∙◌, sym, arith}
-use Rattle.arith.proofs.Orders.{comparison_shorter, comparison_same}
+use Rattle.arith.proofs.RankOrders.{comparison_shorter, comparison_same}
 use Rattle.arith.proofs.ranks.near_comparison.Goals as goal
 
 pub returns-then-counts : goal.returns-then-counts

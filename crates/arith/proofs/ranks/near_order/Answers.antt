@@ -1,7 +1,7 @@
 use Rattle.std.proofs.Common.{◌∙◌, ap, arith, not, eqb}
 use Rattle.std.specs.Simd.Lanes.{mask_l, zip2}
 use Rattle.core_store.specs.Storage.{codes_ending}
-use Rattle.arith.proofs.Differences.{order_equal, inside, lower, higher}
+use Rattle.arith.proofs.RankDifferences.{order_equal, inside, lower, higher}
 use Rattle.arith.proofs.ranks.near_order.Goals as goal
 
 pub returns-then-differ-eq0 : goal.returns-then-differ-eq0

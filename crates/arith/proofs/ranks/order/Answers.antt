@@ -1,7 +1,7 @@
 use Rattle.std.proofs.Common.{◌≡◌, ◌+◌, ◌-◌, ◌≤◌, ◌∙◌, sym, arith}
 use Rattle.core_store.specs.Storage.{codes_ending}
 use Rattle.arith.specs.Order.{order}
-use Rattle.arith.proofs.Orders.{place_low, place_high, place_rest, order_none}
+use Rattle.arith.proofs.RankOrders.{place_low, place_high, place_rest, order_none}
 use Rattle.arith.proofs.ranks.order.Goals as goal
 
 pub loop-left-preserved : goal.loop-left-preserved

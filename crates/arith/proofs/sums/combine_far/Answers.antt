@@ -1,4 +1,4 @@
-use Rattle.arith.proofs.Wholes.{added_is}
+use Rattle.arith.proofs.SumWholes.{added_is}
 use Rattle.arith.proofs.sums.combine_far.Goals as goal
 
 pub returns-clause-done : goal.returns-clause-done

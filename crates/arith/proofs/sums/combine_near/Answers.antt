@@ -3,8 +3,8 @@ use Rattle.std.specs.List.{list_any}
 use Rattle.core_store.specs.Storage.{codes_ending, put_codes}
 use Rattle.arith.specs.Decimal.{value}
 use Rattle.arith.specs.Columns.{number, digit_of_part}
-use Rattle.arith.proofs.Added.{neither_over}
-use Rattle.arith.proofs.Combined.{parts_long, field_number, field_value, sum_bound, not_differing, combined_is}
+use Rattle.arith.proofs.LaneSums.{neither_over}
+use Rattle.arith.proofs.SumLanes.{parts_long, field_number, field_value, sum_bound, not_differing, combined_is}
 use Rattle.arith.proofs.sums.combine_near.Goals as goal
 
 pub sum-digits-requires-clause-a_digits : goal.sum-digits-requires-clause-a_digits
@@ -66,5 +66,5 @@ returns-clause-done g c _ =
     (field_number s c.args.registers.now.b counts.b c.near_codes-old.result c.parts-parts_b.result room.1 known.b_in room.2 c.near_codes-old.ensures.codes c.parts-parts_b.ensures none.1)
     (c.sum-digits.ensures.number ∙ ap (λ n. n + number (map digit_of_part c.parts-parts_b.result)) is_a ∙ ap (λ n. value (codes_ending s c.args.registers.now.a counts.a) + n) is_b)
     (g.C.Core.cells c.put_near_codes.new.self) c.lower.new.self c.lower.ensures c.is_over-2.result
-    (c.put_near_codes.ensures ∙ ap (put_codes s (c.args.registers.now.b - 15)) c.written.ensures.codes)
+    (c.put_near_codes.ensures ∙ ap (put_codes s (c.args.registers.now.b - 15)) c.write_digits.ensures.codes)
     (c.is_over-2.ensures ∙ ap (list_any (λ l. ltb 0 l)) c.last_of.ensures)

@@ -1,5 +1,5 @@
 use Rattle.std.proofs.Common.{◌≡◌, ◌<◌, arith, length}
-use Rattle.arith.proofs.Signs.{sum_put, sum_carried, no_overflow, same_size, difference_put, recomplement_put}
+use Rattle.arith.proofs.SumSigns.{sum_put, sum_carried, no_overflow, same_size, difference_put, recomplement_put}
 use Rattle.arith.proofs.sums.join_signed.Goals as goal
 
 pub returns-then-minus_a-minus_b-clause-codes : goal.returns-then-minus_a-minus_b-clause-codes

@@ -1,4 +1,4 @@
-use Rattle.arith.proofs.Wholes.{zero_added_is}
+use Rattle.arith.proofs.SumWholes.{zero_added_is}
 use Rattle.arith.proofs.zeros.replace.Goals as goal
 
 pub returns-clause-done : goal.returns-clause-done

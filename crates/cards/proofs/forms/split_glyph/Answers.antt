@@ -1,5 +1,5 @@
 use Rattle.std.proofs.lemmas.Result.{err_from_is_err_and}
-use Rattle.cards.proofs.Columns.{cut_off_no_glyph}
+use Rattle.cards.proofs.FormColumns.{cut_off_no_glyph}
 use Rattle.cards.proofs.forms.split_glyph.Goals as goal
 
 pub returns-in_err-glyph-clause-none : goal.returns-in_err-glyph-clause-none

@@ -1,6 +1,6 @@
 use Rattle.std.proofs.Common.{◌∙◌, refl}
 use Rattle.std.proofs.lemmas.Result.{err_from_is_err_and}
-use Rattle.cards.proofs.Columns.{first_wrong, second_wrong, third_wrong, first_error, second_error, third_error, column_found, column_missing, whole_column}
+use Rattle.cards.proofs.FormColumns.{first_wrong, second_wrong, third_wrong, first_error, second_error, third_error, column_found, column_missing, whole_column}
 use Rattle.cards.proofs.forms.split_punches.Goals as goal
 
 pub returns-in_err-high-clause-none : goal.returns-in_err-high-clause-none

@@ -1,4 +1,4 @@
-use Rattle.cards.proofs.Places.{deck_once, first_once, no_deck}
+use Rattle.cards.proofs.ReadingLaw.{deck_once, first_once, no_deck}
 use Rattle.cards.proofs.laws.one_reading.Goals as goal
 
 pub returns : goal.returns

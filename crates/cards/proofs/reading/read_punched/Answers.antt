@@ -1,5 +1,5 @@
 use Rattle.cards.specs.declared.forms.Form.TheVariants.{Punched}
-use Rattle.cards.proofs.Places.{no_other_deck}
+use Rattle.cards.proofs.ReadingLaw.{no_other_deck}
 use Rattle.cards.proofs.reading.read_punched.Goals as goal
 
 pub returns-clause-only : goal.returns-clause-only

@@ -1,5 +1,5 @@
 use Rattle.std.proofs.Common.{◌<◌, ◌∙◌, length, length-set, arith, refl}
-use Rattle.cards.proofs.Lines.{characters_more, columns_more, wrong_column, no_line_feed, whole_line}
+use Rattle.cards.proofs.ReadingColumns.{characters_more, columns_more, wrong_column, no_line_feed, whole_line}
 use Rattle.cards.proofs.reading.split_card.Goals as goal
 
 pub returns-in-Err-clause-fault : goal.returns-in-Err-clause-fault

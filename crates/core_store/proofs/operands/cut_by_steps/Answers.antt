@@ -1,5 +1,5 @@
 use Rattle.std.proofs.Common.{◌∙◌, sym, arith}
-use Rattle.core_store.proofs.Cuts.{cut_marked, cut_passed, cut_unmarked}
+use Rattle.core_store.proofs.OperandCuts.{cut_marked, cut_passed, cut_unmarked}
 use Rattle.core_store.proofs.operands.cut_by_steps.Goals as goal
 
 pub returns-then-count-position-clause-length : goal.returns-then-count-position-clause-length

@@ -1,5 +1,5 @@
 use Rattle.std.proofs.Common.{◌≤◌, ◌+◌}
-use Rattle.core_store.proofs.Cuts.{Unmarked}
+use Rattle.core_store.proofs.OperandCuts.{Unmarked}
 use Rattle.core_store.proofs.operands.cut_by_steps.Given as goal
 
 abbrev pub invariant-loop-count : goal.invariant-loop-count

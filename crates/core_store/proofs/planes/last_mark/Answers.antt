@@ -1,5 +1,5 @@
 use Rattle.std.proofs.Common.{arith}
-use Rattle.core_store.proofs.Lanes.{passed_over}
+use Rattle.core_store.proofs.PlaneLanes.{passed_over}
 use Rattle.core_store.proofs.planes.last_mark.Goals as goal
 
 pub returns-then-run-lt16 : goal.returns-then-run-lt16

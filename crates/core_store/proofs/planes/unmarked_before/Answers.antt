@@ -1,6 +1,6 @@
 use Rattle.std.proofs.Common.{◌-◌, arith}
 use Rattle.core_store.proofs.PlaneLemmas.{bitmask_marks}
-use Rattle.core_store.proofs.Lanes.{none_before, count_most, count_room, count_after, count_stops}
+use Rattle.core_store.proofs.PlaneLanes.{none_before, count_most, count_room, count_after, count_stops}
 use Rattle.core_store.proofs.planes.unmarked_before.Goals as goal
 
 pub overflow_sub-result : goal.overflow_sub-result

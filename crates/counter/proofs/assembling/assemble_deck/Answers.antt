@@ -7,7 +7,7 @@ use Rattle.counter_tasks.specs.declared.faults.Fault.{Fault}
 use Rattle.counter_tasks.specs.declared.faults.Fault.TheVariants as fault
 use Rattle.counter_endings.specs.Endings.{IsHindrance, hindered}
 use Rattle.counter.specs.Assembling.{Assembles, Hinders}
-use Rattle.counter_runs.proofs.Unread.{kept, some_text}
+use Rattle.counter_runs.proofs.RunningLemmas.{kept, some_text}
 use Rattle.counter.proofs.assembling.assemble_deck.Goals as goal
 
 -- a fault that was told, with nothing put out

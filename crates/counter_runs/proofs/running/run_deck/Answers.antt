@@ -11,7 +11,7 @@ use Rattle.counter_tasks.specs.declared.statuses.Status.{Status}
 use Rattle.counter_tasks.specs.declared.statuses.Status.TheVariants as status
 use Rattle.counter_runs.specs.Runs.{Refuses, Tells}
 use Rattle.counter_tasks.specs.Printed.{fault_words}
-use Rattle.counter_runs.proofs.Unread.{kept, some_text}
+use Rattle.counter_runs.proofs.RunningLemmas.{kept, some_text}
 use Rattle.counter_runs.proofs.running.run_deck.Goals as goal
 
 -- a fault that was told, with nothing put out

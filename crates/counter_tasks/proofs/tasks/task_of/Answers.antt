@@ -1,7 +1,7 @@
 use Rattle.std.proofs.Common.{◌≡◌, ◌∷◌, [], ℕ, List, IfErr, Ok, Err, ap, decimal, subst}
 use Rattle.std.specs.Prelude.{Result}
 use Rattle.core_store.specs.Storage.{positions_of}
-use Rattle.counter_words.proofs.Ways.{no_help, no_version, one_row, some_word}
+use Rattle.counter_words.proofs.AskedWays.{no_help, no_version, one_row, some_word}
 use Rattle.counter_words.specs.Asked.{Asks, HasValues, name_of}
 use Rattle.counter_words.specs.declared.RowName.{RowName}
 use Rattle.counter_words.specs.declared.RowName.TheVariants as name

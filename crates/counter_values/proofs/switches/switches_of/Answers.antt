@@ -1,6 +1,6 @@
 use Rattle.std.proofs.Common.{◌≡◌, ◌∙◌, ◌<◌, Some, ap, sym, subst, arith}
 use Rattle.counter_values.specs.Switches.{risen, text_of_bits}
-use Rattle.counter_values.proofs.Letters.{read_text, text_read}
+use Rattle.counter_values.proofs.SwitchLetters.{read_text, text_read}
 use Rattle.counter_values.proofs.switches.switches_of.Goals as goal
 
 pub returns-in_default-clause-none : goal.returns-in_default-clause-none

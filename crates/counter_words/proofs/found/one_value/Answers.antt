@@ -1,4 +1,4 @@
-use Rattle.counter_words.proofs.Items.{no_first}
+use Rattle.counter_words.proofs.FoundLemmas.{no_first}
 use Rattle.counter_words.proofs.found.one_value.Goals as goal
 
 pub returns-in_default-clause-none : goal.returns-in_default-clause-none

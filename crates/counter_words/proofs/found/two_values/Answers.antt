@@ -1,4 +1,4 @@
-use Rattle.counter_words.proofs.Items.{no_first, no_second}
+use Rattle.counter_words.proofs.FoundLemmas.{no_first, no_second}
 use Rattle.counter_words.proofs.found.two_values.Goals as goal
 
 pub returns-in_default-clause-none : goal.returns-in_default-clause-none

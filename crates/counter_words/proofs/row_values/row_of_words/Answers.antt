@@ -1,4 +1,4 @@
-use Rattle.counter_words.proofs.Ways.{some_values}
+use Rattle.counter_words.proofs.AskedWays.{some_values}
 use Rattle.counter_words.proofs.row_values.row_of_words.Goals as goal
 
 pub returns-in_default-clause-none : goal.returns-in_default-clause-none

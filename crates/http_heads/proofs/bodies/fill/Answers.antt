@@ -1,7 +1,7 @@
 use Rattle.std.proofs.Common.{arith, rules, take}
 use Rattle.std.proofs.lemmas.Grind.{common_steps}
 use Rattle.std.proofs.lemmas.List.{length-take-le}
-use Rattle.http_heads.proofs.Pieces.{read_more}
+use Rattle.http_heads.proofs.ReadingPieces.{read_more}
 use Rattle.http_heads.proofs.bodies.fill.Goals as goal
 
 pub returns-in-Ok-eq0-clause-filled : goal.returns-in-Ok-eq0-clause-filled

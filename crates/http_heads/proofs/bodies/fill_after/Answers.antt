@@ -1,6 +1,6 @@
 use Rattle.std.proofs.Common.{ℕ, List, ◌++◌, ◌-◌, drop, length, subst, sym}
 use Rattle.http_heads.specs.Bodies.{IsFilledAfter}
-use Rattle.http_heads.proofs.Filled.{filled_after}
+use Rattle.http_heads.proofs.BodyFills.{filled_after}
 use Rattle.http_heads.proofs.bodies.fill_after.Goals as goal
 use borrow.Rule.Slice.PartMut.{put_mid}
 

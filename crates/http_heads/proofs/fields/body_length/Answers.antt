@@ -1,5 +1,5 @@
 use Rattle.std.proofs.Common.{◌∙◌}
-use Rattle.http_heads.proofs.Said.{length_with, length_without}
+use Rattle.http_heads.proofs.FieldLemmas.{length_with, length_without}
 use Rattle.http_heads.proofs.fields.body_length.Goals.{then-is_named, else-is_named}
 use Rattle.http_heads.proofs.fields.body_length.Goals as goal
 

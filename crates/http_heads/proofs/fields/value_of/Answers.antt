@@ -1,5 +1,5 @@
 use Rattle.std.proofs.Common.{◌<◌, arith, rules}
-use Rattle.http_heads.proofs.Said.{next_value, small}
+use Rattle.http_heads.proofs.FieldLemmas.{next_value, small}
 use Rattle.http_heads.proofs.fields.value_of.Goals as goal
 
 pub overflow_mul-number : goal.overflow_mul-number

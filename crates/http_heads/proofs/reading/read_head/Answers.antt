@@ -1,6 +1,6 @@
 use Rattle.std.proofs.Common.{arith, rules}
 use Rattle.std.proofs.lemmas.Grind.{common_steps}
-use Rattle.http_heads.proofs.Pieces.{read_more}
+use Rattle.http_heads.proofs.ReadingPieces.{read_more}
 use Rattle.http_heads.proofs.reading.read_head.Goals as goal
 
 pub loop-outcome-preserved : goal.loop-outcome-preserved

@@ -1,4 +1,4 @@
-use Rattle.http_laws.proofs.Spelled.{same_asked, same_asking}
+use Rattle.http_laws.proofs.AskingLaw.{same_asked, same_asking}
 use Rattle.http_laws.proofs.asking.one_asking.Goals as goal
 
 pub returns : goal.returns

@@ -1,4 +1,4 @@
-use Rattle.http_laws.proofs.Begun.{same_head}
+use Rattle.http_laws.proofs.HeadLaw.{same_head}
 use Rattle.http_laws.proofs.heads.one_head.Goals as goal
 
 pub returns : goal.returns

@@ -1,5 +1,5 @@
-use Rattle.http_laws.proofs.Begun.{not_both, one_of_head, one_status}
-use Rattle.http_laws.proofs.Unended.{not_one}
+use Rattle.http_laws.proofs.HeadLaw.{not_both, one_of_head, one_status}
+use Rattle.http_laws.proofs.HeadEnds.{not_one}
 use Rattle.http_laws.proofs.heads.one_refusal.Goals as goal
 
 pub returns : goal.returns

@@ -1,4 +1,4 @@
-use Rattle.http_laws.proofs.Handed.{OneReading, same_request, same_refusal}
+use Rattle.http_laws.proofs.RequestLaw.{OneReading, same_request, same_refusal}
 use Rattle.http_laws.proofs.requests.one_request.Goals as goal
 
 pub returns : goal.returns

@@ -1,32 +1,32 @@
 use Rattle.std.proofs.Common.{◌∙◌, ap, sym}
 use Rattle.std.proofs.lemmas.Result.{IfOk-weaker}
 use Rattle.http_replies.specs.Bodies.{body_of}
-use Rattle.http_replies.proofs.Written.{taken_is, ran_is, started_is, held_is, released_is, collected_is, summary_is, jobs_is, queue_is}
+use Rattle.http_replies.proofs.BodyTexts.{taken_is, ran_is, started_is, held_is, released_is, collected_is, summary_is, jobs_is, queue_is}
 use Rattle.http_replies.proofs.bodies.body_of.Goals as goal
 
-pub returns-in_ok-taken-in-Taken : goal.returns-in_ok-taken-in-Taken
-returns-in_ok-taken-in-Taken c = λ _. IfOk-weaker c.text_of.result _ _
-    (λ text found. taken_is _ _ _ c.in_ok-taken-in-Taken.ensures found ∙ ap body_of (sym c.in-Taken.is)) c.text_of.ensures
+pub returns-in_ok-taken_reply-in-Taken : goal.returns-in_ok-taken_reply-in-Taken
+returns-in_ok-taken_reply-in-Taken c = λ _. IfOk-weaker c.text_of.result _ _
+    (λ text found. taken_is _ _ _ c.in_ok-taken_reply-in-Taken.ensures found ∙ ap body_of (sym c.in-Taken.is)) c.text_of.ensures
 
-pub returns-in_ok-ran-in-Ran : goal.returns-in_ok-ran-in-Ran
-returns-in_ok-ran-in-Ran c = λ _. IfOk-weaker c.text_of-in-Ran.result _ _
-    (λ text found. ran_is _ _ _ _ c.in_ok-ran-in-Ran.ensures found ∙ ap body_of (sym c.in-Ran.is)) c.text_of-in-Ran.ensures
+pub returns-in_ok-ran_reply-in-Ran : goal.returns-in_ok-ran_reply-in-Ran
+returns-in_ok-ran_reply-in-Ran c = λ _. IfOk-weaker c.text_of-in-Ran.result _ _
+    (λ text found. ran_is _ _ _ _ c.in_ok-ran_reply-in-Ran.ensures found ∙ ap body_of (sym c.in-Ran.is)) c.text_of-in-Ran.ensures
 
-pub returns-in_ok-named-in-Started : goal.returns-in_ok-named-in-Started
-returns-in_ok-named-in-Started c = λ _. IfOk-weaker c.text_of-in-Started.result _ _
-    (λ text found. started_is _ _ c.in_ok-named-in-Started.ensures found ∙ ap body_of (sym c.in-Started.is)) c.text_of-in-Started.ensures
+pub returns-in_ok-named_reply-in-Started : goal.returns-in_ok-named_reply-in-Started
+returns-in_ok-named_reply-in-Started c = λ _. IfOk-weaker c.text_of-in-Started.result _ _
+    (λ text found. started_is _ _ c.in_ok-named_reply-in-Started.ensures found ∙ ap body_of (sym c.in-Started.is)) c.text_of-in-Started.ensures
 
-pub returns-in_ok-named-in-Held : goal.returns-in_ok-named-in-Held
-returns-in_ok-named-in-Held c = λ _. IfOk-weaker c.text_of-in-Held.result _ _
-    (λ text found. held_is _ _ c.in_ok-named-in-Held.ensures found ∙ ap body_of (sym c.in-Held.is)) c.text_of-in-Held.ensures
+pub returns-in_ok-named_reply-in-Held : goal.returns-in_ok-named_reply-in-Held
+returns-in_ok-named_reply-in-Held c = λ _. IfOk-weaker c.text_of-in-Held.result _ _
+    (λ text found. held_is _ _ c.in_ok-named_reply-in-Held.ensures found ∙ ap body_of (sym c.in-Held.is)) c.text_of-in-Held.ensures
 
-pub returns-in_ok-named-in-Released : goal.returns-in_ok-named-in-Released
-returns-in_ok-named-in-Released c = λ _. IfOk-weaker c.text_of-in-Released.result _ _
-    (λ text found. released_is _ _ c.in_ok-named-in-Released.ensures found ∙ ap body_of (sym c.in-Released.is)) c.text_of-in-Released.ensures
+pub returns-in_ok-named_reply-in-Released : goal.returns-in_ok-named_reply-in-Released
+returns-in_ok-named_reply-in-Released c = λ _. IfOk-weaker c.text_of-in-Released.result _ _
+    (λ text found. released_is _ _ c.in_ok-named_reply-in-Released.ensures found ∙ ap body_of (sym c.in-Released.is)) c.text_of-in-Released.ensures
 
-pub returns-in_ok-collected-in-Collected : goal.returns-in_ok-collected-in-Collected
-returns-in_ok-collected-in-Collected c = λ _. IfOk-weaker c.text_of-in-Collected.result _ _
-    (λ text found. collected_is _ _ _ _ c.in_ok-collected-in-Collected.ensures found ∙ ap body_of (sym c.in-Collected.is)) c.text_of-in-Collected.ensures
+pub returns-in_ok-collected_reply-in-Collected : goal.returns-in_ok-collected_reply-in-Collected
+returns-in_ok-collected_reply-in-Collected c = λ _. IfOk-weaker c.text_of-in-Collected.result _ _
+    (λ text found. collected_is _ _ _ _ c.in_ok-collected_reply-in-Collected.ensures found ∙ ap body_of (sym c.in-Collected.is)) c.text_of-in-Collected.ensures
 
 pub returns-in_ok-summary-in-Standing : goal.returns-in_ok-summary-in-Standing
 returns-in_ok-summary-in-Standing c = λ _. IfOk-weaker c.text_of-in-Standing.result _ _

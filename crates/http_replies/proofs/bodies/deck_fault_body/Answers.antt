@@ -1,5 +1,5 @@
 use Rattle.std.proofs.lemmas.Result.{IfOk-weaker}
-use Rattle.http_replies.proofs.Written.{deck_fault_is}
+use Rattle.http_replies.proofs.BodyTexts.{deck_fault_is}
 use Rattle.http_replies.proofs.bodies.deck_fault_body.Goals as goal
 
 pub returns : goal.returns

@@ -2,7 +2,7 @@ use Rattle.std.proofs.Common.{◌∙◌, ap, sym}
 use Rattle.std.proofs.lemmas.Result.{IfOk-weaker}
 use Rattle.http_replies.specs.Bodies.{refusal_body}
 use Rattle.http_replies.specs.Values.{refusal_data}
-use Rattle.http_replies.proofs.Written.{faults_is, refusal_is}
+use Rattle.http_replies.proofs.BodyTexts.{faults_is, refusal_is}
 use Rattle.http_replies.proofs.bodies.refusal_body.Goals as goal
 
 pub returns-in_ok-faults-in-Assembly : goal.returns-in_ok-faults-in-Assembly

@@ -1,6 +1,6 @@
 use Rattle.std.proofs.Common.{arith, ◌-◌, length, drop}
 use Rattle.std.proofs.lemmas.List.{length-drop, length-take}
-use Rattle.http_replies.proofs.Pieces.{sent_more}
+use Rattle.http_replies.proofs.SendingLemmas.{sent_more}
 use Rattle.http_replies.proofs.sending.send.Goals as goal
 
 pub loop-sent-preserved : goal.loop-sent-preserved

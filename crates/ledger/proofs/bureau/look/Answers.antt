@@ -2,7 +2,7 @@ use Rattle.std.proofs.Common.{IsTrue, ap, rules}
 use Rattle.sqlite.specs.State.{HasCleanDisk}
 use Rattle.sqlite.specs.Held.{state}
 use Rattle.ledger.specs.Standing.{tables_of}
-use Rattle.ledger.proofs.Adopted.{err_under, ok_under}
+use Rattle.ledger.proofs.BureauResults.{err_under, ok_under}
 use Rattle.ledger.proofs.bureau.look.Goals as goal
 
 pub returns-clause-known : goal.returns-clause-known

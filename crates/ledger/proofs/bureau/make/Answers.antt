@@ -3,7 +3,7 @@ use Rattle.sqlite.specs.State.{HasCleanDisk}
 use Rattle.sqlite.specs.Held.{state}
 use Rattle.ledger_tables.specs.Tables.{Holds, no_rows}
 use Rattle.ledger.specs.Standing.{StandsIn, Stands}
-use Rattle.ledger.proofs.Crash.{committed_stands}
+use Rattle.ledger.proofs.BureauTransactions.{committed_stands}
 use Rattle.ledger.proofs.bureau.make.Goals as goal
 
 pub returns-in-Ok-commit-clause-made : goal.returns-in-Ok-commit-clause-made

@@ -3,7 +3,7 @@ use Rattle.sqlite.specs.State.{HasCleanDisk}
 use Rattle.sqlite.specs.Held.{state}
 use Rattle.office.specs.Office.{served, attempted_by}
 use Rattle.ledger.specs.Standing.{StandsIn, Stands}
-use Rattle.ledger.proofs.Crash.{committed_stands}
+use Rattle.ledger.proofs.BureauTransactions.{committed_stands}
 use Rattle.ledger.proofs.bureau.transact.Goals as goal
 
 pub returns-in-Ok-commit-clause-reply : goal.returns-in-Ok-commit-clause-reply

@@ -3,7 +3,7 @@ use Rattle.machine.specs.Run.{risen}
 use Rattle.office.specs.Office.{attempted_of}
 use Rattle.ledger_tables.proofs.Stepping.{on_any}
 use Rattle.ledger.specs.Saving.{job_in}
-use Rattle.ledger.proofs.Shown.{attempts_none}
+use Rattle.ledger.proofs.SummaryLemmas.{attempts_none}
 use Rattle.ledger.proofs.job_commands.command_job.Goals as goal
 
 pub returns-in-Some-clause-meter : goal.returns-in-Some-clause-meter

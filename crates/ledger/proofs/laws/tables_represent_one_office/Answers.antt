@@ -1,4 +1,4 @@
-use Rattle.ledger.proofs.OneOffice.{one_office}
+use Rattle.ledger.proofs.OneOfficeLaw.{one_office}
 use Rattle.ledger.proofs.laws.tables_represent_one_office.Goals as goal
 
 pub returns : goal.returns

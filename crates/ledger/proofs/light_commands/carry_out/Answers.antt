@@ -3,9 +3,9 @@ use Rattle.office.specs.Kept.{kept_of, summary_of, job_refusal, answered, change
 use Rattle.office.specs.declared.replies.Reply.TheVariants as reply
 use Rattle.ledger_tables.specs.Steps.{seen}
 use Rattle.ledger.specs.Light.{command_of}
-use Rattle.ledger.proofs.Changed.{unchanged_saved}
+use Rattle.ledger.proofs.SavingChanges.{unchanged_saved}
 use Rattle.ledger.proofs.Replies.{command_done}
-use Rattle.ledger.proofs.Shown.{answered_so}
+use Rattle.ledger.proofs.SummaryLemmas.{answered_so}
 use Rattle.ledger.proofs.light_commands.carry_out.Goals as goal
 
 pub returns-in-Standing-clause-done : goal.returns-in-Standing-clause-done

@@ -3,7 +3,7 @@ use Rattle.office.specs.Kept.{kept_of, job_refusal}
 use Rattle.ledger_tables.specs.Steps.{seen}
 use Rattle.ledger.specs.Light.{command_of}
 use Rattle.ledger.proofs.Replies.{command_refused}
-use Rattle.ledger.proofs.Shown.{refused_with}
+use Rattle.ledger.proofs.SummaryLemmas.{refused_with}
 use Rattle.ledger.proofs.light_commands.command_shown.Goals as goal
 
 pub returns-in-Some-clause-done : goal.returns-in-Some-clause-done

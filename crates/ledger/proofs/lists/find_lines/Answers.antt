@@ -8,7 +8,7 @@ use Rattle.ledger_tables.specs.Listed.{name_row}
 use Rattle.ledger_tables.specs.Steps.{seen}
 use Rattle.ledger.specs.Listed.{IsHis}
 use Rattle.ledger.specs.Standing.{named}
-use Rattle.ledger.proofs.Listing.{at_row}
+use Rattle.ledger.proofs.ListLemmas.{at_row}
 use Rattle.ledger.proofs.lists.find_lines.Goals as goal
 
 pub loop-row-init : goal.loop-row-init

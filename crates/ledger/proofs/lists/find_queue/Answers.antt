@@ -7,7 +7,7 @@ use Rattle.ledger_tables.specs.Listed.{queued_name}
 use Rattle.ledger_tables.specs.Steps.{seen}
 use Rattle.ledger.specs.Listed.{IsIts}
 use Rattle.ledger.specs.Standing.{named}
-use Rattle.ledger.proofs.Listing.{at_row, passed_on}
+use Rattle.ledger.proofs.ListLemmas.{at_row, passed_on}
 use Rattle.ledger.proofs.lists.find_queue.Goals as goal
 
 pub loop-row-init : goal.loop-row-init

@@ -5,7 +5,7 @@ use Rattle.office.specs.declared.replies.Reply.TheVariants.{Jobs}
 use Rattle.sqlite.specs.State.{HasCleanDisk}
 use Rattle.ledger_tables.specs.Steps.{seen}
 use Rattle.ledger.specs.Standing.{tables_of}
-use Rattle.ledger.proofs.Listing.{all_his, names_told}
+use Rattle.ledger.proofs.ListLemmas.{all_his, names_told}
 use Rattle.ledger.proofs.Offices.{still}
 use Rattle.ledger.proofs.lists.list_jobs.Goals as goal
 

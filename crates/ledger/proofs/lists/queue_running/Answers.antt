@@ -4,7 +4,7 @@ use Rattle.machine.specs.Standings.{standing_of, goes_on}
 use Rattle.office.specs.Office.{job_of, queued_job, runs}
 use Rattle.office.specs.Queued.{QueuedJob}
 use Rattle.ledger_tables.specs.Cells.{QueuedName}
-use Rattle.ledger.proofs.Listing.{running_goes_on, runs_so, queued_is}
+use Rattle.ledger.proofs.ListLemmas.{running_goes_on, runs_so, queued_is}
 use Rattle.ledger.proofs.lists.queue_running.Goals as goal
 
 pub returns-clause-found : goal.returns-clause-found

@@ -3,7 +3,7 @@ use Rattle.ledger_tables.specs.Steps.{seen}
 use Rattle.office.specs.Jobs.{picture}
 use Rattle.ledger.specs.Standing.{tables_of, picture_of}
 use Rattle.ledger.proofs.Offices.{still, if_ok_then, job_is}
-use Rattle.ledger.proofs.ReadBack.{some_is}
+use Rattle.ledger.proofs.ReadingLemmas.{some_is}
 use Rattle.ledger.proofs.reading.find_machine.Goals as goal
 
 pub returns-in-Some-clause-found : goal.returns-in-Some-clause-found

@@ -5,7 +5,7 @@ use Rattle.ledger_tables.specs.Steps.{seen}
 use Rattle.office.specs.Jobs.{picture}
 use Rattle.ledger.specs.Standing.{tables_of, cards_of, lines_of}
 use Rattle.ledger.proofs.Offices.{still, if_ok_then, job_is}
-use Rattle.ledger.proofs.ReadBack.{picture_deck}
+use Rattle.ledger.proofs.ReadingLemmas.{picture_deck}
 use Rattle.ledger.proofs.reading.find_media.Goals as goal
 
 pub returns-clause-found : goal.returns-clause-found

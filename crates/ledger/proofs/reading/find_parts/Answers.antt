@@ -3,7 +3,7 @@ use Rattle.sqlite.specs.State.{HasCleanDisk}
 use Rattle.ledger_tables.specs.Steps.{seen}
 use Rattle.ledger_tables.specs.Cells.{JobCells}
 use Rattle.ledger.proofs.Offices.{job_is, kept_is}
-use Rattle.ledger.proofs.ReadBack.{some_is, picture_switches}
+use Rattle.ledger.proofs.ReadingLemmas.{some_is, picture_switches}
 use Rattle.ledger.proofs.reading.find_parts.Goals as goal
 
 pub returns-clause-found : goal.returns-clause-found

@@ -7,7 +7,7 @@ use Rattle.sqlite.specs.State.{HasCleanDisk}
 use Rattle.ledger_tables.specs.Steps.{seen}
 use Rattle.ledger_tables.specs.Tables.{Holds, with_cards}
 use Rattle.ledger_tables.proofs.Stepping.{step_still, step_then, step_ends}
-use Rattle.ledger.proofs.Saved.{one_more_row, all_more, rows_before, cards_still, cards_place, card_pushed}
+use Rattle.ledger.proofs.SavingLemmas.{one_more_row, all_more, rows_before, cards_still, cards_place, card_pushed}
 use Rattle.ledger.proofs.saving.insert_cards.Goals as goal
 
 pub loop-place-init : goal.loop-place-init

@@ -1,7 +1,7 @@
 use Rattle.std.proofs.Common.{◌≡◌, ◌-◌, length, get_or, ap, rules}
 use Rattle.ledger_tables.proofs.Frames.{on_ok_then}
 use Rattle.ledger_tables.specs.declared.rows.StretchRow.{StretchRow}
-use Rattle.ledger.proofs.Saved.{last_stretched}
+use Rattle.ledger.proofs.SavingLemmas.{last_stretched}
 use Rattle.ledger.proofs.saving.insert_last_stretch.Goals as goal
 
 pub returns-clause-added : goal.returns-clause-added

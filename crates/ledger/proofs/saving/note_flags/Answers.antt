@@ -1,9 +1,9 @@
 use Rattle.ledger_tables.proofs.Frames.{on_ok_then}
 use Rattle.ledger_tables.specs.Steps.{seen}
 use Rattle.ledger.specs.Standing.{tables_of}
-use Rattle.ledger.proofs.Flagged.{flags_saved}
+use Rattle.ledger.proofs.SavingFlags.{flags_saved}
 use Rattle.ledger.proofs.Offices.{job_is}
-use Rattle.ledger.proofs.Shown.{flagged_is}
+use Rattle.ledger.proofs.SummaryLemmas.{flagged_is}
 use Rattle.ledger.proofs.saving.note_flags.Goals as goal
 
 pub returns-clause-saved : goal.returns-clause-saved

@@ -2,7 +2,7 @@ use Rattle.std.proofs.Common.{true, false, ap}
 use Rattle.ledger_tables.specs.Steps.{seen}
 use Rattle.ledger_tables.proofs.Frames.{on_ok_then}
 use Rattle.office.specs.Kept.{changed_job}
-use Rattle.ledger.proofs.Changed.{unchanged_saved}
+use Rattle.ledger.proofs.SavingChanges.{unchanged_saved}
 use Rattle.ledger.proofs.saving.save.Goals as goal
 
 pub returns-in-Slice-clause-saved : goal.returns-in-Slice-clause-saved

@@ -6,8 +6,8 @@ use Rattle.office.specs.Kept.{Kept}
 use Rattle.units.specs.Switches.{seven}
 use Rattle.ledger.specs.Saving.{with_handed}
 use Rattle.ledger.specs.Standing.{tables_of, stretches_of, picture_of}
-use Rattle.ledger.proofs.Saved.{on_ok_both}
-use Rattle.ledger.proofs.Handed.{none_named, one_stretch, new_saved}
+use Rattle.ledger.proofs.SavingLemmas.{on_ok_both}
+use Rattle.ledger.proofs.SavingJobs.{none_named, one_stretch, new_saved}
 use Rattle.ledger.proofs.saving.save_new.Goals as goal
 
 pub returns-clause-saved : goal.returns-clause-saved

@@ -5,8 +5,8 @@ use Rattle.ledger_tables.proofs.Frames.{on_ok_then}
 use Rattle.office.specs.Kept.{Kept}
 use Rattle.ledger.specs.Saving.{with_made}
 use Rattle.ledger.specs.Standing.{tables_of, stretches_of, picture_of}
-use Rattle.ledger.proofs.Saved.{on_ok_both}
-use Rattle.ledger.proofs.Changed.{goes_on_from, cards_stand, lines_stand, slice_saved}
+use Rattle.ledger.proofs.SavingLemmas.{on_ok_both}
+use Rattle.ledger.proofs.SavingChanges.{goes_on_from, cards_stand, lines_stand, slice_saved}
 use Rattle.ledger.proofs.saving.save_slice.Goals as goal
 
 pub returns-clause-saved : goal.returns-clause-saved

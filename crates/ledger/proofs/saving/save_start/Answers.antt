@@ -6,7 +6,7 @@ use Rattle.office.specs.Kept.{Kept}
 use Rattle.units.specs.Switches.{seven}
 use Rattle.ledger.specs.Saving.{with_machine}
 use Rattle.ledger.specs.Standing.{tables_of, stretches_of, picture_of}
-use Rattle.ledger.proofs.Changed.{start_saved}
+use Rattle.ledger.proofs.SavingChanges.{start_saved}
 use Rattle.ledger.proofs.saving.save_start.Goals as goal
 
 pub returns-clause-saved : goal.returns-clause-saved

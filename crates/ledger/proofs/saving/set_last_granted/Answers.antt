@@ -1,6 +1,6 @@
 use Rattle.std.proofs.Common.{◌≡◌, ◌<◌, ◌-◌, length, get_or, rules}
 use Rattle.ledger_tables.proofs.Frames.{on_ok_then}
-use Rattle.ledger.proofs.Saved.{last_granted}
+use Rattle.ledger.proofs.SavingLemmas.{last_granted}
 use Rattle.ledger.proofs.saving.set_last_granted.Goals as goal
 
 pub returns-clause-set : goal.returns-clause-set

@@ -1,7 +1,7 @@
 use Rattle.std.proofs.Common.{◌-◌, ◌^◌, min, ap, ◌∙◌}
 use Rattle.office.specs.Jobs.{granted}
 use Rattle.ledger.proofs.Offices.{job_is}
-use Rattle.ledger.proofs.Shown.{granted_fits}
+use Rattle.ledger.proofs.SummaryLemmas.{granted_fits}
 use Rattle.ledger.proofs.summaries.find_granted.Goals as goal
 
 pub returns-clause-found : goal.returns-clause-found

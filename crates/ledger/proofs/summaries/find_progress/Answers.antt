@@ -6,7 +6,7 @@ use Rattle.ledger_tables.specs.Listed.{progress_row}
 use Rattle.ledger_tables.specs.Steps.{seen}
 use Rattle.ledger.specs.Standing.{tables_of, picture_of}
 use Rattle.ledger.proofs.Offices.{still, job_is}
-use Rattle.ledger.proofs.ReadBack.{some_is}
+use Rattle.ledger.proofs.ReadingLemmas.{some_is}
 use Rattle.ledger.proofs.summaries.find_progress.Goals as goal
 
 pub returns-in-Some-read_progress-clause-found : goal.returns-in-Some-read_progress-clause-found

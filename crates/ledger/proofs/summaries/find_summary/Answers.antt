@@ -4,8 +4,8 @@ use Rattle.machine.specs.Standings.{standing_at}
 use Rattle.ledger_rows.specs.declared.progress.Progress.{Progress}
 use Rattle.ledger_tables.specs.Cells.{JobCells}
 use Rattle.ledger_tables.specs.Steps.{seen}
-use Rattle.ledger.proofs.ReadBack.{some_is}
-use Rattle.ledger.proofs.Shown.{summary_is}
+use Rattle.ledger.proofs.ReadingLemmas.{some_is}
+use Rattle.ledger.proofs.SummaryLemmas.{summary_is}
 use Rattle.ledger.proofs.summaries.find_summary.Goals as goal
 
 pub returns-clause-found : goal.returns-clause-found

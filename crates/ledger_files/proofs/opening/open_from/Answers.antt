@@ -7,7 +7,7 @@ use Rattle.sqlite.specs.Files.{file_state, HoldsDatabase}
 use Rattle.ledger_tables.specs.Versions.{IsKnown}
 use Rattle.sqlite.specs.WalFiles.{image_at}
 use Rattle.ledger.specs.Standing.{LeftAs, Stands}
-use Rattle.ledger_files.proofs.Leftovers.{fresh_seen, fresh_left, fresh_stands}
+use Rattle.ledger_files.proofs.OpeningLeftovers.{fresh_seen, fresh_left, fresh_stands}
 use Rattle.ledger_files.proofs.opening.open_from.Goals as goal
 
 pub returns-in-Ok-adopt-clause-found : goal.returns-in-Ok-adopt-clause-found

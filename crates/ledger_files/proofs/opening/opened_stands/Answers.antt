@@ -1,5 +1,5 @@
 use Rattle.sqlite.specs.Held.{state}
-use Rattle.ledger_files.proofs.Found.{found_stands}
+use Rattle.ledger_files.proofs.OpeningFinds.{found_stands}
 use Rattle.ledger_files.proofs.opening.opened_stands.Goals as goal
 
 pub returns : goal.returns

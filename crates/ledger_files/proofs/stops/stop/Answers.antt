@@ -5,7 +5,7 @@ use Rattle.sqlite.specs.Tree.{Trees}
 use Rattle.sqlite.specs.Files.{HoldsDatabase, file_state}
 use Rattle.sqlite.specs.FileStore.{view}
 use Rattle.ledger.specs.Standing.{LeftAs}
-use Rattle.ledger_files.proofs.Stopped.{left_holds}
+use Rattle.ledger_files.proofs.StopLemmas.{left_holds}
 use Rattle.ledger_files.proofs.stops.stop.Goals as goal
 
 pub returns-clause-left : goal.returns-clause-left

@@ -4,7 +4,7 @@ use Rattle.sqlite_pool.specs.Stored.{is_summed}
 use Rattle.sqlite.specs.Tree.{Trees}
 use Rattle.sqlite.specs.Files.{HoldsDatabase, file_state}
 use Rattle.sqlite.specs.FileStore.{view}
-use Rattle.ledger_files.proofs.Stopped.{left_holds}
+use Rattle.ledger_files.proofs.StopLemmas.{left_holds}
 use Rattle.ledger_rounds.proofs.rounds.hand_out.Goals as goal
 
 pub returns-clause-left : goal.returns-clause-left

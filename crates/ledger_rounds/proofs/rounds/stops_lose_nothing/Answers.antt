@@ -1,4 +1,4 @@
-use Rattle.ledger_rounds.proofs.Chained.{rounds_lead}
+use Rattle.ledger_rounds.proofs.RoundLaw.{rounds_lead}
 use Rattle.ledger_rounds.proofs.rounds.stops_lose_nothing.Goals as goal
 
 pub returns : goal.returns

@@ -1,5 +1,5 @@
 use Rattle.std.proofs.Common.{◌∙◌, ◌++◌, ap, length, ◌<◌, ◌≡◌, get_or}
-use Rattle.ledger_rows.proofs.Bytes.{bytes_more, cards_more}
+use Rattle.ledger_rows.proofs.DeckBytes.{bytes_more, cards_more}
 use Rattle.ledger_rows.proofs.decks.deck_bytes.Goals as goal
 
 pub loop-card-preserved : goal.loop-card-preserved

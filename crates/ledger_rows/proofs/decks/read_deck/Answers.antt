@@ -1,7 +1,7 @@
 use Rattle.std.proofs.Common.{◌≡◌, ◌∙◌, ap, arith, length, Some, Err, refl}
 use Rattle.std.proofs.lemmas.List.Elements.{All-push}
 use Rattle.cards.specs.Decks.{IsCard}
-use Rattle.ledger_rows.proofs.Bytes.{same_deck, next_card, deck_more, some_left, all_read}
+use Rattle.ledger_rows.proofs.DeckBytes.{same_deck, next_card, deck_more, some_left, all_read}
 use Rattle.ledger_rows.proofs.decks.read_deck.Goals as goal
 
 pub returns-in_default-clause-all : goal.returns-in_default-clause-all

@@ -1,7 +1,7 @@
 use Rattle.std.proofs.Common.{◌≡◌, ◌∙◌, [], ◌∷◌, ◌++◌, take, map, refl, sym, ap, subst, arith}
 use Rattle.std.specs.List.{All}
 use Rattle.std.proofs.lemmas.List.{take_all}
-use Rattle.ledger_rows.proofs.Rows.{made_from, one_more, some_is, fits}
+use Rattle.ledger_rows.proofs.FromCellsRows.{made_from, one_more, some_is, fits}
 use Rattle.ledger_rows.proofs.from_cells.read_rows.Goals as goal
 
 pub loop-row-init : goal.loop-row-init

@@ -1,4 +1,4 @@
-use Rattle.ledger_rows.proofs.Pictured.{carriage_line, has_units}
+use Rattle.ledger_rows.proofs.PartPictures.{carriage_line, has_units}
 use Rattle.ledger_rows.proofs.parts.read_picture.Goals as goal
 
 pub returns-in_default-read_units-clause-all : goal.returns-in_default-read_units-clause-all

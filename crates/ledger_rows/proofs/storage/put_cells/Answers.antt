@@ -1,7 +1,7 @@
 use Rattle.std.proofs.Common.{ℕ, Bool, arith, length, ◌<◌}
 use Rattle.core_store.specs.Storage.{code_at, is_marked}
 use Rattle.ledger_rows.specs.declared.storage.Cell.{Cell}
-use Rattle.ledger_rows.proofs.Cells.{byte_at, put_bytes_more, put_characters_more, put_keeps_size}
+use Rattle.ledger_rows.proofs.StorageCells.{byte_at, put_bytes_more, put_characters_more, put_keeps_size}
 use Rattle.ledger_rows.proofs.storage.put_cells.Goals as goal
 
 pub returns-in_default-clause-all : goal.returns-in_default-clause-all

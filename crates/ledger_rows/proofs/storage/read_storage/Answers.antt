@@ -1,5 +1,5 @@
 use Rattle.std.proofs.Common.{◌∙◌, refl}
-use Rattle.ledger_rows.proofs.Cells.{same_storage}
+use Rattle.ledger_rows.proofs.StorageCells.{same_storage}
 use Rattle.ledger_rows.proofs.storage.read_storage.Goals as goal
 
 pub returns-clause-all : goal.returns-clause-all

@@ -1,5 +1,5 @@
 use Rattle.std.proofs.Common.{◌<◌, arith, length}
-use Rattle.ledger_rows.proofs.Cells.{bytes_more, characters_more, same_byte}
+use Rattle.ledger_rows.proofs.StorageCells.{bytes_more, characters_more, same_byte}
 use Rattle.ledger_rows.proofs.storage.storage_bytes.Goals as goal
 
 pub loop-position-preserved : goal.loop-position-preserved

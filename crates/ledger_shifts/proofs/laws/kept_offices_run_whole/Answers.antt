@@ -1,4 +1,4 @@
-use Rattle.ledger_shifts.proofs.WholeJobs.{have_whole_rows}
+use Rattle.ledger_shifts.proofs.WholeJobsLaw.{have_whole_rows}
 use Rattle.ledger_shifts.proofs.laws.kept_offices_run_whole.Goals as goal
 
 pub returns : goal.returns

@@ -1,4 +1,4 @@
-use Rattle.loader.proofs.Glyphs.{code_found, glyph_found}
+use Rattle.loader.proofs.ColumnGlyphs.{code_found, glyph_found}
 use Rattle.loader.proofs.columns.code_of.Goals as goal
 
 pub unwrap-requires : goal.unwrap-requires

@@ -1,4 +1,4 @@
-use Rattle.loader.proofs.Splitting.{is_split, no_other_split}
+use Rattle.loader.proofs.StretchLaw.{is_split, no_other_split}
 use Rattle.loader.proofs.laws.stretches_are_longest.Goals as goal
 
 pub returns-clause-split : goal.returns-clause-split

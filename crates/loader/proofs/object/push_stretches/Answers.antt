@@ -1,6 +1,6 @@
 use Rattle.std.proofs.Common.{length, sym, ◌∙◌}
 use Rattle.std.proofs.lemmas.Bool.{eqb-true}
-use Rattle.loader.proofs.Pushing.{push_step, below_behind, pushed_all}
+use Rattle.loader.proofs.ObjectDecks.{push_step, below_behind, pushed_all}
 use Rattle.loader.proofs.object.push_stretches.Goals as goal
 
 pub loop-rest-preserved : goal.loop-rest-preserved

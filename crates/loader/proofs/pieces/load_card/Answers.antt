@@ -1,5 +1,5 @@
 use Rattle.std.proofs.Common.{length, ap, arith}
-use Rattle.loader.proofs.Lawful.{lawful_length}
+use Rattle.loader.proofs.PieceBounds.{lawful_length}
 use Rattle.loader.proofs.pieces.load_card.Goals as goal
 
 pub punch_characters-requires : goal.punch_characters-requires

@@ -1,4 +1,4 @@
-use Rattle.loader.proofs.Marking.{mark_found, mark_missing}
+use Rattle.loader.proofs.PlaceMarks.{mark_found, mark_missing}
 use Rattle.loader.proofs.places.next_mark.Goals as goal
 
 pub returns-in_default-clause-mark : goal.returns-in_default-clause-mark

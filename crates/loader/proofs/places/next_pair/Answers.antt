@@ -1,4 +1,4 @@
-use Rattle.loader.proofs.Marking.{pair_of_two, pair_of_one}
+use Rattle.loader.proofs.PlaceMarks.{pair_of_two, pair_of_one}
 use Rattle.loader.proofs.places.next_pair.Goals as goal
 
 pub returns-in_default-next_mark-clause-pair : goal.returns-in_default-next_mark-clause-pair

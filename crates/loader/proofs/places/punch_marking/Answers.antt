@@ -1,6 +1,6 @@
 use Rattle.std.proofs.Common.{arith}
 use Rattle.loader.specs.Stretches.{marks_of}
-use Rattle.loader.proofs.Placing.{marking_done, count_done}
+use Rattle.loader.proofs.PlaceFills.{marking_done, count_done}
 use Rattle.loader.proofs.places.punch_marking.Goals as goal
 
 pub returns-clause-punched : goal.returns-clause-punched

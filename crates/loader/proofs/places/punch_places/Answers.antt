@@ -1,7 +1,7 @@
 use Rattle.std.proofs.Common.{◌++◌, length, ap, ◌∙◌, arith}
 use Rattle.loader.specs.Stretches.{marks_of}
 use Rattle.loader.specs.Cards.{clearing, marking, three}
-use Rattle.loader.proofs.Lawful.{lawful_places, places_filled}
+use Rattle.loader.proofs.PieceBounds.{lawful_places, places_filled}
 use Rattle.loader.proofs.places.punch_places.Goals as goal
 
 pub punch_marking-marked-requires-clause-room : goal.punch_marking-marked-requires-clause-room

@@ -1,6 +1,6 @@
 use Rattle.std.proofs.Common.{◌∙◌, arith}
 use Rattle.loader.specs.Cards.{unused}
-use Rattle.loader.proofs.Placing.{place_step}
+use Rattle.loader.proofs.PlaceFills.{place_step}
 use Rattle.loader.proofs.places.punch_unused.Goals as goal
 
 pub loop-preserved : goal.loop-preserved

@@ -1,5 +1,5 @@
 use Rattle.std.proofs.Common.{◌∙◌, arith}
-use Rattle.loader.proofs.Stretching.{next_fails, next_holds, contiguous_past}
+use Rattle.loader.proofs.StretchLemmas.{next_fails, next_holds, contiguous_past}
 use Rattle.loader.proofs.stretches.is_contiguous.Goals as goal
 
 pub returns-then-not-is_next : goal.returns-then-not-is_next

@@ -1,5 +1,5 @@
 use Rattle.std.proofs.Common.{sym, ◌∙◌, arith}
-use Rattle.loader.proofs.Stretching.{first_lawful, first_split, longer, cut, whole}
+use Rattle.loader.proofs.StretchLemmas.{first_lawful, first_split, longer, cut, whole}
 use Rattle.loader.proofs.stretches.longest.Goals as goal
 
 pub loop-end-init : goal.loop-end-init

@@ -1,6 +1,6 @@
 use Rattle.std.proofs.Common.{◌∙◌, sym, refl, length}
 use Rattle.core_store.specs.Storage.{codes_from, largest_size}
-use Rattle.machine.proofs.Decoding.{form_refused, last_refused, operands_refused, whole_decoded, form_named, last_named, looks_inside}
+use Rattle.machine.proofs.DecodeLemmas.{form_refused, last_refused, operands_refused, whole_decoded, form_named, last_named, looks_inside}
 use Rattle.machine.proofs.decode.decode.Goals as goal
 
 pub returns-then-not-has_form-clause-check : goal.returns-then-not-has_form-clause-check

@@ -1,4 +1,4 @@
-use Rattle.machine.proofs.Ends.{length_ends, ends_length}
+use Rattle.machine.proofs.DecodeLaw.{length_ends, ends_length}
 use Rattle.machine.proofs.decode.instructions_end_at_marks.Goals as goal
 
 pub returns : goal.returns

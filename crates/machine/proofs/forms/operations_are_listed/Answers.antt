@@ -1,4 +1,4 @@
-use Rattle.machine.proofs.Listed.{operation_listed, form_listed, meaning_listed, addresses_listed}
+use Rattle.machine.proofs.FormLaw.{operation_listed, form_listed, meaning_listed, addresses_listed}
 use Rattle.machine.proofs.forms.operations_are_listed.Goals as goal
 
 pub returns-clause-operations : goal.returns-clause-operations

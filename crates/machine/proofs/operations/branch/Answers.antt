@@ -2,7 +2,7 @@ use Rattle.std.proofs.Common.{◌≢◌, ◌∙◌, arith}
 use Rattle.machine.specs.Effect.{works_of}
 use Rattle.machine.specs.Branches.{condition_of}
 use Rattle.machine.specs.Instructions.{decoded_by, condition_by}
-use Rattle.machine.proofs.Named.{meant_by_four, meant_by_five, meant_by_eight, on_condition, on_character, always, character_inside}
+use Rattle.machine.proofs.OperationNames.{meant_by_four, meant_by_five, meant_by_eight, on_condition, on_character, always, character_inside}
 use Rattle.machine.proofs.operations.branch.Goals as goal
 
 pub returns-then-instruction-eq5 : goal.returns-then-instruction-eq5

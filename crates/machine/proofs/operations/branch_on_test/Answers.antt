@@ -1,7 +1,7 @@
 use Rattle.std.proofs.Common.{◌∙◌, sym}
 use Rattle.machine.specs.Effect.{works_of}
 use Rattle.machine.specs.Instructions.{decoded_by}
-use Rattle.machine.proofs.Named.{meant_by_test, meant_by_no_test, always, test_inside, test_passed, test_failed}
+use Rattle.machine.proofs.OperationNames.{meant_by_test, meant_by_no_test, always, test_inside, test_passed, test_failed}
 use Rattle.machine.proofs.operations.branch_on_test.Goals as goal
 
 pub returns-in_default : goal.returns-in_default

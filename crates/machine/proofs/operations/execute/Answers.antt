@@ -5,8 +5,8 @@ use Rattle.machine.specs.Effect.{effect, works_of}
 use Rattle.machine.specs.declared.operations.Course.TheVariants.{GoesOn, Halts}
 use Rattle.machine.specs.Instructions.{operation_by}
 use Rattle.machine.specs.Word.{devices}
-use Rattle.machine.proofs.Executed.{outcome_is, done, refused, done_apart, refused_apart, done_beside, refused_beside}
-use Rattle.machine.proofs.Named.{names_add, names_blank, names_branch, names_branch_on_mark_or_zone, names_clear_mark, names_clear_storage, names_compare, names_edit, names_halt, names_load, names_modify_address, names_move, names_move_carriage, names_move_digit, names_move_zone, names_none, names_set_mark, names_store_a, names_store_b, names_subtract, names_suppress, names_units, names_zero_add, names_zero_subtract}
+use Rattle.machine.proofs.OperationEffects.{outcome_is, done, refused, done_apart, refused_apart, done_beside, refused_beside}
+use Rattle.machine.proofs.OperationNames.{names_add, names_blank, names_branch, names_branch_on_mark_or_zone, names_clear_mark, names_clear_storage, names_compare, names_edit, names_halt, names_load, names_modify_address, names_move, names_move_carriage, names_move_digit, names_move_zone, names_none, names_set_mark, names_store_a, names_store_b, names_subtract, names_suppress, names_units, names_zero_add, names_zero_subtract}
 use Rattle.machine.proofs.operations.execute.Goals as goal
 use Rattle.machine.proofs.operations.execute.Goals.{in_default-via-then-this-lt1, in_default-via-else-this-lt1+else-this-lt8}
 

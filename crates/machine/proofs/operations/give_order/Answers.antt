@@ -1,7 +1,7 @@
 use Rattle.std.proofs.Common.{◌∙◌, sym}
 use Rattle.machine.specs.Effect.{works_of}
 use Rattle.machine.specs.Instructions.{decoded_by}
-use Rattle.machine.proofs.Named.{meant_by_order, meant_by_no_order, ordered, order_refused, not_ordered}
+use Rattle.machine.proofs.OperationNames.{meant_by_order, meant_by_no_order, ordered, order_refused, not_ordered}
 use Rattle.machine.proofs.operations.give_order.Goals as goal
 
 pub returns-in-Err-clause-refused : goal.returns-in-Err-clause-refused

@@ -1,4 +1,4 @@
-use Rattle.moves.proofs.Shown.{is_shown}
+use Rattle.moves.proofs.EditingLaw.{is_shown}
 use Rattle.moves.proofs.editing.edited_shows_the_data.Goals as goal
 
 pub returns : goal.returns

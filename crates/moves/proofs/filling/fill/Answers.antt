@@ -2,7 +2,7 @@ use Rattle.std.proofs.Common.{◌+◌, ◌-◌, ◌<◌, if◌then◌else◌, re
 use Rattle.core_store.specs.Storage.{codes_ending}
 use Rattle.core_store.proofs.Fields.{length-codes_ending}
 use Rattle.moves.proofs.Copying.{size_on}
-use Rattle.moves.proofs.Edits.{filled_on, right_on, through_on, seen_all, through_within, place_is_digit, other_is_kept, other_is_no_zero}
+use Rattle.moves.proofs.FillingLemmas.{filled_on, right_on, through_on, seen_all, through_within, place_is_digit, other_is_kept, other_is_no_zero}
 use Rattle.moves.specs.Characters.{bare_units, from_right}
 use Rattle.moves.proofs.filling.fill.Goals.{then-is_place, else-is_place}
 use Rattle.moves.proofs.filling.fill.Goals as goal

@@ -2,7 +2,7 @@ use Rattle.std.proofs.Common.{◌≡◌, ◌+◌, ◌-◌, ◌≤◌, length}
 use Rattle.core_store.specs.Storage.{put_codes, codes_ending}
 use Rattle.moves.specs.Characters.{bare_units}
 use Rattle.moves.specs.Edited.{places, filled}
-use Rattle.moves.proofs.Edits.{through_seen}
+use Rattle.moves.proofs.FillingLemmas.{through_seen}
 use Rattle.moves.proofs.filling.fill.Given as goal
 
 abbrev pub invariant-loop-i : goal.invariant-loop-i

@@ -1,7 +1,7 @@
 use Rattle.std.proofs.Common.{◌<◌, ◌∙◌, ap, length}
 use Rattle.std.proofs.lemmas.List.Elements.{All-same}
 use Rattle.moves.proofs.Copying.{length_bare_units}
-use Rattle.moves.proofs.Fading.{bare_lanes, bare_all_below}
+use Rattle.moves.proofs.LaneBlanks.{bare_lanes, bare_all_below}
 use Rattle.moves.proofs.lanes.bare_units.Goals as goal
 
 pub returns-clause-bare : goal.returns-clause-bare

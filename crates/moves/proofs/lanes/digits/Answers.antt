@@ -3,7 +3,7 @@ use Rattle.std.specs.Simd.Lanes.{mask_l, zip2}
 use Rattle.std.proofs.lemmas.List.{length-map}
 use Rattle.std.proofs.lemmas.Simd.{bitmask_splat, zip2_splat}
 use mir.Syntax.{w8}
-use Rattle.moves.proofs.Fading.{lanes_digit}
+use Rattle.moves.proofs.LaneBlanks.{lanes_digit}
 use Rattle.moves.proofs.lanes.digits.Goals as goal
 
 pub returns : goal.returns

@@ -2,7 +2,7 @@ use Rattle.std.proofs.Common.{◌-◌, ◌∙◌, ap, leb, take, drop, replicate
 use Rattle.std.specs.Simd.Lanes.{sel_l, chunk}
 use Rattle.std.proofs.lemmas.Simd.{tops_compared}
 use mir.Syntax.{w8}
-use Rattle.moves.proofs.Sixteen.{edge, last_is}
+use Rattle.moves.proofs.LaneLemmas.{edge, last_is}
 use Rattle.moves.proofs.lanes.last_of.Goals as goal
 
 pub returns : goal.returns

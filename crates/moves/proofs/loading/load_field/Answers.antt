@@ -1,5 +1,5 @@
 use Rattle.std.proofs.Common.{arith}
-use Rattle.moves.proofs.NearLoads.{load_passes}
+use Rattle.moves.proofs.LoadingLemmas.{load_passes}
 use Rattle.moves.proofs.loading.load_field.Goals as goal
 
 pub returns-clause-done : goal.returns-clause-done

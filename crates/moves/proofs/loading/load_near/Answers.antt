@@ -1,6 +1,6 @@
 use Rattle.std.proofs.Common.{◌≤◌, arith}
-use Rattle.moves.proofs.NearLoads.{near_loaded}
-use Rattle.moves.proofs.Positions.{field_is}
+use Rattle.moves.proofs.LoadingLemmas.{near_loaded}
+use Rattle.moves.proofs.PositionLaw.{field_is}
 use Rattle.moves.proofs.loading.load_near.Goals as goal
 
 pub set_mark-requires : goal.set_mark-requires

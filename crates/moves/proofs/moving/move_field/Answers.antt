@@ -1,5 +1,5 @@
 use Rattle.std.proofs.Common.{arith}
-use Rattle.moves.proofs.NearMoves.{move_passes}
+use Rattle.moves.proofs.MovingNear.{move_passes}
 use Rattle.moves.proofs.moving.move_field.Goals as goal
 
 pub returns-clause-done : goal.returns-clause-done

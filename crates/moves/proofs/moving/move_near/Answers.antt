@@ -1,4 +1,4 @@
-use Rattle.moves.proofs.NearMoves.{near_moved}
+use Rattle.moves.proofs.MovingNear.{near_moved}
 use Rattle.moves.proofs.moving.move_near.Goals as goal
 
 pub returns : goal.returns

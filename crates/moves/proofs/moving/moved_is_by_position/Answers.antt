@@ -1,4 +1,4 @@
-use Rattle.moves.proofs.Positions.{is_moved}
+use Rattle.moves.proofs.PositionLaw.{is_moved}
 use Rattle.moves.proofs.moving.moved_is_by_position.Goals as goal
 
 pub returns : goal.returns

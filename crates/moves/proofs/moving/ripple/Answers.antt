@@ -1,5 +1,5 @@
 use Rattle.std.proofs.Common.{◌-◌, arith}
-use Rattle.moves.proofs.Moves.{moved_on}
+use Rattle.moves.proofs.MovingLemmas.{moved_on}
 use Rattle.moves.proofs.Copying.{size_on}
 use Rattle.moves.proofs.moving.ripple.Goals as goal
 

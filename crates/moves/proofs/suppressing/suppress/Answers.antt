@@ -1,5 +1,5 @@
 use Rattle.std.proofs.Common.{arith}
-use Rattle.moves.proofs.Fading.{suppress_passes}
+use Rattle.moves.proofs.LaneBlanks.{suppress_passes}
 use Rattle.moves.proofs.suppressing.suppress.Goals as goal
 
 pub returns-clause-done : goal.returns-clause-done

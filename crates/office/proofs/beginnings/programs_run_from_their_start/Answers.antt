@@ -2,7 +2,7 @@ use Rattle.std.proofs.Common.{◌++◌, refl}
 use Rattle.machine.specs.Run.{loaded}
 use Rattle.loader.specs.Cards.{loading_cards}
 use Rattle.loader.specs.Loading.{at_the_start, instructions_to_load}
-use Rattle.office.proofs.PastLoading.{whole_alike}
+use Rattle.office.proofs.BeginningLaw.{whole_alike}
 use Rattle.office.proofs.beginnings.programs_run_from_their_start.Goals as goal
 
 pub returns : goal.returns

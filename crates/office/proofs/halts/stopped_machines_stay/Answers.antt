@@ -1,4 +1,4 @@
-use Rattle.office.proofs.Stopping.{stays, one_end, passes}
+use Rattle.office.proofs.HaltLemmas.{stays, one_end, passes}
 use Rattle.office.proofs.halts.stopped_machines_stay.Goals as goal
 
 pub returns : goal.returns

@@ -1,4 +1,4 @@
-use Rattle.office.proofs.Stopping.{end_alike}
+use Rattle.office.proofs.HaltLemmas.{end_alike}
 use Rattle.office.proofs.halts.whole_runs_end_alike.Goals as goal
 
 pub returns : goal.returns

@@ -1,4 +1,4 @@
-use Rattle.office.proofs.Commanding.{acts}
+use Rattle.office.proofs.CommandLaw.{acts}
 use Rattle.office.proofs.laws.commands_act_on_pictures.Goals as goal
 
 pub returns : goal.returns

@@ -1,4 +1,4 @@
-use Rattle.office.proofs.Keeping.{new_jobs_are, jobs_stay, jobs_in_range}
+use Rattle.office.proofs.KeepingLaw.{new_jobs_are, jobs_stay, jobs_in_range}
 use Rattle.office.proofs.laws.commands_keep_jobs.Goals as goal
 
 pub returns : goal.returns

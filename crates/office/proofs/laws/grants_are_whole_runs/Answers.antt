@@ -1,4 +1,4 @@
-use Rattle.office.proofs.Granting.{has_run_whole}
+use Rattle.office.proofs.GrantLaw.{has_run_whole}
 use Rattle.office.proofs.laws.grants_are_whole_runs.Goals as goal
 
 pub returns : goal.returns

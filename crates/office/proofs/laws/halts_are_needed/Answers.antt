@@ -1,4 +1,4 @@
-use Rattle.office.proofs.Needed.{halts_are_needed}
+use Rattle.office.proofs.NeededHaltLaw.{halts_are_needed}
 use Rattle.office.proofs.laws.halts_are_needed.Goals as goal
 
 pub returns : goal.returns

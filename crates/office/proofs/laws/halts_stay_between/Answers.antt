@@ -1,4 +1,4 @@
-use Rattle.office.proofs.Granting.{new_between, sliced, started_between}
+use Rattle.office.proofs.GrantLaw.{new_between, sliced, started_between}
 use Rattle.office.proofs.laws.halts_stay_between.Goals as goal
 
 pub returns : goal.returns

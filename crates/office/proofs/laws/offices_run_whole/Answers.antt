@@ -1,4 +1,4 @@
-use Rattle.office.proofs.OfSources.{all_run_whole}
+use Rattle.office.proofs.SourceLaw.{all_run_whole}
 use Rattle.office.proofs.laws.offices_run_whole.Goals as goal
 
 pub returns : goal.returns

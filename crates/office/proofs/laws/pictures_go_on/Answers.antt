@@ -1,5 +1,5 @@
 use Rattle.office.specs.Jobs.{beginning}
-use Rattle.office.proofs.Granting.{resumed_more, resumed_started}
+use Rattle.office.proofs.GrantLaw.{resumed_more, resumed_started}
 use Rattle.office.proofs.laws.pictures_go_on.Goals as goal
 
 pub returns : goal.returns

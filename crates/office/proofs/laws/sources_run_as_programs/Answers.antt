@@ -1,4 +1,4 @@
-use Rattle.office.proofs.OfSources.{source_run_whole}
+use Rattle.office.proofs.SourceLaw.{source_run_whole}
 use Rattle.office.proofs.laws.sources_run_as_programs.Goals as goal
 
 pub returns : goal.returns

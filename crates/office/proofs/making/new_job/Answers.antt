@@ -1,6 +1,6 @@
 use Rattle.std.proofs.Common.{sym, ◌∙◌}
 use Rattle.office.specs.New.{new_job}
-use Rattle.office.proofs.Keeping.{taken_as, kept_as}
+use Rattle.office.proofs.KeepingLaw.{taken_as, kept_as}
 use Rattle.office.proofs.making.new_job.Goals as goal
 
 pub returns-in-Ok-load-clause-job : goal.returns-in-Ok-load-clause-job

@@ -1,4 +1,4 @@
-use Rattle.office.proofs.Repeating.{taken_twice}
+use Rattle.office.proofs.OfficeRepeats.{taken_twice}
 use Rattle.office.proofs.offices.submissions_repeat.Goals as goal
 
 pub returns : goal.returns

@@ -1,5 +1,5 @@
 use Rattle.std.proofs.Common.{arith}
-use Rattle.office.proofs.Lasting.{some_of, last_granted, more_in_last}
+use Rattle.office.proofs.StretchLemmas.{some_of, last_granted, more_in_last}
 use Rattle.office.proofs.stretches.grant_more.Goals as goal
 
 pub overflow_add-last : goal.overflow_add-last

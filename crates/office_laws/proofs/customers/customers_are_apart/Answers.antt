@@ -1,4 +1,4 @@
-use Rattle.office_laws.proofs.Owning.{are_apart, others_change_nothing, replies_alone}
+use Rattle.office_laws.proofs.CustomerLaw.{are_apart, others_change_nothing, replies_alone}
 use Rattle.office_laws.proofs.customers.customers_are_apart.Goals as goal
 
 pub returns : goal.returns

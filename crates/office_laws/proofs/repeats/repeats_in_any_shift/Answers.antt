@@ -1,4 +1,4 @@
-use Rattle.office_laws.proofs.Again.{kept_repeat, lost_repeat}
+use Rattle.office_laws.proofs.RepeatLaw.{kept_repeat, lost_repeat}
 use Rattle.office_laws.proofs.repeats.repeats_in_any_shift.Goals as goal
 
 pub returns : goal.returns

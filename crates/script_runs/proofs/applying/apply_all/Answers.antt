@@ -7,7 +7,7 @@ use Rattle.script_runs.specs.Running.{attempted_by_all, office_after, replies_to
 use Rattle.scripts.specs.Replies.{fault_line}
 use Rattle.ledger_tables.specs.Faults.{fault_number}
 use Rattle.script_runs.specs.declared.endings.ScriptEnd.TheVariants as ended
-use Rattle.script_runs.proofs.Folding.{begun_after, left_after, left_either, nothing_sent, office_more, part_more, refused_more, risen_just, risen_more, risen_on_fault, sends_more}
+use Rattle.script_runs.proofs.ApplyingLemmas.{begun_after, left_after, left_either, nothing_sent, office_more, part_more, refused_more, risen_just, risen_more, risen_on_fault, sends_more}
 use Rattle.script_runs.proofs.applying.apply_all.Goals as goal
 
 pub loop-command-init : goal.loop-command-init

@@ -1,7 +1,7 @@
 use Rattle.std.proofs.Common.{refl, inl, inr, subst}
 use Rattle.scripts.specs.Scripts.{IsFaultOf}
 use Rattle.scripts.specs.declared.faults.ScriptFault.TheVariants as fault
-use Rattle.script_runs.proofs.Closing.{long_is_other, line_is_other, read_as, read_bad}
+use Rattle.script_runs.proofs.RunningLemmas.{long_is_other, line_is_other, read_as, read_bad}
 use Rattle.script_runs.proofs.running.script.Goals as goal
 
 pub returns-in-Ok-parse-clause-end : goal.returns-in-Ok-parse-clause-end

@@ -1,5 +1,5 @@
 use Rattle.std.proofs.Common.{Err, ap}
-use Rattle.script_runs.proofs.Folding.{only_memory}
+use Rattle.script_runs.proofs.ApplyingLemmas.{only_memory}
 use Rattle.script_runs.proofs.steps.carry_out.Goals as goal
 
 pub returns-clause-step : goal.returns-clause-step

@@ -1,7 +1,7 @@
 use Rattle.std.proofs.Common.{subst}
 use Rattle.scripts.specs.Replies.{fault_line}
 use Rattle.script_runs.specs.Steps.{SendsSome}
-use Rattle.script_runs.proofs.Folding.{sends_some}
+use Rattle.script_runs.proofs.ApplyingLemmas.{sends_some}
 use Rattle.script_runs.proofs.steps.report.Goals as goal
 
 pub returns : goal.returns

@@ -3,7 +3,7 @@ use Rattle.std.proofs.lemmas.Bool.{cases_lt}
 use Rattle.std.proofs.lemmas.List.{nil_from_length, take-append-drop}
 use Rattle.cards.specs.Files.{text_of}
 use Rattle.scripts.specs.Scripts.{HasFaultOfCards}
-use Rattle.scripts.proofs.Standing.{as_many, bad_card, deck_read, fault_of_cards, no_card_at, text_length, too_few}
+use Rattle.scripts.proofs.DeckLemmas.{as_many, bad_card, deck_read, fault_of_cards, no_card_at, text_length, too_few}
 use Rattle.scripts.proofs.decks.deck_in.Goals as goal
 
 pub returns-in-Err-clause-fault : goal.returns-in-Err-clause-fault

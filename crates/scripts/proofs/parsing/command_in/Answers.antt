@@ -1,7 +1,7 @@
 use Rattle.std.proofs.Common.{subst}
 use Rattle.scripts.specs.Commands.{IsSaidIn}
 use Rattle.std.proofs.lemmas.Result.{IfErr-weaker, IfOk-weaker}
-use Rattle.scripts.proofs.Lining.{bad_line, headed, headed_fault, headed_shorter, headed_some, no_line}
+use Rattle.scripts.proofs.ParsingLemmas.{bad_line, headed, headed_fault, headed_shorter, headed_some, no_line}
 use Rattle.scripts.proofs.parsing.command_in.Goals as goal
 
 pub returns-in_default-clause-fault : goal.returns-in_default-clause-fault

@@ -2,7 +2,7 @@ use Rattle.std.proofs.Common.{List, ℕ, [], ◌∷◌, ◌++◌, ◌∙◌, app
 use Rattle.std.specs.List.{flat_map}
 use Rattle.scripts.specs.Pieces.{piece_bytes}
 use Rattle.scripts.specs.Sending.{WritesPart}
-use Rattle.scripts.proofs.Sendings.{part_of_list}
+use Rattle.scripts.proofs.SendingLemmas.{part_of_list}
 use Rattle.scripts.proofs.pieces.put_all.Goals as goal
 
 pub returns-in-Err-put_piece : goal.returns-in-Err-put_piece

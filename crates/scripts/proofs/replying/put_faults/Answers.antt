@@ -1,6 +1,6 @@
 use Rattle.std.proofs.Common.{List, ℕ, [], ◌∷◌, ◌++◌, ◌∙◌, ap, append-nil, codes, decimal}
 use Rattle.scripts.specs.Replies.{fault_words}
-use Rattle.scripts.proofs.Sendings.{fault_item, part_of_list}
+use Rattle.scripts.proofs.SendingLemmas.{fault_item, part_of_list}
 use Rattle.scripts.proofs.replying.put_faults.Goals as goal
 
 pub returns-in-Err-put_all : goal.returns-in-Err-put_all

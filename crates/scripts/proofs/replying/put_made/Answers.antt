@@ -1,6 +1,6 @@
 use Rattle.std.proofs.Common.{List, ℕ, subst}
 use Rattle.scripts.specs.Sending.{Writes}
-use Rattle.scripts.proofs.Sendings.{made_pieces}
+use Rattle.scripts.proofs.SendingLemmas.{made_pieces}
 use Rattle.scripts.proofs.replying.put_made.Goals as goal
 
 pub returns : goal.returns

@@ -1,7 +1,7 @@
 use Rattle.std.proofs.Common.{List, ℕ, [], ◌∷◌, ◌++◌, ◌∙◌, ap, append-nil, codes, decimal, rules}
 use Rattle.office.specs.Queued.{QueuedJob}
 use Rattle.scripts.specs.Replies.{queued_words}
-use Rattle.scripts.proofs.Sendings.{part_of_list, queued_item}
+use Rattle.scripts.proofs.SendingLemmas.{part_of_list, queued_item}
 use Rattle.scripts.proofs.replying.put_queue.Goals as goal
 
 pub returns-in-Err-put_all : goal.returns-in-Err-put_all

@@ -1,7 +1,7 @@
 use Rattle.std.proofs.Common.{List, ℕ, [], ◌∷◌, codes, subst}
 use Rattle.scripts.specs.Replies.{made_words}
 use Rattle.scripts.specs.Sending.{Writes, WritesPart}
-use Rattle.scripts.proofs.Sendings.{joined, part_first, writes_after}
+use Rattle.scripts.proofs.SendingLemmas.{joined, part_first, writes_after}
 use Rattle.scripts.proofs.replying.put_summary.Goals as goal
 
 pub returns-in-Ok : goal.returns-in-Ok

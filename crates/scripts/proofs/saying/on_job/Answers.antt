@@ -1,6 +1,6 @@
 use Rattle.std.proofs.Common.{subst}
 use Rattle.scripts.specs.Commands.{AreFound}
-use Rattle.scripts.proofs.NoCommands.{job_nothing}
+use Rattle.scripts.proofs.SayingLemmas.{job_nothing}
 use Rattle.scripts.proofs.saying.on_job.Goals as goal
 
 pub returns-in_default : goal.returns-in_default

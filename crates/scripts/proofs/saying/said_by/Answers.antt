@@ -1,6 +1,6 @@
 use Rattle.std.proofs.Common.{List, ℕ, [], ◌∷◌, IfOk, arith, inl, inr, rules, subst, sym}
 use Rattle.scripts.specs.Commands.{IsSaidBy}
-use Rattle.scripts.proofs.NoCommands.{four_words, other_words, seven_words, three_words}
+use Rattle.scripts.proofs.SayingLemmas.{four_words, other_words, seven_words, three_words}
 use Rattle.scripts.proofs.saying.said_by.Goals.{in_default-via-then-words-lt1, in_default-via-else-words-lt1+else-words-lt2+else-words-lt3+else-words-lt4+else-words-lt5+then-words-lt7, in_default-via-else-words-lt1+else-words-lt2+else-words-lt3+else-words-lt4+else-words-lt5+else-words-lt7+else-words-lt8}
 use Rattle.scripts.proofs.saying.said_by.Goals as goal
 

@@ -2,7 +2,7 @@ use Rattle.std.proofs.Common.{◌∙◌, List, ℕ, ap, map, subst}
 use Rattle.std.specs.Borrow.{Bor}
 use Rattle.std.proofs.lemmas.Result.{IfOk-weaker}
 use Rattle.scripts.specs.Commands.{IsSaidBy}
-use Rattle.scripts.proofs.NoCommands.{said_of}
+use Rattle.scripts.proofs.SayingLemmas.{said_of}
 use Rattle.scripts.proofs.saying.said_in.Goals as goal
 
 pub returns-in-Some : goal.returns-in-Some

@@ -1,6 +1,6 @@
 use Rattle.std.proofs.Common.{arith, ◌-◌, length, drop}
 use Rattle.std.proofs.lemmas.List.{length-drop, length-take}
-use Rattle.scripts.proofs.Sendings.{sent_more}
+use Rattle.scripts.proofs.SendingLemmas.{sent_more}
 use Rattle.scripts.proofs.sending.send.Goals as goal
 
 pub loop-sent-preserved : goal.loop-sent-preserved

@@ -1,5 +1,5 @@
 use Rattle.std.proofs.Common.{inl, inr, ◌≡◌, ◌⊎◌, ◌<◌, rules}
-use Rattle.scripts.proofs.Spelling.{no_count, zero_count}
+use Rattle.scripts.proofs.TextLemmas.{no_count, zero_count}
 use Rattle.scripts.proofs.texts.count_of.Goals.{then-number-eq0-via-then-number-eq0, then-number-eq0-via-else-number-eq0+then-number-gt-MOST_CARDS}
 use Rattle.scripts.proofs.texts.count_of.Goals as goal
 

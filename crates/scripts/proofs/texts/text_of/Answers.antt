@@ -1,5 +1,5 @@
 use Rattle.std.proofs.Common.{◌∙◌, sym}
-use Rattle.scripts.proofs.Spelling.{no_text, own_text}
+use Rattle.scripts.proofs.TextLemmas.{no_text, own_text}
 use Rattle.scripts.proofs.texts.text_of.Goals as goal
 
 pub returns-in-Ok : goal.returns-in-Ok

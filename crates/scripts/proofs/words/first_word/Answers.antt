@@ -1,4 +1,4 @@
-use Rattle.scripts.proofs.Parting.{word_found, words_alone}
+use Rattle.scripts.proofs.WordLemmas.{word_found, words_alone}
 use Rattle.scripts.proofs.words.first_word.Goals as goal
 
 pub returns-in-Some-clause-more : goal.returns-in-Some-clause-more

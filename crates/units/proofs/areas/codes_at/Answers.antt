@@ -1,5 +1,5 @@
 use Rattle.std.proofs.Common.{arith}
-use Rattle.units.proofs.Writing.{read_none, read_step}
+use Rattle.units.proofs.AreaLemmas.{read_none, read_step}
 use Rattle.units.proofs.areas.codes_at.Goals as goal
 
 pub loop-place-init : goal.loop-place-init

@@ -1,4 +1,4 @@
-use Rattle.units.proofs.Writing.{IsRead}
+use Rattle.units.proofs.AreaLemmas.{IsRead}
 use Rattle.units.proofs.areas.codes_at.Given as goal
 
 abbrev pub invariant-loop-place : goal.invariant-loop-place

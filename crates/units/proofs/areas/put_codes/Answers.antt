@@ -1,5 +1,5 @@
 use Rattle.std.proofs.Common.{arith}
-use Rattle.units.proofs.Writing.{write_step}
+use Rattle.units.proofs.AreaLemmas.{write_step}
 use Rattle.units.proofs.areas.put_codes.Goals as goal
 
 pub loop-place-preserved : goal.loop-place-preserved

@@ -1,4 +1,4 @@
-use Rattle.units.proofs.Writing.{IsWritten}
+use Rattle.units.proofs.AreaLemmas.{IsWritten}
 use Rattle.units.proofs.areas.put_codes.Given as goal
 
 abbrev pub invariant-loop-place : goal.invariant-loop-place

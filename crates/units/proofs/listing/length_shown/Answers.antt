@@ -1,5 +1,5 @@
 use Rattle.std.proofs.Common.{arith}
-use Rattle.units.proofs.Listings.{text_is}
+use Rattle.units.proofs.ListingLines.{text_is}
 use Rattle.units.proofs.listing.length_shown.Goals as goal
 
 pub returns-clause-text : goal.returns-clause-text

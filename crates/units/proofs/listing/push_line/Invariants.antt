@@ -1,4 +1,4 @@
-use Rattle.units.proofs.Listings.{IsFilled}
+use Rattle.units.proofs.ListingLines.{IsFilled}
 use Rattle.units.proofs.listing.push_line.Given as goal
 
 abbrev pub invariant-loop-place : goal.invariant-loop-place

@@ -1,5 +1,5 @@
 use Rattle.std.proofs.Common.{◌∙◌, ◌<◌, [], ap, sym, subst, arith, take, length}
-use Rattle.units.proofs.Listings.{IsShown, IsReached, shown_none, shown_more, rises_to, same_form, first_form, next_form}
+use Rattle.units.proofs.ListingLines.{IsShown, IsReached, shown_none, shown_more, rises_to, same_form, first_form, next_form}
 use Rattle.units.proofs.listing.render.Goals as goal
 use Rattle.units.proofs.listing.render.Goals.{then-line-form, then-form-gt0+in_ok-push, else-form-gt0, else-line-form}
 

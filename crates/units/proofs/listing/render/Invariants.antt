@@ -1,6 +1,6 @@
 use Rattle.std.proofs.Common.{take}
 use Rattle.units.specs.Listing.{IsRising}
-use Rattle.units.proofs.Listings.{IsShown}
+use Rattle.units.proofs.ListingLines.{IsShown}
 use Rattle.units.proofs.listing.render.Given as goal
 
 abbrev pub invariant-loop-line : goal.invariant-loop-line

@@ -1,5 +1,5 @@
 use Rattle.std.proofs.Common.{false, ◌-◌, ◌∙◌, ap, arith, length, set, length-set}
-use Rattle.core_store.proofs.Copies.{clear_none, clear_step}
+use Rattle.core_store.proofs.FlagCopies.{clear_none, clear_step}
 use Rattle.core_store.proofs.flags.FlagCoreCore.clear.Goals as goal
 
 pub loop-p-init : goal.loop-p-init

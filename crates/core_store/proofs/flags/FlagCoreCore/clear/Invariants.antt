@@ -1,5 +1,5 @@
 use Rattle.std.proofs.Common.{◌≡◌, ◌+◌, ◌≤◌, length}
-use Rattle.core_store.proofs.Copies.{Cleared}
+use Rattle.core_store.proofs.FlagCopies.{Cleared}
 use Rattle.core_store.proofs.flags.FlagCoreCore.clear.Given as goal
 
 abbrev pub invariant-loop-p : goal.invariant-loop-p

@@ -1,6 +1,6 @@
 use Rattle.std.proofs.Common.{false, ◌-◌, ◌∙◌, refl, ap, arith, length, length-set}
 use Rattle.std.proofs.lemmas.List.{get_or_default}
-use Rattle.core_store.proofs.Copies.{load_none, load_step}
+use Rattle.core_store.proofs.FlagCopies.{load_none, load_step}
 use Rattle.core_store.proofs.flags.FlagCoreCore.move_cells.Goals as goal
 
 pub loop-i-init : goal.loop-i-init

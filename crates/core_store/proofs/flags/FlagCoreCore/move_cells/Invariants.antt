@@ -1,5 +1,5 @@
 use Rattle.std.proofs.Common.{◌≡◌, length}
-use Rattle.core_store.proofs.Copies.{CellsMoved}
+use Rattle.core_store.proofs.FlagCopies.{CellsMoved}
 use Rattle.core_store.proofs.flags.FlagCoreCore.move_cells.Given as goal
 
 abbrev pub invariant-loop-i : goal.invariant-loop-i

@@ -1,5 +1,5 @@
 use Rattle.std.proofs.Common.{◌-◌, ◌∙◌, ap, arith, length, refl}
-use Rattle.core_store.proofs.Copies.{move_none, move_step}
+use Rattle.core_store.proofs.FlagCopies.{move_none, move_step}
 use Rattle.core_store.proofs.Fields.{length-put}
 use Rattle.core_store.proofs.flags.FlagCoreCore.move_codes.Goals as goal
 

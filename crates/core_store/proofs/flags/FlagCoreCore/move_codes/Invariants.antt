@@ -1,5 +1,5 @@
 use Rattle.std.proofs.Common.{◌≡◌, length}
-use Rattle.core_store.proofs.Copies.{CodesMoved}
+use Rattle.core_store.proofs.FlagCopies.{CodesMoved}
 use Rattle.core_store.proofs.flags.FlagCoreCore.move_codes.Given as goal
 
 abbrev pub invariant-loop-i : goal.invariant-loop-i

@@ -1,5 +1,5 @@
 use Rattle.std.proofs.Common.{◌-◌, arith}
-use Rattle.core_store.proofs.Sixteens.{codes_ending_is}
+use Rattle.core_store.proofs.NearCodes.{codes_ending_is}
 use Rattle.core_store.proofs.flags.FlagCoreCore.near_codes.Goals as goal
 
 pub returns-clause-codes : goal.returns-clause-codes

@@ -1,5 +1,5 @@
 use Rattle.std.proofs.Common.{◌∙◌, sym, arith}
-use Rattle.core_store.proofs.Near.{near_marked, near_unmarked}
+use Rattle.core_store.proofs.NearMarks.{near_marked, near_unmarked}
 use Rattle.core_store.proofs.flags.FlagCoreCore.near_length.Goals as goal
 
 pub returns-then-is_marked-clause-length : goal.returns-then-is_marked-clause-length

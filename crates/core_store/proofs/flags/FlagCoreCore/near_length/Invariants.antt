@@ -1,4 +1,4 @@
-use Rattle.core_store.proofs.Near.{Bare}
+use Rattle.core_store.proofs.NearMarks.{Bare}
 use Rattle.core_store.proofs.flags.FlagCoreCore.near_length.Given as goal
 
 abbrev pub invariant-loop-count : goal.invariant-loop-count

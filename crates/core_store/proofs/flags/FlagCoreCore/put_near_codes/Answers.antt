@@ -1,6 +1,6 @@
 use Rattle.std.proofs.Common.{◌≡◌, ◌+◌, ◌-◌, ◌∙◌, ap, arith, refl, rules, length, get_or}
 use Rattle.core_store.proofs.Fields.{length-put}
-use Rattle.core_store.proofs.Sixteens.{none_put, one_put}
+use Rattle.core_store.proofs.NearCodes.{none_put, one_put}
 use Rattle.core_store.proofs.flags.FlagCoreCore.put_near_codes.Goals as goal
 
 pub loop-place-init : goal.loop-place-init

@@ -1,6 +1,6 @@
 use Rattle.std.proofs.Common.{◌≡◌, ◌+◌, ◌∙◌, refl, ap, arith, length}
 use Rattle.core_store.proofs.PlaneLemmas.{length-joined}
-use Rattle.core_store.proofs.Stretches.{cells_cleared, both_written_back, filled_as}
+use Rattle.core_store.proofs.PlaneStretches.{cells_cleared, both_written_back, filled_as}
 use Rattle.core_store.proofs.planes.PlaneCoreCore.clear.Goals as goal
 
 pub returns : goal.returns

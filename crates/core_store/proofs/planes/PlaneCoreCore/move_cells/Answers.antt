@@ -1,6 +1,6 @@
 use Rattle.std.proofs.Common.{arith}
 use Rattle.core_store.proofs.PlaneLemmas.{length-joined}
-use Rattle.core_store.proofs.Stretches.{cells_copied}
+use Rattle.core_store.proofs.PlaneStretches.{cells_copied}
 use Rattle.core_store.proofs.planes.PlaneCoreCore.move_cells.Goals as goal
 
 pub returns : goal.returns

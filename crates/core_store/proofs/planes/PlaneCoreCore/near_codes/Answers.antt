@@ -1,6 +1,6 @@
 use Rattle.std.proofs.Common.{◌-◌, arith}
 use Rattle.core_store.proofs.PlaneLemmas.{length-joined}
-use Rattle.core_store.proofs.Sixteens.{codes_loaded, all_loaded}
+use Rattle.core_store.proofs.NearCodes.{codes_loaded, all_loaded}
 use Rattle.core_store.proofs.planes.PlaneCoreCore.near_codes.Goals as goal
 
 pub returns-clause-codes : goal.returns-clause-codes

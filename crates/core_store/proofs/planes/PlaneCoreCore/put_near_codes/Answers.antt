@@ -1,6 +1,6 @@
 use Rattle.std.proofs.Common.{◌-◌, arith}
 use Rattle.core_store.proofs.PlaneLemmas.{length-joined}
-use Rattle.core_store.proofs.Sixteens.{length_back, all_back, joined_back}
+use Rattle.core_store.proofs.NearCodes.{length_back, all_back, joined_back}
 use Rattle.core_store.proofs.planes.PlaneCoreCore.put_near_codes.Goals as goal
 
 pub invariant_of-self-clause-limit : goal.invariant_of-self-clause-limit

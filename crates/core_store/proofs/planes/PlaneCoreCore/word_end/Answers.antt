@@ -1,5 +1,5 @@
 use Rattle.std.proofs.Common.{arith}
-use Rattle.core_store.proofs.Words.{unmarked_word, long_word, short_word}
+use Rattle.core_store.proofs.PlaneWords.{unmarked_word, long_word, short_word}
 use Rattle.core_store.proofs.planes.PlaneCoreCore.word_end.Goals as goal
 
 pub returns-then-mask-eq0-clause-end : goal.returns-then-mask-eq0-clause-end

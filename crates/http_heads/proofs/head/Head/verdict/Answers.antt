@@ -2,7 +2,7 @@ use Rattle.std.proofs.Common.{◌≡◌, ◌≤◌, [], arith, length, rules, su
 use Rattle.std.proofs.lemmas.List.{length-take}
 use Rattle.httparse.specs.Spans.{IsRequestOf, IsRequestWithin}
 use Rattle.http_heads.specs.Reading.{ComesTo}
-use Rattle.http_heads.proofs.Judged.{judged, too_large}
+use Rattle.http_heads.proofs.HeadVerdicts.{judged, too_large}
 use Rattle.http_heads.proofs.head.Head.verdict.Goals as goal
 
 pub returns-in-Whole : goal.returns-in-Whole

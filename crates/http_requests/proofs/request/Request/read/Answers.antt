@@ -1,9 +1,9 @@
-use Rattle.http_requests.proofs.Reading.{asked_read, refused_request}
+use Rattle.http_requests.proofs.RequestReads.{asked_read, refused_request}
 use Rattle.http_requests.proofs.request.Request.read.Goals as goal
 
 pub returns-in-Refused-clause-request : goal.returns-in-Refused-clause-request
 returns-in-Refused-clause-request g c =
-    refused_request _ _ c.read-head.result c.verdict.result c.in-Refused.status c.refused.result c.read-head.ensures c.in-Refused.is c.verdict.ensures c.refused.ensures.same
+    refused_request _ _ c.read-head.result c.verdict.result c.in-Refused.status c.refusal.result c.read-head.ensures c.in-Refused.is c.verdict.ensures c.refusal.ensures.same
 
 pub returns-in-Asks-clause-request : goal.returns-in-Asks-clause-request
 returns-in-Asks-clause-request g c =

@@ -1,5 +1,5 @@
 use Rattle.std.proofs.Common.{◌++◌, length, ap, ◌∙◌}
-use Rattle.loader.proofs.Punching.{filled_length, filled_view, filled_blank, room_left}
+use Rattle.loader.proofs.ColumnFills.{filled_length, filled_view, filled_blank, room_left}
 use Rattle.loader.proofs.columns.Columns.punch.Goals as goal
 
 pub invariant_of-self : goal.invariant_of-self

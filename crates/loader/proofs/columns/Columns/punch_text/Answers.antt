@@ -1,4 +1,4 @@
-use Rattle.loader.proofs.Glyphs.{glyph_at}
+use Rattle.loader.proofs.ColumnGlyphs.{glyph_at}
 use Rattle.loader.proofs.columns.Columns.punch_text.Goals as goal
 
 pub code_of-requires : goal.code_of-requires

@@ -1,4 +1,4 @@
-use Rattle.machine.proofs.Conditions.{met_at, kept_at}
+use Rattle.machine.proofs.BranchConditions.{met_at, kept_at}
 use Rattle.machine.proofs.branches.Condition.test.Goals as goal
 
 pub returns-clause-met : goal.returns-clause-met

@@ -1,5 +1,5 @@
 use Rattle.std.proofs.Common.{◌∙◌, sym}
-use Rattle.machine.proofs.Conditions.{none_is_met}
+use Rattle.machine.proofs.BranchConditions.{none_is_met}
 use Rattle.machine.proofs.branches.Condition.test_named.Goals as goal
 
 pub returns-in_default-clause-met : goal.returns-in_default-clause-met

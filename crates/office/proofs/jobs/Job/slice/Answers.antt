@@ -1,7 +1,7 @@
 use Rattle.std.proofs.Common.{ap, subst}
 use Rattle.machine.specs.Run.{State, IsGivenUp}
 use Rattle.office.specs.Kept.{Kept}
-use Rattle.office.proofs.Meters.{on_err, given_up_within}
+use Rattle.office.proofs.JobMeters.{on_err, given_up_within}
 use Rattle.office.proofs.jobs.Job.slice.Goals as goal
 
 pub returns-in_err-ran-clause-given_up : goal.returns-in_err-ran-clause-given_up

@@ -1,4 +1,4 @@
-use Rattle.office.proofs.Meters.{at_most}
+use Rattle.office.proofs.JobMeters.{at_most}
 use Rattle.office.proofs.jobs.Job.take.Goals as goal
 
 pub returns-in-None-clause-most : goal.returns-in-None-clause-most

@@ -2,7 +2,7 @@ use Rattle.std.proofs.Common.{◌+◌, ◌≤◌, List, length, drop, sym, ap, s
 use Rattle.office.specs.Limits.{most_granted}
 use Rattle.office.specs.Jobs.{AreStretches, granted, granted_more}
 use Rattle.office.specs.declared.stretches.Stretch.{Stretch}
-use Rattle.office.proofs.Lasting.{more_fits, put_back}
+use Rattle.office.proofs.StretchLemmas.{more_fits, put_back}
 use Rattle.office.proofs.stretches.Stretches.grant.Goals as goal
 
 pub invariant_of-self : goal.invariant_of-self

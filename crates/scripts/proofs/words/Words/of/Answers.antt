@@ -1,7 +1,7 @@
 use Rattle.std.proofs.Common.{◌≡◌, ◌<◌, [], arith, length, map, rules, set, subst, take, ◌++◌, ap, sym, ◌∙◌, length-set}
 use Rattle.std.proofs.lemmas.List.{nil_from_length}
 use Rattle.scripts.specs.Words.{words_of}
-use Rattle.scripts.proofs.Parting.{empty_word, few_words, too_many, words_all, words_each}
+use Rattle.scripts.proofs.WordLemmas.{empty_word, few_words, too_many, words_all, words_each}
 use Rattle.scripts.proofs.words.Words.of.Goals as goal
 
 pub returns-then-count-eq-MOST_WORDS-clause-none : goal.returns-then-count-eq-MOST_WORDS-clause-none

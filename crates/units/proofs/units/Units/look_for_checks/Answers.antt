@@ -1,5 +1,5 @@
 use Rattle.std.proofs.Common.{refl}
-use Rattle.units.proofs.Together.{reader_check, punch_check, printer_check}
+use Rattle.units.proofs.OperationLemmas.{reader_check, punch_check, printer_check}
 use Rattle.units.proofs.units.Units.look_for_checks.Goals as goal
 
 pub returns-then-reader_stops-clause-check : goal.returns-then-reader_stops-clause-check

@@ -1,0 +1,31 @@
+use Rattle.std.proofs.Common.{◌≡◌, rules}
+use Rattle.std.specs.Fmt.{digits}
+use Rattle.http_replies.specs.Fixed.{refusing_status}
+use Rattle.http_replies.proofs.FixedStatuses.{answer_at, answer_else}
+use Rattle.http_replies.proofs.fixed.refusal_answer.Goals as goal
+
+pub returns-in-404 : goal.returns-in-404
+unfolding digits
+returns-in-404 c = answer_at _ 404 c.in-404.is
+
+pub returns-in-405 : goal.returns-in-405
+unfolding digits
+returns-in-405 c = answer_at _ 405 c.in-405.is
+
+pub returns-in-411 : goal.returns-in-411
+unfolding digits
+returns-in-411 c = answer_at _ 411 c.in-411.is
+
+pub returns-in-413 : goal.returns-in-413
+unfolding digits
+returns-in-413 c = answer_at _ 413 c.in-413.is
+
+pub returns-in-431 : goal.returns-in-431
+unfolding digits
+returns-in-431 c = answer_at _ 431 c.in-431.is
+
+pub returns-in_default : goal.returns-in_default
+unfolding digits
+returns-in_default c =
+    let other : refusing_status c.args.status ≡ 400 = search rules in
+    answer_else c.args.status other

@@ -1,0 +1,48 @@
+-- What is read back of a job.
+use Rattle.std.proofs.Common.{◌≡◌, ◌<◌, ◌-◌, ◌%◌, ℕ, zero, suc, List, [], ◌∷◌, length, get_or, Option, Some, refl, sym, ap, ◌∙◌, arith}
+use Rattle.std.specs.List.{All, AllByRecursion}
+use Rattle.std.proofs.lemmas.List.Elements.{recursion_from_All}
+use Rattle.machine.specs.Run.{State, started, after}
+use Rattle.office.specs.Jobs.{Job, resumed, picture, loaded_deck, HasSwitches}
+use Rattle.office.specs.declared.stretches.Stretch.{Stretch}
+use Rattle.ledger_rows.proofs.FromCellsRows.{AreTold}
+use Rattle.ledger_tables.specs.declared.rows.StretchRow.{StretchRow}
+use Rattle.units.specs.Switches.{seven, AreSeven}
+use Rattle.units.specs.declared.switches.Switches.{Switches}
+use Rattle.ledger.specs.Standing.{stretch_row}
+
+-- rows of stretches tell one stretch from another
+pub stretches_told : AreTold stretch_row HasSwitches
+stretches_told s t is_s is_t same = ap (λ (r : StretchRow). let x : Stretch = record { switches = record { 0 = r.switches }; granted = r.granted } in x) same
+
+-- a set of the seven is as it is
+seven_same : (s : Switches) → AreSeven s → seven s ≡ s
+seven_same s are =
+    let same : s.0 % 128 ≡ s.0 = omega arith in
+    ap (λ n. let t : Switches = record { 0 = n } in t) same
+
+-- a machine keeps its deck through all its stretches
+module _ (law : (m : State) (count : ℕ) → (after m count).works.units.hopper.deck ≡ m.works.units.hopper.deck) where
+  resumed_deck : (m : State) (stretches : List Stretch) → (resumed m stretches).works.units.hopper.deck ≡ m.works.units.hopper.deck
+  unfolding resumed
+  resumed_deck m [] = refl
+  resumed_deck m (s ∷ stretches) = resumed_deck (after (started m s.switches) s.granted) stretches ∙ law (started m s.switches) s.granted
+
+  pub picture_deck : (job : Job) → (picture job).works.units.hopper.deck ≡ loaded_deck job
+  picture_deck job = resumed_deck _ job.stretches
+
+-- and its switches are those of the last one
+module _ (law : (m : State) (count : ℕ) → (after m count).works.units.switches ≡ m.works.units.switches) where
+  resumed_switches : (m : State) (stretches : List Stretch) (n : ℕ) (last : Stretch) → AllByRecursion HasSwitches stretches → suc n ≡ length stretches → last ≡ get_or stretches n last → (resumed m stretches).works.units.switches ≡ last.switches
+  unfolding resumed
+  resumed_switches m [] n last all some is = absurd (omega (arith, some))
+  resumed_switches m (s ∷ []) zero last all some is = law (started m s.switches) s.granted ∙ seven_same s.switches all.0 ∙ ap (λ (x : Stretch). x.switches) (sym is)
+  resumed_switches m (s ∷ []) (suc n) last all some is = absurd (omega (arith, some))
+  resumed_switches m (s ∷ t ∷ rest) zero last all some is = absurd (omega (arith, some))
+  resumed_switches m (s ∷ t ∷ rest) (suc n) last all some is = resumed_switches (after (started m s.switches) s.granted) (t ∷ rest) n last all.1 (omega (arith, some)) is
+
+  pub picture_switches : (job : Job) (last : Stretch) → All HasSwitches job.stretches → 0 < length job.stretches → last ≡ get_or job.stretches (length job.stretches - 1) last → (picture job).works.units.switches ≡ last.switches
+  picture_switches job last all some is = resumed_switches _ job.stretches (length job.stretches - 1) last (recursion_from_All HasSwitches job.stretches all) (omega (arith, some)) is
+
+pub some_is : {X : Type 0} {x y : X} → ◌≡◌ {A = Option X} (Some x) (Some y) → x ≡ y
+some_is e = cc
