@@ -262,15 +262,17 @@ fn copies_sixteen<C: Core>(alloc: Global) -> Result<bool, AllocError> {
     let codes = core.near_codes(1399);
     core.put_near_codes(15, codes);
     core.put_near_codes(31, codes);
-    Ok(core.get(0) == code(b'A')
-        && core.get(1) == code(b' ')
-        && core.get(15) == code(b'B')
-        && core.get(16) == code(b'A')
-        && core.get(31) == code(b'B')
-        && core.get(32) == code(b' ')
-        && core.is_marked(0)
-        && !core.is_marked(15)
-        && !core.is_marked(31))
+    Ok(
+        core.get(0) == code(b'A')
+            && core.get(1) == code(b' ')
+            && core.get(15) == code(b'B')
+            && core.get(16) == code(b'A')
+            && core.get(31) == code(b'B')
+            && core.get(32) == code(b' ')
+            && core.is_marked(0)
+            && !core.is_marked(15)
+            && !core.is_marked(31),
+    )
 }
 
 #[test]
