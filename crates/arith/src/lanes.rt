@@ -1,31 +1,13 @@
 //! Digits of at most sixteen characters, all at once.
 
-ghost use Rattle.std.specs.Prelude.{◌≡◌, ◌+◌, ◌-◌, ◌<◌, ◌≤◌, ◌%◌, ◌^◌, ◌==◌, ◌++◌, ℕ, All, List, bit_and, length, map, max, nat_lt, replicate, slice_index, take, drop, if◌then◌else◌, [], ◌∷◌, true};
+ghost use Rattle.std.specs.Prelude.{◌≡◌, ◌+◌, ◌-◌, ◌<◌, ◌≤◌, ◌%◌, ◌^◌, ◌++◌, All, bit_and, length, map, max, nat_lt, replicate, slice_index, take, drop, if◌then◌else◌, [], ◌∷◌, true};
 ghost use Rattle.std.specs.List.{list_any};
 ghost use Rattle.std.specs.Simd.Lanes.{sum_l, zip2};
 ghost use Rattle.bcd.specs.Table.{zone_of};
 ghost use Rattle.arith.specs.Columns.{characters, digit_of_part, number};
 
+use core_store::{last_of, replace_lanes};
 use std::simd::prelude::*;
-
-/// Sixteen bytes that are 0, and sixteen that are 255.
-const EDGE: [u8; 32] = [
-    0, 0, 0, 0, 0, 0, 0, 0, 0, 0, 0, 0, 0, 0, 0, 0, 255, 255, 255, 255, 255, 255, 255, 255, 255,
-    255, 255, 255, 255, 255, 255, 255,
-];
-
-/// The last `count` lanes, after the first lanes of others.
-#[inline(always)]
-pub fn last_of(count: u16, lanes: u8x16, others: u8x16) -> u8x16
-    requires most { count ≤ 16 }
-    requires lanes { length lanes ≡ 16 }
-    requires others { length others ≡ 16 }
-    ensures { result ≡ take (16 - count) others ++ drop (16 - count) lanes }
-{
-    u8x16::from_slice(&EDGE[count as usize..])
-        .simd_ge(u8x16::splat(128))
-        .select(lanes, others)
-}
 
 /// Some bits of each lane.
 #[inline(always)]
@@ -34,17 +16,6 @@ fn mask(lanes: u8x16, bits: u8) -> u8x16
     ensures { result ≡ map (λ lane. bit_and lane bits) lanes }
 {
     lanes & u8x16::splat(bits)
-}
-
-/// The lanes with `new` in place of `old`.
-#[inline(always)]
-fn replace_lanes(lanes: u8x16, old: u8, new: u8) -> u8x16
-    requires { length lanes ≡ 16 }
-    ensures { result ≡ map (λ lane. if lane == old then new else lane) lanes }
-{
-    lanes
-        .simd_eq(u8x16::splat(old))
-        .select(u8x16::splat(new), lanes)
 }
 
 /// The numeric parts of the last `count` characters, after lanes of 0.

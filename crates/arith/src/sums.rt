@@ -8,9 +8,9 @@ ghost use Rattle.arith.specs.Sums.{added, sum_codes, sum_overflows};
 
 use crate::decimal::{is_number, sign_zone};
 use crate::joining::{Joined, join};
-use crate::lanes::{greater, is_over, last_of, parts, sum, write_digits};
+use crate::lanes::{greater, is_over, parts, sum, write_digits};
 use crate::operands::{Counts, counts_apart, near_counts};
-use core_store::{Check, Core, Registers, is_minus, overlaps};
+use core_store::{Check, Core, Registers, is_minus, last_of, overlaps};
 use std::simd::prelude::*;
 
 /// Adds the A digits to the B field. Fails as `counts_apart` does, and with check DATA if a

@@ -12,6 +12,7 @@
 
 mod checks;
 mod flags;
+mod lanes;
 mod operands;
 mod planes;
 mod registers;
@@ -24,6 +25,7 @@ ghost use Rattle.core_store.specs.Operands.{is_overlapping, near_length};
 use bcd::Code;
 pub use checks::Check;
 pub use flags::FlagCore;
+pub use lanes::{last_of, replace_lanes};
 pub use operands::{are_inside, cut_length, field_length, is_minus, overlaps};
 pub use planes::PlaneCore;
 pub use registers::{Compared, Registers, lower};

@@ -1,6 +1,6 @@
 //! At most sixteen characters at once, as lanes.
 
-ghost use Rattle.std.specs.Prelude.{◌≡◌, ◌-◌, ◌<◌, ◌≤◌, ◌==◌, ◌++◌, ℕ, All, drop, length, map, min, take, if◌then◌else◌};
+ghost use Rattle.std.specs.Prelude.{◌≡◌, ◌-◌, ◌<◌, ◌≤◌, ◌==◌, All, drop, length, map, min};
 ghost use Rattle.std.specs.Simd.Lanes.{mask_l};
 ghost use Rattle.moves.specs.Blanked.{ends, leading, faded, blanked};
 ghost use Rattle.moves.specs.Characters.{bare_units};
@@ -8,37 +8,8 @@ ghost use Rattle.moves.specs.Edited.{places};
 ghost use Rattle.moves.specs.declared.blanking.Stop.TheVariants.{Other, Digit};
 
 use crate::blanking::Stop;
+use core_store::replace_lanes;
 use std::simd::prelude::*;
-
-/// Sixteen bytes that are 0, and sixteen that are 255.
-const EDGE: [u8; 32] = [
-    0, 0, 0, 0, 0, 0, 0, 0, 0, 0, 0, 0, 0, 0, 0, 0, 255, 255, 255, 255, 255, 255, 255, 255, 255,
-    255, 255, 255, 255, 255, 255, 255,
-];
-
-/// The last `count` lanes, after the first lanes of others.
-#[inline(always)]
-pub fn last_of(count: u16, lanes: u8x16, others: u8x16) -> u8x16
-    requires most { count ≤ 16 }
-    requires lanes { length lanes ≡ 16 }
-    requires others { length others ≡ 16 }
-    ensures { result ≡ take (16 - count) others ++ drop (16 - count) lanes }
-{
-    u8x16::from_slice(&EDGE[count as usize..])
-        .simd_ge(u8x16::splat(128))
-        .select(lanes, others)
-}
-
-/// The lanes with `new` in place of `old`.
-#[inline(always)]
-fn replace_lanes(lanes: u8x16, old: u8, new: u8) -> u8x16
-    requires { length lanes ≡ 16 }
-    ensures { result ≡ map (λ lane. if lane == old then new else lane) lanes }
-{
-    lanes
-        .simd_eq(u8x16::splat(old))
-        .select(u8x16::splat(new), lanes)
-}
 
 /// Which lanes have a value: bit 0 for the first.
 #[inline(always)]

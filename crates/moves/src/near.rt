@@ -5,8 +5,7 @@ ghost use Rattle.core_store.specs.Storage.{field_length, put_codes, largest_size
 ghost use Rattle.core_store.specs.Operands.{are_inside, is_overlapping};
 ghost use Rattle.moves.specs.Suppressed.{unmarked};
 
-use crate::lanes::last_of;
-use core_store::{Core, are_inside, overlaps};
+use core_store::{Core, are_inside, last_of, overlaps};
 use std::simd::prelude::*;
 
 /// Writes the last `count` of sixteen characters to the positions that end at B. Marks stay.

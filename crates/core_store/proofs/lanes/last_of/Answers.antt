@@ -2,8 +2,8 @@ use Rattle.std.proofs.Common.{◌-◌, ◌∙◌, ap, leb, take, drop, replicate
 use Rattle.std.specs.Simd.Lanes.{sel_l, chunk}
 use Rattle.std.proofs.lemmas.Simd.{tops_compared}
 use mir.Syntax.{w8}
-use Rattle.arith.proofs.LaneLemmas.{edge, last_is}
-use Rattle.arith.proofs.lanes.last_of.Goals as goal
+use Rattle.core_store.proofs.LaneLemmas.{edge, last_is}
+use Rattle.core_store.proofs.lanes.last_of.Goals as goal
 
 pub returns : goal.returns
 returns c =

@@ -2,8 +2,8 @@ use Rattle.std.proofs.Common.{◌∙◌, ap, eqb, replicate}
 use Rattle.std.specs.Simd.Lanes.{sel_l}
 use Rattle.std.proofs.lemmas.Simd.{tops_compared, zip2_splat}
 use mir.Syntax.{w8}
-use Rattle.arith.proofs.LaneLemmas.{sel_map}
-use Rattle.arith.proofs.lanes.replace_lanes.Goals as goal
+use Rattle.core_store.proofs.LaneLemmas.{sel_map}
+use Rattle.core_store.proofs.lanes.replace_lanes.Goals as goal
 
 pub returns : goal.returns
 returns c =
