@@ -8,7 +8,7 @@ ghost use Rattle.moves.specs.Edited.{places};
 ghost use Rattle.moves.specs.declared.blanking.Stop.TheVariants.{Other, Digit};
 
 use crate::blanking::Stop;
-use core_store::replace_lanes;
+use core_store::{last_of, replace_lanes};
 use std::simd::prelude::*;
 
 /// Which lanes have a value: bit 0 for the first.
