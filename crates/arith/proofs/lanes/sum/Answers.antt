@@ -37,4 +37,4 @@ pub returns-clause-number : goal.returns-clause-number
 returns-clause-number c =
     let sums = c.totals-sums.ensures ∙ ap (λ xs. zip2 (λ x y. x + y) xs c.digits-2.result) c.digits.ensures ∙ ap (zip2 (λ x y. x + y) (map digit_of_part c.args.a)) c.digits-2.ensures in
     let number_is = ap number sums ∙ sum_is c.args.a c.args.b (c.requires.a ∙ sym c.requires.b) in
-    elim c.if-is_over.branch [ then-is_over w ↦ ap number w.result-is ∙ w.carried.ensures.number ∙ number_is | else-is_over w ↦ ap number w.result-is ∙ number_is ]
+    elim c.if-is_over.branch [ then-is_over w ↦ ap number w.result-is ∙ w.carry.ensures.number ∙ number_is | else-is_over w ↦ ap number w.result-is ∙ number_is ]
