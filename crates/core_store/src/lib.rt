@@ -7,7 +7,8 @@
 //! no call takes memory.
 //!
 //! What several operations share is here too: how far a field or a cut of characters reaches,
-//! whether operands overlap, and how registers are lowered (`specs/Operands.antt`).
+//! whether operands overlap, how registers are lowered (`specs/Operands.antt`), and how some of
+//! sixteen characters are replaced.
 #![tactic(auto)]
 
 mod checks;
