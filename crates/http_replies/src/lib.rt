@@ -2,8 +2,8 @@
 //!
 //! [`reply_to`] returns the bytes of the office's reply, head and body; [`deck_fault`] returns
 //! those for the fault of a deck's text. [`refusal_answer`] returns the bytes that refuse a request
-//! by its status alone, and [`Fault::answer`] those of the bureau's own faults: these are fixed, and
-//! take no memory. [`send`] writes bytes, and returns how many were written.
+//! by its status alone, and [`Fault::answer`] those of the bureau's own faults: these are fixed,
+//! and take no memory. [`send`] writes bytes, and returns how many were written.
 //!
 //! `specs/Bodies.antt` defines the body of each reply, and `specs/Replies.antt` its status and its
 //! head. The contract for the layer above: the bytes of a reply are those of `reply_bytes` there.
