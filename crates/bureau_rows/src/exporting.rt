@@ -1,6 +1,6 @@
 //! Writing to files what a job has punched and printed.
 
-use crate::opening::open_bureau;
+use crate::opening::{Work, with_bureau};
 use crate::outcomes::Outcome;
 use cards::write_punched_cards;
 use counter_files::put_file;
@@ -102,16 +102,19 @@ fn write_made<S: Alter>(
     put(rt, customer, number, "lines", &made.lines)
 }
 
-/// Writes what a job of the bureau has made, and returns how that ended.
-fn export_job<S: Alter>(
-    rt: &HostRuntime,
-    bureau: &mut Bureau<S>,
-    customer: &str,
+/// The work of exporting a job.
+#[derive(Drop)]
+struct ExportWork<'a> {
+    customer: &'a str,
     number: u32,
-) -> Outcome {
-    match write_made(rt, bureau, customer, number) {
-        Ok(()) => Outcome::Done,
-        Err(outcome) => outcome,
+}
+
+impl Work for ExportWork<'_> {
+    fn carry_out<S: Alter>(&mut self, rt: &HostRuntime, bureau: &mut Bureau<S>) -> Outcome {
+        match write_made(rt, bureau, self.customer, self.number) {
+            Ok(()) => Outcome::Done,
+            Err(outcome) => outcome,
+        }
     }
 }
 
@@ -119,8 +122,5 @@ fn export_job<S: Alter>(
 /// `CUSTOMER-NUMBER.lines`, in the folder where the program runs. Files of these names are
 /// replaced, each whole or not at all; if the job is refused, none is touched.
 pub fn export(rt: &HostRuntime, path: &str, customer: &str, number: u32) -> Outcome {
-    match open_bureau(rt, path) {
-        Ok(mut bureau) => export_job(rt, &mut bureau, customer, number),
-        Err(fault) => Outcome::Fault(fault),
-    }
+    with_bureau(rt, path, &mut ExportWork { customer, number })
 }

@@ -1,12 +1,21 @@
-//! Opening the bureau's file at a path.
+//! Opening the bureau's file at a path, for work that does not know its store.
 
+use crate::outcomes::Outcome;
 use ledger::Bureau;
 use ledger_files::open_from;
 use ledger_tables::OpenFault;
-use sqlite::{FileFrom, FileStore, Unknown};
+use sqlite::{Alter, FileFrom, FileStore, Unknown};
 use std::fs;
 use std::fs::File;
 use std::io::{ErrorKind, Read};
+
+/// Work with an open bureau, whatever its store is.
+// The proof of a function that names a store in files takes many times as long as that of one over
+// any store. So no other module of this crate names one, but for the creation of a file.
+pub(crate) trait Work {
+    /// Does the work.
+    fn carry_out<S: Alter>(&mut self, rt: &HostRuntime, bureau: &mut Bureau<S>) -> Outcome;
+}
 
 /// The first bytes of a database's file.
 const BEGINNING: [u8; 16] = *b"SQLite format 3\0";
@@ -31,7 +40,7 @@ fn look(rt: &HostRuntime, path: &str) -> Result<(), OpenFault> {
 }
 
 /// Opens the bureau's file at a path. If that fails, no new file is left.
-pub(crate) fn open_bureau(
+fn open_bureau(
     rt: &HostRuntime,
     path: &str,
 ) -> Result<Bureau<FileStore<FileFrom<Unknown>>>, OpenFault> {
@@ -49,5 +58,13 @@ pub(crate) fn open_bureau(
             }
             Err(fault)
         }
+    }
+}
+
+/// Does work with the bureau whose file is at a path.
+pub(crate) fn with_bureau<W: Work>(rt: &HostRuntime, path: &str, work: &mut W) -> Outcome {
+    match open_bureau(rt, path) {
+        Ok(mut bureau) => work.carry_out(rt, &mut bureau),
+        Err(fault) => Outcome::Fault(fault),
     }
 }

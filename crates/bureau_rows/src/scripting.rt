@@ -1,6 +1,6 @@
 //! Applying a script.
 
-use crate::opening::open_bureau;
+use crate::opening::{Work, with_bureau};
 use crate::outcomes::Outcome;
 use ledger::{Bureau, Fault};
 use ledger_tables::OpenFault;
@@ -21,30 +21,34 @@ fn outcome_of(scripted: &Scripted) -> Outcome {
     }
 }
 
-/// Carries out the commands of the script at a path, in order.
-fn apply_script<W: Write, S: Alter>(
-    rt: &HostRuntime,
-    bureau: &mut Bureau<S>,
-    script_path: &str,
-    output: &mut W,
-) -> Outcome {
-    let Ok(mut file) = File::open(rt, script_path) else {
-        return Outcome::Device;
-    };
-    let mut meter = Meter::new();
-    let scripted = script(rt.alloc(), &mut file, output, bureau, &mut meter);
-    let outcome = outcome_of(&scripted);
-    match output.flush() {
-        Ok(()) => outcome,
-        Err(_) => Outcome::Device,
+/// The work of carrying out the commands of the script at a path, in order.
+#[derive(Drop)]
+struct ApplyWork<'a, W: Write> {
+    script_path: &'a str,
+    output: &'a mut W,
+}
+
+impl<W: Write> Work for ApplyWork<'_, W> {
+    fn carry_out<S: Alter>(&mut self, rt: &HostRuntime, bureau: &mut Bureau<S>) -> Outcome {
+        let Ok(mut file) = File::open(rt, self.script_path) else {
+            return Outcome::Device;
+        };
+        let mut meter = Meter::new();
+        let scripted = script(rt.alloc(), &mut file, self.output, bureau, &mut meter);
+        let outcome = outcome_of(&scripted);
+        match self.output.flush() {
+            Ok(()) => outcome,
+            Err(_) => Outcome::Device,
+        }
     }
 }
 
 /// Carries out the commands of the script at `script_path`, in order, by the bureau whose file is
 /// at `path`. The line of each reply is written after its command is in the file.
 pub fn apply<W: Write>(rt: &HostRuntime, path: &str, script_path: &str, output: &mut W) -> Outcome {
-    match open_bureau(rt, path) {
-        Ok(mut bureau) => apply_script(rt, &mut bureau, script_path, output),
-        Err(fault) => Outcome::Fault(fault),
-    }
+    let mut work = ApplyWork {
+        script_path,
+        output,
+    };
+    with_bureau(rt, path, &mut work)
 }

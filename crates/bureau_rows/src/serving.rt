@@ -1,6 +1,6 @@
 //! Serving requests over HTTP.
 
-use crate::opening::open_bureau;
+use crate::opening::{Work, with_bureau};
 use crate::outcomes::Outcome;
 use http_exchanges::{Exchange, exchange};
 use http_requests::Routes;
@@ -78,22 +78,27 @@ pub fn serve_connections<S: Alter>(
     Outcome::Done
 }
 
-/// Serves this number of connections from a bureau, on a port of 127.0.0.1.
-fn serve_on<S: Alter>(rt: &HostRuntime, bureau: &mut Bureau<S>, port: u16, count: u32) -> Outcome {
-    let Ok(routes) = Routes::new(rt.alloc()) else {
-        return Outcome::Fault(OpenFault::NoMemory);
-    };
-    match TcpListener::bind(rt, SocketAddrV4::new(Ipv4Addr::LOCALHOST, port)) {
-        Ok(listener) => serve_connections(rt.alloc(), &routes, bureau, &listener, count),
-        Err(_) => Outcome::Device,
+/// The work of serving connections on a port of 127.0.0.1.
+#[derive(Drop)]
+struct ServeWork {
+    port: u16,
+    count: u32,
+}
+
+impl Work for ServeWork {
+    fn carry_out<S: Alter>(&mut self, rt: &HostRuntime, bureau: &mut Bureau<S>) -> Outcome {
+        let Ok(routes) = Routes::new(rt.alloc()) else {
+            return Outcome::Fault(OpenFault::NoMemory);
+        };
+        match TcpListener::bind(rt, SocketAddrV4::new(Ipv4Addr::LOCALHOST, self.port)) {
+            Ok(listener) => serve_connections(rt.alloc(), &routes, bureau, &listener, self.count),
+            Err(_) => Outcome::Device,
+        }
     }
 }
 
 /// Serves this number of connections from the bureau's file at a path, on a port of 127.0.0.1, one
 /// after the other, with one request each.
 pub fn serve(rt: &HostRuntime, path: &str, port: u16, count: u32) -> Outcome {
-    match open_bureau(rt, path) {
-        Ok(mut bureau) => serve_on(rt, &mut bureau, port, count),
-        Err(fault) => Outcome::Fault(fault),
-    }
+    with_bureau(rt, path, &mut ServeWork { port, count })
 }
