@@ -55,6 +55,21 @@ pub(crate) fn outcome_of(alloc: Global, bytes: &[u8]) -> Result<String, Fail> {
     Ok(text)
 }
 
+/// The measure of a script's first command: the number of cards that it submits, or the length of
+/// the name of the customer whose jobs it asks for; or the script's fault.
+pub(crate) fn measure_of(alloc: Global, script: &str) -> Result<String, Fail> {
+    let commands = match parse(alloc, script.as_bytes()) {
+        Ok(commands) => commands,
+        Err(fault) => return Ok(format!(in alloc; "{fault:?}")?),
+    };
+    let measure = match commands.first() {
+        Some(Command::Submit { contents, .. }) => contents.deck.cards().len(),
+        Some(Command::Jobs { customer }) => customer.len(),
+        _ => Err("a measure")?,
+    };
+    Ok(format!(in alloc; "{measure}")?)
+}
+
 /// The script of lines, each before this character. A line that begins with `=` is a card: the text
 /// after it, padded with blanks to 80 columns. `^` after the last line means that its line feed is
 /// missing.
