@@ -1,4 +1,4 @@
-//! Refusals of sources, decks and requests, and faults of the bureau.
+//! Refusals, faults of decks, and answers that are fixed.
 
 use crate::answers::{line_of, line_to};
 use crate::sheets::{Case, check, check_pairs, cut, number};
@@ -9,6 +9,60 @@ use http_replies::{Fault, deck_fault, refused};
 use office::{Refusal, Reply, SourceFaults};
 use std::alloc::Global;
 use std::test::Fail;
+
+/// A refusal that has only its number.
+fn refusal_of(number: u32) -> Refusal {
+    match number {
+        10 => Refusal::Customer,
+        11 => Refusal::Number,
+        12 => Refusal::Size,
+        13 => Refusal::Deck,
+        14 => Refusal::OtherContents,
+        15 => Refusal::TooManyJobs,
+        20 => Refusal::NoJob,
+        21 => Refusal::Limit,
+        22 => Refusal::Held,
+        23 => Refusal::NotRunning,
+        24 => Refusal::NotAtHalt,
+        25 => Refusal::AlreadyHeld,
+        26 => Refusal::NotHeld,
+        27 => Refusal::Collected,
+        _ => Refusal::TooMuch,
+    }
+}
+
+/// A refusal that has only its number. Input: the number. Output: the reply's answer.
+struct Numbered;
+
+impl Case for Numbered {
+    fn outcome(alloc: Global, given: &str) -> Result<String, Fail> {
+        line_to(alloc, &Reply::Refused(refusal_of(number(given))))
+    }
+}
+
+/// Each refusal that has only its number.
+const REFUSALS: &str = "\
+10 -> 400 Bad Request|application/json|14|{\"refusal\":10}
+11 -> 400 Bad Request|application/json|14|{\"refusal\":11}
+12 -> 400 Bad Request|application/json|14|{\"refusal\":12}
+13 -> 400 Bad Request|application/json|14|{\"refusal\":13}
+14 -> 409 Conflict|application/json|14|{\"refusal\":14}
+15 -> 409 Conflict|application/json|14|{\"refusal\":15}
+20 -> 404 Not Found|application/json|14|{\"refusal\":20}
+21 -> 400 Bad Request|application/json|14|{\"refusal\":21}
+22 -> 409 Conflict|application/json|14|{\"refusal\":22}
+23 -> 409 Conflict|application/json|14|{\"refusal\":23}
+24 -> 409 Conflict|application/json|14|{\"refusal\":24}
+25 -> 409 Conflict|application/json|14|{\"refusal\":25}
+26 -> 409 Conflict|application/json|14|{\"refusal\":26}
+27 -> 409 Conflict|application/json|14|{\"refusal\":27}
+28 -> 409 Conflict|application/json|14|{\"refusal\":28}
+";
+
+#[test]
+fn refusals_have_their_numbers(rt: HostRuntime) -> Result<(), Fail> {
+    check::<Numbered>(rt.alloc(), REFUSALS)
+}
 
 /// The fault of a name.
 fn fault_of(name: &str) -> SourceFault {

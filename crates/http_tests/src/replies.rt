@@ -56,27 +56,6 @@ fn summary_in(words: &str) -> Summary {
     }
 }
 
-/// A refusal that has only its number.
-fn refusal_of(number: u32) -> Refusal {
-    match number {
-        10 => Refusal::Customer,
-        11 => Refusal::Number,
-        12 => Refusal::Size,
-        13 => Refusal::Deck,
-        14 => Refusal::OtherContents,
-        15 => Refusal::TooManyJobs,
-        20 => Refusal::NoJob,
-        21 => Refusal::Limit,
-        22 => Refusal::Held,
-        23 => Refusal::NotRunning,
-        24 => Refusal::NotAtHalt,
-        25 => Refusal::AlreadyHeld,
-        26 => Refusal::NotHeld,
-        27 => Refusal::Collected,
-        _ => Refusal::TooMuch,
-    }
-}
-
 /// A reply without a list, from its name and what it holds.
 fn reply_of(words: &str) -> Reply {
     let (name, held) = cut(words, " ");
@@ -96,8 +75,7 @@ fn reply_of(words: &str) -> Reply {
             cards: number(first),
             lines: number(second),
         },
-        "Standing" => Reply::Standing(summary_in(held)),
-        _ => Reply::Refused(refusal_of(number(first))),
+        _ => Reply::Standing(summary_in(held)),
     }
 }
 
@@ -155,30 +133,6 @@ Ran 7 PrinterFull 351 -> 200 OK|application/json|67|\
 #[test]
 fn halts_and_checks_have_their_words(rt: HostRuntime) -> Result<(), Fail> {
     check::<Plain>(rt.alloc(), STANDINGS)
-}
-
-/// Each refusal that has only its number.
-const REFUSALS: &str = "\
-Refused 10 -> 400 Bad Request|application/json|14|{\"refusal\":10}
-Refused 11 -> 400 Bad Request|application/json|14|{\"refusal\":11}
-Refused 12 -> 400 Bad Request|application/json|14|{\"refusal\":12}
-Refused 13 -> 400 Bad Request|application/json|14|{\"refusal\":13}
-Refused 14 -> 409 Conflict|application/json|14|{\"refusal\":14}
-Refused 15 -> 409 Conflict|application/json|14|{\"refusal\":15}
-Refused 20 -> 404 Not Found|application/json|14|{\"refusal\":20}
-Refused 21 -> 400 Bad Request|application/json|14|{\"refusal\":21}
-Refused 22 -> 409 Conflict|application/json|14|{\"refusal\":22}
-Refused 23 -> 409 Conflict|application/json|14|{\"refusal\":23}
-Refused 24 -> 409 Conflict|application/json|14|{\"refusal\":24}
-Refused 25 -> 409 Conflict|application/json|14|{\"refusal\":25}
-Refused 26 -> 409 Conflict|application/json|14|{\"refusal\":26}
-Refused 27 -> 409 Conflict|application/json|14|{\"refusal\":27}
-Refused 28 -> 409 Conflict|application/json|14|{\"refusal\":28}
-";
-
-#[test]
-fn refusals_have_their_numbers(rt: HostRuntime) -> Result<(), Fail> {
-    check::<Plain>(rt.alloc(), REFUSALS)
 }
 
 /// The whole answer if there is no job of a name.

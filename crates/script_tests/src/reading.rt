@@ -1,10 +1,10 @@
 //! Readers of scripts.
 
-use crate::devices::{Dripping, Endless};
+use crate::devices::Dripping;
 use crate::outcomes::outcome_of;
 use scripts::{ReadFault, read_script};
 use std::alloc::Global;
-use std::io::Read;
+use std::io::{Read, repeat};
 use std::test::Fail;
 
 const SCRIPT: &[u8] = b"queue\njobs ACME\nslice ACME 1 34\n";
@@ -55,7 +55,7 @@ fn a_reader_may_fail(rt: HostRuntime) -> Result<(), Fail> {
 
 #[test]
 fn no_more_is_read_than_shows_the_size(rt: HostRuntime) -> Result<(), Fail> {
-    let bytes = read_script(rt.alloc(), Endless).ok().ok_or("bytes")?;
+    let bytes = read_script(rt.alloc(), repeat(b'\n')).ok().ok_or("bytes")?;
     assert!(rt; bytes.len() == 4_000_001);
     assert!(rt; outcome_of(rt.alloc(), &bytes)?.as_str() == "TooLong");
     Ok(())
