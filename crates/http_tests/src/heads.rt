@@ -1,6 +1,8 @@
 //! Heads of requests, and the verdict on each.
 
+use crate::sheets::{Case, check_pairs};
 use crate::verdicts::{misjudged, verdict_on};
+use std::alloc::Global;
 use std::test::Fail;
 
 /// A request of each path, after what it asks for and the length of its body.
@@ -105,22 +107,30 @@ fn lengths_are_read_from_fields(rt: HostRuntime) -> Result<(), Fail> {
     Ok(())
 }
 
+/// A request. Input: its bytes. Output: the verdict on it.
+struct Request;
+
+impl Case for Request {
+    fn outcome(alloc: Global, given: &str) -> Result<String, Fail> {
+        verdict_on(alloc, &mut given.as_bytes())
+    }
+}
+
+/// Requests that are of the grammar, and requests that are not.
+const REQUESTS: &[(&str, &str)] = &[
+    ("GET /queue HTTP/1.0\r\n\r\n", "queue, 0"),
+    ("\r\nGET /queue HTTP/1.1\nHost: a\n\n", "queue, 0"),
+    ("GET /queue HTTP/2.0\r\n\r\n", "400"),
+    ("GET /queue\r\n\r\n", "400"),
+    ("GET  /queue HTTP/1.1\r\n\r\n", "400"),
+    ("GET /queue HTTP/1.1\r\nHost\r\n\r\n", "400"),
+    ("GET /queue HTTP/1.1\r\nHost: a\r\n X\r\n\r\n", "400"),
+    ("GET /queue HTTP/1.1\r\n\r\nHELLO", "queue, 0HELLO"),
+    ("GET /nowhere HTTP/1.1\r\n\r\nHELLO", "404"),
+    ("", "400"),
+];
+
 #[test]
 fn heads_are_of_the_grammar(rt: HostRuntime) -> Result<(), Fail> {
-    for (request, wanted) in [
-        ("GET /queue HTTP/1.0\r\n\r\n", "queue, 0"),
-        ("\r\nGET /queue HTTP/1.1\nHost: a\n\n", "queue, 0"),
-        ("GET /queue HTTP/2.0\r\n\r\n", "400"),
-        ("GET /queue\r\n\r\n", "400"),
-        ("GET  /queue HTTP/1.1\r\n\r\n", "400"),
-        ("GET /queue HTTP/1.1\r\nHost\r\n\r\n", "400"),
-        ("GET /queue HTTP/1.1\r\nHost: a\r\n X\r\n\r\n", "400"),
-        ("GET /queue HTTP/1.1\r\n\r\nHELLO", "queue, 0HELLO"),
-        ("GET /nowhere HTTP/1.1\r\n\r\nHELLO", "404"),
-        ("", "400"),
-    ] {
-        let verdict = verdict_on(rt.alloc(), &mut request.as_bytes())?;
-        assert_eq!(rt; verdict.as_str(), wanted);
-    }
-    Ok(())
+    check_pairs::<Request>(rt.alloc(), REQUESTS)
 }

@@ -19,6 +19,8 @@ mod replies;
 #[cfg(test)]
 mod sending;
 #[cfg(test)]
+mod sheets;
+#[cfg(test)]
 mod sizes;
 #[cfg(test)]
 mod verdicts;

@@ -1,8 +1,10 @@
 //! Heads that are cut short, long, or of many fields, and readers that give little or fail.
 
 use crate::devices::Dripping;
+use crate::sheets::{Case, check, number};
 use crate::verdicts::{request_of, verdict_on};
 use std::alloc::Global;
+use std::io::Read;
 use std::test::Fail;
 
 const REQUEST: &[u8] =
@@ -11,71 +13,78 @@ const REQUEST: &[u8] =
 /// What the request asks for.
 const ASKED: &str = "slice ACME 1 34, 0";
 
+/// Whether the verdict on the bytes of a reader is this one.
+fn is_judged<R: Read>(alloc: Global, reader: &mut R, wanted: &str) -> Result<bool, Fail> {
+    let verdict = verdict_on(alloc, reader)?;
+    Ok(verdict.as_str() == wanted)
+}
+
+/// Whether the verdict is this one if a byte comes a call, and then the end or a failure.
+fn is_dripped(alloc: Global, rest: &[u8], fails: bool, wanted: &str) -> Result<bool, Fail> {
+    is_judged(alloc, &mut Dripping { rest, fails }, wanted)
+}
+
 #[test]
 fn a_head_cut_short_is_refused(rt: HostRuntime) -> Result<(), Fail> {
     for length in 0..REQUEST.len() {
-        let verdict = verdict_on(rt.alloc(), &mut &REQUEST[..length])?;
-        assert_eq!(rt; verdict.as_str(), "400", "{length} bytes");
+        let mut head = &REQUEST[..length];
+        assert!(rt; is_judged(rt.alloc(), &mut head, "400")?, "{length} bytes");
     }
-    let verdict = verdict_on(rt.alloc(), &mut &REQUEST[..])?;
-    assert_eq!(rt; verdict.as_str(), ASKED);
+    let mut head = REQUEST;
+    assert!(rt; is_judged(rt.alloc(), &mut head, ASKED)?);
     Ok(())
 }
 
 #[test]
 fn a_reader_may_give_a_byte_a_call(rt: HostRuntime) -> Result<(), Fail> {
-    for (length, wanted) in [(REQUEST.len(), ASKED), (REQUEST.len() - 1, "400")] {
-        let mut reader = Dripping {
-            rest: &REQUEST[..length],
-            fails: false,
-        };
-        assert_eq!(rt; verdict_on(rt.alloc(), &mut reader)?.as_str(), wanted);
-    }
+    assert!(rt; is_dripped(rt.alloc(), REQUEST, false, ASKED)?);
+    let short = &REQUEST[..REQUEST.len() - 1];
+    assert!(rt; is_dripped(rt.alloc(), short, false, "400")?);
     Ok(())
 }
 
 #[test]
 fn a_reader_may_fail_before_the_head_ends(rt: HostRuntime) -> Result<(), Fail> {
-    for length in 0..=REQUEST.len() {
-        let mut reader = Dripping {
-            rest: &REQUEST[..length],
-            fails: true,
-        };
-        let wanted = if length < REQUEST.len() {
-            "read failed"
-        } else {
-            ASKED
-        };
-        assert_eq!(rt; verdict_on(rt.alloc(), &mut reader)?.as_str(), wanted);
+    for length in 0..REQUEST.len() {
+        let head = &REQUEST[..length];
+        assert!(rt;
+            is_dripped(rt.alloc(), head, true, "read failed")?,
+            "{length} bytes"
+        );
     }
+    assert!(rt; is_dripped(rt.alloc(), REQUEST, true, ASKED)?);
     Ok(())
 }
 
-/// A request with `count` header fields.
-fn with_fields(alloc: Global, count: usize) -> Result<String, Fail> {
-    let mut line = String::from_str(alloc, "GET /queue;")?;
-    for _ in 0..count {
-        line.push_str("A: b;")?;
+/// A request with header fields. Input: their number. Output: the verdict on it.
+struct Fields;
+
+impl Case for Fields {
+    fn outcome(alloc: Global, given: &str) -> Result<String, Fail> {
+        let fields = "A: b;".repeat(alloc, number(given) as usize)?;
+        let line = format!(in alloc; "GET /queue;{fields}")?;
+        let request = request_of(alloc, line.as_str())?;
+        verdict_on(alloc, &mut request.as_str().as_bytes())
     }
-    request_of(alloc, line.as_str())
 }
+
+/// No field to 99 fields.
+const FIELDS: &str = "\
+0 -> queue, 0
+64 -> queue, 0
+65 -> 431
+99 -> 431
+";
 
 #[test]
 fn a_head_has_at_most_64_fields(rt: HostRuntime) -> Result<(), Fail> {
-    for (count, wanted) in [(0, "queue, 0"), (64, "queue, 0"), (65, "431"), (99, "431")] {
-        let request = with_fields(rt.alloc(), count)?;
-        let verdict = verdict_on(rt.alloc(), &mut request.as_str().as_bytes())?;
-        assert_eq!(rt; verdict.as_str(), wanted, "{count} fields");
-    }
-    Ok(())
+    check::<Fields>(rt.alloc(), FIELDS)
 }
 
 /// A request whose head has `length` bytes.
 fn with_bytes(alloc: Global, length: usize) -> Result<String, Fail> {
-    let mut line = String::from_str(alloc, "GET /queue;A: ")?;
-    for _ in 28..length {
-        line.push_str("b")?;
-    }
+    let value = "b".repeat(alloc, length.saturating_sub(28))?;
+    let line = format!(in alloc; "GET /queue;A: {value}")?;
     let request = request_of(alloc, line.as_str())?;
     if request.len() != length {
         Err("a length")?;
@@ -83,21 +92,36 @@ fn with_bytes(alloc: Global, length: usize) -> Result<String, Fail> {
     Ok(request)
 }
 
+/// A request with a long head. Input: the number of bytes of the head. Output: the verdict if they
+/// come at once, and if a byte comes a call and then a failure.
+struct Long;
+
+impl Case for Long {
+    fn outcome(alloc: Global, given: &str) -> Result<String, Fail> {
+        let request = with_bytes(alloc, number(given) as usize)?;
+        let rest = request.as_str().as_bytes();
+        let whole = verdict_on(alloc, &mut request.as_str().as_bytes())?;
+        let dripped = verdict_on(alloc, &mut Dripping { rest, fails: true })?;
+        Ok(format!(in alloc; "{whole}; {dripped}")?)
+    }
+}
+
+/// The greatest length, and lengths beyond it.
+const LENGTHS: &str = "\
+8192 -> queue, 0; queue, 0
+8193 -> 431; 431
+9000 -> 431; 431
+";
+
 #[test]
 fn a_head_has_at_most_8192_bytes(rt: HostRuntime) -> Result<(), Fail> {
-    for (length, wanted) in [(8192, "queue, 0"), (8193, "431"), (9000, "431")] {
-        let request = with_bytes(rt.alloc(), length)?;
-        let verdict = verdict_on(rt.alloc(), &mut request.as_str().as_bytes())?;
-        assert_eq!(rt; verdict.as_str(), wanted, "{length} bytes");
-        let mut reader = Dripping {
-            rest: request.as_str().as_bytes(),
-            fails: true,
-        };
-        assert_eq!(rt; verdict_on(rt.alloc(), &mut reader)?.as_str(), wanted);
-    }
+    check::<Long>(rt.alloc(), LENGTHS)
+}
+
+#[test]
+fn the_longest_head_may_be_cut_short(rt: HostRuntime) -> Result<(), Fail> {
     let request = with_bytes(rt.alloc(), 8192)?;
     let short = request.as_str().strip_suffix('\n').ok_or("an end")?;
-    let verdict = verdict_on(rt.alloc(), &mut short.as_bytes())?;
-    assert_eq!(rt; verdict.as_str(), "400");
+    assert!(rt; is_judged(rt.alloc(), &mut short.as_bytes(), "400")?);
     Ok(())
 }

@@ -1,19 +1,19 @@
 //! Verdicts on heads, in words.
 
+use crate::sheets::cut;
 use http_heads::{Asked, Head, JobName, Verdict};
 use http_routes::router;
-use std::alloc::Global;
+use std::alloc::{AllocError, Global};
 use std::io::Read;
 use std::test::Fail;
 
-/// The request on a job, in words.
-fn job_text(alloc: Global, word: &str, job: JobName<'_>) -> Result<String, Fail> {
-    let (customer, number) = (job.customer, job.number);
-    Ok(format!(in alloc; "{word} {customer} {number}")?)
+/// Adds the request on a job, in words.
+fn push_job(text: &mut String, word: &str, job: JobName<'_>) -> Result<(), AllocError> {
+    write!(text, "{word} {} {}", job.customer, job.number)
 }
 
-/// The request of a head, in words.
-fn asked_text(alloc: Global, asked: Asked<'_>) -> Result<String, Fail> {
+/// Adds the request of a head, in words.
+fn push_asked(text: &mut String, asked: Asked<'_>) -> Result<(), AllocError> {
     match asked {
         Asked::Submit {
             job,
@@ -21,25 +21,25 @@ fn asked_text(alloc: Global, asked: Asked<'_>) -> Result<String, Fail> {
             size,
             switches,
         } => {
-            let job = job_text(alloc, "submit", job)?;
-            Ok(format!(in alloc; "{job} {kind:?} {size} {switches:?}")?)
+            push_job(text, "submit", job)?;
+            write!(text, " {kind:?} {size} {switches:?}")
         }
         Asked::Slice { job, limit } => {
-            let job = job_text(alloc, "slice", job)?;
-            Ok(format!(in alloc; "{job} {limit}")?)
+            push_job(text, "slice", job)?;
+            write!(text, " {limit}")
         }
         Asked::Start { job, switches } => {
-            let job = job_text(alloc, "start", job)?;
-            Ok(format!(in alloc; "{job} {switches:?}")?)
+            push_job(text, "start", job)?;
+            write!(text, " {switches:?}")
         }
-        Asked::Hold(job) => job_text(alloc, "hold", job),
-        Asked::Release(job) => job_text(alloc, "release", job),
-        Asked::Collect(job) => job_text(alloc, "collect", job),
-        Asked::Standing(job) => job_text(alloc, "standing", job),
-        Asked::Cards(job) => job_text(alloc, "cards", job),
-        Asked::Lines(job) => job_text(alloc, "lines", job),
-        Asked::Jobs(customer) => Ok(format!(in alloc; "jobs {customer}")?),
-        Asked::Queue => Ok(String::from_str(alloc, "queue")?),
+        Asked::Hold(job) => push_job(text, "hold", job),
+        Asked::Release(job) => push_job(text, "release", job),
+        Asked::Collect(job) => push_job(text, "collect", job),
+        Asked::Standing(job) => push_job(text, "standing", job),
+        Asked::Cards(job) => push_job(text, "cards", job),
+        Asked::Lines(job) => push_job(text, "lines", job),
+        Asked::Jobs(customer) => write!(text, "jobs {customer}"),
+        Asked::Queue => text.push_str("queue"),
     }
 }
 
@@ -48,28 +48,29 @@ fn asked_text(alloc: Global, asked: Asked<'_>) -> Result<String, Fail> {
 pub(crate) fn verdict_on<R: Read>(alloc: Global, reader: &mut R) -> Result<String, Fail> {
     let router = router(alloc)?;
     let head = Head::read(reader);
+    let mut text = String::new(alloc);
     match head.verdict(&router) {
-        Verdict::Refused(status) => Ok(format!(in alloc; "{status}")?),
+        Verdict::Refused(status) => write!(text, "{status}")?,
         Verdict::Asks {
             asked,
             count,
             begun,
         } => {
-            let asked = asked_text(alloc, asked)?;
+            push_asked(&mut text, asked)?;
             let begun = str::from_utf8(begun).ok().ok_or("a text")?;
-            Ok(format!(in alloc; "{asked}, {count}{begun}")?)
+            write!(text, ", {count}{begun}")?;
         }
-        Verdict::ReadFailed => Ok(String::from_str(alloc, "read failed")?),
+        Verdict::ReadFailed => text.push_str("read failed")?,
     }
+    Ok(text)
 }
 
 /// The bytes of a request: its method and target, and then its header fields.
 pub(crate) fn request_of(alloc: Global, line: &str) -> Result<String, Fail> {
-    let (line, fields) = line.split_once(';').unwrap_or((line, ""));
+    let (line, fields) = cut(line, ";");
     let mut request = format!(in alloc; "{line} HTTP/1.1\r\n")?;
     for field in fields.split_terminator(';') {
-        request.push_str(field)?;
-        request.push_str("\r\n")?;
+        write!(request, "{field}\r\n")?;
     }
     request.push_str("\r\n")?;
     Ok(request)

@@ -1,6 +1,8 @@
 //! Cards after a submission's line.
 
 use crate::outcomes::{misread, outcome_of};
+use crate::sheets::{Case, check, number};
+use std::alloc::Global;
 use std::test::Fail;
 
 /// Too few cards, and cards that end too early.
@@ -39,22 +41,28 @@ fn cards_are_of_glyphs(rt: HostRuntime) -> Result<(), Fail> {
     Ok(())
 }
 
+/// A submission of two cards. Input: the length of the second card's line. Output: the result.
+struct SecondCard;
+
+impl Case for SecondCard {
+    fn outcome(alloc: Global, given: &str) -> Result<String, Fail> {
+        let length = number(given) as usize;
+        let cards = format!(in alloc; "{:80}\n{:length$}\n", "X", "Y")?;
+        let script = format!(in alloc; "submit A 1 object 1 - 2\n{cards}queue\n")?;
+        outcome_of(alloc, script.as_str().as_bytes())
+    }
+}
+
+/// Lines that are too short, right and too long.
+const LENGTHS: &str = "\
+1 -> BadLine(3)
+79 -> BadLine(3)
+80 -> A 1 Object 1 Switches(0)/X/Y;Queue;
+81 -> BadLine(3)
+161 -> BadLine(3)
+";
+
 #[test]
 fn cards_have_80_columns(rt: HostRuntime) -> Result<(), Fail> {
-    let alloc = rt.alloc();
-    for (second, wanted) in [
-        (1, "BadLine(3)"),
-        (79, "BadLine(3)"),
-        (80, "A 1 Object 1 Switches(0)/X/Y;Queue;"),
-        (81, "BadLine(3)"),
-        (161, "BadLine(3)"),
-    ] {
-        let cards = format!(in alloc; "{:80}\n{:second$}\n", "X", "Y")?;
-        let script = format!(in alloc; "submit A 1 object 1 - 2\n{cards}queue\n")?;
-        assert_eq!(rt;
-            outcome_of(alloc, script.as_str().as_bytes())?.as_str(),
-            wanted
-        );
-    }
-    Ok(())
+    check::<SecondCard>(rt.alloc(), LENGTHS)
 }

@@ -64,19 +64,23 @@ fn numbers_that_are_none_are_0(rt: HostRuntime) -> Result<(), Fail> {
     Ok(())
 }
 
+/// Scripts with bytes that are no text, and their results.
+const NO_TEXTS: &[(&[u8], &str)] = &[
+    (b"jobs A\xffB\n", " Jobs;"),
+    (b"hold \x80 7\n", " 7 Hold;"),
+    (b"hold ACME 1\xc3\n", "ACME 0 Hold;"),
+    (b"slice A 1 \xff\n", "A 1 Slice { limit: 0 };"),
+    (b"queue\xff\n", "BadLine(1)"),
+    (b"start A 1 \xff\n", "BadLine(1)"),
+    (b"submit A 1 \xff 1 - 0\n", "BadLine(1)"),
+    (b"submit A 1 object 1 - \xff\n", "BadLine(1)"),
+];
+
 #[test]
 fn customers_that_are_no_text_are_empty(rt: HostRuntime) -> Result<(), Fail> {
-    for (script, wanted) in [
-        (b"jobs A\xffB\n".as_slice(), " Jobs;"),
-        (b"hold \x80 7\n".as_slice(), " 7 Hold;"),
-        (b"hold ACME 1\xc3\n".as_slice(), "ACME 0 Hold;"),
-        (b"slice A 1 \xff\n".as_slice(), "A 1 Slice { limit: 0 };"),
-        (b"queue\xff\n".as_slice(), "BadLine(1)"),
-        (b"start A 1 \xff\n".as_slice(), "BadLine(1)"),
-        (b"submit A 1 \xff 1 - 0\n".as_slice(), "BadLine(1)"),
-        (b"submit A 1 object 1 - \xff\n".as_slice(), "BadLine(1)"),
-    ] {
-        assert_eq!(rt; outcome_of(rt.alloc(), script)?.as_str(), wanted);
+    for row in NO_TEXTS {
+        let outcome = outcome_of(rt.alloc(), row.0)?;
+        assert!(rt; outcome.as_str() == row.1, "{outcome}");
     }
     Ok(())
 }

@@ -1,66 +1,56 @@
 //! The number of cards in the line of a submission.
 
-use crate::outcomes::outcome_of;
-use office::Command;
-use scripts::{ScriptFault, parse};
+use crate::outcomes::measure_of;
+use crate::sheets::{Case, check, cut, number};
 use std::alloc::Global;
 use std::test::Fail;
 
-/// A script that submits `count` blank cards, with this text as the count in its line.
-fn blank_cards(alloc: Global, said: &str, count: usize) -> Result<String, Fail> {
-    let mut script = format!(in alloc; "submit A 1 object 1 - {said}\n")?;
-    let card = format!(in alloc; "{:80}\n", "")?;
-    for _ in 0..count {
-        script.push_str(card.as_str())?;
+/// A script that submits blank cards. Input: the number of cards, and the text in place of that
+/// number in the script's first line. Output: the number of cards read, or the fault.
+struct Counted;
+
+impl Case for Counted {
+    fn outcome(alloc: Global, given: &str) -> Result<String, Fail> {
+        let (count, said) = cut(given, " ");
+        let card = format!(in alloc; "{:80}\n", "")?;
+        let cards = card.as_str().repeat(alloc, number(count) as usize)?;
+        let script = format!(in alloc; "submit A 1 object 1 - {said}\n{cards}")?;
+        measure_of(alloc, script.as_str())
     }
-    Ok(script)
 }
+
+/// Texts that are no count.
+const TEXTS: &str = "\
+2 00 -> BadLine(1)
+2 01 -> BadLine(1)
+2 02 -> BadLine(1)
+2 2001 -> BadLine(1)
+2 x -> BadLine(1)
+2 - -> BadLine(1)
+2 +2 -> BadLine(1)
+2 -1 -> BadLine(1)
+2 2. -> BadLine(1)
+2 2x -> BadLine(1)
+2 \u{662} -> BadLine(1)
+2 4294967298 -> BadLine(1)
+";
 
 #[test]
 fn counts_are_plain(rt: HostRuntime) -> Result<(), Fail> {
-    for said in [
-        "00",
-        "01",
-        "02",
-        "2001",
-        "x",
-        "-",
-        "+2",
-        "-1",
-        "2.",
-        "2x",
-        "\u{662}",
-        "4294967298",
-    ] {
-        let script = blank_cards(rt.alloc(), said, 2)?;
-        let outcome = outcome_of(rt.alloc(), script.as_str().as_bytes())?;
-        assert_eq!(rt; outcome.as_str(), "BadLine(1)", "{said}");
-    }
-    Ok(())
+    check::<Counted>(rt.alloc(), TEXTS)
 }
 
-/// The number of cards that the first command of a script submits; `None` if it is not a
-/// submission.
-fn cards_of(alloc: Global, script: &str) -> Result<Option<usize>, ScriptFault> {
-    let commands = parse(alloc, script.as_bytes())?;
-    match commands.first() {
-        Some(Command::Submit { contents, .. }) => Ok(Some(contents.deck.cards().len())),
-        _ => Ok(None),
-    }
-}
+/// No card to 2,001 cards.
+const COUNTS: &str = "\
+0 0 -> 0
+1 1 -> 1
+2000 2000 -> 2000
+1999 2000 -> BadLine(2001)
+2001 2000 -> BadLine(2002)
+2001 2001 -> BadLine(1)
+";
 
 #[test]
 fn a_submission_has_at_most_2000_cards(rt: HostRuntime) -> Result<(), Fail> {
-    for (said, count, wanted) in [
-        ("0", 0, Ok(Some(0))),
-        ("1", 1, Ok(Some(1))),
-        ("2000", 2000, Ok(Some(2000))),
-        ("2000", 1999, Err(ScriptFault::BadLine(2001))),
-        ("2000", 2001, Err(ScriptFault::BadLine(2002))),
-        ("2001", 2001, Err(ScriptFault::BadLine(1))),
-    ] {
-        let script = blank_cards(rt.alloc(), said, count)?;
-        assert_eq!(rt; cards_of(rt.alloc(), script.as_str()), wanted, "{said}");
-    }
-    Ok(())
+    check::<Counted>(rt.alloc(), COUNTS)
 }

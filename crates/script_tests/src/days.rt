@@ -1,6 +1,8 @@
 //! Scripts as customers might send them.
 
 use crate::outcomes::{outcome_of, script_of};
+use crate::sheets::{Case, check_pairs};
+use std::alloc::Global;
 use std::test::Fail;
 
 /// A script whose cards have all kinds of glyphs, and whose last line is not a command.
@@ -68,20 +70,28 @@ submit A 38 object 2000 - 5
 standing A 38
 ";
 
+/// A script. Input: its lines. Output: its result.
+struct Day;
+
+impl Case for Day {
+    fn outcome(alloc: Global, given: &str) -> Result<String, Fail> {
+        let script = script_of(alloc, given, '\n')?;
+        outcome_of(alloc, script.as_str().as_bytes())
+    }
+}
+
+/// Scripts with a bad line, and its number.
+const BAD_DAYS: &[(&str, &str)] = &[
+    (GLYPHS, "BadLine(10)"),
+    (MISSPELT, "BadLine(7)"),
+    (GAP, "BadLine(5)"),
+    (SHORT, "BadLine(10)"),
+    (TAB, "BadLine(8)"),
+];
+
 #[test]
 fn the_first_bad_line_is_named(rt: HostRuntime) -> Result<(), Fail> {
-    for (lines, wanted) in [
-        (GLYPHS, "BadLine(10)"),
-        (MISSPELT, "BadLine(7)"),
-        (GAP, "BadLine(5)"),
-        (SHORT, "BadLine(10)"),
-        (TAB, "BadLine(8)"),
-    ] {
-        let script = script_of(rt.alloc(), lines, '\n')?;
-        let outcome = outcome_of(rt.alloc(), script.as_str().as_bytes())?;
-        assert_eq!(rt; outcome.as_str(), wanted);
-    }
-    Ok(())
+    check_pairs::<Day>(rt.alloc(), BAD_DAYS)
 }
 
 /// A script with three submissions; one has an invalid number.
@@ -111,8 +121,5 @@ ACME Jobs;";
 
 #[test]
 fn submissions_have_their_cards(rt: HostRuntime) -> Result<(), Fail> {
-    let script = script_of(rt.alloc(), GOOD, '\n')?;
-    let outcome = outcome_of(rt.alloc(), script.as_str().as_bytes())?;
-    assert_eq!(rt; outcome.as_str(), COMMANDS);
-    Ok(())
+    check_pairs::<Day>(rt.alloc(), &[(GOOD, COMMANDS)])
 }

@@ -54,14 +54,3 @@ impl Write for Narrow {
         Ok(())
     }
 }
-
-/// A reader that gives line feeds for ever.
-#[derive(Drop)]
-pub(crate) struct Endless;
-
-impl Read for Endless {
-    fn read(&mut self, buf: &mut [u8]) -> io::Result<usize> {
-        buf.fill(b'\n');
-        Ok(buf.len())
-    }
-}

@@ -1,6 +1,7 @@
 //! Replies that hold lists.
 
-use crate::written::is_written;
+use crate::sheets::{Case, check, cut, number};
+use crate::written::line_of;
 use autocoder_layout::{CardFault, SourceFault};
 use autocoder_statements::StatementFault;
 use core_store::Check;
@@ -9,82 +10,100 @@ use office::{JobLine, JobList, QueueLine, QueueList, Refusal, Reply, SourceFault
 use std::alloc::Global;
 use std::test::Fail;
 
-/// Jobs of these numbers.
-fn jobs(alloc: Global, numbers: &[u32]) -> Result<Reply, Fail> {
-    let mut list = Vec::new(alloc);
-    for number in numbers {
-        list.push(JobLine {
-            number: *number,
-            held: true,
-            collected: false,
-            standing: StandingAt::Checked {
-                check: Check::Data,
-                at: 9,
-            },
-        })?;
+/// A customer's jobs. Input: their numbers. Output: the reply's line.
+struct Jobs;
+
+impl Case for Jobs {
+    fn outcome(alloc: Global, given: &str) -> Result<String, Fail> {
+        let mut list = Vec::new(alloc);
+        for digits in given.split_terminator(' ') {
+            list.push(JobLine {
+                number: number(digits),
+                held: true,
+                collected: false,
+                standing: StandingAt::Checked {
+                    check: Check::Data,
+                    at: 9,
+                },
+            })?;
+        }
+        line_of(alloc, &Reply::Jobs(JobList(list)))
     }
-    Ok(Reply::Jobs(JobList(list)))
 }
+
+/// No job, one, and three.
+const JOBS: &str = " -> jobs
+7 -> jobs 7
+1 2 999999 -> jobs 1 2 999999
+";
 
 #[test]
 fn jobs_are_listed(rt: HostRuntime) -> Result<(), Fail> {
-    let alloc = rt.alloc();
-    assert!(rt; is_written(alloc, &jobs(alloc, &[])?, "jobs\n")?);
-    assert!(rt; is_written(alloc, &jobs(alloc, &[7])?, "jobs 7\n")?);
-    assert!(rt; is_written(alloc, &jobs(alloc, &[1, 2, 999_999])?, "jobs 1 2 999999\n")?);
-    Ok(())
+    check::<Jobs>(rt.alloc(), JOBS)
 }
 
-/// The queue of these customers' jobs.
-fn queue(alloc: Global, keys: &[(&'static str, u32)]) -> Result<Reply, Fail> {
-    let mut list = Vec::new(alloc);
-    for key in keys {
-        list.push(QueueLine {
-            customer: String::from_str(alloc, key.0)?,
-            number: key.1,
-        })?;
+/// The queue. Input: the customer and the number of each job, with a colon between them. Output:
+/// the reply's line.
+struct Queue;
+
+impl Case for Queue {
+    fn outcome(alloc: Global, given: &str) -> Result<String, Fail> {
+        let mut list = Vec::new(alloc);
+        for key in given.split_terminator(' ') {
+            let (customer, digits) = cut(key, ":");
+            let customer = String::from_str(alloc, customer)?;
+            let number = number(digits);
+            list.push(QueueLine { customer, number })?;
+        }
+        line_of(alloc, &Reply::Queue(QueueList(list)))
     }
-    Ok(Reply::Queue(QueueList(list)))
 }
+
+/// No job, two of a customer, and the longest key.
+const QUEUES: &str = " -> queue
+ACME:1 ACME:7 -> queue ACME/1 ACME/7
+1234567890AB:999999 -> queue 1234567890AB/999999
+";
 
 #[test]
 fn the_queue_is_listed(rt: HostRuntime) -> Result<(), Fail> {
-    let alloc = rt.alloc();
-    assert!(rt; is_written(alloc, &queue(alloc, &[])?, "queue\n")?);
-    let two = queue(alloc, &[("ACME", 1), ("ACME", 7)])?;
-    assert!(rt; is_written(alloc, &two, "queue ACME/1 ACME/7\n")?);
-    let long = queue(alloc, &[("1234567890AB", 999_999)])?;
-    assert!(rt; is_written(alloc, &long, "queue 1234567890AB/999999\n")?);
-    Ok(())
+    check::<Queue>(rt.alloc(), QUEUES)
 }
 
-/// The refusal of a source with the first `count` of three faults.
-fn faulty(alloc: Global, count: usize) -> Result<Reply, Fail> {
-    let mut faults = Vec::new(alloc);
-    for (card, fault) in [
-        (1, SourceFault::Statement(StatementFault::UnknownOperation)),
-        (3, SourceFault::UnknownName),
-        (2000, SourceFault::NoEnd),
-    ] {
-        if faults.len() < count {
+/// The fault of a name.
+fn fault_of(name: &str) -> SourceFault {
+    match name {
+        "UnknownOperation" => SourceFault::Statement(StatementFault::UnknownOperation),
+        "UnknownName" => SourceFault::UnknownName,
+        _ => SourceFault::NoEnd,
+    }
+}
+
+/// The refusal of a source. Input: the card and the name of each fault, with a colon between them.
+/// Output: the reply's line.
+struct Faults;
+
+impl Case for Faults {
+    fn outcome(alloc: Global, given: &str) -> Result<String, Fail> {
+        let mut faults = Vec::new(alloc);
+        for row in given.split_terminator(' ') {
+            let (card, name) = cut(row, ":");
+            let (card, fault) = (number(card), fault_of(name));
             faults.push(CardFault { card, fault })?;
         }
+        let refusal = Refusal::Assembly(SourceFaults(faults));
+        line_of(alloc, &Reply::Refused(refusal))
     }
-    Ok(Reply::Refused(Refusal::Assembly(SourceFaults(faults))))
 }
+
+/// No fault to three faults.
+const FAULTS: &str = " -> refused 16
+1:UnknownOperation -> refused 16 1:41
+1:UnknownOperation 3:UnknownName -> refused 16 1:41 3:45
+1:UnknownOperation 3:UnknownName 2000:NoEnd -> refused 16 1:41 3:45 2000:49
+";
 
 #[test]
 fn faults_of_a_source_are_listed(rt: HostRuntime) -> Result<(), Fail> {
-    for (count, line) in [
-        (0, "refused 16\n"),
-        (1, "refused 16 1:41\n"),
-        (2, "refused 16 1:41 3:45\n"),
-        (3, "refused 16 1:41 3:45 2000:49\n"),
-    ] {
-        assert!(rt;
-            is_written(rt.alloc(), &faulty(rt.alloc(), count)?, line)?,
-            "{line}"
-        );
-    }
-    Ok(())
+    check::<Faults>(rt.alloc(), FAULTS)
 }

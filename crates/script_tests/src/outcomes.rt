@@ -6,20 +6,18 @@ use scripts::parse;
 use std::alloc::Global;
 use std::test::Fail;
 
-/// The texts of a deck's cards, without the blanks at their ends.
-fn deck_text(alloc: Global, deck: &Deck) -> Result<String, Fail> {
+/// Adds the texts of a deck's cards, without the blanks at their ends.
+fn push_deck(alloc: Global, text: &mut String, deck: &Deck) -> Result<(), Fail> {
     let lines = write_text(alloc, deck)?;
     let lines = str::from_utf8(&lines).ok().ok_or("a text")?;
-    let mut text = String::new(alloc);
     for line in lines.lines() {
-        text.push_str("/")?;
-        text.push_str(line.trim_end())?;
+        write!(text, "/{}", line.trim_end())?;
     }
-    Ok(text)
+    Ok(())
 }
 
-/// A command, in words.
-fn command_text(alloc: Global, command: &Command) -> Result<String, Fail> {
+/// Adds a command, in words.
+fn push_command(alloc: Global, text: &mut String, command: &Command) -> Result<(), Fail> {
     match command {
         Command::Submit {
             customer,
@@ -27,17 +25,18 @@ fn command_text(alloc: Global, command: &Command) -> Result<String, Fail> {
             contents,
         } => {
             let (kind, size, switches) = (contents.kind, contents.size, contents.switches);
-            let deck = deck_text(alloc, &contents.deck)?;
-            Ok(format!(in alloc; "{customer} {number} {kind:?} {size} {switches:?}{deck}")?)
+            write!(text, "{customer} {number} {kind:?} {size} {switches:?}")?;
+            push_deck(alloc, text, &contents.deck)?;
         }
         Command::Job {
             customer,
             number,
             command,
-        } => Ok(format!(in alloc; "{customer} {number} {command:?}")?),
-        Command::Jobs { customer } => Ok(format!(in alloc; "{customer} Jobs")?),
-        Command::Queue => Ok(String::from_str(alloc, "Queue")?),
+        } => write!(text, "{customer} {number} {command:?}")?,
+        Command::Jobs { customer } => write!(text, "{customer} Jobs")?,
+        Command::Queue => text.push_str("Queue")?,
     }
+    Ok(text.push_str(";")?)
 }
 
 /// The result of parsing the bytes of a script, in words: each command and a semicolon, or the
@@ -49,29 +48,39 @@ pub(crate) fn outcome_of(alloc: Global, bytes: &[u8]) -> Result<String, Fail> {
     };
     let mut text = String::new(alloc);
     for command in &commands {
-        text.push_str(command_text(alloc, command)?.as_str())?;
-        text.push_str(";")?;
+        push_command(alloc, &mut text, command)?;
     }
     Ok(text)
+}
+
+/// The measure of a script's first command: the number of cards that it submits, or the length of
+/// the name of the customer whose jobs it asks for; or the script's fault.
+pub(crate) fn measure_of(alloc: Global, script: &str) -> Result<String, Fail> {
+    let commands = match parse(alloc, script.as_bytes()) {
+        Ok(commands) => commands,
+        Err(fault) => return Ok(format!(in alloc; "{fault:?}")?),
+    };
+    let measure = match commands.first() {
+        Some(Command::Submit { contents, .. }) => contents.deck.cards().len(),
+        Some(Command::Jobs { customer }) => customer.len(),
+        _ => Err("a measure")?,
+    };
+    Ok(format!(in alloc; "{measure}")?)
 }
 
 /// The script of lines, each before this character. A line that begins with `=` is a card: the text
 /// after it, padded with blanks to 80 columns. `^` after the last line means that its line feed is
 /// missing.
 pub(crate) fn script_of(alloc: Global, lines: &str, end: char) -> Result<String, Fail> {
-    let (lines, is_whole) = match lines.strip_suffix('^') {
-        Some(lines) => (lines, false),
-        None => (lines, true),
-    };
+    let cut = lines.strip_suffix('^');
     let mut script = String::new(alloc);
-    for line in lines.split_terminator(end) {
-        let line = match line.strip_prefix('=') {
-            Some(text) => format!(in alloc; "{text:80}\n")?,
-            None => format!(in alloc; "{line}\n")?,
-        };
-        script.push_str(line.as_str())?;
+    for line in cut.unwrap_or(lines).split_terminator(end) {
+        match line.strip_prefix('=') {
+            Some(text) => write!(script, "{text:80}\n")?,
+            None => write!(script, "{line}\n")?,
+        }
     }
-    if !is_whole {
+    if cut.is_some() {
         script.pop();
     }
     Ok(script)

@@ -1,110 +1,58 @@
 //! Replies that hold no list.
 
-use crate::written::is_written;
+use crate::sheets::{Case, check, cut, number};
+use crate::written::line_of;
 use core_store::Check;
 use machine::StandingAt;
 use office::{Refusal, Reply, Summary};
+use std::alloc::Global;
 use std::test::Fail;
 
-/// A job that is running, has printed two lines, and has these flags.
-fn two_lines(held: bool, collected: bool) -> Reply {
-    Reply::Standing(Summary {
-        standing: StandingAt::Running,
-        held,
-        collected,
-        granted: 34,
-        cards: 0,
-        lines: 2,
-    })
-}
-
-/// A job at a halt, with the greatest value in every field.
-fn most() -> Summary {
-    Summary {
-        standing: StandingAt::Halted { next: 345 },
-        held: true,
-        collected: true,
-        granted: 1_000_000_000,
-        cards: 10_000,
-        lines: 20_000,
+/// The check of a name.
+fn check_of(name: &str) -> Check {
+    match name {
+        "Address" => Check::Address,
+        "Instruction" => Check::Instruction,
+        "Data" => Check::Data,
+        "Overlap" => Check::Overlap,
+        "ReaderEmpty" => Check::ReaderEmpty,
+        "PunchFull" => Check::PunchFull,
+        _ => Check::PrinterFull,
     }
 }
 
-/// A reply without a list, named by a word.
-fn reply_of(word: &str) -> Reply {
-    match word {
-        "taken" => Reply::Taken { cards: 6 },
-        "taken whole" => Reply::Taken { cards: 2000 },
-        "ran" => Reply::Ran {
-            executed: 34,
-            standing: StandingAt::Running,
+/// A standing, from its name and the machine's address.
+fn standing_of(name: &str, address: u16) -> StandingAt {
+    match name {
+        "Running" => StandingAt::Running,
+        "Halted" => StandingAt::Halted { next: address },
+        _ => StandingAt::Checked {
+            check: check_of(name),
+            at: address,
         },
-        "started" => Reply::Started,
-        "held" => Reply::Held,
-        "released" => Reply::Released,
-        "collected" => Reply::Collected { cards: 0, lines: 2 },
-        _ => Reply::Standing(most()),
     }
 }
 
-#[test]
-fn replies_have_their_words(rt: HostRuntime) -> Result<(), Fail> {
-    for (word, line) in [
-        ("taken", "taken 6\n"),
-        ("taken whole", "taken 2000\n"),
-        ("ran", "ran 34 running\n"),
-        ("started", "started\n"),
-        ("held", "held\n"),
-        ("released", "released\n"),
-        ("collected", "collected 0 2\n"),
-        (
-            "most",
-            "standing halted next 345 held 1 collected 1 granted 1000000000 cards 10000 \
-             lines 20000\n",
-        ),
-    ] {
-        assert!(rt; is_written(rt.alloc(), &reply_of(word), line)?, "{line}");
-    }
-    Ok(())
+/// A standing, from its name and, after a blank, the machine's address.
+fn standing_in(words: &str) -> StandingAt {
+    let (name, address) = cut(words, " ");
+    standing_of(name, address.parse::<u16>().ok().unwrap_or(u16::MAX))
 }
 
-#[test]
-fn standings_have_their_words(rt: HostRuntime) -> Result<(), Fail> {
-    for (held, collected, flags) in [
-        (false, false, "held 0 collected 0"),
-        (true, false, "held 1 collected 0"),
-        (false, true, "held 0 collected 1"),
-    ] {
-        let reply = two_lines(held, collected);
-        let line = format!(in rt.alloc(); "standing running {flags} granted 34 cards 0 lines 2\n")?;
-        assert!(rt; is_written(rt.alloc(), &reply, line.as_str())?, "{line}");
+/// A summary, from a standing, flags and three counts.
+fn summary_in(words: &str) -> Summary {
+    let (standing, rest) = cut(words, ", ");
+    let (flags, counts) = cut(rest, ", ");
+    let (granted, counts) = cut(counts, " ");
+    let (cards, lines) = cut(counts, " ");
+    Summary {
+        standing: standing_in(standing),
+        held: flags.starts_with("held"),
+        collected: flags.ends_with("collected"),
+        granted: number(granted),
+        cards: number(cards),
+        lines: number(lines),
     }
-    Ok(())
-}
-
-/// The standing of a checked machine.
-fn checked(check: Check) -> StandingAt {
-    StandingAt::Checked { check, at: 351 }
-}
-
-#[test]
-fn halts_and_checks_have_their_words(rt: HostRuntime) -> Result<(), Fail> {
-    for (standing, words) in [
-        (StandingAt::Halted { next: 15999 }, "halted next 15999"),
-        (checked(Check::Address), "check ADDRESS at 351"),
-        (checked(Check::Instruction), "check INSTRUCTION at 351"),
-        (checked(Check::Data), "check DATA at 351"),
-        (checked(Check::Overlap), "check OVERLAP at 351"),
-        (checked(Check::ReaderEmpty), "check READER EMPTY at 351"),
-        (checked(Check::PunchFull), "check PUNCH FULL at 351"),
-        (checked(Check::PrinterFull), "check PRINTER FULL at 351"),
-    ] {
-        let executed = 7;
-        let reply = Reply::Ran { executed, standing };
-        let line = format!(in rt.alloc(); "ran 7 {words}\n")?;
-        assert!(rt; is_written(rt.alloc(), &reply, line.as_str())?, "{line}");
-    }
-    Ok(())
 }
 
 /// A refusal that has only its number.
@@ -128,12 +76,107 @@ fn refusal_of(number: u32) -> Refusal {
     }
 }
 
+/// A reply without a list, from its name and what it holds.
+fn reply_of(words: &str) -> Reply {
+    let (name, held) = cut(words, " ");
+    let (first, second) = cut(held, " ");
+    match name {
+        "Taken" => Reply::Taken {
+            cards: number(first),
+        },
+        "Ran" => Reply::Ran {
+            executed: number(first),
+            standing: standing_in(second),
+        },
+        "Started" => Reply::Started,
+        "Held" => Reply::Held,
+        "Released" => Reply::Released,
+        "Collected" => Reply::Collected {
+            cards: number(first),
+            lines: number(second),
+        },
+        "Standing" => Reply::Standing(summary_in(held)),
+        _ => Reply::Refused(refusal_of(number(first))),
+    }
+}
+
+/// A reply without a list. Input: its name and what it holds. Output: its line.
+struct Plain;
+
+impl Case for Plain {
+    fn outcome(alloc: Global, given: &str) -> Result<String, Fail> {
+        line_of(alloc, &reply_of(given))
+    }
+}
+
+/// Each reply to a command on a job.
+const REPLIES: &str = "\
+Taken 6 -> taken 6
+Taken 2000 -> taken 2000
+Ran 34 Running -> ran 34 running
+Started -> started
+Held -> held
+Released -> released
+Collected 0 2 -> collected 0 2
+";
+
+#[test]
+fn replies_have_their_words(rt: HostRuntime) -> Result<(), Fail> {
+    check::<Plain>(rt.alloc(), REPLIES)
+}
+
+/// Summaries: one with the greatest value in every field, and one with each flag.
+const SUMMARIES: &str = "\
+Standing Halted 345, held collected, 1000000000 10000 20000 \
+-> standing halted next 345 held 1 collected 1 granted 1000000000 cards 10000 lines 20000
+Standing Running, -, 34 0 2 -> standing running held 0 collected 0 granted 34 cards 0 lines 2
+Standing Running, held, 34 0 2 -> standing running held 1 collected 0 granted 34 cards 0 lines 2
+Standing Running, collected, 34 0 2 \
+-> standing running held 0 collected 1 granted 34 cards 0 lines 2
+";
+
+#[test]
+fn standings_have_their_words(rt: HostRuntime) -> Result<(), Fail> {
+    check::<Plain>(rt.alloc(), SUMMARIES)
+}
+
+/// Each way in which a machine stands still.
+const STANDINGS: &str = "\
+Ran 7 Halted 15999 -> ran 7 halted next 15999
+Ran 7 Address 351 -> ran 7 check ADDRESS at 351
+Ran 7 Instruction 351 -> ran 7 check INSTRUCTION at 351
+Ran 7 Data 351 -> ran 7 check DATA at 351
+Ran 7 Overlap 351 -> ran 7 check OVERLAP at 351
+Ran 7 ReaderEmpty 351 -> ran 7 check READER EMPTY at 351
+Ran 7 PunchFull 351 -> ran 7 check PUNCH FULL at 351
+Ran 7 PrinterFull 351 -> ran 7 check PRINTER FULL at 351
+";
+
+#[test]
+fn halts_and_checks_have_their_words(rt: HostRuntime) -> Result<(), Fail> {
+    check::<Plain>(rt.alloc(), STANDINGS)
+}
+
+/// Each refusal that has only its number.
+const REFUSALS: &str = "\
+Refused 10 -> refused 10
+Refused 11 -> refused 11
+Refused 12 -> refused 12
+Refused 13 -> refused 13
+Refused 14 -> refused 14
+Refused 15 -> refused 15
+Refused 20 -> refused 20
+Refused 21 -> refused 21
+Refused 22 -> refused 22
+Refused 23 -> refused 23
+Refused 24 -> refused 24
+Refused 25 -> refused 25
+Refused 26 -> refused 26
+Refused 27 -> refused 27
+Refused 28 -> refused 28
+";
+
 #[test]
 fn refusals_have_their_numbers(rt: HostRuntime) -> Result<(), Fail> {
-    for number in [10, 11, 12, 13, 14, 15, 20, 21, 22, 23, 24, 25, 26, 27, 28] {
-        let reply = Reply::Refused(refusal_of(number));
-        let line = format!(in rt.alloc(); "refused {number}\n")?;
-        assert!(rt; is_written(rt.alloc(), &reply, line.as_str())?, "{line}");
-    }
-    Ok(())
+    check::<Plain>(rt.alloc(), REFUSALS)
 }

@@ -34,17 +34,21 @@ const JOB: Summary = Summary {
 const LINE: &[u8] =
     b"standing check OVERLAP at 351 held 1 collected 0 granted 34 cards 1 lines 2\n";
 
+/// Writes the line of the job, after 100 bytes. Returns whether it ended in this way, and the
+/// writer has taken, and it has counted, these bytes.
+fn sends(writer: &mut Narrow, ending: Result<(), WriteFailed>, taken: &[u8]) -> bool {
+    let mut sent = 100;
+    let result = write_reply(writer, &mut sent, &Reply::Standing(JOB));
+    result == ending && sent == 100 + taken.len() && writer.taken.as_slice() == taken
+}
+
 #[test]
 fn what_went_out_is_counted(rt: HostRuntime) -> Result<(), Fail> {
     for room in 0..LINE.len() {
-        for fails in [false, true] {
-            let mut writer = writer_of(rt.alloc(), room, fails);
-            let mut sent = 100;
-            let result = write_reply(&mut writer, &mut sent, &Reply::Standing(JOB));
-            assert_eq!(rt; result, Err(WriteFailed));
-            assert_eq!(rt; sent, 100 + room);
-            assert!(rt; writer.taken.as_slice() == &LINE[..room]);
-        }
+        let mut full = writer_of(rt.alloc(), room, false);
+        assert!(rt; sends(&mut full, Err(WriteFailed), &LINE[..room]));
+        let mut broken = writer_of(rt.alloc(), room, true);
+        assert!(rt; sends(&mut broken, Err(WriteFailed), &LINE[..room]));
     }
     Ok(())
 }
@@ -52,24 +56,23 @@ fn what_went_out_is_counted(rt: HostRuntime) -> Result<(), Fail> {
 #[test]
 fn a_line_goes_out_in_parts(rt: HostRuntime) -> Result<(), Fail> {
     let mut writer = writer_of(rt.alloc(), LINE.len(), true);
-    let mut sent = 100;
-    let result = write_reply(&mut writer, &mut sent, &Reply::Standing(JOB));
-    assert_eq!(rt; result, Ok(()));
-    assert_eq!(rt; sent, 100 + LINE.len());
-    assert!(rt; writer.taken.as_slice() == LINE);
+    assert!(rt; sends(&mut writer, Ok(()), LINE));
     Ok(())
+}
+
+/// Whether only these bytes of the line for a bad line went out, into a writer that takes no more.
+fn ends_after(alloc: Global, taken: &[u8]) -> bool {
+    let mut writer = writer_of(alloc, taken.len(), false);
+    let mut sent = 0;
+    let result = write_bad(&mut writer, &mut sent, ScriptFault::BadLine(12));
+    result.is_err() && sent == taken.len() && writer.taken.as_slice() == taken
 }
 
 #[test]
 fn a_bad_line_may_not_go_out(rt: HostRuntime) -> Result<(), Fail> {
     let line = b"bad line 12\n";
     for room in 0..line.len() {
-        let mut writer = writer_of(rt.alloc(), room, false);
-        let mut sent = 0;
-        let result = write_bad(&mut writer, &mut sent, ScriptFault::BadLine(12));
-        assert_eq!(rt; result, Err(WriteFailed));
-        assert_eq!(rt; sent, room);
-        assert!(rt; writer.taken.as_slice() == &line[..room]);
+        assert!(rt; ends_after(rt.alloc(), &line[..room]));
     }
     Ok(())
 }

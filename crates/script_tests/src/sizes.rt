@@ -1,44 +1,38 @@
 //! Scripts of too many bytes.
 
-use office::Command;
-use scripts::{MOST_BYTES, ScriptFault, parse};
+use crate::outcomes::measure_of;
+use crate::sheets::{Case, check, number};
+use scripts::MOST_BYTES;
 use std::alloc::Global;
 use std::test::Fail;
 
-/// A script of `count` bytes that asks for the jobs of a customer with a long name.
-fn asking(alloc: Global, count: usize) -> Result<Vec<u8>, Fail> {
-    let length = count.checked_sub(1).ok_or("a line feed")?;
-    let mut bytes = Vec::new(alloc);
-    for byte in b"jobs " {
-        bytes.push(*byte)?;
+/// A script that asks for the jobs of a customer with a long name. Input: the number of its bytes.
+/// Output: the length of the name, or the fault.
+struct Long;
+
+impl Case for Long {
+    fn outcome(alloc: Global, given: &str) -> Result<String, Fail> {
+        let count = number(given) as usize;
+        let customer = "A".repeat(alloc, count.saturating_sub(6))?;
+        let script = format!(in alloc; "jobs {customer}\n")?;
+        if script.len() != count {
+            Err("a script of this length")?;
+        }
+        measure_of(alloc, script.as_str())
     }
-    bytes.resize(length, b'A')?;
-    bytes.push(b'\n')?;
-    Ok(bytes)
 }
 
-/// The length of the customer's name in the first command of a script, if it asks for the
-/// customer's jobs.
-fn name_length(alloc: Global, script: &[u8]) -> Result<Option<usize>, ScriptFault> {
-    match parse(alloc, script)?.first() {
-        Some(Command::Jobs { customer }) => Ok(Some(customer.len())),
-        _ => Ok(None),
-    }
-}
+/// Scripts up to the greatest size, and beyond it.
+const SIZES: &str = "\
+10 -> 4
+3999999 -> 3999993
+4000000 -> 3999994
+4000001 -> TooLong
+4000002 -> TooLong
+";
 
 #[test]
 fn a_script_has_at_most_4000000_bytes(rt: HostRuntime) -> Result<(), Fail> {
-    assert_eq!(rt; MOST_BYTES, 4_000_000);
-    for (count, wanted) in [
-        (10, Ok(Some(4))),
-        (3_999_999, Ok(Some(3_999_993))),
-        (4_000_000, Ok(Some(3_999_994))),
-        (4_000_001, Err(ScriptFault::TooLong)),
-        (4_000_002, Err(ScriptFault::TooLong)),
-    ] {
-        let script = asking(rt.alloc(), count)?;
-        assert_eq!(rt; script.len(), count);
-        assert_eq!(rt; name_length(rt.alloc(), &script), wanted, "{count}");
-    }
-    Ok(())
+    assert!(rt; MOST_BYTES == 4_000_000);
+    check::<Long>(rt.alloc(), SIZES)
 }
