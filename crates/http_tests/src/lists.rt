@@ -78,13 +78,13 @@ fn the_queue_is_listed(rt: HostRuntime) -> Result<(), Fail> {
     check::<Queue>(rt.alloc(), QUEUES)
 }
 
-/// A card that shows a text.
-fn card_of(alloc: Global, text: &str) -> Result<Card, Fail> {
+/// The columns of a card that shows a text.
+fn columns_of(alloc: Global, text: &str) -> Result<[Code; 80], Fail> {
     let text = format!(in alloc; "{text:80}\n")?;
     let deck = read_text(alloc, text.as_str().as_bytes())
         .ok()
         .ok_or("a deck")?;
-    Ok(Card(deck.cards().first().ok_or("a card")?.0))
+    Ok(deck.cards().first().ok_or("a card")?.0)
 }
 
 /// Punched cards. Input: the text of each. Output: the reply's answer.
@@ -94,7 +94,8 @@ impl Case for Cards {
     fn outcome(alloc: Global, given: &str) -> Result<String, Fail> {
         let mut cards = Vec::new(alloc);
         for text in given.lines() {
-            cards.push(card_of(alloc, text)?)?;
+            let columns = columns_of(alloc, text)?;
+            cards.push(Card(columns))?;
         }
         line_to(alloc, &Reply::Cards(PunchedCards(cards)))
     }
@@ -108,19 +109,13 @@ fn cards_are_a_punch_file(rt: HostRuntime) -> Result<(), Fail> {
     check_pairs::<Cards>(rt.alloc(), &cards)
 }
 
-/// A printed line, from its form, its line on the form, and its text.
-fn printed(words: &str) -> Result<Line, Fail> {
-    let (form, words) = cut(words, " ");
-    let (line, text) = cut(words, " ");
+/// A print area that shows a text.
+fn print_area(text: &str) -> Result<[Code; 132], Fail> {
     let mut codes = [Code::blank(); 132];
     for (place, glyph) in text.bytes().enumerate() {
         *codes.get_mut(place).ok_or("a column")? = Code::from_glyph(glyph).ok_or("a glyph")?;
     }
-    Ok(Line {
-        form: number(form),
-        line: line.parse::<u8>().ok().ok_or("a line")?,
-        codes,
-    })
+    Ok(codes)
 }
 
 /// Printed lines. Input: the form, the line on the form, and the text of each. Output: the reply's
@@ -131,7 +126,11 @@ impl Case for Lines {
     fn outcome(alloc: Global, given: &str) -> Result<String, Fail> {
         let mut lines = Vec::new(alloc);
         for words in given.lines() {
-            lines.push(printed(words)?)?;
+            let (form, words) = cut(words, " ");
+            let (line, text) = cut(words, " ");
+            let (form, codes) = (number(form), print_area(text)?);
+            let line = line.parse::<u8>().ok().ok_or("a line")?;
+            lines.push(Line { form, line, codes })?;
         }
         line_to(alloc, &Reply::Lines(Listing(lines)))
     }
