@@ -2,9 +2,9 @@
 
 use crate::bureaus::in_memory;
 use crate::devices::{Dripping, Narrow};
-use crate::exchange_sessions::ended;
 use crate::requests::request_of;
-use http_exchanges::Exchange;
+use http_exchanges::{Exchange, exchange};
+use http_requests::Routes;
 use machine::Meter;
 use std::alloc::Global;
 use std::io::{Read, Write};
@@ -16,13 +16,10 @@ fn ending<R: Read, W: Write>(
     reader: &mut R,
     writer: &mut W,
 ) -> Result<Exchange, Fail> {
-    ended(
-        alloc,
-        reader,
-        writer,
-        &mut in_memory(alloc)?,
-        &mut Meter::new(),
-    )
+    let routes = Routes::new(alloc)?;
+    let mut bureau = in_memory(alloc)?;
+    let mut meter = Meter::new();
+    Ok(exchange(alloc, &routes, reader, writer, &mut bureau, &mut meter))
 }
 
 #[test]

@@ -7,21 +7,7 @@ use ledger::Bureau;
 use machine::Meter;
 use sqlite::Alter;
 use std::alloc::Global;
-use std::io::{Read, Write};
 use std::test::Fail;
-
-/// How an exchange ends.
-// It has no clause, so that the proof of a caller does not carry all that an exchange promises.
-pub(crate) fn ended<R: Read, W: Write, S: Alter>(
-    alloc: Global,
-    reader: &mut R,
-    writer: &mut W,
-    bureau: &mut Bureau<S>,
-    meter: &mut Meter,
-) -> Result<Exchange, Fail> {
-    let routes = Routes::new(alloc)?;
-    Ok(exchange(alloc, &routes, reader, writer, bureau, meter))
-}
 
 /// Whether the answer to a request has exactly these bytes, which begin with this status.
 fn is_answered<S: Alter>(
@@ -31,9 +17,10 @@ fn is_answered<S: Alter>(
     request: &[u8],
     wanted: &str,
 ) -> Result<bool, Fail> {
+    let routes = Routes::new(alloc)?;
     let mut reader = request;
     let mut answer = Vec::new(alloc);
-    let ended = ended(alloc, &mut reader, &mut answer, bureau, meter)?;
+    let ended = exchange(alloc, &routes, &mut reader, &mut answer, bureau, meter);
     let Exchange::Answered { status, sent } = ended else {
         return Ok(false);
     };

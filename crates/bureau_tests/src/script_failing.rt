@@ -2,10 +2,10 @@
 
 use crate::bureaus::in_memory;
 use crate::devices::{Dripping, Narrow};
-use crate::script_sessions::{applied, comes_to, has_no_job};
+use crate::script_sessions::{comes_to, has_no_job};
 use crate::script_sheets::{output_of, script_of};
 use machine::Meter;
-use script_runs::{ScriptEnd, Scripted};
+use script_runs::{ScriptEnd, Scripted, script};
 use std::alloc::Global;
 use std::test::Fail;
 
@@ -59,7 +59,7 @@ fn scripted_of(alloc: Global, lines: &str, writer: &mut Narrow) -> Result<Script
     let mut bureau = in_memory(alloc)?;
     let mut meter = Meter::new();
     let mut reader = lines.as_bytes();
-    Ok(applied(alloc, &mut reader, writer, &mut bureau, &mut meter))
+    Ok(script(alloc, &mut reader, writer, &mut bureau, &mut meter))
 }
 
 #[test]

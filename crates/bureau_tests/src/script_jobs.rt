@@ -1,10 +1,9 @@
 //! A job from its submission to its lines.
 
 use crate::bureaus::in_memory;
-use crate::script_sessions::applied;
 use crate::script_sheets::{output_of, script_of};
 use machine::Meter;
-use script_runs::{ScriptEnd, Scripted};
+use script_runs::{ScriptEnd, Scripted, script};
 use std::test::Fail;
 
 /// A job that prints two lines, which is submitted, held, run to its halt, started again and
@@ -53,7 +52,7 @@ fn a_whole_job(rt: HostRuntime) -> Result<(), Fail> {
     let mut meter = Meter::new();
     let mut writer = Vec::new(alloc);
     let mut reader = lines.as_str().as_bytes();
-    let scripted = applied(alloc, &mut reader, &mut writer, &mut bureau, &mut meter);
+    let scripted = script(alloc, &mut reader, &mut writer, &mut bureau, &mut meter);
     let wanted = Scripted {
         acknowledged: 19,
         sent: output.len(),

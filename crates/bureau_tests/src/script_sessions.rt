@@ -5,20 +5,8 @@ use machine::Meter;
 use script_runs::{ScriptEnd, Scripted, script};
 use sqlite::Alter;
 use std::alloc::Global;
-use std::io::{Read, Write};
+use std::io::Read;
 use std::test::Fail;
-
-/// The result of a script.
-// It has no clause, so that the proof of a caller does not carry all that a script promises.
-pub(crate) fn applied<R: Read, W: Write, S: Alter>(
-    alloc: Global,
-    reader: &mut R,
-    writer: &mut W,
-    bureau: &mut Bureau<S>,
-    meter: &mut Meter,
-) -> Scripted {
-    script(alloc, reader, writer, bureau, meter)
-}
 
 /// Whether a script writes this output, and has this number of replies, a refusal or none, and this
 /// end.
@@ -31,7 +19,7 @@ pub(crate) fn comes_to<R: Read, S: Alter>(
 ) -> bool {
     let mut meter = Meter::new();
     let mut writer = Vec::new(alloc);
-    let scripted = applied(alloc, reader, &mut writer, bureau, &mut meter);
+    let scripted = script(alloc, reader, &mut writer, bureau, &mut meter);
     let wanted = Scripted {
         acknowledged,
         sent: output.len(),
