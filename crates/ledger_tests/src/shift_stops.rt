@@ -72,14 +72,14 @@ const QUERY: &str = "standing|ACME|9|";
 
 /// The number of stops after which the command that was not acknowledged was lost, and the number
 /// after which it was kept.
-#[derive(Clone, Copy, Debug, Drop)]
+#[derive(Clone, Copy, Drop)]
 struct Stops {
     lost: u32,
     kept: u32,
 }
 
 /// What a shift over failing disks leaves of the first command that was not acknowledged.
-#[derive(Clone, Copy, Debug, Drop)]
+#[derive(Clone, Copy, Drop)]
 enum Left {
     Lost,
     Kept,

@@ -15,7 +15,7 @@ use std::alloc::Global;
 use std::test::Fail;
 
 /// The number of calls of each disk that do not fail.
-#[derive(Clone, Copy, Debug, Drop)]
+#[derive(Clone, Copy, Drop)]
 pub(crate) struct Calls {
     pub(crate) log: u64,
     pub(crate) db: u64,
@@ -28,7 +28,7 @@ pub(crate) const ALL: Calls = Calls {
 };
 
 /// The disk that fails.
-#[derive(Clone, Copy, Debug, Drop)]
+#[derive(Clone, Copy, Drop)]
 pub(crate) enum Failing {
     Log,
     Database,
@@ -46,14 +46,14 @@ impl Failing {
 
 /// The number of stops after which the office was the old one, and the number after which it was
 /// the next.
-#[derive(Clone, Copy, Debug, Drop)]
+#[derive(Clone, Copy, Drop)]
 struct Stops {
     old: u32,
     next: u32,
 }
 
 /// What a run over failing disks leaves.
-#[derive(Clone, Copy, Debug, Drop)]
+#[derive(Clone, Copy, Drop)]
 enum Left {
     /// There was no reply, and the office is the old one.
     Old,
