@@ -248,37 +248,47 @@ fn characters_and_marks_are_kept_apart(rt: HostRuntime) -> Result<(), Fail> {
     Ok(())
 }
 
-/// Whether sixteen characters that are copied at once, from the end of storage to its beginning and
-/// to the positions after, are what they were, one by one, and whether marks stay.
-fn copies_sixteen<C: Core>(alloc: Global) -> Result<bool, AllocError> {
-    let mut core = C::blank(alloc, Size::Positions1400)?;
-    if core.size() != 1400 {
-        return Ok(false);
+/// Copies at once the sixteen characters that end at `from` to those that end at `to`.
+fn copy_sixteen<C: Core>(core: &mut C, from: u16, to: u16) {
+    if 15 <= from && from < core.size() && 15 <= to && to < core.size() {
+        let codes = core.near_codes(from);
+        core.put_near_codes(to, codes);
     }
-    core.put(1384, code(b'A'));
-    core.put(1399, code(b'B'));
-    core.set_mark(1399);
-    core.set_mark(0);
-    let codes = core.near_codes(1399);
-    core.put_near_codes(15, codes);
-    core.put_near_codes(31, codes);
-    Ok(
-        core.get(0) == code(b'A')
-            && core.get(1) == code(b' ')
-            && core.get(15) == code(b'B')
-            && core.get(16) == code(b'A')
-            && core.get(31) == code(b'B')
-            && core.get(32) == code(b' ')
-            && core.is_marked(0)
-            && !core.is_marked(15)
-            && !core.is_marked(31),
-    )
+}
+
+/// The first `count` characters of storage, each after a `~` if it is marked.
+fn beginning<C: Core>(alloc: Global, core: &C, count: u16) -> Result<String, AllocError> {
+    let mut text = String::new(alloc);
+    for position in 0..count {
+        if position < core.size() {
+            if core.is_marked(position) {
+                text.push('~')?;
+            }
+            text.push(core.get(position).glyph() as char)?;
+        }
+    }
+    Ok(text)
+}
+
+/// The beginning of a storage to which its last sixteen characters were copied, with the marks.
+fn sixteen_copied<C: Core>(alloc: Global) -> Result<String, AllocError> {
+    let mut core = C::blank(alloc, Size::Positions1400)?;
+    if core.size() == 1400 {
+        core.put(1384, code(b'A'));
+        core.put(1399, code(b'B'));
+        core.set_mark(1399);
+        core.set_mark(1);
+    }
+    copy_sixteen(&mut core, 1399, 15);
+    copy_sixteen(&mut core, 1399, 31);
+    beginning(alloc, &core, 34)
 }
 
 #[test]
 fn sixteen_characters_are_copied_at_once(rt: HostRuntime) -> Result<(), Fail> {
-    assert!(rt; copies_sixteen::<FlagCore>(rt.alloc())?);
-    assert!(rt; copies_sixteen::<PlaneCore>(rt.alloc())?);
+    let copied = "A~              BA              B  ";
+    assert_eq!(rt; sixteen_copied::<FlagCore>(rt.alloc())?.as_str(), copied);
+    assert_eq!(rt; sixteen_copied::<PlaneCore>(rt.alloc())?.as_str(), copied);
     Ok(())
 }
 
