@@ -3,9 +3,9 @@
 use crate::decks::deck_named;
 use crate::replies::reply_text;
 use bitflags::Flags;
-use ledger::Bureau;
+use ledger::{Bureau, Fault};
 use machine::Meter;
-use office::{Command, Contents, JobCommand, Kind};
+use office::{Command, Contents, JobCommand, Kind, Reply};
 use sqlite::Alter;
 use std::alloc::Global;
 use std::test::Fail;
@@ -96,6 +96,16 @@ pub(crate) fn command_of(alloc: Global, line: &str) -> Result<Command, Fail> {
     }
 }
 
+/// Applies a command.
+// It has no clause, so that the proof of a caller does not carry the state of each call.
+pub(crate) fn apply<S: Alter>(
+    bureau: &mut Bureau<S>,
+    command: &Command,
+    meter: &mut Meter,
+) -> Result<Reply, Fault> {
+    bureau.apply(command, meter)
+}
+
 /// The reply to the command of a line.
 pub(crate) fn reply_to<S: Alter>(
     alloc: Global,
@@ -104,17 +114,17 @@ pub(crate) fn reply_to<S: Alter>(
     line: &str,
 ) -> Result<String, Fail> {
     let command = command_of(alloc, line)?;
-    reply_text(alloc, &bureau.apply(&command, meter))
+    reply_text(alloc, &apply(bureau, &command, meter))
 }
 
 /// The first line of a sheet whose command gets another reply than the line gives before it; empty
 /// if there is none.
-pub(crate) fn misanswered<S: Alter>(
+pub(crate) fn misanswered<'a, S: Alter>(
     alloc: Global,
     bureau: &mut Bureau<S>,
     meter: &mut Meter,
-    sheet: &'static str,
-) -> Result<&'static str, Fail> {
+    sheet: &'a str,
+) -> Result<&'a str, Fail> {
     for line in sheet.lines() {
         let (wanted, command) = line.split_once('|').ok_or("a reply")?;
         if reply_to(alloc, bureau, meter, command)?.as_str() != wanted {

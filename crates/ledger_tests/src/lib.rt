@@ -6,13 +6,13 @@
 #![tactic(auto)]
 
 #[cfg(test)]
-mod adopting;
-#[cfg(test)]
 mod commands;
 #[cfg(test)]
 mod connections;
 #[cfg(test)]
 mod decks;
+#[cfg(test)]
+mod disks;
 #[cfg(test)]
 mod failing_disks;
 #[cfg(test)]

@@ -1,249 +1,117 @@
-//! A bureau over existing tables: its file opened again for each command, and a row altered by
-//! hand.
+//! A bureau over existing tables: its files opened again for each command, and rows altered by hand.
 
-ghost use Rattle.std.specs.Prelude.{IsTrue, IfOk};
-ghost use Rattle.sqlite_disk.specs.Memory.{memory_is_usable};
-
-use crate::connections::{connection_to, files_of};
-use crate::decks::deck_named;
-use crate::replies::reply_text;
-use crate::sessions::adopted;
-use bitflags::Flags;
-use ledger::{Bureau, Fault};
-use machine::Meter;
-use office::{Command, Contents, JobCommand, Kind, Reply};
-use sqlite::{Alter, Connection, FileStore, Files, Options};
-use sqlite_disk::{Disk, Memory};
+use crate::disks::{new_disks, told_on};
+use crate::sessions::told_in_memory;
+use sqlite::Files;
+use sqlite_disk::Memory;
 use std::alloc::Global;
 use std::test::Fail;
-use units::Switches;
 
-/// Submits the deck with this name as job 9 of ACME.
-fn submit_9(alloc: Global, deck: &str) -> Result<Command, Fail> {
-    Ok(Command::Submit {
-        customer: String::from_str(alloc, "ACME")?,
-        number: 9,
-        contents: Contents {
-            kind: Kind::Object,
-            size: 4000,
-            switches: Switches::A,
-            deck: deck_named(alloc, deck)?,
-        },
-    })
-}
-
-/// Runs job 9 of ACME.
-fn slice_9(alloc: Global, limit: u32) -> Result<Command, Fail> {
-    Ok(Command::Job {
-        customer: String::from_str(alloc, "ACME")?,
-        number: 9,
-        command: JobCommand::Slice { limit },
-    })
-}
-
-/// The reply to a command.
-// It has no clause, so that the proof of a test does not carry the state of each call.
-pub(crate) fn apply<S: Alter>(
-    bureau: &mut Bureau<S>,
-    command: &Command,
-    meter: &mut Meter,
-) -> Result<Reply, Fault> {
-    bureau.apply(command, meter)
-}
-
-/// A copy of a disk.
-pub(crate) fn copy(alloc: Global, disk: &Memory) -> Result<Memory, Fail>
-    ensures { IfOk result (λ copy. IsTrue (memory_is_usable copy)) }
-{
-    let mut copy = Memory::new(alloc);
-    copy.write_at(0, disk.bytes())?;
-    Ok(copy)
-}
-
-/// A connection to the database on these disks.
-pub(crate) fn open(
-    alloc: Global,
-    disks: &Files<Memory>,
-) -> Result<Connection<FileStore<Memory>>, Fail> {
-    let files = Files {
-        log: copy(alloc, &disks.log)?,
-        db: copy(alloc, &disks.db)?,
-    };
-    match connection_to(alloc, files, Options::new(1)) {
-        Ok(conn) => Ok(conn),
-        Err(_) => Err("not opened")?,
-    }
-}
-
-/// The connection of a new bureau.
-pub(crate) fn created<S: Alter + Drop>(
-    alloc: Global,
-    conn: Connection<S>,
-) -> Result<Connection<S>, Fail> {
-    match Bureau::create(alloc, conn) {
-        Ok(bureau) => Ok(bureau.into_connection()),
-        Err(_) => Err("not made")?,
-    }
-}
-
-/// The disks of a connection after it is closed.
-fn closed(conn: Result<Connection<FileStore<Memory>>, Fail>) -> Result<Files<Memory>, Fail> {
-    match conn {
-        Ok(conn) => Ok(files_of(conn)),
-        Err(fail) => Err(fail),
-    }
-}
-
-/// The disks of a bureau without jobs.
-pub(crate) fn new_disks(alloc: Global) -> Result<Files<Memory>, Fail> {
-    let empty = Files {
-        log: Memory::new(alloc),
-        db: Memory::new(alloc),
-    };
-    match open(alloc, &empty) {
-        Ok(conn) => closed(created(alloc, conn)),
-        Err(fail) => Err(fail),
-    }
-}
-
-/// The connection of a bureau after a command that gets this reply.
-fn applied<S: Alter + Drop>(
-    alloc: Global,
-    conn: Connection<S>,
-    command: &Command,
-    meter: &mut Meter,
-    reply: &mut Result<Reply, Fault>,
-) -> Result<Connection<S>, Fail> {
-    let mut bureau = adopted(alloc, conn)?;
-    *reply = apply(&mut bureau, command, meter);
-    Ok(bureau.into_connection())
-}
-
-/// The reply, in words, to a command to the bureau on these disks, and the disks after it.
-pub(crate) fn apply_anew(
-    alloc: Global,
-    disks: &Files<Memory>,
-    command: &Command,
-    meter: &mut Meter,
-) -> Result<(String, Files<Memory>), Fail> {
-    let mut reply = Err(Fault::Store);
-    let conn = match open(alloc, disks) {
-        Ok(conn) => applied(alloc, conn, command, meter, &mut reply),
-        Err(fail) => Err(fail),
-    };
-    let disks = closed(conn)?;
-    Ok((reply_text(alloc, &reply)?, disks))
-}
-
-/// The characters of all lines, as numbers in a row.
-fn images<S: Alter + Drop>(alloc: Global, mut conn: Connection<S>) -> Result<Vec<u8>, Fail> {
-    let mut images = Vec::new(alloc);
-    for row in &conn.query_all("SELECT image FROM lines ORDER BY place", &[])? {
-        let image: Vec<u8> = row.get(0)?;
-        images.extend_from_slice(&image)?;
-    }
-    Ok(images)
-}
-
-/// The number of slices of one instruction whose reply is a running machine, each over the file
-/// opened again; the reply to the next slice in words; and the disks after it.
-fn run_by_ones(
+/// The number of times that stages tell this, each over the disks opened again; the reply
+/// after them; all ticks; and the disks after it.
+fn repeated(
     alloc: Global,
     mut disks: Files<Memory>,
-    meter: &mut Meter,
-) -> Result<(u32, String, Files<Memory>), Fail> {
-    let command = slice_9(alloc, 1)?;
+    stages: &str,
+    wanted: &str,
+) -> Result<(u32, String, u64, Files<Memory>), Fail> {
+    let mut sum: u64 = 0;
     for count in 0..100 {
-        let (reply, after) = apply_anew(alloc, &disks, &command, meter)?;
-        if reply.as_str() != "ran 1, running" {
-            return Ok((count, reply, after));
+        let (reply, ticks, after) = told_on(alloc, &disks, stages)?;
+        sum = sum.saturating_add(ticks);
+        if reply.as_str() != wanted {
+            return Ok((count, reply, sum, after));
         }
         disks = after;
     }
     Err("no end")?
 }
 
+/// Submits a job that prints two lines.
+const TWO_LINES: &str = "sheet|taken 6|submit|ACME|9|4000|A|two lines\n#";
+
+/// The number of its lines, and the places of those that have the characters of each word.
+const IMAGES: &str = "\
+number| lines, |SELECT count(*) FROM lines WHERE length(image) = 132#\
+number| HELLO, |SELECT place FROM lines \
+WHERE image >= x'383523232600' AND image < x'383523232601'#\
+number| WORLD|SELECT place FROM lines \
+WHERE image >= x'162629233400' AND image < x'162629233401'#";
+
 #[test]
 fn slices_of_one_instruction(rt: HostRuntime) -> Result<(), Fail> {
     let alloc = rt.alloc();
-    let mut meter = Meter::new();
     let disks = new_disks(alloc)?;
-    let (taken, disks) = apply_anew(alloc, &disks, &submit_9(alloc, "two lines")?, &mut meter)?;
-    assert_eq!(rt; taken.as_str(), "taken 6");
-    let (count, last, disks) = run_by_ones(alloc, disks, &mut meter)?;
-    assert_eq!(rt; count, 34);
+    let (line, _, disks) = told_on(alloc, &disks, TWO_LINES)?;
+    assert_eq!(rt; line.as_str(), "");
+    let slice = "commands|slice|ACME|9|1#";
+    let (count, last, ticks, disks) = repeated(alloc, disks, slice, "ran 1, running")?;
     assert_eq!(rt; last.as_str(), "ran 1, halted, next 361");
-    assert_eq!(rt; meter.ticks(), 35);
-    let images = images(alloc, open(alloc, &disks)?)?;
-    assert_eq!(rt; images.len(), 2 * 132);
-    assert!(rt; images.starts_with(&[56, 53, 35, 35, 38, 0]));
-    assert!(rt; images[132..].starts_with(&[22, 38, 41, 35, 52, 0]));
+    assert_eq!(rt; (count, ticks), (34, 35));
+    let (images, _, _) = told_on(alloc, &disks, IMAGES)?;
+    assert_eq!(rt; images.as_str(), "2 lines, 1 HELLO, 2 WORLD");
     Ok(())
 }
 
-/// A connection to the tables of a new bureau with a job that runs for ever, after a statement on
-/// them.
-fn altered<S: Alter + Drop>(
+/// What is told of the commands of a sheet, after a statement on the tables that another sheet left,
+/// and of the number that a query returns then; and the ticks.
+fn told_after(
     alloc: Global,
-    conn: Connection<S>,
+    before: &str,
     sql: &str,
-) -> Result<Connection<S>, Fail> {
-    let conn = created(alloc, conn)?;
-    let command = submit_9(alloc, "loop")?;
-    let mut reply = Err(Fault::Store);
-    let mut conn = applied(alloc, conn, &command, &mut Meter::new(), &mut reply)?;
-    conn.execute(sql, &[])?;
-    Ok(conn)
+    sheet: &str,
+    query: &str,
+) -> Result<String, Fail> {
+    let stages = format!(in alloc;
+        "make|#sheet|{before}#execute|{sql}#sheet|{sheet}#number||{query}#"
+    )?;
+    let (told, ticks) = told_in_memory(alloc, stages.as_str())?;
+    Ok(format!(in alloc; "{told}, {ticks} ticks")?)
 }
 
-/// The number of the refusal of a slice, 0 if the machine ran.
-fn refusal<S: Alter>(
-    alloc: Global,
-    bureau: &mut Bureau<S>,
-    meter: &mut Meter,
-    limit: u32,
-) -> Result<u8, Fail> {
-    match apply(bureau, &slice_9(alloc, limit)?, meter) {
-        Ok(Reply::Ran { .. }) => Ok(0),
-        Ok(Reply::Refused(reason)) => Ok(reason.number()),
-        _ => Err("another reply")?,
-    }
+/// A job that punches three cards is submitted.
+const THREE_CARDS: &str = "taken 1|submit|ACME|9|1400|-|three cards\n";
+
+/// The machine continues from its picture, whatever was granted.
+const GOES_ON: &str = "\
+ran 1, running|slice|ACME|9|1
+running, false false 9 0 0|standing|ACME|9|
+";
+
+#[test]
+fn what_was_granted_is_not_run_again(rt: HostRuntime) -> Result<(), Fail> {
+    let told = told_after(
+        rt.alloc(),
+        THREE_CARDS,
+        "UPDATE stretches SET granted = 8",
+        GOES_ON,
+        "SELECT granted FROM stretches",
+    )?;
+    assert_eq!(rt; told.as_str(), "9, 1 ticks");
+    Ok(())
 }
 
-/// The number of instructions granted to the job of a bureau.
-fn sum_granted<S: Alter + Drop>(bureau: Bureau<S>) -> Result<i64, Fail> {
-    let mut conn = bureau.into_connection();
-    Ok(
-        conn.query_row("SELECT granted FROM stretches", &[])?
-            .get(0)?,
-    )
-}
+/// A job that runs for ever is submitted.
+const LOOP: &str = "taken 1|submit|ACME|9|4000|A|loop\n";
 
-/// The refusals of slices with these limits over a connection, the ticks that they take, and the
-/// number of instructions granted after them.
-fn refusals<S: Alter + Drop>(
-    alloc: Global,
-    conn: Connection<S>,
-    limits: [u32; 4],
-) -> Result<([u8; 4], u64, i64), Fail> {
-    let mut bureau = adopted(alloc, conn)?;
-    let mut meter = Meter::new();
-    let refusals = [
-        refusal(alloc, &mut bureau, &mut meter, limits[0])?,
-        refusal(alloc, &mut bureau, &mut meter, limits[1])?,
-        refusal(alloc, &mut bureau, &mut meter, limits[2])?,
-        refusal(alloc, &mut bureau, &mut meter, limits[3])?,
-    ];
-    Ok((refusals, meter.ticks(), sum_granted(bureau)?))
-}
+/// Slices of which all but one would exceed what may be granted.
+const LAST_THOUSAND: &str = "\
+refused 28|slice|ACME|9|2000
+refused 28|slice|ACME|9|1001
+ran 1000, running|slice|ACME|9|1000
+refused 28|slice|ACME|9|1
+";
 
 #[test]
 fn a_thousand_million_instructions_and_no_more(rt: HostRuntime) -> Result<(), Fail> {
-    let alloc = rt.alloc();
-    let conn = Connection::open_in_memory(alloc)?;
-    let conn = altered(alloc, conn, "UPDATE stretches SET granted = 999999000")?;
-    let outcome = refusals(alloc, conn, [2000, 1001, 1000, 1])?;
-    assert_eq!(rt; outcome, ([28, 28, 0, 28], 1000, 1_000_000_000));
+    let told = told_after(
+        rt.alloc(),
+        LOOP,
+        "UPDATE stretches SET granted = 999999000",
+        LAST_THOUSAND,
+        "SELECT granted FROM stretches",
+    )?;
+    assert_eq!(rt; told.as_str(), "1000000000, 1000 ticks");
     Ok(())
 }
 
@@ -268,26 +136,18 @@ const ALTERED_ROWS: &str = "\
 2|INSERT INTO lines VALUES ('ACME', 9, 1, 1, 1, x'00')
 ";
 
-/// The number of the fault that a slice of one instruction returns after a statement, 0 for none,
-/// and the ticks that it takes.
-fn fault_after(alloc: Global, sql: &str) -> Result<(u8, u64), Fail> {
-    let conn = altered(alloc, Connection::open_in_memory(alloc)?, sql)?;
-    let mut bureau = adopted(alloc, conn)?;
-    let mut meter = Meter::new();
-    let fault = match apply(&mut bureau, &slice_9(alloc, 1)?, &mut meter) {
-        Ok(_) => 0,
-        Err(fault) => fault.number(),
-    };
-    Ok((fault, meter.ticks()))
-}
-
-/// The first line of a sheet after whose statement a slice returns another fault, or ticks though
-/// it fails; empty if there is none.
-fn misread(alloc: Global, sheet: &'static str) -> Result<&'static str, Fail> {
+/// The first line of a sheet after whose statement a slice of one instruction returns another fault,
+/// or ticks though it fails; empty if there is none.
+fn misread<'a>(alloc: Global, sheet: &'a str) -> Result<&'a str, Fail> {
     for line in sheet.lines() {
         let (wanted, sql) = line.split_once('|').ok_or("a fault")?;
-        let wanted = if wanted == "0" { (0, 1) } else { (2, 0) };
-        if fault_after(alloc, sql)? != wanted {
+        let (slice, wanted) = if wanted == "0" {
+            ("ran 1, running|slice|ACME|9|1\n", "1, 1 ticks")
+        } else {
+            ("fault Store|slice|ACME|9|1\n", "1, 0 ticks")
+        };
+        let told = told_after(alloc, LOOP, sql, slice, "SELECT count(*) FROM jobs")?;
+        if told.as_str() != wanted {
             return Ok(line);
         }
     }

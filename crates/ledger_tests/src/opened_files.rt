@@ -1,43 +1,26 @@
 //! A bureau's file, created, closed and opened at its path.
 
-use crate::commands::misanswered;
-use crate::opened_anew::created;
-use ledger_files::open_from;
-use machine::Meter;
-use sqlite::{Connection, Unknown};
+use crate::connections::{over_bureau, over_path};
+use crate::sessions::Session;
 use std::fs;
 use std::test::Fail;
 
-/// The number of the fault with which a file is opened as a bureau's, 0 for none.
-pub(crate) fn opening(rt: &HostRuntime, path: &str) -> u8 {
-    match open_from(rt, path, Unknown) {
-        Ok(_bureau) => 0,
-        Err((fault, _kept)) => fault.number(),
-    }
-}
-
 /// Creates a bureau's tables in a file.
 pub(crate) fn create(rt: &HostRuntime, path: &str) -> Result<(), Fail> {
-    let Ok(conn) = Connection::open_from(rt, path, false, Unknown) else {
-        return Err("not opened")?;
-    };
-    match created(rt.alloc(), conn) {
-        Ok(_conn) => Ok(()),
-        Err(fail) => Err(fail),
-    }
+    over_path(rt, path, &mut Session::of(rt.alloc(), "make|#")?)
 }
 
-/// The first line of a sheet to which the bureau of a file gives another reply; empty if there is
-/// none.
-pub(crate) fn misanswered_at(
-    rt: &HostRuntime,
-    path: &str,
-    sheet: &'static str,
-) -> Result<&'static str, Fail> {
-    match open_from(rt, path, Unknown) {
-        Ok(mut bureau) => misanswered(rt.alloc(), &mut bureau, &mut Meter::new(), sheet),
-        Err(_) => Err("not opened")?,
+/// What is told of a sheet to the bureau of a file: the first line that gets another reply, if there
+/// is one; or the number of the fault with which the file is opened.
+pub(crate) fn told_at(rt: &HostRuntime, path: &str, sheet: &str) -> Result<String, Fail> {
+    let stages = format!(in rt.alloc(); "sheet|{sheet}#")?;
+    let mut session = Session::of(rt.alloc(), stages.as_str())?;
+    let fault = over_bureau(rt, path, &mut session)?;
+    if fault != 0 {
+        return Ok(format!(in rt.alloc(); "{fault}")?);
     }
+    let Session { told, .. } = session;
+    Ok(told)
 }
 
 /// A job is submitted and run in part.
@@ -58,11 +41,11 @@ ran 1, halted, next 361|slice|ACME|9|2000
 #[test]
 fn a_file_is_opened_again(rt: HostRuntime) -> Result<(), Fail> {
     let path = "opened_again.db";
-    assert_eq!(rt; opening(&rt, path), 50);
+    assert_eq!(rt; told_at(&rt, path, "")?.as_str(), "50");
     create(&rt, path)?;
-    assert_eq!(rt; opening(&rt, path), 0);
-    assert_eq!(rt; misanswered_at(&rt, path, BEFORE)?, "");
-    assert_eq!(rt; misanswered_at(&rt, path, AFTER)?, "");
+    assert_eq!(rt; told_at(&rt, path, "")?.as_str(), "");
+    assert_eq!(rt; told_at(&rt, path, BEFORE)?.as_str(), "");
+    assert_eq!(rt; told_at(&rt, path, AFTER)?.as_str(), "");
     fs::remove_file(&rt, path)?;
     fs::remove_file(&rt, "opened_again.db-wal")?;
     Ok(())
@@ -85,11 +68,11 @@ lines 2 HELLO/WORLD/|lines|ACME|9|
 fn slices_of_one_instruction_from_a_file(rt: HostRuntime) -> Result<(), Fail> {
     let path = "by_ones.db";
     create(&rt, path)?;
-    assert_eq!(rt; misanswered_at(&rt, path, HANDED_IN)?, "");
+    assert_eq!(rt; told_at(&rt, path, HANDED_IN)?.as_str(), "");
     for _ in 0..34 {
-        assert_eq!(rt; misanswered_at(&rt, path, ONE_MORE)?, "");
+        assert_eq!(rt; told_at(&rt, path, ONE_MORE)?.as_str(), "");
     }
-    assert_eq!(rt; misanswered_at(&rt, path, LAST_ONE)?, "");
+    assert_eq!(rt; told_at(&rt, path, LAST_ONE)?.as_str(), "");
     fs::remove_file(&rt, path)?;
     fs::remove_file(&rt, "by_ones.db-wal")?;
     Ok(())

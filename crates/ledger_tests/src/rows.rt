@@ -1,6 +1,5 @@
 //! A row of each table.
 
-use crate::sessions::number;
 use ledger_tables::{Fault, JobName, JobRow, LineRow, OpenTables, PictureRow, StretchRow};
 use sqlite::{Alter, Connection, MemStore};
 use std::alloc::Global;
@@ -115,6 +114,11 @@ const NUMBERS: &str = "\
 2|SELECT length(card) FROM cards
 11|SELECT form FROM lines
 ";
+
+/// The number that a query returns.
+fn number<S: Alter>(conn: &mut Connection<S>, sql: &str) -> Result<i64, Fail> {
+    Ok(conn.query_row(sql, &[])?.get(0)?)
+}
 
 /// The first line of a sheet whose query returns another number than it gives; empty if there is
 /// none.

@@ -1,80 +1,153 @@
-//! Sessions: the commands of a sheet, applied to a new bureau in memory.
+//! Sessions: stages in turn, over a connection to the tables of a bureau.
+//!
+//! A session is a text. Each stage ends with `#`; it has a word, `|` and the rest:
+//!
+//! - `make` creates the tables.
+//! - `sheet` opens the bureau and applies the commands of a sheet: it tells the first line that gets
+//!   another reply, if there is one.
+//! - `commands` opens the bureau and applies commands, one in each line: it tells the replies, or
+//!   the fault of opening it.
+//! - `execute` executes a statement.
+//! - `faults` tells the number of the fault of opening the bureau, and that of looking for the
+//!   version of the tables; each is 0 if there is none.
+//! - `number` tells the number that a query returns, and the text before the query and `|`.
+//! - `rows` tells every row of every table.
 
-use crate::commands::misanswered;
+use crate::commands::{misanswered, reply_to};
+use crate::connections::{Work, over_memory};
 use ledger::Bureau;
+use ledger_tables::OpenTables;
 use machine::Meter;
-use sqlite::{Alter, Connection, MemStore};
+use sqlite::{Alter, Connection};
 use std::alloc::Global;
 use std::test::Fail;
 
-/// A bureau without jobs, whose tables are created over a connection.
-pub(crate) fn new_bureau<S: Alter + Drop>(
-    alloc: Global,
-    conn: Connection<S>,
-) -> Result<Bureau<S>, Fail> {
-    match Bureau::create(alloc, conn) {
-        Ok(bureau) => Ok(bureau),
-        Err(_) => Err("not made")?,
-    }
-}
-
 /// The bureau over the tables of a connection.
-pub(crate) fn adopted<S: Alter + Drop>(
-    alloc: Global,
-    conn: Connection<S>,
-) -> Result<Bureau<S>, Fail> {
+fn adopted<S: Alter + Drop>(alloc: Global, conn: Connection<S>) -> Result<Bureau<S>, Fail> {
     match Bureau::adopt(alloc, conn) {
         Ok(bureau) => Ok(bureau),
         Err(_) => Err("not adopted")?,
     }
 }
 
-/// A bureau without jobs, in memory.
-pub(crate) fn in_memory(alloc: Global) -> Result<Bureau<MemStore>, Fail> {
-    new_bureau(alloc, Connection::open_in_memory(alloc)?)
-}
-
-/// The number that a query returns.
-pub(crate) fn number<S: Alter>(conn: &mut Connection<S>, sql: &str) -> Result<i64, Fail> {
-    Ok(conn.query_row(sql, &[])?.get(0)?)
-}
-
-/// The number of jobs and of lines of a bureau.
-pub(crate) fn counts(alloc: Global, bureau: Bureau<MemStore>) -> Result<String, Fail> {
-    let mut conn = bureau.into_connection();
-    let jobs = number(&mut conn, "SELECT count(*) FROM jobs")?;
-    let lines = number(&mut conn, "SELECT count(*) FROM lines")?;
-    Ok(format!(in alloc; "{jobs} jobs, {lines} lines")?)
-}
-
-/// The first line of a sheet that gets another reply; if there is none, the number of ticks of its
-/// commands, and the number of jobs and of lines after them.
-pub(crate) fn outcome(alloc: Global, sheet: &'static str) -> Result<String, Fail> {
-    let mut bureau = in_memory(alloc)?;
-    let mut meter = Meter::new();
-    let line = misanswered(alloc, &mut bureau, &mut meter, sheet)?;
-    if !line.is_empty() {
-        return Ok(String::from_str(alloc, line)?);
+/// The stage `make`.
+fn made<S: Alter + Drop>(alloc: Global, conn: Connection<S>) -> Result<Connection<S>, Fail> {
+    match Bureau::create(alloc, conn) {
+        Ok(bureau) => Ok(bureau.into_connection()),
+        Err(_) => Err("not made")?,
     }
-    let counts = counts(alloc, bureau)?;
-    Ok(format!(in alloc; "{} ticks, {counts}", meter.ticks())?)
 }
 
-/// Adds the rows that a query returns.
-fn push_rows<S: Alter>(
+/// The stage `sheet`.
+fn answered<S: Alter + Drop>(
     alloc: Global,
-    text: &mut String,
-    conn: &mut Connection<S>,
-    sql: &str,
-) -> Result<(), Fail> {
-    let rows = conn.query_all(sql, &[])?;
-    let shown = format!(in alloc; "{rows:?}\n")?;
-    Ok(text.push_str(shown.as_str())?)
+    conn: Connection<S>,
+    sheet: &str,
+    meter: &mut Meter,
+    told: &mut String,
+) -> Result<Connection<S>, Fail> {
+    let mut bureau = adopted(alloc, conn)?;
+    told.push_str(misanswered(alloc, &mut bureau, meter, sheet)?)?;
+    Ok(bureau.into_connection())
 }
 
-/// Every row of every table.
-fn rows_in<S: Alter>(alloc: Global, conn: &mut Connection<S>) -> Result<String, Fail> {
-    let mut text = String::new(alloc);
+/// Adds the replies to the commands of lines to a text, with a semicolon between each two.
+fn reply_to_each<S: Alter>(
+    alloc: Global,
+    bureau: &mut Bureau<S>,
+    lines: &str,
+    meter: &mut Meter,
+    told: &mut String,
+) -> Result<(), Fail> {
+    for line in lines.lines() {
+        if !told.is_empty() {
+            told.push_str("; ")?;
+        }
+        told.push_str(reply_to(alloc, bureau, meter, line)?.as_str())?;
+    }
+    Ok(())
+}
+
+/// The stage `commands`.
+fn replied<S: Alter + Drop>(
+    alloc: Global,
+    conn: Connection<S>,
+    lines: &str,
+    meter: &mut Meter,
+    told: &mut String,
+) -> Result<Connection<S>, Fail> {
+    match Bureau::adopt(alloc, conn) {
+        Ok(mut bureau) => {
+            reply_to_each(alloc, &mut bureau, lines, meter, told)?;
+            Ok(bureau.into_connection())
+        }
+        Err((fault, conn)) => {
+            told.push_str(format!(in alloc; "fault {fault:?}")?.as_str())?;
+            Ok(conn)
+        }
+    }
+}
+
+/// The stage `execute`.
+fn executed<S: Alter + Drop>(mut conn: Connection<S>, sql: &str) -> Result<Connection<S>, Fail> {
+    conn.execute(sql, &[])?;
+    Ok(conn)
+}
+
+/// The number of the fault of looking for the version, 0 for none.
+fn version_fault<S: Alter>(alloc: Global, conn: &mut Connection<S>) -> Result<u8, Fail> {
+    if !conn.is_autocommit() {
+        return Err("in a transaction")?;
+    }
+    let mut tx = conn.transaction();
+    let mut tables = OpenTables { tx: &mut tx, alloc };
+    let number = match tables.find_version() {
+        Ok(()) => 0,
+        Err(fault) => fault.number(),
+    };
+    tx.rollback();
+    Ok(number)
+}
+
+/// The number of the fault of opening the bureau, 0 for none, and the connection.
+fn adoption<S: Alter + Drop>(alloc: Global, conn: Connection<S>) -> (u8, Connection<S>) {
+    match Bureau::adopt(alloc, conn) {
+        Ok(bureau) => (0, bureau.into_connection()),
+        Err((fault, conn)) => (fault.number(), conn),
+    }
+}
+
+/// The stage `faults`.
+fn faulted<S: Alter + Drop>(
+    alloc: Global,
+    conn: Connection<S>,
+    told: &mut String,
+) -> Result<Connection<S>, Fail> {
+    let (opening, mut conn) = adoption(alloc, conn);
+    let version = version_fault(alloc, &mut conn)?;
+    told.push_str(format!(in alloc; "{opening} {version}, ")?.as_str())?;
+    Ok(conn)
+}
+
+/// The stage `number`.
+fn numbered<S: Alter + Drop>(
+    alloc: Global,
+    mut conn: Connection<S>,
+    rest: &str,
+    told: &mut String,
+) -> Result<Connection<S>, Fail> {
+    let (text, sql) = rest.split_once('|').ok_or("a query")?;
+    let number: i64 = conn.query_row(sql, &[])?.get(0)?;
+    told.push_str(format!(in alloc; "{number}{text}")?.as_str())?;
+    Ok(conn)
+}
+
+/// The stage `rows`.
+fn shown<S: Alter + Drop>(
+    alloc: Global,
+    mut conn: Connection<S>,
+    told: &mut String,
+) -> Result<Connection<S>, Fail> {
     for sql in [
         "SELECT * FROM bureau",
         "SELECT * FROM jobs",
@@ -83,21 +156,92 @@ fn rows_in<S: Alter>(alloc: Global, conn: &mut Connection<S>) -> Result<String, 
         "SELECT * FROM cards",
         "SELECT * FROM lines",
     ] {
-        push_rows(alloc, &mut text, conn, sql)?;
+        let rows = conn.query_all(sql, &[])?;
+        told.push_str(format!(in alloc; "{rows:?}\n")?.as_str())?;
     }
-    Ok(text)
+    Ok(conn)
 }
 
-/// Every row of every table of a bureau.
-pub(crate) fn rows_of<S: Alter + Drop>(alloc: Global, bureau: Bureau<S>) -> Result<String, Fail> {
-    let mut conn = bureau.into_connection();
-    rows_in(alloc, &mut conn)
+/// The connection after a stage.
+fn after<S: Alter + Drop>(
+    alloc: Global,
+    conn: Connection<S>,
+    stage: &str,
+    meter: &mut Meter,
+    told: &mut String,
+) -> Result<Connection<S>, Fail> {
+    let (word, rest) = stage.split_once('|').ok_or("a stage")?;
+    match word {
+        "make" => made(alloc, conn),
+        "sheet" => answered(alloc, conn, rest, meter, told),
+        "commands" => replied(alloc, conn, rest, meter, told),
+        "execute" => executed(conn, rest),
+        "faults" => faulted(alloc, conn, told),
+        "number" => numbered(alloc, conn, rest, told),
+        "rows" => shown(alloc, conn, told),
+        _ => Err("a word")?,
+    }
+}
+
+/// A session: its stages, the meter of its commands, and what the stages told.
+#[derive(Drop)]
+pub(crate) struct Session {
+    pub(crate) stages: String,
+    pub(crate) meter: Meter,
+    pub(crate) told: String,
+}
+
+impl Session {
+    /// A session with these stages.
+    pub(crate) fn of(alloc: Global, stages: &str) -> Result<Session, Fail> {
+        Ok(Session {
+            stages: String::from_str(alloc, stages)?,
+            meter: Meter::new(),
+            told: String::new(alloc),
+        })
+    }
+}
+
+impl Work for Session {
+    fn over<S: Alter + Drop>(
+        &mut self,
+        alloc: Global,
+        conn: Connection<S>,
+    ) -> Result<Connection<S>, Fail> {
+        let mut conn = conn;
+        for stage in self.stages.as_str().split_terminator('#') {
+            conn = after(alloc, conn, stage, &mut self.meter, &mut self.told)?;
+        }
+        Ok(conn)
+    }
+}
+
+/// What stages tell over an empty database in memory, and the ticks of their commands.
+pub(crate) fn told_in_memory(alloc: Global, stages: &str) -> Result<(String, u64), Fail> {
+    let mut session = Session::of(alloc, stages)?;
+    over_memory(alloc, &mut session)?;
+    let ticks = session.meter.ticks();
+    let Session { told, .. } = session;
+    Ok((told, ticks))
+}
+
+/// The numbers of jobs and of lines.
+const COUNTS: &str = "\
+number| jobs, |SELECT count(*) FROM jobs#\
+number| lines|SELECT count(*) FROM lines#";
+
+/// The first line of a sheet whose command gets another reply from a new bureau, if there is one;
+/// the number of ticks of its commands, and the number of jobs and of lines after them.
+pub(crate) fn outcome(alloc: Global, sheet: &str) -> Result<String, Fail> {
+    let stages = format!(in alloc; "make|#sheet|{sheet}#{COUNTS}")?;
+    let (told, ticks) = told_in_memory(alloc, stages.as_str())?;
+    Ok(format!(in alloc; "{ticks} ticks, {told}")?)
 }
 
 /// Every row of every table after the commands of a sheet, or after those up to the first that gets
 /// another reply.
-pub(crate) fn rows_after(alloc: Global, sheet: &'static str) -> Result<String, Fail> {
-    let mut bureau = in_memory(alloc)?;
-    misanswered(alloc, &mut bureau, &mut Meter::new(), sheet)?;
-    rows_of(alloc, bureau)
+pub(crate) fn rows_after(alloc: Global, sheet: &str) -> Result<String, Fail> {
+    let stages = format!(in alloc; "make|#sheet|{sheet}#rows|#")?;
+    let (told, _) = told_in_memory(alloc, stages.as_str())?;
+    Ok(told)
 }

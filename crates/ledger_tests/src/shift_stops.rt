@@ -2,16 +2,14 @@
 //! again.
 
 use crate::commands::command_of;
-use crate::connections::{connection_to, files_of};
-use crate::opened_anew::{apply, copy, new_disks, open};
-use crate::replies::reply_text;
-use crate::stops::{Calls, Failing};
+use crate::connections::Work;
+use crate::disks::{Calls, Failing, new_disks, over_failing, told_on};
 use ledger::Bureau;
 use ledger_shifts::shift;
 use machine::Meter;
 use office::Command;
-use sqlite::{Alter, Connection, Files, Options};
-use sqlite_disk::{Fuse, Memory};
+use sqlite::{Alter, Connection, Files};
+use sqlite_disk::Memory;
 use std::alloc::Global;
 use std::test::Fail;
 
@@ -87,50 +85,12 @@ enum Left {
     Ended,
 }
 
-/// A shift by a sheet over some disks: its commands, and the query for the job.
+/// A shift by a sheet over some disks: its commands.
 #[derive(Drop)]
 struct Trial<'a> {
     disks: &'a Files<Memory>,
     sheet: &'a Sheet,
     commands: &'a [Command],
-    query: &'a Command,
-}
-
-/// The replies of a bureau to some commands, in words.
-fn replies<S: Alter>(
-    alloc: Global,
-    bureau: &mut Bureau<S>,
-    commands: &[&Command],
-) -> Result<String, Fail> {
-    let mut text = String::new(alloc);
-    for command in commands {
-        if !text.is_empty() {
-            text.push_str("; ")?;
-        }
-        let reply = reply_text(alloc, &apply(bureau, command, &mut Meter::new()))?;
-        text.push_str(reply.as_str())?;
-    }
-    Ok(text)
-}
-
-/// The same for a bureau over the tables of a connection.
-fn replies_over<S: Alter + Drop>(
-    alloc: Global,
-    conn: Connection<S>,
-    commands: &[&Command],
-) -> Result<String, Fail> {
-    match Bureau::adopt(alloc, conn) {
-        Ok(mut bureau) => replies(alloc, &mut bureau, commands),
-        Err(_) => Err("not adopted")?,
-    }
-}
-
-/// The replies of the bureau on these disks, which are not changed.
-fn ask(alloc: Global, disks: &Files<Memory>, commands: &[&Command]) -> Result<String, Fail> {
-    match open(alloc, disks) {
-        Ok(conn) => replies_over(alloc, conn, commands),
-        Err(fail) => Err(fail),
-    }
 }
 
 /// The number of commands of a shift that are acknowledged.
@@ -139,55 +99,27 @@ fn work<S: Alter>(alloc: Global, bureau: &mut Bureau<S>, commands: &[Command]) -
     shift(alloc, bureau, commands, &mut Meter::new()).acknowledged
 }
 
-/// The connection of a bureau after a shift in which this number of commands is acknowledged.
-fn worked<S: Alter + Drop>(
-    alloc: Global,
-    conn: Connection<S>,
-    commands: &[Command],
-    acknowledged: &mut usize,
-) -> Connection<S> {
-    match Bureau::adopt(alloc, conn) {
-        Ok(mut bureau) => {
-            *acknowledged = work(alloc, &mut bureau, commands);
-            bureau.into_connection()
+/// The work of a shift, and the number of its commands that are acknowledged.
+#[derive(Drop)]
+struct Shifting<'a> {
+    commands: &'a [Command],
+    acknowledged: usize,
+}
+
+impl Work for Shifting<'_> {
+    fn over<S: Alter + Drop>(
+        &mut self,
+        alloc: Global,
+        conn: Connection<S>,
+    ) -> Result<Connection<S>, Fail> {
+        match Bureau::adopt(alloc, conn) {
+            Ok(mut bureau) => {
+                self.acknowledged = work(alloc, &mut bureau, self.commands);
+                Ok(bureau.into_connection())
+            }
+            Err((_, conn)) => Ok(conn),
         }
-        Err((_, conn)) => conn,
     }
-}
-
-/// The files after a shift over copies of disks, which fail after these numbers of calls, and in
-/// which this number of commands is acknowledged. The log is often copied into the database file.
-fn run(
-    alloc: Global,
-    disks: &Files<Memory>,
-    calls: Calls,
-    commands: &[Command],
-    acknowledged: &mut usize,
-) -> Result<Files<Fuse<Memory>>, Fail> {
-    let files = Files {
-        log: Fuse::new(copy(alloc, &disks.log)?, calls.log),
-        db: Fuse::new(copy(alloc, &disks.db)?, calls.db),
-    };
-    let mut options = Options::new(1);
-    options.checkpoint_frames = 3;
-    match connection_to(alloc, files, options) {
-        Ok(conn) => Ok(files_of(worked(alloc, conn, commands, acknowledged))),
-        Err(files) => Ok(files),
-    }
-}
-
-/// The number of commands acknowledged, and the disks after them.
-fn run_to_its_end(
-    alloc: Global,
-    disks: &Files<Memory>,
-    calls: Calls,
-    commands: &[Command],
-) -> Result<(usize, Files<Memory>), Fail> {
-    let mut acknowledged = 0;
-    let files = run(alloc, disks, calls, commands, &mut acknowledged)?;
-    let log = copy(alloc, files.log.inner())?;
-    let db = copy(alloc, files.db.inner())?;
-    Ok((acknowledged, Files { log, db }))
 }
 
 /// What is left if this number of commands was acknowledged, and these are the replies.
@@ -209,11 +141,13 @@ fn left_on(
     acknowledged: usize,
     disks: &Files<Memory>,
 ) -> Result<Left, Fail> {
-    if let Some(command) = trial.commands.get(acknowledged) {
-        let replies = ask(alloc, disks, &[trial.query, command, trial.query])?;
+    if let Some(command) = trial.sheet.commands.get(acknowledged) {
+        let stages = format!(in alloc; "commands|{QUERY}\n{command}\n{QUERY}\n#")?;
+        let (replies, _, _) = told_on(alloc, disks, stages.as_str())?;
         return left_by(trial.sheet, acknowledged, replies.as_str());
     }
-    let replies = ask(alloc, disks, &[trial.query])?;
+    let stages = format!(in alloc; "commands|{QUERY}\n#")?;
+    let (replies, _, _) = told_on(alloc, disks, stages.as_str())?;
     if replies.as_str() != trial.sheet.end {
         return Err("another end")?;
     }
@@ -222,8 +156,12 @@ fn left_on(
 
 /// What is left after a trial in which this number of calls does not fail.
 fn left_after(alloc: Global, trial: &Trial, calls: Calls) -> Result<Left, Fail> {
-    let (acknowledged, disks) = run_to_its_end(alloc, trial.disks, calls, trial.commands)?;
-    left_on(alloc, trial, acknowledged, &disks)
+    let mut shifting = Shifting {
+        commands: trial.commands,
+        acknowledged: 0,
+    };
+    let disks = over_failing(alloc, trial.disks, calls, &mut shifting)?;
+    left_on(alloc, trial, shifting.acknowledged, &disks)
 }
 
 /// Stops a trial at each call of a disk in turn.
@@ -252,12 +190,10 @@ fn commands_of(alloc: Global, lines: &[&str]) -> Result<Vec<Command>, Fail> {
 fn stops_of(alloc: Global, sheet: &Sheet, failing: Failing) -> Result<String, Fail> {
     let disks = new_disks(alloc)?;
     let commands = commands_of(alloc, sheet.commands)?;
-    let query = command_of(alloc, QUERY)?;
     let trial = Trial {
         disks: &disks,
         sheet,
         commands: commands.as_slice(),
-        query: &query,
     };
     let stops = stop_each(alloc, &trial, failing)?;
     Ok(format!(in alloc; "{} lost, {} kept", stops.lost, stops.kept)?)

@@ -1,48 +1,12 @@
 //! A bureau with one disk that fails from some call on, each call in turn, and its files opened
 //! again.
 
-use crate::commands::command_of;
-use crate::connections::{connection_to, files_of};
-use crate::opened_anew::{apply, apply_anew, copy, new_disks, open};
-use crate::replies::reply_text;
-use crate::sessions::{adopted, rows_of};
-use ledger::{Bureau, Fault};
-use machine::Meter;
-use office::{Command, Reply};
-use sqlite::{Alter, Connection, Files, Options};
-use sqlite_disk::{Fuse, Memory};
+use crate::disks::{ALL, Calls, Failing, new_disks, over_failing, told_on};
+use crate::sessions::Session;
+use sqlite::Files;
+use sqlite_disk::Memory;
 use std::alloc::Global;
 use std::test::Fail;
-
-/// The number of calls of each disk that do not fail.
-#[derive(Clone, Copy, Drop)]
-pub(crate) struct Calls {
-    pub(crate) log: u64,
-    pub(crate) db: u64,
-}
-
-/// No call fails.
-pub(crate) const ALL: Calls = Calls {
-    log: u64::MAX,
-    db: u64::MAX,
-};
-
-/// The disk that fails.
-#[derive(Clone, Copy, Drop)]
-pub(crate) enum Failing {
-    Log,
-    Database,
-}
-
-impl Failing {
-    /// This disk fails after `calls` calls, the other one never.
-    pub(crate) fn after(self, calls: u64) -> Calls {
-        match self {
-            Failing::Log => Calls { log: calls, ..ALL },
-            Failing::Database => Calls { db: calls, ..ALL },
-        }
-    }
-}
 
 /// The number of stops after which the office was the old one, and the number after which it was
 /// the next.
@@ -68,7 +32,7 @@ enum Left {
 #[derive(Drop)]
 struct Trial<'a> {
     disks: &'a Files<Memory>,
-    command: &'a Command,
+    command: &'a str,
     reply: &'a str,
     again: &'a str,
     old: String,
@@ -77,64 +41,29 @@ struct Trial<'a> {
 
 /// Every row of the bureau on these disks.
 fn office_on(alloc: Global, disks: &Files<Memory>) -> Result<String, Fail> {
-    rows_of(alloc, adopted(alloc, open(alloc, disks)?)?)
+    let (rows, _, _) = told_on(alloc, disks, "sheet|#rows|#")?;
+    Ok(rows)
 }
 
-/// The connection of a bureau after a command that gets this reply.
-fn worked<S: Alter + Drop>(
-    alloc: Global,
-    conn: Connection<S>,
-    command: &Command,
-    reply: &mut Result<Reply, Fault>,
-) -> Connection<S> {
-    match Bureau::adopt(alloc, conn) {
-        Ok(mut bureau) => {
-            *reply = apply(&mut bureau, command, &mut Meter::new());
-            bureau.into_connection()
-        }
-        Err((_, conn)) => conn,
-    }
-}
-
-/// The files after a command that gets this reply, over copies of disks, which fail after these
-/// numbers of calls. The log is often copied into the database file.
+/// The reply to a command in words, a fault or nothing if there was no reply, and the disks after
+/// it; over disks that fail after these numbers of calls.
 fn run(
     alloc: Global,
     disks: &Files<Memory>,
     calls: Calls,
-    command: &Command,
-    reply: &mut Result<Reply, Fault>,
-) -> Result<Files<Fuse<Memory>>, Fail> {
-    let files = Files {
-        log: Fuse::new(copy(alloc, &disks.log)?, calls.log),
-        db: Fuse::new(copy(alloc, &disks.db)?, calls.db),
-    };
-    let mut options = Options::new(1);
-    options.checkpoint_frames = 3;
-    match connection_to(alloc, files, options) {
-        Ok(conn) => Ok(files_of(worked(alloc, conn, command, reply))),
-        Err(files) => Ok(files),
-    }
-}
-
-/// The reply to a command in words, a fault if there was no reply, and the disks after it.
-fn run_to_its_end(
-    alloc: Global,
-    disks: &Files<Memory>,
-    calls: Calls,
-    command: &Command,
+    command: &str,
 ) -> Result<(String, Files<Memory>), Fail> {
-    let mut reply = Err(Fault::Store);
-    let files = run(alloc, disks, calls, command, &mut reply)?;
-    let reply = reply_text(alloc, &reply)?;
-    let log = copy(alloc, files.log.inner())?;
-    let db = copy(alloc, files.db.inner())?;
-    Ok((reply, Files { log, db }))
+    let stages = format!(in alloc; "commands|{command}#")?;
+    let mut session = Session::of(alloc, stages.as_str())?;
+    let disks = over_failing(alloc, disks, calls, &mut session)?;
+    let Session { told, .. } = session;
+    Ok((told, disks))
 }
 
 /// Gives the command of a trial again, over disks that do not fail.
 fn repeat(alloc: Global, trial: &Trial, disks: &Files<Memory>, left: Left) -> Result<(), Fail> {
-    let (reply, _) = apply_anew(alloc, disks, trial.command, &mut Meter::new())?;
+    let stages = format!(in alloc; "commands|{}#", trial.command)?;
+    let (reply, _, _) = told_on(alloc, disks, stages.as_str())?;
     let wanted = match left {
         Left::Old => trial.reply,
         Left::Next | Left::Replied => trial.again,
@@ -150,7 +79,7 @@ fn left_by(trial: &Trial, reply: &str, office: &str) -> Result<Left, Fail> {
     if reply == trial.reply && office == trial.next.as_str() {
         return Ok(Left::Replied);
     }
-    if reply != "fault Store" {
+    if !reply.is_empty() && reply != "fault Store" {
         return Err("another reply")?;
     }
     if office == trial.next.as_str() {
@@ -164,7 +93,7 @@ fn left_by(trial: &Trial, reply: &str, office: &str) -> Result<Left, Fail> {
 
 /// What is left after a trial in which this number of calls does not fail.
 fn left_after(alloc: Global, trial: &Trial, calls: Calls) -> Result<Left, Fail> {
-    let (reply, disks) = run_to_its_end(alloc, trial.disks, calls, trial.command)?;
+    let (reply, disks) = run(alloc, trial.disks, calls, trial.command)?;
     let office = office_on(alloc, &disks)?;
     let left = left_by(trial, reply.as_str(), office.as_str())?;
     repeat(alloc, trial, &disks, left)?;
@@ -197,15 +126,14 @@ fn stop_line(
     stops: Stops,
 ) -> Result<(Stops, Files<Memory>), Fail> {
     let (wanted, line) = line.split_once('|').ok_or("a reply")?;
-    let (again, line) = line.split_once('|').ok_or("a reply")?;
-    let command = command_of(alloc, line)?;
-    let (reply, after) = run_to_its_end(alloc, disks, ALL, &command)?;
+    let (again, command) = line.split_once('|').ok_or("a reply")?;
+    let (reply, after) = run(alloc, disks, ALL, command)?;
     if reply.as_str() != wanted {
         return Err("another reply")?;
     }
     let trial = Trial {
         disks,
-        command: &command,
+        command,
         reply: wanted,
         again,
         old: office_on(alloc, disks)?,

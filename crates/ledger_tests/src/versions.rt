@@ -1,70 +1,44 @@
-//! The versions of the tables that are accepted or refused.
+//! Tables that are adopted as a bureau's, and others that are not.
 
-use crate::sessions::in_memory;
-use ledger_tables::OpenTables;
-use sqlite::{Alter, Connection};
-use std::alloc::Global;
+use crate::sessions::told_in_memory;
 use std::test::Fail;
 
-/// The result of looking for the version: 0 if it is this one, else the number of the reason.
-fn found<S: Alter>(alloc: Global, conn: &mut Connection<S>) -> Result<u8, Fail> {
-    if !conn.is_autocommit() {
-        return Err("in a transaction")?;
-    }
-    let mut tx = conn.transaction();
-    let mut tables = OpenTables { tx: &mut tx, alloc };
-    let number = match tables.find_version() {
-        Ok(()) => 0,
-        Err(fault) => fault.number(),
-    };
-    tx.rollback();
-    Ok(number)
-}
+/// Tables that are not a bureau's.
+const OTHER_TABLES: &str = "\
+execute|CREATE TABLE cards (card TEXT)#faults|#\
+execute|CREATE TABLE bureau (name TEXT)#faults|#";
 
-/// The result for an empty database.
-fn found_in_none(alloc: Global) -> Result<u8, Fail> {
-    let mut conn = Connection::open_in_memory(alloc)?;
-    found(alloc, &mut conn)
-}
+/// The tables of a bureau, with its version and with others.
+const VERSIONS: &str = "make|#\
+execute|UPDATE bureau SET version = 1#faults|#\
+execute|UPDATE bureau SET version = 2#faults|#\
+execute|UPDATE bureau SET version = 0#faults|#\
+execute|UPDATE bureau SET version = -1#faults|#\
+execute|UPDATE bureau SET version = 1#faults|#\
+execute|INSERT INTO bureau (id, version) VALUES (2, 1)#faults|#\
+execute|DELETE FROM bureau#faults|#\
+execute|DROP TABLE bureau#faults|#";
 
-/// Statements in turn, each after the result that follows it.
-const STATEMENTS: &str = "\
-0|UPDATE bureau SET version = 1
-50|UPDATE bureau SET version = 2
-51|UPDATE bureau SET version = 0
-51|UPDATE bureau SET version = -1
-0|UPDATE bureau SET version = 1
-50|INSERT INTO bureau (id, version) VALUES (2, 1)
-50|DELETE FROM bureau
-50|DROP TABLE bureau
-";
-
-/// The first line of a sheet after whose statement the result differs; empty if there is none.
-fn misfound<S: Alter>(
-    alloc: Global,
-    conn: &mut Connection<S>,
-    sheet: &'static str,
-) -> Result<&'static str, Fail> {
-    for line in sheet.lines() {
-        let (wanted, sql) = line.split_once('|').ok_or("a number")?;
-        conn.execute(sql, &[])?;
-        if wanted.parse::<u8>() != Ok(found(alloc, conn)?) {
-            return Ok(line);
-        }
-    }
-    Ok("")
-}
-
-/// The same over a new bureau.
-fn misfound_in_memory(alloc: Global, sheet: &'static str) -> Result<&'static str, Fail> {
-    let mut conn = in_memory(alloc)?.into_connection();
-    misfound(alloc, &mut conn, sheet)
+#[test]
+fn a_database_without_tables_is_no_bureaus(rt: HostRuntime) -> Result<(), Fail> {
+    let (told, _) = told_in_memory(rt.alloc(), "faults|#")?;
+    assert_eq!(rt; told.as_str(), "50 50, ");
+    Ok(())
 }
 
 #[test]
-fn only_the_own_version_is_found(rt: HostRuntime) -> Result<(), Fail> {
-    let alloc = rt.alloc();
-    assert_eq!(rt; found_in_none(alloc)?, 50);
-    assert_eq!(rt; misfound_in_memory(alloc, STATEMENTS)?, "");
+fn other_tables_are_no_bureaus(rt: HostRuntime) -> Result<(), Fail> {
+    let (told, _) = told_in_memory(rt.alloc(), OTHER_TABLES)?;
+    assert_eq!(rt; told.as_str(), "50 50, 50 50, ");
+    Ok(())
+}
+
+#[test]
+fn one_version_is_adopted(rt: HostRuntime) -> Result<(), Fail> {
+    let (told, _) = told_in_memory(rt.alloc(), VERSIONS)?;
+    assert_eq!(rt;
+        told.as_str(),
+        "0 0, 50 50, 51 51, 51 51, 0 0, 50 50, 50 50, 50 50, "
+    );
     Ok(())
 }
