@@ -1,11 +1,10 @@
 //! Where a bureau's file lies, and the names beside it.
 
 use ledger_tables::OpenFault;
-use std::fs;
 use std::fs::{Metadata, OpenOptions};
-use std::io;
 use std::io::ErrorKind;
 use std::os::unix::fs::{MetadataExt, OpenOptionsExt};
+use std::{fs, io};
 
 /// The greatest number of names that are tried for a file that is not whole yet.
 const MOST_NAMES: u16 = 1000;
