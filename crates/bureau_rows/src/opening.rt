@@ -60,13 +60,13 @@ fn carry_out_and_close<D: Disk + Drop, W: Work>(
     }
 }
 
-/// Lets go of what an open that failed handed back. A log that this open made is removed before
-/// the file's lock is released; where the file was not locked, nothing is.
-fn let_go<D: Disk + Drop>(rt: &HostRuntime, kept: Kept<D>, place: &Place, had_log: bool) {
+/// Lets go of what an open that failed handed back. The log, which had this length before, becomes
+/// what it was before the file's lock is released. Where the file was not locked, nothing is
+/// touched: the log is another program's.
+fn let_go<D: Disk + Drop>(rt: &HostRuntime, kept: Kept<D>, place: &Place, log: Option<u64>) {
     match &kept {
         Kept::Nothing => {}
-        _ if had_log => {}
-        _ => place.remove_empty_log(rt),
+        Kept::Connection(_) | Kept::Left(_) => place.restore_log(rt, log),
     }
     drop(kept);
 }
@@ -76,11 +76,11 @@ fn work_at<W: Work>(rt: &HostRuntime, path: &str, work: &mut W) -> Result<Outcom
     let place = Place::find(rt, path)?;
     look(rt, &place.file)?;
     place.remove_part(rt)?;
-    let had_log = place.has_log(rt);
+    let log = place.log_length(rt);
     match open_from(rt, &place.file, Unknown) {
         Ok(bureau) => Ok(carry_out_and_close(rt, bureau, &place, work)),
         Err((fault, kept)) => {
-            let_go(rt, kept, &place, had_log);
+            let_go(rt, kept, &place, log);
             Err(fault)
         }
     }

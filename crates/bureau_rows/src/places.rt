@@ -12,6 +12,9 @@ const MOST_NAMES: u16 = 1000;
 /// The most bytes of a log that no transaction was written to.
 const EMPTY_LOG: u64 = 41;
 
+/// The number of bytes that an open adds to a log of another program.
+const ADDED: u64 = 9;
+
 /// Who may read and write a new file: its owner, and all others may read it.
 const MODE: u32 = 0o644;
 
@@ -53,9 +56,12 @@ impl Place {
         Err(OpenFault::Store)
     }
 
-    /// Whether there is a log.
-    pub(crate) fn has_log(&self, rt: &HostRuntime) -> bool {
-        !is_free(rt, &self.log)
+    /// The length of the log, if there is one.
+    pub(crate) fn log_length(&self, rt: &HostRuntime) -> Option<u64> {
+        match fs::symlink_metadata(rt, self.log.as_str()) {
+            Ok(found) => Some(found.len()),
+            Err(_) => None,
+        }
     }
 
     /// Removes the log. The file must be locked, so that no other program has this log.
@@ -63,12 +69,17 @@ impl Place {
         let _ = fs::remove_file(rt, self.log.as_str());
     }
 
-    /// Removes the log if no transaction was written to it. The file must be locked.
-    pub(crate) fn remove_empty_log(&self, rt: &HostRuntime) {
-        if let Ok(found) = fs::symlink_metadata(rt, self.log.as_str()) {
-            if found.len() <= EMPTY_LOG {
-                self.remove_log(rt);
-            }
+    /// Undoes what an open that failed did to the log, which had this length before, if there was
+    /// one. No transaction is lost: a log that is removed has none, and what is cut off one is
+    /// shorter than any. The file must be locked.
+    pub(crate) fn restore_log(&self, rt: &HostRuntime, before: Option<u64>) {
+        let Some(now) = self.log_length(rt) else {
+            return;
+        };
+        match before {
+            None if now <= EMPTY_LOG => self.remove_log(rt),
+            Some(before) if now.checked_sub(before) == Some(ADDED) => cut(rt, &self.log, before),
+            _ => {}
         }
     }
 
@@ -109,6 +120,13 @@ fn make_file(rt: &HostRuntime, path: &str) -> io::Result<()> {
     options.write(true).create_new(true).mode(MODE);
     drop(options.open(rt, path)?);
     Ok(())
+}
+
+/// Cuts a file to a length.
+fn cut(rt: &HostRuntime, path: &str, length: u64) {
+    if let Ok(file) = OpenOptions::new().write(true).open(rt, path) {
+        let _ = file.set_len(length);
+    }
 }
 
 /// Whether there is nothing at a path.
