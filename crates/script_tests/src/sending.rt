@@ -35,7 +35,8 @@ fn sends(alloc: Global, (room, fails): (usize, bool), ending: Result<(), WriteFa
     };
     let mut sent = 100;
     let result = write_reply(&mut writer, &mut sent, &Reply::Standing(JOB));
-    result == ending && sent == 100 + room && LINE.get(..room) == Some(writer.taken.as_slice())
+    let is_counted = sent == 100 + writer.taken.len();
+    result == ending && is_counted && LINE.get(..room) == Some(writer.taken.as_slice())
 }
 
 /// Whether only these bytes of the line for a bad line went out, into a writer that takes no more.
