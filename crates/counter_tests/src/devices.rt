@@ -27,7 +27,7 @@ impl Read for Torn {
     }
 }
 
-/// A writer that takes some bytes, and then none.
+/// A writer that takes some bytes, and then none, and fails if it is flushed.
 #[derive(Drop)]
 pub(crate) struct Full {
     /// The number of bytes that it still takes.
@@ -39,31 +39,6 @@ impl Write for Full {
         let taken = buf.len().min(self.room);
         self.room -= taken;
         Ok(taken)
-    }
-
-    fn flush(&mut self) -> io::Result<()> {
-        Ok(())
-    }
-}
-
-/// A writer that takes all bytes, and fails if it is flushed.
-#[derive(Drop)]
-pub(crate) struct Unflushed {
-    /// The number of bytes that it has taken.
-    taken: usize,
-}
-
-impl Unflushed {
-    /// A writer that has taken nothing.
-    pub(crate) fn empty() -> Unflushed {
-        Unflushed { taken: 0 }
-    }
-}
-
-impl Write for Unflushed {
-    fn write(&mut self, buf: &[u8]) -> io::Result<usize> {
-        self.taken = self.taken.saturating_add(buf.len());
-        Ok(buf.len())
     }
 
     fn flush(&mut self) -> io::Result<()> {

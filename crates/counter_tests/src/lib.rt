@@ -1,9 +1,8 @@
-//! Cases of the counter: runs, assemblies, what the words ask for and what a misuse prints.
+//! Cases of the counter that no file shows: readers and writers that fail, and want of memory. Words,
+//! runs and assemblies are in `cases/`.
 
 #![tactic(auto)]
 
-#[cfg(test)]
-mod asked;
 #[cfg(test)]
 mod assemblies;
 #[cfg(test)]

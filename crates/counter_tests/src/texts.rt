@@ -26,42 +26,15 @@ pub(crate) const TWO_LINES_SOURCE: &str = "               CS   332
 HELLO
 WORLD";
 
-/// The listing of that source.
-pub(crate) const TWO_LINES_LISTING: &str = "   1 00333                CS   332
-   2 00337                CS
-   3 00338                SW   001
-   4 00342      READ      R
-   5 00343                MCW  080,280
-   6 00350                W
-   7 00351                BLC  DONE
-   8 00356                B    READ
-   9 00360      DONE      H
-  10                      END
-";
-
-/// Adds a card to the text of a deck: these columns, padded with blanks.
-pub(crate) fn push_card(text: &mut Vec<u8>, card: &str) -> Result<(), AllocError> {
-    text.extend_from_slice(card.as_bytes())?;
-    for _ in card.len()..80 {
-        text.push(b' ')?;
-    }
-    text.push(b'\n')?;
-    Ok(())
-}
-
 /// The text of a deck whose cards are these lines, each without its trailing blanks.
 pub(crate) fn text_of(alloc: Global, lines: &str) -> Result<Vec<u8>, AllocError> {
     let mut text = Vec::new(alloc);
     for line in lines.lines() {
-        push_card(&mut text, line)?;
+        text.extend_from_slice(line.as_bytes())?;
+        for _ in line.len()..80 {
+            text.push(b' ')?;
+        }
+        text.push(b'\n')?;
     }
     Ok(text)
-}
-
-/// Adds `count` blank cards to the text of a deck.
-pub(crate) fn push_blanks(text: &mut Vec<u8>, count: u16) -> Result<(), AllocError> {
-    for _ in 0..count {
-        push_card(text, "")?;
-    }
-    Ok(())
 }

@@ -1,26 +1,15 @@
-//! Tests of the counter over HTTP: heads and their verdicts, replies word for word, and writers
-//! that take no more.
+//! Tests of the counter over HTTP that no request shows: readers and writers that give and take
+//! little, or fail, and answers that the program gives only where memory or the store fails. Requests
+//! and their answers are in `cases/requests`.
 #![tactic(auto)]
 
-#[cfg(test)]
-mod answers;
 #[cfg(test)]
 mod bodies;
 #[cfg(test)]
 mod devices;
 #[cfg(test)]
+mod fixed;
+#[cfg(test)]
 mod heads;
 #[cfg(test)]
-mod lists;
-#[cfg(test)]
-mod refusals;
-#[cfg(test)]
-mod replies;
-#[cfg(test)]
 mod sending;
-#[cfg(test)]
-mod sheets;
-#[cfg(test)]
-mod sizes;
-#[cfg(test)]
-mod verdicts;

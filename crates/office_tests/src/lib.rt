@@ -1,5 +1,5 @@
-//! Tests of the office: sheets of commands on one job, and the replies to them; submissions and
-//! their refusals; and jobs made from their parts.
+//! Tests of the office that no file shows: jobs made from their parts, and a start with switches that no
+//! word names. Commands on jobs, submissions and refusals are in `cases/scripts`.
 #![tactic(auto)]
 
 #[cfg(test)]
@@ -8,7 +8,3 @@ mod decks;
 mod jobs;
 #[cfg(test)]
 mod parts;
-#[cfg(test)]
-mod sheets;
-#[cfg(test)]
-mod submissions;

@@ -1,12 +1,11 @@
 //! Jobs made from their parts.
 
-use crate::decks::contents_with;
-use crate::sheets::misanswered;
+use crate::decks::three_cards;
 use bitflags::Flags;
 use cards::Deck;
 use core_store::{Compared, Core, FlagCore, Registers, Size};
 use machine::{Meter, Parts, Standing};
-use office::{Job, JobParts, Stretch};
+use office::{Job, JobCommand, JobParts, Refusal, Reply, Stretch};
 use std::alloc::Global;
 use std::test::Fail;
 use units::{Carriage, Hopper, Printer, Punch, Switches, Units, put_card};
@@ -50,7 +49,7 @@ fn machine_with(alloc: Global, deck: Deck) -> Result<Parts<FlagCore>, Fail> {
 
 /// The parts of a job that punches three cards, with one stretch of these switches and this grant.
 fn parts_with(alloc: Global, switches: u8, granted: u32) -> Result<JobParts<FlagCore>, Fail> {
-    let contents = contents_with(alloc, "three cards", 0)?;
+    let contents = three_cards(alloc)?;
     let mut stretches = Vec::new(alloc);
     stretches.push(Stretch {
         switches: Switches::from_bits_retain(switches),
@@ -64,50 +63,47 @@ fn parts_with(alloc: Global, switches: u8, granted: u32) -> Result<JobParts<Flag
     })
 }
 
-/// The result of a sheet of commands on a job.
-fn told_by(alloc: Global, job: &mut Job<FlagCore>, sheet: &'static str) -> Result<String, Fail> {
-    let mut meter = Meter::new();
-    let line = misanswered(alloc, job, &mut meter, sheet)?;
-    Ok(format!(in alloc; "{line}{} ticks", meter.ticks())?)
-}
-
-/// The result of a sheet of commands on the job of these parts, if there is one.
-fn told_by_parts(
+/// The reply to a slice, in a word.
+fn sliced(
     alloc: Global,
-    switches: u8,
-    granted: u32,
-    sheet: &'static str,
-) -> Result<String, Fail> {
-    let parts = parts_with(alloc, switches, granted)?;
-    match Job::from_parts(alloc, parts)? {
-        Some(mut job) => told_by(alloc, &mut job, sheet),
-        None => Ok(String::from_str(alloc, "no job")?),
+    job: &mut Job<FlagCore>,
+    meter: &mut Meter,
+    limit: u32,
+) -> Result<&'static str, Fail> {
+    match job.take(alloc, &JobCommand::Slice { limit }, meter)? {
+        Reply::Ran { .. } => Ok("ran "),
+        Reply::Refused(Refusal::TooMuch) => Ok("refused "),
+        _ => Ok("something else "),
     }
 }
 
-/// The machine continues from its parts, whatever was granted.
-const GOES_ON_FROM_ITS_PARTS: &str = "\
-ran 1 running|slice 1
-running, false false 9 0 0|standing
-";
+/// The replies to slices of two instructions, of one and of one, and the number of instructions
+/// attempted, of the job of these parts, if there is one.
+fn told_by_parts(alloc: Global, switches: u8, granted: u32) -> Result<String, Fail> {
+    let parts = parts_with(alloc, switches, granted)?;
+    let Some(mut job) = Job::from_parts(alloc, parts)? else {
+        return Ok(String::from_str(alloc, "no job")?);
+    };
+    let mut meter = Meter::new();
+    let mut text = String::new(alloc);
+    for limit in [2, 1, 1] {
+        text.push_str(sliced(alloc, &mut job, &mut meter, limit)?)?;
+    }
+    write!(text, "{}", meter.ticks())?;
+    Ok(text)
+}
 
-/// One instruction may be granted, and no more.
-const AT_THE_GREATEST_GRANT: &str = "\
-refused 28|slice 2
-ran 1 running|slice 1
-refused 28|slice 1
-";
-
+/// The machine goes on from its parts, whatever was granted; in all 1,000,000,000 may be granted.
 #[test]
 fn jobs_go_on_from_their_parts(rt: HostRuntime) -> Result<(), Fail> {
-    for (switches, granted, sheet, wanted) in [
-        (0, 8, GOES_ON_FROM_ITS_PARTS, "1 ticks"),
-        (0, 999_999_999, AT_THE_GREATEST_GRANT, "1 ticks"),
-        (127, 1_000_000_000, "refused 28|slice 1\n", "0 ticks"),
-        (0, 1_000_000_001, "", "no job"),
-        (128, 8, "", "no job"),
+    for (switches, granted, wanted) in [
+        (0, 8, "ran ran ran 4"),
+        (0, 999_999_999, "refused ran refused 1"),
+        (127, 1_000_000_000, "refused refused refused 0"),
+        (0, 1_000_000_001, "no job"),
+        (128, 8, "no job"),
     ] {
-        let told = told_by_parts(rt.alloc(), switches, granted, sheet)?;
+        let told = told_by_parts(rt.alloc(), switches, granted)?;
         assert_eq!(rt; told.as_str(), wanted);
     }
     Ok(())

@@ -1,56 +1,25 @@
-//! The lines for what went wrong.
+//! Lines for what the program's own scripts do not come to.
 
-use crate::sheets::{Case, check, cut, number};
-use crate::written::line_in;
-use office::Refusal;
+use office::{Refusal, SourceFaults};
 use scripts::{ScriptFault, write_bad, write_fault, write_refusal};
-use std::alloc::Global;
 use std::test::Fail;
 
-/// The fault of a script, from its name.
-fn fault_of(words: &str) -> ScriptFault {
-    let (name, digits) = cut(words, " ");
-    match name {
-        "BadLine" => ScriptFault::BadLine(number(digits) as usize),
-        "TooLong" => ScriptFault::TooLong,
-        _ => ScriptFault::NoMemory,
-    }
-}
-
-/// The fault of a script. Input: its name. Output: its line.
-struct Bad;
-
-impl Case for Bad {
-    fn outcome(alloc: Global, given: &str) -> Result<String, Fail> {
-        let mut writer = Vec::new(alloc);
-        let mut sent = 7;
-        let result = write_bad(&mut writer, &mut sent, fault_of(given));
-        result.ok().ok_or("a fault's line")?;
-        line_in(writer, sent)
-    }
-}
-
-/// Each fault of a script.
-const FAULTS: &str = "\
-BadLine 1 -> bad line 1
-BadLine 4000000 -> bad line 4000000
-TooLong -> bad size
-NoMemory -> fault 1
-";
-
-#[test]
-fn bad_scripts_have_their_lines(rt: HostRuntime) -> Result<(), Fail> {
-    check::<Bad>(rt.alloc(), FAULTS)
-}
+/// The lines for the last line that can be bad, for want of memory, for both faults, and for a source
+/// without faults.
+const LINES: &[u8] = b"bad line 4000000\nfault 1\nfault 1\nfault 2\nrefused 16\n";
 
 #[test]
 fn faults_have_their_lines(rt: HostRuntime) -> Result<(), Fail> {
     let mut writer = Vec::new(rt.alloc());
-    let mut sent = 0;
-    let refusal = write_refusal(&mut writer, &mut sent, &Refusal::NotRunning);
+    let mut sent = 7;
+    let last = write_bad(&mut writer, &mut sent, ScriptFault::BadLine(4_000_000));
+    let memory = write_bad(&mut writer, &mut sent, ScriptFault::NoMemory);
     let first = write_fault(&mut writer, &mut sent, 1);
     let second = write_fault(&mut writer, &mut sent, 2);
-    assert!(rt; refusal.is_ok() && first.is_ok() && second.is_ok());
-    assert!(rt; writer.as_slice() == b"refused 23\nfault 1\nfault 2\n".as_slice() && sent == 27);
+    let none = Refusal::Assembly(SourceFaults(Vec::new(rt.alloc())));
+    let source = write_refusal(&mut writer, &mut sent, &none);
+    assert!(rt; last.is_ok() && memory.is_ok() && source.is_ok());
+    assert!(rt; first.is_ok() && second.is_ok());
+    assert!(rt; writer.as_slice() == LINES && sent == 7 + LINES.len());
     Ok(())
 }
