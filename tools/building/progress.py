@@ -18,8 +18,8 @@ def tell(text):
 
 
 class Progress:
-    """Lines of progress. A line that cannot be printed is dropped; when nobody reads them any more,
-    `is_read` is no longer true."""
+    """Lines of progress. A line that cannot be printed is dropped. `is_read` is no longer true when
+    nobody reads them any more."""
 
     def __init__(self, log):
         self.begun = self.last = time.time()

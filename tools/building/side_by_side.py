@@ -25,8 +25,8 @@ class Proving:
         self.heights = crates.heights(names)
         self.running, self.proved, self.failed = set(), set(), []
         self.changed = threading.Condition()
-        # One more than there are processors, so that a crate of a long chain need not wait for one
-        # of a short chain that was begun when nothing else was ready. Each may take so much memory.
+        # One more than there are processors, so that a crate of a long chain need not wait for
+        # one of a short chain that was begun before it was ready. Each may take so much memory.
         self.slots = max(1, min(processors() + 1, memory() // 2_500_000_000))
 
     def waiting(self):
@@ -41,7 +41,8 @@ class Proving:
     def told(self):
         """How far the work is, and what is left."""
         left = len(self.names) - 1 - len(self.proved) - len(self.running)
-        text = f"{len(self.proved)} of {len(self.names)} crates proved after {self.progress.seconds()} seconds"
+        after = f"after {self.progress.seconds()} seconds"
+        text = f"{len(self.proved)} of {len(self.names)} crates proved {after}"
         if not self.running and not left:
             return f"{text}; left: {self.names[-1]}, the program, is proved, compiled and linked"
         return f"{text}; in work: {', '.join(sorted(self.running))}; after them {left + 1}"
@@ -70,7 +71,7 @@ class Proving:
         longest = max((self.heights[it] for it in [*ready, *self.running]), default=0)
         alone = len(ready) == 1 and not self.running
         for name in ready:
-            # The longest chain takes the longest: its next crate waits for no slot, and gets most jobs.
+            # The longest chain takes longest: its next crate waits for no slot, and gets most jobs.
             is_longest = self.heights[name] == longest
             if len(self.running) >= self.slots + is_longest:
                 break
@@ -79,8 +80,8 @@ class Proving:
             threading.Thread(target=self.work, args=(name, jobs), daemon=True).start()
 
     def prove(self):
-        """Proves all below the program. Begins nothing more where a crate fails, or where nobody reads
-        what is said any more; but what is begun is ended and kept."""
+        """Proves all below the program, and returns whether all is. Begins nothing more where a crate
+        fails, or where nobody reads any more what is said; but what is begun is ended and kept."""
         with self.changed:
             while True:
                 if not self.failed and self.progress.is_read:
