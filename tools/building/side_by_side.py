@@ -80,8 +80,8 @@ class Proving:
             threading.Thread(target=self.work, args=(name, jobs), daemon=True).start()
 
     def prove(self):
-        """Proves all below the program, and returns whether all is. Begins nothing more where a crate
-        fails, or where nobody reads any more what is said; but what is begun is ended and kept."""
+        """Proves all below the program, and returns whether all is proved. Begins nothing more where
+        a crate fails, or where nobody reads what is said; but what is begun is ended and kept."""
         with self.changed:
             while True:
                 if not self.failed and self.progress.is_read:
