@@ -24,7 +24,7 @@ class Proving:
         self.runs, self.progress = runs, progress
         self.heights = crates.heights(names)
         self.running, self.proved, self.failed = set(), set(), []
-        self.changed = threading.Condition()
+        self.changed, self.has_news = threading.Condition(), False
         # One more than there are processors, so that a crate of a long chain need not wait for
         # one of a short chain that was begun before it was ready. Each may take so much memory.
         self.slots = max(1, min(processors() + 1, memory() // 2_500_000_000))
@@ -57,9 +57,9 @@ class Proving:
             why = f"{name}: {error}"
         with self.changed:
             self.running.discard(name)
+            self.has_news = True
             if why is None:
                 self.proved.add(name)
-                self.progress.show(self.told())
             else:
                 self.failed.append(name)
                 self.progress.note(f"{name} is not proved:\n{why}")
@@ -86,8 +86,9 @@ class Proving:
             while True:
                 if not self.failed and self.progress.is_read:
                     self.begin()
+                if self.has_news or self.progress.is_due():
+                    self.progress.show(self.told())
+                    self.has_news = False
                 if not self.running:
                     return not self.failed and not self.waiting()
                 self.changed.wait(self.progress.wait())
-                if self.progress.is_due():
-                    self.progress.show(self.told())
