@@ -5,7 +5,7 @@ TOP = os.path.dirname(os.path.dirname(os.path.dirname(os.path.realpath(__file__)
 
 
 def read(top=TOP):
-    """Each crate with its line of crates.txt, and the names in it: crates and libraries it uses."""
+    """Each crate with its line of crates.txt, and the crates and libraries that this names."""
     lines = {}
     with open(f"{top}/crates.txt", encoding="utf-8") as file:
         for line in file:
@@ -48,7 +48,7 @@ class Crates:
         return count
 
     def heights(self, names):
-        """Of each crate the most lines in one chain of crates that use it: the work that waits for it."""
+        """Of each crate the most lines in one chain of crates that use it: what waits for it."""
         found = {}
         for name in reversed(names):
             users = [found[it] for it in names if name in self.uses[it]]

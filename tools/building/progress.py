@@ -6,9 +6,20 @@ import time
 EACH = 60
 
 
+def tell(text):
+    """Prints a line on standard error. Returns whether somebody can read it."""
+    try:
+        os.write(2, text.encode())
+    except BrokenPipeError:
+        return False
+    except OSError:
+        pass
+    return True
+
+
 class Progress:
-    """Lines of progress. A line that cannot be printed is dropped; when nobody reads them any more,
-    `is_read` is no longer true."""
+    """Lines of progress. A line that cannot be printed is dropped. `is_read` is no longer true when
+    nobody reads them any more."""
 
     def __init__(self, log):
         self.begun = self.last = time.time()
@@ -18,12 +29,7 @@ class Progress:
         self.is_open = False
 
     def put(self, text):
-        try:
-            os.write(2, text.encode())
-        except BrokenPipeError:
-            self.is_read = False
-        except OSError:
-            pass
+        self.is_read = tell(text) and self.is_read
 
     def note(self, text):
         """Writes to the log alone."""

@@ -1,8 +1,8 @@
 """Private copies of the repository, in each of which rt works at one crate.
 
-rt works at one crate of a repository at a time. So each crate gets a copy of its own, a room, with the
-sources as they were when all began and what rt made of the crates below. What rt keeps while it works,
-and at the end its library or program, is moved between the room and crates/NAME/out, where a later
+rt works at one crate of a repository at a time. So each crate gets a copy of its own, a room, with
+the sources as they were when all began and the libraries of the crates below. What rt keeps of
+earlier work is moved there from crates/NAME/out, and moved back with what it made, so that a later
 `rt check` finds it too.
 """
 import fcntl
@@ -25,8 +25,8 @@ class Stopped(Exception):
 
 
 class Runs:
-    """The commands that run now. They read a pipe whose other end is here, so that they can see that
-    this process has ended."""
+    """The commands that run now. They read a pipe whose other end is here, so that they see it when
+    this process ends."""
 
     def __init__(self):
         self.ours, self.given = os.pipe()

@@ -24,9 +24,9 @@ class Proving:
         self.runs, self.progress = runs, progress
         self.heights = crates.heights(names)
         self.running, self.proved, self.failed = set(), set(), []
-        self.changed = threading.Condition()
-        # One more than there are processors, so that a crate of a long chain need not wait for one
-        # of a short chain that was begun when nothing else was ready. Each may take so much memory.
+        self.changed, self.has_news = threading.Condition(), False
+        # One more than there are processors, so that a crate of a long chain need not wait for
+        # one of a short chain that was begun before it was ready. Each may take so much memory.
         self.slots = max(1, min(processors() + 1, memory() // 2_500_000_000))
 
     def waiting(self):
@@ -41,7 +41,8 @@ class Proving:
     def told(self):
         """How far the work is, and what is left."""
         left = len(self.names) - 1 - len(self.proved) - len(self.running)
-        text = f"{len(self.proved)} of {len(self.names)} crates proved after {self.progress.seconds()} seconds"
+        after = f"after {self.progress.seconds()} seconds"
+        text = f"{len(self.proved)} of {len(self.names)} crates proved {after}"
         if not self.running and not left:
             return f"{text}; left: {self.names[-1]}, the program, is proved, compiled and linked"
         return f"{text}; in work: {', '.join(sorted(self.running))}; after them {left + 1}"
@@ -56,9 +57,9 @@ class Proving:
             why = f"{name}: {error}"
         with self.changed:
             self.running.discard(name)
+            self.has_news = True
             if why is None:
                 self.proved.add(name)
-                self.progress.show(self.told())
             else:
                 self.failed.append(name)
                 self.progress.note(f"{name} is not proved:\n{why}")
@@ -70,7 +71,7 @@ class Proving:
         longest = max((self.heights[it] for it in [*ready, *self.running]), default=0)
         alone = len(ready) == 1 and not self.running
         for name in ready:
-            # The longest chain takes the longest: its next crate waits for no slot, and gets most jobs.
+            # The longest chain takes longest: its next crate waits for no slot, and gets most jobs.
             is_longest = self.heights[name] == longest
             if len(self.running) >= self.slots + is_longest:
                 break
@@ -79,14 +80,15 @@ class Proving:
             threading.Thread(target=self.work, args=(name, jobs), daemon=True).start()
 
     def prove(self):
-        """Proves all below the program. Begins nothing more where a crate fails, or where nobody reads
-        what is said any more; but what is begun is ended and kept."""
+        """Proves all below the program, and returns whether all is proved. Begins nothing more where
+        a crate fails, or where nobody reads what is said; but what is begun is ended and kept."""
         with self.changed:
             while True:
                 if not self.failed and self.progress.is_read:
                     self.begin()
+                if self.has_news or self.progress.is_due():
+                    self.progress.show(self.told())
+                    self.has_news = False
                 if not self.running:
                     return not self.failed and not self.waiting()
                 self.changed.wait(self.progress.wait())
-                if self.progress.is_due():
-                    self.progress.show(self.told())

@@ -1,10 +1,10 @@
 #!/usr/bin/env python3
 """The toolchain's command `rt`, as the tools here start it.
 
-`toolchain.py WORDS ..` is `rt WORDS ..` but for two things. It takes the sum of a crate's files once,
-where rt takes it anew for each crate that uses that crate; so it is only for a copy that nobody edits.
-And it ends, with all that it has started, when its standard input ends: with the process that
-started it, however that ends.
+`toolchain.py WORDS ..` is `rt WORDS ..` but for two things. It takes the sum of a crate's files
+once, where rt takes it anew for each crate that uses that crate; so it is only for a copy that
+nobody edits. And it ends, with all that it has started, when its standard input ends: with the
+process that started it, however that ends.
 """
 import functools
 import importlib.machinery
@@ -40,8 +40,8 @@ def remember(rtlib):
 
 
 def stamps(top, names):
-    """What rt keeps beside the library of each crate, lowest first, made of these very sources; nothing
-    where rt is another command."""
+    """What rt keeps beside the library of each crate, lowest first, if it is made of these sources;
+    nothing where rt is another command."""
     if home() is None:
         return {}
     rtlib = load("rtlib.py")
