@@ -7,6 +7,8 @@
 //! only if a deck was made.
 #![tactic(auto)]
 
+mod errors;
+
 ghost use Rattle.std.specs.Prelude.{◌≡◌, Option, IfOk, IfErr};
 ghost use Rattle.std.specs.Process.{exit_status};
 ghost use Rattle.counter.specs.Printed.{IsTextShown, status_code};
@@ -15,6 +17,7 @@ ghost use Rattle.counter_words.specs.Plain.{texts};
 ghost use Rattle.counter_words.specs.declared.RowName.{RowName};
 ghost use Rattle.bureau.specs.Answers.{HasAnswered, HasAssembled};
 
+use crate::errors::Unfailing;
 use bureau_rows::{apply, export, init, serve, show_outcome};
 use counter::{
     Fault, Misuse, Status, Task, assemble_deck, show_help, show_version, task_of, tell_fault,
@@ -104,7 +107,7 @@ fn answer<W: Write, E: Write>(
 /// Does what the process's words ask for.
 fn carry_out(rt: &HostRuntime) -> io::Result<Status> {
     let mut output = rt.stdout();
-    let mut errors = rt.stderr();
+    let mut errors = Unfailing::new(rt.stderr());
     let words = match words_given(rt) {
         Ok(words) => words,
         Err(misuse) => return tell_misuse(&mut errors, misuse),
@@ -114,8 +117,7 @@ fn carry_out(rt: &HostRuntime) -> io::Result<Status> {
     answer(rt, after_name, &mut output, &mut errors)
 }
 
-/// The exit status of an outcome. After an error of the standard error, on which nothing can be
-/// printed, it is 1.
+/// The exit status of an outcome. An error is one of [`Unfailing`], which has none.
 fn exit_code(outcome: io::Result<Status>) -> ExitCode
     ensures ok { IfOk outcome (λ status. exit_status result ≡ status_code status) }
     ensures err { IfErr outcome (λ _. exit_status result ≡ status_code Status.NotDone) }

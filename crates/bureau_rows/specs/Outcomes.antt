@@ -22,6 +22,13 @@ status_of (outcome.Fault opening.NotABureau) = status.Unusable
 status_of (outcome.Fault opening.Old) = status.Unusable
 status_of outcome.Device = status.NotDone
 
+-- the outcome where the bureau's file could not be closed at the end: this fault, unless a fault
+-- came before
+abbrev pub closing_with : OpenFault → Outcome → Outcome
+closing_with fault (outcome.Fault earlier) = outcome.Fault earlier
+closing_with fault (outcome.Stopped acknowledged) = outcome.Stopped acknowledged
+closing_with fault other = outcome.Fault fault
+
 -- the number of a fault at opening: of memory, of the store, of a file that is no bureau's or a
 -- later version's, or of an earlier version's
 abbrev pub number_of : OpenFault → ℕ

@@ -8,10 +8,12 @@
 //! files are read and written.
 #![tactic(auto)]
 
+mod connections;
 mod exporting;
 mod making;
 mod opening;
 mod outcomes;
+mod places;
 mod scripting;
 mod serving;
 

@@ -1,15 +1,12 @@
 //! Creating a new bureau's file.
 
 use crate::outcomes::Outcome;
+use crate::places::{Place, beside, is_free, remove_part_of, sync_folder_of};
 use ledger::{Bureau, Fault};
 use ledger_tables::OpenFault;
 use sqlite::{Alter, Connection, Unknown};
 use std::alloc::Global;
 use std::fs;
-use std::io::ErrorKind;
-
-/// The greatest number of names tried for the other file.
-const MOST_NAMES: u16 = 1000;
 
 /// The outcome for the file after a fault of the tables.
 fn fault_of(fault: Fault) -> OpenFault {
@@ -30,8 +27,8 @@ fn create_on<S: Alter + Drop>(
     }
 }
 
-/// Creates a bureau in a file at a path where there is none, and closes it, so that all of it is in
-/// this one file.
+/// Creates a bureau in the empty file at a path, and closes it, so that all of it is in this one
+/// file.
 fn make_closed(rt: &HostRuntime, path: &str) -> Result<(), OpenFault> {
     let Ok(conn) = Connection::open_from(rt, path, false, Unknown) else {
         return Err(OpenFault::Store);
@@ -42,52 +39,50 @@ fn make_closed(rt: &HostRuntime, path: &str) -> Result<(), OpenFault> {
     }
 }
 
-/// A name beside a path that neither a file nor the log of a database of this name has.
-fn name_beside(rt: &HostRuntime, path: &str) -> Result<String, OpenFault> {
-    for number in 1..=MOST_NAMES {
-        let Ok(name) = format!(in rt.alloc(); "{path}.{number}.part") else {
-            return Err(OpenFault::NoMemory);
-        };
-        if is_free(rt, &name) {
-            return Ok(name);
-        }
+/// Creates a bureau in a file of this name, and links it at a path, unless something is there. The
+/// disk keeps the new name before the other one is removed.
+fn make_part(rt: &HostRuntime, part: &Place, path: &str) -> Result<(), OpenFault> {
+    let made = make_closed(rt, &part.file);
+    part.remove_log(rt);
+    made?;
+    if fs::hard_link(rt, part.file.as_str(), path).is_err() {
+        return Err(OpenFault::Store);
     }
-    Err(OpenFault::Store)
+    sync_folder_of(rt, path);
+    Ok(())
 }
 
-/// Whether there is nothing at a path.
-fn is_free(rt: &HostRuntime, path: &str) -> bool {
-    match fs::symlink_metadata(rt, path) {
-        Ok(_) => false,
-        Err(error) => error.kind() == ErrorKind::NotFound,
-    }
-}
-
-/// Creates a bureau under this name, and links it at the path, unless a file appeared there.
-fn make_beside(rt: &HostRuntime, name: &str, path: &str) -> Result<(), OpenFault> {
-    let Ok(log) = format!(in rt.alloc(); "{name}-wal") else {
-        return Err(OpenFault::NoMemory);
-    };
-    let mut made = make_closed(rt, name);
-    let _ = fs::remove_file(rt, &log);
-    if made.is_ok() && fs::hard_link(rt, name, path).is_err() {
-        made = Err(OpenFault::Store);
-    }
-    let _ = fs::remove_file(rt, name);
+/// Creates a bureau's file at a path where there is nothing.
+fn make(rt: &HostRuntime, path: &str) -> Result<(), OpenFault> {
+    let part = Place::reserve(rt, path)?;
+    let made = make_part(rt, &part, path);
+    let _ = fs::remove_file(rt, part.file.as_str());
     made
 }
 
-/// Creates a new bureau's file at a path where there is nothing yet. It is created under another
-/// name beside it, so that it is there whole or not at all, even if the program is stopped.
-pub fn init(rt: &HostRuntime, path: &str) -> Outcome {
-    if !is_free(rt, path) {
-        return Outcome::Fault(OpenFault::Store);
+/// Checks that there is no file at a path, nor a log or a journal beside it: a new file would be
+/// taken for the one that they belong to.
+fn check_free(rt: &HostRuntime, path: &str) -> Result<(), OpenFault> {
+    for end in ["", "-wal", "-journal"] {
+        if !is_free(rt, &beside(rt, path, end)?) {
+            return Err(OpenFault::Store);
+        }
     }
-    let made = match name_beside(rt, path) {
-        Ok(name) => make_beside(rt, &name, path),
-        Err(fault) => Err(fault),
-    };
-    match made {
+    Ok(())
+}
+
+/// Creates a new bureau's file, unless something is in its way.
+fn try_init(rt: &HostRuntime, path: &str) -> Result<(), OpenFault> {
+    remove_part_of(rt, path)?;
+    check_free(rt, path)?;
+    make(rt, path)
+}
+
+/// Creates a new bureau's file at a path where there is no file yet, and no log or journal of one.
+/// It is created under another name beside it, so that it is there whole or not at all, even if the
+/// program is stopped.
+pub fn init(rt: &HostRuntime, path: &str) -> Outcome {
+    match try_init(rt, path) {
         Ok(()) => Outcome::Done,
         Err(fault) => Outcome::Fault(fault),
     }

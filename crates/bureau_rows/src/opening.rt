@@ -1,10 +1,12 @@
 //! Opening the bureau's file at a path, for work that does not know its store.
 
 use crate::outcomes::Outcome;
+use crate::places::Place;
 use ledger::Bureau;
-use ledger_files::open_from;
+use ledger_files::{Kept, close, open_from};
 use ledger_tables::OpenFault;
-use sqlite::{Alter, FileFrom, FileStore, Unknown};
+use sqlite::{Alter, FileStore, Unknown};
+use sqlite_disk::Disk;
 use std::fs;
 use std::fs::File;
 use std::io::{ErrorKind, Read};
@@ -39,32 +41,56 @@ fn look(rt: &HostRuntime, path: &str) -> Result<(), OpenFault> {
     }
 }
 
-/// Opens the bureau's file at a path. If that fails, no new file is left.
-fn open_bureau(
+/// Does work with an open bureau, and closes it. Its log is removed while its file is still locked,
+/// so that no other program has begun to write to that log. If the file cannot be closed, the log
+/// stays.
+fn carry_out_and_close<D: Disk + Drop, W: Work>(
     rt: &HostRuntime,
-    path: &str,
-) -> Result<Bureau<FileStore<FileFrom<Unknown>>>, OpenFault> {
-    look(rt, path)?;
-    let Ok(log) = format!(in rt.alloc(); "{path}-wal") else {
-        return Err(OpenFault::NoMemory);
-    };
-    let had_log = fs::symlink_metadata(rt, &log).is_ok();
-    match open_from(rt, path, Unknown) {
-        Ok(bureau) => Ok(bureau),
+    mut bureau: Bureau<FileStore<D>>,
+    place: &Place,
+    work: &mut W,
+) -> Outcome {
+    let outcome = work.carry_out(rt, &mut bureau);
+    match close(bureau) {
+        Ok(_locked) => {
+            place.remove_log(rt);
+            outcome
+        }
+        Err((fault, _store)) => outcome.then_fault(fault),
+    }
+}
+
+/// Lets go of what an open that failed handed back. A log that this open made is removed before
+/// the file's lock is released; where the file was not locked, nothing is.
+fn let_go<D: Disk + Drop>(rt: &HostRuntime, kept: Kept<D>, place: &Place, had_log: bool) {
+    match &kept {
+        Kept::Nothing => {}
+        _ if had_log => {}
+        _ => place.remove_empty_log(rt),
+    }
+    drop(kept);
+}
+
+/// Opens the bureau's file at a path, does work with it, and closes it.
+fn work_at<W: Work>(rt: &HostRuntime, path: &str, work: &mut W) -> Result<Outcome, OpenFault> {
+    let place = Place::find(rt, path)?;
+    look(rt, &place.file)?;
+    place.remove_part(rt)?;
+    let had_log = place.has_log(rt);
+    match open_from(rt, &place.file, Unknown) {
+        Ok(bureau) => Ok(carry_out_and_close(rt, bureau, &place, work)),
         Err((fault, kept)) => {
-            drop(kept);
-            if !had_log {
-                let _ = fs::remove_file(rt, &log);
-            }
+            let_go(rt, kept, &place, had_log);
             Err(fault)
         }
     }
 }
 
-/// Does work with the bureau whose file is at a path.
+/// Does work with the bureau whose file is at a path. After it the file alone is the bureau, unless
+/// the program is stopped or a fault of the file comes.
 pub(crate) fn with_bureau<W: Work>(rt: &HostRuntime, path: &str, work: &mut W) -> Outcome {
-    match open_bureau(rt, path) {
-        Ok(mut bureau) => work.carry_out(rt, &mut bureau),
+    match work_at(rt, path, work) {
+        Ok(outcome) => outcome,
         Err(fault) => Outcome::Fault(fault),
     }
 }

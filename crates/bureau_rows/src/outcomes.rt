@@ -1,7 +1,7 @@
 //! How a row of a bureau's file ends.
 
 ghost use Rattle.std.specs.Prelude.{◌≡◌, IfOk};
-ghost use Rattle.bureau_rows.specs.Outcomes.{HasShown, status_of};
+ghost use Rattle.bureau_rows.specs.Outcomes.{HasShown, closing_with, status_of};
 
 use counter_tasks::Status;
 use ledger_tables::OpenFault;
@@ -26,6 +26,19 @@ pub enum Outcome {
 }
 
 impl Outcome {
+    /// The outcome if the bureau's file could not be closed then. A fault that came before is told,
+    /// and no other.
+    pub(crate) fn then_fault(self, fault: OpenFault) -> Outcome
+        ensures { result ≡ closing_with fault self }
+    {
+        match self {
+            Outcome::Fault(_) | Outcome::Stopped(_) => self,
+            Outcome::Done | Outcome::Shown | Outcome::Refused(_) | Outcome::Device => {
+                Outcome::Fault(fault)
+            }
+        }
+    }
+
     /// How the program ends.
     pub fn status(self) -> Status
         ensures { result ≡ status_of self }

@@ -1,5 +1,6 @@
 //! Serving requests over HTTP.
 
+use crate::connections::{Timed, close};
 use crate::opening::{Work, with_bureau};
 use crate::outcomes::Outcome;
 use http_exchanges::{Exchange, exchange};
@@ -8,51 +9,33 @@ use ledger::Bureau;
 use ledger_tables::OpenFault;
 use machine::Meter;
 use sqlite::Alter;
-use std::alloc::Global;
-use std::io::Read;
-use std::net::{Ipv4Addr, Net, Shutdown, SocketAddrV4, TcpListener, TcpStream};
-use std::time::Duration;
+use std::net::{Ipv4Addr, Net, SocketAddrV4, TcpListener, TcpStream};
 
-/// The number of seconds for which a client may send or take nothing.
-const PATIENCE: u64 = 10;
+/// The number of seconds within which a request has to come, whole.
+const REQUEST: u64 = 30;
 
-/// The greatest number of reads of what a client still sends, before its connection is closed.
-const MOST_READS: usize = 128;
+/// The number of seconds within which a client has to take its answer, whole.
+const ANSWER: u64 = 30;
 
-/// Sets how long a client may send or take nothing. Returns whether that succeeded.
-fn set_patience(stream: &TcpStream) -> bool {
-    let patience = Some(Duration::from_secs(PATIENCE));
-    stream.set_read_timeout(patience).is_ok() && stream.set_write_timeout(patience).is_ok()
-}
-
-/// Ends the answer, and reads what the client still sends, up to a limit: a connection that is
-/// closed while bytes are unread may lose its answer.
-fn close(stream: &TcpStream) {
-    if stream.shutdown(Shutdown::Write).is_err() {
-        return;
-    }
-    let mut rest = [0u8; 4096];
-    for _ in 0..MOST_READS {
-        match (&mut &*stream).read(&mut rest) {
-            Ok(0) | Err(_) => return,
-            Ok(_) => {}
-        }
-    }
-}
+/// The number of seconds for which what a client sends after its request is read.
+const REST: u64 = 1;
 
 /// Serves one connection: one request.
 fn serve_one<S: Alter>(
-    alloc: Global,
+    rt: &HostRuntime,
     routes: &Routes,
     bureau: &mut Bureau<S>,
     stream: &TcpStream,
     meter: &mut Meter,
 ) {
-    if !set_patience(stream) {
+    let (Ok(mut reader), Ok(mut writer)) = (
+        Timed::new(rt, stream, REQUEST),
+        Timed::new(rt, stream, REQUEST + ANSWER),
+    ) else {
         return;
-    }
-    match exchange(alloc, routes, &mut &*stream, &mut &*stream, bureau, meter) {
-        Exchange::Answered { .. } => close(stream),
+    };
+    match exchange(rt.alloc(), routes, &mut reader, &mut writer, bureau, meter) {
+        Exchange::Answered { .. } => close(rt, stream, REST),
         Exchange::ReadFailed | Exchange::WriteFailed { .. } => {}
     }
 }
@@ -60,7 +43,7 @@ fn serve_one<S: Alter>(
 /// Serves this number of connections, one after the other. A connection that fails is dropped.
 /// After fault 2 no more are served.
 pub fn serve_connections<S: Alter>(
-    alloc: Global,
+    rt: &HostRuntime,
     routes: &Routes,
     bureau: &mut Bureau<S>,
     listener: &TcpListener,
@@ -69,7 +52,7 @@ pub fn serve_connections<S: Alter>(
     let mut meter = Meter::new();
     for stream in listener.incoming().take(count as usize) {
         if let Ok(stream) = stream {
-            serve_one(alloc, routes, bureau, &stream, &mut meter);
+            serve_one(rt, routes, bureau, &stream, &mut meter);
         }
         if bureau.broken() {
             return Outcome::Fault(OpenFault::Store);
@@ -91,7 +74,7 @@ impl Work for ServeWork {
             return Outcome::Fault(OpenFault::NoMemory);
         };
         match TcpListener::bind(rt, SocketAddrV4::new(Ipv4Addr::LOCALHOST, self.port)) {
-            Ok(listener) => serve_connections(rt.alloc(), &routes, bureau, &listener, self.count),
+            Ok(listener) => serve_connections(rt, &routes, bureau, &listener, self.count),
             Err(_) => Outcome::Device,
         }
     }

@@ -39,7 +39,7 @@ fn serve_from(
 ) -> Result<Outcome, Fail> {
     let routes = Routes::new(rt.alloc())?;
     match open_from(rt, path, Unknown) {
-        Ok(mut bureau) => Ok(serve_connections(rt.alloc(), &routes, &mut bureau, listener, count)),
+        Ok(mut bureau) => Ok(serve_connections(rt, &routes, &mut bureau, listener, count)),
         Err(_) => Err("not opened")?,
     }
 }

@@ -24,7 +24,8 @@ usage:
 DECK, IN  a deck as text: on each line one card, its 80 columns as glyphs; at most 2,000 cards
 SIZE      the machine's positions of storage: 1400, 2000 or 4000
 SWITCHES  the sense switches that are on: rising letters of ABCDEFG, as A or BDG, or - for none
-FILE      a bureau's file: it keeps all jobs, what was punched and printed, and how far each ran
+FILE      a bureau's file: it keeps all jobs, what was punched and printed, and how far each ran;
+          after a stop, FILE-wal beside it is a part of it
 CUSTOMER  1 to 12 capitals and digits
 NUMBER    the customer's number of a job: 1 to 9 digits, the first not 0
 PORT      1 to 65535, on this computer alone (127.0.0.1)
@@ -45,7 +46,8 @@ examples:
 A deck runs for at most 1,000,000 instructions. What it prints goes to standard output. One line
 on standard error says how many cards it punched, how many lines it printed and how it ended:
   cards 0 lines 2 halted next 361
-or, in place of `halted next 361`, `running` or as `check ADDRESS at 8`.
+or, in place of `halted next 361`, as `check ADDRESS at 8`, or `running` if all 1,000,000 were
+used. A source is no deck to run, and mostly ends with `check INSTRUCTION at 1`: assemble it first.
 
 An Autocoder source ends with its END card; the cards after it are data. Its listing goes to
 standard output. OUT gets the cards that load the program, and the data cards after them: a deck
@@ -61,13 +63,16 @@ exit status:
 
 faults and refusals:
   1       there is not enough memory        end other programs, or run it on a larger computer
-  2       the bureau's file failed          look for a full disk, and at the file's permissions;
-                                            then go on: what was answered is in the file
+  2       the bureau's file failed          is FILE there (for init: is it not, nor FILE-wal nor
+                                            FILE-journal)? has another program it open, as
+                                            bureau serve or sqlite3? look at its permissions, and
+                                            for a full disk; what was answered is in the file
   50      the file is no bureau's           is the file the right one? a later version of this
                                             program may have made it
   51      an earlier version made the file  use the program of that version
-  device  a file, the input or an output    look at the file's name and its permissions, and
-          could not be used                 for a full disk; OUT is then as it was before
+  device  another file, the input, an       look at the file's name and its permissions, and
+          output or the port could not be   for a full disk; OUT is then as it was before; of
+          used                              serve: another program has the port
   13      the deck has no card              is the file the right one? refused 13 is no fault
   30      a card has not 80 columns         fill each line up with blanks to 80 characters; at
                                             column 81: the line is longer, or ends in CR LF
@@ -126,6 +131,9 @@ examples:
 A deck runs for at most 1,000,000 instructions. What it prints goes to standard output. One line
 on standard error says how many cards it punched, how many lines it printed and how it ended:
   cards 0 lines 2 halted next 361
+or, in place of `halted next 361`, as `check ADDRESS at 8`, or `running` if all 1,000,000 were
+used. A source is no deck to run, and mostly ends with `check INSTRUCTION at 1`: `bureau assemble`
+makes a deck of it.
 
 Status 0: the machine halted. Status 1: it did not, or a fault was printed. Status 2: the words
 are not as above. `bureau --help` lists the faults.
@@ -154,8 +162,9 @@ Status 0: OUT was written. Status 1: a fault was printed. Status 2: the words ar
 pub const INIT_HELP: &str = "\
 bureau init FILE: makes FILE, a new bureau without jobs.
 
-FILE  the path of the new file. A file that is there stays as it is, and is fault 2. One that is
-      made is there whole or not at all, also where the program is stopped
+FILE  the path of the new file. A file that is there stays as it is, and is fault 2; so is a log
+      or a journal, FILE-wal or FILE-journal, which would belong to the new file. FILE is there
+      whole or not at all, also where the program is stopped; then a file FILE.1.part may be left
 
 example:
   bureau init my.bureau
@@ -169,7 +178,8 @@ pub const APPLY_HELP: &str = "\
 bureau apply FILE SCRIPT: carries out the commands in the file SCRIPT, one after the other.
 
 FILE    the bureau's file, made by `bureau init FILE`
-SCRIPT  a command on each line, its words with one blank between them; the last line ends too:
+SCRIPT  a command on each line, its words with one blank between them. Each line ends in LF
+        alone, the last one too:
           submit CUSTOMER NUMBER KIND SIZE SWITCHES N    then N lines, a card of 80 glyphs each
           slice CUSTOMER NUMBER LIMIT                    runs 1 to 2000 instructions
           start CUSTOMER NUMBER SWITCHES                 lets a halted job go on
@@ -185,6 +195,7 @@ For each command one line is printed, when the command is in the file: `taken 6`
 `ran 34 running`, `refused 23`. A script with a line that is no command is not begun: `bad line 3`
 is printed then, with the number of the first such line. A program that is stopped has done the
 commands whose lines it printed, and at most one more; `standing` says how far a job came.
+While it runs, no other program can use FILE; after it, FILE alone is the whole bureau.
 
 Status 0: each command was done. Status 1: one was refused, or the script is no script, or there
 is not enough memory. Status 2: the words are not as above. Status 3: the bureau's file failed.
@@ -228,11 +239,18 @@ COUNT  how many connections are served before it ends: 1 to 1000000
                                                       it: what it punched and printed
   GET   /c/CUSTOMER/jobs, or /queue
 
-example:
+examples:
   bureau serve my.bureau 8014 100
+  curl -X PUT --data-binary @DECK localhost:8014/c/ACME/j/9/object/4000/A
 
-A client that sends nothing for 10 seconds is dropped. What was answered is in the file: the
-program may be stopped at any time.
+A PUT tells the length of its body. No `100 Continue` is sent, for which curl -T waits a second:
+give it -H Expect: too. A client is dropped that sends or takes nothing for 10 seconds, whose
+request is not whole after 30, or that has not taken its answer 60 after it came.
+
+While it runs, no other program can use FILE: ask over HTTP. It ends after COUNT connections, and
+then FILE alone is the whole bureau; a service of the system can start it again. It may also be
+stopped at any time: what was answered is in the file. Each program of this computer may give it
+commands, and so may each page in a browser on it: let customers come through a proxy.
 
 Status 0: COUNT connections were served. Status 1: the port could not be used, or there is not
 enough memory. Status 2: the words are not as above. Status 3: the bureau's file failed.

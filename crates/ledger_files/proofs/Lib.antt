@@ -1,3 +1,4 @@
+pub mod ClosingLemmas
 pub mod OpeningFinds
 pub mod OpeningLeftovers
 pub mod StopLemmas

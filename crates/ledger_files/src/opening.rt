@@ -1,12 +1,14 @@
 //! Opening a bureau's file.
 
-ghost use Rattle.std.specs.Prelude.{◌≡◌, Bool, IfOk, IfErr};
+ghost use Rattle.std.specs.Prelude.{◌≡◌, ◌≤◌, Bool, IfOk, IfErr};
 ghost use Rattle.sqlite.specs.Held.{state};
 ghost use Rattle.sqlite.specs.Files.{file_state};
 ghost use Rattle.sqlite.specs.State.{HasCleanDisk, Opens, IsLive};
+ghost use Rattle.sqlite.specs.View.{doubt};
 ghost use Rattle.sqlite.specs.WalFiles.{image_at};
 ghost use Rattle.ledger_tables.specs.Versions.{IsKnown};
 ghost use Rattle.office.specs.Office.{Office};
+ghost use Rattle.ledger.specs.Adopting.{StandsStill, IsNoFaultOfTables};
 ghost use Rattle.ledger.specs.Standing.{LeftAs, Stands};
 ghost use Rattle.ledger_files.specs.Opening.{AreOf, KeptStands, IsCleanKept};
 
@@ -14,6 +16,7 @@ use crate::kept::Kept;
 use ledger::Bureau;
 use ledger_tables::OpenFault;
 use sqlite::{Alter, Connection, Error, ErrorCode, FileFrom, FileStore, Start};
+use std::alloc::Global;
 
 /// Proves that a connection that was just opened represents the office of its trees. It is called
 /// only for its clause.
@@ -23,8 +26,29 @@ fn opened_stands<S: Alter>(conn: &Connection<S>)
         → Stands (state S.Store conn.now) office }
 {}
 
-/// The fault of a failed open: 1 if there is no memory, else 2.
-fn store_fault_of(error: Error) -> OpenFault
+/// Adopts a connection that was just opened: the bureau represents the office of its trees.
+// It is over any store, so that `open_from`, which names a store in files, makes one call only.
+fn adopted<S: Alter + Drop>(
+    alloc: Global,
+    conn: Connection<S>,
+) -> Result<Bureau<S>, (OpenFault, Connection<S>)>
+    ensures opened { Opens (state S.Store conn) → IsLive (state S.Store conn)
+        → (office : Office) → LeftAs (state S.Store conn).committed.trees office
+        → Stands (state S.Store conn) office }
+    ensures stands { IfOk result (λ bureau. StandsStill S.Store conn bureau.conn) }
+    ensures kept { IfErr result (λ e. StandsStill S.Store conn e.1) }
+    ensures known { IfErr result (λ e. IsNoFaultOfTables S.Store conn e.1 e.0) }
+    ensures clean { IfOk result (λ bureau. doubt (state S.Store conn).is_clean
+        ≤ doubt (state S.Store bureau.conn).is_clean) }
+    ensures clean_still { IfErr result (λ e. doubt (state S.Store conn).is_clean
+        ≤ doubt (state S.Store e.1).is_clean) }
+{
+    opened_stands(&conn);
+    Bureau::adopt(alloc, conn)
+}
+
+/// The fault of the store's error: 1 if there is no memory, else 2.
+pub(crate) fn store_fault_of(error: Error) -> OpenFault
     ensures memory { error ≡ Error.SqliteFailure ErrorCode.OutOfMemory
         → result ≡ OpenFault.NoMemory }
     ensures known { IsKnown result }
@@ -56,8 +80,7 @@ pub fn open_from<S: Start>(
         Err((error, Some(left))) => return Err((store_fault_of(error), Kept::Left(left))),
         Err((error, None)) => return Err((store_fault_of(error), Kept::Nothing)),
     };
-    opened_stands(&conn);
-    match Bureau::adopt(rt.alloc(), conn) {
+    match adopted(rt.alloc(), conn) {
         Ok(bureau) => Ok(bureau),
         Err((fault, conn)) => Err((fault, Kept::Connection(conn))),
     }

@@ -10,13 +10,13 @@ use Rattle.ledger.specs.Standing.{LeftAs, Stands}
 use Rattle.ledger_files.proofs.OpeningLeftovers.{fresh_seen, fresh_left, fresh_stands}
 use Rattle.ledger_files.proofs.opening.open_from.Goals as goal
 
-pub returns-in-Ok-adopt-clause-found : goal.returns-in-Ok-adopt-clause-found
-returns-in-Ok-adopt-clause-found g c clean has_sums office are =
-    let early : HasCleanDisk (file_state c.in-Ok.conn) = omega (arith, c.in-Ok-adopt.ensures.clean) in
+pub returns-in-Ok-adopted-clause-found : goal.returns-in-Ok-adopted-clause-found
+returns-in-Ok-adopted-clause-found g c clean has_sums office are =
+    let early : HasCleanDisk (file_state c.in-Ok.conn) = omega (arith, c.in-Ok-adopted.ensures.clean) in
     let opened = c.in-Ok.ensures.opened early in
     let found = c.in-Ok.ensures.found early in
-    ∥∥₁_map are (λ it. let r : Stands (file_state c.in-Ok-adopt.bureau.conn) office =
-    c.in-Ok-adopt.ensures.stands clean office (c.opened_stands.ensures opened.0 opened.1 office (subst (λ d. LeftAs d office) (sym (found.holds it.0 it.1)) it.3)) in r)
+    ∥∥₁_map are (λ it. let r : Stands (file_state c.in-Ok-adopted.bureau.conn) office =
+    c.in-Ok-adopted.ensures.stands clean office (c.in-Ok-adopted.ensures.opened opened.0 opened.1 office (subst (λ d. LeftAs d office) (sym (found.holds it.0 it.1)) it.3)) in r)
 
 pub returns-in-Err-default-Some-clause-kept : goal.returns-in-Err-default-Some-clause-kept
 returns-in-Err-default-Some-clause-kept g c clean has_sums office are =
@@ -34,7 +34,7 @@ returns-in-Err-clause-kept g c clean has_sums office are =
     let opened = c.in-Ok.ensures.opened early in
     let found = c.in-Ok.ensures.found early in
     ∥∥₁_map are (λ it. let r : Stands (file_state c.in-Err.conn) office =
-    c.in-Err.ensures.kept clean office (c.opened_stands.ensures opened.0 opened.1 office (subst (λ d. LeftAs d office) (sym (found.holds it.0 it.1)) it.3)) in r)
+    c.in-Err.ensures.kept clean office (c.in-Err.ensures.opened opened.0 opened.1 office (subst (λ d. LeftAs d office) (sym (found.holds it.0 it.1)) it.3)) in r)
 
 pub returns-in-Err-clause-known : goal.returns-in-Err-clause-known
 returns-in-Err-clause-known g c clean has_sums office are =
@@ -42,5 +42,5 @@ returns-in-Err-clause-known g c clean has_sums office are =
     let opened = c.in-Ok.ensures.opened early in
     let found = c.in-Ok.ensures.found early in
     let known : (db : Trees) → HoldsDatabase (image_at g.S.Start) db → LeftAs db office → IsKnown c.in-Err.fault = λ db held left.
-    c.in-Err.ensures.known clean office (c.opened_stands.ensures opened.0 opened.1 office (subst (λ d. LeftAs d office) (sym (found.holds db held)) left)) in
+    c.in-Err.ensures.known clean office (c.in-Err.ensures.opened opened.0 opened.1 office (subst (λ d. LeftAs d office) (sym (found.holds db held)) left)) in
     (λ e. ∥∥₁_elim are (λ x y. absurd x) (λ it. (known it.0 it.1 it.3).0 e), λ e. ∥∥₁_elim are (λ x y. absurd x) (λ it. (known it.0 it.1 it.3).1 e))

@@ -1,0 +1,38 @@
+//! The standard error, where what went wrong is printed.
+
+use std::io;
+use std::io::Write;
+
+/// A writer that goes on if nothing more can be printed, as on a full disk or a closed stream: how
+/// the program ends is told by its exit status then.
+#[derive(Drop)]
+pub(crate) struct Unfailing<W: Write> {
+    inner: W,
+    failed: bool,
+}
+
+impl<W: Write> Unfailing<W> {
+    /// The writer over another one.
+    pub(crate) fn new(inner: W) -> Unfailing<W> {
+        Unfailing {
+            inner,
+            failed: false,
+        }
+    }
+}
+
+impl<W: Write> Write for Unfailing<W> {
+    fn write(&mut self, buf: &[u8]) -> io::Result<usize> {
+        if !self.failed {
+            self.failed = self.inner.write_all(buf).is_err();
+        }
+        Ok(buf.len())
+    }
+
+    fn flush(&mut self) -> io::Result<()> {
+        if !self.failed {
+            self.failed = self.inner.flush().is_err();
+        }
+        Ok(())
+    }
+}

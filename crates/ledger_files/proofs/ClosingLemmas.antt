@@ -1,0 +1,28 @@
+-- Why a close fails.
+use Rattle.std.proofs.Common.{◌≡◌, inl, inr, subst}
+use Rattle.sqlite_disk.specs.declared.Disk.{Ghosts}
+use Rattle.sqlite_store.specs.declared.store.FileStore.{FileStore}
+use Rattle.sqlite_trees.specs.declared.error.StoreError.{StoreError}
+use Rattle.sqlite_trees.specs.declared.error.StoreError.TheVariants as stored
+use Rattle.sqlite.specs.Files.{ExcusesClose, FailsToClose}
+use Rattle.sqlite.specs.Held.{Held}
+use Rattle.sqlite.specs.State.{store_error}
+use Rattle.sqlite.specs.declared.error.Error.{Error}
+use Rattle.sqlite.specs.declared.error.Error.TheVariants.{SqliteFailure}
+use Rattle.sqlite.specs.declared.error.ErrorCode.TheVariants as code
+use Rattle.ledger_tables.specs.declared.openings.OpenFault.{OpenFault}
+use Rattle.ledger_tables.specs.declared.openings.OpenFault.TheVariants.{NoMemory}
+use Rattle.ledger_files.specs.Closing.{HindersClosing}
+
+module _ {D : Type 0} {g : Ghosts D} (left : FileStore D g) (error : Error) (fault : OpenFault) (memory : error ≡ SqliteFailure code.OutOfMemory → fault ≡ NoMemory) where
+  -- what excuses the store's close hinders the bureau's
+  excused : (conn : Held (FileStore D g)) (cause : StoreError) → error ≡ store_error cause → ExcusesClose conn left cause → HindersClosing conn left fault
+  excused conn stored.OutOfMemory is excuse = inl (memory is)
+  excused conn stored.Io is excuse = inr (inr excuse)
+  excused conn stored.Corrupt is excuse = inr (inr excuse)
+  excused conn stored.Full is excuse = inr (inr excuse)
+  excused conn stored.Broken is excuse = inr excuse
+  excused conn stored.Unstorable is excuse = absurd excuse
+
+  pub hinders : (bureau conn : Held (FileStore D g)) → conn ≡ bureau → FailsToClose conn left error → HindersClosing bureau left fault
+  hinders bureau conn same fails = subst (λ h. HindersClosing h left fault) same (excused conn fails.0 fails.1 fails.2)

@@ -1,0 +1,22 @@
+use Rattle.std.proofs.Common.{subst, sym, []}
+use Rattle.std.proofs.Math.Logic.{∥∥₁_elim, ∥∥₁_map}
+use Rattle.sqlite.specs.Tree.{Trees}
+use Rattle.sqlite.specs.Files.{HoldsDatabase, file_state}
+use Rattle.ledger.specs.Standing.{LeftAs, Stands}
+use Rattle.ledger_files.proofs.ClosingLemmas.{hinders}
+use Rattle.ledger_files.proofs.closing.close.Goals as goal
+
+pub returns-in-Ok-clause-alone : goal.returns-in-Ok-clause-alone
+returns-in-Ok-clause-alone g c clean office s left may =
+    let copied = c.in-Ok.ensures.copied clean in
+    let kept = c.committed_stands.ensures copied.was_open office (subst (λ h. Stands (file_state h) office) (sym c.into_connection-conn.ensures) s) in
+    let held = copied.left left may in
+    ∥∥₁_elim held.both squash₁ (λ both. ∥∥₁_map held.alone (λ alone. let r : (db : Trees) × HoldsDatabase left db × HoldsDatabase (record left { log = [] }) db × LeftAs db office = (_, both, alone, kept) in r))
+
+pub returns-in-Err-clause-kept : goal.returns-in-Err-clause-kept
+returns-in-Err-clause-kept g c office s db may =
+    s.left db (subst (λ h. (file_state h).may_leave db) c.into_connection-conn.ensures (c.in-Err.ensures.err.0.quiet.outcomes db may))
+
+pub returns-in-Err-clause-cause : goal.returns-in-Err-clause-cause
+returns-in-Err-clause-cause g c clean =
+    hinders c.in-Err.store c.in-Err.error _ c.store_fault_of.ensures.memory _ _ c.into_connection-conn.ensures (c.in-Err.ensures.err.1 clean)

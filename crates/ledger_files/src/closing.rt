@@ -1,0 +1,50 @@
+//! Closing a bureau's file.
+
+ghost use Rattle.std.specs.Prelude.{IsTrue, IfOk, IfErr};
+ghost use Rattle.sqlite.specs.FileStore.{recovers, view};
+ghost use Rattle.sqlite.specs.Files.{file_state};
+ghost use Rattle.sqlite.specs.Held.{state};
+ghost use Rattle.sqlite.specs.Recovery.{Image};
+ghost use Rattle.sqlite.specs.Tree.{Trees};
+ghost use Rattle.sqlite.specs.View.{IsClean};
+ghost use Rattle.sqlite.specs.WalFiles.{outcomes};
+ghost use Rattle.sqlite_wal.specs.Reads.{AreClean};
+ghost use Rattle.office.specs.Office.{Office};
+ghost use Rattle.ledger.specs.Standing.{LeftAs, Stands};
+ghost use Rattle.ledger_files.specs.Closing.{HindersClosing, StandsAlone};
+
+use crate::opening::store_fault_of;
+use ledger::Bureau;
+use ledger_tables::OpenFault;
+use sqlite::{Alter, Connection, FileStore};
+use sqlite_disk::{Disk, Files};
+
+/// Proves that the last commit of an open connection represents the office that the connection
+/// represents. It is called only for its clause.
+fn committed_stands<S: Alter>(conn: &Connection<S>)
+    ensures { IsTrue (state S.Store conn.now).is_open → (office : Office)
+        → Stands (state S.Store conn.now) office
+        → LeftAs (state S.Store conn.now).committed.trees office }
+{}
+
+/// Closes a bureau: everything in the log is copied into its file. Returns both files, still
+/// locked: from now on the file alone is the bureau, whatever a crash leaves, and the log may be
+/// removed. Fails with 1 if there is no memory, and with 2 if the files fail now or a fault of them
+/// came before; the two files together are then the bureau, as before.
+pub fn close<D: Disk + Drop>(
+    bureau: Bureau<FileStore<D>>,
+) -> Result<Files<D>, (OpenFault, FileStore<D>)>
+    ensures alone { IfOk result (λ files. AreClean D.Disk files.log files.db → (office : Office)
+        → Stands (file_state bureau.conn) office → (left : Image)
+        → outcomes D.Disk files.log files.db left → StandsAlone left office) }
+    ensures kept { IfErr result (λ e. (office : Office) → Stands (file_state bureau.conn) office
+        → (db : Trees) → recovers e.1 db → LeftAs db office) }
+    ensures cause { IfErr result (λ e. IsClean (view e.1) → HindersClosing bureau.conn e.1 e.0) }
+{
+    let conn = bureau.into_connection();
+    committed_stands(&conn);
+    match conn.close_files() {
+        Ok(files) => Ok(files),
+        Err((error, store)) => Err((store_fault_of(error), store)),
+    }
+}

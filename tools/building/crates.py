@@ -1,0 +1,56 @@
+"""The crates of the repository, as crates.txt names them: what each uses, and how long each is."""
+import os
+
+TOP = os.path.dirname(os.path.dirname(os.path.dirname(os.path.realpath(__file__))))
+
+
+def read(top=TOP):
+    """Each crate with its line of crates.txt, and the names in it: crates and libraries it uses."""
+    lines = {}
+    with open(f"{top}/crates.txt", encoding="utf-8") as file:
+        for line in file:
+            said = line.split("#")[0].strip()
+            name, colon, names = said.partition(":")
+            if colon:
+                lines[name.split()[0]] = (said, names.split())
+    return lines
+
+
+class Crates:
+    """The crates, each with the crates of the repository that it uses itself."""
+
+    def __init__(self, top=TOP):
+        self.top = top
+        self.lines = read(top)
+        self.uses = {it: [n for n in self.lines[it][1] if n in self.lines] for it in self.lines}
+
+    def folder(self, name):
+        return f"{self.top}/crates/{name}"
+
+    def is_program(self, name):
+        return os.path.isfile(f"{self.folder(name)}/src/main.rt")
+
+    def below(self, name):
+        """All crates that a crate uses, and those that these use in turn, lowest first."""
+        found = []
+        for one in self.uses[name]:
+            found += [it for it in [*self.below(one), one] if it not in found]
+        return found
+
+    def length(self, name):
+        """How many lines a crate has, code, definitions and proofs."""
+        count = 0
+        for part in ("src", "specs", "proofs"):
+            for folder, _, files in os.walk(f"{self.folder(name)}/{part}"):
+                for file in files:
+                    with open(f"{folder}/{file}", "rb") as text:
+                        count += sum(1 for line in text)
+        return count
+
+    def heights(self, names):
+        """Of each crate the most lines in one chain of crates that use it: the work that waits for it."""
+        found = {}
+        for name in reversed(names):
+            users = [found[it] for it in names if name in self.uses[it]]
+            found[name] = self.length(name) + max(users, default=0)
+        return found
