@@ -43,8 +43,8 @@ def free_port():
 
 
 def connected(process, port, seconds=60, small=False):
-    """A connection to a process that serves; None where the process has ended. One of small buffers
-    has room for some thousand bytes of an answer that nobody takes."""
+    """A connection to a process that serves; None where the process has ended. A small one has
+    room for some thousand bytes of an answer that nobody takes."""
     end = time.monotonic() + seconds
     while time.monotonic() < end:
         stream = socket.socket()
