@@ -42,13 +42,21 @@ def free_port():
                 return port
 
 
-def connected(process, port, seconds=60):
-    """A connection to a process that serves; None where the process has ended."""
+def connected(process, port, seconds=60, small=False):
+    """A connection to a process that serves; None where the process has ended. A small one has
+    room for some thousand bytes of an answer that nobody takes."""
     end = time.monotonic() + seconds
     while time.monotonic() < end:
+        stream = socket.socket()
+        stream.settimeout(seconds)
+        if small:
+            stream.setsockopt(socket.SOL_SOCKET, socket.SO_RCVBUF, 2048)
+            stream.setsockopt(socket.IPPROTO_TCP, socket.TCP_MAXSEG, 536)
         try:
-            return socket.create_connection(("127.0.0.1", port), timeout=seconds)
+            stream.connect(("127.0.0.1", port))
+            return stream
         except ConnectionError:
+            stream.close()
             if process.poll() is not None:
                 return None
             time.sleep(0.0005)
