@@ -8,3 +8,5 @@ mod decks;
 mod jobs;
 #[cfg(test)]
 mod parts;
+#[cfg(test)]
+mod replies;

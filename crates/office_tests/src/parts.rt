@@ -1,11 +1,12 @@
 //! Jobs made from their parts.
 
 use crate::decks::three_cards;
+use crate::replies::are_answered;
 use bitflags::Flags;
 use cards::Deck;
 use core_store::{Compared, Core, FlagCore, Registers, Size};
-use machine::{Meter, Parts, Standing};
-use office::{Job, JobCommand, JobParts, Refusal, Reply, Stretch};
+use machine::{Parts, Standing};
+use office::{Job, JobCommand, JobParts, Stretch};
 use std::alloc::Global;
 use std::test::Fail;
 use units::{Carriage, Hopper, Printer, Punch, Switches, Units, put_card};
@@ -63,48 +64,53 @@ fn parts_with(alloc: Global, switches: u8, granted: u32) -> Result<JobParts<Flag
     })
 }
 
-/// The reply to a slice, in a word.
-fn sliced(
+/// Whether the job of these parts, if there is one, replies to slices of two instructions, of one and
+/// of one in these words, and has then attempted so many.
+fn is_told(
     alloc: Global,
-    job: &mut Job<FlagCore>,
-    meter: &mut Meter,
-    limit: u32,
-) -> Result<&'static str, Fail> {
-    match job.take(alloc, &JobCommand::Slice { limit }, meter)? {
-        Reply::Ran { .. } => Ok("ran "),
-        Reply::Refused(Refusal::TooMuch) => Ok("refused "),
-        _ => Ok("something else "),
-    }
-}
-
-/// The replies to slices of two instructions, of one and of one, and the number of instructions
-/// attempted, of the job of these parts, if there is one.
-fn told_by_parts(alloc: Global, switches: u8, granted: u32) -> Result<String, Fail> {
+    (switches, granted): (u8, u32),
+    replies: [&str; 3],
+    ticks: u64,
+) -> Result<bool, Fail> {
+    let commands = [
+        (JobCommand::Slice { limit: 2 }, replies[0]),
+        (JobCommand::Slice { limit: 1 }, replies[1]),
+        (JobCommand::Slice { limit: 1 }, replies[2]),
+    ];
     let parts = parts_with(alloc, switches, granted)?;
-    let Some(mut job) = Job::from_parts(alloc, parts)? else {
-        return Ok(String::from_str(alloc, "no job")?);
-    };
-    let mut meter = Meter::new();
-    let mut text = String::new(alloc);
-    for limit in [2, 1, 1] {
-        text.push_str(sliced(alloc, &mut job, &mut meter, limit)?)?;
+    match Job::from_parts(alloc, parts)? {
+        Some(mut job) => Ok(are_answered(alloc, &mut job, &commands, ticks)?),
+        None => Ok(false),
     }
-    write!(text, "{}", meter.ticks())?;
-    Ok(text)
 }
 
 /// The machine goes on from its parts, whatever was granted; in all 1,000,000,000 may be granted.
 #[test]
 fn jobs_go_on_from_their_parts(rt: HostRuntime) -> Result<(), Fail> {
-    for (switches, granted, wanted) in [
-        (0, 8, "ran ran ran 4"),
-        (0, 999_999_999, "refused ran refused 1"),
-        (127, 1_000_000_000, "refused refused refused 0"),
-        (0, 1_000_000_001, "no job"),
-        (128, 8, "no job"),
+    let (ran, refused) = ("ran", "refused 28");
+    for (granted, replies, ticks) in [
+        (8, [ran, ran, ran], 4),
+        (999_999_999, [refused, ran, refused], 1),
+        (1_000_000_000, [refused, refused, refused], 0),
     ] {
-        let told = told_by_parts(rt.alloc(), switches, granted)?;
-        assert_eq!(rt; told.as_str(), wanted);
+        assert!(rt;
+            is_told(rt.alloc(), (127, granted), replies, ticks)?,
+            "{granted}"
+        );
     }
+    Ok(())
+}
+
+/// Whether parts with these switches and this grant make a job.
+fn is_job(alloc: Global, switches: u8, granted: u32) -> Result<bool, Fail> {
+    let parts = parts_with(alloc, switches, granted)?;
+    Ok(Job::from_parts(alloc, parts)?.is_some())
+}
+
+#[test]
+fn parts_out_of_range_make_no_job(rt: HostRuntime) -> Result<(), Fail> {
+    assert!(rt; is_job(rt.alloc(), 127, 1_000_000_000)?);
+    assert!(rt; !is_job(rt.alloc(), 0, 1_000_000_001)?);
+    assert!(rt; !is_job(rt.alloc(), 128, 8)?);
     Ok(())
 }
