@@ -10,8 +10,8 @@ use sqlite::Alter;
 use std::alloc::Global;
 use std::test::Fail;
 
-/// Whether the exchange of these bytes, after which the reader fails, with a writer that takes `room`
-/// bytes, ends so, and the writer has taken all of its room.
+/// Whether the exchange of these bytes, after which the reader fails, with a writer that takes
+/// `room` bytes, ends so, and the writer has taken all of its room.
 fn ends<S: Alter + Drop>(
     alloc: Global,
     mut bureau: Bureau<S>,

@@ -20,8 +20,8 @@ fn held(alloc: Global) -> Result<String, AllocError> {
 /// Its output.
 const OUTPUT: &[u8] = b"taken 1\nheld\nrefused 25\nqueue\n";
 
-/// Whether a script from this reader ends so, with a writer that takes `room` bytes and has then taken
-/// these.
+/// Whether a script from this reader ends so, with a writer that takes `room` bytes and has then
+/// taken these.
 fn ends<S: Alter>(
     alloc: Global,
     bureau: &mut Bureau<S>,

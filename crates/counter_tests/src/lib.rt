@@ -1,5 +1,5 @@
-//! Cases of the counter that no file shows: readers and writers that fail, and want of memory. Words,
-//! runs and assemblies are in `cases/`.
+//! Cases of the counter that no file shows: readers and writers that fail, and want of memory.
+//! Words, runs and assemblies are in `cases/`.
 
 #![tactic(auto)]
 

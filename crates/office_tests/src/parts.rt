@@ -64,8 +64,8 @@ fn parts_with(alloc: Global, switches: u8, granted: u32) -> Result<JobParts<Flag
     })
 }
 
-/// Whether the job of these parts, if there is one, replies to slices of two instructions, of one and
-/// of one in these words, and has then attempted so many.
+/// Whether the job of these parts, if there is one, replies to slices of two instructions, of one
+/// and of one in these words, and has then attempted so many.
 fn is_told(
     alloc: Global,
     (switches, granted): (u8, u32),

@@ -4,8 +4,8 @@ use office::{Refusal, SourceFaults};
 use scripts::{ScriptFault, write_bad, write_fault, write_refusal};
 use std::test::Fail;
 
-/// The lines for the last line that can be bad, for want of memory, for both faults, and for a source
-/// without faults.
+/// The lines for the last line that can be bad, for want of memory, for both faults, and for a
+/// source without faults.
 const LINES: &[u8] = b"bad line 4000000\nfault 1\nfault 1\nfault 2\nrefused 16\n";
 
 #[test]

@@ -1,6 +1,6 @@
 //! Tests of scripts that the program's own do not show: readers and writers that give and take
-//! little, or fail, and lines that it writes only where memory or the store fails. Scripts and their
-//! replies are in `cases/scripts`.
+//! little, or fail, and lines that it writes only where memory or the store fails. Scripts and
+//! their replies are in `cases/scripts`.
 #![tactic(auto)]
 
 #[cfg(test)]

@@ -25,8 +25,9 @@ const JOB: Summary = Summary {
 const LINE: &[u8] =
     b"standing check OVERLAP at 351 held 1 collected 0 granted 34 cards 1 lines 2\n";
 
-/// Writes the line of the job, after 100 bytes, to a writer that takes `room` bytes. Returns whether
-/// it ended in this way, and the writer has taken, and it has counted, the bytes that it took.
+/// Writes the line of the job, after 100 bytes, to a writer that takes `room` bytes. Returns
+/// whether it ended in this way, and the writer has taken, and it has counted, the bytes that it
+/// took.
 fn sends(alloc: Global, (room, fails): (usize, bool), ending: Result<(), WriteFailed>) -> bool {
     let mut writer = Narrow {
         taken: Vec::new(alloc),
