@@ -1,6 +1,7 @@
 //! Modify address.
 
-ghost use Rattle.std.specs.Prelude.{◌≡◌, ◌+◌, ◌-◌, ◌<◌, ◌≤◌, ◌&&◌, ℕ, length, IsTrue, OnOk, OnErr, IfErr, Ok, Err};
+ghost use Rattle.std.specs.Prelude.{◌≡◌, ◌+◌, ◌-◌, ◌<◌, ◌≤◌, ◌&&◌, ℕ, length, IsTrue};
+ghost use Rattle.core_store.specs.Doing.{Does};
 ghost use Rattle.core_store.specs.Storage.{largest_size};
 ghost use Rattle.addresses.specs.Stored.{has_three};
 ghost use Rattle.arith.specs.Bases.{modified};
@@ -22,11 +23,8 @@ fn have_three<C: Core>(core: &C, a: u16, b: u16) -> bool
 /// characters at A and at B, check DATA if they are not an address.
 #[tactic(auto, unfolding(crate::specs::Bases::modified))]
 pub fn modify<C: Core>(core: &mut C, registers: &mut Registers) -> Result<(), Check>
-    ensures done { OnOk result (modified (C.cells core.old) registers.old
-        ≡ Ok (C.cells core.new, registers.new)) }
-    ensures check { IfErr result (λ check. modified (C.cells core.old) registers.old ≡ Err check) }
-    ensures unchanged { OnErr result ((C.cells core.new ≡ C.cells core.old)
-        × (registers.new ≡ registers.old)) }
+    ensures { Does result (C.cells core.old) registers.old
+        (C.cells core.new) registers.new modified }
 {
     let Registers { a, b, .. } = *registers;
     if !have_three(core, a, b) {

@@ -1,8 +1,9 @@
 //! Compare, by the ranks of characters.
 
-ghost use Rattle.std.specs.Prelude.{◌≡◌, ◌+◌, ◌<◌, ◌≤◌, ◌==◌, not, ℕ, List, length, OnOk, OnErr, IfErr, Ok, Err};
+ghost use Rattle.std.specs.Prelude.{◌≡◌, ◌+◌, ◌<◌, ◌≤◌, ◌==◌, not, ℕ, List, length};
 ghost use Rattle.std.specs.Simd.Lanes.{mask_l, zip2};
 ghost use Rattle.bcd.specs.Table.{rank_of};
+ghost use Rattle.core_store.specs.Doing.{Does};
 ghost use Rattle.core_store.specs.Storage.{code_at, codes_ending};
 ghost use Rattle.arith.specs.Operands.{AreCounts};
 ghost use Rattle.arith.specs.Order.{order, IsOrder, compared, comparison};
@@ -113,11 +114,8 @@ fn near_comparison<C: Core>(core: &C, a: u16, b: u16, counts: Counts) -> Compare
 /// check ADDRESS as `counts_at` does.
 #[tactic(auto, unfolding(crate::specs::Order::compared))]
 pub fn compare<C: Core>(core: &mut C, registers: &mut Registers) -> Result<(), Check>
-    ensures done { OnOk result (compared (C.cells core.old) registers.old
-        ≡ Ok (C.cells core.new, registers.new)) }
-    ensures check { IfErr result (λ check. compared (C.cells core.old) registers.old ≡ Err check) }
-    ensures unchanged { OnErr result ((C.cells core.new ≡ C.cells core.old)
-        × (registers.new ≡ registers.old)) }
+    ensures { Does result (C.cells core.old) registers.old
+        (C.cells core.new) registers.new compared }
 {
     let Registers { a, b, .. } = *registers;
     let Some(counts) = near_counts(core, a, b) else {
@@ -132,11 +130,8 @@ pub fn compare<C: Core>(core: &mut C, registers: &mut Registers) -> Result<(), C
 #[inline(never)]
 #[tactic(auto, unfolding(crate::specs::Order::compared))]
 fn compare_far<C: Core>(core: &mut C, registers: &mut Registers) -> Result<(), Check>
-    ensures done { OnOk result (compared (C.cells core.old) registers.old
-        ≡ Ok (C.cells core.new, registers.new)) }
-    ensures check { IfErr result (λ check. compared (C.cells core.old) registers.old ≡ Err check) }
-    ensures unchanged { OnErr result ((C.cells core.new ≡ C.cells core.old)
-        × (registers.new ≡ registers.old)) }
+    ensures { Does result (C.cells core.old) registers.old
+        (C.cells core.new) registers.new compared }
 {
     let Registers { a, b, .. } = *registers;
     let counts = match counts_at(core, a, b) {

@@ -1,6 +1,7 @@
 //! Add and subtract.
 
-ghost use Rattle.std.specs.Prelude.{◌≡◌, ◌+◌, ◌-◌, ◌<◌, ◌≤◌, ℕ, false, true, length, OnOk, OnErr, IfErr, Ok, Err};
+ghost use Rattle.std.specs.Prelude.{◌≡◌, ◌+◌, ◌-◌, ◌<◌, ◌≤◌, ℕ, false, true, length, Ok};
+ghost use Rattle.core_store.specs.Doing.{Does};
 ghost use Rattle.core_store.specs.Storage.{codes_ending, put_codes};
 ghost use Rattle.core_store.specs.Operands.{is_overlapping};
 ghost use Rattle.arith.specs.Operands.{AreCounts};
@@ -16,24 +17,16 @@ use std::simd::prelude::*;
 /// Adds the A digits to the B field. Fails as `counts_apart` does, and with check DATA if a
 /// character has no numeric value.
 pub fn add<C: Core>(core: &mut C, registers: &mut Registers) -> Result<(), Check>
-    ensures done { OnOk result (added false (C.cells core.old) registers.old
-        ≡ Ok (C.cells core.new, registers.new)) }
-    ensures check { IfErr result (λ check. added false (C.cells core.old) registers.old
-        ≡ Err check) }
-    ensures unchanged { OnErr result ((C.cells core.new ≡ C.cells core.old)
-        × (registers.new ≡ registers.old)) }
+    ensures { Does result (C.cells core.old) registers.old
+        (C.cells core.new) registers.new (added false) }
 {
     combine(core, registers, false)
 }
 
 /// Subtracts the A digits from the B field. Fails as `add` does.
 pub fn subtract<C: Core>(core: &mut C, registers: &mut Registers) -> Result<(), Check>
-    ensures done { OnOk result (added true (C.cells core.old) registers.old
-        ≡ Ok (C.cells core.new, registers.new)) }
-    ensures check { IfErr result (λ check. added true (C.cells core.old) registers.old
-        ≡ Err check) }
-    ensures unchanged { OnErr result ((C.cells core.new ≡ C.cells core.old)
-        × (registers.new ≡ registers.old)) }
+    ensures { Does result (C.cells core.old) registers.old
+        (C.cells core.new) registers.new (added true) }
 {
     combine(core, registers, true)
 }
@@ -41,12 +34,8 @@ pub fn subtract<C: Core>(core: &mut C, registers: &mut Registers) -> Result<(), 
 /// Adds the A digits to the B field. A subtraction reverses the sign of A.
 #[inline(always)]
 fn combine<C: Core>(core: &mut C, registers: &mut Registers, reversed: bool) -> Result<(), Check>
-    ensures done { OnOk result (added reversed (C.cells core.old) registers.old
-        ≡ Ok (C.cells core.new, registers.new)) }
-    ensures check { IfErr result (λ check. added reversed (C.cells core.old) registers.old
-        ≡ Err check) }
-    ensures unchanged { OnErr result ((C.cells core.new ≡ C.cells core.old)
-        × (registers.new ≡ registers.old)) }
+    ensures { Does result (C.cells core.old) registers.old
+        (C.cells core.new) registers.new (added reversed) }
 {
     if combine_near(core, registers, reversed) {
         return Ok(());
@@ -92,12 +81,8 @@ fn combine_far<C: Core>(
     registers: &mut Registers,
     reversed: bool,
 ) -> Result<(), Check>
-    ensures done { OnOk result (added reversed (C.cells core.old) registers.old
-        ≡ Ok (C.cells core.new, registers.new)) }
-    ensures check { IfErr result (λ check. added reversed (C.cells core.old) registers.old
-        ≡ Err check) }
-    ensures unchanged { OnErr result ((C.cells core.new ≡ C.cells core.old)
-        × (registers.new ≡ registers.old)) }
+    ensures { Does result (C.cells core.old) registers.old
+        (C.cells core.new) registers.new (added reversed) }
 {
     let Registers { a, b, .. } = *registers;
     let counts = match counts_apart(core, a, b) {

@@ -10,8 +10,7 @@ use Rattle.autocoder_layout.specs.declared.cells.Cell.{Cell}
 use Rattle.autocoder_layout.specs.declared.cells.TheConstants.{FIRST_FREE}
 use Rattle.cards.specs.declared.decks.Card.{Card}
 use Rattle.core_store.specs.Storage.{positions_of}
-use Rattle.core_store.specs.declared.sizes.Size.{Size}
-use Rattle.core_store.specs.declared.sizes.Size.TheVariants.{Positions1400, Positions2000, Positions4000}
+use Rattle.core_store.proofs.SizeLemmas.{within}
 use Rattle.autocoder_statements.specs.Constants.{constant_length}
 use Rattle.autocoder_statements.specs.Mnemonics.{instruction_length}
 use Rattle.autocoder_statements.specs.declared.names.Name.{Name}
@@ -253,11 +252,6 @@ starts_inside size layout (Ok (statement.Constant label marked text)) some all =
 starts_inside size layout (Ok (statement.Area label positions)) some all = some
 starts_inside size layout (Ok (statement.Instruction label spelled)) some all = some
 
-some_positions : (size : Size) → 0 < positions_of size
-some_positions Positions1400 = omega arith
-some_positions Positions2000 = omega arith
-some_positions Positions4000 = omega arith
-
 laid_well : (size : ℕ) (lines : List Line) → All (λ laid. laid.fault ≡ None) (layout_of size lines) → All (λ laid. FillsFree laid × StartsInside size laid) (layout_of size lines)
 laid_well size lines none =
     let rules : IsLayout size lines (layout_of size lines) = there_is_one size lines in
@@ -272,10 +266,12 @@ faultless_loads source faultless =
     let size = size_for source in
     let layout : List Laid = layout_for source in
     let well = laid_well size (lines_of false source) (no_faults_of (has_end source) layout faultless) in
+    let least = (within (size_of source)).0 in
+    let some : 0 < positions_of (size_of source) = omega arith in
     record {
       free = image_of_cells (λ c. FIRST_FREE ≤ c.position) (fills_of layout) 0 size (all_free layout (λ k d h. (well k d h).0));
       inside = image_below (fills_of layout) size 0 size (omega arith);
-      start = starts_inside size layout (last_line source) (some_positions (size_of source)) (λ k d h. (well k d h).1);
+      start = starts_inside size layout (last_line source) some (λ k d h. (well k d h).1);
     }
 
 module _ (source : List Card) (program : Assembly) (is_program : IsProgramOf source program) where

@@ -6,6 +6,9 @@
 //! (`specs/Programs.antt`); the listing is that of the deck (`specs/Listing.antt`), and its lines
 //! are made by calls that other listings use too. Memory is taken by `assemble` and by all that
 //! makes a listing; if there is none, that is a fault of its own.
+//!
+//! By [`faultless_sources_can_be_loaded`] cards can load the program of every source without
+//! faults.
 #![tactic(auto)]
 
 mod faults;

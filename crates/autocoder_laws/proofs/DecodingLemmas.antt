@@ -9,9 +9,11 @@ use Rattle.core_store.specs.declared.registers.Registers.{Registers}
 use Rattle.core_store.proofs.Fields.{codes_from_none, codes_from_next}
 use Rattle.core_store.proofs.Marks.{past_end}
 use Rattle.machine.specs.Glyphs.{is_glyph}
-use Rattle.machine.specs.Word.{EndsAt, IsInstruction, word, decoded, decoded_of, operation_of, has_form, modifier_of, operands_of, addresses_in}
-use Rattle.machine.specs.declared.decode.Modifier.{Modifier}
+use Rattle.machine.specs.Operations.{meant}
+use Rattle.machine.specs.Word.{EndsAt, IsInstruction, word, decoded, decoded_of, operands_of}
+use Rattle.machine.specs.declared.named.Modifier.{Modifier}
 use Rattle.machine.proofs.DecodeLaw.{ends_length}
+use Rattle.machine.proofs.FormTables.{IsFormed, form_is}
 use Rattle.autocoder_layout.specs.Cells.{row, field}
 use Rattle.autocoder_layout.specs.declared.cells.Cell.{Cell}
 use Rattle.autocoder_laws.specs.Meanings.{Meaning}
@@ -90,20 +92,22 @@ word_is s i code codes few h end =
     codes_from_next s i (length codes) (omega arith) ∙ ap (λ c. c ∷ codes_from s (i + 1) (length codes)) letter ∙ ap (λ xs. code ∷ xs) after in
     rw (ends_length s i (suc (length codes)) instruction) (ap Some all)
 
-decoded_is : (s : Storage) (r : Registers) (codes : List ℕ) (m : Meaning) (modifier : Modifier) → operation_of (slice_index codes 0) ≡ Some m.operation →
-    has_form m.operation (length codes) ≡ true → modifier_of m.operation (length codes) (slice_index codes (length codes - 1)) ≡ Some modifier →
-    decoded s r codes ≡ and_then (operands_of s (addresses_in m.operation (length codes)) r codes) (λ at. Ok (decoded_as m modifier (length codes) at))
+decoded_is : (s : Storage) (r : Registers) (codes : List ℕ) (m : Meaning) (modifier : Modifier) (f : IsFormed (slice_index codes 0) (length codes)) → f.row.operation ≡ m.operation →
+    meant f.form.last (slice_index codes (length codes - 1)) ≡ Some modifier →
+    decoded s r codes ≡ and_then (operands_of s f.form.addresses r codes) (λ at. Ok (decoded_as m modifier (length codes) at))
 unfolding decoded_of
-decoded_is s r codes m modifier e f g = rw (e, f, g) refl
+decoded_is s r codes m modifier f same means = rw (f.named, f.formed, means, same) refl
 
 pub reads : (m : Meaning) (codes : List ℕ) (modifier : Modifier) → 1 ≤ length codes → length codes ≤ longest (slice_index codes 0) →
-    operation_of (slice_index codes 0) ≡ Some m.operation → has_form m.operation (length codes) ≡ true →
-    modifier_of m.operation (length codes) (slice_index codes (length codes - 1)) ≡ Some modifier → m.says (slice_index codes (length codes - 1)) ≡ Some modifier →
+    (f : IsFormed (slice_index codes 0) (length codes)) → f.row.operation ≡ m.operation →
+    meant f.form.last (slice_index codes (length codes - 1)) ≡ Some modifier → m.says (slice_index codes (length codes - 1)) ≡ Some modifier →
     (s : Storage) (i : ℕ) → Holds s (field true i codes) → is_marked s (i + length codes) ≡ true → IsReadAs m codes s i
-reads m [] modifier some few e f g says s i h end = absurd (omega arith)
-reads m (code ∷ codes) modifier some few e f g says s i h end = record {
+reads m [] modifier some few f same means says s i h end = absurd (omega arith)
+reads m (code ∷ codes) modifier some few f same means says s i h end = record {
+  form = f.form;
+  listed = form_is _ _ f;
   modifier = modifier;
   says = says;
   word = word_is s i code codes few h end;
-  decoded = λ r. decoded_is s r (code ∷ codes) m modifier e f g;
+  decoded = λ r. decoded_is s r (code ∷ codes) m modifier f same means;
 }

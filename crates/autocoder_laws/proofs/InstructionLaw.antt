@@ -2,7 +2,8 @@
 use Rattle.std.proofs.Common.{◌≡◌, ℕ, ◌-◌, ◌≤◌, List, Option, Some, None, Ok, refl, sym, ◌∙◌, ap, subst, arith, length}
 use Rattle.std.specs.Prelude.{slice_index}
 use Rattle.cards.specs.declared.decks.Card.{Card}
-use Rattle.machine.specs.Word.{operation_of, has_form}
+use Rattle.machine.specs.Operations.{Last, row_of, form_among}
+use Rattle.machine.proofs.FormTables.{IsFormed}
 use Rattle.autocoder_statements.specs.Mnemonics.{mnemonics, entry, mnemonic_of, instruction_with, instruction, instruction_length, IsAmong}
 use Rattle.autocoder_statements.specs.Statements.{operand_field, statement_on}
 use Rattle.autocoder_statements.specs.declared.operand_forms.OperandForm.{OperandForm}
@@ -28,26 +29,28 @@ module _ (size : ℕ) (slots : List Slot) (literals : List Characters) where
   abbrev codes_of : Instruction → List ℕ
   codes_of spelled = instruction_codes size slots literals spelled
 
-  last_agrees : (m : Meaning) (spelled : Instruction) (last : Option ℕ) → spelled.modifier ≡ last → AgreesBy m (length (codes_of spelled)) last →
-      Agrees m (length (codes_of spelled)) (slice_index (codes_of spelled) (length (codes_of spelled) - 1))
-  last_agrees m spelled None e agrees = agrees _
-  last_agrees m spelled (Some code) e agrees =
-      subst (Agrees m (length (codes_of spelled))) (sym (last_is size slots literals spelled code e)) agrees
+  last_agrees : (m : Meaning) (says : Last) (spelled : Instruction) (last : Option ℕ) → spelled.modifier ≡ last → AgreesBy m says last →
+      Agrees m says (slice_index (codes_of spelled) (length (codes_of spelled) - 1))
+  last_agrees m says spelled None e agrees = agrees _
+  last_agrees m says spelled (Some code) e agrees =
+      subst (Agrees m says) (sym (last_is size slots literals spelled code e)) agrees
 
 assembled_as : (mnemonic : List ℕ) (m : Meaning) (spelled : Instruction) → entry meanings mnemonic ≡ Some m → Suits m spelled → IsAssembledAs mnemonic spelled
 assembled_as mnemonic m spelled named fits size slots literals =
     let codes = instruction_codes size slots literals spelled in
     let count : length codes ≡ instruction_length spelled = long size slots literals spelled in
     let first : slice_index codes 0 ≡ spelled.operation = first_is size slots literals spelled in
-    let agrees = last_agrees size slots literals m spelled spelled.modifier refl (subst (λ n. AgreesBy m n spelled.modifier) (sym count) fits.last) in
+    let f = fits.formed in
+    let agrees = last_agrees size slots literals m f.form.last spelled spelled.modifier refl fits.last in
+    let here : IsFormed (slice_index codes 0) (length codes) = record { row = f.row; form = f.form; named = ap row_of first ∙ f.named; formed = ap (form_among f.row.forms) count ∙ f.formed } in
     record {
       meaning = m;
       named = named;
       long = count;
       read = reads m codes agrees.modifier (omega arith)
           (subst (λ code. length codes ≤ longest code) (sym first) (omega (arith, fits.few)))
-          (ap operation_of first ∙ fits.operation)
-          (ap (has_form m.operation) count ∙ fits.form)
+          here
+          fits.operation
           agrees.read
           agrees.meant;
     }

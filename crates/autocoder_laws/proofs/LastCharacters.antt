@@ -10,12 +10,12 @@ use Rattle.units.specs.declared.carriage.CarriageOrder.{CarriageOrder}
 use Rattle.units.specs.declared.carriage.CarriageOrder.TheVariants.{Now, AfterLine}
 use Rattle.units.specs.declared.carriage.Motion.TheVariants.{Space, DoubleSpace, TripleSpace, SkipToChannel1}
 use Rattle.machine.specs.Branches.{switch, condition_of, test_of}
-use Rattle.machine.specs.Word.{modifier_of}
+use Rattle.machine.specs.Operations.{names_condition, names_test, names_order}
 use Rattle.machine.specs.declared.branches.Condition.TheVariants.{SwitchOn}
 use Rattle.machine.specs.declared.branches.PositionTest.{PositionTest}
 use Rattle.machine.specs.declared.branches.PositionTest.TheVariants.{HasMark, HasZone, HasZoneOrMark}
-use Rattle.machine.specs.declared.decode.Modifier.TheVariants.{OnCondition, OnTest, ByOrder}
-use Rattle.machine.specs.declared.decode.Operation.TheVariants as operation
+use Rattle.machine.specs.declared.named.Modifier.TheVariants.{OnCondition, OnTest, ByOrder}
+use Rattle.machine.specs.declared.named.Operation.TheVariants as operation
 use Rattle.autocoder_statements.specs.Operands.{is_modifier}
 use Rattle.autocoder_statements.specs.declared.modifiers.Modifiers.TheVariants.{Switches, ZonesAndMarks, Carriage}
 use Rattle.autocoder_laws.specs.Meanings.{Meaning, switch_named, switch_asked, test_asked, order_asked}
@@ -46,13 +46,12 @@ abbrev asks_switch : Meaning
 asks_switch = record { operation = operation.Branch; says = switch_asked }
 
 AtSwitch : ℕ → ℕ → Type 0
-AtSwitch code glyph = glyph_of code ≡ glyph → Agrees asks_switch 5 code
+AtSwitch code glyph = glyph_of code ≡ glyph → Agrees asks_switch names_condition code
 
-at_switch : (code bit : ℕ) → condition_of code ≡ Some (SwitchOn (switch bit)) → switch_named code ≡ Some (switch bit) → Agrees asks_switch 5 code
-unfolding modifier_of
+at_switch : (code bit : ℕ) → condition_of code ≡ Some (SwitchOn (switch bit)) → switch_named code ≡ Some (switch bit) → Agrees asks_switch names_condition code
 at_switch code bit read named = record { modifier = OnCondition (SwitchOn (switch bit)); read = rw read refl; meant = rw named refl }
 
-pub switches : (code : ℕ) → is_modifier Switches code ≡ true → Agrees asks_switch 5 code
+pub switches : (code : ℕ) → is_modifier Switches code ≡ true → Agrees asks_switch names_condition code
 unfolding is_modifier condition_of AtSwitch
 switches code h =
     among (AtSwitch code) (codes "BCDEFG")
@@ -70,26 +69,25 @@ switches code h =
 abbrev asks_test : Meaning
 asks_test = record { operation = operation.BranchOnMarkOrZone; says = test_asked }
 
-AtTest : ℕ → ℕ → ℕ → Type 0
-AtTest code count glyph = glyph_of code ≡ glyph → Agrees asks_test count code
+AtTest : ℕ → ℕ → Type 0
+AtTest code glyph = glyph_of code ≡ glyph → Agrees asks_test names_test code
 
-at_test : (code count : ℕ) (test : PositionTest) → test_of code ≡ Some test → Agrees asks_test count code
-unfolding modifier_of
-at_test code count test named = record { modifier = OnTest test; read = rw named refl; meant = rw named refl }
+at_test : (code : ℕ) (test : PositionTest) → test_of code ≡ Some test → Agrees asks_test names_test code
+at_test code test named = record { modifier = OnTest test; read = rw named refl; meant = rw named refl }
 
-pub tests : (code count : ℕ) → is_modifier ZonesAndMarks code ≡ true → Agrees asks_test count code
+pub tests : (code : ℕ) → is_modifier ZonesAndMarks code ≡ true → Agrees asks_test names_test code
 unfolding is_modifier test_of AtTest
-tests code count h =
-    among (AtTest code count) (codes "12BKS3CLT")
-    ((λ e. at_test code count HasMark (rw e refl))
-    ▸ (λ e. at_test code count (HasZone Bare) (rw e refl))
-    ▸ (λ e. at_test code count (HasZone AB) (rw e refl))
-    ▸ (λ e. at_test code count (HasZone B) (rw e refl))
-    ▸ (λ e. at_test code count (HasZone A) (rw e refl))
-    ▸ (λ e. at_test code count (HasZoneOrMark Bare) (rw e refl))
-    ▸ (λ e. at_test code count (HasZoneOrMark AB) (rw e refl))
-    ▸ (λ e. at_test code count (HasZoneOrMark B) (rw e refl))
-    ▸ (λ e. at_test code count (HasZoneOrMark A) (rw e refl))
+tests code h =
+    among (AtTest code) (codes "12BKS3CLT")
+    ((λ e. at_test code HasMark (rw e refl))
+    ▸ (λ e. at_test code (HasZone Bare) (rw e refl))
+    ▸ (λ e. at_test code (HasZone AB) (rw e refl))
+    ▸ (λ e. at_test code (HasZone B) (rw e refl))
+    ▸ (λ e. at_test code (HasZone A) (rw e refl))
+    ▸ (λ e. at_test code (HasZoneOrMark Bare) (rw e refl))
+    ▸ (λ e. at_test code (HasZoneOrMark AB) (rw e refl))
+    ▸ (λ e. at_test code (HasZoneOrMark B) (rw e refl))
+    ▸ (λ e. at_test code (HasZoneOrMark A) (rw e refl))
     ▸ tt)
     (glyph_of code) h refl
 
@@ -98,24 +96,23 @@ tests code count h =
 abbrev asks_order : Meaning
 asks_order = record { operation = operation.MoveCarriage; says = order_asked }
 
-AtOrder : ℕ → ℕ → ℕ → Type 0
-AtOrder code count glyph = glyph_of code ≡ glyph → Agrees asks_order count code
+AtOrder : ℕ → ℕ → Type 0
+AtOrder code glyph = glyph_of code ≡ glyph → Agrees asks_order names_order code
 
-at_order : (code count : ℕ) (order : CarriageOrder) → order_of code ≡ Some order → Agrees asks_order count code
-unfolding modifier_of
-at_order code count order named = record { modifier = ByOrder order; read = rw named refl; meant = rw named refl }
+at_order : (code : ℕ) (order : CarriageOrder) → order_of code ≡ Some order → Agrees asks_order names_order code
+at_order code order named = record { modifier = ByOrder order; read = rw named refl; meant = rw named refl }
 
-pub orders : (code count : ℕ) → is_modifier Carriage code ≡ true → Agrees asks_order count code
+pub orders : (code : ℕ) → is_modifier Carriage code ≡ true → Agrees asks_order names_order code
 unfolding is_modifier order_of AtOrder
-orders code count h =
-    among (AtOrder code count) (codes "JKL/ST1A")
-    ((λ e. at_order code count (Now Space) (rw e refl))
-    ▸ (λ e. at_order code count (Now DoubleSpace) (rw e refl))
-    ▸ (λ e. at_order code count (Now TripleSpace) (rw e refl))
-    ▸ (λ e. at_order code count (AfterLine Space) (rw e refl))
-    ▸ (λ e. at_order code count (AfterLine DoubleSpace) (rw e refl))
-    ▸ (λ e. at_order code count (AfterLine TripleSpace) (rw e refl))
-    ▸ (λ e. at_order code count (Now SkipToChannel1) (rw e refl))
-    ▸ (λ e. at_order code count (AfterLine SkipToChannel1) (rw e refl))
+orders code h =
+    among (AtOrder code) (codes "JKL/ST1A")
+    ((λ e. at_order code (Now Space) (rw e refl))
+    ▸ (λ e. at_order code (Now DoubleSpace) (rw e refl))
+    ▸ (λ e. at_order code (Now TripleSpace) (rw e refl))
+    ▸ (λ e. at_order code (AfterLine Space) (rw e refl))
+    ▸ (λ e. at_order code (AfterLine DoubleSpace) (rw e refl))
+    ▸ (λ e. at_order code (AfterLine TripleSpace) (rw e refl))
+    ▸ (λ e. at_order code (Now SkipToChannel1) (rw e refl))
+    ▸ (λ e. at_order code (AfterLine SkipToChannel1) (rw e refl))
     ▸ tt)
     (glyph_of code) h refl

@@ -8,3 +8,17 @@ pub mod FormLemmas
 pub mod CardLemmas
 pub mod InstructionLaw
 pub mod OperandLaw
+pub mod Tests
+pub mod Classes
+pub mod Fronts
+pub mod NumberTexts
+pub mod Stops
+pub mod NameTexts
+pub mod AddressTexts
+pub mod ConstantTexts
+pub mod OperandTexts
+pub mod Fields
+pub mod Words
+pub mod Operations
+pub mod Labels
+pub mod CardTexts

@@ -1,9 +1,12 @@
 -- for `instructions_are_decoded`: a row of the mnemonics suits its meaning, in each of its forms
 use Rattle.std.proofs.Common.{◌≡◌, ℕ, ◌+◌, ◌*◌, ◌≤◌, inl, inr, true, false, ◌&&◌, leb, Option, Some, None, refl, sym, ◌∙◌, ap, subst, arith}
-use Rattle.std.specs.Prelude.{⊤, nat_lt, is_some, option_map}
+use Rattle.std.specs.Prelude.{⊤, nat_lt, is_some, option_map, unwrap_or}
 use Rattle.std.proofs.lemmas.Bool.{leb-true}
-use Rattle.machine.specs.Word.{operation_of, has_form, modifier_of}
-use Rattle.machine.specs.declared.decode.Modifier as modifier
+use Rattle.machine.specs.Instructions.{is_form}
+use Rattle.machine.specs.Operations.{Last, says_nothing, Form, row_of, form_among, form_of, meant}
+use Rattle.machine.specs.declared.named.Operation.{Operation}
+use Rattle.machine.proofs.FormTables.{IsFormed, formed, form_is}
+use Rattle.machine.specs.declared.named.Modifier as modifier
 use Rattle.autocoder_statements.specs.Mnemonics.{code_of, or_else, mnemonic_of, instruction_with, present, instruction_length, IsAmong}
 use Rattle.autocoder_statements.specs.Operands.{is_modifier}
 use Rattle.autocoder_statements.specs.declared.operand_forms.OperandForm.{OperandForm}
@@ -19,21 +22,21 @@ use Rattle.autocoder_laws.proofs.DecodingLemmas.{longest}
 use Rattle.autocoder_statements.proofs.Tests.{both}
 
 -- a last character says the same to the machine as it means
-pub record Agrees (m : Meaning) (count last : ℕ) : Type 0 where
+pub record Agrees (m : Meaning) (says : Last) (last : ℕ) : Type 0 where
   pub modifier : modifier.Modifier
-  pub read : modifier_of m.operation count last ≡ Some modifier
+  pub read : meant says last ≡ Some modifier
   pub meant : m.says last ≡ Some modifier
 
-abbrev pub AgreesBy : Meaning → ℕ → Option ℕ → Type 0
-AgreesBy m count None = (last : ℕ) → Agrees m count last
-AgreesBy m count (Some code) = Agrees m count code
+abbrev pub AgreesBy : Meaning → Last → Option ℕ → Type 0
+AgreesBy m says None = (last : ℕ) → Agrees m says last
+AgreesBy m says (Some code) = Agrees m says code
 
 -- an instruction suits a meaning
 pub record Suits (m : Meaning) (spelled : Instruction) : Type 0 where
-  pub operation : operation_of spelled.operation ≡ Some m.operation
-  pub form : has_form m.operation (instruction_length spelled) ≡ true
+  pub formed : IsFormed spelled.operation (instruction_length spelled)
+  pub operation : formed.row.operation ≡ m.operation
   pub few : instruction_length spelled ≤ longest spelled.operation
-  pub last : AgreesBy m (instruction_length spelled) spelled.modifier
+  pub last : AgreesBy m formed.form.last spelled.modifier
 
 -- ---- a row, by what computes
 
@@ -46,24 +49,32 @@ count_by addresses (Some modifiers) fixed = 2 + 3 * addresses
 count_by addresses None (Some glyph) = 2 + 3 * addresses
 count_by addresses None None = 1 + 3 * addresses
 
-abbrev LastFits : Meaning → ℕ → Option Modifiers → Option ℕ → Type 0
-LastFits m count (Some modifiers) fixed = (code : ℕ) → is_modifier modifiers code ≡ true → Agrees m count code
-LastFits m count None (Some glyph) = Agrees m count (code_of glyph)
-LastFits m count None None = (last : ℕ) → Agrees m count last
+-- what the last character says in the form of so many characters
+abbrev last_of : ℕ → ℕ → Last
+last_of first count = unwrap_or (option_map (λ (form : Form). form.last) (form_of first count)) says_nothing
+
+abbrev LastFits : Meaning → Last → Option Modifiers → Option ℕ → Type 0
+LastFits m says (Some modifiers) fixed = (code : ℕ) → is_modifier modifiers code ≡ true → Agrees m says code
+LastFits m says None (Some glyph) = Agrees m says (code_of glyph)
+LastFits m says None None = (last : ℕ) → Agrees m says last
 
 abbrev FormFits : Entry → Meaning → OperandForm → Type 0
 FormFits row m form =
     let count = count_by (address_count form) (last_characters form) row.1 in
-    ((has_form m.operation count && leb count (longest (code_of row.0))) ≡ true)
-    × LastFits m count (last_characters form) row.1
+    ((is_form (code_of row.0) count && leb count (longest (code_of row.0))) ≡ true)
+    × LastFits m (last_of (code_of row.0) count) (last_characters form) row.1
 
 abbrev MayFit : Entry → Meaning → Option OperandForm → Type 0
 MayFit row m None = ⊤
 MayFit row m (Some form) = FormFits row m form
 
+-- a character names this operation
+abbrev Names : ℕ → Operation → Type 0
+Names code operation = option_map (λ row. row.operation) (row_of code) ≡ Some operation
+
 abbrev pub RowFits : Entry → Meaning → Type 0
 RowFits row m =
-    (operation_of (code_of row.0) ≡ Some m.operation) × FormFits row m row.2.form × MayFit row m row.2.other × MayFit row m row.2.third
+    Names (code_of row.0) m.operation × FormFits row m row.2.form × MayFit row m row.2.other × MayFit row m row.2.third
 
 -- ---- each instruction of the row
 
@@ -93,33 +104,36 @@ counted addresses None fixed (Some code) h = absurd h
 counted addresses None (Some glyph) None h = omega arith
 counted addresses None None None h = omega arith
 
-agrees : (m : Meaning) (count : ℕ) (lasts : Option Modifiers) (fixed last : Option ℕ) → LastFits m count lasts fixed → IsAllowed lasts last →
-    AgreesBy m count (or_else last (option_map code_of fixed))
-agrees m count (Some modifiers) fixed (Some code) fits h = fits code h
-agrees m count (Some modifiers) fixed None fits h = absurd h
-agrees m count None fixed (Some code) fits h = absurd h
-agrees m count None (Some glyph) None fits h = fits
-agrees m count None None None fits h = fits
+agrees : (m : Meaning) (says : Last) (lasts : Option Modifiers) (fixed last : Option ℕ) → LastFits m says lasts fixed → IsAllowed lasts last →
+    AgreesBy m says (or_else last (option_map code_of fixed))
+agrees m says (Some modifiers) fixed (Some code) fits h = fits code h
+agrees m says (Some modifiers) fixed None fits h = absurd h
+agrees m says None fixed (Some code) fits h = absurd h
+agrees m says None (Some glyph) None fits h = fits
+agrees m says None None None fits h = fits
 
-in_form : (row : Entry) (m : Meaning) (form : OperandForm) → operation_of (code_of row.0) ≡ Some m.operation → FormFits row m form →
+in_form : (row : Entry) (m : Meaning) (form : OperandForm) → Names (code_of row.0) m.operation → FormFits row m form →
     (operands : Operands) → IsOfForm form operands → Suits m (instruction_with (mnemonic_of row) operands)
 in_form row m form e fits operands h =
     let count = count_by (address_count form) (last_characters form) row.1 in
-    let tested = both (has_form m.operation count) (leb count (longest (code_of row.0))) fits.0 in
+    let tested = both (is_form (code_of row.0) count) (leb count (longest (code_of row.0))) fits.0 in
+    let f : IsFormed (code_of row.0) count = formed (code_of row.0) count tested.0 in
     let few : count ≤ longest (code_of row.0) = leb-true _ _ tested.1 in
     let found : present operands.first + present operands.second ≡ address_count form = addresses form operands.first operands.second h.first h.second in
     let last : 1 + 3 * address_count form + present (or_else operands.modifier (option_map code_of row.1)) ≡ count =
     counted (address_count form) (last_characters form) row.1 operands.modifier h.last in
     let same : instruction_length (instruction_with (mnemonic_of row) operands) ≡ count = omega arith in
+    let says : last_of (code_of row.0) count ≡ f.form.last = ap (λ found. unwrap_or (option_map (λ (form : Form). form.last) found) says_nothing) (form_is (code_of row.0) count f) in
+    let named : Some f.row.operation ≡ Some m.operation = ap (option_map (λ row. row.operation)) (sym f.named) ∙ e in
     record {
-      operation = e;
-      form = ap (has_form m.operation) same ∙ tested.0;
+      formed = record { row = f.row; form = f.form; named = f.named; formed = ap (form_among f.row.forms) same ∙ f.formed };
+      operation = cc;
       few = omega arith;
-      last = subst (λ n. AgreesBy m n (or_else operands.modifier (option_map code_of row.1))) (sym same)
-          (agrees m count (last_characters form) row.1 operands.modifier fits.1 h.last);
+      last = subst (λ (l : Last). AgreesBy m l (or_else operands.modifier (option_map code_of row.1))) says
+          (agrees m (last_of (code_of row.0) count) (last_characters form) row.1 operands.modifier fits.1 h.last);
     }
 
-may_suit : (row : Entry) (m : Meaning) (other : Option OperandForm) (form : OperandForm) → operation_of (code_of row.0) ≡ Some m.operation → MayFit row m other → other ≡ Some form →
+may_suit : (row : Entry) (m : Meaning) (other : Option OperandForm) (form : OperandForm) → Names (code_of row.0) m.operation → MayFit row m other → other ≡ Some form →
     (operands : Operands) → IsOfForm form operands → Suits m (instruction_with (mnemonic_of row) operands)
 may_suit row m None form e fits same operands h = absurd (cc)
 may_suit row m (Some there) form e fits same operands h =

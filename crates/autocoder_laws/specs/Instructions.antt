@@ -5,9 +5,10 @@ use Rattle.cards.specs.declared.decks.Card.{Card}
 use Rattle.core_store.specs.Storage.{Storage, cell_at, is_marked}
 use Rattle.core_store.specs.Checked.{and_then}
 use Rattle.core_store.specs.declared.registers.Registers.{Registers}
+use Rattle.machine.specs.Operations.{Form, form_of}
 use Rattle.machine.specs.Word as machine
-use Rattle.machine.specs.declared.decode.Decoded.{Decoded}
-use Rattle.machine.specs.declared.decode.Modifier as modifier
+use Rattle.machine.specs.declared.named.Decoded.{Decoded}
+use Rattle.machine.specs.declared.named.Modifier as modifier
 use Rattle.autocoder_statements.specs.Characters.{with_blanks}
 use Rattle.autocoder_statements.specs.Mnemonics.{entry, instruction_length}
 use Rattle.autocoder_statements.specs.Operands.{is_modifier}
@@ -73,16 +74,17 @@ decoded_as meaning modifier count at =
       modifier = modifier;
     }
 
--- the machine reads these characters at a position, and decodes them by their meaning: no check of
--- operation, form or last character refuses them, and only an address can still be at fault
+-- the machine reads these characters at a position, and decodes them by their meaning and their
+-- form in the table of operations: no check of operation, form or last character refuses them, and
+-- only an address can still be at fault
 pub record IsReadAs (meaning : Meaning) (codes : List ℕ) (s : Storage) (i : ℕ) : Type 0 where
+  pub form : Form
+  pub listed : form_of (slice_index codes 0) (length codes) ≡ Some form
   pub modifier : modifier.Modifier
   pub says : meaning.says (slice_index codes (length codes - 1)) ≡ Some modifier
   pub word : machine.word s i ≡ Some codes
   pub decoded : (r : Registers) → machine.decoded s r codes
-      ≡ and_then
-      (machine.operands_of s (machine.addresses_in meaning.operation (length codes)) r codes)
-      (λ at. Ok (decoded_as meaning modifier (length codes) at))
+      ≡ and_then (machine.operands_of s form.addresses r codes) (λ at. Ok (decoded_as meaning modifier (length codes) at))
 
 -- characters are an instruction of a mnemonic, of this length: wherever they are in storage with a
 -- word mark on the first and one after the last, the machine reads them as what the mnemonic means

@@ -1,3 +1,10 @@
 pub mod Meanings
 pub mod Instructions
 pub mod Operands
+pub mod Texts
+pub mod Numbers
+pub mod Names
+pub mod Addresses
+pub mod Constants
+pub mod OperandFields
+pub mod Cards

@@ -4,16 +4,16 @@ use Rattle.bcd.specs.Table.{glyph_of}
 use Rattle.units.specs.Carriages.{order_of}
 use Rattle.units.specs.declared.switches.Switches.{Switches}
 use Rattle.machine.specs.Branches.{switch, test_of}
-use Rattle.machine.specs.Word.{devices}
+use Rattle.machine.specs.Operations.{devices}
 use Rattle.machine.specs.declared.branches.Condition.{Condition}
 use Rattle.machine.specs.declared.branches.Condition.TheVariants.{IsUnequal, IsEqual, IsLow, IsHigh, Overflow, LastCard, SwitchOn, Channel12}
 use Rattle.machine.specs.declared.branches.PositionTest.TheVariants.{HasMark}
-use Rattle.machine.specs.declared.decode.FieldOperation.{FieldOperation}
-use Rattle.machine.specs.declared.decode.FieldOperation.TheVariants.{Add, Subtract, ZeroAdd, ZeroSubtract, Compare, ModifyAddress, Move, Load, MoveDigit, MoveZone, Suppress, Edit, SetMark, ClearMark}
-use Rattle.machine.specs.declared.decode.Modifier.{Modifier}
-use Rattle.machine.specs.declared.decode.Modifier.TheVariants.{Plain, OnCondition, OnCharacter, OnTest, ByOrder}
-use Rattle.machine.specs.declared.decode.Operation.{Operation}
-use Rattle.machine.specs.declared.decode.Operation.TheVariants.{OnFields, ClearStorage, Branch, BranchOnMarkOrZone, Operate, MoveCarriage, StoreA, StoreB, Halt, NoOperation}
+use Rattle.machine.specs.declared.operations.FieldOperation.{FieldOperation}
+use Rattle.machine.specs.declared.operations.FieldOperation.TheVariants.{Add, Subtract, ZeroAdd, ZeroSubtract, Compare, ModifyAddress, Move, Load, MoveDigit, MoveZone, Suppress, Edit, SetMark, ClearMark}
+use Rattle.machine.specs.declared.named.Modifier.{Modifier}
+use Rattle.machine.specs.declared.named.Modifier.TheVariants.{Plain, OnCondition, OnCharacter, OnTest, ByOrder}
+use Rattle.machine.specs.declared.named.Operation.{Operation}
+use Rattle.machine.specs.declared.named.Operation.TheVariants.{OnFields, ClearStorage, Branch, BranchOnMarkOrZone, Operate, MoveCarriage, StoreA, StoreB, Halt, NoOperation}
 use Rattle.autocoder_statements.specs.Mnemonics.{name_field}
 
 -- an operation of the machine, and what the last character of its instruction says

@@ -1,13 +1,33 @@
-//! Laws of the assembler and the machine: the machine reads what the assembler makes.
+//! Laws of the assembler: a card that spells something is read as just that, and the machine reads
+//! what the assembler makes.
 //!
-//! The table of mnemonics is the assembler's, the table of operations the machine's. Here it is
-//! proved that they agree ([`instructions_are_decoded`]): the machine decodes the characters of an
-//! assembled mnemonic as the operation that the mnemonic means. It also reads their addresses as
-//! the positions that the card's operands mean ([`operands_are_read`]).
+//! **Spelling.** The definition of reading goes from the left, and each part takes the longest run
+//! of its characters. The definitions here say, without reading, which texts spell a number, an
+//! address, a constant, operands or a whole card. The laws join the two ([`cards_are_read`] and
+//! those of its parts): each text that spells a thing is read as that thing, whatever comment comes
+//! after it, and each text that is read as a thing spells it. A card says one thing at most, and it
+//! has a fault exactly if it spells nothing; which fault that is, only the definition of reading
+//! says.
+//!
+//! **Meaning.** The table of mnemonics is the assembler's, the table of operations the machine's.
+//! By [`instructions_are_decoded`] they agree: the machine decodes the characters of an assembled
+//! mnemonic as the operation that the mnemonic means, in the form of their length, and can refuse
+//! them only for an address. By [`operands_are_read`] it reads their addresses as the positions
+//! that the card's operands mean.
 #![tactic(auto)]
 
+mod constants;
+mod expressions;
 mod instructions;
+mod numbers;
+mod operand_fields;
 mod operands;
+mod source_cards;
 
+pub use constants::constants_are_read;
+pub use expressions::expressions_are_read;
 pub use instructions::instructions_are_decoded;
+pub use numbers::numbers_are_read;
+pub use operand_fields::operand_fields_are_read;
 pub use operands::operands_are_read;
+pub use source_cards::cards_are_read;

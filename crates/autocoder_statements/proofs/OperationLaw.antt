@@ -34,11 +34,11 @@ place (other ∷ others) name = if same other name then 0 else 1 + place others 
 
 length_at : (i : ℕ) → i < length names → length (get_or names i []) ≡ 5
 unfolding names orders mnemonics
-length_at i h = eqb-true _ _ (at_each (λ k. eqb (length (get_or names k [])) 5) 47 refl i h)
+length_at i h = eqb-true _ _ (at_each (λ k. eqb (length (get_or names k [])) 5) (length names) refl i h)
 
 place_at : (i : ℕ) → i < length names → place names (get_or names i []) ≡ i
 unfolding names orders mnemonics place same
-place_at i h = eqb-true _ _ (at_each (λ k. eqb (place names (get_or names k [])) k) 47 refl i h)
+place_at i h = eqb-true _ _ (at_each (λ k. eqb (place names (get_or names k [])) k) (length names) refl i h)
 
 pub one_operation : (word : List ℕ) → IsOneOperation word
 one_operation word i j h k p q =

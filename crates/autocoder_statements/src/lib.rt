@@ -5,6 +5,11 @@
 //! statement that `specs/Statements.antt` defines for a card, by a definition for each thing that a
 //! field may begin with and by one table of operations (`specs/Mnemonics.antt`). Its numbers are
 //! below 100,000, its texts have at most 52 characters (`specs/Ranges.antt`). No call takes memory.
+//!
+//! Three laws. Digits are read as the number that they spell ([`a_number_is_read`]). The table of
+//! operations has each word at most once ([`a_word_names_one_operation`]). A field without an
+//! operand fits no form with one operand or two, and a field that fits a form with one fits none
+//! with two ([`a_field_has_one_form`]).
 #![tactic(auto)]
 
 mod characters;

@@ -1,9 +1,9 @@
 //! The 64 characters of the IBM 1401: their numbers, glyphs, punches and ranks.
 //!
-//! A character is six bits, B A 8 4 2 1. Its number is `32*B + 16*A` and the value of the bits
-//! 8 4 2 1, which are its numeric part. The bits and the card codes are those of the IBM 1401
-//! Reference Manual (A24-1403); the glyphs of the rarer characters and the order of ranks are
-//! this project's. No call takes memory.
+//! A character is six bits, B A 8 4 2 1. Its number is `32*B + 16*A` and the value of the bits 8 4
+//! 2 1, which are its numeric part. The bits and the card codes are those of the IBM 1401 Reference
+//! Manual (A24-1403); the glyphs of the rarer characters and the order of ranks are this project's.
+//! No call takes memory.
 //!
 //! The contract for the layers above: the maps are those of `specs/Table.antt`, and no two of the
 //! 64 characters have the same glyph, punches or rank.

@@ -3,20 +3,20 @@ use Rattle.std.specs.Prelude.{◌≡◌, ◌⊎◌, ℕ, List, [], ◌∷◌, �
 use Rattle.std.specs.Io.KnownBytes.{Appends, Keeps}
 use Rattle.counter.specs.Assembling.{Assembles}
 use Rattle.counter.specs.Runs.{Tells}
-use Rattle.counter.specs.Tasks.{IsMisuse, Wants}
-use Rattle.counter.specs.Printed.{IsTextShown, fault_words, misuse_message, misuse_status}
-use Rattle.counter_tasks.specs.declared.faults.Fault.TheVariants.{Device}
-use Rattle.counter_tasks.specs.declared.statuses.Status.{Status}
-use Rattle.counter_tasks.specs.declared.statuses.Status.TheVariants.{NotDone}
-use Rattle.counter_tasks.specs.declared.tasks.Misuse.{Misuse}
-use Rattle.counter_tasks.specs.declared.tasks.Task.{Task}
-use Rattle.counter_tasks.specs.declared.tasks.Task.TheVariants as task
-use Rattle.counter_endings.specs.declared.Assembled.{Assembled}
-use Rattle.counter_files.specs.Put.{IsPut}
-use Rattle.counter_words.specs.Asked.{page_of}
-use Rattle.counter_words.specs.declared.help.TheConstants.{USAGE, VERSION}
-use Rattle.bureau_rows.specs.Outcomes.{HasShown, status_of}
-use Rattle.bureau_rows.specs.declared.outcomes.Outcome.{Outcome}
+use Rattle.command_line.specs.Tasks.{IsMisuse, Wants}
+use Rattle.command_line.specs.Printed.{IsTextShown, fault_words, misuse_message, misuse_status}
+use Rattle.command_line.specs.declared.faults.Fault.TheVariants.{Device}
+use Rattle.command_line.specs.declared.statuses.Status.{Status}
+use Rattle.command_line.specs.declared.statuses.Status.TheVariants.{NotDone}
+use Rattle.command_line.specs.declared.tasks.Misuse.{Misuse}
+use Rattle.command_line.specs.declared.tasks.Task.{Task}
+use Rattle.command_line.specs.declared.tasks.Task.TheVariants as task
+use Rattle.counter.specs.declared.Assembled.{Assembled}
+use Rattle.counter.specs.Put.{IsPut}
+use Rattle.command_line.specs.Asked.{page_of}
+use Rattle.command_line.specs.declared.help.TheConstants.{USAGE, VERSION}
+use Rattle.service.specs.Outcomes.{HasShown, status_of}
+use Rattle.service.specs.declared.outcomes.Outcome.{Outcome}
 
 -- the bytes that a writer has, if they are known
 abbrev pub Bytes : Type 0

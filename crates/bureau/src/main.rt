@@ -11,20 +11,18 @@ mod errors;
 
 ghost use Rattle.std.specs.Prelude.{◌≡◌, Option, IfOk, IfErr};
 ghost use Rattle.std.specs.Process.{exit_status};
-ghost use Rattle.counter.specs.Printed.{IsTextShown, status_code};
-ghost use Rattle.counter_words.specs.Asked.{IsHelp, IsVersion, page_of};
-ghost use Rattle.counter_words.specs.Plain.{texts};
-ghost use Rattle.counter_words.specs.declared.RowName.{RowName};
+ghost use Rattle.command_line.specs.Printed.{IsTextShown, status_code};
+ghost use Rattle.command_line.specs.Asked.{IsHelp, IsVersion, page_of};
+ghost use Rattle.command_line.specs.Plain.{texts};
+ghost use Rattle.command_line.specs.declared.row_names.RowName.{RowName};
 ghost use Rattle.bureau.specs.Answers.{HasAnswered, HasAssembled};
 
 use crate::errors::Unfailing;
-use bureau_rows::{apply, export, init, serve, show_outcome};
-use counter::{
-    Fault, Misuse, Status, Task, assemble_deck, show_help, show_version, task_of, tell_fault,
-    tell_misuse,
+use command_line::{
+    Fault, Misuse, Status, Task, VERSION, show_help, show_version, task_of, tell_fault, tell_misuse,
 };
-use counter_files::{run_source, write_out};
-use counter_words::VERSION;
+use counter::{assemble_deck, run_input, write_out};
+use service::{apply, export, init, serve, show_outcome};
 use std::fs::File;
 use std::io::Write;
 use std::process::ExitCode;
@@ -83,7 +81,7 @@ fn answer<W: Write, E: Write>(
                 size,
                 switches,
             },
-        ) => run_source(rt, deck, size, switches, output, errors),
+        ) => run_input(rt, deck, size, switches, output, errors),
         Ok(Task::Assemble { source, out }) => assemble(rt, source, out, output, errors),
         Ok(Task::Init { file }) => show_outcome(errors, init(rt, file)),
         Ok(Task::Apply { file, script }) => {

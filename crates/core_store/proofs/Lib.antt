@@ -9,3 +9,4 @@ mod PlaneLemmas
 mod PlaneStretches
 mod PlaneWords
 pub mod NearCodes
+pub mod SizeLemmas

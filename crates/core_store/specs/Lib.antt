@@ -3,3 +3,4 @@ pub mod Storage
 pub mod Checked
 pub mod Operands
 pub mod Planes
+pub mod Doing

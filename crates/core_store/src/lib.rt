@@ -9,6 +9,9 @@
 //! What several operations share is here too: how far a field or a cut of characters reaches,
 //! whether operands overlap, how registers are lowered (`specs/Operands.antt`), and how some of
 //! sixteen characters are replaced.
+//!
+//! By [`nearest_marks`] the definitions of the nearest marks are the greatest marked position that
+//! is not above another, and the least among a number of positions after it.
 #![tactic(auto)]
 
 mod checks;

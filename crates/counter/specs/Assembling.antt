@@ -11,11 +11,11 @@ use Rattle.autocoder_layout.specs.CardFaults.{faults_of}
 use Rattle.autocoder.specs.Faults.{no_memory}
 use Rattle.autocoder_layout.specs.declared.card_faults.CardFault.{CardFault}
 use Rattle.loader.specs.Decks.{runnable_deck}
-use Rattle.counter_tasks.specs.declared.faults.Fault.{Fault}
-use Rattle.counter_tasks.specs.declared.faults.Fault.TheVariants as fault
-use Rattle.counter_endings.specs.Endings.{Ending, IsPrinted, Made, assembled, faulty, hindered}
-use Rattle.counter_endings.specs.declared.showing.Assembled.{Assembled}
-use Rattle.counter_runs.specs.Runs.{IsTextFault}
+use Rattle.command_line.specs.declared.faults.Fault.{Fault}
+use Rattle.command_line.specs.declared.faults.Fault.TheVariants as fault
+use Rattle.counter.specs.Endings.{Ending, IsPrinted, Made, assembled, faulty, hindered}
+use Rattle.counter.specs.declared.showing.Assembled.{Assembled}
+use Rattle.counter.specs.Runs.{IsTextFault}
 
 -- ---- what is made of a deck
 

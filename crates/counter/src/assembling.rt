@@ -5,15 +5,15 @@ ghost use Rattle.cards.specs.Decks.{largest_deck};
 ghost use Rattle.autocoder_layout.specs.Source.{source_of};
 ghost use Rattle.autocoder.specs.Programs.{IsProgramOf};
 ghost use Rattle.loader.specs.Decks.{runnable_deck};
-ghost use Rattle.counter_runs.specs.Runs.{Reads};
-ghost use Rattle.counter_endings.specs.Endings.{ending_by, made_by};
+ghost use Rattle.counter.specs.Runs.{Reads};
+ghost use Rattle.counter.specs.Endings.{ending_by, made_by};
 ghost use Rattle.counter.specs.Assembling.{Assembles, Ends, IsMadeOf, made_of};
 
+use crate::running::text_in;
+use crate::showing::{Assembled, Hindrance, Product, hinder, show_hindrance, show_product};
 use autocoder::{Program, assemble, listing};
 use cards::{Deck, read_text, write_text};
-use counter_endings::{Assembled, Hindrance, Product, hinder, show_hindrance, show_product};
-use counter_runs::text_in;
-use counter_tasks::Fault;
+use command_line::Fault;
 use loader::runnable_deck;
 use std::alloc::Global;
 use std::io;
@@ -60,7 +60,7 @@ fn assembled_in(alloc: Global, text: &[u8]) -> Result<Product, Hindrance>
 /// The listing is written whole, after everything to be written is made. If the source has faults,
 /// a line for each is written instead of the listing, and nothing is printed on the second writer.
 /// If a fault is printed there, the first writer has nothing, except for what a failing output
-/// took. An error is one of the second writer, on which nothing can be printed.
+/// took. Fails only if `errors` itself fails.
 pub fn assemble_deck<R: Read + Drop, W: Write, E: Write>(
     alloc: Global,
     reader: R,

@@ -1,21 +1,31 @@
-//! The counter of the bureau: what its program does with its words, its input and its outputs.
+//! What the program does with decks and sources: it runs the one and assembles the other.
 //!
-//! It uses the layers that read the command line and run decks, and the assembler and the loader.
-//! It opens no files: words are strings, a deck comes from a reader, and output goes to two
-//! writers. So all of it runs in memory, and the program above only connects it to the process.
+//! [`run_deck`] runs the deck of a reader: what is written is the listing of the machine that ran
+//! the text's deck, and the machine's standing is printed; or a fault is printed instead of
+//! everything else. [`assemble_deck`] assembles the source at the beginning of a deck: its listing
+//! is written, and the bytes for OUT are returned. Both take a reader and two writers and open no
+//! files, so all of it runs in memory (`specs/Runs.antt`, `specs/Assembling.antt`, and for each way
+//! to end `specs/Endings.antt`).
 //!
-//! The contracts for the program are those of [`run_deck`] and [`assemble_deck`]: what is written
-//! is the listing of the machine that ran the text's deck, or of the source at its beginning; the
-//! standing of the machine is printed, or the bytes for OUT are returned; and a fault is printed
-//! instead of everything else.
+//! [`run_input`], [`write_out`] and [`put_file`] connect them to files. The clauses of the kit do
+//! not mention the contents of files, so `cases/check` and `examples/check` test that the right
+//! file is read, and what is left at a path. The contracts cover the rest: [`run_input`] prints the
+//! result of the run of some text, with the size and the switches that were given; and
+//! [`write_out`] prints nothing and ends as the assembly did, or prints the fault of a device.
 #![tactic(auto)]
 
 mod assembling;
+mod deck_files;
+mod out_files;
+mod replacing;
+mod reports;
+mod running;
+mod showing;
+mod source_faults;
 
 pub use assembling::assemble_deck;
-pub use counter_endings::Assembled;
-pub use counter_runs::{MOST_BYTES, MOST_INSTRUCTIONS, Report, no_deck_is_cut_off, run_deck};
-pub use counter_tasks::{
-    Fault, Input, Misuse, Status, Task, show_help, show_version, task_of, tell_fault, tell_misuse,
-};
-pub use counter_values::{size_of, switches_of};
+pub use deck_files::run_input;
+pub use out_files::write_out;
+pub use replacing::put_file;
+pub use running::{no_deck_is_cut_off, run_deck};
+pub use showing::Assembled;

@@ -1,8 +1,9 @@
 //! Assemblies of sources from a reader or to a writer that fails.
 
+use crate::decks::{TWO_LINES_SOURCE, text_of};
 use crate::devices::{Full, Torn};
-use crate::texts::{TWO_LINES_SOURCE, text_of};
-use counter::{Assembled, Status, assemble_deck};
+use command_line::Status;
+use counter::{Assembled, assemble_deck};
 use std::alloc::Global;
 use std::test::Fail;
 

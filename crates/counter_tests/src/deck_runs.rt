@@ -1,9 +1,10 @@
 //! Runs of decks from a reader or to a writer that fails.
 
+use crate::decks::{TWO_LINES, text_of};
 use crate::devices::{Full, Torn};
-use crate::texts::{TWO_LINES, text_of};
+use command_line::Status;
 use core_store::Size;
-use counter::{Status, run_deck};
+use counter::run_deck;
 use std::alloc::Global;
 use std::test::Fail;
 use units::Switches;

@@ -1,15 +1,38 @@
-//! Cases of the counter that no file shows: readers and writers that fail, and want of memory.
-//! Words, runs and assemblies are in `cases/`.
-
+//! Cases of runs, assemblies, requests and scripts that no file shows: readers and writers that
+//! give and take little, or fail; answers that the program gives only where memory or the store
+//! fails; and what the meter counts. Words, runs, scripts, requests and their answers are in
+//! `cases/`.
 #![tactic(auto)]
 
 #[cfg(test)]
+mod answers_sent;
+#[cfg(test)]
 mod assemblies;
+#[cfg(test)]
+mod bureaus;
 #[cfg(test)]
 mod deck_runs;
 #[cfg(test)]
+mod decks;
+#[cfg(test)]
 mod devices;
 #[cfg(test)]
-mod texts;
+mod exchange_failing;
+#[cfg(test)]
+mod fixed_answers;
+#[cfg(test)]
+mod lines_sent;
+#[cfg(test)]
+mod meters;
+#[cfg(test)]
+mod request_bodies;
+#[cfg(test)]
+mod request_heads;
+#[cfg(test)]
+mod script_failing;
+#[cfg(test)]
+mod script_faults;
+#[cfg(test)]
+mod script_reading;
 #[cfg(test)]
 mod told;

@@ -1,7 +1,7 @@
 //! The help on a writer that fails, and words for which there is no memory.
 
 use crate::devices::Full;
-use counter::{Misuse, show_help, tell_misuse};
+use command_line::{Misuse, show_help, tell_misuse};
 use std::alloc::AllocError;
 use std::test::Fail;
 

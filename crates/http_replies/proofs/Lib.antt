@@ -1,4 +1,3 @@
-pub mod SendingLemmas
 pub mod NameLaw
 pub mod FixedStatuses
 pub mod BodyTexts

@@ -2,4 +2,3 @@ pub mod Bodies
 pub mod Replies
 pub mod Values
 pub mod Fixed
-pub mod Sending

@@ -9,6 +9,8 @@
 //! head. The contract for the layer above: the bytes of a reply are those of `reply_bytes` there.
 //! Bodies are made by `serde_json`; `specs/Values.antt` has their members. This crate uses no
 //! database.
+//!
+//! By [`names_stand_as_they_are`] a customer's name is in the queue's body unchanged.
 #![tactic(auto)]
 
 mod answers;
@@ -17,10 +19,8 @@ mod fixed;
 mod laws;
 mod lists;
 mod replies;
-mod sending;
 mod values;
 
 pub use fixed::{Fault, refusal_answer};
 pub use laws::names_stand_as_they_are;
 pub use replies::{deck_fault, reply_to, status_of};
-pub use sending::{Sent, send};

@@ -1,11 +1,11 @@
 -- what was read of a reader says of all its bytes
 use Rattle.std.proofs.Common.{◌≡◌, ℕ, List, ◌++◌, Option, Some, None, Result, Ok, Err, IfOk, IfSome, inl, inr, sym, subst}
 use Rattle.std.specs.Borrow.{Bor}
-use Rattle.http_heads.specs.Heads.{IsReadOf, Judges, ReadsHead}
-use Rattle.http_heads.specs.declared.asked.Asked.{Asked}
-use Rattle.http_heads.specs.declared.head.Head.{Head}
-use Rattle.http_heads.specs.declared.verdicts.Verdict.{Verdict}
-use Rattle.http_heads.specs.declared.verdicts.Verdict.TheVariants as verdict
+use Rattle.http_requests.specs.Heads.{IsReadOf, Judges, ReadsHead}
+use Rattle.http_requests.specs.declared.targets.Target.{Target}
+use Rattle.http_requests.specs.declared.head.Head.{Head}
+use Rattle.http_requests.specs.declared.verdicts.Verdict.{Verdict}
+use Rattle.http_requests.specs.declared.verdicts.Verdict.TheVariants as verdict
 use Rattle.http_requests.specs.Requests.{IsAskedWith, IsRefusedFor, IsRefusingStatus, IsRequestOf}
 use Rattle.http_requests.specs.declared.fault.RequestFault.{RequestFault}
 use Rattle.http_requests.specs.declared.request.Request.{Request}
@@ -23,7 +23,7 @@ refused_request (Some input) (Some rest) head v status r reads is judged same =
     inl (subst (IsRefusedFor input) (sym (same (refuses_so input status refuses))) refuses)
 
 -- the head asks for something
-asked_request : (old mid : Option (List ℕ)) (head : Head) (v : Verdict) (asked : Asked) (count : ℕ) (begun : Bor (List ℕ)) (r : Request) → ReadsHead old mid head → v ≡ verdict.Asks asked count begun
+asked_request : (old mid : Option (List ℕ)) (head : Head) (v : Verdict) (asked : Target) (count : ℕ) (begun : Bor (List ℕ)) (r : Request) → ReadsHead old mid head → v ≡ verdict.Asks asked count begun
     → ((input rest : List ℕ) → IsReadOf head input rest → Judges input rest v) → IfSome mid (λ rest. IsAskedWith asked count (begun.now ++ rest) r)
     → IfSome old (λ input. IsRequestOf input r)
 asked_request None mid head v asked count begun r reads is judged with_body = tt
@@ -32,7 +32,7 @@ asked_request (Some input) (Some rest) head v asked count begun r reads is judge
     let asks = subst (λ w. Judges input rest w) is (judged input rest reads) in
     inr (asked, count, begun.now ++ rest, asks, with_body)
 
-pub asked_read : (old mid : Option (List ℕ)) (head : Head) (v : Verdict) (asked : Asked) (count : ℕ) (begun : Bor (List ℕ)) (result : Result Request RequestFault) → ReadsHead old mid head → v ≡ verdict.Asks asked count begun
+pub asked_read : (old mid : Option (List ℕ)) (head : Head) (v : Verdict) (asked : Target) (count : ℕ) (begun : Bor (List ℕ)) (result : Result Request RequestFault) → ReadsHead old mid head → v ≡ verdict.Asks asked count begun
     → ((input rest : List ℕ) → IsReadOf head input rest → Judges input rest v) → IfOk result (λ r. IfSome mid (λ rest. IsAskedWith asked count (begun.now ++ rest) r))
     → IfOk result (λ r. IfSome old (λ input. IsRequestOf input r))
 asked_read old mid head v asked count begun (Ok r) reads is judged with_body = asked_request old mid head v asked count begun r reads is judged with_body

@@ -1,12 +1,12 @@
 -- the statuses that refuse a request alone
 use Rattle.std.proofs.Common.{◌≡◌, ℕ, List, [], ◌∷◌, Bool, true, false, Option, Some, None, inl, inr, refl, sym, subst}
 use Rattle.std.specs.List.{AllByRecursion}
-use Rattle.http_routes.specs.declared.paths.Route.{Route}
-use Rattle.http_heads.specs.Fields.{Field}
-use Rattle.http_heads.specs.Heads.{Refuses}
-use Rattle.http_heads.specs.Tests.{first_failed, status_on, tests}
-use Rattle.http_heads.specs.declared.asked.Asked.{Asked}
-use Rattle.http_heads.specs.declared.asked.Asked.TheVariants as asked
+use Rattle.http_requests.specs.declared.routes.Path.{Path}
+use Rattle.http_requests.specs.Fields.{Field}
+use Rattle.http_requests.specs.Heads.{Refuses}
+use Rattle.http_requests.specs.Tests.{first_failed, status_on, tests}
+use Rattle.http_requests.specs.declared.targets.Target.{Target}
+use Rattle.http_requests.specs.declared.targets.Target.TheVariants as target
 use Rattle.http_requests.specs.Asking.{IsAskedBy}
 use Rattle.http_requests.specs.Requests.{HasRefusingStatus, IsRefusingStatus}
 use Rattle.http_requests.specs.declared.request.Request.{Request}
@@ -21,7 +21,7 @@ one_failed [] status all is = absurd (let e = is in cc)
 one_failed ((true, s) ∷ ts) status all is = one_failed ts status all.1 is
 one_failed ((false, s) ∷ ts) status all is = subst IsRefusingStatus (some_is is) all.0
 
-tests_refuse : (path : Option Route) (method : List ℕ) (fields : List Field) (status : ℕ)
+tests_refuse : (path : Option Path) (method : List ℕ) (fields : List Field) (status : ℕ)
     → status_on path method fields ≡ Some status → IsRefusingStatus status
 tests_refuse None method fields status is = inr (inl (sym (some_is is)))
 tests_refuse (Some path) method fields status is =
@@ -36,17 +36,10 @@ refuses_so input status (inr (h, begins, inl is)) = tests_refuse _ h.method _ st
 refuses_so input status (inr (h, begins, inr unread)) = inl unread.1
 
 -- what is asked for is not refused
-pub not_refused : (a : Asked) (body : List ℕ) (r : Request) → IsAskedBy a body r → HasRefusingStatus r
-not_refused (asked.Submit job kind size switches) body (request.Refused status) is = absurd is
-not_refused (asked.Slice job limit) body (request.Refused status) is = absurd is
-not_refused (asked.Start job switches) body (request.Refused status) is = absurd is
-not_refused (asked.Hold job) body (request.Refused status) is = absurd is
-not_refused (asked.Release job) body (request.Refused status) is = absurd is
-not_refused (asked.Collect job) body (request.Refused status) is = absurd is
-not_refused (asked.Standing job) body (request.Refused status) is = absurd is
-not_refused (asked.Cards job) body (request.Refused status) is = absurd is
-not_refused (asked.Lines job) body (request.Refused status) is = absurd is
-not_refused (asked.Jobs customer) body (request.Refused status) is = absurd is
-not_refused asked.Queue body (request.Refused status) is = absurd (let e = is in cc)
+pub not_refused : (a : Target) (body : List ℕ) (r : Request) → IsAskedBy a body r → HasRefusingStatus r
+not_refused (target.Submission job kind size switches) body (request.Refused status) is = absurd is
+not_refused (target.Job job c) body (request.Refused status) is = absurd is
+not_refused (target.Jobs customer) body (request.Refused status) is = absurd is
+not_refused target.Queue body (request.Refused status) is = absurd (let e = is in cc)
 not_refused a body (request.BadDeck fault) is = tt
 not_refused a body (request.Asks command) is = tt

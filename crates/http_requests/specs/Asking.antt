@@ -4,34 +4,25 @@ use Rattle.cards.specs.Decks.{IsDeck}
 use Rattle.cards.specs.Faults.{IsFirstFault, out_of_memory}
 use Rattle.cards.specs.Files.{file_of, text_of}
 use Rattle.cards.specs.declared.faults.CardFault.{CardFault}
-use Rattle.http_heads.specs.declared.asked.Asked.{Asked}
-use Rattle.http_heads.specs.declared.asked.Asked.TheVariants as asked
-use Rattle.http_heads.specs.declared.asked.JobName.{JobName}
-use Rattle.http_heads.specs.declared.asked.Kind as head
-use Rattle.http_heads.specs.declared.asked.Kind.TheVariants.{Object, Autocoder}
+use Rattle.http_requests.specs.declared.targets.Target.{Target}
+use Rattle.http_requests.specs.declared.targets.Target.TheVariants as target
+use Rattle.http_requests.specs.declared.targets.JobName.{JobName}
 use Rattle.office.specs.declared.commands.Command.TheVariants as command
 use Rattle.office.specs.declared.commands.Contents.{Contents}
 use Rattle.office.specs.declared.commands.JobCommand.{JobCommand}
-use Rattle.office.specs.declared.commands.JobCommand.TheVariants as on
-use Rattle.office.specs.declared.commands.Kind as office
-use Rattle.office.specs.declared.commands.Kind.TheVariants as deck
+use Rattle.office.specs.declared.commands.Kind.{Kind}
 use Rattle.units.specs.declared.switches.Switches.{Switches}
 use Rattle.http_requests.specs.declared.request.Request.{Request}
 use Rattle.http_requests.specs.declared.request.Request.TheVariants as request
-
--- the office's kind of a job for the kind that a target names
-abbrev pub kind_of : head.Kind → office.Kind
-kind_of Object = deck.Object
-kind_of Autocoder = deck.Autocoder
 
 -- the customer and the number are those of this job
 abbrev pub IsNamed : JobName → List ℕ → ℕ → Type 0
 IsNamed job customer number = (customer ≡ job.customer.now) × (number ≡ job.number)
 
 -- the contents have this kind, size and switches, and their deck is the one of this text
-pub record AreContents (kind : head.Kind) (size : ℕ) (switches : Switches) (text : List ℕ)
+pub record AreContents (kind : Kind) (size : ℕ) (switches : Switches) (text : List ℕ)
     (contents : Contents) : Type 0 where
-  pub kind_is : contents.kind ≡ kind_of kind
+  pub kind_is : contents.kind ≡ kind
   pub size_is : contents.size ≡ size
   pub switches_are : contents.switches ≡ switches
   pub deck : IsDeck contents.deck
@@ -43,7 +34,7 @@ IsTextFault text fault = (form : _) × (text_of ≡ file_of form) × IsFirstFaul
 
 -- the request submits this job with the deck of this text, or is refused for the first fault of the
 -- text
-abbrev pub IsSubmission : JobName → head.Kind → ℕ → Switches → List ℕ → Request → Type 0
+abbrev pub IsSubmission : JobName → Kind → ℕ → Switches → List ℕ → Request → Type 0
 IsSubmission job kind size switches text (request.Asks (command.Submit customer number contents)) =
     IsNamed job (string_bytes customer) number × AreContents kind size switches text contents
 IsSubmission job kind size switches text (request.BadDeck fault) = IsTextFault text fault
@@ -61,18 +52,12 @@ AsksOfJobs customer (request.Asks (command.Jobs name)) = string_bytes name ≡ c
 AsksOfJobs customer other = ⊥
 
 -- the request is what the target asks for, with this body
-abbrev pub IsAskedBy : Asked → List ℕ → Request → Type 0
-IsAskedBy (asked.Submit job kind size switches) body r = IsSubmission job kind size switches body r
-IsAskedBy (asked.Slice job limit) body r = IsOnJob job (on.Slice limit) r
-IsAskedBy (asked.Start job switches) body r = IsOnJob job (on.Start switches) r
-IsAskedBy (asked.Hold job) body r = IsOnJob job on.Hold r
-IsAskedBy (asked.Release job) body r = IsOnJob job on.Release r
-IsAskedBy (asked.Collect job) body r = IsOnJob job on.Collect r
-IsAskedBy (asked.Standing job) body r = IsOnJob job on.Standing r
-IsAskedBy (asked.Cards job) body r = IsOnJob job on.Cards r
-IsAskedBy (asked.Lines job) body r = IsOnJob job on.Lines r
-IsAskedBy (asked.Jobs customer) body r = AsksOfJobs customer.now r
-IsAskedBy asked.Queue body r = r ≡ request.Asks command.Queue
+abbrev pub IsAskedBy : Target → List ℕ → Request → Type 0
+IsAskedBy (target.Submission job kind size switches) body r =
+    IsSubmission job kind size switches body r
+IsAskedBy (target.Job job c) body r = IsOnJob job c r
+IsAskedBy (target.Jobs customer) body r = AsksOfJobs customer.now r
+IsAskedBy target.Queue body r = r ≡ request.Asks command.Queue
 
 -- the request is refused for this fault of its deck, which is not want of memory
 abbrev pub IsBadDeck : CardFault → Request → Type 0

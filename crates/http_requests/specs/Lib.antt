@@ -1,2 +1,10 @@
+pub mod Parts
+pub mod Paths
+pub mod Fields
+pub mod Targets
+pub mod Tests
+pub mod Reading
+pub mod Heads
+pub mod Bodies
 pub mod Asking
 pub mod Requests

@@ -1,7 +1,7 @@
 -- the request that given bytes are
 use Rattle.std.specs.Prelude.{ℕ, ◌≡◌, ◌<◌, ◌≤◌, ◌⊎◌, List, length, take, ⊤}
-use Rattle.http_heads.specs.Heads.{AsksFor, Refuses}
-use Rattle.http_heads.specs.declared.asked.Asked.{Asked}
+use Rattle.http_requests.specs.Heads.{AsksFor, Refuses}
+use Rattle.http_requests.specs.declared.targets.Target.{Target}
 use Rattle.http_requests.specs.Asking.{IsAskedBy}
 use Rattle.http_requests.specs.declared.request.Request.{Request}
 use Rattle.http_requests.specs.declared.request.Request.TheVariants as request
@@ -24,7 +24,7 @@ IsRefusedFor input other = ⊥
 
 -- the request is what the target asks for, with the first so many of these bytes as its body; if
 -- there are fewer, it is refused
-abbrev pub IsAskedWith : Asked → ℕ → List ℕ → Request → Type 0
+abbrev pub IsAskedWith : Target → ℕ → List ℕ → Request → Type 0
 IsAskedWith asked count after r =
     ((count ≤ length after) × IsAskedBy asked (take count after) r)
     ⊎ ((length after < count) × (r ≡ request.Refused 400))
@@ -32,5 +32,5 @@ IsAskedWith asked count after r =
 -- the bytes are this request: it is refused for their head, or their head and body ask for it
 abbrev pub IsRequestOf : List ℕ → Request → Type 0
 IsRequestOf input r = IsRefusedFor input r
-    ⊎ ((asked : Asked) × (count : ℕ) × (after : List ℕ) × AsksFor input asked count after
+    ⊎ ((asked : Target) × (count : ℕ) × (after : List ℕ) × AsksFor input asked count after
     × IsAskedWith asked count after r)

@@ -1,110 +1,107 @@
-//! Requests, from what targets and bodies ask for.
+//! How a target is read.
 
-ghost use Rattle.std.specs.Prelude.{◌≡◌, ◌≢◌, IfOk};
-ghost use Rattle.cards.specs.Faults.{out_of_memory};
-ghost use Rattle.http_heads.specs.declared.asked.Asked.TheVariants as asked;
-ghost use Rattle.http_requests.specs.Asking.{AsksOfJobs, IsAskedBy, IsBadDeck, IsOnJob, kind_of};
+ghost use Rattle.std.specs.Prelude.{◌≡◌, Some, IfSome, IfNone};
+ghost use Rattle.http_requests.specs.Parts.{part};
+ghost use Rattle.http_requests.specs.Paths.{route_at};
+ghost use Rattle.http_requests.specs.declared.routes.Route.TheVariants as route;
+ghost use Rattle.office.specs.declared.commands.JobCommand.{JobCommand};
+ghost use Rattle.texts.specs.Numbers.{IsNumberOf};
+ghost use Rattle.http_requests.specs.Targets.{Asks, IsCommandBy, IsJobOf};
+ghost use Rattle.http_requests.specs.declared.targets.Target.{Target};
 
-use crate::request::Request;
-use cards::{CardError, CardFault, read_text};
-use http_heads::{Asked, JobName};
-use office::{Command, Contents, JobCommand, Kind};
-use std::alloc::{AllocError, Global};
-use units::Switches;
+use crate::parts::part;
+use crate::routes::{Route, Verb};
+use crate::targets::{JobName, Target};
+use office::{JobCommand, Kind};
+use texts::{number_or_zero, switches_of};
 
-/// The office's kind of a deck.
-fn kind_of(kind: http_heads::Kind) -> Kind
-    ensures { result ≡ kind_of kind }
+/// The number in a part of a target, or 0 if its text is not one.
+fn number_at(text: &str, place: usize) -> u32
+    ensures { IsNumberOf (part place text.now) result }
 {
-    match kind {
-        http_heads::Kind::Object => Kind::Object,
-        http_heads::Kind::Autocoder => Kind::Autocoder,
+    number_or_zero(part(text, place))
+}
+
+/// The job that a target names.
+fn job_at<'a>(text: &'a str) -> JobName<'a>
+    ensures { IsJobOf text.now result }
+{
+    JobName {
+        customer: part(text, 2),
+        number: number_at(text, 4),
     }
 }
 
-/// The request whose deck has this fault. Having no memory is not a fault of a deck.
-fn bad_deck(fault: CardFault) -> Result<Request, AllocError>
-    ensures { IfOk result (IsBadDeck fault) }
+/// The submission of a job of this kind that a target asks for; none if its switches cannot be read.
+fn submission<'a>(kind: Kind, text: &'a str) -> Option<Target<'a>>
+    ensures some { IfSome result (λ asked. route_at text.now ≡ Some (route.Submit kind)
+        → Asks text.now asked) }
+    ensures none { IfNone result (route_at text.now ≡ Some (route.Submit kind)
+        → (asked : Target) → ¬ Asks text.now asked) }
 {
-    match fault.error {
-        CardError::NoMemory => Err(AllocError),
-        _ => Ok(Request::BadDeck(fault)),
-    }
-}
-
-/// The request to take in a job whose deck is this text.
-fn submission(
-    alloc: Global,
-    job: JobName<'_>,
-    kind: http_heads::Kind,
-    size: u32,
-    switches: Switches,
-    text: &[u8],
-) -> Result<Request, AllocError>
-    ensures { IfOk result (IsAskedBy (asked.Submit job.entry kind size switches) text.now) }
-{
-    let deck = match read_text(alloc, text) {
-        Ok(deck) => deck,
-        Err(fault) => return bad_deck(fault),
-    };
-    let customer = String::from_str(alloc, job.customer)?;
-    let contents = Contents {
-        kind: kind_of(kind),
-        size,
-        switches,
-        deck,
-    };
-    Ok(Request::Asks(Command::Submit {
-        customer,
-        number: job.number,
-        contents,
-    }))
-}
-
-/// The request of a command on a job.
-fn on_job(alloc: Global, job: JobName<'_>, command: JobCommand) -> Result<Request, AllocError>
-    ensures { IfOk result (IsOnJob job.entry command) }
-{
-    let customer = String::from_str(alloc, job.customer)?;
-    Ok(Request::Asks(Command::Job {
-        customer,
-        number: job.number,
-        command,
-    }))
-}
-
-/// The request for a customer's jobs.
-fn of_jobs(alloc: Global, customer: &str) -> Result<Request, AllocError>
-    ensures { IfOk result (AsksOfJobs customer.now) }
-{
-    let customer = String::from_str(alloc, customer)?;
-    Ok(Request::Asks(Command::Jobs { customer }))
-}
-
-/// The request that asks for this with this body.
-pub(crate) fn request_for(
-    alloc: Global,
-    asked: Asked<'_>,
-    body: &[u8],
-) -> Result<Request, AllocError>
-    ensures { IfOk result (IsAskedBy asked.entry body.now) }
-{
-    match asked {
-        Asked::Submit {
-            job,
+    match switches_of(part(text, 7)) {
+        Some(switches) => Some(Target::Submission {
+            job: job_at(text),
             kind,
-            size,
+            size: number_at(text, 6),
             switches,
-        } => submission(alloc, job, kind, size, switches, body),
-        Asked::Slice { job, limit } => on_job(alloc, job, JobCommand::Slice { limit }),
-        Asked::Start { job, switches } => on_job(alloc, job, JobCommand::Start { switches }),
-        Asked::Hold(job) => on_job(alloc, job, JobCommand::Hold),
-        Asked::Release(job) => on_job(alloc, job, JobCommand::Release),
-        Asked::Collect(job) => on_job(alloc, job, JobCommand::Collect),
-        Asked::Standing(job) => on_job(alloc, job, JobCommand::Standing),
-        Asked::Cards(job) => on_job(alloc, job, JobCommand::Cards),
-        Asked::Lines(job) => on_job(alloc, job, JobCommand::Lines),
-        Asked::Jobs(customer) => of_jobs(alloc, customer),
-        Asked::Queue => Ok(Request::Asks(Command::Queue)),
+        }),
+        None => None,
+    }
+}
+
+impl Verb {
+    /// The command of this verb with the value in a text; none if its switches cannot be read.
+    fn command(self, text: &str) -> Option<JobCommand>
+        ensures some { IfSome result (IsCommandBy self text.now) }
+        ensures none { IfNone result ((command : JobCommand)
+            → ¬ IsCommandBy self text.now command) }
+    {
+        match self {
+            Verb::Slice => Some(JobCommand::Slice {
+                limit: number_or_zero(text),
+            }),
+            Verb::Start => match switches_of(text) {
+                Some(switches) => Some(JobCommand::Start { switches }),
+                None => None,
+            },
+            Verb::Hold => Some(JobCommand::Hold),
+            Verb::Release => Some(JobCommand::Release),
+            Verb::Collect => Some(JobCommand::Collect),
+            Verb::Standing => Some(JobCommand::Standing),
+            Verb::Cards => Some(JobCommand::Cards),
+            Verb::Lines => Some(JobCommand::Lines),
+        }
+    }
+}
+
+/// The command on a job that a target asks for; none if its switches cannot be read.
+fn on_job<'a>(verb: Verb, text: &'a str) -> Option<Target<'a>>
+    ensures some { IfSome result (λ asked. route_at text.now ≡ Some (route.Job verb)
+        → Asks text.now asked) }
+    ensures none { IfNone result (route_at text.now ≡ Some (route.Job verb)
+        → (asked : Target) → ¬ Asks text.now asked) }
+{
+    match verb.command(part(text, 6)) {
+        Some(command) => Some(Target::Job {
+            job: job_at(text),
+            command,
+        }),
+        None => None,
+    }
+}
+
+/// What a target with this route asks for; none if its switches cannot be read.
+pub(crate) fn asked_at<'a>(route: Route, text: &'a str) -> Option<Target<'a>>
+    ensures some { IfSome result (λ asked. route_at text.now ≡ Some route
+        → Asks text.now asked) }
+    ensures none { IfNone result (route_at text.now ≡ Some route
+        → (asked : Target) → ¬ Asks text.now asked) }
+{
+    match route {
+        Route::Submit(kind) => submission(kind, text),
+        Route::Job(verb) => on_job(verb, text),
+        Route::Jobs => Some(Target::Jobs(part(text, 2))),
+        Route::Queue => Some(Target::Queue),
     }
 }

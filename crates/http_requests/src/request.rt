@@ -3,11 +3,14 @@
 ghost use Rattle.std.specs.Prelude.{◌≡◌, ◌++◌, IfOk, IfSome};
 ghost use Rattle.http_requests.specs.Requests.{HasRefusingStatus, IsAskedWith, IsRefusingStatus, IsRequestOf};
 
-use crate::asking::request_for;
+use crate::bodies::{Body, read_body};
+use crate::commands::request_for;
 use crate::fault::RequestFault;
+use crate::head::Head;
 use crate::routing::Routes;
+use crate::targets::Target;
+use crate::verdicts::Verdict;
 use cards::CardFault;
-use http_heads::{Asked, Body, Head, Verdict, read_body};
 use office::Command;
 use std::alloc::Global;
 use std::io::Read;
@@ -39,7 +42,7 @@ fn refusal(status: u16) -> Request
 fn read_with_body<R: Read>(
     alloc: Global,
     reader: &mut R,
-    asked: Asked<'_>,
+    asked: Target<'_>,
     count: u32,
     begun: &[u8],
 ) -> Result<Request, RequestFault>

@@ -1,16 +1,17 @@
 //! The table of all paths.
 
 ghost use Rattle.std.specs.Prelude.{◌≡◌};
-ghost use Rattle.http_routes.specs.Paths.{paths, routed};
+ghost use Rattle.http_requests.specs.Paths.{paths, routed};
 
-use http_routes::{Route, router};
+use crate::paths::router;
+use crate::routes::Path;
 use matchit::Router;
 use std::alloc::{AllocError, Global};
 
 /// The paths of the counter, and what each asks for.
 #[derive(Drop)]
 pub struct Routes {
-    pub(crate) router: Router<Route>,
+    pub(crate) router: Router<Path>,
     ghost paths: { router ≡ routed paths },
 }
 

@@ -12,25 +12,6 @@ B342.                                  L006361,360361N000000N0000001040
                                        /333080
 ";
 
-/// The source of the same program.
-const SOURCE_THAT_PRINTS: &str = "               CS   332
-               CS
-               SW   001
-     READ      R
-               MCW  080,280
-               W
-               BLC  DONE
-               B    READ
-     DONE      H
-               END
-";
-
-/// A source in which each card has a fault.
-const FAULTY_SOURCE: &str = "               XYZ
-               B    LOST
-     *
-";
-
 /// A program that punches its own card three times.
 const PUNCHES_THREE: &str = ",008015,022029,030031,032033444.\n";
 
@@ -38,14 +19,10 @@ const PUNCHES_THREE: &str = ",008015,022029,030031,032033444.\n";
 fn cards_named(name: &str) -> Option<(&'static str, &'static str)> {
     match name {
         "two lines" => Some((PRINTS_EACH_CARD, "HELLO\nWORLD\n")),
-        "one column changed" => Some((PRINTS_EACH_CARD, "HELLO\nWORLX\n")),
         "no data" => Some((PRINTS_EACH_CARD, "")),
         "loop" => Some((",008012B008\n", "")),
         "outside" => Some((",008015L000200\n", "")),
-        "source of two lines" => Some((SOURCE_THAT_PRINTS, "HELLO\nWORLD\n")),
-        "faulty source" => Some((FAULTY_SOURCE, "")),
         "three cards" => Some((PUNCHES_THREE, "")),
-        "no card" => Some(("", "")),
         _ => None,
     }
 }

@@ -1,22 +1,22 @@
 -- the boot card's eleven instructions
-use Rattle.std.proofs.Common.{◌≡◌, ℕ, zero, suc, ◌+◌, ◌-◌, ◌<◌, ◌≤◌, Bool, true, false, List, [], ◌∷◌, ◌++◌, Option, Some, None, refl, sym, ◌∙◌, ap, subst, arith, length, get_or, take, drop, replicate, slice_get, slice_index, codes, map, if◌then◌else◌, le-leb}
+use Rattle.std.proofs.Common.{◌≡◌, ℕ, zero, suc, ◌+◌, ◌-◌, ◌≤◌, Bool, true, false, List, [], ◌∷◌, ◌++◌, Some, None, refl, sym, ◌∙◌, ap, arith, length, get_or, take, drop, replicate, slice_index, codes, le-leb}
 use Rattle.std.proofs.lemmas.List.{length-replicate}
 use Rattle.cards.specs.declared.decks.Card.{Card}
-use Rattle.core_store.specs.Storage.{Storage, code_at, is_marked, least_mark, with_mark, blank_storage, put_codes, blank_cell}
+use Rattle.core_store.specs.Storage.{Storage, code_at, is_marked, least_mark, with_mark, blank_storage, put_codes}
 use Rattle.addresses.specs.Addresses.{encoded, written}
 use Rattle.addresses.specs.Digits.{code_of, digit_under}
 use Rattle.bcd.specs.Table.{glyph_of}
 use Rattle.units.specs.declared.switches.Switches.{Switches}
 use Rattle.core_store.specs.declared.sizes.Size.{Size}
-use Rattle.core_store.specs.declared.sizes.Size.TheVariants.{Positions1400, Positions2000, Positions4000}
+use Rattle.core_store.proofs.SizeLemmas.{within}
 use Rattle.core_store.specs.Storage.{positions_of}
 use Rattle.machine.specs.Glyphs.{is_glyph}
-use Rattle.machine.specs.Word.{word_length, ending_in}
+use Rattle.machine.specs.Word.{word_length}
 use Rattle.machine.specs.Run.{State, step, after, loaded}
-use Rattle.loader.specs.Cards.{text, instruction, unused, reading, boot_card}
+use Rattle.loader.specs.Cards.{text, instruction, unused, boot_card}
 use Rattle.loader.specs.Loading.{loading_marks}
 use Rattle.loader.proofs.LoadingFronts.{Holds, is_stop, least_stop, put_stop, least_is_stop, holds_low, holds_card}
-use Rattle.loader.proofs.LoadingSteps.{At, units_with, ends_at, by_set, by_clear, by_set_one, by_nothing, by_reading}
+use Rattle.loader.proofs.LoadingSteps.{At, ends_at, by_set, by_clear, by_set_one, by_nothing, by_reading}
 
 -- what repeats is found everywhere
 pub repeated : {X : Type 0} (n p : ℕ) (d : X) → get_or (replicate n d) p d ≡ d
@@ -87,11 +87,6 @@ begun_storage size large =
     holds_low (put_codes (blank_storage size) 1 boot_card.0) size [] boot_card.0 (blank_storage size)
     (holds_card (blank_storage size) size [] (replicate 80 0) (blank_storage size) (blank_holds size large) boot_card.0 boot_size) true 1 (omega arith) (omega arith)
 
-pub large_enough : (size : Size) → (81 ≤ positions_of size) × (positions_of size ≤ 16000)
-large_enough Positions1400 = (omega arith, omega arith)
-large_enough Positions2000 = (omega arith, omega arith)
-large_enough Positions4000 = (omega arith, omega arith)
-
 comma_first : is_glyph (slice_index boot_card.0 0) (codes ",") ≡ true
 unfolding boot_card code_of glyph_of
 comma_first = refl
@@ -105,7 +100,10 @@ module _ (switches : Switches) (size : Size) (behind : List Card) (next_card : C
   blanks = blank_storage (positions_of size)
 
   small : positions_of size ≤ 16000
-  small = (large_enough size).1
+  small = (within size).1
+
+  large : 81 ≤ positions_of size
+  large = let least = (within size).0 in omega arith
 
   -- the machine that has carried out so many of them
   abbrev m : ℕ → State
@@ -121,7 +119,7 @@ module _ (switches : Switches) (size : Size) (behind : List Card) (next_card : C
       ends_at (m k).works.storage (positions_of size) stops boot_card.0 blanks here.storage i count within.0 within.1 short stopped next
 
   now_0 : Now 0 1 (1 ∷ [])
-  now_0 = record { running = refl; at = refl; equal = refl; clear = refl; units = refl; storage = begun_storage (positions_of size) (large_enough size).0 }
+  now_0 = record { running = refl; at = refl; equal = refl; clear = refl; units = refl; storage = begun_storage (positions_of size) large }
 
   -- the first ends where nothing is marked behind it
   first_found : Some 7 ≡ word_length (m 0).works.storage 1

@@ -1,18 +1,16 @@
 -- what the instructions of loading cards do
-use Rattle.std.proofs.Common.{◌≡◌, ℕ, ◌+◌, ◌-◌, ◌<◌, ◌≤◌, Bool, true, false, List, [], ◌∷◌, ◌++◌, Option, Some, None, Result, Ok, refl, sym, ◌∙◌, ap, arith, length, replicate, slice_get, lt-ltb, le-ltb, le-leb}
+use Rattle.std.proofs.Common.{◌≡◌, ℕ, ◌+◌, ◌-◌, ◌<◌, true, false, Some, Ok, refl, arith, length, replicate, slice_get, lt-ltb, le-ltb, le-leb}
 use Rattle.cards.specs.declared.decks.Card.{Card}
-use Rattle.core_store.specs.Storage.{Storage, field_length, cells_ending, put_cells, put_codes, with_mark, blank_cell}
+use Rattle.core_store.specs.Storage.{field_length, cells_ending, put_cells, put_codes, with_mark, blank_cell}
 use Rattle.core_store.specs.Operands.{lowered}
 use Rattle.core_store.specs.declared.registers.Registers.{Registers}
 use Rattle.moves.specs.Marks.{marks_put, storage_cleared}
 use Rattle.moves.specs.Loaded.{field_loaded}
 use Rattle.units.specs.Units.{operated, reader_works, punch_works, printer_works, card_read}
-use Rattle.units.specs.declared.units.Units.{Units}
-use Rattle.units.specs.declared.reader.Hopper.{Hopper}
-use Rattle.machine.specs.declared.decode.Operation.TheVariants.{OnFields, ClearStorage, Operate, NoOperation}
-use Rattle.machine.specs.declared.decode.FieldOperation.TheVariants.{Load, SetMark, ClearMark}
+use Rattle.machine.specs.declared.named.Operation.TheVariants.{OnFields, ClearStorage, Operate, NoOperation}
+use Rattle.machine.specs.declared.operations.FieldOperation.TheVariants.{Load, SetMark, ClearMark}
 use Rattle.machine.specs.declared.operations.Course.TheVariants.{GoesOn}
-use Rattle.machine.specs.Word.{devices}
+use Rattle.machine.specs.Operations.{devices}
 use Rattle.machine.specs.Effect.{Works, effect, worked}
 use Rattle.loader.proofs.LoadingInstructions.{plain}
 

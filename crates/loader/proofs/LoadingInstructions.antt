@@ -1,6 +1,5 @@
 -- how the instructions of loading cards are read
-use Rattle.std.proofs.Common.{◌≡◌, ℕ, ◌+◌, ◌-◌, ◌<◌, ◌≤◌, Bool, true, false, List, [], ◌∷◌, ◌++◌, Option, Some, None, Result, Ok, refl, sym, ◌∙◌, ap, arith, if◌then◌else◌, length, codes, map, min, slice_index, lt-ltb, le-leb}
-use Rattle.std.specs.Option.{option_map}
+use Rattle.std.proofs.Common.{◌≡◌, ℕ, ◌+◌, ◌-◌, ◌<◌, ◌≤◌, true, false, ◌++◌, Some, Ok, refl, arith, if◌then◌else◌, length, codes, min, slice_index, lt-ltb, le-leb}
 use Rattle.bcd.specs.Table.{glyph_of}
 use Rattle.bcd.specs.declared.Zone.TheVariants.{Bare}
 use Rattle.core_store.specs.Storage.{Storage, code_at, is_marked, least_mark}
@@ -9,15 +8,14 @@ use Rattle.addresses.specs.Digits.{code_of, digit_under}
 use Rattle.addresses.specs.Addresses.{encoded, written}
 use Rattle.addresses.specs.Effective.{operand, with_index}
 use Rattle.addresses.proofs.DigitLemmas.{written_read}
-use Rattle.units.specs.declared.devices.Devices.{Devices}
-use Rattle.machine.specs.declared.decode.Operation.{Operation}
-use Rattle.machine.specs.declared.decode.Operation.TheVariants.{OnFields, ClearStorage, Operate, NoOperation}
-use Rattle.machine.specs.declared.decode.FieldOperation.{FieldOperation}
-use Rattle.machine.specs.declared.decode.FieldOperation.TheVariants.{Load, SetMark, ClearMark}
-use Rattle.machine.specs.declared.decode.Modifier.TheVariants.{Plain}
-use Rattle.machine.specs.declared.decode.Decoded.{Decoded}
+use Rattle.machine.specs.declared.named.Operation.{Operation}
+use Rattle.machine.specs.declared.named.Operation.TheVariants.{OnFields, ClearStorage, Operate, NoOperation}
+use Rattle.machine.specs.declared.operations.FieldOperation.TheVariants.{Load, SetMark, ClearMark}
+use Rattle.machine.specs.declared.named.Modifier.TheVariants.{Plain}
+use Rattle.machine.specs.declared.named.Decoded.{Decoded}
 use Rattle.machine.specs.Glyphs.{is_glyph}
-use Rattle.machine.specs.Word.{word_length, ending_in, decoded_of, operation_of, field_operation_of, other_operation_of, has_form, has_field_form, modifier_of, addresses_in, operands_of, operand_at, devices}
+use Rattle.machine.specs.Operations.{operations, row_of, devices}
+use Rattle.machine.specs.Word.{word_length, ending_in, decoded_of, operands_of}
 use Rattle.loader.specs.Cards.{text, instruction, unused, reading}
 
 -- an instruction ends at the next mark
@@ -45,33 +43,33 @@ plain operation count a b = record { operation = operation; length = count; a = 
 -- instructions with two addresses
 module _ (s : Storage) (r : Registers) (x y : ℕ) (x_in : x < length s) (y_in : y < length s) (x_small : x < 16000) (y_small : y < 16000) where
   pub set_is_read : Ok (plain (OnFields SetMark) 7 x y) ≡ decoded_of s 7 r (instruction (codes ",") x y)
-  unfolding decoded_of operation_of field_operation_of other_operation_of has_form has_field_form modifier_of addresses_in operands_of written code_of glyph_of
+  unfolding decoded_of row_of operations operands_of written code_of glyph_of
   set_is_read = rw (operand_is s x x_in x_small, operand_is s y y_in y_small) refl
 
   pub clear_is_read : Ok (plain (OnFields ClearMark) 7 x y) ≡ decoded_of s 7 r (instruction (codes ")") x y)
-  unfolding decoded_of operation_of field_operation_of other_operation_of has_form has_field_form modifier_of addresses_in operands_of written code_of glyph_of
+  unfolding decoded_of row_of operations operands_of written code_of glyph_of
   clear_is_read = rw (operand_is s x x_in x_small, operand_is s y y_in y_small) refl
 
   pub load_is_read : Ok (plain (OnFields Load) 7 x y) ≡ decoded_of s 7 r (instruction (codes "L") x y)
-  unfolding decoded_of operation_of field_operation_of other_operation_of has_form has_field_form modifier_of addresses_in operands_of written code_of glyph_of
+  unfolding decoded_of row_of operations operands_of written code_of glyph_of
   load_is_read = rw (operand_is s x x_in x_small, operand_is s y y_in y_small) refl
 
   pub start_is_read : Ok (plain ClearStorage 7 x y) ≡ decoded_of s 7 r (instruction (codes "/") x y)
-  unfolding decoded_of operation_of field_operation_of other_operation_of has_form has_field_form modifier_of addresses_in operands_of written code_of glyph_of
+  unfolding decoded_of row_of operations operands_of written code_of glyph_of
   start_is_read = rw (operand_is s x x_in x_small, operand_is s y y_in y_small) refl
 
 -- instructions with one address or none
 module _ (s : Storage) (r : Registers) (x : ℕ) (x_in : x < length s) (x_small : x < 16000) where
   pub set_one_is_read : Ok (plain (OnFields SetMark) 4 x x) ≡ decoded_of s 4 r (text (codes ",") ++ encoded x)
-  unfolding decoded_of operation_of field_operation_of other_operation_of has_form has_field_form modifier_of addresses_in operands_of written code_of glyph_of
+  unfolding decoded_of row_of operations operands_of written code_of glyph_of
   set_one_is_read = rw (operand_is s x x_in x_small) refl
 
   pub card_is_read : Ok (plain (Operate (devices 1)) 4 x x) ≡ decoded_of s 4 r (text (codes "1") ++ encoded x)
-  unfolding decoded_of operation_of field_operation_of other_operation_of has_form has_field_form modifier_of addresses_in operands_of written code_of glyph_of
+  unfolding decoded_of row_of operations operands_of written code_of glyph_of
   card_is_read = rw (operand_is s x x_in x_small) refl
 
 pub unused_is_read : (s : Storage) (r : Registers) → Ok (plain NoOperation 7 r.a r.b) ≡ decoded_of s 7 r unused
-unfolding decoded_of operation_of field_operation_of other_operation_of has_form has_field_form modifier_of addresses_in operands_of written code_of glyph_of
+unfolding decoded_of row_of operations operands_of written code_of glyph_of
 unused_is_read s r = refl
 
 pub reading_is : reading ≡ text (codes "1") ++ encoded 40

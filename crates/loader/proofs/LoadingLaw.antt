@@ -1,11 +1,12 @@
 -- all cards of a program
-use Rattle.std.proofs.Common.{◌≡◌, ◌≢◌, ℕ, zero, suc, ◌+◌, ◌-◌, ◌*◌, ◌<◌, ◌≤◌, Bool, true, false, List, [], ◌∷◌, ◌++◌, Option, Some, None, refl, sym, ◌∙◌, ap, ap₂, subst, arith, length, get_or, set, map, take, drop, replicate, codes, slice_get, ext_get_or, if◌then◌else◌, length-append, append_assoc, append-nil, get_or-set_other, length-set, drop-drop, flat_map, All, zero-add, nat_le, take_all, drop_of_length-le, ◌==◌}
+use Rattle.std.proofs.Common.{◌≡◌, ℕ, zero, suc, ◌+◌, ◌*◌, ◌<◌, ◌≤◌, Bool, true, false, List, [], ◌∷◌, ◌++◌, Some, refl, sym, ◌∙◌, ap, ap₂, subst, arith, length, get_or, set, map, take, drop, replicate, codes, slice_get, ext_get_or, if◌then◌else◌, length-append, get_or-set_other, drop-drop, flat_map, All, zero-add, nat_le, take_all, drop_of_length-le, ◌==◌}
 use Rattle.std.proofs.lemmas.List.{length-map, length-replicate}
 use Rattle.std.specs.List.{list_any}
 use Rattle.std.proofs.Math.Decide.{dec_lt}
 use Rattle.cards.specs.declared.decks.Card.{Card}
 use Rattle.core_store.specs.Storage.{Storage, is_marked, put_cells, blank_storage, blank_cell, positions_of}
 use Rattle.core_store.specs.declared.sizes.Size.{Size}
+use Rattle.core_store.proofs.SizeLemmas.{within}
 use Rattle.core_store.specs.declared.registers.Compared.TheVariants.{Equal}
 use Rattle.core_store.proofs.Fields.{length-put_cells, cell-put_cells, cell-put_cells_above}
 use Rattle.addresses.specs.Addresses.{written}
@@ -26,7 +27,7 @@ use Rattle.loader.proofs.PieceBounds.{lawful_contiguous, lawful_length, lawful_m
 use Rattle.loader.proofs.StretchLaw.{is_split}
 use Rattle.loader.proofs.PlaceOrders.{orders_of, few_orders, three_of}
 use Rattle.loader.proofs.LoadingSteps.{At, units_with, ends_at, by_start}
-use Rattle.loader.proofs.LoadingBoot.{large_enough, repeated, booted}
+use Rattle.loader.proofs.LoadingBoot.{repeated, booted}
 use Rattle.loader.proofs.PieceTexts.{card_size}
 use Rattle.loader.proofs.LoadingCards.{position_is, orders_high, carries}
 
@@ -215,7 +216,7 @@ module _ (size : Size) (image : List Cell) (start : ℕ) (data_cards : List Card
   good = all_good (positions_of size) image ranged
 
   small : positions_of size ≤ 16000
-  small = (large_enough size).1
+  small = (within size).1
 
   all_of : (xs : List (List Cell)) → length xs ≤ length xs
   all_of xs = omega arith

@@ -1,18 +1,19 @@
 -- a machine while loading cards are run, and its steps
-use Rattle.std.proofs.Common.{◌≡◌, ℕ, ◌+◌, ◌-◌, ◌<◌, ◌≤◌, ◌%◌, Bool, true, false, List, [], ◌∷◌, ◌++◌, Option, Some, None, Result, Ok, refl, sym, ◌∙◌, ap, subst, arith, length, take, drop, replicate, slice_get, codes, mod-eq_of_lt}
+use Rattle.std.proofs.Common.{◌≡◌, ℕ, ◌+◌, ◌-◌, ◌<◌, ◌≤◌, ◌%◌, true, false, List, [], ◌++◌, Some, None, Ok, refl, sym, ◌∙◌, ap, subst, arith, length, take, drop, replicate, slice_get, codes, mod-eq_of_lt}
 use Rattle.cards.specs.declared.decks.Card.{Card}
-use Rattle.core_store.specs.Storage.{Storage, is_marked, least_mark, field_length, cells_ending, put_cells, put_codes, with_mark, blank_cell, codes_from}
+use Rattle.core_store.specs.Storage.{Storage, least_mark, field_length, cells_ending, put_cells, with_mark, blank_cell, codes_from}
 use Rattle.core_store.specs.declared.registers.Compared.TheVariants.{Equal}
 use Rattle.addresses.specs.Addresses.{encoded}
 use Rattle.units.specs.declared.switches.Switches.{Switches}
 use Rattle.units.specs.Switches.{seven}
 use Rattle.units.specs.declared.units.Units.{Units}
-use Rattle.machine.specs.declared.decode.Decoded.{Decoded}
-use Rattle.machine.specs.declared.decode.Operation.TheVariants.{OnFields, ClearStorage, Operate, NoOperation}
-use Rattle.machine.specs.declared.decode.FieldOperation.TheVariants.{Load, SetMark, ClearMark}
+use Rattle.machine.specs.declared.named.Decoded.{Decoded}
+use Rattle.machine.specs.declared.named.Operation.TheVariants.{OnFields, ClearStorage, Operate, NoOperation}
+use Rattle.machine.specs.declared.operations.FieldOperation.TheVariants.{Load, SetMark, ClearMark}
 use Rattle.machine.specs.declared.operations.Course.TheVariants.{GoesOn}
 use Rattle.machine.specs.declared.standings.Standing.TheVariants.{Running}
-use Rattle.machine.specs.Word.{word_length, decoded_of, devices}
+use Rattle.machine.specs.Operations.{devices}
+use Rattle.machine.specs.Word.{word_length, decoded_of}
 use Rattle.machine.specs.Effect.{Works, attempt, effect, next_of}
 use Rattle.machine.specs.Run.{State, step}
 use Rattle.machine.proofs.Steps.{attempt_is}

@@ -8,6 +8,12 @@
 //! stretches are the one split of the image into longest ones (`specs/Stretches.antt`); and run on
 //! a machine that is large enough, it leaves the program in a storage that is blank otherwise, at
 //! its start, with the data unread (`specs/Loading.antt`). It takes memory for the deck alone.
+//!
+//! Laws over the definitions: there is one split into longest stretches
+//! ([`stretches_are_longest`]); the cards load the program, one card after the other
+//! ([`cards_load_the_program`]); this holds of every source without faults, on any machine of at
+//! least its size ([`faultless_sources_load`]); and a larger storage takes what a smaller one takes
+//! ([`larger_storages_can_be_loaded`]).
 #![tactic(auto)]
 
 mod columns;

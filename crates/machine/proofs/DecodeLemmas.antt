@@ -1,65 +1,87 @@
 -- how an instruction is decoded from its characters
-use Rattle.std.proofs.Common.{◌≡◌, ℕ, ◌-◌, ◌<◌, Bool, true, false, List, Option, Some, None, Result, Ok, Err, refl, sym, ◌∙◌, unwrap_or, slice_index, ◌==◌, if◌then◌else◌, arith}
-use Rattle.std.specs.Option.{option_map}
-use Rattle.std.proofs.lemmas.Bool.{eqb-true}
+use Rattle.std.proofs.Common.{◌≡◌, ℕ, ◌-◌, ◌<◌, true, false, List, [], ◌∷◌, Option, Some, None, Result, Ok, Err, refl, sym, ◌∙◌, ap, subst, unwrap_or, slice_index, is_some}
+use Rattle.std.specs.Option.{option_map, option_and_then}
 use Rattle.core_store.specs.Storage.{Storage}
 use Rattle.units.specs.Carriages.{order_of}
 use Rattle.units.specs.declared.carriage.CarriageOrder.{CarriageOrder}
 use Rattle.machine.specs.declared.branches.Condition.{Condition}
 use Rattle.machine.specs.declared.branches.PositionTest.{PositionTest}
-use Rattle.core_store.specs.Checked.{require, find_or, and_then}
+use Rattle.core_store.specs.Checked.{find_or, and_then}
 use Rattle.core_store.specs.declared.checks.Check.{Check}
 use Rattle.core_store.specs.declared.checks.Check.TheVariants.{Instruction}
 use Rattle.core_store.specs.declared.registers.Registers.{Registers}
-use Rattle.machine.specs.declared.decode.Operation.{Operation}
-use Rattle.machine.specs.declared.decode.Operation.TheVariants.{OnFields, ClearStorage, Branch, BranchOnMarkOrZone, Operate, MoveCarriage, StoreA, StoreB, Halt, NoOperation}
-use Rattle.machine.specs.declared.decode.Modifier.{Modifier}
-use Rattle.machine.specs.declared.decode.Modifier.TheVariants.{Plain, OnCondition, OnCharacter, OnTest, ByOrder}
+use Rattle.machine.specs.declared.named.Modifier.{Modifier}
+use Rattle.machine.specs.declared.named.Modifier.TheVariants.{Plain, OnCondition, OnCharacter, OnTest, ByOrder}
 use Rattle.machine.specs.Branches.{condition_of, test_of}
-use Rattle.machine.specs.Instructions.{operation_by, modifier_by, addresses_by, is_form, is_last}
-use Rattle.machine.specs.Word.{decoded_of, operation_of, has_form, modifier_of, addresses_in, address_count, operands_of, LooksInside, WantsTwo}
+use Rattle.machine.specs.Instructions.{operation_by, modifier_by, addresses_by, is_form, is_last, form_or_first}
+use Rattle.machine.specs.Operations.{Last, says_nothing, names_condition, is_compared, names_test, names_order, Form, Row, row_of, form_among, meant, modifier_at}
+use Rattle.machine.specs.Word.{decoded_of, operands_of, LooksInside, WantsTwo}
+use Rattle.machine.proofs.FormTables.{IsFormed, formed, form_is, looks, looks_at}
 
 -- ---- what is named
 
-named_form : (count : ℕ) (found : Option Operation) → unwrap_or (option_map (λ operation. has_form operation count) found) false ≡ true →
-    (found ≡ Some (unwrap_or found NoOperation)) × (has_form (unwrap_or found NoOperation) count ≡ true)
-named_form count (Some found) h = (refl, h)
-named_form count None h = absurd (cc)
+module _ (first count : ℕ) (f : IsFormed first count) where
+  operation_is : operation_by first ≡ f.row.operation
+  unfolding operation_by
+  operation_is = rw f.named refl
 
-pub form_named : (first count : ℕ) → is_form first count ≡ true → (operation_of first ≡ Some (operation_by first)) × (has_form (operation_by first) count ≡ true)
-unfolding is_form operation_by
-form_named first count h = named_form count (operation_of first) h
+  addresses_is : addresses_by first count ≡ f.form.addresses
+  unfolding addresses_by
+  addresses_is = rw (form_is first count f) refl
 
-named_last : (found : Option Modifier) → unwrap_or (option_map (λ _. true) found) false ≡ true → found ≡ Some (unwrap_or found Plain)
+  modifier_is : (last : ℕ) → modifier_at first count last ≡ meant f.form.last last
+  modifier_is last = rw (form_is first count f) refl
+
+  modifier_taken : (last : ℕ) → modifier_by first count last ≡ unwrap_or (meant f.form.last last) Plain
+  unfolding modifier_by
+  modifier_taken last = rw f.named (rw (first_or f.row.forms f.formed) refl)
+    where
+      first_or : (forms : List Form) → form_among forms count ≡ Some f.form → form_or_first forms count ≡ Some f.form
+      first_or [] h = absurd (cc)
+      first_or (form ∷ forms) h = rw h refl
+
+pub operation_named : (first count : ℕ) → is_form first count ≡ true → option_map (λ row. row.operation) (row_of first) ≡ Some (operation_by first)
+operation_named first count h =
+    let f = formed first count h in
+    ap (option_map (λ row. row.operation)) f.named ∙ ap Some (sym (operation_is first count f))
+
+named_last : (found : Option Modifier) → is_some found ≡ true → found ≡ Some (unwrap_or found Plain)
 named_last (Some modifier) h = refl
 named_last None h = absurd (cc)
 
-pub last_named : (first count last : ℕ) → is_last first count last ≡ true → modifier_of (operation_by first) count last ≡ Some (modifier_by first count last)
-unfolding is_last modifier_by
-last_named first count last h = named_last (modifier_of (operation_by first) count last) h
+pub last_named : (first count last : ℕ) → is_form first count ≡ true → is_last first count last ≡ true → modifier_at first count last ≡ Some (modifier_by first count last)
+unfolding is_last
+last_named first count last form h =
+    let f = formed first count form in
+    let means = modifier_is first count f last in
+    named_last (modifier_at first count last) h ∙ ap (λ found. Some (unwrap_or found Plain)) means ∙ ap Some (sym (modifier_taken first count f last))
 
-unnamed_last : (found : Option Modifier) → unwrap_or (option_map (λ _. true) found) false ≡ false → found ≡ None
+unnamed_last : (found : Option Modifier) → is_some found ≡ false → found ≡ None
 unnamed_last (Some modifier) h = absurd (cc)
 unnamed_last None h = refl
 
 -- ---- the order of the checks
 
-no_form : {T : Type 0} (count : ℕ) (found : Option Operation) (rest : Operation → Result T Check) → unwrap_or (option_map (λ operation. has_form operation count) found) false ≡ false →
-    find_or found Instruction (λ operation. require (has_form operation count) Instruction (rest operation)) ≡ Err Instruction
-no_form count (Some found) rest h = rw h refl
-no_form count None rest h = refl
+no_form : {T : Type 0} (found : Option Form) (rest : Form → Result T Check) → is_some found ≡ false → find_or found Instruction rest ≡ Err Instruction
+no_form (Some form) rest h = absurd (cc)
+no_form None rest h = refl
+
+no_row : {T : Type 0} (count : ℕ) (found : Option Row) (rest : Row → Form → Result T Check) → is_some (option_and_then (λ row. form_among row.forms count) found) ≡ false →
+    find_or found Instruction (λ row. find_or (form_among row.forms count) Instruction (rest row)) ≡ Err Instruction
+no_row count (Some row) rest h = no_form (form_among row.forms count) (rest row) h
+no_row count None rest h = refl
 
 module _ (s : Storage) (count : ℕ) (r : Registers) (codes : List ℕ) where
   pub refused_form : is_form (slice_index codes 0) count ≡ false → decoded_of s count r codes ≡ Err Instruction
   unfolding is_form decoded_of
-  refused_form h = no_form count (operation_of (slice_index codes 0)) _ h
+  refused_form h = no_row count (row_of (slice_index codes 0)) _ h
 
   pub refused_last : is_form (slice_index codes 0) count ≡ true → is_last (slice_index codes 0) count (slice_index codes (count - 1)) ≡ false → decoded_of s count r codes ≡ Err Instruction
   unfolding is_last decoded_of
   refused_last form h =
-      let (found, has) = form_named (slice_index codes 0) count form in
-      let none = unnamed_last (modifier_of (operation_by (slice_index codes 0)) count (slice_index codes (count - 1))) h in
-      rw (found, has, none) refl
+      let f = formed (slice_index codes 0) count form in
+      let none = sym (modifier_is (slice_index codes 0) count f (slice_index codes (count - 1))) ∙ unnamed_last (modifier_at (slice_index codes 0) count (slice_index codes (count - 1))) h in
+      rw (f.named, f.formed, none) refl
 
   -- what is left once the operation, the form and the last character are known
   pub decoded_is : is_form (slice_index codes 0) count ≡ true → is_last (slice_index codes 0) count (slice_index codes (count - 1)) ≡ true →
@@ -70,11 +92,12 @@ module _ (s : Storage) (count : ℕ) (r : Registers) (codes : List ℕ) where
         b = operands.1;
         modifier = modifier_by (slice_index codes 0) count (slice_index codes (count - 1));
       }))
-  unfolding decoded_of addresses_by
+  unfolding decoded_of
   decoded_is form last =
-      let (found, has) = form_named (slice_index codes 0) count form in
-      let means = last_named (slice_index codes 0) count (slice_index codes (count - 1)) last in
-      rw (found, has, means) refl
+      let first = slice_index codes 0 in
+      let f = formed first count form in
+      let means = sym (modifier_is first count f (slice_index codes (count - 1))) ∙ last_named first count (slice_index codes (count - 1)) form last in
+      rw (operation_is first count f, addresses_is first count f, f.named, f.formed, means) refl
 
 -- the same by the first and the last character as they were read
 module _ (s : Storage) (count : ℕ) (r : Registers) (codes : List ℕ) (first last : ℕ) (is_first : first ≡ slice_index codes 0) (is_end : last ≡ slice_index codes (count - 1)) where
@@ -97,12 +120,9 @@ module _ (s : Storage) (count : ℕ) (r : Registers) (codes : List ℕ) (first l
 
 -- ---- a position that is tested is that of a second address
 
-branch_two : (five eight : Bool) (found : Option Condition) (last count : ℕ) → (eight ≡ true → 1 < count) →
-    WantsTwo (unwrap_or (if five then option_map (λ condition. OnCondition condition) found else (if eight then Some (OnCharacter last) else Some Plain)) Plain) count
-branch_two true eight (Some condition) last count h = tt
-branch_two true eight None last count h = tt
-branch_two false true found last count h = h refl
-branch_two false false found last count h = tt
+condition_two : (found : Option Condition) (count : ℕ) → WantsTwo (unwrap_or (option_map (λ condition. OnCondition condition) found) Plain) count
+condition_two (Some condition) count = tt
+condition_two None count = tt
 
 test_two : (found : Option PositionTest) (count : ℕ) → 1 < count → WantsTwo (unwrap_or (option_map (λ test. OnTest test) found) Plain) count
 test_two (Some test) count h = h
@@ -112,21 +132,12 @@ order_two : (found : Option CarriageOrder) (count : ℕ) → WantsTwo (unwrap_or
 order_two (Some order) count = tt
 order_two None count = tt
 
-eight_two : (count : ℕ) → (count == 8) ≡ true → 1 < address_count count
-eight_two count h = let two : 1 < 2 = omega arith in rw (eqb-true count 8 h) two
-
-two_of : (operation : Operation) (count last : ℕ) → has_form operation count ≡ true → WantsTwo (unwrap_or (modifier_of operation count last) Plain) (addresses_in operation count)
-unfolding modifier_of addresses_in has_form
-two_of (OnFields operation) count last h = tt
-two_of ClearStorage count last h = tt
-two_of Branch count last h = branch_two (count == 5) (count == 8) (condition_of last) last (address_count count) (eight_two count)
-two_of BranchOnMarkOrZone count last h = test_two (test_of last) (address_count count) (eight_two count h)
-two_of (Operate devices) count last h = tt
-two_of MoveCarriage count last h = order_two (order_of last) (address_count count)
-two_of StoreA count last h = tt
-two_of StoreB count last h = tt
-two_of Halt count last h = tt
-two_of NoOperation count last h = tt
+two_of : (says : Last) (last count : ℕ) → (looks says ≡ true → 1 < count) → WantsTwo (unwrap_or (meant says last) Plain) count
+two_of says_nothing last count h = tt
+two_of names_condition last count h = condition_two (condition_of last) count
+two_of is_compared last count h = h refl
+two_of names_test last count h = test_two (test_of last) count (h refl)
+two_of names_order last count h = order_two (order_of last) count
 
 inside : (modifier : Modifier) (count b size : ℕ) → WantsTwo modifier count → (1 < count → b < size) → LooksInside modifier b size
 inside Plain count b size two h = tt
@@ -136,6 +147,8 @@ inside (OnTest test) count b size two h = h two
 inside (ByOrder order) count b size two h = tt
 
 pub looks_inside : (first count last b size : ℕ) → is_form first count ≡ true → (1 < addresses_by first count → b < size) → LooksInside (modifier_by first count last) b size
-unfolding modifier_by addresses_by
 looks_inside first count last b size form h =
-    inside _ (addresses_in (operation_by first) count) b size (two_of (operation_by first) count last (form_named first count form).1) h
+    let f = formed first count form in
+    rw (modifier_taken first count f last)
+    (inside (unwrap_or (meant f.form.last last) Plain) f.form.addresses b size (two_of f.form.last last f.form.addresses (looks_at first count f))
+    (subst (λ n. 1 < n → b < size) (addresses_is first count f) h))

@@ -1,18 +1,16 @@
 -- the tables of the forms
-use Rattle.std.proofs.Common.{◌≡◌, ℕ, zero, suc, ◌/◌, ◌%◌, ◌^◌, ◌<◌, ◌≤◌, ◌≢◌, ◌==◌, ◌&&◌, ◌||◌, not, Bool, true, false, Option, Some, None, refl, sym, ap, ◌∙◌, arith, if◌then◌else◌, get_or, unwrap_or}
-use Rattle.std.specs.Option.{option_map}
-use Rattle.std.proofs.lemmas.Bool.{eqb-true, ne_eqb, eq-eqb, lt-ltb, le-ltb}
+use Rattle.std.proofs.Common.{◌≡◌, ℕ, zero, suc, ◌/◌, ◌%◌, ◌^◌, ◌<◌, ◌≤◌, ◌≢◌, ◌==◌, ◌&&◌, ◌||◌, not, Bool, true, false, List, [], ◌∷◌, Option, Some, None, refl, sym, ap, ◌∙◌, arith, if◌then◌else◌, get_or, is_some, leb, ltb}
+use Rattle.std.specs.Option.{option_map, option_and_then}
+use Rattle.std.proofs.lemmas.Bool.{eqb-true, leb-true, ltb-true, ne_eqb, eq-eqb, lt-ltb, le-ltb}
 use Rattle.bcd.specs.Table.{glyph_of}
 use Rattle.std.proofs.Math.Decide.{dec_lt}
 use Rattle.bcd.proofs.Tables.{at_each}
 use Rattle.units.specs.Carriages.{order_of}
 use Rattle.machine.specs.declared.forms.TheConstants.{FORMS, CONDITIONS, TESTS, ORDERS}
-use Rattle.machine.specs.declared.decode.Operation.{Operation}
-use Rattle.machine.specs.declared.decode.Operation.TheVariants.{OnFields, ClearStorage, Branch, BranchOnMarkOrZone, Operate, MoveCarriage, StoreA, StoreB, Halt, NoOperation}
-use Rattle.machine.specs.declared.decode.Modifier.TheVariants.{Plain, OnCondition, OnCharacter, OnTest, ByOrder}
+use Rattle.machine.specs.declared.named.Modifier.TheVariants.{OnCondition, OnTest, ByOrder}
 use Rattle.machine.specs.Branches.{condition_of, test_of}
-use Rattle.machine.specs.Instructions.{operation_by, addresses_by, is_form, is_last}
-use Rattle.machine.specs.Word.{operation_of, field_operation_of, other_operation_of, has_form, has_field_form, modifier_of, addresses_in, address_count}
+use Rattle.machine.specs.Instructions.{addresses_by, is_form, is_last}
+use Rattle.machine.specs.Operations.{Last, says_nothing, names_condition, is_compared, names_test, names_order, Form, Row, operations, row_among, row_of, form_among, form_of, meant}
 
 -- ---- two truths are the same
 
@@ -26,189 +24,234 @@ same_is true false h = absurd (cc)
 same_is false true h = absurd (cc)
 same_is false false h = refl
 
+both : (a b : Bool) → (a && b) ≡ true → (a ≡ true) × (b ≡ true)
+both true b h = (refl, h)
+both false b h = absurd (cc)
+
+-- ---- a rule of each form in the table, by computation
+
+-- whether a last character is looked for at the second address
+abbrev pub looks : Last → Bool
+looks says_nothing = false
+looks names_condition = false
+looks is_compared = true
+looks names_test = true
+looks names_order = false
+
+-- a form has at most eight characters, and a second address where one is looked at
+abbrev is_sound : Form → Bool
+is_sound form = leb form.length 8 && (not (looks form.last) || ltb 1 form.addresses)
+
+abbrev are_sound : List Form → Bool
+are_sound [] = true
+are_sound (form ∷ forms) = is_sound form && are_sound forms
+
+abbrev have_sound : List Row → Bool
+have_sound [] = true
+have_sound (row ∷ rows) = are_sound row.forms && have_sound rows
+
+-- what is found among the forms is one of them, and has the length that is looked for
+found_form : (forms : List Form) (count : ℕ) (form : Form) → are_sound forms ≡ true → form_among forms count ≡ Some form → (is_sound form ≡ true) × (count ≡ form.length)
+found_form [] count form all found = absurd (cc)
+found_form (first ∷ rest) count form all found = go (count == first.length) refl (found_form rest count form (both (is_sound first) _ all).1) found
+  where
+    go : (b : Bool) → (count == first.length) ≡ b → (form_among rest count ≡ Some form → (is_sound form ≡ true) × (count ≡ form.length)) →
+        (if b then Some first else form_among rest count) ≡ Some form → (is_sound form ≡ true) × (count ≡ form.length)
+    go true e later found =
+        let it : first ≡ form = cc in
+        (ap is_sound (sym it) ∙ (both _ _ all).0, eqb-true count first.length e ∙ ap (λ (f : Form). f.length) it)
+    go false e later found = later found
+
+found_row : (rows : List Row) (code : ℕ) (row : Row) → have_sound rows ≡ true → row_among rows code ≡ Some row → are_sound row.forms ≡ true
+found_row [] code row all found = absurd (cc)
+found_row (first ∷ rest) code row all found = go _ (found_row rest code row (both (are_sound first.forms) _ all).1) found
+  where
+    go : (b : Bool) → (row_among rest code ≡ Some row → are_sound row.forms ≡ true) → (if b then Some first else row_among rest code) ≡ Some row → are_sound row.forms ≡ true
+    go true later found = let it : first ≡ row = cc in ap (λ (r : Row). are_sound r.forms) (sym it) ∙ (both _ _ all).0
+    go false later found = later found
+
+sound_row : (code : ℕ) (row : Row) → row_of code ≡ Some row → are_sound row.forms ≡ true
+unfolding row_of operations
+sound_row code row found = found_row operations code row refl found
+
+-- the row and the form of an instruction
+pub record IsFormed (first count : ℕ) : Type 0 where
+  pub row : Row
+  pub form : Form
+  pub named : row_of first ≡ Some row
+  pub formed : form_among row.forms count ≡ Some form
+
+pub formed : (first count : ℕ) → is_form first count ≡ true → IsFormed first count
+unfolding is_form
+formed first count h = by_row (row_of first) refl h
+  where
+    by_form : (row : Row) → row_of first ≡ Some row → (found : Option Form) → form_among row.forms count ≡ found → is_some found ≡ true → IsFormed first count
+    by_form row named (Some form) e h = record { row = row; form = form; named = named; formed = e }
+    by_form row named None e h = absurd (cc)
+
+    by_row : (found : Option Row) → row_of first ≡ found → is_some (option_and_then (λ row. form_among row.forms count) found) ≡ true → IsFormed first count
+    by_row (Some row) e h = by_form row e (form_among row.forms count) refl h
+    by_row None e h = absurd (cc)
+
+module _ (first count : ℕ) (f : IsFormed first count) where
+  pub form_is : form_of first count ≡ Some f.form
+  form_is = rw f.named f.formed
+
+  of_table : (is_sound f.form ≡ true) × (count ≡ f.form.length)
+  of_table = found_form f.row.forms count f.form (sound_row first f.row f.named) f.formed
+
+  pub looks_at : looks f.form.last ≡ true → 1 < f.form.addresses
+  looks_at h =
+      let rule : (not (looks f.form.last) || ltb 1 f.form.addresses) ≡ true = (both _ _ of_table.0).1 in
+      let more : ltb 1 f.form.addresses ≡ true = rw h at rule in
+      ltb-true _ _ more
+
+  pub is_short : count ≤ 8
+  is_short = let few : f.form.length ≤ 8 = leb-true _ _ (both _ _ of_table.0).0 in omega (arith, of_table.1)
+
 -- ---- the test holds of each number below n
 
 abbrev pub each_below : (ℕ → Bool) → ℕ → Bool
 each_below test zero = true
 each_below test (suc n) = test n && each_below test n
 
-both : (a b : Bool) → (a && b) ≡ true → (a ≡ true) × (b ≡ true)
-both true b h = (refl, h)
-both false b h = absurd (cc)
-
 pub at_one : (test : ℕ → Bool) (n : ℕ) → each_below test n ≡ true → (k : ℕ) → k < n → test k ≡ true
 at_one test zero all k h = absurd (omega arith)
 at_one test (suc n) all k h = let parts = both (test n) (each_below test n) all in
     elim (dec_lt k n) [ yes low ↦ at_one test n parts.1 k low | no high ↦ let same : k ≡ n = omega arith in rw same parts.0 ]
 
--- ---- the forms of each character, by computation
+-- ---- the code's table of forms beside the table of operations, by computation
 
 abbrev pub bit : ℕ → ℕ → Bool
 bit set place = set / 2 ^ place % 2 == 1
 
-abbrev formed : Option Operation → ℕ → Bool
-formed named count = unwrap_or (option_map (λ operation. has_form operation count) named) false
+-- what a last character says, as a number
+abbrev number_of : Last → ℕ
+number_of says_nothing = 0
+number_of names_condition = 1
+number_of is_compared = 2
+number_of names_test = 3
+number_of names_order = 4
 
-abbrev forms_agree : ℕ → Option Operation → Bool
-forms_agree forms named = each_below (λ count. same (bit forms count) (formed named count)) 9
-
-pub form_at : (first count : ℕ) → first < 64 → count ≤ 8 → bit (get_or FORMS first 0) count ≡ is_form first count
-unfolding is_form operation_of field_operation_of other_operation_of has_form has_field_form glyph_of
-form_at first count low short =
-    let here : forms_agree (get_or FORMS first 0) (operation_of first) ≡ true =
-    at_each (λ n. forms_agree (get_or FORMS n 0) (operation_of n)) 64 refl first low in
-    same_is _ _ (at_one (λ k. same (bit (get_or FORMS first 0) k) (formed (operation_of first) k)) 9 here count (omega arith))
-
--- ---- what a form of a character is a form of
-
-abbrev lasts : Operation → ℕ → ℕ
-lasts Branch count = if count == 5 then 1 else (if count == 8 then 2 else 0)
-lasts BranchOnMarkOrZone count = 3
-lasts MoveCarriage count = 4
-lasts _ count = 0
-
--- whether the last character of each form is of the sort that the code takes it for
-abbrev sorts_agree : ℕ → ℕ → Option Operation → ℕ → Bool
-sorts_agree sort first named count = not (formed named count) || lasts (unwrap_or named NoOperation) count == sort
-
+-- what the code takes a last character to say
 abbrev sort_of : ℕ → ℕ → ℕ
 sort_of first count =
     if first == 37 then 0
     else (if bit 146 count then 0
     else (if count == 5 then 1 else (if count == 2 then 4 else (if first == 21 then 3 else 2))))
 
-abbrev all_agree : ℕ → Option Operation → Bool
-all_agree first named = each_below (λ count. sorts_agree (sort_of first count) first named count) 9
+-- how many addresses the code reads
+abbrev read_by : ℕ → ℕ → ℕ
+read_by first count =
+    if first == 37 then 0 else (if ltb count 4 then 0 else (if ltb count 7 then 1 else 2))
 
-second : (a b : Bool) → (not a || b) ≡ true → a ≡ true → b ≡ true
-second true b h sure = h
-second false b h sure = absurd (cc)
+-- whether the code takes a form as the table gives it
+abbrev agrees : Bool → ℕ → ℕ → Option Form → Bool
+agrees has first count None = not has
+agrees has first count (Some form) = has && (number_of form.last == sort_of first count && form.addresses == read_by first count)
 
-pub sort_at : (first count : ℕ) → first < 64 → count ≤ 8 → is_form first count ≡ true → lasts (operation_by first) count ≡ sort_of first count
-unfolding is_form operation_by operation_of field_operation_of other_operation_of has_form has_field_form glyph_of
-sort_at first count low short form =
-    let here : all_agree first (operation_of first) ≡ true = at_each (λ n. all_agree n (operation_of n)) 64 refl first low in
-    eqb-true _ _ (second _ _ (at_one (λ k. sorts_agree (sort_of first k) first (operation_of first) k) 9 here count (omega arith)) form)
+abbrev all_agree : ℕ → ℕ → Option Row → Bool
+all_agree lengths first found = each_below (λ count. agrees (bit lengths count) first count (option_and_then (λ row. form_among row.forms count) found)) 9
 
--- ---- the last characters by sort
+agrees_at : (first count : ℕ) → first < 64 → count ≤ 8 → agrees (bit (get_or FORMS first 0) count) first count (form_of first count) ≡ true
+unfolding row_of operations glyph_of
+agrees_at first count low short =
+    at_one (λ k. agrees (bit (get_or FORMS first 0) k) first k (form_of first k)) 9
+    (at_each (λ n. all_agree (get_or FORMS n 0) n (row_of n)) 64 refl first low) count (omega arith)
 
-abbrev pub named : {T : Type 0} → Option T → Bool
-named found = unwrap_or (option_map (λ _. true) found) false
+has_form : (has : Bool) (first count : ℕ) (found : Option Form) → agrees has first count found ≡ true → has ≡ is_some found
+has_form true first count None h = absurd (cc)
+has_form false first count None h = refl
+has_form has first count (Some form) h = (both has _ h).0
 
-named_map : {S T : Type 0} (f : S → T) (found : Option S) → named (option_map f found) ≡ named found
-named_map f (Some x) = refl
-named_map f None = refl
+pub form_at : (first count : ℕ) → first < 64 → count ≤ 8 → bit (get_or FORMS first 0) count ≡ is_form first count
+unfolding is_form
+form_at first count low short = has_form _ first count (form_of first count) (agrees_at first count low short)
 
--- what is allowed as the last character of each sort
+taken_as : (has : Bool) (first count : ℕ) (form : Form) → agrees has first count (Some form) ≡ true → (number_of form.last ≡ sort_of first count) × (form.addresses ≡ read_by first count)
+taken_as has first count form h =
+    let rules = both _ _ (both has _ h).1 in (eqb-true _ _ rules.0, eqb-true _ _ rules.1)
+
+-- ---- the last characters
+
+some_map : {S T : Type 0} (f : S → T) (found : Option S) → is_some (option_map f found) ≡ is_some found
+some_map f (Some x) = refl
+some_map f None = refl
+
+-- what is allowed as the last character, by what it says
 abbrev allowed : ℕ → ℕ → Bool
 allowed sort last =
-    if sort == 1 then named (condition_of last) else (if sort == 3 then named (test_of last) else (if sort == 4 then named (order_of last) else true))
+    if sort == 1 then is_some (condition_of last) else (if sort == 3 then is_some (test_of last) else (if sort == 4 then is_some (order_of last) else true))
 
-branch_last : (five eight : Bool) (last : ℕ) →
-    named (if five then option_map (λ condition. OnCondition condition) (condition_of last) else (if eight then Some (OnCharacter last) else Some Plain))
-    ≡ allowed (if five then 1 else (if eight then 2 else 0)) last
-branch_last true eight last = named_map (λ condition. OnCondition condition) (condition_of last)
-branch_last false true last = refl
-branch_last false false last = refl
-
-last_of : (operation : Operation) (count last : ℕ) → named (modifier_of operation count last) ≡ allowed (lasts operation count) last
-unfolding modifier_of
-last_of (OnFields operation) count last = refl
-last_of ClearStorage count last = refl
-last_of Branch count last = branch_last (count == 5) (count == 8) last
-last_of BranchOnMarkOrZone count last = named_map (λ test. OnTest test) (test_of last)
-last_of (Operate devices) count last = refl
-last_of MoveCarriage count last = named_map (λ order. ByOrder order) (order_of last)
-last_of StoreA count last = refl
-last_of StoreB count last = refl
-last_of Halt count last = refl
-last_of NoOperation count last = refl
-
-pub last_at : (first count last : ℕ) → first < 64 → count ≤ 8 → is_form first count ≡ true → is_last first count last ≡ allowed (sort_of first count) last
-unfolding is_last
-last_at first count last low short form =
-    last_of (operation_by first) count last ∙ ap (λ sort. allowed sort last) (sort_at first count low short form)
-
--- ---- the same by what the code tests
+is_allowed : (says : Last) (last : ℕ) → is_some (meant says last) ≡ allowed (number_of says) last
+is_allowed says_nothing last = refl
+is_allowed names_condition last = some_map (λ condition. OnCondition condition) (condition_of last)
+is_allowed is_compared last = refl
+is_allowed names_test last = some_map (λ test. OnTest test) (test_of last)
+is_allowed names_order last = some_map (λ order. ByOrder order) (order_of last)
 
 module _ (first count last : ℕ) (low : first < 64) (short : count ≤ 8) (form : is_form first count ≡ true) where
+  last_at : is_last first count last ≡ allowed (sort_of first count) last
+  unfolding is_last
+  last_at =
+      let f = formed first count form in
+      let here = taken_as _ first count f.form (ap (agrees (bit (get_or FORMS first 0) count) first count) (sym (form_is first count f)) ∙ agrees_at first count low short) in
+      ap (λ found. is_some (option_and_then (λ (x : Form). meant x.last last) found)) (form_is first count f)
+      ∙ is_allowed f.form.last last ∙ ap (λ sort. allowed sort last) here.0
+
   pub no_operation_last : first ≡ 37 → true ≡ is_last first count last
-  no_operation_last none = sym (last_at first count last low short form ∙ rw (eq-eqb first 37 none) refl)
+  no_operation_last none = sym (last_at ∙ rw (eq-eqb first 37 none) refl)
 
   pub free_last : first ≢ 37 → 146 / 2 ^ count % 2 ≡ 1 → true ≡ is_last first count last
-  free_last some free = sym (last_at first count last low short form ∙ rw (ne_eqb first 37 some, eq-eqb (146 / 2 ^ count % 2) 1 free) refl)
+  free_last some free = sym (last_at ∙ rw (ne_eqb first 37 some, eq-eqb (146 / 2 ^ count % 2) 1 free) refl)
 
-  pub condition_last : first ≢ 37 → 146 / 2 ^ count % 2 ≢ 1 → count ≡ 5 → named (condition_of last) ≡ is_last first count last
-  condition_last some bound five =
-      sym (last_at first count last low short form ∙ rw (ne_eqb first 37 some, ne_eqb (146 / 2 ^ count % 2) 1 bound, eq-eqb count 5 five) refl)
+  pub condition_last : first ≢ 37 → 146 / 2 ^ count % 2 ≢ 1 → count ≡ 5 → is_some (condition_of last) ≡ is_last first count last
+  condition_last some bound five = sym (last_at ∙ rw (ne_eqb first 37 some, ne_eqb (146 / 2 ^ count % 2) 1 bound, eq-eqb count 5 five) refl)
 
-  pub order_last : first ≢ 37 → 146 / 2 ^ count % 2 ≢ 1 → count ≢ 5 → count ≡ 2 → named (order_of last) ≡ is_last first count last
+  pub order_last : first ≢ 37 → 146 / 2 ^ count % 2 ≢ 1 → count ≢ 5 → count ≡ 2 → is_some (order_of last) ≡ is_last first count last
   order_last some bound not_five pair =
-      sym (last_at first count last low short form ∙ rw (ne_eqb first 37 some, ne_eqb (146 / 2 ^ count % 2) 1 bound, ne_eqb count 5 not_five, eq-eqb count 2 pair) refl)
+      sym (last_at ∙ rw (ne_eqb first 37 some, ne_eqb (146 / 2 ^ count % 2) 1 bound, ne_eqb count 5 not_five, eq-eqb count 2 pair) refl)
 
-  pub test_last : first ≢ 37 → 146 / 2 ^ count % 2 ≢ 1 → count ≢ 5 → count ≢ 2 → first ≡ 21 → named (test_of last) ≡ is_last first count last
+  pub test_last : first ≢ 37 → 146 / 2 ^ count % 2 ≢ 1 → count ≢ 5 → count ≢ 2 → first ≡ 21 → is_some (test_of last) ≡ is_last first count last
   test_last some bound not_five not_two on_test =
-      sym (last_at first count last low short form ∙ rw (ne_eqb first 37 some, ne_eqb (146 / 2 ^ count % 2) 1 bound, ne_eqb count 5 not_five, ne_eqb count 2 not_two, eq-eqb first 21 on_test) refl)
+      sym (last_at ∙ rw (ne_eqb first 37 some, ne_eqb (146 / 2 ^ count % 2) 1 bound, ne_eqb count 5 not_five, ne_eqb count 2 not_two, eq-eqb first 21 on_test) refl)
 
   pub character_last : first ≢ 37 → 146 / 2 ^ count % 2 ≢ 1 → count ≢ 5 → count ≢ 2 → first ≢ 21 → true ≡ is_last first count last
   character_last some bound not_five not_two no_test =
-      sym (last_at first count last low short form ∙ rw (ne_eqb first 37 some, ne_eqb (146 / 2 ^ count % 2) 1 bound, ne_eqb count 5 not_five, ne_eqb count 2 not_two, ne_eqb first 21 no_test) refl)
+      sym (last_at ∙ rw (ne_eqb first 37 some, ne_eqb (146 / 2 ^ count % 2) 1 bound, ne_eqb count 5 not_five, ne_eqb count 2 not_two, ne_eqb first 21 no_test) refl)
 
 -- ---- the addresses that are read
 
--- whether an operation reads the addresses that it has
-abbrev reads : Operation → Bool
-reads NoOperation = false
-reads _ = true
+module _ (first count : ℕ) (low : first < 64) (form : is_form first count ≡ true) where
+  read_at : addresses_by first count ≡ read_by first count
+  unfolding addresses_by
+  read_at =
+      let f = formed first count form in
+      let here = taken_as _ first count f.form (ap (agrees (bit (get_or FORMS first 0) count) first count) (sym (form_is first count f)) ∙ agrees_at first count low (is_short first count f)) in
+      rw (form_is first count f) here.1
 
-reads_all : (operation : Operation) (count : ℕ) → reads operation ≡ true → addresses_in operation count ≡ address_count count
-unfolding addresses_in
-reads_all (OnFields operation) count h = refl
-reads_all ClearStorage count h = refl
-reads_all Branch count h = refl
-reads_all BranchOnMarkOrZone count h = refl
-reads_all (Operate devices) count h = refl
-reads_all MoveCarriage count h = refl
-reads_all StoreA count h = refl
-reads_all StoreB count h = refl
-reads_all Halt count h = refl
-reads_all NoOperation count h = absurd (cc)
+  pub none_read : first ≡ 37 → 0 ≡ addresses_by first count
+  none_read none = sym (read_at ∙ rw (eq-eqb first 37 none) refl)
 
-formed_named : (found : Option Operation) (count : ℕ) → formed found count ≡ true → named found ≡ true
-formed_named (Some found) count h = refl
-formed_named None count h = absurd (cc)
+  pub few_read : first ≢ 37 → count < 4 → 0 ≡ addresses_by first count
+  few_read some few = sym (read_at ∙ rw (ne_eqb first 37 some, lt-ltb count 4 few) refl)
 
-reads_at : (first count : ℕ) → first < 64 → first ≢ 37 → is_form first count ≡ true → addresses_by first count ≡ address_count count
-unfolding is_form addresses_by operation_by operation_of field_operation_of other_operation_of glyph_of
-reads_at first count low some form =
-    let there : (not (named (operation_of first)) || (first == 37 || reads (unwrap_or (operation_of first) NoOperation))) ≡ true =
-    at_each (λ n. not (named (operation_of n)) || (n == 37 || reads (unwrap_or (operation_of n) NoOperation))) 64 refl first low in
-    reads_all _ count (rw (ne_eqb first 37 some) at (second _ _ there (formed_named (operation_of first) count form)))
+  pub one_read : first ≢ 37 → 4 ≤ count → count < 7 → 1 ≡ addresses_by first count
+  one_read some four below = sym (read_at ∙ rw (ne_eqb first 37 some, le-ltb count 4 four, lt-ltb count 7 below) refl)
 
-pub none_read : (first count : ℕ) → first ≡ 37 → 0 ≡ addresses_by first count
-unfolding addresses_by operation_by operation_of field_operation_of other_operation_of addresses_in glyph_of
-none_read first count none = rw none refl
-
-module _ (first count : ℕ) (low : first < 64) (some : first ≢ 37) (form : is_form first count ≡ true) where
-  pub few_read : count < 4 → 0 ≡ addresses_by first count
-  few_read few = sym (reads_at first count low some form ∙ rw (lt-ltb count 4 few) refl)
-
-  pub one_read : 4 ≤ count → count < 7 → 1 ≡ addresses_by first count
-  one_read four below = sym (reads_at first count low some form ∙ rw (le-ltb count 4 four, lt-ltb count 7 below) refl)
-
-  pub two_read : 4 ≤ count → 7 ≤ count → 2 ≡ addresses_by first count
-  two_read four seven = sym (reads_at first count low some form ∙ rw (le-ltb count 4 four, le-ltb count 7 seven) refl)
+  pub two_read : first ≢ 37 → 4 ≤ count → 7 ≤ count → 2 ≡ addresses_by first count
+  two_read some four seven = sym (read_at ∙ rw (ne_eqb first 37 some, le-ltb count 4 four, le-ltb count 7 seven) refl)
 
 -- ---- the sets of characters, by computation
 
-pub condition_at : (last : ℕ) → last < 64 → bit CONDITIONS last ≡ named (condition_of last)
+pub condition_at : (last : ℕ) → last < 64 → bit CONDITIONS last ≡ is_some (condition_of last)
 unfolding condition_of glyph_of
-condition_at last low = same_is _ _ (at_each (λ n. same (bit CONDITIONS n) (named (condition_of n))) 64 refl last low)
+condition_at last low = same_is _ _ (at_each (λ n. same (bit CONDITIONS n) (is_some (condition_of n))) 64 refl last low)
 
-pub test_at : (last : ℕ) → last < 64 → bit TESTS last ≡ named (test_of last)
+pub test_at : (last : ℕ) → last < 64 → bit TESTS last ≡ is_some (test_of last)
 unfolding test_of glyph_of
-test_at last low = same_is _ _ (at_each (λ n. same (bit TESTS n) (named (test_of n))) 64 refl last low)
+test_at last low = same_is _ _ (at_each (λ n. same (bit TESTS n) (is_some (test_of n))) 64 refl last low)
 
-pub order_at : (last : ℕ) → last < 64 → bit ORDERS last ≡ named (order_of last)
+pub order_at : (last : ℕ) → last < 64 → bit ORDERS last ≡ is_some (order_of last)
 unfolding order_of glyph_of
-order_at last low = same_is _ _ (at_each (λ n. same (bit ORDERS n) (named (order_of n))) 64 refl last low)
+order_at last low = same_is _ _ (at_each (λ n. same (bit ORDERS n) (is_some (order_of n))) 64 refl last low)

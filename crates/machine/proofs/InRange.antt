@@ -6,7 +6,7 @@ use Rattle.cards.specs.declared.decks.Card.{Card}
 use Rattle.core_store.specs.Storage.{Storage, field_length, positions_of, largest_size}
 use Rattle.core_store.specs.Operands.{are_inside, cut_length}
 use Rattle.core_store.specs.declared.sizes.Size.{Size}
-use Rattle.core_store.specs.declared.sizes.Size.TheVariants.{Positions1400, Positions2000, Positions4000}
+use Rattle.core_store.proofs.SizeLemmas.{within}
 use Rattle.core_store.specs.declared.registers.Registers.{Registers}
 use Rattle.core_store.specs.declared.checks.Check.{Check}
 use Rattle.core_store.specs.declared.checks.Check.TheVariants.{Address, Data, Instruction}
@@ -30,16 +30,17 @@ use Rattle.units.proofs.OperationOutcomes.{Each, each_require, each_where, each_
 use Rattle.units.proofs.InRange.{operated_in_range, carriage_printed}
 use Rattle.machine.specs.declared.branches.Condition.{Condition}
 use Rattle.machine.specs.declared.branches.Condition.TheVariants.{Always, IsUnequal, IsEqual, IsLow, IsHigh, Overflow, LastCard, SwitchOn, Channel12}
-use Rattle.machine.specs.declared.decode.Operation.{Operation}
-use Rattle.machine.specs.declared.decode.Operation.TheVariants.{OnFields, ClearStorage, Branch, BranchOnMarkOrZone, Operate, MoveCarriage, StoreA, StoreB, Halt, NoOperation}
-use Rattle.machine.specs.declared.decode.FieldOperation.{FieldOperation}
-use Rattle.machine.specs.declared.decode.FieldOperation.TheVariants.{Add, Subtract, ZeroAdd, ZeroSubtract, Compare, ModifyAddress, Move, Load, MoveDigit, MoveZone, Suppress, Edit, SetMark, ClearMark}
-use Rattle.machine.specs.declared.decode.Modifier.{Modifier}
-use Rattle.machine.specs.declared.decode.Modifier.TheVariants.{Plain, OnCondition, OnCharacter, OnTest, ByOrder}
-use Rattle.machine.specs.declared.decode.Decoded.{Decoded}
+use Rattle.machine.specs.declared.named.Operation.{Operation}
+use Rattle.machine.specs.declared.named.Operation.TheVariants.{OnFields, ClearStorage, Branch, BranchOnMarkOrZone, Operate, MoveCarriage, StoreA, StoreB, Halt, NoOperation}
+use Rattle.machine.specs.declared.operations.FieldOperation.{FieldOperation}
+use Rattle.machine.specs.declared.operations.FieldOperation.TheVariants.{Add, Subtract, ZeroAdd, ZeroSubtract, Compare, ModifyAddress, Move, Load, MoveDigit, MoveZone, Suppress, Edit, SetMark, ClearMark}
+use Rattle.machine.specs.declared.named.Modifier.{Modifier}
+use Rattle.machine.specs.declared.named.Modifier.TheVariants.{Plain, OnCondition, OnCharacter, OnTest, ByOrder}
+use Rattle.machine.specs.declared.named.Decoded.{Decoded}
 use Rattle.machine.specs.declared.operations.Course.{Course}
 use Rattle.machine.specs.Branches.{once_tested}
-use Rattle.machine.specs.Word.{word, operation_of, has_form, modifier_of, addresses_in, decoded_of, decoded, operands_of, operand_at}
+use Rattle.machine.specs.Operations.{row_of, form_among, meant}
+use Rattle.machine.specs.Word.{word, decoded_of, decoded, operands_of, operand_at}
 use Rattle.machine.specs.Effect.{Works, attempt, effect, filled, next_of, after_unit, after_branch, looked_at, passed, ordered_by, worked}
 use Rattle.machine.specs.Run.{State, step, after, attempted, started, loaded, is_running}
 use Rattle.machine.specs.Ranges.{AreAddresses, IsInRange}
@@ -77,10 +78,10 @@ WorksAt d = (d.a < largest_size) × (d.b < largest_size)
 decoded_below : (s : Storage) (count : ℕ) (r : Registers) (codes : List ℕ) → length s ≤ largest_size → AreAddresses r → Each WorksAt (decoded_of s count r codes)
 unfolding decoded_of
 decoded_below s count r codes most h =
-    each_find WorksAt (operation_of (slice_index codes 0)) Instruction _ (λ operation.
-    each_require WorksAt (has_form operation count) Instruction _
-    (each_find WorksAt (modifier_of operation count (slice_index codes (count - 1))) Instruction _ (λ modifier.
-    each_then AreBoth WorksAt (operands_of s (addresses_in operation count) r codes) _ (operands_below s (addresses_in operation count) r codes most h)
+    each_find WorksAt (row_of (slice_index codes 0)) Instruction _ (λ row.
+    each_find WorksAt (form_among row.forms count) Instruction _ (λ form.
+    each_find WorksAt (meant form.last (slice_index codes (count - 1))) Instruction _ (λ modifier.
+    each_then AreBoth WorksAt (operands_of s form.addresses r codes) _ (operands_below s form.addresses r codes most h)
     (λ operands both. both))))
 
 -- ---- registers
@@ -266,11 +267,6 @@ attempt_in_range w most h =
 
 -- ---- whole machines
 
-at_most_largest : (size : Size) → positions_of size ≤ largest_size
-at_most_largest Positions1400 = omega arith
-at_most_largest Positions2000 = omega arith
-at_most_largest Positions4000 = omega arith
-
 attempted_in_range : (m : State) (outcome : Result (Works × Course) Check) → AreInRange m.works → Each Leaves outcome → AreInRange (attempted m outcome).works
 attempted_in_range m (Ok (works, course)) h leaves = leaves
 attempted_in_range m (Err check) h leaves = h
@@ -283,7 +279,7 @@ pub step_in_range : (m next : State) → next ≡ step m → IsInRange m → IsI
 step_in_range m next e h =
     let keeps = step_keeps m in
     let size : length m.works.storage ≡ positions_of h.size.0 = h.size.1 in
-    let most : positions_of h.size.0 ≤ largest_size = at_most_largest h.size.0 in
+    let most : positions_of h.size.0 ≤ largest_size = (within h.size.0).1 in
     let now = step_in_range_if m (is_running m.standing) refl (omega arith) (record { registers = h.registers; units = h.units }) in
     rw e
     (record {

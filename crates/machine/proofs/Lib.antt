@@ -6,4 +6,3 @@ pub mod FormTables
 pub mod OperationEffects
 pub mod BranchConditions
 pub mod DecodeLemmas
-pub mod FormLaw

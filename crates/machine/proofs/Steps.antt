@@ -6,7 +6,6 @@ use Rattle.cards.specs.declared.decks.Card.{Card}
 use Rattle.core_store.specs.Storage.{Storage, code_at, codes_from, field_length, with_mark, put_codes, blank_storage, positions_of}
 use Rattle.core_store.specs.Operands.{are_inside, cut_length}
 use Rattle.core_store.specs.declared.sizes.Size.{Size}
-use Rattle.core_store.specs.declared.sizes.Size.TheVariants.{Positions1400, Positions2000, Positions4000}
 use Rattle.core_store.specs.Checked.{and_then}
 use Rattle.core_store.proofs.Fields.{length-codes_from, length-put, length-put_codes, length-put_cells}
 use Rattle.core_store.specs.declared.registers.Registers.{Registers}
@@ -29,13 +28,13 @@ use Rattle.units.specs.Printed.{Printed}
 use Rattle.units.specs.Units.{operated, Makes}
 use Rattle.units.proofs.OperationOutcomes.{Each, each_require, each_find, each_then}
 use Rattle.units.proofs.InRange.{Begins, begins_same, begins_take, Keeps, operated_keeps, carriage_keeps}
-use Rattle.machine.specs.declared.decode.Operation.{Operation}
-use Rattle.machine.specs.declared.decode.Operation.TheVariants.{OnFields, ClearStorage, Branch, BranchOnMarkOrZone, Operate, MoveCarriage, StoreA, StoreB, Halt, NoOperation}
-use Rattle.machine.specs.declared.decode.FieldOperation.{FieldOperation}
-use Rattle.machine.specs.declared.decode.FieldOperation.TheVariants.{Add, Subtract, ZeroAdd, ZeroSubtract, Compare, ModifyAddress, Move, Load, MoveDigit, MoveZone, Suppress, Edit, SetMark, ClearMark}
-use Rattle.machine.specs.declared.decode.Modifier.{Modifier}
-use Rattle.machine.specs.declared.decode.Modifier.TheVariants.{Plain, OnCondition, OnCharacter, OnTest, ByOrder}
-use Rattle.machine.specs.declared.decode.Decoded.{Decoded}
+use Rattle.machine.specs.declared.named.Operation.{Operation}
+use Rattle.machine.specs.declared.named.Operation.TheVariants.{OnFields, ClearStorage, Branch, BranchOnMarkOrZone, Operate, MoveCarriage, StoreA, StoreB, Halt, NoOperation}
+use Rattle.machine.specs.declared.operations.FieldOperation.{FieldOperation}
+use Rattle.machine.specs.declared.operations.FieldOperation.TheVariants.{Add, Subtract, ZeroAdd, ZeroSubtract, Compare, ModifyAddress, Move, Load, MoveDigit, MoveZone, Suppress, Edit, SetMark, ClearMark}
+use Rattle.machine.specs.declared.named.Modifier.{Modifier}
+use Rattle.machine.specs.declared.named.Modifier.TheVariants.{Plain, OnCondition, OnCharacter, OnTest, ByOrder}
+use Rattle.machine.specs.declared.named.Decoded.{Decoded}
 use Rattle.machine.specs.declared.operations.Course.{Course}
 use Rattle.machine.specs.declared.standings.Standing.{Standing}
 use Rattle.machine.specs.declared.standings.Standing.TheVariants.{Running, Halted, Checked}
@@ -408,11 +407,6 @@ restored_is old now s c storage is stems =
 pub first_card_is : (deck : List Card) (d : Card) → 0 < length deck → (get_or deck 0 d).0 ≡ first_card deck
 first_card_is [] d h = absurd (omega arith)
 first_card_is (card ∷ cards) d h = refl
-
-pub at_least_1400 : (size : Size) → 1400 ≤ positions_of size
-at_least_1400 Positions1400 = omega arith
-at_least_1400 Positions2000 = omega arith
-at_least_1400 Positions4000 = omega arith
 
 pub length-loaded : (s : Storage) (size : Size) (codes : List ℕ) → s ≡ with_mark (put_codes (blank_storage (positions_of size)) 1 codes) 1 true → length s ≡ positions_of size
 length-loaded s size codes is =

@@ -1,5 +1,5 @@
 -- the effect of an instruction
-use Rattle.std.specs.Prelude.{ℕ, ◌+◌, ◌%◌, ◌==◌, length, nat_lt, Bool, true, false, if◌then◌else◌, Result, Ok}
+use Rattle.std.specs.Prelude.{ℕ, ◌≡◌, ◌+◌, ◌%◌, ◌==◌, length, nat_lt, Bool, true, false, if◌then◌else◌, Result, Ok, Err}
 use Rattle.core_store.specs.Storage.{Storage, code_at}
 use Rattle.core_store.specs.Operands.{lowered}
 use Rattle.core_store.specs.Checked.{require, find_or, and_then}
@@ -21,13 +21,13 @@ use Rattle.units.specs.declared.units.Units.{Units}
 use Rattle.units.specs.Printed.{Printed}
 use Rattle.units.specs.Carriages.{carriage_moved}
 use Rattle.units.specs.Units.{operated, GivesUp, Makes}
-use Rattle.machine.specs.declared.decode.Operation.{Operation}
-use Rattle.machine.specs.declared.decode.Operation.TheVariants.{OnFields, ClearStorage, Branch, BranchOnMarkOrZone, Operate, MoveCarriage, StoreA, StoreB, Halt, NoOperation}
-use Rattle.machine.specs.declared.decode.FieldOperation.{FieldOperation}
-use Rattle.machine.specs.declared.decode.FieldOperation.TheVariants.{Add, Subtract, ZeroAdd, ZeroSubtract, Compare, ModifyAddress, Move, Load, MoveDigit, MoveZone, Suppress, Edit, SetMark, ClearMark}
-use Rattle.machine.specs.declared.decode.Modifier.{Modifier}
-use Rattle.machine.specs.declared.decode.Modifier.TheVariants.{Plain, OnCondition, OnCharacter, OnTest, ByOrder}
-use Rattle.machine.specs.declared.decode.Decoded.{Decoded}
+use Rattle.machine.specs.declared.named.Operation.{Operation}
+use Rattle.machine.specs.declared.named.Operation.TheVariants.{OnFields, ClearStorage, Branch, BranchOnMarkOrZone, Operate, MoveCarriage, StoreA, StoreB, Halt, NoOperation}
+use Rattle.machine.specs.declared.operations.FieldOperation.{FieldOperation}
+use Rattle.machine.specs.declared.operations.FieldOperation.TheVariants.{Add, Subtract, ZeroAdd, ZeroSubtract, Compare, ModifyAddress, Move, Load, MoveDigit, MoveZone, Suppress, Edit, SetMark, ClearMark}
+use Rattle.machine.specs.declared.named.Modifier.{Modifier}
+use Rattle.machine.specs.declared.named.Modifier.TheVariants.{Plain, OnCondition, OnCharacter, OnTest, ByOrder}
+use Rattle.machine.specs.declared.named.Decoded.{Decoded}
 use Rattle.machine.specs.declared.operations.Course.{Course}
 use Rattle.machine.specs.declared.operations.Course.TheVariants.{GoesOn, Halts}
 use Rattle.machine.specs.Word.{word, decoded}
@@ -187,3 +187,9 @@ attempt w =
 -- it makes
 abbrev pub Fails : Fault → Works → Result (Works × Course) Check → Type 0
 Fails fault w outcome = GivesUp (λ done. Makes w.units done.0.units) fault outcome
+
+-- an instruction ended with this effect and its course; or it was given up, and nothing changed
+abbrev pub Ends : Result Course Fault → Works → Works → (Works → Result (Works × Course) Check) →
+    Type 0
+Ends (Ok course) w after effect = effect w ≡ Ok (after, course)
+Ends (Err fault) w after effect = Fails fault w (effect w) × (after ≡ w)

@@ -1,15 +1,15 @@
--- the operations of the machine, as a table
+-- the operations of the machine, as a table: by it an instruction is decoded
 use Rattle.std.specs.Prelude.{ℕ, ◌==◌, List, [], ◌∷◌, if◌then◌else◌, Option, Some, None, codes}
-use Rattle.std.specs.Option.{option_map}
-use Rattle.machine.specs.declared.decode.Operation.{Operation}
-use Rattle.machine.specs.declared.decode.Operation.TheVariants.{OnFields, ClearStorage, Branch, BranchOnMarkOrZone, Operate, MoveCarriage, StoreA, StoreB, Halt, NoOperation}
-use Rattle.machine.specs.declared.decode.FieldOperation.TheVariants.{Add, Subtract, ZeroAdd, ZeroSubtract, Compare, ModifyAddress, Move, Load, MoveDigit, MoveZone, Suppress, Edit, SetMark, ClearMark}
-use Rattle.machine.specs.declared.decode.Modifier.{Modifier}
-use Rattle.machine.specs.declared.decode.Modifier.TheVariants.{Plain, OnCondition, OnCharacter, OnTest, ByOrder}
+use Rattle.std.specs.Option.{option_map, option_and_then}
+use Rattle.machine.specs.declared.named.Operation.{Operation}
+use Rattle.machine.specs.declared.named.Operation.TheVariants.{OnFields, ClearStorage, Branch, BranchOnMarkOrZone, Operate, MoveCarriage, StoreA, StoreB, Halt, NoOperation}
+use Rattle.machine.specs.declared.operations.FieldOperation.TheVariants.{Add, Subtract, ZeroAdd, ZeroSubtract, Compare, ModifyAddress, Move, Load, MoveDigit, MoveZone, Suppress, Edit, SetMark, ClearMark}
+use Rattle.machine.specs.declared.named.Modifier.{Modifier}
+use Rattle.machine.specs.declared.named.Modifier.TheVariants.{Plain, OnCondition, OnCharacter, OnTest, ByOrder}
 use Rattle.units.specs.Carriages.{order_of}
 use Rattle.machine.specs.Branches.{condition_of, test_of}
 use Rattle.machine.specs.Glyphs.{is_glyph}
-use Rattle.machine.specs.Word.{devices}
+use Rattle.units.specs.declared.devices.Devices.{Devices}
 
 -- what the last character of a form says: nothing of its own, the condition of a branch, the
 -- character that it compares, its test of a position, or an order to the carriage
@@ -45,6 +45,10 @@ saying length addresses last = record { length = length; addresses = addresses; 
 abbrev pub row : List ℕ → Operation → List Form → Row
 row character operation forms =
     record { character = character; operation = operation; forms = forms }
+
+-- the units of an operation, by the sum of their numbers: reader 1, printer 2, punch 4
+abbrev pub devices : ℕ → Devices
+devices sum = record { 0 = sum }
 
 -- the row of an operation of the units, by the sum of their numbers
 abbrev pub units_row : List ℕ → ℕ → Row
@@ -108,3 +112,12 @@ meant names_condition last = option_map (λ condition. OnCondition condition) (c
 meant is_compared last = Some (OnCharacter last)
 meant names_test last = option_map (λ test. OnTest test) (test_of last)
 meant names_order last = option_map (λ order. ByOrder order) (order_of last)
+
+-- the form of so many characters that the operation of a character has, if there is one
+abbrev pub form_of : ℕ → ℕ → Option Form
+form_of first count = option_and_then (λ row. form_among row.forms count) (row_of first)
+
+-- what the last character of an instruction of so many characters means by its first one, if it is
+-- allowed there
+abbrev pub modifier_at : ℕ → ℕ → ℕ → Option Modifier
+modifier_at first count last = option_and_then (λ form. meant form.last last) (form_of first count)

@@ -1,8 +1,8 @@
 //! The instruction cycle.
 
-ghost use Rattle.std.specs.Prelude.{◌≡◌, ◌+◌, ◌%◌, ◌<◌, ◌≤◌, ℕ, length, Ok, IfOk, IfErr, OnErr, OnOk};
+ghost use Rattle.std.specs.Prelude.{◌≡◌, ◌+◌, ◌%◌, ◌<◌, ◌≤◌, ℕ, length, OnErr, OnOk};
 ghost use Rattle.core_store.specs.Storage.{largest_size};
-ghost use Rattle.machine.specs.Effect.{attempt, works_of, Fails, next_of};
+ghost use Rattle.machine.specs.Effect.{attempt, works_of, Ends, next_of};
 ghost use Rattle.units.specs.Units.{areas_end, Makes};
 ghost use Rattle.machine.specs.Run.{step, attempts, risen, is_running, is_checked, is_halted};
 
@@ -34,14 +34,8 @@ fn attempt<C: Core>(
     units: &mut Units,
 ) -> Result<Course, Fault>
     requires { areas_end ≤ length (C.cells core.old) }
-    ensures done { IfOk result (λ course.
-        attempt (works_of (C.cells core.old) registers.old units.old)
-        ≡ Ok (works_of (C.cells core.new) registers.new units.new, course)) }
-    ensures refused { IfErr result (λ fault.
-        Fails fault (works_of (C.cells core.old) registers.old units.old)
-        (attempt (works_of (C.cells core.old) registers.old units.old))) }
-    ensures unchanged { OnErr result (works_of (C.cells core.new) registers.new units.new
-        ≡ works_of (C.cells core.old) registers.old units.old) }
+    ensures { Ends result (works_of (C.cells core.old) registers.old units.old)
+        (works_of (C.cells core.new) registers.new units.new) attempt }
 {
     let i = registers.i;
     if i >= core.size() {

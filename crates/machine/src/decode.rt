@@ -5,104 +5,17 @@ ghost use Rattle.core_store.specs.Storage.{Storage, codes_from, is_marked, least
 ghost use Rattle.machine.specs.Word.{word_length, ending_in, operand_at, operands_of, decoded_of, LooksInside, IsInstruction};
 ghost use Rattle.machine.specs.Instructions.{decoded_by, Names};
 
-use crate::branches::{Condition, PositionTest};
 use crate::forms::{addresses_in, allows, has_form};
 use crate::instruction::Instruction;
 use addresses::operand;
 use bcd::Code;
 use core_store::{Check, Core, Registers};
-use units::{CarriageOrder, Devices};
-
-/// An operation on the fields at the two addresses, named by its first character.
-#[derive(Clone, Copy)]
-pub enum FieldOperation {
-    /// `A`: add.
-    Add,
-    /// `S`: subtract.
-    Subtract,
-    /// `?`: zero and add.
-    ZeroAdd,
-    /// `!`: zero and subtract.
-    ZeroSubtract,
-    /// `C`: compare.
-    Compare,
-    /// `#`: modify address.
-    ModifyAddress,
-    /// `M`: move characters to A or B word mark.
-    Move,
-    /// `L`: load characters to A word mark.
-    Load,
-    /// `D`: move numeric.
-    MoveDigit,
-    /// `Y`: move zone.
-    MoveZone,
-    /// `Z`: move characters and suppress zeros.
-    Suppress,
-    /// `E`: move characters and edit.
-    Edit,
-    /// `,`: set word mark.
-    SetMark,
-    /// `)`: clear word mark.
-    ClearMark,
-}
-
-/// An operation, named by its first character.
-#[derive(Clone, Copy)]
-pub enum Operation {
-    /// An operation on the fields at the two addresses.
-    OnFields(FieldOperation),
-    /// `/`: clear storage, and branch.
-    ClearStorage,
-    /// `B`: branch, on a condition or on a character at a position.
-    Branch,
-    /// `V`: branch on word mark or zone.
-    BranchOnMarkOrZone,
-    /// `1` to `7`: read a card, print a line, punch a card, or several of these.
-    Operate(Devices),
-    /// `F`: control carriage.
-    MoveCarriage,
-    /// `Q`: store the A register.
-    StoreA,
-    /// `H`: store the B register.
-    StoreB,
-    /// `.`: halt.
-    Halt,
-    /// `N`: no operation.
-    NoOperation,
-}
 
 /// The characters of an instruction: `count` of them from a position on.
 #[derive(Clone, Copy)]
 pub struct Word {
     pub first: u16,
     pub length: u16,
-}
-
-/// What the last character of an instruction means.
-#[derive(Clone, Copy)]
-pub enum Modifier {
-    /// Nothing: it is the operation itself or part of an address.
-    Plain,
-    /// The condition of a branch of five characters.
-    OnCondition(Condition),
-    /// The character that a branch of eight compares with the one at its second address.
-    OnCharacter(Code),
-    /// The test that a branch on word mark or zone makes at its second address.
-    OnTest(PositionTest),
-    /// The order to the carriage.
-    ByOrder(CarriageOrder),
-}
-
-/// A decoded instruction. Without an address in the instruction, the registers are used as they
-/// are.
-#[derive(Clone, Copy)]
-pub struct Decoded {
-    pub operation: Operation,
-    /// The number of characters of the instruction.
-    pub length: u16,
-    pub a: u16,
-    pub b: u16,
-    pub modifier: Modifier,
 }
 
 /// The next mark within eight positions, or else the eighth position.

@@ -1,31 +1,116 @@
 //! The forms of instructions: the lengths and the last characters that each operation allows.
 
-ghost use Rattle.std.specs.Prelude.{◌≡◌, ◌≤◌, ◌<◌, ◌==◌, ◌/◌, ◌%◌, ◌^◌, ℕ, true, Some, is_some, option_map};
+ghost use Rattle.std.specs.Prelude.{◌≡◌, ◌≤◌, ◌<◌, ◌==◌, ◌/◌, ◌%◌, ◌^◌, true};
 ghost use Rattle.machine.specs.Instructions.{is_form, is_last, addresses_by};
-ghost use Rattle.machine.specs.Operations.{Row, Form, row_of, form_among, meant};
-ghost use Rattle.machine.specs.Word.{operation_of, has_form, modifier_of, addresses_in};
 
 use crate::characters::{BRANCH_ON_MARK_OR_ZONE, NO_OPERATION};
 use bcd::Code;
 
-/// The lengths of each character's instruction: the bit n is the form of n characters.
+/// The form of one character, as a bit of a set of forms.
+const L1: u16 = 1 << 1;
+/// The form of two characters.
+const L2: u16 = 1 << 2;
+/// The form of four.
+const L4: u16 = 1 << 4;
+/// The form of five.
+const L5: u16 = 1 << 5;
+/// The form of seven.
+const L7: u16 = 1 << 7;
+/// The form of eight.
+const L8: u16 = 1 << 8;
+
+/// The forms of the operation that each character names, by the character's number.
+#[rattlefmt::skip]
 const FORMS: [u16; 64] = [
-    0, 18, 18, 18, 18, 18, 18, 18, 0, 0, 0, 128, 0, 0, 0, 0, 0, 146, 146, 0, 0, 256, 0, 0, 130,
-    130, 0, 144, 0, 0, 0, 0, 0, 0, 0, 130, 130, 438, 0, 0, 16, 0, 146, 0, 0, 0, 0, 0, 0, 146, 304,
-    130, 130, 130, 4, 0, 16, 0, 146, 18, 144, 0, 0, 0,
+    0,                           //  0
+    L1 | L4,                     //  1 "1" read a card
+    L1 | L4,                     //  2 "2" print a line
+    L1 | L4,                     //  3 "3" print and read
+    L1 | L4,                     //  4 "4" punch a card
+    L1 | L4,                     //  5 "5" read and punch
+    L1 | L4,                     //  6 "6" print and punch
+    L1 | L4,                     //  7 "7" print, read and punch
+    0, 0, 0,                     //  8 to 10
+    L7,                          // 11 "#" modify address
+    0, 0, 0, 0, 0,               // 12 to 16
+    L1 | L4 | L7,                // 17 "/" clear storage
+    L1 | L4 | L7,                // 18 "S" subtract
+    0, 0,                        // 19, 20
+    L8,                          // 21 "V" branch on word mark or zone
+    0, 0,                        // 22, 23
+    L1 | L7,                     // 24 "Y" move zone
+    L1 | L7,                     // 25 "Z" move and suppress zeros
+    0,                           // 26
+    L4 | L7,                     // 27 "," set word mark
+    0, 0, 0, 0, 0, 0, 0,         // 28 to 34
+    L1 | L7,                     // 35 "L" load
+    L1 | L7,                     // 36 "M" move
+    L1 | L2 | L4 | L5 | L7 | L8, // 37 "N" no operation
+    0, 0,                        // 38, 39
+    L4,                          // 40 "Q" store A
+    0,                           // 41
+    L1 | L4 | L7,                // 42 "!" zero and subtract
+    0, 0, 0, 0, 0, 0,            // 43 to 48
+    L1 | L4 | L7,                // 49 "A" add
+    L4 | L5 | L8,                // 50 "B" branch
+    L1 | L7,                     // 51 "C" compare
+    L1 | L7,                     // 52 "D" move numeric
+    L1 | L7,                     // 53 "E" move and edit
+    L2,                          // 54 "F" control carriage
+    0,                           // 55
+    L4,                          // 56 "H" store B
+    0,                           // 57
+    L1 | L4 | L7,                // 58 "?" zero and add
+    L1 | L4,                     // 59 "." halt
+    L4 | L7,                     // 60 ")" clear word mark
+    0, 0, 0,                     // 61 to 63
 ];
 
-/// The lengths at which every last character is allowed, as in `FORMS`: 1, 4 and 7.
-const FREE: u16 = 146;
+/// The forms that allow every last character.
+const FREE: u16 = L1 | L4 | L7;
 
 /// The characters that name a condition. In this set the bit n is the character n.
-const CONDITIONS: u64 = 0x00fe_0000_021e_1001;
+#[rattlefmt::skip]
+const CONDITIONS: u64 =
+      1 << 0   // blank: always
+    | 1 << 12  // "@" channel 12
+    | 1 << 17  // "/" unequal
+    | 1 << 18  // "S" equal
+    | 1 << 19  // "T" low
+    | 1 << 20  // "U" high
+    | 1 << 25  // "Z" overflow
+    | 1 << 49  // "A" last card
+    | 1 << 50  // "B" switch B
+    | 1 << 51  // "C" switch C
+    | 1 << 52  // "D" switch D
+    | 1 << 53  // "E" switch E
+    | 1 << 54  // "F" switch F
+    | 1 << 55; // "G" switch G
 
 /// The characters that name a test of a position.
-const TESTS: u64 = 0x000c_000c_000c_000e;
+#[rattlefmt::skip]
+const TESTS: u64 =
+      1 << 1   // "1" a word mark
+    | 1 << 2   // "2" no zone
+    | 1 << 3   // "3" no zone, or a word mark
+    | 1 << 18  // "S" zone A
+    | 1 << 19  // "T" zone A, or a word mark
+    | 1 << 34  // "K" zone B
+    | 1 << 35  // "L" zone B, or a word mark
+    | 1 << 50  // "B" zone AB
+    | 1 << 51; // "C" zone AB, or a word mark
 
 /// The characters that name an order to the carriage.
-const ORDERS: u64 = 0x0002_000e_000e_0002;
+#[rattlefmt::skip]
+const ORDERS: u64 =
+      1 << 1   // "1" skip to channel 1 now
+    | 1 << 17  // "/" space after the line
+    | 1 << 18  // "S" space two after the line
+    | 1 << 19  // "T" space three after the line
+    | 1 << 33  // "J" space now
+    | 1 << 34  // "K" space two now
+    | 1 << 35  // "L" space three now
+    | 1 << 49; // "A" skip to channel 1 after the line
 
 /// Whether the operation that a character names has a form of `count` characters.
 #[inline(always)]
@@ -85,19 +170,3 @@ pub fn addresses_in(first: Code, count: u16) -> u16
         _ => 2,
     }
 }
-
-/// The law of operations: a character names the operation of its row in the table of operations,
-/// and none if it has no row. An operation has the forms of its row and no others. At each form of
-/// its row the last character means what the row says, and so many addresses are read.
-pub fn operations_are_listed()
-    ensures operations { (code : ℕ) → code < 64 →
-        operation_of code ≡ option_map (λ row. row.operation) (row_of code) }
-    ensures forms { (code count : ℕ) (row : Row) → code < 64 → count ≤ 8 → row_of code ≡ Some row →
-        has_form row.operation count ≡ is_some (form_among row.forms count) }
-    ensures meanings { (code count last : ℕ) (row : Row) (form : Form) → code < 64 → count ≤ 8 →
-        row_of code ≡ Some row → form_among row.forms count ≡ Some form →
-        modifier_of row.operation count last ≡ meant form.last last }
-    ensures addresses { (code count : ℕ) (row : Row) (form : Form) → code < 64 → count ≤ 8 →
-        row_of code ≡ Some row → form_among row.forms count ≡ Some form →
-        addresses_in row.operation count ≡ form.addresses }
-{}

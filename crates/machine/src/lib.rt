@@ -1,10 +1,11 @@
 //! The machine: an IBM 1401 with a card reader, a card punch and a printer.
 //!
-//! A machine works on storage, registers and units. `specs/Effect.antt` defines what an instruction
-//! does to them, `specs/Run.antt` defines steps and whole runs. The contract for the layers above:
-//! `run(n)` is n steps, and the meter rises by the number of instructions attempted. Everything is
-//! generic over `Core`. Memory is taken by `load` and `from_parts`, and by an instruction that
-//! punches or prints.
+//! A machine works on storage, registers and units. `specs/Operations.antt` is the table of
+//! operations, by which an instruction is decoded; `specs/Effect.antt` defines what it does to
+//! them, `specs/Run.antt` defines steps and whole runs. The contract for the layers above: `run(n)`
+//! is n steps, and the meter rises by the number of instructions attempted. Everything is generic
+//! over `Core`. Memory is taken by `load` and `from_parts`, and by an instruction that punches or
+//! prints.
 #![tactic(auto)]
 
 mod branches;
@@ -14,6 +15,7 @@ mod decode;
 mod forms;
 mod instruction;
 mod meter;
+mod named;
 mod operations;
 mod parts;
 mod ranges;
@@ -21,7 +23,6 @@ mod runs;
 mod standings;
 
 pub use decode::instructions_end_at_marks;
-pub use forms::operations_are_listed;
 pub use meter::Meter;
 pub use parts::Parts;
 pub use runs::{Machine, Ran, runs_add, runs_only_add, stays_in_range};

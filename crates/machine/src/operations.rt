@@ -1,22 +1,25 @@
 //! What the operations do.
 
-ghost use Rattle.std.specs.Prelude.{◌≡◌, ◌≤◌, ◌<◌, ◌==◌, ℕ, length, Ok, Err, IfOk, IfErr, OnErr, OnOk, if◌then◌else◌};
+ghost use Rattle.std.specs.Prelude.{◌≡◌, ◌≤◌, ◌<◌, ◌==◌, ℕ, true, length, if◌then◌else◌, codes};
+ghost use Rattle.core_store.specs.Doing.{Does};
 ghost use Rattle.core_store.specs.Storage.{Storage, largest_size, code_at};
 ghost use Rattle.core_store.specs.Operands.{lowered};
 ghost use Rattle.units.specs.declared.units.Units.{Units};
 ghost use Rattle.units.specs.Units.{areas_end};
-ghost use Rattle.machine.specs.declared.decode.Operation.TheVariants.{OnFields, ClearStorage, StoreA, StoreB, Branch, BranchOnMarkOrZone, Halt, Operate, MoveCarriage};
+ghost use Rattle.machine.specs.declared.named.Operation.TheVariants.{OnFields, ClearStorage, StoreA, StoreB, Operate, MoveCarriage};
 ghost use Rattle.machine.specs.Branches.{is_met, once_tested, test_of};
-ghost use Rattle.machine.specs.Effect.{effect, worked, Fails, works_of, branched, after_branch, after_halt};
-ghost use Rattle.machine.specs.Instructions.{decoded_by, operation_by, condition_by};
-ghost use Rattle.machine.specs.Word.{LooksInside, devices};
+ghost use Rattle.machine.specs.Effect.{effect, worked, Ends, works_of, branched, after_branch, after_halt};
+ghost use Rattle.machine.specs.Instructions.{decoded_by, condition_by};
+ghost use Rattle.machine.specs.Word.{LooksInside};
+ghost use Rattle.machine.specs.Glyphs.{is_glyph};
+ghost use Rattle.machine.specs.Operations.{devices};
 
-use crate::branches::{Condition, PositionTest};
-use crate::characters::*;
-use crate::decode::FieldOperation::{
-    self, Add, ClearMark, Compare, Edit, Load, ModifyAddress, Move, MoveDigit, MoveZone, SetMark,
+use self::FieldOperation::{
+    Add, ClearMark, Compare, Edit, Load, ModifyAddress, Move, MoveDigit, MoveZone, SetMark,
     Subtract, Suppress, ZeroAdd, ZeroSubtract,
 };
+use crate::branches::{Condition, PositionTest};
+use crate::characters::*;
 use crate::instruction::Instruction;
 use addresses::store;
 use arith::{add, compare, modify, subtract, zero_add, zero_subtract};
@@ -25,6 +28,39 @@ use moves::{
     clear_mark, clear_storage, digit, edit, load_field, move_field, set_mark, suppress, zone,
 };
 use units::{CarriageOrder, Devices, Fault, Units, move_carriage, operate};
+
+/// An operation on the fields at the two addresses, named by its first character.
+#[derive(Clone, Copy)]
+pub enum FieldOperation {
+    /// `A`: add.
+    Add,
+    /// `S`: subtract.
+    Subtract,
+    /// `?`: zero and add.
+    ZeroAdd,
+    /// `!`: zero and subtract.
+    ZeroSubtract,
+    /// `C`: compare.
+    Compare,
+    /// `#`: modify address.
+    ModifyAddress,
+    /// `M`: move characters to A or B word mark.
+    Move,
+    /// `L`: load characters to A word mark.
+    Load,
+    /// `D`: move numeric.
+    MoveDigit,
+    /// `Y`: move zone.
+    MoveZone,
+    /// `Z`: move characters and suppress zeros.
+    Suppress,
+    /// `E`: move characters and edit.
+    Edit,
+    /// `,`: set word mark.
+    SetMark,
+    /// `)`: clear word mark.
+    ClearMark,
+}
 
 /// How an instruction without a check ended.
 #[derive(Clone, Copy)]
@@ -41,12 +77,8 @@ fn work<C: Core>(
     registers: &mut Registers,
     operation: FieldOperation,
 ) -> Result<(), Check>
-    ensures done { OnOk result (worked operation (C.cells core.old) registers.old
-        ≡ Ok (C.cells core.new, registers.new)) }
-    ensures check { IfErr result (λ check. worked operation (C.cells core.old) registers.old
-        ≡ Err check) }
-    ensures unchanged { OnErr result ((C.cells core.new ≡ C.cells core.old)
-        × (registers.new ≡ registers.old)) }
+    ensures { Does result (C.cells core.old) registers.old
+        (C.cells core.new) registers.new (worked operation) }
 {
     match operation {
         Add => add(core, registers),
@@ -76,16 +108,9 @@ fn work_on_fields<C: Core>(
     instruction: Instruction,
     next: u16,
 ) -> Result<Course, Fault>
-    ensures done { IfOk result (λ course. (units : Units) →
-        effect (OnFields operation) (decoded_by instruction) next
-        (works_of (C.cells core.old) registers.old units)
-        ≡ Ok (works_of (C.cells core.new) registers.new units, course)) }
-    ensures refused { IfErr result (λ fault. (units : Units) →
-        Fails fault (works_of (C.cells core.old) registers.old units)
-        (effect (OnFields operation) (decoded_by instruction) next
-        (works_of (C.cells core.old) registers.old units))) }
-    ensures unchanged { OnErr result ((C.cells core.new ≡ C.cells core.old)
-        × (registers.new ≡ registers.old)) }
+    ensures { (units : Units) → Ends result (works_of (C.cells core.old) registers.old units)
+        (works_of (C.cells core.new) registers.new units)
+        (effect (OnFields operation) (decoded_by instruction) next) }
 {
     let Registers { a, b, .. } = *registers;
     registers.a = instruction.a;
@@ -108,16 +133,9 @@ fn work_rarely<C: Core>(
     instruction: Instruction,
     next: u16,
 ) -> Result<Course, Fault>
-    ensures done { IfOk result (λ course. (units : Units) →
-        effect (OnFields operation) (decoded_by instruction) next
-        (works_of (C.cells core.old) registers.old units)
-        ≡ Ok (works_of (C.cells core.new) registers.new units, course)) }
-    ensures refused { IfErr result (λ fault. (units : Units) →
-        Fails fault (works_of (C.cells core.old) registers.old units)
-        (effect (OnFields operation) (decoded_by instruction) next
-        (works_of (C.cells core.old) registers.old units))) }
-    ensures unchanged { OnErr result ((C.cells core.new ≡ C.cells core.old)
-        × (registers.new ≡ registers.old)) }
+    ensures { (units : Units) → Ends result (works_of (C.cells core.old) registers.old units)
+        (works_of (C.cells core.new) registers.new units)
+        (effect (OnFields operation) (decoded_by instruction) next) }
 {
     work_on_fields(core, registers, operation, instruction, next)
 }
@@ -200,7 +218,7 @@ fn branch<C: Core>(
     instruction: Instruction,
     next: u16,
 )
-    requires branch { operation_by instruction.first ≡ Branch }
+    requires branch { is_glyph instruction.first (codes "B") ≡ true }
     requires inside { LooksInside (decoded_by instruction).modifier instruction.b
         (length (C.cells core.now)) }
     requires below { LooksInside (decoded_by instruction).modifier instruction.b largest_size }
@@ -227,7 +245,7 @@ fn branch_on_test<C: Core>(
     instruction: Instruction,
     next: u16,
 )
-    requires branch { operation_by instruction.first ≡ BranchOnMarkOrZone }
+    requires branch { is_glyph instruction.first (codes "V") ≡ true }
     requires inside { LooksInside (decoded_by instruction).modifier instruction.b
         (length (C.cells core.now)) }
     requires below { LooksInside (decoded_by instruction).modifier instruction.b largest_size }
@@ -254,16 +272,9 @@ fn clear<C: Core>(
     instruction: Instruction,
     next: u16,
 ) -> Result<Course, Fault>
-    ensures done { IfOk result (λ course. (units : Units) →
-        effect ClearStorage (decoded_by instruction) next
-        (works_of (C.cells core.old) registers.old units)
-        ≡ Ok (works_of (C.cells core.new) registers.new units, course)) }
-    ensures refused { IfErr result (λ fault. (units : Units) →
-        Fails fault (works_of (C.cells core.old) registers.old units)
-        (effect ClearStorage (decoded_by instruction) next
-        (works_of (C.cells core.old) registers.old units))) }
-    ensures unchanged { OnErr result ((C.cells core.new ≡ C.cells core.old)
-        × (registers.new ≡ registers.old)) }
+    ensures { (units : Units) → Ends result (works_of (C.cells core.old) registers.old units)
+        (works_of (C.cells core.new) registers.new units)
+        (effect ClearStorage (decoded_by instruction) next) }
 {
     let mut filled = Registers {
         a: instruction.a,
@@ -291,16 +302,9 @@ fn store_a<C: Core>(
     instruction: Instruction,
     next: u16,
 ) -> Result<Course, Fault>
-    ensures done { IfOk result (λ course. (units : Units) →
-        effect StoreA (decoded_by instruction) next
-        (works_of (C.cells core.old) registers.old units)
-        ≡ Ok (works_of (C.cells core.new) registers.new units, course)) }
-    ensures refused { IfErr result (λ fault. (units : Units) →
-        Fails fault (works_of (C.cells core.old) registers.old units)
-        (effect StoreA (decoded_by instruction) next
-        (works_of (C.cells core.old) registers.old units))) }
-    ensures unchanged { OnErr result ((C.cells core.new ≡ C.cells core.old)
-        × (registers.new ≡ registers.old)) }
+    ensures { (units : Units) → Ends result (works_of (C.cells core.old) registers.old units)
+        (works_of (C.cells core.new) registers.new units)
+        (effect StoreA (decoded_by instruction) next) }
 {
     if let Err(check) = store(core, instruction.a, registers.a) {
         return Err(Fault::Stopped(check));
@@ -319,16 +323,9 @@ fn store_b<C: Core>(
     instruction: Instruction,
     next: u16,
 ) -> Result<Course, Fault>
-    ensures done { IfOk result (λ course. (units : Units) →
-        effect StoreB (decoded_by instruction) next
-        (works_of (C.cells core.old) registers.old units)
-        ≡ Ok (works_of (C.cells core.new) registers.new units, course)) }
-    ensures refused { IfErr result (λ fault. (units : Units) →
-        Fails fault (works_of (C.cells core.old) registers.old units)
-        (effect StoreB (decoded_by instruction) next
-        (works_of (C.cells core.old) registers.old units))) }
-    ensures unchanged { OnErr result ((C.cells core.new ≡ C.cells core.old)
-        × (registers.new ≡ registers.old)) }
+    ensures { (units : Units) → Ends result (works_of (C.cells core.old) registers.old units)
+        (works_of (C.cells core.new) registers.new units)
+        (effect StoreB (decoded_by instruction) next) }
 {
     if let Err(check) = store(core, instruction.a, registers.b) {
         return Err(Fault::Stopped(check));
@@ -349,16 +346,9 @@ fn operate_units<C: Core>(
     next: u16,
 ) -> Result<Course, Fault>
     requires { areas_end ≤ length (C.cells core.old) }
-    ensures done { IfOk result (λ course.
-        effect (Operate (devices instruction.first)) (decoded_by instruction) next
-        (works_of (C.cells core.old) registers.old units.old)
-        ≡ Ok (works_of (C.cells core.new) registers.new units.new, course)) }
-    ensures refused { IfErr result (λ fault.
-        Fails fault (works_of (C.cells core.old) registers.old units.old)
-        (effect (Operate (devices instruction.first)) (decoded_by instruction) next
-        (works_of (C.cells core.old) registers.old units.old))) }
-    ensures unchanged { OnErr result (works_of (C.cells core.new) registers.new units.new
-        ≡ works_of (C.cells core.old) registers.old units.old) }
+    ensures { Ends result (works_of (C.cells core.old) registers.old units.old)
+        (works_of (C.cells core.new) registers.new units.new)
+        (effect (Operate (devices instruction.first)) (decoded_by instruction) next) }
 {
     operate(core, units, Devices::of_sum(instruction.first.number()))?;
     if instruction.length == 4 {
@@ -378,16 +368,10 @@ fn give_order(
     instruction: Instruction,
     next: u16,
 ) -> Result<Course, Fault>
-    requires { operation_by instruction.first ≡ MoveCarriage }
-    ensures done { IfOk result (λ course. (s : Storage) →
-        effect MoveCarriage (decoded_by instruction) next (works_of s registers.old units.old)
-        ≡ Ok (works_of s registers.new units.new, course)) }
-    ensures refused { IfErr result (λ fault. (s : Storage) →
-        Fails fault (works_of s registers.old units.old)
-        (effect MoveCarriage (decoded_by instruction) next
-        (works_of s registers.old units.old))) }
-    ensures unchanged { OnErr result ((registers.new ≡ registers.old)
-        × (units.new ≡ units.old)) }
+    requires { is_glyph instruction.first (codes "F") ≡ true }
+    ensures { (s : Storage) → Ends result (works_of s registers.old units.old)
+        (works_of s registers.new units.new)
+        (effect MoveCarriage (decoded_by instruction) next) }
 {
     if let Some(order) = CarriageOrder::of_code(instruction.last) {
         if let Err(check) = move_carriage(&mut units.printer, order) {
@@ -425,16 +409,9 @@ pub fn execute<C: Core>(
     requires inside { LooksInside (decoded_by instruction).modifier instruction.b
         (length (C.cells core.old)) }
     requires below { LooksInside (decoded_by instruction).modifier instruction.b largest_size }
-    ensures done { IfOk result (λ course.
-        effect (decoded_by instruction).operation (decoded_by instruction) next
-        (works_of (C.cells core.old) registers.old units.old)
-        ≡ Ok (works_of (C.cells core.new) registers.new units.new, course)) }
-    ensures refused { IfErr result (λ fault.
-        Fails fault (works_of (C.cells core.old) registers.old units.old)
-        (effect (decoded_by instruction).operation (decoded_by instruction) next
-        (works_of (C.cells core.old) registers.old units.old))) }
-    ensures unchanged { OnErr result (works_of (C.cells core.new) registers.new units.new
-        ≡ works_of (C.cells core.old) registers.old units.old) }
+    ensures { Ends result (works_of (C.cells core.old) registers.old units.old)
+        (works_of (C.cells core.new) registers.new units.new)
+        (effect (decoded_by instruction).operation (decoded_by instruction) next) }
 {
     match instruction.first.number() {
         ADD => work_on_fields(core, registers, Add, instruction, next),

@@ -41,13 +41,13 @@ fn called(
     order: &str,
     places: &str,
 ) -> Result<String, AllocError> {
-    let (operation, addresses) = cut(order, " ");
-    let (a, b) = cut(addresses, " ");
+    let (operation, registers) = cut(order, ": A ");
+    let (a, b) = cut(registers, " B ");
     let mut registers = Registers {
         i: 0,
         a: number(a),
         b: number(b),
-        compare: Compared::Equal,
+        compare: Compared::Low,
         overflow: false,
     };
     if call(operation, core, &mut registers).is_err() {
@@ -59,7 +59,8 @@ fn called(
 }
 
 /// A call. Input: the operation's character, the registers A and B, and the texts at some places.
-/// Output: the registers I, A and B, the indicators, and the texts after it; or `check`.
+/// Output: the registers I, A and B, the indicators that are not as at the beginning, and the texts
+/// after it; or `check`.
 struct Calls;
 
 impl Case for Calls {
@@ -73,22 +74,22 @@ impl Case for Calls {
 
 /// Each operation on fields, marks and storage once, and a check.
 const CALLS: &str = "\
-A 101 203|101 ~1|201 ~999| -> 0 100 200 Equal true |~1|~000|
-S 101 201|101 ~5|201 ~3| -> 0 100 200 Equal false |~5|~K|
-? 10 20|8 ~005|18 ~999| -> 0 7 17 Equal false |~005|~00E|
-! 101 203|101 ~L|201 ~333| -> 0 100 200 Equal false |~L|~00C|
-C 103 202|101 ~ABC|201 ~BC| -> 0 101 200 Equal false |~ABC|~BC|
-# 10 20|8 ~005|18 ~3J5| -> 0 7 17 Equal false |~005|~3K0|
-M 103 205|101 ~ABC|201 ~UVWXY| -> 0 100 202 Equal false |~ABC|~UVABC|
-L 103 205|101 ~ABC|201 ~UVWXY| -> 0 100 202 Equal false |~ABC|~UV~ABC|
-D 101 201|101 ~J|201 ~C| -> 0 100 200 Equal false |~J|~A|
-Y 101 201|101 ~J|201 ~3| -> 0 100 200 Equal false |~J|~L|
-Z 106 206|101 ~00,120|201 ~XXXXXX| -> 0 100 200 Equal false |~00,120|   120|
-E 101 204|101 ~5|201 ~A,C-| -> 0 100 200 Equal false |~5|A,  |
-, 103 0|101 ~ABC|0   | -> 0 102 15999 Equal false |~AB~C|~  |
-) 101 103|101 ~AB~C| -> 0 100 102 Equal false |ABC|
-/ 15000 201|198 ~ABC~DE| -> 0 15000 199 Equal false |~AB  E|
-A 101 201|101 ~#|201 ~3| -> check
+A: A 101 B 203|101 ~1|201 ~999| -> I 0 A 100 B 200 overflow |~1|~000|
+S: A 101 B 201|101 ~5|201 ~3| -> I 0 A 100 B 200 |~5|~K|
+?: A 10 B 20|8 ~005|18 ~999| -> I 0 A 7 B 17 |~005|~00E|
+!: A 101 B 203|101 ~L|201 ~333| -> I 0 A 100 B 200 |~L|~00C|
+C: A 103 B 202|101 ~ABC|201 ~BC| -> I 0 A 101 B 200 equal |~ABC|~BC|
+#: A 10 B 20|8 ~005|18 ~3J5| -> I 0 A 7 B 17 |~005|~3K0|
+M: A 103 B 205|101 ~ABC|201 ~UVWXY| -> I 0 A 100 B 202 |~ABC|~UVABC|
+L: A 103 B 205|101 ~ABC|201 ~UVWXY| -> I 0 A 100 B 202 |~ABC|~UV~ABC|
+D: A 101 B 201|101 ~J|201 ~C| -> I 0 A 100 B 200 |~J|~A|
+Y: A 101 B 201|101 ~J|201 ~3| -> I 0 A 100 B 200 |~J|~L|
+Z: A 106 B 206|101 ~00,120|201 ~XXXXXX| -> I 0 A 100 B 200 |~00,120|   120|
+E: A 101 B 204|101 ~5|201 ~A,C-| -> I 0 A 100 B 200 |~5|A,  |
+,: A 103 B 0|101 ~ABC|0   | -> I 0 A 102 B 15999 |~AB~C|~  |
+): A 101 B 103|101 ~AB~C| -> I 0 A 100 B 102 |ABC|
+/: A 15000 B 201|198 ~ABC~DE| -> I 0 A 15000 B 199 |~AB  E|
+A: A 101 B 201|101 ~#|201 ~3| -> check
 ";
 
 #[test]

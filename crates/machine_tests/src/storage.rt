@@ -6,7 +6,7 @@
 use crate::sheets::{cut, number};
 use bcd::Code;
 use cards::{COLUMNS, Card};
-use core_store::{Core, FlagCore, Registers, Size};
+use core_store::{Compared, Core, FlagCore, Registers, Size};
 use std::alloc::{AllocError, Global};
 
 /// The character of a glyph, or blank if there is none.
@@ -79,7 +79,7 @@ pub(crate) fn at_places(
     Ok(shown)
 }
 
-/// The registers I, A and B, and the two indicators.
+/// The registers I, A and B, and the indicators that are set: `equal` or `high`, and `overflow`.
 pub(crate) fn registers_shown(alloc: Global, registers: &Registers) -> Result<String, AllocError> {
     let Registers {
         i,
@@ -88,7 +88,13 @@ pub(crate) fn registers_shown(alloc: Global, registers: &Registers) -> Result<St
         compare,
         overflow,
     } = *registers;
-    format!(in alloc; "{i} {a} {b} {compare:?} {overflow}")
+    let compared = match compare {
+        Compared::Low => "",
+        Compared::Equal => " equal",
+        Compared::High => " high",
+    };
+    let overflow = if overflow { " overflow" } else { "" };
+    format!(in alloc; "I {i} A {a} B {b}{compared}{overflow}")
 }
 
 /// A card that begins with the text.

@@ -1,6 +1,7 @@
 //! Data edited by a control field.
 
-ghost use Rattle.std.specs.Prelude.{◌≡◌, ◌+◌, ◌-◌, ◌<◌, ◌≤◌, ℕ, List, Bool, true, false, length, min, slice_index, OnOk, OnErr, IfErr, Ok, Err};
+ghost use Rattle.std.specs.Prelude.{◌≡◌, ◌+◌, ◌-◌, ◌<◌, ◌≤◌, ℕ, List, Bool, true, false, length, min, slice_index};
+ghost use Rattle.core_store.specs.Doing.{Does};
 ghost use Rattle.core_store.specs.Storage.{codes_ending, put_codes, largest_size};
 ghost use Rattle.moves.specs.Blanked.{ends, leading, blanked};
 ghost use Rattle.moves.specs.Characters.{bare_units};
@@ -70,12 +71,8 @@ fn fill_blanked<C: Core>(core: &mut C, a: u16, a_count: u16, b: u16, b_count: u1
 #[inline(never)]
 #[tactic(auto, unfolding(crate::specs::Edited::field_edited))]
 pub fn edit<C: Core>(core: &mut C, registers: &mut Registers) -> Result<(), Check>
-    ensures done { OnOk result (field_edited (C.cells core.old) registers.old
-        ≡ Ok (C.cells core.new, registers.new)) }
-    ensures check { IfErr result (λ check. field_edited (C.cells core.old) registers.old
-        ≡ Err check) }
-    ensures unchanged { OnErr result ((C.cells core.new ≡ C.cells core.old)
-        × (registers.new ≡ registers.old)) }
+    ensures { Does result (C.cells core.old) registers.old
+        (C.cells core.new) registers.new field_edited }
 {
     let Registers { a, b, .. } = *registers;
     if !are_inside(core, a, b) {

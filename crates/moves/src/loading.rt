@@ -1,6 +1,7 @@
 //! A field loaded with its word mark.
 
-ghost use Rattle.std.specs.Prelude.{◌≡◌, ◌+◌, ◌-◌, ◌<◌, ◌≤◌, ℕ, Some, length, OnOk, OnErr, IfErr, Ok, Err};
+ghost use Rattle.std.specs.Prelude.{◌≡◌, ◌+◌, ◌-◌, ◌<◌, ◌≤◌, ℕ, Some, length, Ok};
+ghost use Rattle.core_store.specs.Doing.{Does};
 ghost use Rattle.core_store.specs.Storage.{Storage, cells_ending, field_length, put_cells, largest_size};
 ghost use Rattle.core_store.specs.declared.registers.Registers.{Registers};
 ghost use Rattle.moves.specs.Loaded.{field_loaded, IsLoaded};
@@ -34,12 +35,8 @@ fn load_near<C: Core>(core: &mut C, a: u16, b: u16, count: u16)
 #[inline(never)]
 #[tactic(auto)]
 pub fn load_field<C: Core>(core: &mut C, registers: &mut Registers) -> Result<(), Check>
-    ensures done { OnOk result (field_loaded (C.cells core.old) registers.old
-        ≡ Ok (C.cells core.new, registers.new)) }
-    ensures check { IfErr result (λ check. field_loaded (C.cells core.old) registers.old
-        ≡ Err check) }
-    ensures unchanged { OnErr result ((C.cells core.new ≡ C.cells core.old)
-        × (registers.new ≡ registers.old)) }
+    ensures { Does result (C.cells core.old) registers.old
+        (C.cells core.new) registers.new field_loaded }
 {
     let Registers { a, b, .. } = *registers;
     let Some(count) = near_field(core, a, b) else {
@@ -54,12 +51,8 @@ pub fn load_field<C: Core>(core: &mut C, registers: &mut Registers) -> Result<()
 #[inline(never)]
 #[tactic(auto, unfolding(crate::specs::Loaded::field_loaded))]
 fn load_far<C: Core>(core: &mut C, registers: &mut Registers) -> Result<(), Check>
-    ensures done { OnOk result (field_loaded (C.cells core.old) registers.old
-        ≡ Ok (C.cells core.new, registers.new)) }
-    ensures check { IfErr result (λ check. field_loaded (C.cells core.old) registers.old
-        ≡ Err check) }
-    ensures unchanged { OnErr result ((C.cells core.new ≡ C.cells core.old)
-        × (registers.new ≡ registers.old)) }
+    ensures { Does result (C.cells core.old) registers.old
+        (C.cells core.new) registers.new field_loaded }
 {
     let Registers { a, b, .. } = *registers;
     if !are_inside(core, a, b) {

@@ -1,6 +1,7 @@
 //! Word marks set and cleared, and storage cleared.
 
-ghost use Rattle.std.specs.Prelude.{◌≡◌, true, false, OnOk, OnErr, IfErr, Ok, Err};
+ghost use Rattle.std.specs.Prelude.{true, false};
+ghost use Rattle.core_store.specs.Doing.{Does};
 ghost use Rattle.moves.specs.Marks.{marks_put, storage_cleared};
 
 use core_store::{Check, Core, Registers, are_inside, lower};
@@ -8,12 +9,8 @@ use core_store::{Check, Core, Registers, are_inside, lower};
 /// Sets word marks at A and B. Check ADDRESS if A or B is outside the storage.
 #[tactic(auto, unfolding(crate::specs::Marks::marks_put))]
 pub fn set_mark<C: Core>(core: &mut C, registers: &mut Registers) -> Result<(), Check>
-    ensures done { OnOk result (marks_put true (C.cells core.old) registers.old
-        ≡ Ok (C.cells core.new, registers.new)) }
-    ensures check { IfErr result (λ check. marks_put true (C.cells core.old) registers.old
-        ≡ Err check) }
-    ensures unchanged { OnErr result ((C.cells core.new ≡ C.cells core.old)
-        × (registers.new ≡ registers.old)) }
+    ensures { Does result (C.cells core.old) registers.old
+        (C.cells core.new) registers.new (marks_put true) }
 {
     let Registers { a, b, .. } = *registers;
     if !are_inside(core, a, b) {
@@ -28,12 +25,8 @@ pub fn set_mark<C: Core>(core: &mut C, registers: &mut Registers) -> Result<(), 
 /// Clears the word marks at A and B. Check ADDRESS if A or B is outside the storage.
 #[tactic(auto, unfolding(crate::specs::Marks::marks_put))]
 pub fn clear_mark<C: Core>(core: &mut C, registers: &mut Registers) -> Result<(), Check>
-    ensures done { OnOk result (marks_put false (C.cells core.old) registers.old
-        ≡ Ok (C.cells core.new, registers.new)) }
-    ensures check { IfErr result (λ check. marks_put false (C.cells core.old) registers.old
-        ≡ Err check) }
-    ensures unchanged { OnErr result ((C.cells core.new ≡ C.cells core.old)
-        × (registers.new ≡ registers.old)) }
+    ensures { Does result (C.cells core.old) registers.old
+        (C.cells core.new) registers.new (marks_put false) }
 {
     let Registers { a, b, .. } = *registers;
     if !are_inside(core, a, b) {
@@ -49,12 +42,8 @@ pub fn clear_mark<C: Core>(core: &mut C, registers: &mut Registers) -> Result<()
 /// the storage.
 #[tactic(auto, unfolding(crate::specs::Marks::storage_cleared))]
 pub fn clear_storage<C: Core>(core: &mut C, registers: &mut Registers) -> Result<(), Check>
-    ensures done { OnOk result (storage_cleared (C.cells core.old) registers.old
-        ≡ Ok (C.cells core.new, registers.new)) }
-    ensures check { IfErr result (λ check. storage_cleared (C.cells core.old) registers.old
-        ≡ Err check) }
-    ensures unchanged { OnErr result ((C.cells core.new ≡ C.cells core.old)
-        × (registers.new ≡ registers.old)) }
+    ensures { Does result (C.cells core.old) registers.old
+        (C.cells core.new) registers.new storage_cleared }
 {
     let last = registers.b;
     if last >= core.size() {

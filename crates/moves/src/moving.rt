@@ -1,6 +1,7 @@
 //! A field moved up to a word mark.
 
-ghost use Rattle.std.specs.Prelude.{◌≡◌, ◌+◌, ◌-◌, ◌<◌, ◌≤◌, ◌&&◌, ℕ, true, false, Some, length, nat_le, IfSome, IsTrue, OnOk, OnErr, IfErr, Ok, Err};
+ghost use Rattle.std.specs.Prelude.{◌≡◌, ◌+◌, ◌-◌, ◌<◌, ◌≤◌, ◌&&◌, ℕ, true, false, Some, length, nat_le, IfSome, IsTrue, Ok};
+ghost use Rattle.core_store.specs.Doing.{Does};
 ghost use Rattle.core_store.specs.Storage.{Storage, put_codes, largest_size};
 ghost use Rattle.core_store.specs.Operands.{are_inside, is_overlapping};
 ghost use Rattle.core_store.specs.declared.registers.Registers.{Registers};
@@ -143,11 +144,8 @@ fn move_near<C: Core>(core: &mut C, a: u16, b: u16, count: u16)
 /// stay. Check ADDRESS if A or B is outside the storage or a field would pass position 000.
 #[inline(always)]
 pub fn move_field<C: Core>(core: &mut C, registers: &mut Registers) -> Result<(), Check>
-    ensures done { OnOk result (moved (C.cells core.old) registers.old
-        ≡ Ok (C.cells core.new, registers.new)) }
-    ensures check { IfErr result (λ check. moved (C.cells core.old) registers.old ≡ Err check) }
-    ensures unchanged { OnErr result ((C.cells core.new ≡ C.cells core.old)
-        × (registers.new ≡ registers.old)) }
+    ensures { Does result (C.cells core.old) registers.old
+        (C.cells core.new) registers.new moved }
 {
     let Registers { a, b, .. } = *registers;
     let Some(count) = near_count(core, a, b) else {
@@ -162,11 +160,8 @@ pub fn move_field<C: Core>(core: &mut C, registers: &mut Registers) -> Result<()
 #[inline(never)]
 #[tactic(auto, unfolding(crate::specs::Moved::moved))]
 fn move_far<C: Core>(core: &mut C, registers: &mut Registers) -> Result<(), Check>
-    ensures done { OnOk result (moved (C.cells core.old) registers.old
-        ≡ Ok (C.cells core.new, registers.new)) }
-    ensures check { IfErr result (λ check. moved (C.cells core.old) registers.old ≡ Err check) }
-    ensures unchanged { OnErr result ((C.cells core.new ≡ C.cells core.old)
-        × (registers.new ≡ registers.old)) }
+    ensures { Does result (C.cells core.old) registers.old
+        (C.cells core.new) registers.new moved }
 {
     let Registers { a, b, .. } = *registers;
     if !are_inside(core, a, b) {

@@ -1,6 +1,6 @@
 //! The numeric part or the zone of one character moved.
 
-ghost use Rattle.std.specs.Prelude.{◌≡◌, OnOk, OnErr, IfErr, Ok, Err};
+ghost use Rattle.core_store.specs.Doing.{Does};
 ghost use Rattle.moves.specs.Parts.{digit_moved, zone_moved};
 
 use crate::characters::{of_parts, part_of};
@@ -10,12 +10,8 @@ use core_store::{Check, Core, Registers, are_inside};
 /// is outside the storage.
 #[tactic(auto, unfolding(crate::specs::Parts::digit_moved))]
 pub fn digit<C: Core>(core: &mut C, registers: &mut Registers) -> Result<(), Check>
-    ensures done { OnOk result (digit_moved (C.cells core.old) registers.old
-        ≡ Ok (C.cells core.new, registers.new)) }
-    ensures check { IfErr result (λ check. digit_moved (C.cells core.old) registers.old
-        ≡ Err check) }
-    ensures unchanged { OnErr result ((C.cells core.new ≡ C.cells core.old)
-        × (registers.new ≡ registers.old)) }
+    ensures { Does result (C.cells core.old) registers.old
+        (C.cells core.new) registers.new digit_moved }
 {
     let Registers { a, b, .. } = *registers;
     if !are_inside(core, a, b) {
@@ -31,12 +27,8 @@ pub fn digit<C: Core>(core: &mut C, registers: &mut Registers) -> Result<(), Che
 /// is outside the storage.
 #[tactic(auto, unfolding(crate::specs::Parts::zone_moved))]
 pub fn zone<C: Core>(core: &mut C, registers: &mut Registers) -> Result<(), Check>
-    ensures done { OnOk result (zone_moved (C.cells core.old) registers.old
-        ≡ Ok (C.cells core.new, registers.new)) }
-    ensures check { IfErr result (λ check. zone_moved (C.cells core.old) registers.old
-        ≡ Err check) }
-    ensures unchanged { OnErr result ((C.cells core.new ≡ C.cells core.old)
-        × (registers.new ≡ registers.old)) }
+    ensures { Does result (C.cells core.old) registers.old
+        (C.cells core.new) registers.new zone_moved }
 {
     let Registers { a, b, .. } = *registers;
     if !are_inside(core, a, b) {

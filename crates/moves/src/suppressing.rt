@@ -1,6 +1,7 @@
 //! A field moved without its leading zeros.
 
-ghost use Rattle.std.specs.Prelude.{◌≡◌, ◌+◌, ◌-◌, ◌<◌, ◌≤◌, ◌==◌, ℕ, false, length, if◌then◌else◌, OnOk, OnErr, IfErr, Ok, Err};
+ghost use Rattle.std.specs.Prelude.{◌≡◌, ◌+◌, ◌-◌, ◌<◌, ◌≤◌, ◌==◌, ℕ, false, length, if◌then◌else◌};
+ghost use Rattle.core_store.specs.Doing.{Does};
 ghost use Rattle.core_store.specs.Storage.{code_at, codes_ending, put_codes, largest_size};
 ghost use Rattle.core_store.specs.Operands.{is_overlapping};
 ghost use Rattle.moves.specs.Characters.{bare, bare_units};
@@ -89,12 +90,8 @@ fn move_near<C: Core>(core: &mut C, a: u16, b: u16, count: u16)
 /// overwritten before it is read.
 #[inline(never)]
 pub fn suppress<C: Core>(core: &mut C, registers: &mut Registers) -> Result<(), Check>
-    ensures done { OnOk result (zeros_suppressed (C.cells core.old) registers.old
-        ≡ Ok (C.cells core.new, registers.new)) }
-    ensures check { IfErr result (λ check. zeros_suppressed (C.cells core.old) registers.old
-        ≡ Err check) }
-    ensures unchanged { OnErr result ((C.cells core.new ≡ C.cells core.old)
-        × (registers.new ≡ registers.old)) }
+    ensures { Does result (C.cells core.old) registers.old
+        (C.cells core.new) registers.new zeros_suppressed }
 {
     let Registers { a, b, .. } = *registers;
     let Some(count) = near_field(core, a, b) else {
@@ -109,12 +106,8 @@ pub fn suppress<C: Core>(core: &mut C, registers: &mut Registers) -> Result<(), 
 #[inline(never)]
 #[tactic(auto, unfolding(crate::specs::Suppressed::zeros_suppressed))]
 fn suppress_far<C: Core>(core: &mut C, registers: &mut Registers) -> Result<(), Check>
-    ensures done { OnOk result (zeros_suppressed (C.cells core.old) registers.old
-        ≡ Ok (C.cells core.new, registers.new)) }
-    ensures check { IfErr result (λ check. zeros_suppressed (C.cells core.old) registers.old
-        ≡ Err check) }
-    ensures unchanged { OnErr result ((C.cells core.new ≡ C.cells core.old)
-        × (registers.new ≡ registers.old)) }
+    ensures { Does result (C.cells core.old) registers.old
+        (C.cells core.new) registers.new zeros_suppressed }
 {
     let Registers { a, b, .. } = *registers;
     if !are_inside(core, a, b) {

@@ -11,7 +11,7 @@ use Rattle.office.specs.Limits.{most_granted}
 use Rattle.office.specs.Jobs.{Job, picture, sliced_job, started_job}
 use Rattle.office.specs.Kept.{Kept, kept_of, summary_of, job_refusal, changed, taken_unless, take_kept, changed_job, job_unless, job_after}
 use Rattle.office.specs.declared.commands.JobCommand.{JobCommand}
-use Rattle.office.specs.declared.commands.JobCommand.TheVariants.{Slice, Start, Hold, Release, Collect, Standing as Tell, Cards, Lines}
+use Rattle.office.specs.declared.commands.JobCommand.TheVariants.{Slice, Start}
 use Rattle.office.specs.declared.summaries.Summary.{Summary}
 use Rattle.office.specs.declared.refusals.Refusal.{Refusal}
 
@@ -57,12 +57,7 @@ module _ (sliced : GoesOnSliced) (started_is : GoesOnStarted) where
   changes : (c : JobCommand) (job : Job) → 0 < length job.stretches → changed c (kept_of job) ≡ kept_of (changed_job c job)
   changes (Slice limit) job some = ap (λ (m : State). let k : Kept = record { stretches = (sliced_job limit job).stretches; held = job.held; collected = job.collected; machine = m } in k) (sym (sliced job limit some))
   changes (Start switches) job some = ap (λ (m : State). let k : Kept = record { stretches = (started_job (seven switches) job).stretches; held = job.held; collected = job.collected; machine = m } in k) (sym (started_is job (seven switches)))
-  changes Hold job some = refl
-  changes Release job some = refl
-  changes Collect job some = refl
-  changes Tell job some = refl
-  changes Cards job some = refl
-  changes Lines job some = refl
+  changes other job some = refl
 
   pub acts : (c : JobCommand) (job : Job) → 0 < length job.stretches → (take_kept c (kept_of job)).0 ≡ kept_of (job_after c job)
   acts c job some = go (job_refusal c (summary_of (kept_of job)))

@@ -5,7 +5,7 @@ use Rattle.std.specs.Prelude.{OnOk}
 use Rattle.office.specs.Kept.{Kept, attempts_of, limit_of}
 use Rattle.office.specs.Meters.{RisenAtMost}
 use Rattle.office.specs.declared.commands.JobCommand.{JobCommand}
-use Rattle.office.specs.declared.commands.JobCommand.TheVariants.{Slice, Start, Hold, Release, Collect, Standing as Tell, Cards, Lines}
+use Rattle.office.specs.declared.commands.JobCommand.TheVariants.{Slice}
 
 pub on_err : {X E : Type 0} (r : Result X E) (P : Type 0) → P → OnErr r P
 on_err (Ok x) P h = tt
@@ -54,13 +54,7 @@ given_up_within m limit old new it = record {
 
 attempts_within : (c : JobCommand) (k : Kept) → attempts_of c k ≤ limit_of c
 attempts_within (Slice limit) k = attempts_fit k.machine limit
-attempts_within (Start switches) k = omega arith
-attempts_within Hold k = omega arith
-attempts_within Release k = omega arith
-attempts_within Collect k = omega arith
-attempts_within Tell k = omega arith
-attempts_within Cards k = omega arith
-attempts_within Lines k = omega arith
+attempts_within other k = omega arith
 
 -- whatever the outcome, the meter has risen by the command's limit at most
 pub at_most : {X E : Type 0} (c : JobCommand) (k : Kept) (r : Result X E) (old new : ℕ) → OnOk r (new ≡ risen old (attempts_of c k)) → OnErr r (RisenAtMost (attempts_of c k) old new) → RisenAtMost (limit_of c) old new

@@ -18,7 +18,7 @@ use Rattle.office.specs.declared.commands.Contents.{Contents}
 use Rattle.office.specs.declared.commands.Kind.{Kind}
 use Rattle.office.specs.declared.commands.Kind.TheVariants.{Object, Autocoder}
 use Rattle.office.specs.declared.commands.JobCommand.{JobCommand}
-use Rattle.office.specs.declared.commands.JobCommand.TheVariants.{Slice, Start, Hold, Release, Collect, Standing as Tell, Cards, Lines}
+use Rattle.office.specs.declared.commands.JobCommand.TheVariants.{Slice, Start}
 use Rattle.office.specs.declared.refusals.Refusal.{Refusal}
 use Rattle.office.specs.declared.stretches.Stretch.{Stretch}
 use Rattle.office.proofs.CommandLaw.{more_fits_by, halted_by}
@@ -91,12 +91,7 @@ stays (Start switches) job none it = record {
   stretches = one_more_fits (seven switches) job.stretches (seven_are switches) it.stretches;
   halts = started_between job (seven switches) it.halts (halted_by switches (kept_of job) none);
 }
-stays Hold job none it = record { deck = it.deck; card = it.card; faultless = it.faultless; loaded = it.loaded; stretches = it.stretches; halts = it.halts }
-stays Release job none it = record { deck = it.deck; card = it.card; faultless = it.faultless; loaded = it.loaded; stretches = it.stretches; halts = it.halts }
-stays Collect job none it = record { deck = it.deck; card = it.card; faultless = it.faultless; loaded = it.loaded; stretches = it.stretches; halts = it.halts }
-stays Tell job none it = it
-stays Cards job none it = it
-stays Lines job none it = it
+stays other job none it = record { deck = it.deck; card = it.card; faultless = it.faultless; loaded = it.loaded; stretches = it.stretches; halts = it.halts }
 
 pub jobs_stay : (c : JobCommand) (job : Job) → IsJob job → IsJob (job_after c job)
 jobs_stay c job it = go (job_refusal c (summary_of (kept_of job))) refl

@@ -9,7 +9,8 @@ use Rattle.addresses.specs.Effective.{base_ending, with_index, operand}
 use Rattle.moves.specs.Marks.{marks_put}
 use Rattle.bcd.specs.Table.{glyph_of, zone_of, digit_of}
 use Rattle.loader.specs.Cards.{card_of, text}
-use Rattle.machine.specs.Word.{word_length, word, field_operation_of, other_operation_of, operation_of, has_field_form, has_form, modifier_of, addresses_in, operands_of, decoded_of}
+use Rattle.machine.specs.Operations.{operations, row_of}
+use Rattle.machine.specs.Word.{word_length, word, operands_of, decoded_of}
 use Rattle.machine.specs.Effect.{worked, effect, attempt}
 use Rattle.machine.specs.Run.{State, loaded, step, after, started, is_running, is_halted}
 use Rattle.machine.proofs.Steps.{after-after}
@@ -39,19 +40,19 @@ unfolding card
 m0 = loaded (card ∷ []) Positions1400 all_off
 
 halts : is_halted (after m0 2).standing ≡ true
-unfolding m0 card code_of after step attempt word word_length least_mark codes_from put_codes field_operation_of other_operation_of operation_of has_field_form has_form modifier_of addresses_in operands_of decoded_of weighed base tagged digit_under base_ending with_index operand marks_put worked effect glyph_of zone_of digit_of
+unfolding m0 card code_of after step attempt word word_length least_mark codes_from put_codes row_of operations operands_of decoded_of weighed base tagged digit_under base_ending with_index operand marks_put worked effect glyph_of zone_of digit_of
 halts = refl
 
 stops : is_running (after m0 2).standing ≡ false
-unfolding m0 card code_of after step attempt word word_length least_mark codes_from put_codes field_operation_of other_operation_of operation_of has_field_form has_form modifier_of addresses_in operands_of decoded_of weighed base tagged digit_under base_ending with_index operand marks_put worked effect glyph_of zone_of digit_of
+unfolding m0 card code_of after step attempt word word_length least_mark codes_from put_codes row_of operations operands_of decoded_of weighed base tagged digit_under base_ending with_index operand marks_put worked effect glyph_of zone_of digit_of
 stops = refl
 
 next_stops : is_running (after (started (after m0 2) all_off) 1).standing ≡ false
-unfolding m0 card code_of after step attempt word word_length least_mark codes_from put_codes field_operation_of other_operation_of operation_of has_field_form has_form modifier_of addresses_in operands_of decoded_of weighed base tagged digit_under base_ending with_index operand marks_put worked effect glyph_of zone_of digit_of
+unfolding m0 card code_of after step attempt word word_length least_mark codes_from put_codes row_of operations operands_of decoded_of weighed base tagged digit_under base_ending with_index operand marks_put worked effect glyph_of zone_of digit_of
 next_stops = refl
 
 next_is : is_halted (after (started (after m0 2) all_off) 1).standing ≡ false
-unfolding m0 card code_of after step attempt word word_length least_mark codes_from put_codes field_operation_of other_operation_of operation_of has_field_form has_form modifier_of addresses_in operands_of decoded_of weighed base tagged digit_under base_ending with_index operand marks_put worked effect glyph_of zone_of digit_of
+unfolding m0 card code_of after step attempt word word_length least_mark codes_from put_codes row_of operations operands_of decoded_of weighed base tagged digit_under base_ending with_index operand marks_put worked effect glyph_of zone_of digit_of
 next_is = refl
 
 -- nothing is granted in the first stretch, and what leads to the halt in the second

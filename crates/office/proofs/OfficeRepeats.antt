@@ -1,15 +1,15 @@
 -- Jobs among others, and what is handed in again.
-use Rattle.std.proofs.Common.{◌≡◌, ℕ, ◌==◌, ◌%◌, bytes_eq, List, [], ◌∷◌, ◌++◌, length, Bool, true, false, Option, None, Some, Result, Ok, Err, refl, ap, subst, arith}
+use Rattle.std.proofs.Common.{◌≡◌, ℕ, ◌==◌, ◌%◌, bytes_eq, List, [], ◌∷◌, ◌++◌, length, Bool, true, false, Option, None, Some, Result, Ok, Err, refl, ap, subst, arith, eq-eqb}
 use Rattle.std.specs.Prelude.{string_bytes}
 use Rattle.std.proofs.lemmas.Bool.Decides.{nat_tests}
 use Rattle.std.proofs.lemmas.Slice.Eq.{bytes_eq-Decides}
 use Rattle.core_store.specs.Storage.{positions_of}
 use Rattle.core_store.specs.declared.sizes.Size.{Size}
-use Rattle.core_store.specs.declared.sizes.Size.TheVariants.{Positions1400, Positions2000, Positions4000}
+use Rattle.core_store.proofs.SizeLemmas.{numbered}
 use Rattle.office.specs.declared.commands.Command.{Command}
 use Rattle.office.specs.declared.commands.Command.TheVariants.{Submit, Job as OnJob, Jobs, Queue}
 use Rattle.office.specs.declared.commands.JobCommand.{JobCommand}
-use Rattle.office.specs.declared.commands.JobCommand.TheVariants.{Slice, Start, Hold, Release, Collect, Standing as Tell, Cards, Lines}
+use Rattle.office.specs.declared.commands.JobCommand.TheVariants.{Slice}
 use Rattle.office.specs.declared.commands.Contents.{Contents}
 use Rattle.office.specs.declared.commands.Kind.{Kind}
 use Rattle.office.specs.declared.commands.Kind.TheVariants.{Object, Autocoder}
@@ -45,21 +45,13 @@ same_kind : (kind : Kind) → is_same_kind kind kind ≡ true
 same_kind Object = refl
 same_kind Autocoder = refl
 
-same_size : (positions : ℕ) (size : Size) → size_numbered positions ≡ Some size → (positions_of size == positions) ≡ true
-same_size positions size is = go (positions == 1400) refl (positions == 2000) refl (positions == 4000) refl
-  where
-    go : (a : Bool) → (positions == 1400) ≡ a → (b : Bool) → (positions == 2000) ≡ b → (c : Bool) → (positions == 4000) ≡ c → (positions_of size == positions) ≡ true
-    go true one b two c three = let same : Some Positions1400 ≡ Some size = rw one at is in let it : Positions1400 ≡ size = cc in subst (λ s. (positions_of s == positions) ≡ true) it (grind (arith, nat_tests))
-    go false one true two c three = let same : Some Positions2000 ≡ Some size = rw (one, two) at is in let it : Positions2000 ≡ size = cc in subst (λ s. (positions_of s == positions) ≡ true) it (grind (arith, nat_tests))
-    go false one false two true three = let same : Some Positions4000 ≡ Some size = rw (one, two, three) at is in let it : Positions4000 ≡ size = cc in subst (λ s. (positions_of s == positions) ≡ true) it (grind (arith, nat_tests))
-    go false one false two false three = absurd (let none = rw (one, two, three) at is in cc)
-
 new_is_of : (size : Size) (contents : Contents) → size_numbered contents.size ≡ Some size → is_of contents (new_job size contents) ≡ true
 new_is_of size contents is =
     let n = contents.switches.0 % 128 in
     let same : (n == n) ≡ true = grind (arith, nat_tests) in
+    let sized : (positions_of size == contents.size) ≡ true = eq-eqb (positions_of size) contents.size (numbered contents.size size is) in
     let bytes : bytes_eq (deck_bytes contents.deck) (deck_bytes contents.deck) ≡ true = (bytes_eq-Decides (deck_bytes contents.deck) (deck_bytes contents.deck)).1 refl in
-    rw (same_kind contents.kind, same_size contents.size size is, same, bytes)
+    rw (same_kind contents.kind, sized, same, bytes)
 
 of_refusal : (size : Size) (contents : Contents) (job : Job) (o : Option Refusal) → size_numbered contents.size ≡ Some size → job_unless_refused size contents o ≡ Ok job → is_of contents job ≡ true
 of_refusal size contents job (Some reason) at is = absurd (let e = is in cc)
@@ -100,13 +92,7 @@ not_taken c k cards = go (job_refusal c (summary_of k))
       where
         answer : (c : JobCommand) → answered c k ≡ reply.Taken cards → ⊥
         answer (Slice limit) told = let e = told in cc
-        answer (Start switches) told = let e = told in cc
-        answer Hold told = let e = told in cc
-        answer Release told = let e = told in cc
-        answer Collect told = let e = told in cc
-        answer Tell told = let e = told in cc
-        answer Cards told = let e = told in cc
-        answer Lines told = let e = told in cc
+        answer other told = let e = told in cc
 
 not_commanded : (customer : List ℕ) (number : ℕ) (c : JobCommand) (office : Office) (cards : ℕ) (j : Option Job) → (commanded customer number c office j).1 ≡ reply.Taken cards → ⊥
 not_commanded customer number c office cards None told = let e = told in cc

@@ -12,6 +12,7 @@ use Rattle.office.specs.Limits.{most_granted}
 use Rattle.office.specs.Jobs.{Job, picture, granted, granted_more, one_more, sliced_job, started_job, AreStretches}
 use Rattle.office.specs.declared.commands.JobCommand.{JobCommand}
 use Rattle.office.specs.declared.commands.JobCommand.TheVariants.{Slice, Start, Hold, Release, Collect, Standing as Tell, Cards, Lines}
+use Rattle.office.specs.declared.flags.NewFlags.{NewFlags}
 use Rattle.office.specs.declared.summaries.Summary.{Summary}
 use Rattle.office.specs.declared.stretches.Stretch.{Stretch}
 use Rattle.office.specs.declared.refusals.Refusal.{Refusal}
@@ -67,25 +68,17 @@ summary_of k = record {
 
 -- whether a command only asks for something of a job: `Standing`, `Cards` and `Lines`
 abbrev pub is_query : JobCommand → Bool
-is_query (Slice limit) = false
-is_query (Start switches) = false
-is_query Hold = false
-is_query Release = false
-is_query Collect = false
 is_query Tell = true
 is_query Cards = true
 is_query Lines = true
+is_query other = false
 
 -- whether a command is refused for a held job: `Slice`, `Start` and `Collect`
 abbrev pub is_for_free : JobCommand → Bool
 is_for_free (Slice limit) = true
 is_for_free (Start switches) = true
-is_for_free Hold = false
-is_for_free Release = false
 is_for_free Collect = true
-is_for_free Tell = false
-is_for_free Cards = false
-is_for_free Lines = false
+is_for_free other = false
 
 -- this refusal if the test holds, else none
 abbrev pub refused_if : Bool → Refusal → Option Refusal
@@ -149,6 +142,29 @@ answered Tell k = reply.Standing (summary_of k)
 answered Cards k = reply.Cards k.machine.works.units.punch
 answered Lines k = reply.Lines (lines_of k.machine)
 
+-- whether a command needs the machine of its job, and not its summary alone
+abbrev pub needs_machine : JobCommand → Bool
+needs_machine (Slice limit) = true
+needs_machine (Start switches) = true
+needs_machine Cards = true
+needs_machine Lines = true
+needs_machine other = false
+
+-- the flags of a job with this summary after a command that is not refused, and the reply, unless
+-- the command needs the machine
+abbrev pub on_flags : JobCommand → Summary → Option NewFlags
+on_flags Hold job = Some (record { held = true; collected = job.collected; reply = reply.Held })
+on_flags Release job =
+    Some (record { held = false; collected = job.collected; reply = reply.Released })
+on_flags Collect job = Some (record {
+  held = job.held;
+  collected = true;
+  reply = reply.Collected job.cards job.lines;
+})
+on_flags Tell job =
+    Some (record { held = job.held; collected = job.collected; reply = reply.Standing job })
+on_flags other job = None
+
 -- the job and the reply: a refusal changes nothing and is itself the reply
 abbrev pub taken_unless : JobCommand → Kept → Option Refusal → Kept × Reply
 taken_unless c k (Some reason) = (k, reply.Refused reason)
@@ -183,13 +199,7 @@ job_after c job = job_unless c job (job_refusal c (summary_of (kept_of job)))
 -- how many instructions a command attempts if it is not refused
 abbrev pub attempts_of : JobCommand → Kept → ℕ
 attempts_of (Slice limit) k = attempts k.machine limit
-attempts_of (Start switches) k = 0
-attempts_of Hold k = 0
-attempts_of Release k = 0
-attempts_of Collect k = 0
-attempts_of Tell k = 0
-attempts_of Cards k = 0
-attempts_of Lines k = 0
+attempts_of other k = 0
 
 -- how many instructions a command attempts: none if it is refused
 abbrev pub attempts_unless : JobCommand → Kept → Option Refusal → ℕ
@@ -203,13 +213,7 @@ attempted_on c k = attempts_unless c k (job_refusal c (summary_of k))
 -- the most instructions that a command may attempt, whatever the job
 abbrev pub limit_of : JobCommand → ℕ
 limit_of (Slice limit) = limit
-limit_of (Start switches) = 0
-limit_of Hold = 0
-limit_of Release = 0
-limit_of Collect = 0
-limit_of Tell = 0
-limit_of Cards = 0
-limit_of Lines = 0
+limit_of other = 0
 
 -- ---- when memory may run out
 
@@ -218,12 +222,9 @@ limit_of Lines = 0
 abbrev pub MakesOn : JobCommand → Kept → Type 0
 MakesOn (Slice limit) k = Makes k.machine.works.units (after k.machine limit).works.units
 MakesOn (Start switches) k = Unit {0}
-MakesOn Hold k = ⊥
-MakesOn Release k = ⊥
-MakesOn Collect k = ⊥
-MakesOn Tell k = ⊥
 MakesOn Cards k = Unit {0}
 MakesOn Lines k = Unit {0}
+MakesOn other k = ⊥
 
 -- the command may run out of memory: it is not refused, and makes something that takes memory
 pub record MayWant (c : JobCommand) (k : Kept) : Type 0 where

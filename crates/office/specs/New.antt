@@ -1,5 +1,5 @@
 -- the job of a submission's contents, or why it is refused
-use Rattle.std.specs.Prelude.{◌≡◌, ℕ, ◌<◌, ◌==◌, nat_lt, if◌then◌else◌, List, [], ◌∷◌, length, false, Option, Some, None, IsSome, Result, Ok, Err}
+use Rattle.std.specs.Prelude.{◌≡◌, ◌<◌, nat_lt, if◌then◌else◌, List, [], ◌∷◌, length, false, Option, Some, None, IsSome, Result, Ok, Err}
 use Rattle.cards.specs.declared.decks.Card.{Card}
 use Rattle.core_store.specs.declared.sizes.Size.{Size}
 use Rattle.core_store.specs.Storage.{size_numbered}

@@ -12,7 +12,7 @@ use Rattle.units.specs.declared.switches.Switches.{Switches}
 use Rattle.office.specs.Limits.{most_jobs}
 use Rattle.office.specs.Names.{is_customer, is_number, is_limit}
 use Rattle.office.specs.Jobs.{Job, loaded_deck, picture}
-use Rattle.machine.specs.Standings.{standing_of, goes_on}
+use Rattle.machine.specs.Standings.{standing_of}
 use Rattle.office.specs.Kept.{kept_of, take_kept, job_after, attempted_on}
 use Rattle.office.specs.New.{job_or_refusal}
 use Rattle.office.specs.Orders.{in_order}

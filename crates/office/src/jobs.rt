@@ -203,37 +203,6 @@ impl<C: Core> Job<C> {
         Ok(Reply::Started)
     }
 
-    /// Holds the job.
-    fn hold(&mut self) -> Reply
-        ensures reply { result ≡ answered JobCommand.Hold self.old }
-        ensures job { self.new ≡ changed JobCommand.Hold self.old }
-    {
-        self.held = true;
-        Reply::Held
-    }
-
-    /// Releases the job.
-    fn release(&mut self) -> Reply
-        ensures reply { result ≡ answered JobCommand.Release self.old }
-        ensures job { self.new ≡ changed JobCommand.Release self.old }
-    {
-        self.held = false;
-        Reply::Released
-    }
-
-    /// Marks the job as collected.
-    fn collect(&mut self) -> Reply
-        ensures reply { result ≡ answered JobCommand.Collect self.old }
-        ensures job { self.new ≡ changed JobCommand.Collect self.old }
-    {
-        let made = self.summary();
-        self.collected = true;
-        Reply::Collected {
-            cards: made.cards,
-            lines: made.lines,
-        }
-    }
-
     /// The cards that were punched.
     fn cards(&self, alloc: Global) -> Result<Reply, AllocError>
         ensures { IfOk result (λ reply. reply ≡ answered JobCommand.Cards self.now) }
@@ -269,12 +238,16 @@ impl<C: Core> Job<C> {
         match command {
             JobCommand::Slice { limit } => self.slice(limit, meter),
             JobCommand::Start { switches } => self.start(switches),
-            JobCommand::Hold => Ok(self.hold()),
-            JobCommand::Release => Ok(self.release()),
-            JobCommand::Collect => Ok(self.collect()),
-            JobCommand::Standing => Ok(Reply::Standing(self.summary())),
             JobCommand::Cards => self.cards(alloc),
             JobCommand::Lines => self.lines(alloc),
+            _ => match command.on_flags(&self.summary()) {
+                Some(new) => {
+                    self.held = new.held;
+                    self.collected = new.collected;
+                    Ok(new.reply)
+                }
+                None => unreachable!(),
+            },
         }
     }
 

@@ -9,10 +9,15 @@
 //! for the layer above: a new job and the reply to a command are those of the definitions there,
 //! and without memory a job stays as it was. The laws relate what was granted in pieces to whole
 //! runs.
+//!
+//! Further laws: no two jobs come to have one name ([`names_stay_apart`]); a submission that was
+//! taken gets the same reply when it comes again, and then changes nothing
+//! ([`submissions_repeat`]); what is a job stays one ([`commands_keep_jobs`]).
 #![tactic(auto)]
 
 mod beginnings;
 mod commands;
+mod flags;
 mod halts;
 mod jobs;
 mod laws;
@@ -27,6 +32,7 @@ mod summaries;
 
 pub use beginnings::programs_run_from_their_start;
 pub use commands::{Command, Contents, JobCommand, Kind};
+pub use flags::NewFlags;
 pub use halts::{stopped_machines_stay, whole_runs_end_alike};
 pub use jobs::{Job, JobParts, ShownJob};
 pub use laws::{

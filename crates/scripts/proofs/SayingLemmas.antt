@@ -5,7 +5,8 @@ use Rattle.std.proofs.lemmas.List.{length-map, nil_from_length}
 use Rattle.std.proofs.lemmas.Bool.{cases_lt}
 use Rattle.office.specs.declared.commands.Kind.{Kind}
 use Rattle.units.specs.declared.Switches.{Switches}
-use Rattle.scripts.specs.Texts.{AreSwitchesOf, IsCountOf, IsKindOf}
+use Rattle.texts.specs.Switches.{AreSwitchesOf}
+use Rattle.scripts.specs.Texts.{IsCountOf, IsKindOf, text_of}
 use Rattle.scripts.specs.Words.{AreFewWords, AreWords, words_of}
 use Rattle.scripts.specs.declared.said.Said.{Said}
 use Rattle.scripts.specs.declared.said.Said.TheVariants as said
@@ -92,7 +93,7 @@ heading_nothing words seven none = (λ c h. omega (arith, (words_said words c h)
 -- what the words of a heading are
 pub heading_words : (verb name number kind size switches cards : List ℕ) (h : Heading)
     → IsHeading (verb ∷ name ∷ number ∷ kind ∷ size ∷ switches ∷ cards ∷ []) h
-    → (verb ≡ codes "submit") × IsKindOf kind h.kind × AreSwitchesOf switches h.switches × IsCountOf cards h.cards
+    → (verb ≡ codes "submit") × IsKindOf kind h.kind × AreSwitchesOf (text_of switches) h.switches × IsCountOf cards h.cards
 heading_words verb name number kind size switches cards h is =
     let e = is.are in
     let k : is.kind ≡ kind = cc in
@@ -100,7 +101,7 @@ heading_words verb name number kind size switches cards h is =
     let c : is.count ≡ cards = cc in (
       cc,
       subst (λ (w : List ℕ). IsKindOf w h.kind) k is.kind_is,
-      subst (λ (w : List ℕ). AreSwitchesOf w h.switches) s is.switches_are,
+      subst (λ (w : List ℕ). AreSwitchesOf (text_of w) h.switches) s is.switches_are,
       subst (λ (w : List ℕ). IsCountOf w h.cards) c is.count_is,
     )
 
@@ -114,7 +115,7 @@ pub no_kind : (verb name number kind size switches cards : List ℕ) → ((k : K
 no_kind verb name number kind size switches cards none =
     heading_nothing _ (omega arith) (λ h is. none h.kind (heading_words verb name number kind size switches cards h is).1)
 
-pub no_switches : (verb name number kind size switches cards : List ℕ) → ((s : Switches) → ¬ AreSwitchesOf switches s)
+pub no_switches : (verb name number kind size switches cards : List ℕ) → ((s : Switches) → ¬ AreSwitchesOf (text_of switches) s)
     → IsSaidBy (verb ∷ name ∷ number ∷ kind ∷ size ∷ switches ∷ cards ∷ []) Nothing
 no_switches verb name number kind size switches cards none =
     heading_nothing _ (omega arith) (λ h is. none h.switches (heading_words verb name number kind size switches cards h is).2)

@@ -16,14 +16,6 @@ use Rattle.scripts.specs.Replies.{fault_words, line_of, made_words, queued_words
 use Rattle.scripts.specs.Sending.{Writes, WritesPart, counted}
 use Rattle.scripts.specs.declared.write_failed.WriteFailed.{WriteFailed}
 
--- a write of n more bytes of the rest
-pub sent_more : (a b c : Option (List ℕ)) (bs : List ℕ) (s n : ℕ) → s ≤ length bs → Appends a b (take s bs) → Appends b c (take n (take (length bs - s) (drop s bs)))
-    → Appends a c (take (s + n) bs)
-sent_more a b c bs s n le p q =
-    let whole : take (length bs - s) (drop s bs) ≡ drop s bs = take_all _ _ (omega (arith, length-drop s bs)) in
-    let more : Appends b c (take n (drop s bs)) = subst (λ (xs : List ℕ). Appends b c (take n xs)) whole q in
-    subst (Appends a c) (sym (take-add s n bs)) (Appends-trans a b c _ _ p more)
-
 count_more : (before n m first second : ℕ) → first ≡ counted (before + n) → second ≡ counted (first + m) → second ≡ counted (before + (n + m))
 count_more before n m first second one two = omega (arith, one, two)
 

@@ -6,7 +6,8 @@ use Rattle.std.specs.Fmt.{digits}
 use Rattle.std.specs.Str.Parse.{digits_value}
 use Rattle.std.proofs.lemmas.Str.{IsUtf8-from_is_utf8, is_utf8-from_IsUtf8, IsUtf8-from_ascii}
 use Rattle.std.proofs.lemmas.Fmt.{decimal_is_IsNumeral}
-use Rattle.scripts.specs.Texts.{IsCountOf, IsNumberOf, text_of}
+use Rattle.texts.specs.Numbers.{IsNumberOf}
+use Rattle.scripts.specs.Texts.{IsCountOf, text_of}
 
 -- a word in UTF-8 is its own text
 pub own_text : (word : List ℕ) → IsUtf8 word → text_of word ≡ word
@@ -48,7 +49,7 @@ same_number n m small other same =
     sym (decimal_is_IsNumeral n (omega (arith, small))).1 ∙ ap (digits_value 10) same ∙ (decimal_is_IsNumeral m (omega (arith, other))).1
 
 -- a word that is no count of cards
-pub no_count : (word : List ℕ) (number : ℕ) → word ≢ 48 ∷ [] → IsNumberOf word number → (number ≡ 0) ⊎ (2000 < number) → (count : ℕ) → ¬ IsCountOf word count
+pub no_count : (word : List ℕ) (number : ℕ) → word ≢ 48 ∷ [] → IsNumberOf (text_of word) number → (number ≡ 0) ⊎ (2000 < number) → (count : ℕ) → ¬ IsCountOf word count
 no_count word number other (inl spelled) (inl none) count is = omega (arith, spelled.0, none)
 no_count word number other (inl spelled) (inr many) count is =
     let same = same_number number count spelled.1 (omega (arith, is.0)) (sym spelled.2 ∙ is.1) in

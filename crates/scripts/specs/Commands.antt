@@ -7,15 +7,18 @@ use Rattle.office.specs.declared.commands.JobCommand.TheVariants.{Slice, Start, 
 use Rattle.scripts.specs.declared.said.Said.{Said}
 use Rattle.scripts.specs.declared.said.Said.TheVariants as said
 use Rattle.scripts.specs.declared.headings.Heading.{Heading}
-use Rattle.scripts.specs.Texts.{AreSwitchesOf, IsCountOf, IsKindOf, IsNumberOf, text_of}
+use Rattle.texts.specs.Numbers.{IsNumberOf}
+use Rattle.texts.specs.Switches.{AreSwitchesOf}
+use Rattle.scripts.specs.Texts.{IsCountOf, IsKindOf, text_of}
 use Rattle.scripts.specs.Words.{AreWords, words_of}
 
 -- the verb and the words after the job's number are those of this command on a job
 abbrev pub AreJobWords : List ℕ → List (List ℕ) → JobCommand → Type 0
 AreJobWords verb after (Slice limit) =
-    (verb ≡ codes "slice") × (word : List ℕ) × (after ≡ word ∷ []) × IsNumberOf word limit
+    (verb ≡ codes "slice") × (word : List ℕ) × (after ≡ word ∷ []) × IsNumberOf (text_of word) limit
 AreJobWords verb after (Start switches) =
-    (verb ≡ codes "start") × (word : List ℕ) × (after ≡ word ∷ []) × AreSwitchesOf word switches
+    (verb ≡ codes "start") × (word : List ℕ) × (after ≡ word ∷ [])
+    × AreSwitchesOf (text_of word) switches
 AreJobWords verb after Hold = (verb ≡ codes "hold") × (after ≡ [])
 AreJobWords verb after Release = (verb ≡ codes "release") × (after ≡ [])
 AreJobWords verb after Collect = (verb ≡ codes "collect") × (after ≡ [])
@@ -37,7 +40,7 @@ pub record SaysJob (words : List (List ℕ)) (customer : List ℕ) (number : ℕ
   pub after : List (List ℕ)
   pub are : words ≡ verb ∷ name ∷ numeral ∷ after
   pub customer_is : customer ≡ text_of name
-  pub number_is : IsNumberOf numeral number
+  pub number_is : IsNumberOf (text_of numeral) number
   pub command_is : AreJobWords verb after command
 
 -- the words of a line are this command, which is no submission
@@ -59,10 +62,10 @@ pub record IsHeading (words : List (List ℕ)) (heading : Heading) : Type 0 wher
   pub count : List ℕ
   pub are : words ≡ codes "submit" ∷ name ∷ numeral ∷ kind ∷ size ∷ switches ∷ count ∷ []
   pub customer_is : string_bytes heading.customer ≡ text_of name
-  pub number_is : IsNumberOf numeral heading.number
+  pub number_is : IsNumberOf (text_of numeral) heading.number
   pub kind_is : IsKindOf kind heading.kind
-  pub size_is : IsNumberOf size heading.size
-  pub switches_are : AreSwitchesOf switches heading.switches
+  pub size_is : IsNumberOf (text_of size) heading.size
+  pub switches_are : AreSwitchesOf (text_of switches) heading.switches
   pub count_is : IsCountOf count heading.cards
 
 -- what the words of a line say: a command, a heading, or nothing if they are neither

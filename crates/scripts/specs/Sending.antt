@@ -1,15 +1,7 @@
--- what a writer took of some bytes, and the count of the bytes that were written
+-- bytes that were written, and the count of the bytes that were written
 use Rattle.std.specs.Prelude.{ℕ, ◌≡◌, ◌+◌, ◌-◌, ◌<◌, ◌^◌, List, Option, Result, Ok, Err, length, min, take}
 use Rattle.std.specs.Io.KnownBytes.{Appends}
-use Rattle.scripts.specs.declared.sending.Sent.{Sent}
-use Rattle.scripts.specs.declared.sending.Sent.TheVariants as sent
 use Rattle.scripts.specs.declared.write_failed.WriteFailed.{WriteFailed}
-
--- the writer took all of the bytes, or so many of them and not all
-abbrev pub SentIs : List ℕ → Option (List ℕ) → Option (List ℕ) → Sent → Type 0
-SentIs bytes old new sent.Whole = Appends old new bytes
-SentIs bytes old new (sent.Failed count) =
-    (count < length bytes) × Appends old new (take count bytes)
 
 -- a count of bytes, at most 2^64 - 1
 abbrev pub counted : ℕ → ℕ

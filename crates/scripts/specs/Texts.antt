@@ -1,25 +1,12 @@
 -- what the words of a line mean
-use Rattle.std.specs.Prelude.{ℕ, ◌≡◌, ◌≢◌, ◌<◌, ◌≤◌, ◌^◌, ◌⊎◌, List, [], if◌then◌else◌, codes, decimal}
+use Rattle.std.specs.Prelude.{ℕ, ◌≡◌, ◌≤◌, List, [], if◌then◌else◌, codes, decimal}
 use Rattle.std.specs.Str.{is_utf8}
 use Rattle.office.specs.declared.commands.Kind.{Kind}
 use Rattle.office.specs.declared.commands.Kind.TheVariants.{Object, Autocoder}
-use Rattle.units.specs.Switches.{AreSeven}
-use Rattle.units.specs.declared.Switches.{Switches}
-use Rattle.counter_values.specs.Switches as values
 
 -- the text of a word; a word that is not UTF-8 is the empty text, which is no name
 abbrev pub text_of : List ℕ → List ℕ
 text_of word = if is_utf8 word then word else []
-
--- the number of a word: its value if it has 1 to 9 digits with no zero in front, else 0
-abbrev pub IsNumberOf : List ℕ → ℕ → Type 0
-IsNumberOf word number =
-    ((0 < number) × (number < 10 ^ 9) × (text_of word ≡ decimal number))
-    ⊎ ((number ≡ 0) × ((other : ℕ) → 0 < other → other < 10 ^ 9 → text_of word ≢ decimal other))
-
--- the switches that a word sets on, by their letters, or a hyphen for none
-abbrev pub AreSwitchesOf : List ℕ → Switches → Type 0
-AreSwitchesOf word switches = AreSeven switches × (text_of word ≡ values.text_of switches)
 
 -- the word for a kind of deck: `object` or `autocoder`
 abbrev pub IsKindOf : List ℕ → Kind → Type 0

@@ -3,7 +3,7 @@
 ghost use Rattle.std.specs.Prelude.{[], ◌∷◌};
 ghost use Rattle.scripts.specs.Commands.{AreFound};
 
-use crate::texts::{number_of, switches_of};
+use crate::values::{number_of, switches_of};
 use office::JobCommand;
 
 /// The command of a line without a word after the job's number.

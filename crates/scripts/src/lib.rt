@@ -25,7 +25,7 @@ mod replying;
 mod said;
 mod saying;
 mod sending;
-mod texts;
+mod values;
 mod words;
 mod write_failed;
 
@@ -35,5 +35,4 @@ pub use parsing::{MOST_BYTES, parse};
 pub use reading::{ReadFault, read_script};
 pub use replying::{write_bad, write_fault, write_refusal, write_reply};
 pub use said::Said;
-pub use sending::Sent;
 pub use write_failed::WriteFailed;

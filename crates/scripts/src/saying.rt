@@ -6,7 +6,7 @@ ghost use Rattle.scripts.specs.Commands.{AreFound, IsSaidBy, IsSaidIn};
 use crate::headings::Heading;
 use crate::job_words::{plain_command, worded_command};
 use crate::said::Said;
-use crate::texts::{count_of, customer_of, kind_of, number_of, switches_of};
+use crate::values::{count_of, customer_of, kind_of, number_of, switches_of};
 use crate::words::Words;
 use office::{Command, JobCommand};
 use std::alloc::{AllocError, Global};

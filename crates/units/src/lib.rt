@@ -7,6 +7,10 @@
 //! does the work of several units in one operation. Memory is taken for a punched card, for a
 //! printed line and by `render`; if there is none, nothing is changed. Units in range stay in range
 //! (`specs/Ranges.antt`).
+//!
+//! Laws over the definitions: an operation keeps the deck and the switches, and the cards and lines
+//! made before it are the first of those made after it ([`operating_only_adds`]); printed lines in
+//! range rise by form and line ([`lines_in_range_rise`]).
 #![tactic(auto)]
 
 mod areas;

@@ -1,6 +1,7 @@
 //! The card reader.
 
-ghost use Rattle.std.specs.Prelude.{◌≡◌, ◌==◌, ◌<◌, ◌≤◌, true, false, length, Ok, Err, IsOk, OnOk, OnErr, IfErr};
+ghost use Rattle.std.specs.Prelude.{◌≡◌, ◌==◌, ◌<◌, ◌≤◌, true, false, length, Ok, Err, IsOk};
+ghost use Rattle.core_store.specs.Doing.{Does};
 ghost use Rattle.core_store.specs.Storage.{Storage, put_codes};
 ghost use Rattle.core_store.specs.declared.checks.Check.TheVariants.{ReaderEmpty};
 ghost use Rattle.units.specs.Units.{read_area_end, card_read};
@@ -59,11 +60,7 @@ pub(crate) fn take_card<C: Core>(core: &mut C, hopper: &mut Hopper)
 #[tactic(auto, unfolding(crate::specs::Units::card_read))]
 pub fn read_card<C: Core>(core: &mut C, hopper: &mut Hopper) -> Result<(), Check>
     requires { read_area_end ≤ length (C.cells core.old) }
-    ensures done { OnOk result (card_read (C.cells core.old) hopper.old
-        ≡ Ok (C.cells core.new, hopper.new)) }
-    ensures check { IfErr result (λ check. card_read (C.cells core.old) hopper.old ≡ Err check) }
-    ensures unchanged { OnErr result ((C.cells core.new ≡ C.cells core.old)
-        × (hopper.new ≡ hopper.old)) }
+    ensures { Does result (C.cells core.old) hopper.old (C.cells core.new) hopper.new card_read }
 {
     if hopper.has_no_card() {
         return Err(Check::ReaderEmpty);

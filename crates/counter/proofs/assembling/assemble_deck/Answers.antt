@@ -2,12 +2,12 @@ use Rattle.std.proofs.Common.{◌≡◌, List, ℕ, inl, inr, refl, subst, sym, 
 use Rattle.std.specs.Prelude.{Option}
 use Rattle.std.proofs.lemmas.Result.{IfOk-weaker}
 use Rattle.cards.specs.Faults.{out_of_memory}
-use Rattle.counter_endings.specs.declared.showing.Assembled.{Assembled}
-use Rattle.counter_tasks.specs.declared.faults.Fault.{Fault}
-use Rattle.counter_tasks.specs.declared.faults.Fault.TheVariants as fault
-use Rattle.counter_endings.specs.Endings.{IsHindrance, hindered}
+use Rattle.counter.specs.declared.showing.Assembled.{Assembled}
+use Rattle.command_line.specs.declared.faults.Fault.{Fault}
+use Rattle.command_line.specs.declared.faults.Fault.TheVariants as fault
+use Rattle.counter.specs.Endings.{IsHindrance, hindered}
 use Rattle.counter.specs.Assembling.{Assembles, Hinders}
-use Rattle.counter_runs.proofs.RunningLemmas.{kept, some_text}
+use Rattle.counter.proofs.RunningLemmas.{kept, some_text}
 use Rattle.counter.proofs.assembling.assemble_deck.Goals as goal
 
 -- a fault that was told, with nothing put out

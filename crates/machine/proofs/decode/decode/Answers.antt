@@ -1,6 +1,6 @@
 use Rattle.std.proofs.Common.{◌∙◌, sym, refl, length}
 use Rattle.core_store.specs.Storage.{codes_from, largest_size}
-use Rattle.machine.proofs.DecodeLemmas.{form_refused, last_refused, operands_refused, whole_decoded, form_named, last_named, looks_inside}
+use Rattle.machine.proofs.DecodeLemmas.{form_refused, last_refused, operands_refused, whole_decoded, operation_named, last_named, looks_inside}
 use Rattle.machine.proofs.decode.decode.Goals as goal
 
 pub returns-then-not-has_form-clause-check : goal.returns-then-not-has_form-clause-check
@@ -25,8 +25,8 @@ returns-clause-decoded g c =
 
 pub returns-clause-names : goal.returns-clause-names
 returns-clause-names g c = record {
-  operation = (form_named c.character-first.result c.args.word.length (sym c.has_form.ensures ∙ c.if-not-has_form.false)).0;
-  modifier = last_named c.character-first.result c.args.word.length c.character-last.result (sym c.allows.ensures ∙ c.if-not-allows.false);
+  operation = operation_named c.character-first.result c.args.word.length (sym c.has_form.ensures ∙ c.if-not-has_form.false);
+  modifier = last_named c.character-first.result c.args.word.length c.character-last.result (sym c.has_form.ensures ∙ c.if-not-has_form.false) (sym c.allows.ensures ∙ c.if-not-allows.false);
   length = refl;
   a = refl;
   b = refl;

@@ -2,7 +2,8 @@ use Rattle.std.proofs.Common.{◌≡◌, ◌∙◌, ◌≤◌, ap, arith, true, 
 use Rattle.std.proofs.lemmas.List.{length-replicate}
 use Rattle.core_store.specs.Storage.{positions_of, blank_storage, put_codes, with_mark}
 use Rattle.core_store.proofs.Fields.{length-put_codes}
-use Rattle.machine.proofs.Steps.{at_least_1400, first_card_is}
+use Rattle.core_store.proofs.SizeLemmas.{within}
+use Rattle.machine.proofs.Steps.{first_card_is}
 use Rattle.cards.specs.declared.decks.Card.{Card}
 use Rattle.machine.specs.Run.{first_card}
 use Rattle.machine.proofs.runs.loaded_core.Goals as goal
@@ -10,13 +11,13 @@ use Rattle.machine.proofs.runs.loaded_core.Goals as goal
 pub put_card-requires : goal.put_card-requires
 put_card-requires g c =
     let long : length (g.C.Core.cells c.in_ok-core.core) ≡ positions_of c.args.size = ap length c.in_ok-core.ensures ∙ length-replicate (positions_of c.args.size) _ in
-    let most : 1400 ≤ positions_of c.args.size = at_least_1400 c.args.size in
+    let most : 1400 ≤ positions_of c.args.size = (within c.args.size).0 in
     omega arith
 
 pub set_mark-requires : goal.set_mark-requires
 set_mark-requires g c =
     let long : length (g.C.Core.cells c.in_ok-core.core) ≡ positions_of c.args.size = ap length c.in_ok-core.ensures ∙ length-replicate (positions_of c.args.size) _ in
-    let most : 1400 ≤ positions_of c.args.size = at_least_1400 c.args.size in
+    let most : 1400 ≤ positions_of c.args.size = (within c.args.size).0 in
     let same : length (g.C.Core.cells c.put_card.new.core) ≡ length (g.C.Core.cells c.in_ok-core.core) = ap length c.put_card.ensures ∙ length-put_codes (g.C.Core.cells c.in_ok-core.core) 1 _ in
     omega arith
 

@@ -20,7 +20,7 @@ returns-in-Ok-GoesOn-clause-step g c =
     let running : is_running m.standing ≡ true = sym c.is_running.ensures ∙ c.if-not-is_running.false in
     let after_it = works_of (g.C.Core.cells c.attempt.new.core) c.attempt.new.registers c.attempt.new.units in
     let standing : c.self.inside.standing ≡ Running = ap (λ (x : State). x.standing) c.self.view_is ∙ runs m.standing running in
-    ap (λ s. record { works = after_it; standing = s }) standing ∙ step_ok m w after_it GoesOn same running (rw c.in-Ok-GoesOn.field-0-is at c.in-Ok-GoesOn.ensures.done)
+    ap (λ s. record { works = after_it; standing = s }) standing ∙ step_ok m w after_it GoesOn same running (rw c.in-Ok-GoesOn.field-0-is at c.in-Ok-GoesOn.ensures)
 
 pub returns-in-Ok-GoesOn-clause-meter : goal.returns-in-Ok-GoesOn-clause-meter
 returns-in-Ok-GoesOn-clause-meter g c =
@@ -35,7 +35,7 @@ returns-in-Ok-Halts-clause-step g c =
     let same : w ≡ m.works = ap (λ (x : State). x.works) c.self.view_is in
     let running : is_running m.standing ≡ true = sym c.is_running.ensures ∙ c.if-not-is_running.false in
     let after_it = works_of (g.C.Core.cells c.attempt.new.core) c.attempt.new.registers c.attempt.new.units in
-    step_ok m w after_it Halts same running (rw c.in-Ok-Halts.field-0-is at c.in-Ok-Halts.ensures.done)
+    step_ok m w after_it Halts same running (rw c.in-Ok-Halts.field-0-is at c.in-Ok-Halts.ensures)
 
 pub returns-in-Ok-Halts-clause-meter : goal.returns-in-Ok-Halts-clause-meter
 returns-in-Ok-Halts-clause-meter g c =
@@ -50,8 +50,8 @@ returns-in-Stopped-clause-step g c =
     let same : w ≡ m.works = ap (λ (x : State). x.works) c.self.view_is in
     let running : is_running m.standing ≡ true = sym c.is_running.ensures ∙ c.if-not-is_running.false in
     let after_it = works_of (g.C.Core.cells c.attempt.new.core) c.attempt.new.registers c.attempt.new.units in
-    let refused : attempt w ≡ Err c.in-Stopped.check = rw c.in-Stopped.is at c.in-Err.ensures.refused in
-    let unchanged : after_it ≡ m.works = c.in-Err.ensures.unchanged ∙ same in
+    let refused : attempt w ≡ Err c.in-Stopped.check = rw c.in-Stopped.is at c.in-Err.ensures.0 in
+    let unchanged : after_it ≡ m.works = c.in-Err.ensures.1 ∙ same in
     ap (λ (x : Works). record { works = x; standing = Checked c.in-Stopped.check }) unchanged ∙ step_check m w c.in-Stopped.check same running refused
 
 pub returns-in-Stopped-clause-meter : goal.returns-in-Stopped-clause-meter
@@ -68,14 +68,14 @@ returns-in-NoMemory-clause-memory g c =
     let w = works_of (g.C.Core.cells c.self.inside.core) c.self.inside.registers c.self.inside.units in
     let same : w ≡ m.works = ap (λ (x : State). x.works) c.self.view_is in
     let running : is_running m.standing ≡ true = sym c.is_running.ensures ∙ c.if-not-is_running.false in
-    let makes : MakesBy w (attempt w) = rw c.in-NoMemory.is at c.in-Err.ensures.refused in
+    let makes : MakesBy w (attempt w) = rw c.in-NoMemory.is at c.in-Err.ensures.0 in
     step_makes m w same running makes
 
 pub invariant_of-self : goal.invariant_of-self
 invariant_of-self g c =
     let w = works_of (g.C.Core.cells c.self.inside.core) c.self.inside.registers c.self.inside.units in
     let after_it = works_of (g.C.Core.cells c.attempt.new.core) c.attempt.new.registers c.attempt.new.units in
-    let same : length after_it.storage ≡ length w.storage = attempt_size w after_it GoesOn (rw c.in-Ok-GoesOn.field-0-is at c.in-Ok-GoesOn.ensures.done) in
+    let same : length after_it.storage ≡ length w.storage = attempt_size w after_it GoesOn (rw c.in-Ok-GoesOn.field-0-is at c.in-Ok-GoesOn.ensures) in
     let most : 1400 ≤ length w.storage = c.self.invariant in
     omega arith
 
@@ -83,6 +83,6 @@ pub invariant_of-self-in-Ok-Halts : goal.invariant_of-self-in-Ok-Halts
 invariant_of-self-in-Ok-Halts g c =
     let w = works_of (g.C.Core.cells c.self.inside.core) c.self.inside.registers c.self.inside.units in
     let after_it = works_of (g.C.Core.cells c.attempt.new.core) c.attempt.new.registers c.attempt.new.units in
-    let same : length after_it.storage ≡ length w.storage = attempt_size w after_it Halts (rw c.in-Ok-Halts.field-0-is at c.in-Ok-Halts.ensures.done) in
+    let same : length after_it.storage ≡ length w.storage = attempt_size w after_it Halts (rw c.in-Ok-Halts.field-0-is at c.in-Ok-Halts.ensures) in
     let most : 1400 ≤ length w.storage = c.self.invariant in
     omega arith

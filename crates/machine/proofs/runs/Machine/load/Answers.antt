@@ -3,14 +3,15 @@ use Rattle.std.proofs.lemmas.List.{length-replicate}
 use Rattle.core_store.specs.Storage.{positions_of}
 use Rattle.machine.specs.Run.{first_card}
 use Rattle.machine.proofs.InRange.{loaded_in_range}
-use Rattle.machine.proofs.Steps.{at_least_1400, length-loaded}
+use Rattle.core_store.proofs.SizeLemmas.{within}
+use Rattle.machine.proofs.Steps.{length-loaded}
 use Rattle.machine.proofs.runs.Machine.load.Goals as goal
 
 pub invariant_of-parts : goal.invariant_of-parts
 invariant_of-parts g c =
     let s = g.C.Core.cells c.in_ok-core.core in
     let long : length s ≡ positions_of c.args.size = length-loaded s c.args.size (first_card c.args.deck) c.in_ok-core.ensures in
-    let most : 1400 ≤ positions_of c.args.size = at_least_1400 c.args.size in
+    let most : 1400 ≤ positions_of c.args.size = (within c.args.size).0 in
     omega arith
 
 pub invariant_of-result : goal.invariant_of-result

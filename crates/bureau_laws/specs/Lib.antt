@@ -1,0 +1,4 @@
+pub mod Customers
+pub mod Repeats
+pub mod Same
+pub mod Rounds

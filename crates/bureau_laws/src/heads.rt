@@ -1,0 +1,28 @@
+//! The laws of heads.
+
+ghost use Rattle.std.specs.Prelude.{◌≡◌, ℕ, List};
+ghost use Rattle.httparse.specs.Grammar.{ReadsRequest, RequestHead};
+ghost use Rattle.http_requests.specs.Heads.{AsksFor, BeginsWith, Refuses};
+ghost use Rattle.http_requests.specs.declared.targets.Target.{Target};
+ghost use Rattle.bureau_laws.specs.Same.{IsSameStatus};
+
+/// The law of heads: bytes begin with at most one head, and the bytes after it are determined.
+pub fn one_head()
+    ensures { (input : List ℕ) (h k : RequestHead) (one : BeginsWith input h)
+        (other : BeginsWith input k) → (h ≡ k) × (one.rest ≡ other.rest) }
+{}
+
+/// The law of refusals: bytes that ask for something are not refused. Bytes that begin with a head,
+/// which may be too large, are refused with at most one status. Other bytes may be refused with
+/// both 400 and 431, for example bytes that end after too many header fields; hence not all bytes
+/// have one status.
+pub fn one_refusal()
+    ensures not_both { (input : List ℕ) (status : ℕ) (asked : Target) (count : ℕ)
+        (after : List ℕ) → AsksFor input asked count after → Refuses input status → ⊥ }
+    ensures of_head { (input : List ℕ) (h : RequestHead) (rest : List ℕ) (one other : ℕ) →
+        ReadsRequest input h rest → Refuses input one → Refuses input other → one ≡ other }
+    ensures of_any { (input : List ℕ) (one other : ℕ) →
+        Refuses input one → Refuses input other → IsSameStatus one other }
+    ensures not_one { ((input : List ℕ) (one other : ℕ) →
+        Refuses input one → Refuses input other → one ≡ other) → ⊥ }
+{}

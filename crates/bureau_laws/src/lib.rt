@@ -1,0 +1,36 @@
+//! The theorems of the bureau: stops lose nothing, customers are apart, a submission may be sent
+//! again, and bytes are one request.
+//!
+//! They are over the definitions that the program's calls are proved against.
+//!
+//! - **Stops lose nothing** ([`stops_lose_nothing`]): rounds in which a bureau's file is opened, a
+//!   shift is worked and everything stops, any number of them, each stopped at any moment. The last
+//!   files are of the office after a beginning of the commands that were given in each round, and
+//!   each beginning contains every acknowledged command. Each job at a halt there has in its rows
+//!   the cards and lines of one uninterrupted run over its whole deck, in order, none lost and none
+//!   repeated. [`working_round`] is one such round.
+//! - **Customers are apart** ([`customers_are_apart`]): the replies to a customer's commands do not
+//!   depend on any other customer.
+//! - **A submission may be sent again** ([`repeats_in_any_shift`]): one that was taken gets the
+//!   same reply when it comes again, after any further commands, and changes nothing then. One that
+//!   would have been taken and was lost is taken when it comes later, unless meanwhile its number,
+//!   or the last of the customer's places, was taken.
+//! - **Bytes are one request** ([`one_request`]): bytes begin with one head ([`one_head`]); they
+//!   ask for something or are refused, and not both; bytes that begin with a head are refused with
+//!   one status, any others with 400 or 431 ([`one_refusal`]); they ask for one thing
+//!   ([`one_asking`]).
+#![tactic(auto)]
+
+mod asking;
+mod customers;
+mod heads;
+mod repeats;
+mod requests;
+mod rounds;
+
+pub use asking::one_asking;
+pub use customers::customers_are_apart;
+pub use heads::{one_head, one_refusal};
+pub use repeats::repeats_in_any_shift;
+pub use requests::one_request;
+pub use rounds::{hand_out, stops_lose_nothing, working_round};

@@ -1,0 +1,5 @@
+pub mod Plain
+pub mod Command
+pub mod Asked
+pub mod Printed
+pub mod Tasks

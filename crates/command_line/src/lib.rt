@@ -1,0 +1,40 @@
+//! The command line: the task that the program's words ask for, and what the program prints there.
+//!
+//! A call of the program is one of a few rows: no words at all, or a row's name and its values in
+//! their places. Words with hyphens that ask for the help or the version are searched for first,
+//! and then a row whose values come after `--`: those values are taken unchanged. Of all other
+//! words none may begin with a hyphen, except `-` alone. These words are parsed by clap. Its
+//! command has only the rows, each with the number of required values that the row has, and has no
+//! help of its own. The values (a size, the switches) are read after that, before any file is
+//! opened.
+//!
+//! The contracts for the layers above: [`words`] returns what the words ask for, and fails for
+//! those that ask for something only if there is no memory; [`task_of`] returns the task that they
+//! ask for, or else the misuse is what is wrong with them (`specs/Tasks.antt`); and what is
+//! printed, for a fault, for a misuse or as help, is exactly the text of `specs/Printed.antt`, or
+//! the writer failed.
+#![tactic(auto)]
+
+mod asked;
+mod commands;
+mod faults;
+mod found;
+mod help;
+mod misreading;
+mod options;
+mod parsing;
+mod ports;
+mod row_names;
+mod row_values;
+mod statuses;
+mod tasks;
+mod telling;
+
+pub use asked::{Words, WordsFault};
+pub use faults::Fault;
+pub use help::VERSION;
+pub use parsing::words;
+pub use row_names::RowName;
+pub use statuses::Status;
+pub use tasks::{Input, Misuse, Task, task_of};
+pub use telling::{put_out, show_help, show_version, tell_fault, tell_misuse};

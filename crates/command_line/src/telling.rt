@@ -1,0 +1,85 @@
+//! Printing on the second writer, and the help.
+
+ghost use Rattle.std.specs.Prelude.{◌≡◌, ◌∷◌, [], ◌++◌, IfOk, OnOk};
+ghost use Rattle.std.specs.Io.KnownBytes.{Appends};
+ghost use Rattle.command_line.specs.Asked.{page_of};
+ghost use Rattle.command_line.specs.Printed.{IsTextShown, fault_words, misuse_message, misuse_status};
+
+use crate::faults::Fault;
+use crate::help::{USAGE, VERSION, page};
+use crate::row_names::RowName;
+use crate::statuses::Status;
+use crate::tasks::Misuse;
+use std::io;
+use std::io::Write;
+
+/// Writes all bytes. An error is the writer's, which may have taken some of them.
+pub fn put_out<W: Write>(output: &mut W, bytes: &[u8]) -> io::Result<()>
+    ensures { OnOk result (Appends (W.contents output.old) (W.contents output.new) bytes.now) }
+{
+    output.write_all(bytes)?;
+    output.flush()
+}
+
+/// Prints a fault. An error is the writer's.
+pub fn tell_fault<E: Write>(errors: &mut E, fault: Fault) -> io::Result<Status>
+    ensures { IfOk result (λ status. (status ≡ Status.NotDone)
+        × Appends (E.contents errors.old) (E.contents errors.new) (fault_words fault ++ 10 ∷ [])) }
+{
+    writeln!(errors, "{fault}")?;
+    Ok(Status::NotDone)
+}
+
+/// Prints what is wrong with the words, and the usage line; or, if they ask for help without
+/// hyphens, only this help. An error is the writer's.
+pub fn tell_misuse<E: Write>(errors: &mut E, misuse: Misuse<'_>) -> io::Result<Status>
+    ensures { IfOk result (λ status. (status ≡ misuse_status misuse.entry)
+        × Appends (E.contents errors.old) (E.contents errors.new)
+        (misuse_message USAGE.now misuse.entry)) }
+{
+    if misuse.is_want_of_memory() {
+        return tell_fault(errors, Fault::Memory);
+    }
+    if misuse.asks_for_help() {
+        write!(errors, "{misuse}")?;
+    } else {
+        writeln!(errors, "bureau: {misuse}\n{USAGE}")?;
+    }
+    Ok(Status::Misused)
+}
+
+/// Writes a text. An error is the second writer's, on which nothing can be printed.
+fn show_text<W: Write, E: Write>(text: &str, output: &mut W, errors: &mut E) -> io::Result<Status>
+    ensures { IfOk result (λ status. IsTextShown text.now status
+        (W.contents output.old) (W.contents output.new)
+        (E.contents errors.old) (E.contents errors.new)) }
+{
+    if put_out(output, text.as_bytes()).is_err() {
+        return tell_fault(errors, Fault::Device);
+    }
+    Ok(Status::Done)
+}
+
+/// Writes the help of a row, or the whole help. An error is the second writer's, on which nothing
+/// can be printed.
+pub fn show_help<W: Write, E: Write>(
+    output: &mut W,
+    errors: &mut E,
+    row: Option<RowName>,
+) -> io::Result<Status>
+    ensures { IfOk result (λ status. IsTextShown (page_of row) status
+        (W.contents output.old) (W.contents output.new)
+        (E.contents errors.old) (E.contents errors.new)) }
+{
+    show_text(page(row), output, errors)
+}
+
+/// Writes the version, and the line of the toolchain. An error is the second writer's, on which
+/// nothing can be printed.
+pub fn show_version<W: Write, E: Write>(output: &mut W, errors: &mut E) -> io::Result<Status>
+    ensures { IfOk result (λ status. IsTextShown VERSION.now status
+        (W.contents output.old) (W.contents output.new)
+        (E.contents errors.old) (E.contents errors.new)) }
+{
+    show_text(VERSION, output, errors)
+}

@@ -1,9 +1,0 @@
-use Rattle.std.proofs.Common.{◌≡◌, length}
-use Rattle.counter_values.specs.Switches.{risen}
-use Rattle.counter_values.proofs.switches.bits_of.Given as goal
-
-abbrev pub invariant-loop-letter : goal.invariant-loop-letter
-invariant-loop-letter l = risen l.bits l.rest ≡ risen 0 l.letters
-
-abbrev pub decreases-loop-letter : goal.decreases-loop-letter
-decreases-loop-letter l = length l.rest

@@ -1,0 +1,4 @@
+pub mod AnsweringLines
+pub mod AnsweringLemmas
+pub mod ApplyingLemmas
+pub mod RunningLemmas

@@ -1,0 +1,68 @@
+-- how the run of a script ended
+use Rattle.std.specs.Prelude.{◌≡◌, ◌≢◌, ◌⊎◌, ℕ, false, List, Option, IfSome, take}
+use Rattle.office.specs.declared.commands.Command.{Command}
+use Rattle.scripts.specs.Replies.{bad_line, fault_line}
+use Rattle.scripts.specs.Scripts.{IsFaultOf, IsScriptOf}
+use Rattle.scripts.specs.Sending.{WritesPart}
+use Rattle.scripts.specs.declared.faults.ScriptFault.{ScriptFault}
+use Rattle.scripts.specs.declared.faults.ScriptFault.TheVariants as fault
+use Rattle.exchanges.specs.Running.{LeavesBeginning, Runs, Ticks}
+use Rattle.exchanges.specs.Steps.{Sends, SendsSome}
+use Rattle.exchanges.specs.declared.endings.ScriptEnd.TheVariants as ended
+use Rattle.exchanges.specs.declared.endings.Scripted.{Scripted}
+use Rattle.sqlite.specs.Held.{Held}
+use Rattle.sqlite_trees.specs.declared.store.Store.{Ghosts}
+use Rattle.ledger_tables.specs.declared.faults.Fault.TheVariants.{NoMemory}
+
+-- the bytes of the reader, or the first 4,000,001 of them, are the script of these commands
+abbrev pub ReadAs : Option (List ℕ) → List Command → Type 0
+ReadAs remaining commands = IfSome remaining (λ input. IsScriptOf (take 4000001 input) commands)
+
+-- the bytes of the reader, or the first 4,000,001 of them, are no script, for this reason
+abbrev pub ReadBad : Option (List ℕ) → ScriptFault → Type 0
+ReadBad remaining reason = IfSome remaining (λ input. IsFaultOf (take 4000001 input) reason)
+
+-- the line with the reason why the bytes are no script was written whole; or in part, and the
+-- writer failed
+abbrev pub TurnsDown : ScriptFault → Scripted → Option (List ℕ) → Option (List ℕ) → Type 0
+TurnsDown reason it written now =
+    ((it.ended ≡ ended.Bad) × Sends (bad_line reason) written now 0 it.sent)
+    ⊎ ((it.ended ≡ ended.WriteFailed) × WritesPart (bad_line reason) written now 0 it.sent)
+
+-- no command was replied to, and so none refused
+abbrev pub HasNoReply : Scripted → Type 0
+HasNoReply it = (it.acknowledged ≡ 0) × (it.refused ≡ false)
+
+-- memory ran out: the line of fault 1 was written, or a beginning of it
+abbrev pub GivesUp : Scripted → Option (List ℕ) → Option (List ℕ) → Type 0
+GivesUp it written now =
+    (it.ended ≡ ended.Fault NoMemory) × SendsSome (fault_line 1) written now 0 it.sent
+
+-- the reader failed, and nothing was written
+abbrev pub IsUnread : Scripted → Option (List ℕ) → Option (List ℕ) → Type 0
+IsUnread it written now = (it.ended ≡ ended.ReadFailed) × (it.sent ≡ 0) × (now ≡ written)
+
+-- the bytes are no script, and the line with the reason was written, or a part of it
+abbrev pub IsBad : Scripted → Option (List ℕ) → Option (List ℕ) → Option (List ℕ) → Type 0
+IsBad it remaining written now =
+    (reason : ScriptFault) × (reason ≢ fault.NoMemory) × ReadBad remaining reason
+    × TurnsDown reason it written now
+
+module _ {S : Type 0} (g : Ghosts S) (old new : Held S) (meter risen_meter : ℕ) where
+  -- no command was applied: the reader failed, memory ran out, or the bytes are no script
+  abbrev pub AppliesNone : Scripted → Option (List ℕ) → Option (List ℕ) → Option (List ℕ) → Type 0
+  AppliesNone it remaining written now =
+      (new ≡ old) × (risen_meter ≡ meter) × HasNoReply it
+      × (IsUnread it written now ⊎ (GivesUp it written now ⊎ IsBad it remaining written now))
+
+  -- the bytes are a script, and its commands were carried out up to its end
+  abbrev pub CarriesOut : Scripted → Option (List ℕ) → Option (List ℕ) → Option (List ℕ) → Type 0
+  CarriesOut it remaining written now =
+      (commands : List Command) × ReadAs remaining commands
+      × Runs g old new commands it written now × LeavesBeginning g old new commands it
+      × Ticks g old new commands it meter risen_meter
+
+  -- a script ended with no command applied, or its commands were carried out
+  abbrev pub Ends : Scripted → Option (List ℕ) → Option (List ℕ) → Option (List ℕ) → Type 0
+  Ends it remaining written now =
+      AppliesNone it remaining written now ⊎ CarriesOut it remaining written now

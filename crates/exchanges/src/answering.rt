@@ -1,0 +1,145 @@
+//! The answer to a request.
+
+ghost use Rattle.std.specs.Prelude.{◌≡◌, ◌⊎◌, ◌≤◌, [], IfSome, IfNone, IsTrue};
+ghost use Rattle.std.specs.Option.{IsSomeAnd};
+ghost use Rattle.sqlite.specs.Held.{state};
+ghost use Rattle.sqlite.specs.State.{HasCleanDisk};
+ghost use Rattle.sqlite.specs.View.{doubt};
+ghost use Rattle.ledger.specs.Standing.{Stands};
+ghost use Rattle.office.specs.Meters.{RisenAtMost};
+ghost use Rattle.office.specs.Office.{Office};
+ghost use Rattle.http_requests.specs.Requests.{HasRefusingStatus, IsRefusingStatus};
+ghost use Rattle.http_requests.specs.declared.request.Request.TheVariants as request;
+ghost use Rattle.exchanges.specs.Answers.{AnswersBroken, IsAnswer, IsOfFault, limit_of};
+ghost use Rattle.exchanges.specs.Exchanges.{Comes, ComesOfBroken, ComesTo, TicksForRead};
+ghost use Rattle.exchanges.specs.Messages.{bytes_in};
+
+use crate::laws::lines_rise;
+use crate::messages::{Bytes, Message, fault_message};
+use cards::CardFault;
+use http_replies::{Fault, deck_fault, refusal_answer, reply_to, status_of};
+use http_requests::{Request, RequestFault, Routes};
+use ledger::Bureau;
+use machine::Meter;
+use office::Command;
+use sqlite::Alter;
+use std::alloc::Global;
+use std::io::Read;
+
+/// The answer that refuses a request with this status.
+fn refusal(status: u16) -> Message
+    requires { IsRefusingStatus status }
+    ensures { IsAnswer (request.Refused status) [] result.status (bytes_in result.bytes) }
+{
+    Message {
+        status,
+        bytes: Bytes::Fixed(refusal_answer(status)),
+    }
+}
+
+/// The answer to a submission whose deck has this fault.
+fn bad_deck(alloc: Global, fault: CardFault) -> Message
+    ensures { IsAnswer (request.BadDeck fault) [] result.status (bytes_in result.bytes)
+        ⊎ IsOfFault Fault.NoMemory result.status (bytes_in result.bytes) }
+{
+    match deck_fault(alloc, fault) {
+        Ok(bytes) => Message {
+            status: 400,
+            bytes: Bytes::Made(bytes),
+        },
+        Err(_) => fault_message(Fault::NoMemory),
+    }
+}
+
+/// Carries out a command, and then makes the answer.
+fn carry_out<S: Alter>(
+    alloc: Global,
+    command: &Command,
+    bureau: &mut Bureau<S>,
+    meter: &mut Meter,
+) -> Message
+    ensures comes { HasCleanDisk (state S.Store bureau.new.conn) → (office : Office)
+        → Stands (state S.Store bureau.old.conn) office
+        → ComesTo S.Store bureau.new.conn bureau.new.broken meter.old meter.new office
+        (request.Asks command.now) result.status (bytes_in result.bytes) }
+    ensures ended { IsTrue bureau.old.broken → (bureau.new ≡ bureau.old) × (meter.new ≡ meter.old)
+        × IsOfFault Fault.Store result.status (bytes_in result.bytes) }
+    ensures kept { (bureau.new.broken ≡ bureau.old.broken)
+        ⊎ IsOfFault Fault.Store result.status (bytes_in result.bytes) }
+    ensures most { RisenAtMost (limit_of (request.Asks command.now)) meter.old meter.new }
+    ensures clean { doubt (state S.Store bureau.old.conn).is_clean
+        ≤ doubt (state S.Store bureau.new.conn).is_clean }
+{
+    // A law, for the proof: it does nothing.
+    lines_rise();
+    let reply = match bureau.apply(command, meter) {
+        Ok(reply) => reply,
+        Err(ledger::Fault::NoMemory) => return fault_message(Fault::NoMemory),
+        Err(ledger::Fault::Store) => return fault_message(Fault::Store),
+    };
+    match reply_to(alloc, &reply) {
+        Ok(bytes) => Message {
+            status: status_of(&reply),
+            bytes: Bytes::Made(bytes),
+        },
+        Err(_) => fault_message(Fault::NoMemoryForReply),
+    }
+}
+
+/// Carries out a request, and then makes the answer.
+fn answer<S: Alter>(
+    alloc: Global,
+    request: &Request,
+    bureau: &mut Bureau<S>,
+    meter: &mut Meter,
+) -> Message
+    requires { HasRefusingStatus request.now }
+    ensures comes { HasCleanDisk (state S.Store bureau.new.conn) → (office : Office)
+        → Stands (state S.Store bureau.old.conn) office
+        → ComesTo S.Store bureau.new.conn bureau.new.broken meter.old meter.new office
+        request.now result.status (bytes_in result.bytes) }
+    ensures ended { IsTrue bureau.old.broken → (bureau.new ≡ bureau.old) × (meter.new ≡ meter.old)
+        × AnswersBroken request.now result.status (bytes_in result.bytes) }
+    ensures kept { (bureau.new.broken ≡ bureau.old.broken)
+        ⊎ IsOfFault Fault.Store result.status (bytes_in result.bytes) }
+    ensures most { RisenAtMost (limit_of request.now) meter.old meter.new }
+    ensures clean { doubt (state S.Store bureau.old.conn).is_clean
+        ≤ doubt (state S.Store bureau.new.conn).is_clean }
+{
+    match request {
+        Request::Refused(status) => refusal(*status),
+        Request::BadDeck(fault) => bad_deck(alloc, *fault),
+        Request::Asks(command) => carry_out(alloc, command, bureau, meter),
+    }
+}
+
+/// Reads a request, carries it out and makes the answer; `None` if the reader fails.
+pub(crate) fn answer_next<R: Read, S: Alter>(
+    alloc: Global,
+    routes: &Routes,
+    reader: &mut R,
+    bureau: &mut Bureau<S>,
+    meter: &mut Meter,
+) -> Option<Message>
+    ensures comes { HasCleanDisk (state S.Store bureau.new.conn) → (office : Office)
+        → Stands (state S.Store bureau.old.conn) office
+        → IfSome result (λ message. Comes S.Store bureau.new.conn bureau.new.broken
+        meter.old meter.new office (R.remaining reader.old) message.status
+        (bytes_in message.bytes)) }
+    ensures none { IfNone result ((bureau.new ≡ bureau.old) × (meter.new ≡ meter.old)) }
+    ensures ended { IsTrue bureau.old.broken → (bureau.new ≡ bureau.old) × (meter.new ≡ meter.old)
+        × IfSome result (λ message. ComesOfBroken (R.remaining reader.old) message.status
+        (bytes_in message.bytes)) }
+    ensures kept { (bureau.new.broken ≡ bureau.old.broken)
+        ⊎ IsSomeAnd result (λ message. IsOfFault Fault.Store message.status
+        (bytes_in message.bytes)) }
+    ensures most { TicksForRead (R.remaining reader.old) meter.old meter.new }
+    ensures clean { doubt (state S.Store bureau.old.conn).is_clean
+        ≤ doubt (state S.Store bureau.new.conn).is_clean }
+{
+    match Request::read(alloc, routes, reader) {
+        Ok(request) => Some(answer(alloc, &request, bureau, meter)),
+        Err(RequestFault::NoMemory) => Some(fault_message(Fault::NoMemory)),
+        Err(RequestFault::ReadFailed) => None,
+    }
+}

@@ -1,0 +1,76 @@
+//! Applying the commands of a script, one after the other.
+
+ghost use Rattle.std.specs.Prelude.{◌≡◌, ◌≤◌, ◌⊎◌, ◌||◌, IsTrue};
+ghost use Rattle.exchanges.specs.Running.{LeavesBeginning, Runs, Ticks};
+ghost use Rattle.sqlite.specs.Held.{state};
+ghost use Rattle.sqlite.specs.View.{doubt};
+ghost use Rattle.ledger_tables.specs.declared.faults.Fault.TheVariants.{Store};
+
+use crate::endings::{ScriptEnd, Scripted};
+use crate::steps::{Step, carry_out};
+use ledger::Bureau;
+use machine::Meter;
+use office::Command;
+use sqlite::Alter;
+use std::io::Write;
+
+/// Whether at least one of two is true.
+fn either(first: bool, second: bool) -> bool
+    ensures { result ≡ (first || second) }
+{
+    first || second
+}
+
+/// Applies the commands in order and writes the line of each, up to the first that met a fault or
+/// whose line could not be written.
+pub(crate) fn apply_all<S: Alter, W: Write>(
+    writer: &mut W,
+    bureau: &mut Bureau<S>,
+    commands: &[Command],
+    meter: &mut Meter,
+) -> Scripted
+    ensures runs { Runs S.Store bureau.old.conn bureau.new.conn commands.now result
+        (W.contents writer.old) (W.contents writer.new) }
+    ensures crash { LeavesBeginning S.Store bureau.old.conn bureau.new.conn commands.now result }
+    ensures meter { Ticks S.Store bureau.old.conn bureau.new.conn commands.now result
+        meter.old meter.new }
+    ensures broken { result.ended ≡ ScriptEnd.Fault Store → IsTrue bureau.new.broken }
+    ensures kept { (bureau.new.broken ≡ bureau.old.broken)
+        ⊎ (result.ended ≡ ScriptEnd.Fault Store) }
+    ensures clean { doubt (state S.Store bureau.old.conn).is_clean
+        ≤ doubt (state S.Store bureau.new.conn).is_clean }
+{
+    let mut sent = 0usize;
+    let mut acknowledged = 0usize;
+    let mut refused = false;
+    for command in commands {
+        match carry_out(writer, &mut sent, bureau, command, meter) {
+            Step::Replied(now) => {
+                acknowledged += 1;
+                refused = either(refused, now);
+            }
+            Step::Unwritten(now) => {
+                return Scripted {
+                    acknowledged: acknowledged + 1,
+                    sent,
+                    refused: either(refused, now),
+                    ended: ScriptEnd::WriteFailed,
+                };
+            }
+            Step::Faulted(fault) => {
+                return Scripted {
+                    acknowledged,
+                    sent,
+                    refused,
+                    ended: ScriptEnd::Fault(fault),
+                };
+            }
+        }
+    }
+    Scripted {
+        acknowledged,
+        sent,
+        refused,
+        ended: ScriptEnd::Whole,
+    }
+}

@@ -1,0 +1,58 @@
+//! One exchange.
+
+ghost use Rattle.std.specs.Prelude.{◌≡◌, ◌⊎◌, ◌≤◌, IsTrue};
+ghost use Rattle.sqlite.specs.Held.{state};
+ghost use Rattle.sqlite.specs.State.{HasCleanDisk};
+ghost use Rattle.sqlite.specs.View.{doubt};
+ghost use Rattle.ledger.specs.Standing.{Stands};
+ghost use Rattle.office.specs.Office.{Office};
+ghost use Rattle.exchanges.specs.Exchanges.{Ends, EndsBroken, MayEndWith, TicksForRead};
+ghost use Rattle.http_replies.specs.declared.fixed.Fault.TheVariants as fault;
+
+use crate::answering::answer_next;
+use crate::ended::Exchange;
+use http_requests::Routes;
+use ledger::Bureau;
+use machine::Meter;
+use sqlite::Alter;
+use std::alloc::Global;
+use std::io::{Read, Write};
+use texts::{Sent, send};
+
+/// Reads one request, carries it out, and writes the answer.
+///
+/// No byte of the answer is written before the bureau has finished the command. If the writer
+/// fails, what was carried out is kept. The meter rises by the number of instructions that a slice
+/// attempted.
+pub fn exchange<R: Read, W: Write, S: Alter>(
+    alloc: Global,
+    routes: &Routes,
+    reader: &mut R,
+    writer: &mut W,
+    bureau: &mut Bureau<S>,
+    meter: &mut Meter,
+) -> Exchange
+    ensures exchanged { HasCleanDisk (state S.Store bureau.new.conn) → (office : Office)
+        → Stands (state S.Store bureau.old.conn) office
+        → Ends S.Store bureau.new.conn bureau.new.broken meter.old meter.new office
+        (R.remaining reader.old) (W.contents writer.old) (W.contents writer.new) result }
+    ensures ended { IsTrue bureau.old.broken → (bureau.new ≡ bureau.old) × (meter.new ≡ meter.old)
+        × EndsBroken (R.remaining reader.old) (W.contents writer.old) (W.contents writer.new)
+        result }
+    ensures broken { (bureau.new.broken ≡ bureau.old.broken) ⊎ MayEndWith fault.Store result }
+    ensures meter { TicksForRead (R.remaining reader.old) meter.old meter.new }
+    ensures clean { doubt (state S.Store bureau.old.conn).is_clean
+        ≤ doubt (state S.Store bureau.new.conn).is_clean }
+{
+    let Some(message) = answer_next(alloc, routes, reader, bureau, meter) else {
+        return Exchange::ReadFailed;
+    };
+    let bytes = message.bytes.as_slice();
+    match send(writer, bytes) {
+        Sent::Whole => Exchange::Answered {
+            status: message.status,
+            sent: bytes.len(),
+        },
+        Sent::Failed(sent) => Exchange::WriteFailed { sent },
+    }
+}

@@ -1,2 +1,0 @@
-pub mod AnsweringLines
-pub mod AnsweringLemmas

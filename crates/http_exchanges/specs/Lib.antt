@@ -1,3 +1,0 @@
-pub mod Messages
-pub mod Answers
-pub mod Exchanges

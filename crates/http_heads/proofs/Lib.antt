@@ -1,4 +1,0 @@
-pub mod ReadingPieces
-pub mod FieldLemmas
-pub mod HeadVerdicts
-pub mod BodyFills

@@ -1,6 +1,0 @@
-pub mod Fields
-pub mod Asked
-pub mod Tests
-pub mod Reading
-pub mod Heads
-pub mod Bodies

@@ -1,4 +1,0 @@
-pub mod HeadLaw
-pub mod AskingLaw
-pub mod RequestLaw
-pub mod HeadEnds

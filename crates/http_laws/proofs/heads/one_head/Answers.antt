@@ -1,5 +1,0 @@
-use Rattle.http_laws.proofs.HeadLaw.{same_head}
-use Rattle.http_laws.proofs.heads.one_head.Goals as goal
-
-pub returns : goal.returns
-returns c = same_head

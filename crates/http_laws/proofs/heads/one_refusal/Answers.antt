@@ -1,6 +1,0 @@
-use Rattle.http_laws.proofs.HeadLaw.{not_both, one_of_head, one_status}
-use Rattle.http_laws.proofs.HeadEnds.{not_one}
-use Rattle.http_laws.proofs.heads.one_refusal.Goals as goal
-
-pub returns : goal.returns
-returns c = record { not_both = not_both; of_head = one_of_head; of_any = one_status; not_one = not_one }

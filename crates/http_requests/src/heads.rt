@@ -1,0 +1,86 @@
+//! Heads of requests: how one is read, and its verdict.
+
+ghost use Rattle.std.specs.Prelude.{◌≡◌, ◌≤◌, List, ℕ, drop, length, take};
+ghost use Rattle.httparse.specs.Grammar.{RequestHead};
+ghost use Rattle.httparse.specs.Spans.{IsRequestAt, IsRequestWithin};
+ghost use Rattle.http_requests.specs.Paths.{paths, routed};
+ghost use Rattle.http_requests.specs.Heads.{IsReadOf, IsVerdictOn, Judges, ReadsHead};
+
+use crate::asking::asked_at;
+use crate::fields::body_length;
+use crate::head::Head;
+use crate::lengths::BodyLength;
+use crate::paths::path_at;
+use crate::reading::{Outcome, read_head};
+use crate::routes::Path;
+use crate::tests::refusal;
+use crate::verdicts::Verdict;
+use httparse::spans::{EMPTY_HEADER_SPAN, HeaderSpan, RequestSpans};
+use matchit::Router;
+use std::io::Read;
+
+/// The verdict on a whole head.
+fn verdict_on<'a>(
+    router: &Router<Path>,
+    bytes: &'a [u8],
+    fields: &[HeaderSpan],
+    spans: &RequestSpans,
+) -> Verdict<'a>
+    requires paths { router.now ≡ routed paths }
+    requires within { IsRequestWithin bytes.now fields.now spans.now }
+    ensures { (h : RequestHead) → IsRequestAt bytes.now fields.now spans.now h
+        → IsVerdictOn h (drop spans.now.len bytes.now) result }
+{
+    let Ok(target) = str::from_utf8(spans.path.of(bytes)) else {
+        return Verdict::Refused(400);
+    };
+    let fields = &fields[..spans.headers];
+    let path = path_at(router, target);
+    if let Some(status) = refusal(path, spans.method.of(bytes), bytes, fields) {
+        return Verdict::Refused(status);
+    }
+    let count = match body_length(bytes, fields) {
+        BodyLength::Bytes(count) => count,
+        BodyLength::Unsaid | BodyLength::Bad => 0,
+    };
+    match path.and_then(|path| asked_at(path.route, target)) {
+        Some(asked) => Verdict::Asks {
+            asked,
+            count,
+            begun: &bytes[spans.len..],
+        },
+        None => Verdict::Refused(400),
+    }
+}
+
+impl Head {
+    /// Reads until a head is whole or is refused, or the reader ends or fails.
+    pub fn read<R: Read>(reader: &mut R) -> Head
+        ensures { ReadsHead (R.remaining reader.old) (R.remaining reader.new) result }
+    {
+        let mut bytes = [0u8; 8192];
+        let mut fields = [EMPTY_HEADER_SPAN; 64];
+        let read = read_head(reader, &mut bytes, &mut fields);
+        Head {
+            bytes,
+            fields,
+            filled: read.filled,
+            outcome: read.outcome,
+        }
+    }
+
+    /// Returns what the request asks for, or the status that refuses it.
+    pub fn verdict<'a>(&'a self, router: &Router<Path>) -> Verdict<'a>
+        requires { router.now ≡ routed paths }
+        ensures { (input : List ℕ) → (rest : List ℕ) → IsReadOf self.now input rest
+            → Judges input rest result }
+    {
+        let bytes = &self.bytes[..self.filled];
+        match &self.outcome {
+            Outcome::Whole(spans) => verdict_on(router, bytes, &self.fields, spans),
+            Outcome::NoHead | Outcome::Ended => Verdict::Refused(400),
+            Outcome::TooManyFields | Outcome::TooLong => Verdict::Refused(431),
+            Outcome::Failed => Verdict::ReadFailed,
+        }
+    }
+}

@@ -1,2 +1,0 @@
-pub mod CustomerLaw
-pub mod RepeatLaw

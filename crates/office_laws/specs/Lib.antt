@@ -1,2 +1,0 @@
-pub mod Customers
-pub mod Repeats

@@ -1,2 +1,0 @@
-pub mod ApplyingLemmas
-pub mod RunningLemmas

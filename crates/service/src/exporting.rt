@@ -1,0 +1,132 @@
+//! Writing to files what a job has punched and printed.
+
+use crate::outcomes::Outcome;
+use cards::write_punched_cards;
+use counter::put_file;
+use ledger::{Bureau, Fault};
+use ledger_files::{Work, with_bureau};
+use ledger_tables::OpenFault;
+use machine::Meter;
+use office::{Command, JobCommand, Reply};
+use sqlite::Alter;
+use std::alloc::Global;
+use units::render;
+
+/// What a job has made, as the bytes of its two files.
+#[derive(Drop)]
+struct Made {
+    cards: Vec<u8>,
+    lines: Vec<u8>,
+}
+
+/// The outcome if there is no memory.
+const NO_MEMORY: Outcome = Outcome::Fault(OpenFault::NoMemory);
+
+/// The reply to a query of a job.
+fn ask<S: Alter>(
+    alloc: Global,
+    bureau: &mut Bureau<S>,
+    customer: &str,
+    number: u32,
+    command: JobCommand,
+) -> Result<Reply, Outcome> {
+    let Ok(customer) = String::from_str(alloc, customer) else {
+        return Err(NO_MEMORY);
+    };
+    let command = Command::Job {
+        customer,
+        number,
+        command,
+    };
+    match bureau.apply(&command, &mut Meter::new()) {
+        Ok(reply) => Ok(reply),
+        Err(Fault::NoMemory) => Err(NO_MEMORY),
+        Err(Fault::Store) => Err(Outcome::Fault(OpenFault::Store)),
+    }
+}
+
+/// The bytes of the file for a reply of cards or of lines.
+fn bytes_of(alloc: Global, reply: &Reply) -> Result<Vec<u8>, Outcome> {
+    let bytes = match reply {
+        Reply::Cards(cards) => write_punched_cards(alloc, &cards.0),
+        Reply::Lines(lines) => render(alloc, &lines.0),
+        Reply::Refused(reason) => return Err(Outcome::Refused(reason.number())),
+        _ => Ok(Vec::new(alloc)),
+    };
+    match bytes {
+        Ok(bytes) => Ok(bytes),
+        Err(_) => Err(NO_MEMORY),
+    }
+}
+
+/// What a job has made.
+fn made_by<S: Alter>(
+    alloc: Global,
+    bureau: &mut Bureau<S>,
+    customer: &str,
+    number: u32,
+) -> Result<Made, Outcome> {
+    let cards = ask(alloc, bureau, customer, number, JobCommand::Cards)?;
+    let cards = bytes_of(alloc, &cards)?;
+    let lines = ask(alloc, bureau, customer, number, JobCommand::Lines)?;
+    let lines = bytes_of(alloc, &lines)?;
+    Ok(Made { cards, lines })
+}
+
+/// Replaces the job's file of this kind, in the folder where the program runs.
+fn put(
+    rt: &HostRuntime,
+    customer: &str,
+    number: u32,
+    kind: &str,
+    bytes: &[u8],
+) -> Result<(), Outcome> {
+    let Ok(name) = format!(in rt.alloc(); "{customer}-{number}.{kind}") else {
+        return Err(NO_MEMORY);
+    };
+    match put_file(rt, &name, bytes) {
+        Ok(()) => Ok(()),
+        Err(_) => Err(Outcome::Device),
+    }
+}
+
+/// Writes what a job has made. Nothing is written before the bytes of both files are made.
+fn write_made<S: Alter>(
+    rt: &HostRuntime,
+    bureau: &mut Bureau<S>,
+    customer: &str,
+    number: u32,
+) -> Result<(), Outcome> {
+    let made = made_by(rt.alloc(), bureau, customer, number)?;
+    put(rt, customer, number, "cards", &made.cards)?;
+    put(rt, customer, number, "lines", &made.lines)
+}
+
+/// The work of exporting a job.
+#[derive(Drop)]
+struct ExportWork<'a> {
+    customer: &'a str,
+    number: u32,
+    outcome: Outcome,
+}
+
+impl Work for ExportWork<'_> {
+    fn carry_out<S: Alter>(&mut self, rt: &HostRuntime, bureau: &mut Bureau<S>) {
+        if let Err(outcome) = write_made(rt, bureau, self.customer, self.number) {
+            self.outcome = outcome;
+        }
+    }
+}
+
+/// Writes what a job has punched and printed to the files `CUSTOMER-NUMBER.cards` and
+/// `CUSTOMER-NUMBER.lines`, in the folder where the program runs. Files of these names are
+/// replaced, each whole or not at all; if the job is refused, none is touched.
+pub fn export(rt: &HostRuntime, path: &str, customer: &str, number: u32) -> Outcome {
+    let mut work = ExportWork {
+        customer,
+        number,
+        outcome: Outcome::Done,
+    };
+    let file = with_bureau(rt, path, &mut work);
+    work.outcome.with_file(file)
+}

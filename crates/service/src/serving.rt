@@ -1,0 +1,101 @@
+//! Serving requests over HTTP.
+
+use crate::connections::{Timed, close};
+use crate::outcomes::Outcome;
+use exchanges::{Exchange, exchange};
+use http_requests::Routes;
+use ledger::Bureau;
+use ledger_files::{Work, with_bureau};
+use ledger_tables::OpenFault;
+use machine::Meter;
+use sqlite::Alter;
+use std::net::{Ipv4Addr, Net, SocketAddrV4, TcpListener, TcpStream};
+
+/// The number of seconds within which a request has to come, whole.
+const REQUEST: u64 = 30;
+
+/// The number of seconds within which a client has to take its answer, whole.
+const ANSWER: u64 = 30;
+
+/// The number of seconds for which what a client sends after its request is read.
+const REST: u64 = 1;
+
+/// Serves one connection: one request.
+fn serve_one<S: Alter>(
+    rt: &HostRuntime,
+    routes: &Routes,
+    bureau: &mut Bureau<S>,
+    stream: &TcpStream,
+    meter: &mut Meter,
+) {
+    let (Ok(mut reader), Ok(mut writer)) = (
+        Timed::new(rt, stream, REQUEST),
+        Timed::new(rt, stream, REQUEST + ANSWER),
+    ) else {
+        return;
+    };
+    match exchange(rt.alloc(), routes, &mut reader, &mut writer, bureau, meter) {
+        Exchange::Answered { .. } => close(rt, stream, REST),
+        Exchange::ReadFailed | Exchange::WriteFailed { .. } => {}
+    }
+}
+
+/// Serves this number of connections, one after the other. A connection that fails is dropped.
+/// After fault 2 no more are served.
+fn serve_connections<S: Alter>(
+    rt: &HostRuntime,
+    routes: &Routes,
+    bureau: &mut Bureau<S>,
+    listener: &TcpListener,
+    count: u32,
+) -> Outcome {
+    let mut meter = Meter::new();
+    for stream in listener.incoming().take(count as usize) {
+        if let Ok(stream) = stream {
+            serve_one(rt, routes, bureau, &stream, &mut meter);
+        }
+        if bureau.broken() {
+            return Outcome::Fault(OpenFault::Store);
+        }
+    }
+    Outcome::Done
+}
+
+/// The work of serving connections on a port of 127.0.0.1.
+#[derive(Drop)]
+struct ServeWork {
+    port: u16,
+    count: u32,
+    outcome: Outcome,
+}
+
+impl ServeWork {
+    /// Serves them, from a bureau over any store.
+    fn serve<S: Alter>(&self, rt: &HostRuntime, bureau: &mut Bureau<S>) -> Outcome {
+        let Ok(routes) = Routes::new(rt.alloc()) else {
+            return Outcome::Fault(OpenFault::NoMemory);
+        };
+        match TcpListener::bind(rt, SocketAddrV4::new(Ipv4Addr::LOCALHOST, self.port)) {
+            Ok(listener) => serve_connections(rt, &routes, bureau, &listener, self.count),
+            Err(_) => Outcome::Device,
+        }
+    }
+}
+
+impl Work for ServeWork {
+    fn carry_out<S: Alter>(&mut self, rt: &HostRuntime, bureau: &mut Bureau<S>) {
+        self.outcome = self.serve(rt, bureau);
+    }
+}
+
+/// Serves this number of connections from the bureau's file at a path, on a port of 127.0.0.1, one
+/// after the other, with one request each.
+pub fn serve(rt: &HostRuntime, path: &str, port: u16, count: u32) -> Outcome {
+    let mut work = ServeWork {
+        port,
+        count,
+        outcome: Outcome::Done,
+    };
+    let file = with_bureau(rt, path, &mut work);
+    work.outcome.with_file(file)
+}

@@ -1,0 +1,2 @@
+pub mod SwitchLetters
+pub mod SendingLemmas

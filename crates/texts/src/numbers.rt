@@ -1,0 +1,34 @@
+//! Numbers as texts.
+
+ghost use Rattle.std.specs.Prelude.{◌≡◌, ◌≢◌, ◌<◌, ◌^◌, ℕ, IfSome, IfNone, decimal};
+ghost use Rattle.texts.specs.Numbers.{IsNumberOf};
+
+use itoa::Buffer;
+
+/// The number spelled by 1 to 9 digits without a leading zero. `None` for any other text.
+pub fn number_of(text: &str) -> Option<u32>
+    ensures some { IfSome result (λ number. (0 < number) × (number < 10 ^ 9)
+        × (text.now ≡ decimal number)) }
+    ensures none { IfNone result ((number : ℕ) → 0 < number → number < 10 ^ 9 →
+        text.now ≢ decimal number) }
+{
+    let Ok(number) = text.parse::<u32>() else {
+        return None;
+    };
+    if number == 0 || number >= 1_000_000_000 {
+        return None;
+    }
+    let mut buffer = Buffer::new();
+    let printed = buffer.format(number);
+    if printed == text { Some(number) } else { None }
+}
+
+/// The number of a text, or 0 if [`number_of`] finds none.
+pub fn number_or_zero(text: &str) -> u32
+    ensures { IsNumberOf text.now result }
+{
+    match number_of(text) {
+        Some(number) => number,
+        None => 0,
+    }
+}
