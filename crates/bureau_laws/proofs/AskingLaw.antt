@@ -12,7 +12,7 @@ use Rattle.http_requests.specs.declared.routes.Verb.{Verb}
 use Rattle.http_requests.specs.declared.routes.Verb.TheVariants as verb
 use Rattle.http_requests.specs.Parts.{part}
 use Rattle.http_requests.specs.Paths.{route_at}
-use Rattle.units.specs.declared.Switches.{Switches}
+use Rattle.units.specs.declared.switches.Switches.{Switches}
 use Rattle.texts.specs.Numbers.{IsNumberOf}
 use Rattle.texts.specs.Switches.{AreSwitchesOf, letters_of, risen, text_of_bits}
 use Rattle.office.specs.declared.commands.JobCommand.{JobCommand}

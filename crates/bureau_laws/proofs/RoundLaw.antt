@@ -11,7 +11,7 @@ use Rattle.office.specs.declared.commands.Command.{Command}
 use Rattle.ledger_tables.specs.Schema.{bureau_schema}
 use Rattle.ledger.specs.Standing.{Rows, LeftAs}
 use Rattle.ledger_files.specs.Opening.{AreOf, Found}
-use Rattle.ledger_shifts.specs.WholeRows.{HaveWholeRows}
+use Rattle.ledger.specs.WholeRows.{HaveWholeRows}
 use Rattle.bureau_laws.specs.Rounds.{AreWholeOf, Round, AreRounds, files_after, AreBeginnings, AreLeftWhole}
 
 -- commands after commands

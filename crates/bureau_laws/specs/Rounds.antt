@@ -9,7 +9,7 @@ use Rattle.office.specs.declared.commands.Command.{Command}
 use Rattle.ledger_tables.specs.Schema.{bureau_schema}
 use Rattle.ledger.specs.Standing.{LeftAs}
 use Rattle.ledger_files.specs.Opening.{AreOf, Found}
-use Rattle.ledger_shifts.specs.WholeRows.{HaveWholeRows}
+use Rattle.ledger.specs.WholeRows.{HaveWholeRows}
 
 -- the two files hold one of the databases that a crash may leave, with or without sums on its pages
 abbrev pub HoldsOneOf : Bool → Image → (Trees → Type 0) → Type 0

@@ -33,4 +33,4 @@ pub use customers::customers_are_apart;
 pub use heads::{one_head, one_refusal};
 pub use repeats::repeats_in_any_shift;
 pub use requests::one_request;
-pub use rounds::{hand_out, stops_lose_nothing, working_round};
+pub use rounds::{stops_lose_nothing, working_round};

@@ -13,12 +13,11 @@ ghost use Rattle.office.specs.Office.{Office, fold};
 ghost use Rattle.ledger_tables.specs.Versions.{IsKnown};
 ghost use Rattle.ledger_tables.specs.declared.faults.Fault.{Fault};
 ghost use Rattle.ledger_files.specs.Opening.{AreOf, Found, IsCleanKept, KeptStands};
-ghost use Rattle.ledger_shifts.specs.Shifting.{given, limit_of_all};
+ghost use Rattle.ledger.specs.Shifting.{given, limit_of_all};
 ghost use Rattle.bureau_laws.specs.Rounds.{HoldsOneOf, LeadsBy, Round, AreRounds, AreLeftWhole};
 
-use ledger::Bureau;
+use ledger::{Bureau, Shift, kept_offices_run_whole, shift};
 use ledger_files::{Kept, open_from};
-use ledger_shifts::{Shift, kept_offices_run_whole, shift};
 use ledger_tables::OpenFault;
 use machine::Meter;
 use office::Command;
@@ -26,7 +25,7 @@ use sqlite::{FileFrom, FileStore, Start};
 use sqlite_disk::Disk;
 
 /// Returns the store as a crash at this moment leaves it, whatever the tables represent.
-pub fn hand_out<D: Disk + Drop>(bureau: Bureau<FileStore<D>>) -> FileStore<D>
+fn store_left<D: Disk + Drop>(bureau: Bureau<FileStore<D>>) -> FileStore<D>
     ensures left { IsClean (view result) → (left : Image) → (store.state result).may_leave left
         → HoldsOneOf (view result).has_sums left (file_state bureau.conn).may_leave }
     ensures clean { doubt (file_state bureau.conn).is_clean ≤ doubt (view result).is_clean }
@@ -65,7 +64,7 @@ pub fn working_round<S: Start>(
     match open_from(rt, path, start) {
         Ok(mut bureau) => {
             let done = shift(rt.alloc(), &mut bureau, commands, meter);
-            Ok((hand_out(bureau), done))
+            Ok((store_left(bureau), done))
         }
         Err((fault, kept)) => Err((fault, kept)),
     }

@@ -21,7 +21,8 @@ use Rattle.scripts.specs.declared.write_failed.WriteFailed.{WriteFailed}
 use Rattle.scripts.proofs.SendingLemmas.{part_after}
 use Rattle.ledger_tables.specs.declared.faults.Fault.{Fault}
 use Rattle.ledger_tables.specs.declared.faults.Fault.TheVariants.{NoMemory, Store}
-use Rattle.exchanges.specs.Running.{RisenWithin, SendsBegun, attempted_by_all, office_after, replies_to, reply_lines}
+use Rattle.ledger.specs.Meters.{RisenWithin, attempted_by_all}
+use Rattle.exchanges.specs.Running.{SendsBegun, office_after, replies_to, reply_lines}
 use Rattle.exchanges.specs.Steps.{Sends, SendsSome, is_refusal}
 
 abbrev one_after : Office × List Reply → Command → Office × List Reply

@@ -1,10 +1,10 @@
 -- the run of a script's commands
 use Rattle.std.specs.Prelude.{◌≡◌, ◌≢◌, ◌+◌, ◌<◌, ◌≤◌, ℕ, List, [], ◌∷◌, ◌++◌, Option, length, take as beginning_of}
 use Rattle.std.specs.List.{flat_map, list_any}
-use Rattle.machine.specs.Run.{risen}
-use Rattle.office.specs.Office.{IsLeft, Office, attempted, fold, take}
+use Rattle.office.specs.Office.{IsLeft, Office, fold}
 use Rattle.office.specs.declared.commands.Command.{Command}
 use Rattle.office.specs.declared.replies.Reply.{Reply}
+use Rattle.ledger.specs.Meters.{RisenWithin, attempted_by_all}
 use Rattle.ledger.specs.Standing.{LeftAs, Stands}
 use Rattle.std.specs.Io.KnownBytes.{Appends}
 use Rattle.scripts.specs.Replies.{fault_line, reply_line}
@@ -31,19 +31,6 @@ replies_to count commands office = (fold (beginning_of count commands) office).1
 -- the office after the first so many commands
 abbrev pub office_after : ℕ → List Command → Office → Office
 office_after count commands office = (fold (beginning_of count commands) office).0
-
--- how many instructions a list of commands attempts together
-unfoldable pub attempted_by_all : List Command → Office → ℕ
-attempted_by_all [] office = 0
-attempted_by_all (command ∷ commands) office =
-    attempted command office + attempted_by_all commands (take command office).0
-
--- the meter has risen from the old count to the new by `fewest` ticks at least and `limit` at most
-pub record RisenWithin (fewest limit old new : ℕ) : Type 0 where
-  pub ticks : ℕ
-  pub least : fewest ≤ ticks
-  pub most : ticks ≤ limit
-  pub is : new ≡ risen old ticks
 
 -- the commands that were given: those that were replied to, and one more if it met a fault
 abbrev pub given_by : ScriptEnd → ℕ → List Command → List Command

@@ -14,11 +14,11 @@ use office::Command;
 use sqlite::Alter;
 use std::io::Write;
 
-/// Whether at least one of two is true.
-fn either(first: bool, second: bool) -> bool
-    ensures { result ≡ (first || second) }
+/// Whether a command has been refused: one before, or the one that was just carried out.
+fn any_refused(before: bool, now: bool) -> bool
+    ensures { result ≡ (before || now) }
 {
-    first || second
+    before || now
 }
 
 /// Applies the commands in order and writes the line of each, up to the first that met a fault or
@@ -47,13 +47,13 @@ pub(crate) fn apply_all<S: Alter, W: Write>(
         match carry_out(writer, &mut sent, bureau, command, meter) {
             Step::Replied(now) => {
                 acknowledged += 1;
-                refused = either(refused, now);
+                refused = any_refused(refused, now);
             }
             Step::Unwritten(now) => {
                 return Scripted {
                     acknowledged: acknowledged + 1,
                     sent,
-                    refused: either(refused, now),
+                    refused: any_refused(refused, now),
                     ended: ScriptEnd::WriteFailed,
                 };
             }

@@ -10,3 +10,5 @@ pub mod Replies
 pub mod SavingLemmas
 pub mod BureauResults
 pub mod SummaryLemmas
+pub mod WholeJobsLaw
+pub mod ShiftLemmas

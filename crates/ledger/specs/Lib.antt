@@ -7,3 +7,6 @@ pub mod Serving
 pub mod Standing
 pub mod Steps
 pub mod Adopting
+pub mod WholeRows
+pub mod Meters
+pub mod Shifting

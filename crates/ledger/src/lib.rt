@@ -4,11 +4,13 @@
 //! from the tables, whole or without its machine, and `saving` writes it, through `ledger_tables`
 //! and `ledger_rows`. `submissions`, `job_commands`, `light_commands` and `lists` connect them to
 //! `office`. `bureau` puts each command into one transaction, whose commit is the last call of the
-//! store.
+//! store. `shifts` applies a list of commands up to the first fault.
 //!
 //! The contract for the layers above: if the tables represent an office, a reply is the one of
 //! `office`, and the tables then represent its next office (`specs/Standing.antt`); and what a
-//! crash may leave at each exit.
+//! crash may leave at each exit: after a [`shift`], the office after a beginning of the commands
+//! given that holds every acknowledged one, each job at a halt with the cards and lines of one
+//! uninterrupted run in its rows ([`kept_offices_run_whole`]).
 #![tactic(auto)]
 
 mod bureau;
@@ -16,12 +18,16 @@ mod job_commands;
 mod laws;
 mod light_commands;
 mod lists;
+mod outcomes;
 mod reading;
 mod saving;
 mod serving;
+mod shifts;
 mod submissions;
 mod summaries;
 
 pub use bureau::Bureau;
-pub use laws::tables_represent_one_office;
+pub use laws::{kept_offices_run_whole, tables_represent_one_office};
 pub use ledger_tables::Fault;
+pub use outcomes::Shift;
+pub use shifts::shift;

@@ -4,8 +4,7 @@
 use crate::commands::command_of;
 use crate::connections::Work;
 use crate::disks::{Calls, Failing, new_disks, over_failing, told_on};
-use ledger::Bureau;
-use ledger_shifts::shift;
+use ledger::{Bureau, shift};
 use machine::Meter;
 use office::Command;
 use sqlite::{Alter, Connection, Files};

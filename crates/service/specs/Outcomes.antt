@@ -1,5 +1,5 @@
 -- the outcomes of the rows for a bureau's file
-use Rattle.std.specs.Prelude.{ℕ, List, [], ◌∷◌, ◌++◌, Option, codes, decimal, Result, Ok, Err, Unit}
+use Rattle.std.specs.Prelude.{ℕ, List, [], ◌∷◌, ◌++◌, Option, codes, decimal, Result, Ok, Err}
 use Rattle.std.specs.Io.KnownBytes.{Appends, Keeps}
 use Rattle.cards.specs.Files.{line_feed}
 use Rattle.command_line.specs.declared.statuses.Status.{Status}

@@ -3,7 +3,8 @@ use Rattle.office.specs.Office as offices
 use Rattle.sqlite.specs.State.{HasCleanDisk}
 use Rattle.sqlite.specs.Held.{state}
 use Rattle.ledger.specs.Standing.{Stands}
-use Rattle.exchanges.specs.Running.{attempted_by_all, office_after, replies_to, reply_lines}
+use Rattle.ledger.specs.Meters.{attempted_by_all}
+use Rattle.exchanges.specs.Running.{office_after, replies_to, reply_lines}
 use Rattle.scripts.specs.Replies.{fault_line}
 use Rattle.ledger_tables.specs.Faults.{fault_number}
 use Rattle.exchanges.specs.declared.endings.ScriptEnd.TheVariants as ended
@@ -37,7 +38,7 @@ loop-command-preserved g c =
           let before = was.runs early office s in
           let step = c.in-Replied.ensures.step clean (office_after done commands office) before.0 in (
             subst (Stands (state g.S.Store c.carry_out.new.bureau.conn)) (office_more commands done it office within is) step.0,
-            refused_more commands done it office c.loop-command.refused c.in-Replied.now c.either-refused.result within is before.1 step.1 c.either-refused.ensures,
+            refused_more commands done it office c.loop-command.refused c.in-Replied.now c.any_refused-refused.result within is before.1 step.1 c.any_refused-refused.ensures,
             sends_more commands done it office (contents c.args.writer.now) (contents c.loop-command.writer) (contents c.carry_out.new.writer) c.loop-command.sent c.carry_out.new.sent within is before.2 step.2,
             risen_more commands done it office c.args.meter.now c.loop-command.meter c.carry_out.new.meter within is before.3 (c.in-Replied.ensures.meter clean (office_after done commands office) before.0),
           );
@@ -58,7 +59,7 @@ returns-in-Unwritten-clause-runs g c clean office s =
     record {
       count = omega (arith, within);
       stands = λ other. subst (Stands (state g.S.Store c.carry_out.new.bureau.conn)) (office_more commands done it office within is) step.0;
-      refused = refused_more commands done it office c.loop-command.refused c.in-Unwritten.now c.either.result within is before.1 step.1 c.either.ensures;
+      refused = refused_more commands done it office c.loop-command.refused c.in-Unwritten.now c.any_refused.result within is before.1 step.1 c.any_refused.ensures;
       text = part_more commands done it office (contents c.args.writer.now) (contents c.loop-command.writer) (contents c.carry_out.new.writer) c.loop-command.sent c.carry_out.new.sent within is before.2 step.2;
     }
 

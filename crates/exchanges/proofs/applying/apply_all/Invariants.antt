@@ -6,7 +6,8 @@ use Rattle.ledger.specs.Standing.{Stands}
 use Rattle.sqlite.specs.State.{HasCleanDisk}
 use Rattle.sqlite.specs.Held.{state}
 use Rattle.sqlite.specs.View.{doubt}
-use Rattle.exchanges.specs.Running.{attempted_by_all, office_after, replies_to, reply_lines}
+use Rattle.ledger.specs.Meters.{attempted_by_all}
+use Rattle.exchanges.specs.Running.{office_after, replies_to, reply_lines}
 use Rattle.exchanges.specs.Steps.{Sends, is_refusal}
 use Rattle.exchanges.proofs.applying.apply_all.Given as goal
 

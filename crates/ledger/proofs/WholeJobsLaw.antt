@@ -10,7 +10,7 @@ use Rattle.ledger_tables.specs.Tables.{Holds, placed, card_row, line_row}
 use Rattle.ledger.specs.Listed.{IsIts}
 use Rattle.ledger.specs.Standing.{CanBeKept, Rows, tables_of, cards_of, lines_of}
 use Rattle.ledger.proofs.ListLemmas.{all_its}
-use Rattle.ledger_shifts.specs.WholeRows.{RunMakes, HasWholeRows, HaveWholeRows}
+use Rattle.ledger.specs.WholeRows.{RunMakes, HasWholeRows, HaveWholeRows}
 
 run_makes : (begin : Switches → State) (job : Job) → HasRunWhole begin job → RunMakes begin (switches_of job) (cards_by job) (lines_by job)
 run_makes begin job run = record { holds = run.holds; only = run.only }

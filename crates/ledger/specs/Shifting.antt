@@ -11,9 +11,9 @@ use Rattle.ledger_tables.specs.Schema.{bureau_schema}
 use Rattle.ledger_tables.specs.declared.faults.Fault.{Fault}
 use Rattle.ledger_tables.specs.declared.faults.Fault.TheVariants.{Store}
 use Rattle.ledger.specs.Standing.{Stands, LeftAs}
-use Rattle.ledger_shifts.specs.Meters.{RisenWithin, attempted_by_all}
-use Rattle.ledger_shifts.specs.WholeRows.{HaveWholeRows}
-use Rattle.ledger_shifts.specs.declared.outcomes.Shift.{Shift}
+use Rattle.ledger.specs.Meters.{RisenWithin, attempted_by_all}
+use Rattle.ledger.specs.WholeRows.{HaveWholeRows}
+use Rattle.ledger.specs.declared.outcomes.Shift.{Shift}
 
 -- the commands that were given: all, or those up to and including the first that met a fault
 abbrev pub given : List Command → ℕ → Option Fault → List Command

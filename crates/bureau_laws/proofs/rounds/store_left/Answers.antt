@@ -5,7 +5,7 @@ use Rattle.sqlite.specs.Tree.{Trees}
 use Rattle.sqlite.specs.Files.{HoldsDatabase, file_state}
 use Rattle.sqlite.specs.FileStore.{view}
 use Rattle.ledger_files.proofs.StopLemmas.{left_holds}
-use Rattle.bureau_laws.proofs.rounds.hand_out.Goals as goal
+use Rattle.bureau_laws.proofs.rounds.store_left.Goals as goal
 
 pub returns-clause-left : goal.returns-clause-left
 returns-clause-left g c clean left may =

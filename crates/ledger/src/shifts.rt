@@ -7,11 +7,12 @@ ghost use Rattle.sqlite.specs.View.{doubt};
 ghost use Rattle.office.specs.Meters.{RisenAtMost};
 ghost use Rattle.office.specs.Office.{take, attempted, limit_of};
 ghost use Rattle.ledger.specs.Replying.{Replies, Rises, RisesAtMost, KeepsOffice, LeavesEither};
-ghost use Rattle.ledger_shifts.specs.Shifting.{Acknowledges, StandsAfter, LeavesBeginning, Ticks, given, limit_of_all};
+ghost use Rattle.ledger.specs.Shifting.{Acknowledges, StandsAfter, LeavesBeginning, Ticks, given, limit_of_all};
 
+use crate::bureau::Bureau;
 use crate::laws::kept_offices_run_whole;
 use crate::outcomes::Shift;
-use ledger::{Bureau, Fault};
+use ledger_tables::Fault;
 use machine::Meter;
 use office::{Command, Reply};
 use sqlite::Alter;

@@ -1,6 +1,6 @@
 //! The result of a shift.
 
-use ledger::Fault;
+use ledger_tables::Fault;
 use office::Reply;
 
 /// The result of a list of commands.

@@ -7,10 +7,10 @@ use Rattle.sqlite.specs.Held.{state}
 use Rattle.office.specs.Meters.{RisenAtMost}
 use Rattle.office.specs.Office.{fold}
 use Rattle.ledger.specs.Standing.{Stands, LeftAs}
-use Rattle.ledger_shifts.specs.Meters.{RisenWithin, attempted_by_all}
-use Rattle.ledger_shifts.specs.Shifting.{LeavesWhole, limit_of_all}
-use Rattle.ledger_shifts.proofs.ShiftLemmas.{office_more, replies_more, attempted_more, limit_more, risen_more, risen_in_all, risen_on_fault, risen_just, not_risen, leaves_all, leaves_either, only_memory}
-use Rattle.ledger_shifts.proofs.shifts.shift.Goals as goal
+use Rattle.ledger.specs.Meters.{RisenWithin, attempted_by_all}
+use Rattle.ledger.specs.Shifting.{LeavesWhole, limit_of_all}
+use Rattle.ledger.proofs.ShiftLemmas.{office_more, replies_more, attempted_more, limit_more, risen_more, risen_in_all, risen_on_fault, risen_just, not_risen, leaves_all, leaves_either, only_memory}
+use Rattle.ledger.proofs.shifts.shift.Goals as goal
 
 pub loop-command-init : goal.loop-command-init
 unfolding fold attempted_by_all

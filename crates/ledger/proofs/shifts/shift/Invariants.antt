@@ -6,9 +6,9 @@ use Rattle.sqlite.specs.View.{doubt}
 use Rattle.office.specs.Meters.{RisenAtMost}
 use Rattle.office.specs.Office.{Office, fold}
 use Rattle.ledger.specs.Standing.{Stands}
-use Rattle.ledger_shifts.specs.Meters.{attempted_by_all}
-use Rattle.ledger_shifts.specs.Shifting.{limit_of_all}
-use Rattle.ledger_shifts.proofs.shifts.shift.Given as goal
+use Rattle.ledger.specs.Meters.{attempted_by_all}
+use Rattle.ledger.specs.Shifting.{limit_of_all}
+use Rattle.ledger.proofs.shifts.shift.Given as goal
 
 abbrev pub invariant-loop-command : goal.invariant-loop-command
 invariant-loop-command g l = record {

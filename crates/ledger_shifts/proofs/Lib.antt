@@ -1,2 +1,0 @@
-pub mod WholeJobsLaw
-pub mod ShiftLemmas

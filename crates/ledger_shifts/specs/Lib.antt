@@ -1,3 +1,0 @@
-pub mod WholeRows
-pub mod Meters
-pub mod Shifting
