@@ -1,57 +1,24 @@
 -- The ways in which words ask for something.
-use Rattle.std.proofs.Common.{◌≡◌, ◌∙◌, Bool, List, [], ◌∷◌, true, false, codes, refl, Some, None, ap, ap₂, sym, subst, inl, inr}
-use Rattle.std.specs.Prelude.{Option, find, is_some, option_map}
+use Rattle.std.proofs.Common.{◌≡◌, ◌∙◌, ◌⊎◌, ◌||◌, Bool, List, [], ◌∷◌, true, false, codes, not, refl, Some, None, ap, sym, subst, inl, inr}
+use Rattle.std.specs.Prelude.{Option, find, is_some}
 use Rattle.std.proofs.lemmas.List.Elements.{All-cons, All-head, All-nil, All-tail}
 use Rattle.clap.specs.Words.{Text}
-use Rattle.command_line.specs.Asked.{Asks, HasValues, IsHelp, IsOption, IsVersion, Spells, name_of, row_of, texts_of}
-use Rattle.command_line.specs.declared.row_values.Values.{Values}
-use Rattle.command_line.specs.declared.row_values.Values.TheVariants.{One, Two, Three}
+use Rattle.command_line.specs.Asked.{Asks, AsksAs, HasValues, IsHelp, IsOption, IsVersion, Spells, has_dashes, is_clear, row_of}
+use Rattle.command_line.specs.Rows.{name_of}
 use Rattle.command_line.specs.Plain.{ArePlain, is_odd, is_plain}
 use Rattle.command_line.specs.declared.row_names.RowName.{RowName}
 use Rattle.command_line.specs.declared.asked.Words.{Words}
 use Rattle.command_line.specs.declared.asked.Words.TheVariants as row
-use Rattle.command_line.proofs.RowNameLemmas.{one_name}
+use Rattle.command_line.proofs.RowNameLemmas.{named_name, one_name}
 
--- words in place of a row, a row's name with `--` after it, or the words of a row as they stand
-pub data Way (words : List Text) (asked : Words) : Type 0 where
-  option : IsOption words asked → Way words asked
-  dashes : (r : RowName) (values : List Text) → words ≡ name_of r ∷ codes "--" ∷ values → row_of asked ≡ Some (r, values) → Way words asked
-  plain : ArePlain words → Spells words asked → Way words asked
+-- what asks for something is in place of a row, or spells one
+asked_as : (words : List Text) (asked : Words) (o : Option (RowName × List Text)) → row_of asked ≡ o → AsksAs words asked o
+    → IsOption words asked ⊎ Spells words asked
+asked_as words asked None e asks = inl asks
+asked_as words asked (Some (r, values)) e asks = inr (record { row = r; values = values; asks = e; has = asks })
 
-with_values : (words : List Text) (asked : Words) (r : RowName) (values : List Text) → row_of asked ≡ Some (r, values)
-    → HasValues r values words → Way words asked
-with_values words asked r values e (inl has) = plain has.1 (record { row = r; values = values; asks = e; spelt = has.0 })
-with_values words asked r values e (inr has) = dashes r values has e
-
-pub way_of : (words : List Text) (asked : Words) → Asks words asked → Way words asked
-way_of words row.Standard asks = option asks
-way_of words (row.Run deck size switches) asks = with_values words _ _ _ refl asks
-way_of words (row.Assemble source out) asks = with_values words _ _ _ refl asks
-way_of words (row.Init file) asks = with_values words _ _ _ refl asks
-way_of words (row.Apply file script) asks = with_values words _ _ _ refl asks
-way_of words (row.Export file customer number) asks = with_values words _ _ _ refl asks
-way_of words (row.Serve file port count) asks = with_values words _ _ _ refl asks
-way_of words (row.Help page) asks = option asks
-way_of words row.Version asks = option asks
-
--- the values of a row, as the words ask for it
-same_row : (words : List Text) (p : RowName × List Text) (r : RowName) (values : List Text) → Some p ≡ Some (r, values)
-    → HasValues r values words → HasValues p.0 p.1 words
-same_row words p r values e has =
-    let same : (r, values) ≡ p = cc in subst (λ (q : RowName × List Text). HasValues q.0 q.1 words) same has
-
--- words with the values of a row ask for it
-pub asks_with : (words : List Text) (asked : Words) (r : RowName) (values : List Text) → row_of asked ≡ Some (r, values)
-    → HasValues r values words → Asks words asked
-asks_with words row.Standard r values e has = cc
-asks_with words (row.Run deck size switches) r values e has = same_row words _ r values e has
-asks_with words (row.Assemble source out) r values e has = same_row words _ r values e has
-asks_with words (row.Init file) r values e has = same_row words _ r values e has
-asks_with words (row.Apply file script) r values e has = same_row words _ r values e has
-asks_with words (row.Export file customer number) r values e has = same_row words _ r values e has
-asks_with words (row.Serve file port count) r values e has = same_row words _ r values e has
-asks_with words (row.Help page) r values e has = cc
-asks_with words row.Version r values e has = cc
+pub way_of : (words : List Text) (asked : Words) → Asks words asked → IsOption words asked ⊎ Spells words asked
+way_of words asked asks = asked_as words asked (row_of asked) refl asks
 
 -- words in place of a row ask for that
 pub asks_option : (words : List Text) (asked : Words) → IsOption words asked → Asks words asked
@@ -65,54 +32,20 @@ asks_option words (row.Serve file port count) is = absurd is
 asks_option words (row.Help page) is = is
 asks_option words row.Version is = is
 
--- plain words that spell a row ask for it
-pub spelt : (words : List Text) (asked : Words) → ArePlain words → Spells words asked → Asks words asked
-spelt words asked all is = asks_with words asked is.row is.values is.asks (inl (is.spelt, all))
+-- words that spell a row ask for it
+pub spelt : (words : List Text) (asked : Words) → Spells words asked → Asks words asked
+spelt words asked is = subst (AsksAs words asked) (sym is.asks) is.has
 
--- what asks for a row has one value, two or three
-values_as : (p : RowName × List Text) (v : Values) (r : RowName) (values : List Text) → p.1 ≡ texts_of v → Some p ≡ Some (r, values)
-    → values ≡ texts_of v
-values_as p v r values is e = let same : p ≡ (r, values) = cc in ap (λ (q : RowName × List Text). q.1) (sym same) ∙ is
-
-pub some_values : (asked : Words) (r : RowName) (values : List Text) → row_of asked ≡ Some (r, values) → (v : Values) × (values ≡ texts_of v)
-some_values row.Standard r values e = cc
-some_values (row.Run deck size switches) r values e = (Three deck size switches, values_as _ (Three deck size switches) r values refl e)
-some_values (row.Assemble source out) r values e = (Two source out, values_as _ (Two source out) r values refl e)
-some_values (row.Init file) r values e = (One file, values_as _ (One file) r values refl e)
-some_values (row.Apply file script) r values e = (Two file script, values_as _ (Two file script) r values refl e)
-some_values (row.Export file customer number) r values e = (Three file customer number, values_as _ (Three file customer number) r values refl e)
-some_values (row.Serve file port count) r values e = (Three file port count, values_as _ (Three file port count) r values refl e)
-some_values (row.Help page) r values e = cc
-some_values row.Version r values e = cc
-
--- plain words that ask for help or the version spell no row
+-- words that ask for help or the version spell no row
 pub no_help_spelt : (words : List Text) (page : Option RowName) → Spells words (row.Help page) → ⊥
 no_help_spelt words page is = let k = is.asks in cc
 
 pub no_version_spelt : (words : List Text) → Spells words row.Version → ⊥
 no_version_spelt words is = let k = is.asks in cc
 
--- ---- words with `--` after a row's name
+-- ---- clear words
 
-names_of : {a b c : Text} {xs ys : List Text} → a ∷ c ∷ xs ≡ b ∷ c ∷ ys → a ≡ b
-names_of e = cc
-
-values_after : {a b c : Text} {xs ys : List Text} → a ∷ c ∷ xs ≡ b ∷ c ∷ ys → xs ≡ ys
-values_after e = cc
-
--- the row and the values are given by the words
-pub same_dashes : (r s : RowName) (xs ys : List Text) (asked : Words) → name_of r ∷ codes "--" ∷ xs ≡ name_of s ∷ codes "--" ∷ ys
-    → row_of asked ≡ Some (r, xs) → row_of asked ≡ Some (s, ys)
-same_dashes r s xs ys asked e are = are
-    ∙ ap₂ (λ (x : RowName) (v : List Text). Some (x, v)) (one_name r s (names_of e)) (values_after e)
-
-pub dashes_odd : (w : Text) (ws : List Text) → ArePlain (w ∷ codes "--" ∷ ws) → ⊥
-dashes_odd w ws all =
-    let k : is_plain (codes "--") ≡ true = All-head (λ x. is_plain x ≡ true) (codes "--") ws (All-tail (λ x. is_plain x ≡ true) w (codes "--" ∷ ws) all) in cc
-
--- ---- plain words
-
-pub none_odd : (words : List Text) → ArePlain words → find is_odd words ≡ None
+none_odd : (words : List Text) → ArePlain words → find is_odd words ≡ None
 none_odd [] all = refl
 none_odd (w ∷ ws) all =
     let head = All-head (λ x. is_plain x ≡ true) w ws all in
@@ -122,19 +55,51 @@ plain_head : (w : Text) (ws : List Text) (b : Bool) → is_plain w ≡ b → fin
 plain_head w ws true is e = is
 plain_head w ws false is e = let some : Some w ≡ None = rw is at e in cc
 
-pub all_plain : (words : List Text) → find is_odd words ≡ None → ArePlain words
+all_plain : (words : List Text) → find is_odd words ≡ None → ArePlain words
 all_plain [] e = All-nil (λ x. is_plain x ≡ true)
 all_plain (w ∷ ws) e =
     let head = plain_head w ws (is_plain w) refl e in
     All-cons (λ x. is_plain x ≡ true) w ws head (all_plain ws (rw head at e))
 
-pub some_none : {X Y : Type 0} (f : X → Y) (o : Option X) → is_some o ≡ true → option_map f o ≡ None → ⊥
-some_none f None e g = cc
-some_none f (Some x) e g = cc
+-- clear words are plain, or begin with a row's name and `--`
+pub clear_ways : (words : List Text) → is_clear words ≡ true → ArePlain words ⊎ (has_dashes words ≡ true)
+clear_ways words clear = go (has_dashes words) refl (find is_odd words) refl clear
+  where
+    go : (b : Bool) → has_dashes words ≡ b → (o : Option Text) → find is_odd words ≡ o → (b || not (is_some o)) ≡ true
+        → ArePlain words ⊎ (has_dashes words ≡ true)
+    go true is o odd e = inr is
+    go false is None odd e = inl (all_plain words odd)
+    go false is (Some w) odd e = cc
 
-pub none_none : {X Y : Type 0} (f : X → Y) (o : Option X) → is_some o ≡ false → option_map f o ≡ None
-none_none f None e = refl
-none_none f (Some x) e = cc
+dashes_clear : (r : RowName) (values : List Text) → is_clear (name_of r ∷ codes "--" ∷ values) ≡ true
+dashes_clear r values = rw (named_name r) refl
+
+plain_clear : (words : List Text) → ArePlain words → is_clear words ≡ true
+plain_clear words all = go (has_dashes words)
+  where
+    go : (b : Bool) → (b || not (is_some (find is_odd words))) ≡ true
+    go true = refl
+    go false = rw (none_odd words all) refl
+
+-- words that spell a row are clear
+pub spelt_clear : (words : List Text) (asked : Words) → Spells words asked → is_clear words ≡ true
+spelt_clear words asked is = go is.has
+  where
+    go : HasValues is.row is.values words → is_clear words ≡ true
+    go (inl has) = plain_clear words has.1
+    go (inr has) = ap is_clear has ∙ dashes_clear is.row is.values
+
+-- ---- words with `--` after a row's name
+
+names_of : {a b c : Text} {xs ys : List Text} → a ∷ c ∷ xs ≡ b ∷ c ∷ ys → a ≡ b
+names_of e = cc
+
+values_after : {a b c : Text} {xs ys : List Text} → a ∷ c ∷ xs ≡ b ∷ c ∷ ys → xs ≡ ys
+values_after e = cc
+
+dashes_odd : (w : Text) (ws : List Text) → ArePlain (w ∷ codes "--" ∷ ws) → ⊥
+dashes_odd w ws all =
+    let k : is_plain (codes "--") ≡ true = All-head (λ x. is_plain x ≡ true) (codes "--") ws (All-tail (λ x. is_plain x ≡ true) w (codes "--" ∷ ws) all) in cc
 
 -- ---- words ask for one thing
 

@@ -1,17 +1,18 @@
--- What clap makes of the words after a row's name.
-use Rattle.std.proofs.Common.{◌≡◌, ℕ, List, [], false, ap, ap₂}
-use Rattle.clap.specs.Walk.{Held, finished, settled, Text, Walk, nothing_held, walk}
+-- What clap makes of the words after a row's name, and after a row's name and `--`.
+use Rattle.std.proofs.Common.{◌≡◌, List, [], ◌∷◌, true, false, codes, refl, ap, ap₂}
+use Rattle.clap.specs.Walk.{Held, finished, settled, Row, Text, nothing_held, walk, walked}
 use Rattle.clap.specs.Simple.{Shape, built_leaf, inherited}
 use Rattle.clap.specs.Faults.{check_fault, defaults_fault, level_fault, settle_fault, walk_fault}
 use Rattle.clap.specs.Kinds.{Kinds, or_else}
 use Rattle.command_line.specs.Command.{bureau, row_app}
-use Rattle.command_line.proofs.CommandValues.{at}
+use Rattle.command_line.specs.Plain.{ArePlain}
+use Rattle.command_line.proofs.CommandValues.{at, held_by, same_faults, same_held}
 
 -- the row as built below the program's command
 abbrev pub leaf : Text → List Text → Shape
 leaf name places = built_leaf (inherited bureau.top (row_app name places).top)
 
-abbrev pub after_walk : Shape → Held → Kinds
+abbrev after_walk : Shape → Held → Kinds
 after_walk s h = or_else (settle_fault s.rules s.args_override_self h)
     (or_else (defaults_fault (settled s.rules h).rows s.rules) (check_fault s (finished s.rules h) false))
 
@@ -19,7 +20,33 @@ after_walk s h = or_else (settle_fault s.rules s.args_override_self h)
 abbrev pub leaf_fault : Shape → List Text → Kinds
 leaf_fault s words = level_fault s [] nothing_held words false []
 
--- where a walk ends, and finds no fault, the faults are those after it
-pub leaf_end : (s : Shape) (words : List Text) (p : ℕ) (h : Held) → walk_fault s [] (at 1 nothing_held) words ≡ []
-    → walk s.rules [] nothing_held words ≡ at p h → leaf_fault s words ≡ after_walk s h
-leaf_end s words p h f w = ap₂ or_else f (ap (λ (x : Walk). after_walk s x.held) w)
+-- what clap found in them
+abbrev pub leaf_rows : Shape → List Text → List Row
+leaf_rows s words = finished s.rules (walk s.rules [] nothing_held words).held
+
+-- what clap holds after these words, and `--` before them
+abbrev held_after : Shape → List Text → Held
+held_after s words = held_by s.rules words (at false true 1 nothing_held)
+
+-- the faults of the words after `--`
+abbrev pub fault_after : Shape → List Text → Kinds
+fault_after s words = or_else (walk_fault s [] (at false true 1 nothing_held) words) (after_walk s (held_after s words))
+
+-- what clap found in them
+abbrev pub rows_after : Shape → List Text → List Row
+rows_after s words = finished s.rules (held_after s words)
+
+pub plain_fault : (s : Shape) (words : List Text) → ArePlain words → leaf_fault s words ≡ fault_after s words
+plain_fault s words plain = ap₂ or_else (same_faults s false false 1 nothing_held words plain)
+    (ap (after_walk s) (same_held s.rules false false 1 nothing_held words plain))
+
+pub plain_rows : (s : Shape) (words : List Text) → ArePlain words → leaf_rows s words ≡ rows_after s words
+plain_rows s words plain = ap (finished s.rules) (same_held s.rules false false 1 nothing_held words plain)
+
+pub dashes_fault : (s : Shape) (words : List Text) → leaf_fault s (codes "--" ∷ words) ≡ fault_after s words
+unfolding walk_fault walked
+dashes_fault s words = refl
+
+pub dashes_rows : (s : Shape) (words : List Text) → leaf_rows s (codes "--" ∷ words) ≡ rows_after s words
+unfolding walked
+dashes_rows s words = refl

@@ -9,10 +9,10 @@ use Rattle.clap.specs.Kinds.{Kinds, or_else}
 use Rattle.clap.proofs.OnLiterals.{clap_on_literals}
 use Rattle.command_line.specs.Command.{bureau}
 use Rattle.command_line.proofs.CommandValues.{at, or_else_none, IsValue}
-use Rattle.command_line.specs.Asked.{name_of, places_of}
+use Rattle.command_line.specs.Rows.{name_of, places_of}
 use Rattle.command_line.specs.declared.row_names.RowName.{RowName}
 use Rattle.command_line.specs.declared.row_names.RowName.TheVariants as name
-use Rattle.command_line.proofs.CommandLeaves.{leaf, leaf_fault}
+use Rattle.command_line.proofs.CommandLeaves.{leaf, leaf_fault, leaf_rows}
 
 -- ---- after a row's name clap's own command only collects the words
 
@@ -56,7 +56,7 @@ pub record IsEntered (name : Text) (row : Shape) : Type 0 where
   pub stops : walked top.top.rules (names_of top) (walk_from nothing_held) name ≡ collecting name []
   pub clean : turn_fault top.top (names_of top) (walk_from nothing_held) name ≡ []
   pub faults : (words : List Text) → behind (collecting name words) ≡ or_else (leaf_fault row words) []
-  pub found : (words : List Text) → entered top (Some (name, words)) ≡ Some (name, finished row.rules (walk row.rules [] nothing_held words).held)
+  pub found : (words : List Text) → entered top (Some (name, words)) ≡ Some (name, leaf_rows row words)
 
 -- the row of this name, below the program's command
 abbrev pub row_shape : RowName → Shape
@@ -87,7 +87,7 @@ row_fault name row words is =
     ap₂ or_else (row_walk_fault name row words is) (ap behind (row_walk name row words is)) ∙ is.faults words ∙ or_else_nil _
 
 pub row_found : (name : Text) (row : Shape) (words : List Text) → IsEntered name row
-    → subcommand_of bureau (name ∷ words) ≡ Some (name, finished row.rules (walk row.rules [] nothing_held words).held)
+    → subcommand_of bureau (name ∷ words) ≡ Some (name, leaf_rows row words)
 row_found name row words is = ap (λ (w : Walk). entered top w.stopped) (row_walk name row words is) ∙ is.found words
 
 -- ---- any other first word
@@ -97,7 +97,7 @@ abbrev pub IsNoName : Text → Type 0
 IsNoName w = (row : RowName) → bytes_eq (name_of row) w ≡ false
 
 stray : (w : Text) → IsValue w → IsNoName w
-    → turn_fault top.top (names_of top) (at 1 nothing_held) w ≡ stray_fault top.top
+    → turn_fault top.top (names_of top) (at false false 1 nothing_held) w ≡ stray_fault top.top
 stray w v none = rw (none name.Run) (rw (none name.Assemble) (rw (none name.Init) (rw (none name.Apply)
     (rw (none name.Export) (rw (none name.Serve) (rw v.dashes (rw v.long (rw v.short refl))))))))
 

@@ -1,10 +1,7 @@
 pub mod CommandValues
 pub mod CommandLeaves
-pub mod CommandOneValue
-pub mod CommandTwoValues
-pub mod CommandThreeValues
+pub mod CommandPlaces
 pub mod RowNameLemmas
 pub mod CommandRows
 pub mod CommandWords
-pub mod FoundLemmas
 pub mod AskedWays

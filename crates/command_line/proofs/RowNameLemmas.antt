@@ -1,10 +1,10 @@
 -- A row has one name, and the name one row.
-use Rattle.std.proofs.Common.{◌≡◌, ◌∙◌, Bool, true, false, refl, Some, None, ap, sym, if◌then◌else◌}
-use Rattle.std.specs.Prelude.{Option, codes}
+use Rattle.std.proofs.Common.{◌≡◌, ◌∙◌, Bool, List, [], ◌∷◌, true, false, refl, Some, None, ap, sym, if◌then◌else◌}
+use Rattle.std.specs.Prelude.{Option, find}
 use Rattle.std.specs.Str.{bytes_eq}
 use Rattle.std.proofs.lemmas.Slice.Eq.{bytes_eq-Decides}
 use Rattle.clap.specs.Words.{Text}
-use Rattle.command_line.specs.Asked.{name_of, row_named}
+use Rattle.command_line.specs.Rows.{name_of, row_named, rows}
 use Rattle.command_line.specs.declared.row_names.RowName.{RowName}
 use Rattle.command_line.specs.declared.row_names.RowName.TheVariants as name
 
@@ -24,19 +24,18 @@ pub one_name : (a b : RowName) → name_of a ≡ name_of b → a ≡ b
 one_name a b e = some_is (sym (named_name a) ∙ (ap row_named e ∙ named_name b))
 
 -- the row whose name a word is has this word as its name
-is_or : (b : Bool) (word : Text) (x row : RowName) (rest : Option RowName) → bytes_eq word (name_of x) ≡ b
-    → (if b then Some x else rest) ≡ Some row → (rest ≡ Some row → word ≡ name_of row) → word ≡ name_of row
-is_or true word x row rest e is more = (bytes_eq-Decides word (name_of x)).0 e ∙ ap name_of (some_is is)
-is_or false word x row rest e is more = more is
+is_or : (word : Text) (row r : RowName) (rest : Option RowName) (b : Bool) → bytes_eq (name_of r) word ≡ b
+    → (if b then Some r else rest) ≡ Some row → (rest ≡ Some row → word ≡ name_of row) → word ≡ name_of row
+is_or word row r rest true e is more = sym ((bytes_eq-Decides (name_of r) word).0 e) ∙ ap name_of (some_is is)
+is_or word row r rest false e is more = more is
+
+found_name : (word : Text) (row : RowName) (among : List RowName)
+    → find (λ r. bytes_eq (name_of r) word) among ≡ Some row → word ≡ name_of row
+found_name word row [] e = cc
+found_name word row (r ∷ more) e = is_or word row r _ (bytes_eq (name_of r) word) refl e (found_name word row more)
 
 pub name_is : (word : Text) (row : RowName) → row_named word ≡ Some row → word ≡ name_of row
-name_is word row e =
-    is_or (bytes_eq word (codes "run")) word name.Run row _ refl e λ e.
-    is_or (bytes_eq word (codes "assemble")) word name.Assemble row _ refl e λ e.
-    is_or (bytes_eq word (codes "init")) word name.Init row _ refl e λ e.
-    is_or (bytes_eq word (codes "apply")) word name.Apply row _ refl e λ e.
-    is_or (bytes_eq word (codes "export")) word name.Export row _ refl e λ e.
-    is_or (bytes_eq word (codes "serve")) word name.Serve row _ refl e λ e. cc
+name_is word row e = found_name word row rows e
 
 -- a word that is the name of no row is not the name of one
 pub other_name : (word : Text) (row : RowName) → row_named word ≡ None → bytes_eq (name_of row) word ≡ false

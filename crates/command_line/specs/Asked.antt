@@ -1,12 +1,10 @@
 -- what the program's words ask for
-use Rattle.std.specs.Prelude.{◌≡◌, ◌⊎◌, ◌++◌, Bool, true, false, List, [], ◌∷◌, Option, Some, None, codes, find, map, if◌then◌else◌}
+use Rattle.std.specs.Prelude.{◌≡◌, ◌⊎◌, ◌++◌, ◌&&◌, ◌||◌, Bool, true, false, List, [], ◌∷◌, Option, Some, None, codes, find, is_some, map, not, unwrap_or, if◌then◌else◌}
 use Rattle.std.specs.Option.{option_map_or}
 use Rattle.std.specs.Str.{bytes_eq}
 use Rattle.clap.specs.Words.{Row, Text, first_of}
-use Rattle.command_line.specs.Command.{one_value, two_values, three_values}
+use Rattle.command_line.specs.Rows.{name_of, places_of, row_named, wish_of}
 use Rattle.command_line.specs.Plain.{is_odd, ArePlain}
-use Rattle.command_line.specs.declared.row_values.Values.{Values}
-use Rattle.command_line.specs.declared.row_values.Values.TheVariants.{One, Two, Three}
 use Rattle.command_line.specs.declared.asked.Words.{Words}
 use Rattle.command_line.specs.declared.asked.Words.TheVariants as row
 use Rattle.command_line.specs.declared.row_names.RowName.{RowName}
@@ -14,15 +12,6 @@ use Rattle.command_line.specs.declared.row_names.RowName.TheVariants as name
 use Rattle.command_line.specs.declared.asked.WordsFault.{WordsFault}
 use Rattle.command_line.specs.declared.asked.WordsFault.TheVariants as fault
 use Rattle.command_line.specs.declared.help.TheConstants.{APPLY_HELP, ASSEMBLE_HELP, EXPORT_HELP, HELP, INIT_HELP, RUN_HELP, SERVE_HELP}
-
--- the word that is the name of a row
-abbrev pub name_of : RowName → Text
-name_of name.Run = codes "run"
-name_of name.Assemble = codes "assemble"
-name_of name.Init = codes "init"
-name_of name.Apply = codes "apply"
-name_of name.Export = codes "export"
-name_of name.Serve = codes "serve"
 
 -- the words ask for the help of a row, or for the whole help
 abbrev pub IsHelp : Option RowName → List Text → Type 0
@@ -40,37 +29,35 @@ abbrev pub HasValues : RowName → List Text → List Text → Type 0
 HasValues row values words =
     ((words ≡ name_of row ∷ values) × ArePlain words) ⊎ (words ≡ name_of row ∷ codes "--" ∷ values)
 
+-- the row and its values, if what is asked for is a row with values
+abbrev pub row_of : Words → Option (RowName × List Text)
+row_of (row.Run deck size switches) =
+    Some (name.Run, deck.now ∷ size.now ∷ switches.now ∷ [])
+row_of (row.Assemble source out) = Some (name.Assemble, source.now ∷ out.now ∷ [])
+row_of (row.Init file) = Some (name.Init, file.now ∷ [])
+row_of (row.Apply file script) = Some (name.Apply, file.now ∷ script.now ∷ [])
+row_of (row.Export file customer number) =
+    Some (name.Export, file.now ∷ customer.now ∷ number.now ∷ [])
+row_of (row.Serve file port count) = Some (name.Serve, file.now ∷ port.now ∷ count.now ∷ [])
+row_of row.Standard = None
+row_of (row.Help page) = None
+row_of row.Version = None
+
+-- the words ask for something else than a row with values: a help, the version, or the standard run
+abbrev pub IsOption : List Text → Words → Type 0
+IsOption words row.Standard = words ≡ []
+IsOption words (row.Help page) = IsHelp page words
+IsOption words row.Version = IsVersion words
+IsOption words _ = ⊥
+
+-- what is asked for is a row with these values, or no row with values
+abbrev pub AsksAs : List Text → Words → Option (RowName × List Text) → Type 0
+AsksAs words asked (Some p) = HasValues p.0 p.1 words
+AsksAs words asked None = IsOption words asked
+
 -- the words ask for this: a row with its values, a help, the version, or the standard run
 abbrev pub Asks : List Text → Words → Type 0
-Asks words row.Standard = words ≡ []
-Asks words (row.Run deck size switches) =
-    HasValues name.Run (deck.now ∷ size.now ∷ switches.now ∷ []) words
-Asks words (row.Assemble source out) =
-    HasValues name.Assemble (source.now ∷ out.now ∷ []) words
-Asks words (row.Init file) = HasValues name.Init (file.now ∷ []) words
-Asks words (row.Apply file script) = HasValues name.Apply (file.now ∷ script.now ∷ []) words
-Asks words (row.Export file customer number) =
-    HasValues name.Export (file.now ∷ customer.now ∷ number.now ∷ []) words
-Asks words (row.Serve file port count) =
-    HasValues name.Serve (file.now ∷ port.now ∷ count.now ∷ []) words
-Asks words (row.Help page) = IsHelp page words
-Asks words row.Version = IsVersion words
-
--- the row with this name, if it is one for a bureau's file
-abbrev pub file_row_named : Text → Option RowName
-file_row_named word =
-    if bytes_eq word (codes "init") then Some name.Init else
-    if bytes_eq word (codes "apply") then Some name.Apply else
-    if bytes_eq word (codes "export") then Some name.Export else
-    if bytes_eq word (codes "serve") then Some name.Serve else
-    None
-
--- the row with this name, if there is one
-abbrev pub row_named : Text → Option RowName
-row_named word =
-    if bytes_eq word (codes "run") then Some name.Run else
-    if bytes_eq word (codes "assemble") then Some name.Assemble else
-    file_row_named word
+Asks words asked = AsksAs words asked (row_of asked)
 
 -- ---- what is wrong with words that ask for nothing
 
@@ -116,60 +103,32 @@ is_help_fault _ = false
 
 -- ---- how the words are read
 
--- the row and its values, if what is asked for is a row with values
-abbrev pub row_of : Words → Option (RowName × List Text)
-row_of (row.Run deck size switches) =
-    Some (name.Run, deck.now ∷ size.now ∷ switches.now ∷ [])
-row_of (row.Assemble source out) = Some (name.Assemble, source.now ∷ out.now ∷ [])
-row_of (row.Init file) = Some (name.Init, file.now ∷ [])
-row_of (row.Apply file script) = Some (name.Apply, file.now ∷ script.now ∷ [])
-row_of (row.Export file customer number) =
-    Some (name.Export, file.now ∷ customer.now ∷ number.now ∷ [])
-row_of (row.Serve file port count) = Some (name.Serve, file.now ∷ port.now ∷ count.now ∷ [])
-row_of row.Standard = None
-row_of (row.Help page) = None
-row_of row.Version = None
+-- whether the words begin with a row's name and `--`
+abbrev pub has_dashes : List Text → Bool
+has_dashes [] = false
+has_dashes (word ∷ []) = false
+has_dashes (word ∷ other ∷ more) = is_some (row_named word) && bytes_eq other (codes "--")
 
--- the words ask for something else than a row with values: a help, the version, or the standard run
-abbrev pub IsOption : List Text → Words → Type 0
-IsOption words row.Standard = words ≡ []
-IsOption words (row.Help page) = IsHelp page words
-IsOption words row.Version = IsVersion words
-IsOption words _ = ⊥
+-- whether none of the words is an option, or they begin with a row's name and `--`
+abbrev pub is_clear : List Text → Bool
+is_clear words = has_dashes words || not (is_some (find is_odd words))
 
--- the words are the name of the row that is asked for, and then its values
+-- the words are those of a row that is asked for, with its values
 pub record Spells (words : List Text) (asked : Words) : Type 0 where
   pub row : RowName
   pub values : List Text
   pub asks : row_of asked ≡ Some (row, values)
-  pub spelt : words ≡ name_of row ∷ values
+  pub has : HasValues row values words
 
--- the texts of one, two or three values
-abbrev pub texts_of : Values → List Text
-texts_of (One a) = a.now ∷ []
-texts_of (Two a b) = a.now ∷ b.now ∷ []
-texts_of (Three a b c) = a.now ∷ b.now ∷ c.now ∷ []
-
--- the names of the places that a row's values have
-abbrev pub places_of : RowName → List Text
-places_of name.Run = three_values
-places_of name.Assemble = two_values
-places_of name.Init = one_value
-places_of name.Apply = two_values
-places_of name.Export = three_values
-places_of name.Serve = three_values
-
--- these are the values that clap found in the row's places
-abbrev pub HasFound : List Row → RowName → List Text → Type 0
-HasFound rows row values = map (λ place. first_of place rows) (places_of row) ≡ map Some values
+-- the values that clap found in the row's places
+abbrev pub values_found : List Row → RowName → List Text
+values_found found row = map (λ place. unwrap_or (first_of place found) []) (places_of row)
 
 -- what is asked for is the row of this name, with the values that clap found in its places
-pub record IsRowWith (word : Text) (rows : List Row) (asked : Words) : Type 0 where
+pub record IsRowWith (word : Text) (found : List Row) (asked : Words) : Type 0 where
   pub row : RowName
-  pub values : List Text
-  pub asks : row_of asked ≡ Some (row, values)
   pub named : word ≡ name_of row
-  pub found : HasFound rows row values
+  pub asks : row_of asked ≡ Some (row, values_found found row)
 
 -- what is asked for is the row that clap found, if it found one
 abbrev pub IsRow : Option (Text × List Row) → Words → Type 0
@@ -187,15 +146,6 @@ page_of (Some name.Init) = INIT_HELP.now
 page_of (Some name.Apply) = APPLY_HELP.now
 page_of (Some name.Export) = EXPORT_HELP.now
 page_of (Some name.Serve) = SERVE_HELP.now
-
--- the complaint about a wrong number of words: which words the row takes after its name
-abbrev pub wish_of : RowName → Text
-wish_of name.Run = codes "`run` takes three words after it: DECK SIZE SWITCHES"
-wish_of name.Assemble = codes "`assemble` takes two words after it: IN OUT"
-wish_of name.Init = codes "`init` takes one word after it: FILE"
-wish_of name.Apply = codes "`apply` takes two words after it: FILE SCRIPT"
-wish_of name.Export = codes "`export` takes three words after it: FILE CUSTOMER NUMBER"
-wish_of name.Serve = codes "`serve` takes three words after it: FILE PORT COUNT"
 
 -- the text that is printed for a fault of the words
 abbrev pub complaint : WordsFault → Text

@@ -1,7 +1,8 @@
 -- the program's command, as clap reads it
-use Rattle.std.specs.Prelude.{◌≡◌, ◌∷◌, [], List, true, false, Some, codes, fold}
+use Rattle.std.specs.Prelude.{◌≡◌, List, true, false, Some, codes, fold}
 use Rattle.clap.specs.Words.{App, Rule, Text, new_app, new_rule, with_rule, with_subcommand}
 use Rattle.clap.specs.Simple.{on_top}
+use Rattle.command_line.specs.Rows.{name_of, places_of, rows}
 use Rattle.clap.specs.declared.builder.ArgAction.TheVariants.{Set}
 use Rattle.clap.specs.declared.builder.command.Command.{Command}
 use Rattle.clap.specs.declared.builder.command.Command.TheViews.{out-Command}
@@ -30,29 +31,6 @@ named = on_top (λ s. record s {
   disable_help_subcommand = true;
 }) (new_app (codes "bureau"))
 
--- the name of the place of a single value
-abbrev pub one_value : List Text
-one_value = codes "first" ∷ []
-
--- the names of the places of two values
-abbrev pub two_values : List Text
-two_values = codes "first" ∷ codes "second" ∷ []
-
--- the names of the places of three values
-abbrev pub three_values : List Text
-three_values = codes "first" ∷ codes "second" ∷ codes "third" ∷ []
-
--- the command with the rows for decks: `run` and `assemble`
-abbrev pub with_deck_rows : App → App
-with_deck_rows a =
-    with_row (with_row a (codes "run") three_values) (codes "assemble") two_values
-
--- the command with the rows for a bureau's file: `init`, `apply`, `export` and `serve`
-abbrev pub with_file_rows : App → App
-with_file_rows a =
-    with_row (with_row (with_row (with_row a (codes "init") one_value)
-    (codes "apply") two_values) (codes "export") three_values) (codes "serve") three_values
-
--- the program's whole command
+-- the program's whole command: with each row, and places for the row's values
 abbrev pub bureau : App
-bureau = with_file_rows (with_deck_rows named)
+bureau = fold (λ a row. with_row a (name_of row) (places_of row)) named rows

@@ -1,4 +1,5 @@
 pub mod Plain
+pub mod Rows
 pub mod Command
 pub mod Asked
 pub mod Printed

@@ -98,7 +98,20 @@ impl<'a> Display for WordsFault<'a> {
             WordsFault::Row => {
                 formatter.write_str("the first word names nothing that the bureau does")
             }
-            WordsFault::Values(row) => formatter.write_str(row.wish()),
+            WordsFault::Values(row) => {
+                let name = row.word();
+                match row.values() {
+                    [] => write!(formatter, "`{name}` takes no words after it"),
+                    [a] => write!(formatter, "`{name}` takes one word after it: {a}"),
+                    [a, b] => write!(formatter, "`{name}` takes two words after it: {a} {b}"),
+                    [a, b, c, ..] => {
+                        write!(
+                            formatter,
+                            "`{name}` takes three words after it: {a} {b} {c}"
+                        )
+                    }
+                }
+            }
             WordsFault::Hyphen(word) => write!(
                 formatter,
                 "`{word}` begins with a hyphen; put `--` after the row's name, \

@@ -1,11 +1,25 @@
 //! The program's command, as clap reads it.
 
-ghost use Rattle.std.specs.Prelude.{◌≡◌, false, IfOk, map};
+ghost use Rattle.std.specs.Prelude.{◌≡◌, false, IfOk, fold, length, map, take};
 ghost use Rattle.clap.specs.Words.{app_of, rule_of};
-ghost use Rattle.command_line.specs.Command.{bureau, named, positional, row_app, with_deck_rows, with_file_rows, with_row, IsLocal};
+ghost use Rattle.command_line.specs.Command.{bureau, named, positional, row_app, with_row, IsLocal};
+ghost use Rattle.command_line.specs.Rows.{places};
 
+use crate::row_names::{ROWS, RowName};
 use clap::{Arg, ArgAction, Command};
 use std::alloc::{AllocError, Global};
+
+/// The names of the places of so many values, up to three.
+fn places(count: usize) -> &'static [&'static str]
+    ensures { map (λ s. s.now) result.now ≡ take count places }
+{
+    match count {
+        0 => &[],
+        1 => &["first"],
+        2 => &["first", "second"],
+        _ => &["first", "second", "third"],
+    }
+}
 
 /// A required value, by the name of its place.
 fn value_arg<'a>(alloc: Global, place: &'a str) -> Arg<'a>
@@ -27,35 +41,34 @@ fn row<'a>(alloc: Global, name: &'a str, places: &[&'a str]) -> Result<Command<'
     Ok(command)
 }
 
-/// The command with one more row.
+/// The command with one more row, with places for its values.
 fn with_row<'a>(
     alloc: Global,
     command: Command<'a>,
     name: &'a str,
-    places: &[&'a str],
+    values: &[&str],
 ) -> Result<Command<'a>, AllocError>
     ensures { IfOk result (λ c. app_of c
-        ≡ with_row (app_of command.entry) name.entry.now (map (λ s. s.now) places.now)) }
+        ≡ with_row (app_of command.entry) name.entry.now (take (length values.now) places)) }
 {
-    command.subcommand(row(alloc, name, places)?)
+    command.subcommand(row(alloc, name, places(values.len()))?)
 }
 
-/// The command with the rows that use no bureau.
-fn with_deck_rows<'a>(alloc: Global, command: Command<'a>) -> Result<Command<'a>, AllocError>
-    ensures { IfOk result (λ c. app_of c ≡ with_deck_rows (app_of command.entry)) }
+/// The command with the rows of a table.
+fn with_rows<'a>(
+    alloc: Global,
+    command: Command<'a>,
+    table: &[(RowName, &'a str, &[&str])],
+) -> Result<Command<'a>, AllocError>
+    ensures { IfOk result (λ c. app_of c ≡ fold
+        (λ a row. with_row a row.1.now (take (length row.2.now) places))
+        (app_of command.entry) table.now) }
 {
-    let command = with_row(alloc, command, "run", &["first", "second", "third"])?;
-    with_row(alloc, command, "assemble", &["first", "second"])
-}
-
-/// The command with the rows of a bureau's file.
-fn with_file_rows<'a>(alloc: Global, command: Command<'a>) -> Result<Command<'a>, AllocError>
-    ensures { IfOk result (λ c. app_of c ≡ with_file_rows (app_of command.entry)) }
-{
-    let command = with_row(alloc, command, "init", &["first"])?;
-    let command = with_row(alloc, command, "apply", &["first", "second"])?;
-    let command = with_row(alloc, command, "export", &["first", "second", "third"])?;
-    with_row(alloc, command, "serve", &["first", "second", "third"])
+    let mut command = command;
+    for row in table {
+        command = with_row(alloc, command, row.1, row.2)?;
+    }
+    Ok(command)
 }
 
 /// The command without rows: no program's name as the first word, and no help of clap's own.
@@ -72,6 +85,5 @@ fn named_command<'a>(alloc: Global) -> Command<'a>
 pub(crate) fn bureau_command<'a>(alloc: Global) -> Result<Command<'a>, AllocError>
     ensures { IfOk result (λ c. app_of c ≡ bureau) }
 {
-    let command = with_deck_rows(alloc, named_command(alloc))?;
-    with_file_rows(alloc, command)
+    with_rows(alloc, named_command(alloc), &ROWS)
 }

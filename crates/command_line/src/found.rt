@@ -1,85 +1,56 @@
 //! The row that clap found, with its values.
 
-ghost use Rattle.std.specs.Prelude.{◌≡◌, ◌≢◌, List, ℕ, map, option_map, IfSome, IfNone, Some};
+ghost use Rattle.std.specs.Prelude.{◌≡◌, [], IfSome, IfNone, Some, unwrap_or};
 ghost use Rattle.clap.specs.Words.{first_of, found_of, rows_of, subcommand_rows_of};
-ghost use Rattle.command_line.specs.Asked.{HasFound, IsRow, texts_of};
-ghost use Rattle.command_line.specs.Command.{one_value, two_values, three_values};
+ghost use Rattle.command_line.specs.Asked.{IsRow, row_of, values_found};
 ghost use Rattle.command_line.specs.declared.asked.Words.{Words};
 
 use crate::asked::Words;
 use crate::row_names::RowName;
-use crate::row_values::{Values, row_with};
 use clap::ArgMatches;
 
-/// The value at a place.
-fn value_at<'a>(matches: &ArgMatches<'a>, place: &str) -> Option<&'a str>
-    ensures { option_map (λ s. s.now) result ≡ first_of place.now (rows_of (found_of matches.now)) }
+/// The value at a place. It is empty where there is none; clap takes no row without its values.
+fn value_at<'a>(matches: &ArgMatches<'a>, place: &str) -> &'a str
+    ensures { result.now ≡ unwrap_or (first_of place.now (rows_of (found_of matches.now))) [] }
 {
-    matches.get_str(place)
+    match matches.get_str(place) {
+        Some(value) => value,
+        None => "",
+    }
 }
 
-/// The value at the only place.
-fn one_value<'a>(matches: &ArgMatches<'a>) -> Option<Values<'a>>
-    ensures some { IfSome result (λ values. map (λ place. first_of place
-        (rows_of (found_of matches.now))) one_value ≡ map Some (texts_of values)) }
-    ensures none { IfNone result ((values : List (List ℕ)) → map (λ place. first_of place
-        (rows_of (found_of matches.now))) one_value ≢ map Some values) }
+/// The row of this name, with the values at its places.
+fn row_with<'a>(row: RowName, matches: &ArgMatches<'a>) -> Words<'a>
+    ensures { row_of result ≡ Some (row, values_found (rows_of (found_of matches.now)) row) }
 {
-    let Some(first) = value_at(matches, "first") else {
-        return None;
-    };
-    Some(Values::One(first))
-}
-
-/// The values at the two places.
-fn two_values<'a>(matches: &ArgMatches<'a>) -> Option<Values<'a>>
-    ensures some { IfSome result (λ values. map (λ place. first_of place
-        (rows_of (found_of matches.now))) two_values ≡ map Some (texts_of values)) }
-    ensures none { IfNone result ((values : List (List ℕ)) → map (λ place. first_of place
-        (rows_of (found_of matches.now))) two_values ≢ map Some values) }
-{
-    let Some(first) = value_at(matches, "first") else {
-        return None;
-    };
-    let Some(second) = value_at(matches, "second") else {
-        return None;
-    };
-    Some(Values::Two(first, second))
-}
-
-/// The values at the three places.
-fn three_values<'a>(matches: &ArgMatches<'a>) -> Option<Values<'a>>
-    ensures some { IfSome result (λ values. map (λ place. first_of place
-        (rows_of (found_of matches.now))) three_values ≡ map Some (texts_of values)) }
-    ensures none { IfNone result ((values : List (List ℕ)) → map (λ place. first_of place
-        (rows_of (found_of matches.now))) three_values ≢ map Some values) }
-{
-    let Some(first) = value_at(matches, "first") else {
-        return None;
-    };
-    let Some(second) = value_at(matches, "second") else {
-        return None;
-    };
-    let Some(third) = value_at(matches, "third") else {
-        return None;
-    };
-    Some(Values::Three(first, second, third))
-}
-
-/// The values at the places of a row.
-fn values_found<'a>(matches: &ArgMatches<'a>, row: RowName) -> Option<Values<'a>>
-    ensures some { IfSome result (λ values. HasFound (rows_of (found_of matches.now)) row
-        (texts_of values)) }
-    ensures none { IfNone result ((values : List (List ℕ))
-        → ¬ HasFound (rows_of (found_of matches.now)) row values) }
-{
+    let first = value_at(matches, "first");
+    let second = value_at(matches, "second");
+    let third = value_at(matches, "third");
     match row {
-        RowName::Run => three_values(matches),
-        RowName::Assemble => two_values(matches),
-        RowName::Init => one_value(matches),
-        RowName::Apply => two_values(matches),
-        RowName::Export => three_values(matches),
-        RowName::Serve => three_values(matches),
+        RowName::Run => Words::Run {
+            deck: first,
+            size: second,
+            switches: third,
+        },
+        RowName::Assemble => Words::Assemble {
+            source: first,
+            out: second,
+        },
+        RowName::Init => Words::Init { file: first },
+        RowName::Apply => Words::Apply {
+            file: first,
+            script: second,
+        },
+        RowName::Export => Words::Export {
+            file: first,
+            customer: second,
+            number: third,
+        },
+        RowName::Serve => Words::Serve {
+            file: first,
+            port: second,
+            count: third,
+        },
     }
 }
 
@@ -95,8 +66,5 @@ pub(crate) fn row_in<'a>(matches: &ArgMatches<'a>) -> Option<Words<'a>>
     let Some(row) = RowName::of(name) else {
         return None;
     };
-    let Some(values) = values_found(inner, row) else {
-        return None;
-    };
-    row_with(row, values)
+    Some(row_with(row, inner))
 }

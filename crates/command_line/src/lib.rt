@@ -1,12 +1,12 @@
 //! The command line: the task that the program's words ask for, and what the program prints there.
 //!
 //! A call of the program is one of a few rows: no words at all, or a row's name and its values in
-//! their places. Words with hyphens that ask for the help or the version are searched for first,
-//! and then a row whose values come after `--`: those values are taken unchanged. Of all other
-//! words none may begin with a hyphen, except `-` alone. These words are parsed by clap. Its
-//! command has only the rows, each with the number of required values that the row has, and has no
-//! help of its own. The values (a size, the switches) are read after that, before any file is
-//! opened.
+//! their places. Words with hyphens that ask for the help or the version are searched for first.
+//! Of all other words none may begin with a hyphen, except `-` alone, unless `--` comes after a
+//! row's name: the values after it are taken unchanged. These words are parsed by clap. Its command
+//! has only the rows of one table (`src/row_names.rt`), each with the number of required values
+//! that the row has, and has no help of its own. The values (a size, the switches) are read after
+//! that, before any file is opened.
 //!
 //! The contracts for the layers above: [`words`] returns what the words ask for, and fails for
 //! those that ask for something only if there is no memory; [`task_of`] returns the task that they
@@ -25,7 +25,6 @@ mod options;
 mod parsing;
 mod ports;
 mod row_names;
-mod row_values;
 mod statuses;
 mod tasks;
 mod telling;

@@ -1,13 +1,12 @@
 //! Words with hyphens, instead of a row or after its name.
 
-ghost use Rattle.std.specs.Prelude.{◌≡◌, ◌≢◌, ◌∷◌, [], List, ℕ, IfSome, IfNone, codes};
-ghost use Rattle.command_line.specs.Asked.{IsOption, name_of};
+ghost use Rattle.std.specs.Prelude.{◌≡◌, ◌∷◌, [], IfSome, IfNone};
+ghost use Rattle.command_line.specs.Asked.{IsOption, has_dashes, is_clear};
 ghost use Rattle.command_line.specs.Plain.{texts};
 ghost use Rattle.command_line.specs.declared.asked.Words.{Words};
-ghost use Rattle.command_line.specs.declared.row_names.RowName.{RowName};
 
 use crate::asked::Words;
-use crate::misreading::first_word;
+use crate::misreading::odd_word;
 use crate::row_names::RowName;
 
 /// What one word asks for instead of a row.
@@ -57,25 +56,19 @@ pub(crate) fn option_in<'a>(words: &[String]) -> Option<Words<'a>>
     }
 }
 
-/// The row whose name comes first, and the values after it, if `--` is between them.
-pub(crate) fn after_dashes<'a>(words: &'a [String]) -> Option<(RowName, &'a [String])>
-    ensures some { IfSome result (λ p. texts words.entry.now
-        ≡ name_of p.0 ∷ codes "--" ∷ texts p.1.now) }
-    ensures none { IfNone result ((row : RowName) (values : List (List ℕ))
-        → texts words.entry.now ≢ name_of row ∷ codes "--" ∷ values) }
+/// Whether a row's name comes first, and then `--`.
+fn has_dashes(words: &[String]) -> bool
+    ensures { result ≡ has_dashes (texts words.now) }
 {
-    let Some((name, more)) = first_word(words) else {
-        return None;
-    };
-    let Some(row) = RowName::of(name) else {
-        return None;
-    };
-    let Some((dashes, values)) = first_word(more) else {
-        return None;
-    };
-    if dashes == "--" {
-        Some((row, values))
-    } else {
-        None
+    match words {
+        [name, word, ..] => RowName::of(name.as_str()).is_some() && word.as_str() == "--",
+        _ => false,
     }
+}
+
+/// Whether no word is an option, or a row's name and `--` come first.
+pub(crate) fn is_clear(words: &[String]) -> bool
+    ensures { result ≡ is_clear (texts words.now) }
+{
+    has_dashes(words) || odd_word(words).is_none()
 }

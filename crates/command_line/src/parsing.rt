@@ -1,20 +1,19 @@
 //! What the words after the program's name ask for.
 
-ghost use Rattle.std.specs.Prelude.{◌≡◌, ◌≢◌, ◌↔◌, ◌⊎◌, Option, [], IfOk, IfErr, Ok};
+ghost use Rattle.std.specs.Prelude.{◌≡◌, ◌≢◌, ◌↔◌, ◌⊎◌, Option, [], IfOk, IfErr, Ok, true};
 ghost use Rattle.clap.specs.Words.{fault_of, subcommand_of, subcommand_rows_of};
 ghost use Rattle.command_line.specs.declared.asked.Words.{Words};
 ghost use Rattle.command_line.specs.declared.row_names.RowName.{RowName};
-ghost use Rattle.command_line.specs.Asked.{Asks, IsHelp, IsVersion, Spells, misreading, misreading_by};
+ghost use Rattle.command_line.specs.Asked.{Asks, IsHelp, IsVersion, Spells, is_clear, misreading, misreading_by};
 ghost use Rattle.command_line.specs.Command.{bureau};
-ghost use Rattle.command_line.specs.Plain.{ArePlain, texts};
+ghost use Rattle.command_line.specs.Plain.{texts};
 
 use crate::asked::{Words, WordsFault};
 use crate::commands::bureau_command;
 use crate::found::row_in;
-use crate::misreading::{fault_of_words, odd_word};
-use crate::options::{after_dashes, option_in};
+use crate::misreading::fault_of_words;
+use crate::options::{is_clear, option_in};
 use crate::row_names::RowName;
-use crate::row_values::row_of_words;
 use clap::ArgMatches;
 use clap::error::ErrorKind;
 use std::alloc::Global;
@@ -44,10 +43,10 @@ fn parse<'a>(alloc: Global, words: &'a [String]) -> Result<ArgMatches<'a>, Words
 
 /// The row that clap finds in the words.
 fn row_of<'a>(alloc: Global, words: &'a [String]) -> Result<Words<'a>, WordsFault<'a>>
-    ensures ok { IfOk result (λ asked. ArePlain (texts words.entry.now) →
+    ensures ok { IfOk result (λ asked. is_clear (texts words.entry.now) ≡ true →
         Spells (texts words.entry.now) asked) }
-    ensures err { IfErr result (λ fault. ArePlain (texts words.entry.now)
-        → (asked : Words) → Spells (texts words.entry.now) asked → fault ≡ WordsFault.Memory) }
+    ensures err { IfErr result (λ fault. (asked : Words) → Spells (texts words.entry.now) asked
+        → fault ≡ WordsFault.Memory) }
     ensures fault { IfErr result (λ fault. (fault ≡ WordsFault.Memory)
         ⊎ (misreading_by fault ≡ misreading (texts words.entry.now))) }
 {
@@ -75,13 +74,7 @@ pub fn words<'a>(alloc: Global, words: &'a [String]) -> Result<Words<'a>, WordsF
     if let Some(asked) = option_in(words) {
         return Ok(asked);
     }
-    if let Some((row, values)) = after_dashes(words) {
-        return match row_of_words(row, values) {
-            Some(asked) => Ok(asked),
-            None => Err(fault_of_words(words)),
-        };
-    }
-    if odd_word(words).is_some() {
+    if !is_clear(words) {
         return Err(fault_of_words(words));
     }
     row_of(alloc, words)

@@ -1,6 +1,7 @@
-//! The names of the rows.
-ghost use Rattle.std.specs.Prelude.{◌≡◌};
-ghost use Rattle.command_line.specs.Asked.{file_row_named, name_of, row_named, wish_of};
+//! The table of the rows.
+ghost use Rattle.std.specs.Prelude.{◌≡◌, find, map, option_map};
+ghost use Rattle.std.specs.Str.{bytes_eq};
+ghost use Rattle.command_line.specs.Rows.{name_of, row_named, values_of};
 
 /// The name of a row that has values.
 #[derive(Clone, Copy, Debug, PartialEq, Eq)]
@@ -19,23 +20,25 @@ pub enum RowName {
     Serve,
 }
 
-/// The row of a bureau's file with this name.
-fn file_row(word: &str) -> Option<RowName>
-    ensures { result ≡ file_row_named word.now }
+/// The rows, in the order of [`RowName`]: each with its name, and with the names of its values.
+pub(crate) const ROWS: [(RowName, &str, &[&str]); 6] = [
+    (RowName::Run, "run", &["DECK", "SIZE", "SWITCHES"]),
+    (RowName::Assemble, "assemble", &["IN", "OUT"]),
+    (RowName::Init, "init", &["FILE"]),
+    (RowName::Apply, "apply", &["FILE", "SCRIPT"]),
+    (RowName::Export, "export", &["FILE", "CUSTOMER", "NUMBER"]),
+    (RowName::Serve, "serve", &["FILE", "PORT", "COUNT"]),
+];
+
+/// The first row of a table with this name.
+fn row_in<'a>(
+    table: &'a [(RowName, &'a str, &'a [&'a str])],
+    word: &str,
+) -> Option<&'a (RowName, &'a str, &'a [&'a str])>
+    ensures { option_map (λ row. row.now) result
+        ≡ find (λ row. bytes_eq row.1.now word.now) table.entry.now }
 {
-    if word == "init" {
-        return Some(RowName::Init);
-    }
-    if word == "apply" {
-        return Some(RowName::Apply);
-    }
-    if word == "export" {
-        return Some(RowName::Export);
-    }
-    if word == "serve" {
-        return Some(RowName::Serve);
-    }
-    None
+    table.iter().find(|row| row.1 == word)
 }
 
 impl RowName {
@@ -43,40 +46,21 @@ impl RowName {
     pub(crate) fn of(word: &str) -> Option<RowName>
         ensures { result ≡ row_named word.now }
     {
-        if word == "run" {
-            return Some(RowName::Run);
-        }
-        if word == "assemble" {
-            return Some(RowName::Assemble);
-        }
-        file_row(word)
+        let row = row_in(&ROWS, word)?;
+        Some(row.0)
     }
 
     /// The name of the row.
     pub(crate) fn word(self) -> &'static str
         ensures { result.now ≡ name_of self }
     {
-        match self {
-            RowName::Run => "run",
-            RowName::Assemble => "assemble",
-            RowName::Init => "init",
-            RowName::Apply => "apply",
-            RowName::Export => "export",
-            RowName::Serve => "serve",
-        }
+        ROWS[self as usize].1
     }
 
-    /// What the row takes after its name, as a complaint prints it.
-    pub(crate) fn wish(self) -> &'static str
-        ensures { result.now ≡ wish_of self }
+    /// The names of the row's values.
+    pub(crate) fn values(self) -> &'static [&'static str]
+        ensures { map (λ s. s.now) result.now ≡ values_of self }
     {
-        match self {
-            RowName::Run => "`run` takes three words after it: DECK SIZE SWITCHES",
-            RowName::Assemble => "`assemble` takes two words after it: IN OUT",
-            RowName::Init => "`init` takes one word after it: FILE",
-            RowName::Apply => "`apply` takes two words after it: FILE SCRIPT",
-            RowName::Export => "`export` takes three words after it: FILE CUSTOMER NUMBER",
-            RowName::Serve => "`serve` takes three words after it: FILE PORT COUNT",
-        }
+        ROWS[self as usize].2
     }
 }

@@ -1,7 +1,13 @@
-use Rattle.std.proofs.Common.{◌∙◌}
+use Rattle.std.proofs.Common.{◌∙◌, [], ap, unwrap_or, List, ℕ}
+use Rattle.std.specs.Prelude.{Option}
 use Rattle.clap.proofs.WalkLemmas.{first_value-rows}
 use Rattle.clap.specs.Words.{found_of}
 use Rattle.command_line.proofs.found.value_at.Goals as goal
 
-pub returns : goal.returns
-returns c = c.get_str.ensures ∙ first_value-rows (found_of c.args.matches.now) c.args.place.now
+pub returns-in-Some : goal.returns-in-Some
+returns-in-Some c = ap (λ (o : Option (List ℕ)). unwrap_or o [])
+    (c.in-Some.ensures ∙ first_value-rows (found_of c.args.matches.now) c.args.place.now)
+
+pub returns-in-None : goal.returns-in-None
+returns-in-None c = ap (λ (o : Option (List ℕ)). unwrap_or o [])
+    (c.in-None.ensures ∙ first_value-rows (found_of c.args.matches.now) c.args.place.now)

@@ -2,7 +2,7 @@ use Rattle.std.proofs.Common.{◌≡◌, ◌∷◌, [], ℕ, List, IfErr, Ok, Er
 use Rattle.std.specs.Prelude.{Result}
 use Rattle.core_store.specs.Storage.{positions_of}
 use Rattle.command_line.proofs.AskedWays.{no_help, no_version, one_row, some_word}
-use Rattle.command_line.specs.Asked.{Asks, HasValues, name_of}
+use Rattle.command_line.specs.Asked.{Asks, HasValues}
 use Rattle.command_line.specs.declared.row_names.RowName.{RowName}
 use Rattle.command_line.specs.declared.row_names.RowName.TheVariants as name
 use Rattle.command_line.specs.Plain.{texts}

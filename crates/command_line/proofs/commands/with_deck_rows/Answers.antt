@@ -1,9 +1,0 @@
-use Rattle.std.proofs.Common.{◌∙◌, ap, codes}
-use Rattle.std.proofs.lemmas.Result.{IfOk-weaker}
-use Rattle.clap.specs.Words.{App}
-use Rattle.command_line.specs.Command.{two_values, with_row}
-use Rattle.command_line.proofs.commands.with_deck_rows.Goals as goal
-
-pub returns : goal.returns
-returns c = IfOk-weaker c.with_row-2.result _ _
-    (λ k e. e ∙ ap (λ (a : App). with_row a (codes "assemble") two_values) c.in_ok-command.ensures) c.with_row-2.ensures
