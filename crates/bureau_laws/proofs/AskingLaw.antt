@@ -88,32 +88,32 @@ one_command v text c d x y = absurd x
 -- ---- what is asked
 
 -- a target has one route
-one_route : {text : List ℕ} {r s : Route} → route_at text ≡ Some r → route_at text ≡ Some s → r ≡ s
-one_route x y = let e = sym x ∙ y in cc
+one_route : (text : List ℕ) {r s : Route} → route_at text ≡ Some r → route_at text ≡ Some s → r ≡ s
+one_route text x y = let e = sym x ∙ y in cc
 
 -- a target asks for one thing
 pub same_target : (text : List ℕ) (a b : Target) → Asks text a → Asks text b → IsSameTarget a b
 same_target text (target.Submission job kind size switches) (target.Submission name form positions up) x y =
-    let e = one_route x.0 y.0 in
+    let e = one_route text x.0 y.0 in
     (one_job text job name x.1 y.1, cc, one_number _ size positions x.2 y.2, one_set _ switches up x.3 y.3)
 same_target text (target.Job job c) (target.Job name d) (v, x) (w, y) =
-    let e = one_route x.0 y.0 in
+    let e = one_route text x.0 y.0 in
     let same : w ≡ v = cc in
     (one_job text job name x.1 y.1, one_command v _ c d x.2 (subst (λ (u : Verb). IsCommandBy u (part 6 text) d) same y.2))
 same_target text (target.Jobs customer) (target.Jobs name) x y = x.1 ∙ sym y.1
 same_target text target.Queue target.Queue x y = tt
-same_target text (target.Submission job kind size switches) (target.Job name d) x (w, y) = absurd (let e = one_route x.0 y.0 in cc)
-same_target text (target.Submission job kind size switches) (target.Jobs name) x y = absurd (let e = one_route x.0 y.0 in cc)
-same_target text (target.Submission job kind size switches) target.Queue x y = absurd (let e = one_route x.0 y in cc)
-same_target text (target.Job job c) (target.Submission name form positions up) (v, x) y = absurd (let e = one_route x.0 y.0 in cc)
-same_target text (target.Job job c) (target.Jobs name) (v, x) y = absurd (let e = one_route x.0 y.0 in cc)
-same_target text (target.Job job c) target.Queue (v, x) y = absurd (let e = one_route x.0 y in cc)
-same_target text (target.Jobs customer) (target.Submission name form positions up) x y = absurd (let e = one_route x.0 y.0 in cc)
-same_target text (target.Jobs customer) (target.Job name d) x (w, y) = absurd (let e = one_route x.0 y.0 in cc)
-same_target text (target.Jobs customer) target.Queue x y = absurd (let e = one_route x.0 y in cc)
-same_target text target.Queue (target.Submission name form positions up) x y = absurd (let e = one_route x y.0 in cc)
-same_target text target.Queue (target.Job name d) x (w, y) = absurd (let e = one_route x y.0 in cc)
-same_target text target.Queue (target.Jobs name) x y = absurd (let e = one_route x y.0 in cc)
+same_target text (target.Submission job kind size switches) (target.Job name d) x (w, y) = absurd (let e = one_route text x.0 y.0 in cc)
+same_target text (target.Submission job kind size switches) (target.Jobs name) x y = absurd (let e = one_route text x.0 y.0 in cc)
+same_target text (target.Submission job kind size switches) target.Queue x y = absurd (let e = one_route text x.0 y in cc)
+same_target text (target.Job job c) (target.Submission name form positions up) (v, x) y = absurd (let e = one_route text x.0 y.0 in cc)
+same_target text (target.Job job c) (target.Jobs name) (v, x) y = absurd (let e = one_route text x.0 y.0 in cc)
+same_target text (target.Job job c) target.Queue (v, x) y = absurd (let e = one_route text x.0 y in cc)
+same_target text (target.Jobs customer) (target.Submission name form positions up) x y = absurd (let e = one_route text x.0 y.0 in cc)
+same_target text (target.Jobs customer) (target.Job name d) x (w, y) = absurd (let e = one_route text x.0 y.0 in cc)
+same_target text (target.Jobs customer) target.Queue x y = absurd (let e = one_route text x.0 y in cc)
+same_target text target.Queue (target.Submission name form positions up) x y = absurd (let e = one_route text x y.0 in cc)
+same_target text target.Queue (target.Job name d) x (w, y) = absurd (let e = one_route text x y.0 in cc)
+same_target text target.Queue (target.Jobs name) x y = absurd (let e = one_route text x y.0 in cc)
 
 -- bytes ask for one thing, with a body of one length, and the same bytes come after the head
 pub same_asking : (input : List ℕ) (a b : Target) (n m : ℕ) (after rest : List ℕ) → AsksFor input a n after → AsksFor input b m rest
