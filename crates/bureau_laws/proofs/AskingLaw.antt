@@ -96,23 +96,23 @@ pub same_target : (text : List ℕ) (a b : Target) → Asks text a → Asks text
 same_target text (target.Submission job kind size switches) (target.Submission name form positions up) x y =
     let e = one_route text x.0 y.0 in
     (one_job text job name x.1 y.1, cc, one_number _ size positions x.2 y.2, one_set _ switches up x.3 y.3)
-same_target text (target.Job job c) (target.Job name d) (v, x) (w, y) =
-    let e = one_route text x.0 y.0 in
-    let same : w ≡ v = cc in
-    (one_job text job name x.1 y.1, one_command v _ c d x.2 (subst (λ (u : Verb). IsCommandBy u (part 6 text) d) same y.2))
+same_target text (target.Job job c) (target.Job name d) x y =
+    let e = one_route text x.1 y.1 in
+    let same : y.0 ≡ x.0 = cc in
+    (one_job text job name x.2 y.2, one_command x.0 _ c d x.3 (subst (λ (u : Verb). IsCommandBy u (part 6 text) d) same y.3))
 same_target text (target.Jobs customer) (target.Jobs name) x y = x.1 ∙ sym y.1
 same_target text target.Queue target.Queue x y = tt
-same_target text (target.Submission job kind size switches) (target.Job name d) x (w, y) = absurd (let e = one_route text x.0 y.0 in cc)
+same_target text (target.Submission job kind size switches) (target.Job name d) x y = absurd (let e = one_route text x.0 y.1 in cc)
 same_target text (target.Submission job kind size switches) (target.Jobs name) x y = absurd (let e = one_route text x.0 y.0 in cc)
 same_target text (target.Submission job kind size switches) target.Queue x y = absurd (let e = one_route text x.0 y in cc)
-same_target text (target.Job job c) (target.Submission name form positions up) (v, x) y = absurd (let e = one_route text x.0 y.0 in cc)
-same_target text (target.Job job c) (target.Jobs name) (v, x) y = absurd (let e = one_route text x.0 y.0 in cc)
-same_target text (target.Job job c) target.Queue (v, x) y = absurd (let e = one_route text x.0 y in cc)
+same_target text (target.Job job c) (target.Submission name form positions up) x y = absurd (let e = one_route text x.1 y.0 in cc)
+same_target text (target.Job job c) (target.Jobs name) x y = absurd (let e = one_route text x.1 y.0 in cc)
+same_target text (target.Job job c) target.Queue x y = absurd (let e = one_route text x.1 y in cc)
 same_target text (target.Jobs customer) (target.Submission name form positions up) x y = absurd (let e = one_route text x.0 y.0 in cc)
-same_target text (target.Jobs customer) (target.Job name d) x (w, y) = absurd (let e = one_route text x.0 y.0 in cc)
+same_target text (target.Jobs customer) (target.Job name d) x y = absurd (let e = one_route text x.0 y.1 in cc)
 same_target text (target.Jobs customer) target.Queue x y = absurd (let e = one_route text x.0 y in cc)
 same_target text target.Queue (target.Submission name form positions up) x y = absurd (let e = one_route text x y.0 in cc)
-same_target text target.Queue (target.Job name d) x (w, y) = absurd (let e = one_route text x y.0 in cc)
+same_target text target.Queue (target.Job name d) x y = absurd (let e = one_route text x y.1 in cc)
 same_target text target.Queue (target.Jobs name) x y = absurd (let e = one_route text x y.0 in cc)
 
 -- bytes ask for one thing, with a body of one length, and the same bytes come after the head
