@@ -1,12 +1,12 @@
 -- how the run of a script ended
-use Rattle.std.specs.Prelude.{◌≡◌, ◌≢◌, ◌⊎◌, ℕ, false, List, Option, IfSome, take}
+use Rattle.std.specs.Prelude.{◌≡◌, ◌≢◌, ◌⊎◌, ℕ, false, List, Option, IfSome, length, take}
 use Rattle.office.specs.declared.commands.Command.{Command}
 use Rattle.scripts.specs.Replies.{bad_line, fault_line}
 use Rattle.scripts.specs.Scripts.{IsFaultOf, IsScriptOf}
 use Rattle.scripts.specs.Sending.{WritesPart}
 use Rattle.scripts.specs.declared.faults.ScriptFault.{ScriptFault}
 use Rattle.scripts.specs.declared.faults.ScriptFault.TheVariants as fault
-use Rattle.exchanges.specs.Running.{LeavesBeginning, Runs, Ticks}
+use Rattle.exchanges.specs.Running.{IsCount, RunLeaves, RunStands, RunTicks, Runs}
 use Rattle.exchanges.specs.Steps.{Sends, SendsSome}
 use Rattle.exchanges.specs.declared.endings.ScriptEnd.TheVariants as ended
 use Rattle.exchanges.specs.declared.endings.Scripted.{Scripted}
@@ -59,8 +59,9 @@ module _ {S : Type 0} (g : Ghosts S) (old new : Held S) (meter risen_meter : ℕ
   abbrev pub CarriesOut : Scripted → Option (List ℕ) → Option (List ℕ) → Option (List ℕ) → Type 0
   CarriesOut it remaining written now =
       (commands : List Command) × ReadAs remaining commands
-      × Runs g old new commands it written now × LeavesBeginning g old new commands it
-      × Ticks g old new commands it meter risen_meter
+      × IsCount it.ended it.acknowledged (length commands)
+      × Runs g old new commands it written now × RunStands g old new commands it
+      × RunLeaves g old new commands it × RunTicks g old new commands it meter risen_meter
 
   -- a script ended with no command applied, or its commands were carried out
   abbrev pub Ends : Scripted → Option (List ℕ) → Option (List ℕ) → Option (List ℕ) → Type 0

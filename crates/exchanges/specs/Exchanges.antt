@@ -3,6 +3,7 @@ use Rattle.std.specs.Prelude.{ℕ, Bool, ◌≡◌, ◌⊎◌, ◌<◌, List, Op
 use Rattle.std.specs.Io.KnownBytes.{Appends, Keeps}
 use Rattle.machine.specs.Run.{risen}
 use Rattle.sqlite.specs.Held.{Held, state}
+use Rattle.sqlite.specs.State.{HasCleanDisk}
 use Rattle.sqlite.specs.Tree.{Trees}
 use Rattle.sqlite_trees.specs.declared.store.Store.{Ghosts}
 use Rattle.ledger.specs.Standing.{LeftAs, Stands}
@@ -98,13 +99,26 @@ module _ {S : Type 0} (g : Ghosts S) (new : Held S) (is_broken : Bool) (meter ri
   ComesTo r status bytes =
       IsAnswered r status bytes ⊎ ((f : Fault) × IsOfFault f status bytes × FaultsFor r f)
 
+module _ {S : Type 0} (g : Ghosts S) (old new : Held S) (was_broken is_broken : Bool)
+    (meter risen_meter : ℕ) where
+  -- nothing was carried out
+  abbrev pub IsUntouched : Type 0
+  IsUntouched = (new ≡ old) × (is_broken ≡ was_broken) × (risen_meter ≡ meter)
+
+  -- in each office that the tables represented, the request has this answer, or the answer of a
+  -- fault which came in its place
+  abbrev pub ComesInEach : Request → ℕ → List ℕ → Type 0
+  ComesInEach r status bytes = HasCleanDisk (state g new) → (office : Office)
+      → Stands (state g old) office
+      → ComesTo g new is_broken meter risen_meter office r status bytes
+
   -- the status and the bytes are what the request in the reader's bytes is answered, or those of
   -- fault 1 if memory ran out for reading it
   abbrev pub Comes : Option (List ℕ) → ℕ → List ℕ → Type 0
   Comes input status bytes =
-      ((r : Request) × WasRead input r × ComesTo r status bytes)
-      ⊎ (IsOfFault fault.NoMemory status bytes × Leaves office 0)
+      ((r : Request) × WasRead input r × ComesInEach r status bytes)
+      ⊎ (IsOfFault fault.NoMemory status bytes × IsUntouched)
 
   -- an exchange ends with such an answer, or the reader or the writer failed
   abbrev pub Ends : Option (List ℕ) → Option (List ℕ) → Option (List ℕ) → Exchange → Type 0
-  Ends input = EndsWith (Comes input) (Leaves office 0)
+  Ends input = EndsWith (Comes input) IsUntouched

@@ -1,11 +1,11 @@
 -- the run of a script's commands
-use Rattle.std.specs.Prelude.{◌≡◌, ◌≢◌, ◌+◌, ◌<◌, ◌≤◌, ℕ, List, [], ◌∷◌, ◌++◌, Option, length, take as beginning_of}
+use Rattle.std.specs.Prelude.{◌≡◌, ◌+◌, ◌<◌, ◌≤◌, ℕ, List, ◌++◌, Option, Some, None, length, take as beginning_of}
 use Rattle.std.specs.List.{flat_map, list_any}
-use Rattle.office.specs.Office.{IsLeft, Office, fold}
+use Rattle.office.specs.Office.{Office, fold}
 use Rattle.office.specs.declared.commands.Command.{Command}
 use Rattle.office.specs.declared.replies.Reply.{Reply}
-use Rattle.ledger.specs.Meters.{RisenWithin, attempted_by_all}
-use Rattle.ledger.specs.Standing.{LeftAs, Stands}
+use Rattle.ledger.specs.Shifting.{LeavesBeginning, StandsAfter, TicksWithin}
+use Rattle.ledger.specs.Standing.{Stands}
 use Rattle.std.specs.Io.KnownBytes.{Appends}
 use Rattle.scripts.specs.Replies.{fault_line, reply_line}
 use Rattle.scripts.specs.Sending.{WritesPart, counted}
@@ -15,10 +15,9 @@ use Rattle.exchanges.specs.declared.endings.ScriptEnd.TheVariants as ended
 use Rattle.exchanges.specs.declared.endings.Scripted.{Scripted}
 use Rattle.sqlite.specs.Held.{Held, state}
 use Rattle.sqlite.specs.State.{HasCleanDisk}
-use Rattle.sqlite.specs.Tree.{Trees}
 use Rattle.sqlite_trees.specs.declared.store.Store.{Ghosts}
 use Rattle.ledger_tables.specs.Faults.{fault_number}
-use Rattle.ledger_tables.specs.declared.faults.Fault.TheVariants.{Store}
+use Rattle.ledger_tables.specs.declared.faults.Fault.{Fault}
 
 -- the lines of these replies, one after the other
 abbrev pub reply_lines : List Reply → List ℕ
@@ -32,14 +31,10 @@ replies_to count commands office = (fold (beginning_of count commands) office).1
 abbrev pub office_after : ℕ → List Command → Office → Office
 office_after count commands office = (fold (beginning_of count commands) office).0
 
--- the commands that were given: those that were replied to, and one more if it met a fault
-abbrev pub given_by : ScriptEnd → ℕ → List Command → List Command
-given_by (ended.Fault fault) count commands = beginning_of (count + 1) commands
-given_by other count commands = beginning_of count commands
-
--- the commands up to and including the last that was replied to or that met a fault
-abbrev pub given_to : Scripted → List Command → List Command
-given_to it = given_by it.ended it.acknowledged
+-- the fault that ended it, if a fault did
+abbrev pub fault_of : ScriptEnd → Option Fault
+fault_of (ended.Fault fault) = Some fault
+fault_of other = None
 
 -- the first bytes were written whole and then a beginning of the second, and the bytes were counted
 abbrev pub SendsBegun : List ℕ → List ℕ → Option (List ℕ) → Option (List ℕ) → ℕ → ℕ → Type 0
@@ -63,35 +58,31 @@ IsCount (ended.Fault fault) count all = count < all
 IsCount ended.WriteFailed count all = count ≤ all
 IsCount other count all = ⊥
 
-module _ {S : Type 0} (g : Ghosts S) (old new : Held S) where
-  -- the run in an office: the replies are that office's, their lines were written, and unless fault
-  -- 2 came the tables represent the office after the commands that were replied to
-  pub record RunsFrom (commands : List Command) (it : Scripted) (office : Office)
-      (written now : Option (List ℕ)) : Type 0 where
-    pub count : IsCount it.ended it.acknowledged (length commands)
-    pub stands : it.ended ≢ ended.Fault Store
-        → Stands (state g new) (office_after it.acknowledged commands office)
-    pub refused : it.refused ≡ list_any is_refusal (replies_to it.acknowledged commands office)
-    pub text :
-        HasWritten it.ended (reply_lines (replies_to it.acknowledged commands office)) written now
-        0 it.sent
+-- the run in an office: the replies are that office's, and their lines were written
+pub record RunsFrom (commands : List Command) (it : Scripted) (office : Office)
+    (written now : Option (List ℕ)) : Type 0 where
+  pub refused : it.refused ≡ list_any is_refusal (replies_to it.acknowledged commands office)
+  pub text :
+      HasWritten it.ended (reply_lines (replies_to it.acknowledged commands office)) written now
+      0 it.sent
 
+module _ {S : Type 0} (g : Ghosts S) (old new : Held S) (commands : List Command)
+    (it : Scripted) where
   -- if the tables represented an office, this is the run in that office
-  abbrev pub Runs : List Command → Scripted → Option (List ℕ) → Option (List ℕ) → Type 0
-  Runs commands it written now = HasCleanDisk (state g new) → (office : Office)
+  abbrev pub Runs : Option (List ℕ) → Option (List ℕ) → Type 0
+  Runs written now = HasCleanDisk (state g new) → (office : Office)
       → Stands (state g old) office → RunsFrom commands it office written now
+
+  -- unless fault 2 came, the tables represent the office after the commands that were replied to
+  abbrev pub RunStands : Type 0
+  RunStands = StandsAfter g old new commands it.acknowledged (fault_of it.ended)
 
   -- a crash leaves tables of the office after a beginning of the given commands that holds every
   -- one that was replied to
-  abbrev pub LeavesBeginning : List Command → Scripted → Type 0
-  LeavesBeginning commands it = HasCleanDisk (state g new) → (office : Office)
-      → Stands (state g old) office → (db : Trees) → (state g new).may_leave db
-      → (left : Office) × LeftAs db left × IsLeft office (given_to it commands) it.acknowledged left
+  abbrev pub RunLeaves : Type 0
+  RunLeaves = LeavesBeginning g old new commands it.acknowledged (fault_of it.ended)
 
   -- the meter has risen by the instructions that the commands with replies attempt, and by at most
   -- those of the command that met a fault
-  abbrev pub Ticks : List Command → Scripted → ℕ → ℕ → Type 0
-  Ticks commands it meter risen_meter = HasCleanDisk (state g new) → (office : Office)
-      → Stands (state g old) office
-      → RisenWithin (attempted_by_all (beginning_of it.acknowledged commands) office)
-      (attempted_by_all (given_to it commands) office) meter risen_meter
+  abbrev pub RunTicks : ℕ → ℕ → Type 0
+  RunTicks = TicksWithin g old new commands it.acknowledged (fault_of it.ended)

@@ -3,15 +3,12 @@
 ghost use Rattle.std.specs.Prelude.{◌≡◌, ◌⊎◌, ◌≤◌, [], IfSome, IfNone, IsTrue};
 ghost use Rattle.std.specs.Option.{IsSomeAnd};
 ghost use Rattle.sqlite.specs.Held.{state};
-ghost use Rattle.sqlite.specs.State.{HasCleanDisk};
 ghost use Rattle.sqlite.specs.View.{doubt};
-ghost use Rattle.ledger.specs.Standing.{Stands};
 ghost use Rattle.office.specs.Meters.{RisenAtMost};
-ghost use Rattle.office.specs.Office.{Office};
 ghost use Rattle.http_requests.specs.Requests.{HasRefusingStatus, IsRefusingStatus};
 ghost use Rattle.http_requests.specs.declared.request.Request.TheVariants as request;
 ghost use Rattle.exchanges.specs.Answers.{AnswersBroken, IsAnswer, IsOfFault, limit_of};
-ghost use Rattle.exchanges.specs.Exchanges.{Comes, ComesOfBroken, ComesTo, TicksForRead};
+ghost use Rattle.exchanges.specs.Exchanges.{Comes, ComesInEach, ComesOfBroken, TicksForRead};
 ghost use Rattle.exchanges.specs.Messages.{bytes_in};
 
 use crate::laws::lines_rise;
@@ -58,10 +55,9 @@ fn carry_out<S: Alter>(
     bureau: &mut Bureau<S>,
     meter: &mut Meter,
 ) -> Message
-    ensures comes { HasCleanDisk (state S.Store bureau.new.conn) → (office : Office)
-        → Stands (state S.Store bureau.old.conn) office
-        → ComesTo S.Store bureau.new.conn bureau.new.broken meter.old meter.new office
-        (request.Asks command.now) result.status (bytes_in result.bytes) }
+    ensures comes { ComesInEach S.Store bureau.old.conn bureau.new.conn bureau.old.broken
+        bureau.new.broken meter.old meter.new (request.Asks command.now) result.status
+        (bytes_in result.bytes) }
     ensures ended { IsTrue bureau.old.broken → (bureau.new ≡ bureau.old) × (meter.new ≡ meter.old)
         × IsOfFault Fault.Store result.status (bytes_in result.bytes) }
     ensures kept { (bureau.new.broken ≡ bureau.old.broken)
@@ -94,10 +90,8 @@ fn answer<S: Alter>(
     meter: &mut Meter,
 ) -> Message
     requires { HasRefusingStatus request.now }
-    ensures comes { HasCleanDisk (state S.Store bureau.new.conn) → (office : Office)
-        → Stands (state S.Store bureau.old.conn) office
-        → ComesTo S.Store bureau.new.conn bureau.new.broken meter.old meter.new office
-        request.now result.status (bytes_in result.bytes) }
+    ensures comes { ComesInEach S.Store bureau.old.conn bureau.new.conn bureau.old.broken
+        bureau.new.broken meter.old meter.new request.now result.status (bytes_in result.bytes) }
     ensures ended { IsTrue bureau.old.broken → (bureau.new ≡ bureau.old) × (meter.new ≡ meter.old)
         × AnswersBroken request.now result.status (bytes_in result.bytes) }
     ensures kept { (bureau.new.broken ≡ bureau.old.broken)
@@ -121,11 +115,9 @@ pub(crate) fn answer_next<R: Read, S: Alter>(
     bureau: &mut Bureau<S>,
     meter: &mut Meter,
 ) -> Option<Message>
-    ensures comes { HasCleanDisk (state S.Store bureau.new.conn) → (office : Office)
-        → Stands (state S.Store bureau.old.conn) office
-        → IfSome result (λ message. Comes S.Store bureau.new.conn bureau.new.broken
-        meter.old meter.new office (R.remaining reader.old) message.status
-        (bytes_in message.bytes)) }
+    ensures comes { IfSome result (λ message. Comes S.Store bureau.old.conn bureau.new.conn
+        bureau.old.broken bureau.new.broken meter.old meter.new (R.remaining reader.old)
+        message.status (bytes_in message.bytes)) }
     ensures none { IfNone result ((bureau.new ≡ bureau.old) × (meter.new ≡ meter.old)) }
     ensures ended { IsTrue bureau.old.broken → (bureau.new ≡ bureau.old) × (meter.new ≡ meter.old)
         × IfSome result (λ message. ComesOfBroken (R.remaining reader.old) message.status

@@ -1,14 +1,14 @@
 //! Applying the commands of a script, one after the other.
 
-ghost use Rattle.std.specs.Prelude.{◌≡◌, ◌≤◌, ◌⊎◌, ◌||◌, IsTrue};
-ghost use Rattle.exchanges.specs.Running.{LeavesBeginning, Runs, Ticks};
+ghost use Rattle.std.specs.Prelude.{◌≡◌, ◌≤◌, ◌⊎◌, ◌||◌, IsTrue, length};
+ghost use Rattle.exchanges.specs.Running.{IsCount, RunLeaves, RunStands, RunTicks, Runs};
 ghost use Rattle.sqlite.specs.Held.{state};
 ghost use Rattle.sqlite.specs.View.{doubt};
 ghost use Rattle.ledger_tables.specs.declared.faults.Fault.TheVariants.{Store};
 
 use crate::endings::{ScriptEnd, Scripted};
 use crate::steps::{Step, carry_out};
-use ledger::Bureau;
+use ledger::{Bureau, kept_offices_run_whole};
 use machine::Meter;
 use office::Command;
 use sqlite::Alter;
@@ -29,10 +29,12 @@ pub(crate) fn apply_all<S: Alter, W: Write>(
     commands: &[Command],
     meter: &mut Meter,
 ) -> Scripted
+    ensures count { IsCount result.ended result.acknowledged (length commands.now) }
     ensures runs { Runs S.Store bureau.old.conn bureau.new.conn commands.now result
         (W.contents writer.old) (W.contents writer.new) }
-    ensures crash { LeavesBeginning S.Store bureau.old.conn bureau.new.conn commands.now result }
-    ensures meter { Ticks S.Store bureau.old.conn bureau.new.conn commands.now result
+    ensures stands { RunStands S.Store bureau.old.conn bureau.new.conn commands.now result }
+    ensures crash { RunLeaves S.Store bureau.old.conn bureau.new.conn commands.now result }
+    ensures meter { RunTicks S.Store bureau.old.conn bureau.new.conn commands.now result
         meter.old meter.new }
     ensures broken { result.ended ≡ ScriptEnd.Fault Store → IsTrue bureau.new.broken }
     ensures kept { (bureau.new.broken ≡ bureau.old.broken)
@@ -40,6 +42,8 @@ pub(crate) fn apply_all<S: Alter, W: Write>(
     ensures clean { doubt (state S.Store bureau.old.conn).is_clean
         ≤ doubt (state S.Store bureau.new.conn).is_clean }
 {
+    // A law, for the proof: it does nothing.
+    kept_offices_run_whole();
     let mut sent = 0usize;
     let mut acknowledged = 0usize;
     let mut refused = false;

@@ -2,10 +2,7 @@
 
 ghost use Rattle.std.specs.Prelude.{◌≡◌, ◌⊎◌, ◌≤◌, IsTrue};
 ghost use Rattle.sqlite.specs.Held.{state};
-ghost use Rattle.sqlite.specs.State.{HasCleanDisk};
 ghost use Rattle.sqlite.specs.View.{doubt};
-ghost use Rattle.ledger.specs.Standing.{Stands};
-ghost use Rattle.office.specs.Office.{Office};
 ghost use Rattle.exchanges.specs.Exchanges.{Ends, EndsBroken, MayEndWith, TicksForRead};
 ghost use Rattle.http_replies.specs.declared.fixed.Fault.TheVariants as fault;
 
@@ -32,10 +29,9 @@ pub fn exchange<R: Read, W: Write, S: Alter>(
     bureau: &mut Bureau<S>,
     meter: &mut Meter,
 ) -> Exchange
-    ensures exchanged { HasCleanDisk (state S.Store bureau.new.conn) → (office : Office)
-        → Stands (state S.Store bureau.old.conn) office
-        → Ends S.Store bureau.new.conn bureau.new.broken meter.old meter.new office
-        (R.remaining reader.old) (W.contents writer.old) (W.contents writer.new) result }
+    ensures exchanged { Ends S.Store bureau.old.conn bureau.new.conn bureau.old.broken
+        bureau.new.broken meter.old meter.new (R.remaining reader.old) (W.contents writer.old)
+        (W.contents writer.new) result }
     ensures ended { IsTrue bureau.old.broken → (bureau.new ≡ bureau.old) × (meter.new ≡ meter.old)
         × EndsBroken (R.remaining reader.old) (W.contents writer.old) (W.contents writer.new)
         result }

@@ -12,3 +12,4 @@ pub mod BureauResults
 pub mod SummaryLemmas
 pub mod WholeJobsLaw
 pub mod ShiftLemmas
+pub mod WorkLemmas

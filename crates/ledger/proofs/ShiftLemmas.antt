@@ -96,9 +96,11 @@ module _ (law : (db : Database) (o : Office) → Rows db o → HaveWholeRows db 
     whole = law database (fold (take taken given) o).0 rows;
   }
 
-  -- all of them
-  pub leaves_all : (i : ℕ) → i ≡ length commands → LeftAs db (fold (take i commands) o).0 → LeavesWhole db o commands i
-  leaves_all i all rows = left_at commands i i (omega arith) (omega arith) rows
+  -- so many
+  pub leaves_after : (i : ℕ) → i ≤ length commands → LeftAs db (fold (take i commands) o).0 → LeavesWhole db o (take i commands) i
+  leaves_after i within rows =
+      let long : length (take i commands) ≡ i = length-take-le i commands within in
+      left_at (take i commands) i i (omega arith) (omega arith) (subst (λ cs. LeftAs db (fold cs o).0) (sym (take_all i (take i commands) (omega arith))) rows)
 
   -- either with the next or without it
   pub leaves_either : (i : ℕ) (it : Command) → i < length commands → it ≡ get_or commands i it

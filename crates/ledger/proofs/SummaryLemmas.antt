@@ -1,19 +1,22 @@
 -- What is shown of a job, and commands that need no more.
-use Rattle.std.proofs.Common.{◌≡◌, ◌≤◌, ◌-◌, ◌^◌, ℕ, min, Bool, Option, None, Some, refl, ap, arith}
+use Rattle.std.proofs.Common.{◌≡◌, ◌≤◌, ◌-◌, ◌^◌, ℕ, min, List, map, Bool, false, Option, None, Some, refl, ap, subst, ◌∙◌, arith}
 use Rattle.office.specs.Jobs.{Job, granted, picture, IsJob}
 use Rattle.machine.specs.Standings.{standing_of}
-use Rattle.office.specs.Kept.{Kept, kept_of, summary_of, job_refusal, answered, attempts_unless, attempted_on, taken_unless, take_kept}
+use Rattle.office.specs.Kept.{Kept, kept_of, summary_of, job_refusal, needs_machine, attempts_unless, attempted_on, taken_unless, take_kept, job_unless, job_after}
 use Rattle.office.specs.Limits.{most_granted}
-use Rattle.office.specs.Office.{attempted_of}
+use Rattle.office.specs.Office.{Office, job_of, with_job, commanded, attempted_of}
 use Rattle.office.specs.declared.commands.JobCommand.{JobCommand}
 use Rattle.office.specs.declared.refusals.Refusal.{Refusal}
-use Rattle.machine.specs.declared.standings.StandingAt.{StandingAt}
+use Rattle.office.specs.declared.replies.Reply.{Reply}
+use Rattle.office.specs.declared.replies.Reply.TheVariants as reply
 use Rattle.office.specs.declared.summaries.Summary.{Summary}
+use Rattle.office.proofs.FlagLemmas.{without_machine}
+use Rattle.machine.specs.declared.standings.StandingAt.{StandingAt}
+use Rattle.ledger_tables.specs.Tables.{AreDistinct}
 use Rattle.ledger_rows.specs.Progress.{progress_of}
-use Rattle.ledger.specs.Light.{command_of}
 use Rattle.ledger.specs.Saving.{flagged_job}
-use Rattle.ledger.specs.declared.light_commands.LightCommand.{LightCommand}
-use Rattle.ledger.specs.declared.light_commands.LightCommand.TheVariants.{Hold, Release, Collect, Standing}
+use Rattle.ledger.specs.Standing.{named}
+use Rattle.ledger.proofs.SavingChanges.{same_job}
 
 -- what was granted is told as it is
 pub granted_fits : (job : Job) (n : ℕ) → granted job.stretches ≤ most_granted → n ≡ min (granted job.stretches) (2 ^ 32 - 1) → n ≡ granted job.stretches
@@ -28,25 +31,24 @@ summary_is standing held collected granted_to cards lines job one two three four
 pub flagged_is : (held collected : Bool) (job : Job) → IsJob job → IsJob (flagged_job held collected job)
 flagged_is held collected job it = record { deck = it.deck; card = it.card; faultless = it.faultless; loaded = it.loaded; stretches = it.stretches; halts = it.halts }
 
--- the reply to a command that isn't refused
-pub answered_so : (c : JobCommand) (k : Kept) → job_refusal c (summary_of k) ≡ None → (take_kept c k).1 ≡ answered c k
-answered_so c k none = ap (λ (o : Option Refusal). (taken_unless c k o).1) none
+-- a refused command changes nothing
+pub refused_as : (customer : List ℕ) (number : ℕ) (c : JobCommand) (reason : Refusal) (summary : Summary) (office : Office) (old : Job) → AreDistinct (map named office) → job_of customer number office ≡ Some old → summary ≡ summary_of (kept_of old) → job_refusal c summary ≡ Some reason
+    → commanded customer number c office (job_of customer number office) ≡ (office, reply.Refused reason)
+refused_as customer number c reason summary office old distinct is shown refused =
+    let why : job_refusal c (summary_of (kept_of old)) ≡ Some reason = subst (λ job. job_refusal c job ≡ Some reason) shown refused in
+    let stays : job_after c old ≡ old = ap (job_unless c old) why in
+    let whole : with_job customer number (job_after c old) office ≡ office = ap (λ (j : Job). with_job customer number j office) stays ∙ same_job customer number old office distinct is in
+    let told : (take_kept c (kept_of old)).1 ≡ reply.Refused reason = ap (λ (o : Option Refusal). (taken_unless c (kept_of old) o).1) why in
+    ap (commanded customer number c office) is ∙ ap (λ (o : Office). let both : Office × Reply = (o, (take_kept c (kept_of old)).1) in both) whole ∙ ap (λ (r : Reply). let both : Office × Reply = (office, r) in both) told
 
--- the reply to one that is
-pub refused_with : (c : JobCommand) (k : Kept) (reason : Refusal) → job_refusal c (summary_of k) ≡ Some reason → (take_kept c k).1 ≡ (taken_unless c k (Some reason)).1
-refused_with c k reason why = ap (λ (o : Option Refusal). (taken_unless c k o).1) why
-
--- a command that needs no machine attempts nothing
-none_attempted : (light : LightCommand) (k : Kept) → attempted_on (command_of light) k ≡ 0
-none_attempted light k = go light (job_refusal (command_of light) (summary_of k))
+-- one that needs no machine attempts nothing
+none_attempted : (c : JobCommand) (k : Kept) → needs_machine c ≡ false → attempted_on c k ≡ 0
+none_attempted c k none = go (job_refusal c (summary_of k))
   where
-    go : (light : LightCommand) (o : Option Refusal) → attempts_unless (command_of light) k o ≡ 0
-    go light (Some reason) = refl
-    go Hold None = refl
-    go Release None = refl
-    go Collect None = refl
-    go Standing None = refl
+    go : (o : Option Refusal) → attempts_unless c k o ≡ 0
+    go (Some reason) = refl
+    go None = (without_machine c none).attempts k
 
-pub attempts_none : (light : LightCommand) (o : Option Job) → attempted_of (command_of light) o ≡ 0
-attempts_none light None = refl
-attempts_none light (Some job) = none_attempted light (kept_of job)
+pub attempts_none : (c : JobCommand) (job : Option Job) → needs_machine c ≡ false → attempted_of c job ≡ 0
+attempts_none c None none = refl
+attempts_none c (Some job) none = none_attempted c (kept_of job) none

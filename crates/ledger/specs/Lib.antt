@@ -1,5 +1,5 @@
 pub mod Found
-pub mod Light
+pub mod Allowed
 pub mod Listed
 pub mod Replying
 pub mod Saving
@@ -10,3 +10,4 @@ pub mod Adopting
 pub mod WholeRows
 pub mod Meters
 pub mod Shifting
+pub mod Working

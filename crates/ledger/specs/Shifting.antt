@@ -1,4 +1,4 @@
--- the contract of a shift
+-- the contract of commands that are applied in turn, up to the first fault
 use Rattle.std.specs.Prelude.{◌≡◌, ◌≢◌, ℕ, ◌+◌, List, take as beginning_of, Option, Some, None, IsTrue}
 use Rattle.std.specs.List.{sum_by}
 use Rattle.office.specs.Office.{Office, fold, IsLeft, limit_of}
@@ -15,9 +15,9 @@ use Rattle.ledger.specs.Meters.{RisenWithin, attempted_by_all}
 use Rattle.ledger.specs.WholeRows.{HaveWholeRows}
 use Rattle.ledger.specs.declared.outcomes.Shift.{Shift}
 
--- the commands that were given: all, or those up to and including the first that met a fault
+-- the commands that were given: those that were acknowledged, and one more if it met a fault
 abbrev pub given : List Command → ℕ → Option Fault → List Command
-given commands acknowledged None = commands
+given commands acknowledged None = beginning_of acknowledged commands
 given commands acknowledged (Some fault) = beginning_of (acknowledged + 1) commands
 
 -- the most instructions that these commands may attempt together, whatever the office
@@ -34,18 +34,13 @@ pub record LeavesWhole (db : Trees) (office : Office) (commands : List Command)
   pub whole : HaveWholeRows (record { schema = bureau_schema; trees = db }) left
 
 module _ {S : Type 0} (g : Ghosts S) (old new : Held S) (commands : List Command)
-    (shift : Shift) where
-  -- if the tables represented an office, the replies are that office's to the acknowledged commands
-  abbrev pub Acknowledges : Type 0
-  Acknowledges = HasCleanDisk (state g new) → (office : Office) → Stands (state g old) office
-      → shift.replies.items ≡ (fold (beginning_of shift.acknowledged commands) office).1
-
+    (acknowledged : ℕ) (fault : Option Fault) where
   -- unless fault 2 came, the tables represent the office after the acknowledged commands, and the
   -- rows of each of its jobs at a halt are whole
   abbrev pub StandsAfter : Type 0
-  StandsAfter = HasCleanDisk (state g new) → shift.fault ≢ Some Store → (office : Office)
+  StandsAfter = HasCleanDisk (state g new) → fault ≢ Some Store → (office : Office)
       → Stands (state g old) office →
-      let next : Office = (fold (beginning_of shift.acknowledged commands) office).0 in
+      let next : Office = (fold (beginning_of acknowledged commands) office).0 in
       Stands (state g new) next
       × (IsTrue (state g new).is_open → HaveWholeRows (state g new).now next)
 
@@ -54,12 +49,19 @@ module _ {S : Type 0} (g : Ghosts S) (old new : Held S) (commands : List Command
   abbrev pub LeavesBeginning : Type 0
   LeavesBeginning = HasCleanDisk (state g new) → (office : Office) → Stands (state g old) office
       → (db : Trees) → (state g new).may_leave db
-      → LeavesWhole db office (given commands shift.acknowledged shift.fault) shift.acknowledged
+      → LeavesWhole db office (given commands acknowledged fault) acknowledged
 
   -- the meter has risen by the instructions that the acknowledged commands attempt, and by at most
   -- those of the command that met a fault
-  abbrev pub Ticks : ℕ → ℕ → Type 0
-  Ticks meter risen_meter = HasCleanDisk (state g new) → (office : Office)
+  abbrev pub TicksWithin : ℕ → ℕ → Type 0
+  TicksWithin meter risen_meter = HasCleanDisk (state g new) → (office : Office)
       → Stands (state g old) office
-      → RisenWithin (attempted_by_all (beginning_of shift.acknowledged commands) office)
-      (attempted_by_all (given commands shift.acknowledged shift.fault) office) meter risen_meter
+      → RisenWithin (attempted_by_all (beginning_of acknowledged commands) office)
+      (attempted_by_all (given commands acknowledged fault) office) meter risen_meter
+
+module _ {S : Type 0} (g : Ghosts S) (old new : Held S) (commands : List Command)
+    (shift : Shift) where
+  -- if the tables represented an office, the replies are that office's to the acknowledged commands
+  abbrev pub Acknowledges : Type 0
+  Acknowledges = HasCleanDisk (state g new) → (office : Office) → Stands (state g old) office
+      → shift.replies.items ≡ (fold (beginning_of shift.acknowledged commands) office).1

@@ -10,7 +10,7 @@ ghost use Rattle.ledger.specs.Saving.{job_in};
 ghost use Rattle.ledger.specs.Serving.{with_commanded, attempted_as};
 ghost use Rattle.ledger.specs.Steps.{Serves, ServesWhere, Ticks, TicksAtMost};
 
-use crate::light_commands::{LightCommand, command_lightly};
+use crate::by_summary::{collect, hold, release, tell_standing};
 use crate::reading::find_whole;
 use crate::saving::{Made, save};
 use core_store::FlagCore;
@@ -87,8 +87,14 @@ pub fn command_job<S: Alter>(
         meter.old meter.new (attempted_as name.entry command) }
     ensures most { RisenAtMost (limit_of command) meter.old meter.new }
 {
-    match LightCommand::of(command) {
-        Some(light) => command_lightly(tables, name, light),
-        None => command_wholly(tables, name, command, meter),
+    match command {
+        JobCommand::Hold => hold(tables, name),
+        JobCommand::Release => release(tables, name),
+        JobCommand::Collect => collect(tables, name),
+        JobCommand::Standing => tell_standing(tables, name),
+        JobCommand::Slice { .. } | JobCommand::Start { .. } => {
+            command_wholly(tables, name, command, meter)
+        }
+        JobCommand::Cards | JobCommand::Lines => command_wholly(tables, name, command, meter),
     }
 }

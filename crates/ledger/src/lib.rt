@@ -2,7 +2,7 @@
 //!
 //! `office` defines jobs and the effect of commands on them. `reading` and `summaries` read a job
 //! from the tables, whole or without its machine, and `saving` writes it, through `ledger_tables`
-//! and `ledger_rows`. `submissions`, `job_commands`, `light_commands` and `lists` connect them to
+//! and `ledger_rows`. `submissions`, `job_commands`, `by_summary` and `lists` connect them to
 //! `office`. `bureau` puts each command into one transaction, whose commit is the last call of the
 //! store. `shifts` applies a list of commands up to the first fault.
 //!
@@ -14,9 +14,9 @@
 #![tactic(auto)]
 
 mod bureau;
+mod by_summary;
 mod job_commands;
 mod laws;
-mod light_commands;
 mod lists;
 mod outcomes;
 mod reading;

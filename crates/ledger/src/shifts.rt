@@ -7,7 +7,7 @@ ghost use Rattle.sqlite.specs.View.{doubt};
 ghost use Rattle.office.specs.Meters.{RisenAtMost};
 ghost use Rattle.office.specs.Office.{take, attempted, limit_of};
 ghost use Rattle.ledger.specs.Replying.{Replies, Rises, RisesAtMost, KeepsOffice, LeavesEither};
-ghost use Rattle.ledger.specs.Shifting.{Acknowledges, StandsAfter, LeavesBeginning, Ticks, given, limit_of_all};
+ghost use Rattle.ledger.specs.Shifting.{Acknowledges, StandsAfter, LeavesBeginning, TicksWithin, given, limit_of_all};
 
 use crate::bureau::Bureau;
 use crate::laws::kept_offices_run_whole;
@@ -61,10 +61,12 @@ pub fn shift<S: Alter>(
     meter: &mut Meter,
 ) -> Shift
     ensures replies { Acknowledges S.Store bureau.old.conn bureau.new.conn commands.now result }
-    ensures stands { StandsAfter S.Store bureau.old.conn bureau.new.conn commands.now result }
-    ensures left { LeavesBeginning S.Store bureau.old.conn bureau.new.conn commands.now result }
-    ensures meter { Ticks S.Store bureau.old.conn bureau.new.conn commands.now result
-        meter.old meter.new }
+    ensures stands { StandsAfter S.Store bureau.old.conn bureau.new.conn commands.now
+        result.acknowledged result.fault }
+    ensures left { LeavesBeginning S.Store bureau.old.conn bureau.new.conn commands.now
+        result.acknowledged result.fault }
+    ensures meter { TicksWithin S.Store bureau.old.conn bureau.new.conn commands.now
+        result.acknowledged result.fault meter.old meter.new }
     ensures most { RisenAtMost
         (limit_of_all (given commands.now result.acknowledged result.fault)) meter.old meter.new }
     ensures count { length result.replies.items ≡ result.acknowledged }

@@ -9,7 +9,9 @@ returns-in-Ok-parse-clause-end g c = inr (
   c.deref-in-Ok-parse.result.now,
   read_as (g.R.Read.remaining c.args.reader.now) c.in-Ok.bytes.items c.deref.result.now c.in-Ok-parse.commands.items c.deref-in-Ok-parse.result.now
       c.in-Ok.ensures c.deref.ensures.value c.in-Ok-parse.ensures.script c.deref-in-Ok-parse.ensures.value,
+  c.apply_all.ensures.count,
   c.apply_all.ensures.runs,
+  c.apply_all.ensures.stands,
   c.apply_all.ensures.crash,
   c.apply_all.ensures.meter,
 )

@@ -9,7 +9,7 @@ use Rattle.office.specs.Office.{fold}
 use Rattle.ledger.specs.Standing.{Stands, LeftAs}
 use Rattle.ledger.specs.Meters.{RisenWithin, attempted_by_all}
 use Rattle.ledger.specs.Shifting.{LeavesWhole, limit_of_all}
-use Rattle.ledger.proofs.ShiftLemmas.{office_more, replies_more, attempted_more, limit_more, risen_more, risen_in_all, risen_on_fault, risen_just, not_risen, leaves_all, leaves_either, only_memory}
+use Rattle.ledger.proofs.ShiftLemmas.{office_more, replies_more, attempted_more, limit_more, risen_more, risen_in_all, risen_on_fault, risen_just, not_risen, leaves_after, leaves_either, only_memory}
 use Rattle.ledger.proofs.shifts.shift.Goals as goal
 
 pub loop-command-init : goal.loop-command-init
@@ -99,18 +99,19 @@ pub returns-clause-left : goal.returns-clause-left
 returns-clause-left g c clean office s db may =
     let commands = c.args.commands.now in
     let count : c.len-2.result ≡ c.loop-command.command-index = first_of (omega arith, grind (arith, common_steps)) in
-    let all : c.len-2.result ≡ length commands = omega arith in
     let now = c.loop-command.invariant.stands clean office s in
-    leaves_all c.kept_offices_run_whole.ensures db office commands c.len-2.result all (subst (λ n. LeftAs db (fold (take n commands) office).0) (sym count) (now.0.left db may))
+    subst (λ n. LeavesWhole db office (take n commands) n) (sym count) (leaves_after c.kept_offices_run_whole.ensures db office commands c.loop-command.command-index (omega arith) (now.0.left db may))
 
 pub returns-clause-meter : goal.returns-clause-meter
 returns-clause-meter g c clean office s =
     let commands = c.args.commands.now in
-    let i = c.loop-command.command-index in
     let old = c.args.meter.now in
     let new = c.loop-command.meter in
-    let count : c.len-2.result ≡ i = first_of (omega arith, grind (arith, common_steps)) in
+    let count : c.len-2.result ≡ c.loop-command.command-index = first_of (omega arith, grind (arith, common_steps)) in
     let now = c.loop-command.invariant.stands clean office s in
-    let taken = take_all i commands (omega arith) in
-    let ticked : new ≡ risen old (attempted_by_all commands office) = now.2 ∙ ap (λ cs. risen old (attempted_by_all cs office)) taken in
-    subst (λ cs. RisenWithin (attempted_by_all cs office) (attempted_by_all commands office) old new) (sym (ap (λ n. take n commands) count ∙ taken)) (risen_just _ _ _ ticked)
+    subst (λ n. RisenWithin (attempted_by_all (take n commands) office) (attempted_by_all (take n commands) office) old new) (sym count) (risen_just _ _ _ now.2)
+
+pub returns-clause-most : goal.returns-clause-most
+returns-clause-most g c =
+    let count : c.len-2.result ≡ c.loop-command.command-index = first_of (omega arith, grind (arith, common_steps)) in
+    subst (λ n. RisenAtMost (limit_of_all (take n c.args.commands.now)) c.args.meter.now c.loop-command.meter) (sym count) c.loop-command.invariant.most

@@ -1,0 +1,38 @@
+use Rattle.std.proofs.Common.{sym, ap, ◌∙◌, arith}
+use Rattle.sqlite.specs.State.{HasCleanDisk}
+use Rattle.office.specs.Office.{commanded}
+use Rattle.ledger_tables.specs.Steps.{seen}
+use Rattle.ledger.specs.Standing.{tables_of}
+use Rattle.ledger.proofs.Offices.{still, row_found, row_none}
+use Rattle.ledger.proofs.SummaryLemmas.{refused_as}
+use Rattle.ledger.proofs.by_summary.find_allowed.Goals as goal
+
+pub returns-in-Some-refusal-clause-found : goal.returns-in-Some-refusal-clause-found
+returns-in-Some-refusal-clause-found g c clean inside office s =
+    let old = seen g.S.Store c.args.tables.now in
+    let first = seen g.S.Store c.find_job.new.self in
+    let early : HasCleanDisk first = omega (arith, clean, c.find_summary.ensures.step.survives.clean) in
+    let found = c.in_ok-row.ensures.found early inside (tables_of office) s.tables in
+    let on = c.in_ok-row.ensures.step.frame early inside in
+    let it = row_found c.args.name.customer.now c.args.name.number office c.in_ok-row.field-0 c.in-Some.row found.1 c.in-Some.is in
+    let shown = c.in_ok-job-in-Some.ensures.found clean on.inside office (still old first office found.0 s) in
+    (shown.0, refused_as c.args.name.customer.now c.args.name.number c.args.command c.in-Some-refusal.reason _ office it.0 s.tables.distinct it.1 (shown.1 it.0 it.1 it.2) (sym c.refusal.ensures ∙ c.in-Some-refusal.is))
+
+pub returns-in-Some-clause-found : goal.returns-in-Some-clause-found
+returns-in-Some-clause-found g c clean inside office s =
+    let old = seen g.S.Store c.args.tables.now in
+    let first = seen g.S.Store c.find_job.new.self in
+    let early : HasCleanDisk first = omega (arith, clean, c.find_summary.ensures.step.survives.clean) in
+    let found = c.in_ok-row.ensures.found early inside (tables_of office) s.tables in
+    let on = c.in_ok-row.ensures.step.frame early inside in
+    let it = row_found c.args.name.customer.now c.args.name.number office c.in_ok-row.field-0 c.in-Some.row found.1 c.in-Some.is in
+    let shown = c.in_ok-job-in-Some.ensures.found clean on.inside office (still old first office found.0 s) in
+    (shown.0, (it.0, it.1, shown.1 it.0 it.1 it.2, sym c.refusal.ensures ∙ c.in-None-refusal.is))
+
+pub returns-clause-found : goal.returns-clause-found
+returns-clause-found g c clean inside office s =
+    let old = seen g.S.Store c.args.tables.now in
+    let new = seen g.S.Store c.find_job.new.self in
+    let found = c.in_ok-row.ensures.found clean inside (tables_of office) s.tables in
+    let none = row_none c.args.name.customer.now c.args.name.number office c.in_ok-row.field-0 found.1 c.in-None.is in
+    (still old new office found.0 s, ap (commanded c.args.name.customer.now c.args.name.number c.args.command office) none)
