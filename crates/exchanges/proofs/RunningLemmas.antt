@@ -1,6 +1,21 @@
--- What was read of a script.
-use Rattle.std.proofs.Common.{◌≡◌, ℕ, List, None, Some, sym, subst, ◌∙◌}
-use Rattle.std.specs.Prelude.{◌≢◌, Option, ⊤}
+-- What was read of a script, and what its commands did.
+use Rattle.std.proofs.Common.{◌≡◌, ℕ, ◌<◌, ◌≤◌, Bool, List, None, Some, inr, refl, sym, ap, subst, ◌∙◌, arith, length, take}
+use Rattle.std.specs.Prelude.{◌≢◌, Option, ⊤, IsTrue}
+use Rattle.office.specs.Office.{Office}
+use Rattle.sqlite.specs.Effect.{Database}
+use Rattle.sqlite.specs.Held.{Held}
+use Rattle.sqlite_trees.specs.declared.store.Store.{Ghosts}
+use Rattle.ledger.proofs.WorkLemmas.{worked_in_turn}
+use Rattle.ledger.specs.Standing.{Rows}
+use Rattle.ledger.specs.WholeRows.{HaveWholeRows}
+use Rattle.ledger.specs.Working.{HasWorked}
+use Rattle.ledger_tables.specs.declared.faults.Fault.{Fault}
+use Rattle.ledger_tables.specs.declared.faults.Fault.TheVariants.{NoMemory, Store}
+use Rattle.exchanges.specs.Running.{IsCount, RunLeaves, RunStands, Runs, fault_of}
+use Rattle.exchanges.specs.Work.{TellsScript}
+use Rattle.exchanges.specs.declared.endings.ScriptEnd.{ScriptEnd}
+use Rattle.exchanges.specs.declared.endings.ScriptEnd.TheVariants as ended
+use Rattle.exchanges.specs.declared.endings.Scripted.{Scripted}
 use Rattle.office.specs.declared.commands.Command.{Command}
 use Rattle.scripts.specs.Reading.{IsReadOf}
 use Rattle.scripts.specs.Scripts.{IsFaultOf, IsScriptOf}
@@ -27,3 +42,29 @@ long_is_other same = subst IsOfBytes same tt
 
 pub line_is_other : (number : ℕ) → fault.BadLine number ≢ fault.NoMemory
 line_is_other number same = subst IsOfBytes same tt
+
+-- ---- the commands of a script are work
+
+within_end : (e : ScriptEnd) (n all : ℕ) → IsCount e n all → n ≤ all
+within_end ended.Whole n all is = omega (arith, is)
+within_end ended.Bad n all is = absurd is
+within_end ended.ReadFailed n all is = absurd is
+within_end ended.WriteFailed n all is = is
+within_end (ended.Fault fault) n all is = omega (arith, is)
+
+store_end : (broken : Bool) (e : ScriptEnd) (n all : ℕ) → IsCount e n all → (e ≡ ended.Fault Store → IsTrue broken) → fault_of e ≡ Some Store → IsTrue broken × (n < all)
+store_end broken ended.Whole n all is so same = absurd (let e = same in cc)
+store_end broken ended.Bad n all is so same = absurd is
+store_end broken ended.ReadFailed n all is so same = absurd is
+store_end broken ended.WriteFailed n all is so same = absurd (let e = same in cc)
+store_end broken (ended.Fault NoMemory) n all is so same = absurd (let e = same in cc)
+store_end broken (ended.Fault Store) n all is so same = (so refl, is)
+
+pub script_worked : (law : (db : Database) (o : Office) → Rows db o → HaveWholeRows db o) → {S : Type 0} → (g : Ghosts S) (old new : Held S) (is_broken : Bool) (it : Scripted)
+    (commands : List Command) (remaining written now : Option (List ℕ)) → ReadAs remaining commands → IsCount it.ended it.acknowledged (length commands)
+    → Runs g old new commands it written now → RunStands g old new commands it → RunLeaves g old new commands it → (it.ended ≡ ended.Fault Store → IsTrue is_broken)
+    → HasWorked g old new is_broken (TellsScript remaining written now it)
+script_worked law g old new is_broken it commands remaining written now read count runs stands leaves broken =
+    worked_in_turn law g old new is_broken (TellsScript remaining written now it) commands runs.replies it.acknowledged (sym runs.told.count) (fault_of it.ended)
+    runs.are (within_end it.ended it.acknowledged (length commands) count) (store_end is_broken it.ended it.acknowledged (length commands) count broken) stands leaves
+    (inr (commands, read, count, refl, runs.told))

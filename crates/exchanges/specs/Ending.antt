@@ -1,5 +1,5 @@
 -- how the run of a script ended
-use Rattle.std.specs.Prelude.{◌≡◌, ◌≢◌, ◌⊎◌, ℕ, false, List, Option, IfSome, length, take}
+use Rattle.std.specs.Prelude.{◌≡◌, ◌≢◌, ◌⊎◌, ◌<◌, ℕ, false, List, [], Option, IfSome, length, take}
 use Rattle.office.specs.declared.commands.Command.{Command}
 use Rattle.scripts.specs.Replies.{bad_line, fault_line}
 use Rattle.scripts.specs.Scripts.{IsFaultOf, IsScriptOf}
@@ -12,7 +12,7 @@ use Rattle.exchanges.specs.declared.endings.ScriptEnd.TheVariants as ended
 use Rattle.exchanges.specs.declared.endings.Scripted.{Scripted}
 use Rattle.sqlite.specs.Held.{Held}
 use Rattle.sqlite_trees.specs.declared.store.Store.{Ghosts}
-use Rattle.ledger_tables.specs.declared.faults.Fault.TheVariants.{NoMemory}
+use Rattle.ledger_tables.specs.declared.faults.Fault.TheVariants.{NoMemory, Store}
 
 -- the bytes of the reader, or the first 4,000,001 of them, are the script of these commands
 abbrev pub ReadAs : Option (List ℕ) → List Command → Type 0
@@ -48,12 +48,17 @@ IsBad it remaining written now =
     (reason : ScriptFault) × (reason ≢ fault.NoMemory) × ReadBad remaining reason
     × TurnsDown reason it written now
 
+-- no command was applied: the reader failed, memory ran out, or the bytes are no script
+abbrev pub IsNotRun : Scripted → Option (List ℕ) → Option (List ℕ) → Option (List ℕ) → Type 0
+IsNotRun it remaining written now =
+    HasNoReply it
+    × (IsUnread it written now ⊎ (GivesUp it written now ⊎ IsBad it remaining written now))
+
 module _ {S : Type 0} (g : Ghosts S) (old new : Held S) (meter risen_meter : ℕ) where
-  -- no command was applied: the reader failed, memory ran out, or the bytes are no script
+  -- no command was applied, and so nothing changed
   abbrev pub AppliesNone : Scripted → Option (List ℕ) → Option (List ℕ) → Option (List ℕ) → Type 0
   AppliesNone it remaining written now =
-      (new ≡ old) × (risen_meter ≡ meter) × HasNoReply it
-      × (IsUnread it written now ⊎ (GivesUp it written now ⊎ IsBad it remaining written now))
+      (new ≡ old) × (risen_meter ≡ meter) × IsNotRun it remaining written now
 
   -- the bytes are a script, and its commands were carried out up to its end
   abbrev pub CarriesOut : Scripted → Option (List ℕ) → Option (List ℕ) → Option (List ℕ) → Type 0
@@ -67,3 +72,19 @@ module _ {S : Type 0} (g : Ghosts S) (old new : Held S) (meter risen_meter : ℕ
   abbrev pub Ends : Scripted → Option (List ℕ) → Option (List ℕ) → Option (List ℕ) → Type 0
   Ends it remaining written now =
       AppliesNone it remaining written now ⊎ CarriesOut it remaining written now
+
+-- the commands of a script that a broken bureau was handed: the first met fault 2, and its line was
+-- written, or a beginning of it; or there is none
+abbrev pub StopsAtFirst : List Command → Scripted → Option (List ℕ) → Option (List ℕ) → Type 0
+StopsAtFirst commands it written now =
+    HasNoReply it
+    × (((commands ≡ []) × (it.ended ≡ ended.Whole) × (it.sent ≡ 0) × (now ≡ written))
+    ⊎ ((0 < length commands) × (it.ended ≡ ended.Fault Store)
+    × SendsSome (fault_line 2) written now 0 it.sent))
+
+-- the end of a script that a broken bureau was handed
+abbrev pub IsEndOfBroken : Scripted → Option (List ℕ) → Option (List ℕ) → Option (List ℕ) → Type 0
+IsEndOfBroken it remaining written now =
+    IsNotRun it remaining written now
+    ⊎ ((commands : List Command) × ReadAs remaining commands
+    × StopsAtFirst commands it written now)

@@ -4,3 +4,4 @@ pub mod Exchanges
 pub mod Steps
 pub mod Running
 pub mod Ending
+pub mod Work

@@ -58,20 +58,23 @@ IsCount (ended.Fault fault) count all = count < all
 IsCount ended.WriteFailed count all = count ≤ all
 IsCount other count all = ⊥
 
--- the run in an office: the replies are that office's, and their lines were written
-pub record RunsFrom (commands : List Command) (it : Scripted) (office : Office)
-    (written now : Option (List ℕ)) : Type 0 where
-  pub refused : it.refused ≡ list_any is_refusal (replies_to it.acknowledged commands office)
-  pub text :
-      HasWritten it.ended (reply_lines (replies_to it.acknowledged commands office)) written now
-      0 it.sent
+-- a script's result tells of these replies: how many they are, whether one is a refusal, and the
+-- bytes that were written of them
+pub record TellsReplies (it : Scripted) (replies : List Reply) (written now : Option (List ℕ))
+    : Type 0 where
+  pub count : length replies ≡ it.acknowledged
+  pub refused : it.refused ≡ list_any is_refusal replies
+  pub text : HasWritten it.ended (reply_lines replies) written now 0 it.sent
 
 module _ {S : Type 0} (g : Ghosts S) (old new : Held S) (commands : List Command)
     (it : Scripted) where
-  -- if the tables represented an office, this is the run in that office
-  abbrev pub Runs : Option (List ℕ) → Option (List ℕ) → Type 0
-  Runs written now = HasCleanDisk (state g new) → (office : Office)
-      → Stands (state g old) office → RunsFrom commands it office written now
+  -- the run of the commands: its replies and what is told of them; if the tables represented an
+  -- office, the replies are that office's
+  pub record Runs (written now : Option (List ℕ)) : Type 0 where
+    pub replies : List Reply
+    pub told : TellsReplies it replies written now
+    pub are : HasCleanDisk (state g new) → (office : Office) → Stands (state g old) office
+        → replies ≡ replies_to it.acknowledged commands office
 
   -- unless fault 2 came, the tables represent the office after the commands that were replied to
   abbrev pub RunStands : Type 0

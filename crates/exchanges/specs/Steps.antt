@@ -15,6 +15,7 @@ use Rattle.sqlite.specs.Held.{Held, state}
 use Rattle.sqlite.specs.State.{HasCleanDisk}
 use Rattle.sqlite_trees.specs.declared.store.Store.{Ghosts}
 use Rattle.ledger_tables.specs.Faults.{fault_number}
+use Rattle.ledger_tables.specs.declared.faults.Fault.{Fault}
 use Rattle.ledger_tables.specs.declared.faults.Fault.TheVariants.{Store}
 
 -- whether a reply is a refusal
@@ -34,25 +35,31 @@ SendsSome bytes old new before after =
     × (after ≡ counted (before + count))
 
 module _ {S : Type 0} (g : Ghosts S) (old new : Held S) where
-  -- the tables represent the office after the change, and the reply's line was written, or a part
-  -- of it; or a fault came, and its line was written, or a beginning of it
-  abbrev pub IsStep : Step → (Office → Office × Reply) → Office → Option (List ℕ)
-      → Option (List ℕ) → ℕ → ℕ → Type 0
-  IsStep (step.Replied refused) change office written now before after =
-      Stands (state g new) (change office).0 × (refused ≡ is_refusal (change office).1)
-      × Sends (reply_line (change office).1) written now before after
-  IsStep (step.Unwritten refused) change office written now before after =
-      Stands (state g new) (change office).0 × (refused ≡ is_refusal (change office).1)
-      × WritesPart (reply_line (change office).1) written now before after
-  IsStep (step.Faulted fault) change office written now before after =
-      (fault ≢ Store → Stands (state g new) office)
-      × SendsSome (fault_line (fault_number fault)) written now before after
+  -- if the tables represented an office, this is its reply to the change, and they represent the
+  -- office after it
+  abbrev pub IsReplyTo : (Office → Office × Reply) → Reply → Type 0
+  IsReplyTo change reply = HasCleanDisk (state g new) → (office : Office)
+      → Stands (state g old) office
+      → (reply ≡ (change office).1) × Stands (state g new) (change office).0
 
-  -- if the tables represented an office, this is the step from that office
-  abbrev pub StepsTo : Step → (Office → Office × Reply) → Option (List ℕ) → Option (List ℕ)
+  -- after a fault that is not fault 2, the tables represent the same office as before
+  abbrev pub KeepsUnless : Fault → Type 0
+  KeepsUnless fault = fault ≢ Store → HasCleanDisk (state g new) → (office : Office)
+      → Stands (state g old) office → Stands (state g new) office
+
+  -- the bureau replied, and the reply's line was written, or a part of it; or a fault came, and its
+  -- line was written, or a beginning of it
+  abbrev pub IsStep : Step → (Office → Office × Reply) → Option (List ℕ) → Option (List ℕ)
       → ℕ → ℕ → Type 0
-  StepsTo it change written now before after = HasCleanDisk (state g new) → (office : Office)
-      → Stands (state g old) office → IsStep it change office written now before after
+  IsStep (step.Replied refused) change written now before after =
+      (reply : Reply) × IsReplyTo change reply × (refused ≡ is_refusal reply)
+      × Sends (reply_line reply) written now before after
+  IsStep (step.Unwritten refused) change written now before after =
+      (reply : Reply) × IsReplyTo change reply × (refused ≡ is_refusal reply)
+      × WritesPart (reply_line reply) written now before after
+  IsStep (step.Faulted fault) change written now before after =
+      KeepsUnless fault
+      × SendsSome (fault_line (fault_number fault)) written now before after
 
   -- the meter has risen by so many ticks, or by at most as many if a fault came
   abbrev pub StepTicks : Step → ℕ → ℕ → ℕ → Type 0

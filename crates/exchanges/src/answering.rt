@@ -10,13 +10,15 @@ ghost use Rattle.http_requests.specs.declared.request.Request.TheVariants as req
 ghost use Rattle.exchanges.specs.Answers.{AnswersBroken, IsAnswer, IsOfFault, limit_of};
 ghost use Rattle.exchanges.specs.Exchanges.{Comes, ComesInEach, ComesOfBroken, TicksForRead};
 ghost use Rattle.exchanges.specs.Messages.{bytes_in};
+ghost use Rattle.exchanges.specs.Work.{TellsAnswer, TellsRead};
+ghost use Rattle.ledger.specs.Working.{HasWorked};
 
 use crate::laws::lines_rise;
 use crate::messages::{Bytes, Message, fault_message};
 use cards::CardFault;
 use http_replies::{Fault, deck_fault, refusal_answer, reply_to, status_of};
 use http_requests::{Request, RequestFault, Routes};
-use ledger::Bureau;
+use ledger::{Bureau, kept_offices_run_whole};
 use machine::Meter;
 use office::Command;
 use sqlite::Alter;
@@ -58,6 +60,8 @@ fn carry_out<S: Alter>(
     ensures comes { ComesInEach S.Store bureau.old.conn bureau.new.conn bureau.old.broken
         bureau.new.broken meter.old meter.new (request.Asks command.now) result.status
         (bytes_in result.bytes) }
+    ensures works { HasWorked S.Store bureau.old.conn bureau.new.conn bureau.new.broken
+        (TellsAnswer (request.Asks command.now) result.status) }
     ensures ended { IsTrue bureau.old.broken → (bureau.new ≡ bureau.old) × (meter.new ≡ meter.old)
         × IsOfFault Fault.Store result.status (bytes_in result.bytes) }
     ensures kept { (bureau.new.broken ≡ bureau.old.broken)
@@ -66,8 +70,9 @@ fn carry_out<S: Alter>(
     ensures clean { doubt (state S.Store bureau.old.conn).is_clean
         ≤ doubt (state S.Store bureau.new.conn).is_clean }
 {
-    // A law, for the proof: it does nothing.
+    // Two laws, for the proof: they do nothing.
     lines_rise();
+    kept_offices_run_whole();
     let reply = match bureau.apply(command, meter) {
         Ok(reply) => reply,
         Err(ledger::Fault::NoMemory) => return fault_message(Fault::NoMemory),
@@ -92,6 +97,8 @@ fn answer<S: Alter>(
     requires { HasRefusingStatus request.now }
     ensures comes { ComesInEach S.Store bureau.old.conn bureau.new.conn bureau.old.broken
         bureau.new.broken meter.old meter.new request.now result.status (bytes_in result.bytes) }
+    ensures works { HasWorked S.Store bureau.old.conn bureau.new.conn bureau.new.broken
+        (TellsAnswer request.now result.status) }
     ensures ended { IsTrue bureau.old.broken → (bureau.new ≡ bureau.old) × (meter.new ≡ meter.old)
         × AnswersBroken request.now result.status (bytes_in result.bytes) }
     ensures kept { (bureau.new.broken ≡ bureau.old.broken)
@@ -100,6 +107,8 @@ fn answer<S: Alter>(
     ensures clean { doubt (state S.Store bureau.old.conn).is_clean
         ≤ doubt (state S.Store bureau.new.conn).is_clean }
 {
+    // A law, for the proof: it does nothing.
+    kept_offices_run_whole();
     match request {
         Request::Refused(status) => refusal(*status),
         Request::BadDeck(fault) => bad_deck(alloc, *fault),
@@ -118,6 +127,8 @@ pub(crate) fn answer_next<R: Read, S: Alter>(
     ensures comes { IfSome result (λ message. Comes S.Store bureau.old.conn bureau.new.conn
         bureau.old.broken bureau.new.broken meter.old meter.new (R.remaining reader.old)
         message.status (bytes_in message.bytes)) }
+    ensures works { IfSome result (λ message. HasWorked S.Store bureau.old.conn bureau.new.conn
+        bureau.new.broken (TellsRead (R.remaining reader.old) message.status)) }
     ensures none { IfNone result ((bureau.new ≡ bureau.old) × (meter.new ≡ meter.old)) }
     ensures ended { IsTrue bureau.old.broken → (bureau.new ≡ bureau.old) × (meter.new ≡ meter.old)
         × IfSome result (λ message. ComesOfBroken (R.remaining reader.old) message.status
@@ -129,6 +140,8 @@ pub(crate) fn answer_next<R: Read, S: Alter>(
     ensures clean { doubt (state S.Store bureau.old.conn).is_clean
         ≤ doubt (state S.Store bureau.new.conn).is_clean }
 {
+    // A law, for the proof: it does nothing.
+    kept_offices_run_whole();
     match Request::read(alloc, routes, reader) {
         Ok(request) => Some(answer(alloc, &request, bureau, meter)),
         Err(RequestFault::NoMemory) => Some(fault_message(Fault::NoMemory)),

@@ -1,6 +1,7 @@
 //! Applying the commands of a script, one after the other.
 
 ghost use Rattle.std.specs.Prelude.{◌≡◌, ◌≤◌, ◌⊎◌, ◌||◌, IsTrue, length};
+ghost use Rattle.exchanges.specs.Ending.{StopsAtFirst};
 ghost use Rattle.exchanges.specs.Running.{IsCount, RunLeaves, RunStands, RunTicks, Runs};
 ghost use Rattle.sqlite.specs.Held.{state};
 ghost use Rattle.sqlite.specs.View.{doubt};
@@ -39,6 +40,8 @@ pub(crate) fn apply_all<S: Alter, W: Write>(
     ensures broken { result.ended ≡ ScriptEnd.Fault Store → IsTrue bureau.new.broken }
     ensures kept { (bureau.new.broken ≡ bureau.old.broken)
         ⊎ (result.ended ≡ ScriptEnd.Fault Store) }
+    ensures ended { IsTrue bureau.old.broken → (bureau.new ≡ bureau.old) × (meter.new ≡ meter.old)
+        × StopsAtFirst commands.now result (W.contents writer.old) (W.contents writer.new) }
     ensures clean { doubt (state S.Store bureau.old.conn).is_clean
         ≤ doubt (state S.Store bureau.new.conn).is_clean }
 {

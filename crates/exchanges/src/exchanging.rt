@@ -4,12 +4,14 @@ ghost use Rattle.std.specs.Prelude.{◌≡◌, ◌⊎◌, ◌≤◌, IsTrue};
 ghost use Rattle.sqlite.specs.Held.{state};
 ghost use Rattle.sqlite.specs.View.{doubt};
 ghost use Rattle.exchanges.specs.Exchanges.{Ends, EndsBroken, MayEndWith, TicksForRead};
+ghost use Rattle.exchanges.specs.Work.{TellsExchange};
+ghost use Rattle.ledger.specs.Working.{HasWorked};
 ghost use Rattle.http_replies.specs.declared.fixed.Fault.TheVariants as fault;
 
 use crate::answering::answer_next;
 use crate::ended::Exchange;
 use http_requests::Routes;
-use ledger::Bureau;
+use ledger::{Bureau, kept_offices_run_whole};
 use machine::Meter;
 use sqlite::Alter;
 use std::alloc::Global;
@@ -32,6 +34,8 @@ pub fn exchange<R: Read, W: Write, S: Alter>(
     ensures exchanged { Ends S.Store bureau.old.conn bureau.new.conn bureau.old.broken
         bureau.new.broken meter.old meter.new (R.remaining reader.old) (W.contents writer.old)
         (W.contents writer.new) result }
+    ensures works { HasWorked S.Store bureau.old.conn bureau.new.conn bureau.new.broken
+        (TellsExchange (R.remaining reader.old) result) }
     ensures ended { IsTrue bureau.old.broken → (bureau.new ≡ bureau.old) × (meter.new ≡ meter.old)
         × EndsBroken (R.remaining reader.old) (W.contents writer.old) (W.contents writer.new)
         result }
@@ -40,6 +44,8 @@ pub fn exchange<R: Read, W: Write, S: Alter>(
     ensures clean { doubt (state S.Store bureau.old.conn).is_clean
         ≤ doubt (state S.Store bureau.new.conn).is_clean }
 {
+    // A law, for the proof: it does nothing.
+    kept_offices_run_whole();
     let Some(message) = answer_next(alloc, routes, reader, bureau, meter) else {
         return Exchange::ReadFailed;
     };

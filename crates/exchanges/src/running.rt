@@ -1,7 +1,9 @@
 //! Running a script, from its first byte.
 
 ghost use Rattle.std.specs.Prelude.{◌≡◌, ◌≤◌, ◌⊎◌, IsTrue};
-ghost use Rattle.exchanges.specs.Ending.{Ends, GivesUp, HasNoReply, TurnsDown};
+ghost use Rattle.ledger.specs.Working.{HasWorked};
+ghost use Rattle.exchanges.specs.Ending.{Ends, GivesUp, HasNoReply, IsEndOfBroken, TurnsDown};
+ghost use Rattle.exchanges.specs.Work.{TellsScript};
 ghost use Rattle.sqlite.specs.Held.{state};
 ghost use Rattle.sqlite.specs.View.{doubt};
 ghost use Rattle.ledger_tables.specs.declared.faults.Fault.TheVariants.{Store};
@@ -9,7 +11,7 @@ ghost use Rattle.ledger_tables.specs.declared.faults.Fault.TheVariants.{Store};
 use crate::applying::apply_all;
 use crate::endings::{ScriptEnd, Scripted};
 use crate::steps::report;
-use ledger::{Bureau, Fault};
+use ledger::{Bureau, Fault, kept_offices_run_whole};
 use machine::Meter;
 use scripts::{ReadFault, ScriptFault, parse, read_script, write_bad};
 use sqlite::Alter;
@@ -65,12 +67,20 @@ pub fn script<R: Read, W: Write, S: Alter>(
 ) -> Scripted
     ensures end { Ends S.Store bureau.old.conn bureau.new.conn meter.old meter.new result
         (R.remaining reader.old) (W.contents writer.old) (W.contents writer.new) }
+    ensures works { HasWorked S.Store bureau.old.conn bureau.new.conn bureau.new.broken
+        (TellsScript (R.remaining reader.old) (W.contents writer.old) (W.contents writer.new)
+        result) }
+    ensures ended { IsTrue bureau.old.broken → (bureau.new ≡ bureau.old) × (meter.new ≡ meter.old)
+        × IsEndOfBroken result (R.remaining reader.old) (W.contents writer.old)
+        (W.contents writer.new) }
     ensures broken { result.ended ≡ ScriptEnd.Fault Store → IsTrue bureau.new.broken }
     ensures kept { (bureau.new.broken ≡ bureau.old.broken)
         ⊎ (result.ended ≡ ScriptEnd.Fault Store) }
     ensures clean { doubt (state S.Store bureau.old.conn).is_clean
         ≤ doubt (state S.Store bureau.new.conn).is_clean }
 {
+    // A law, for the proof: it does nothing.
+    kept_offices_run_whole();
     let bytes = match read_script(alloc, reader) {
         Ok(bytes) => bytes,
         Err(ReadFault::NoMemory) => return give_up(writer),

@@ -3,7 +3,7 @@
 ghost use Rattle.std.specs.Prelude.{◌≡◌, ◌≤◌, ◌⊎◌, IsTrue};
 ghost use Rattle.office.specs.Office.{attempted, take};
 ghost use Rattle.ledger.specs.Replying.{LeavesEither};
-ghost use Rattle.exchanges.specs.Steps.{SendsSome, StepsTo, TicksTo, is_refusal};
+ghost use Rattle.exchanges.specs.Steps.{IsStep, SendsSome, TicksTo, is_refusal};
 ghost use Rattle.scripts.specs.Replies.{fault_line};
 ghost use Rattle.ledger_tables.specs.Faults.{fault_number};
 ghost use Rattle.sqlite.specs.Held.{state};
@@ -51,13 +51,15 @@ pub(crate) fn carry_out<S: Alter, W: Write>(
     command: &Command,
     meter: &mut Meter,
 ) -> Step
-    ensures step { StepsTo S.Store bureau.old.conn bureau.new.conn result (take command.now)
+    ensures step { IsStep S.Store bureau.old.conn bureau.new.conn result (take command.now)
         (W.contents writer.old) (W.contents writer.new) sent.old sent.new }
     ensures crash { LeavesEither S.Store bureau.old.conn bureau.new.conn (take command.now) }
     ensures meter { TicksTo S.Store bureau.old.conn bureau.new.conn result
         (attempted command.now) meter.old meter.new }
     ensures broken { result ≡ Step.Faulted Fault.Store → IsTrue bureau.new.broken }
     ensures kept { (bureau.new.broken ≡ bureau.old.broken) ⊎ (result ≡ Step.Faulted Fault.Store) }
+    ensures ended { IsTrue bureau.old.broken → (result ≡ Step.Faulted Fault.Store)
+        × (bureau.new ≡ bureau.old) × (meter.new ≡ meter.old) }
     ensures clean { doubt (state S.Store bureau.old.conn).is_clean
         ≤ doubt (state S.Store bureau.new.conn).is_clean }
 {

@@ -1,4 +1,5 @@
 use Rattle.std.proofs.Common.{List, refl, subst, sym, ℕ}
+use Rattle.ledger.proofs.WorkLemmas.{worked_so, worked_still}
 use Rattle.exchanges.specs.Exchanges.{Comes}
 use Rattle.exchanges.proofs.exchanging.exchange.Goals as goal
 
@@ -13,3 +14,15 @@ returns-clause-exchanged g c =
     let comes = subst (λ (bytes : List ℕ). Comes g.S.Store c.args.bureau.now.conn c.answer_next.new.bureau.conn c.args.bureau.now.broken c.answer_next.new.bureau.broken c.args.meter.now c.answer_next.new.meter (g.R.Read.remaining c.args.reader.now) c.in-Some.message.status bytes)
     (sym c.as_slice-bytes.ensures) c.in-Some.ensures.comes in
     (c.in-Some.message.status, c.as_slice-bytes.result.now, comes, c.in-Failed.ensures.0, c.in-Failed.ensures.1)
+
+pub returns-in_default-message-clause-works : goal.returns-in_default-message-clause-works
+returns-in_default-message-clause-works g c =
+    worked_still c.kept_offices_run_whole.ensures g.S.Store c.args.bureau.now.conn c.answer_next.new.bureau.conn c.answer_next.new.bureau.broken _ (λ clean o s. s) (refl, refl)
+
+pub returns-in-Whole-clause-works : goal.returns-in-Whole-clause-works
+returns-in-Whole-clause-works g c = c.in-Some.ensures.works
+
+pub returns-clause-works : goal.returns-clause-works
+returns-clause-works g c =
+    worked_so g.S.Store c.args.bureau.now.conn c.answer_next.new.bureau.conn c.answer_next.new.bureau.broken _ _
+    (λ done replies told. (c.in-Some.message.status, told)) c.in-Some.ensures.works

@@ -2,5 +2,11 @@ use Rattle.std.proofs.Common.{Err, ap}
 use Rattle.exchanges.proofs.ApplyingLemmas.{only_memory}
 use Rattle.exchanges.proofs.steps.carry_out.Goals as goal
 
+pub returns-in-Ok-clause-step : goal.returns-in-Ok-clause-step
+returns-in-Ok-clause-step g c = (c.in-Ok.reply, c.in-Ok.ensures.reply, c.is_refusal.ensures, c.in-Ok-write_reply.ensures)
+
+pub returns-in-Err-clause-step : goal.returns-in-Err-clause-step
+returns-in-Err-clause-step g c = (c.in-Ok.reply, c.in-Ok.ensures.reply, c.is_refusal.ensures, c.in-Err-write_reply.ensures)
+
 pub returns-clause-step : goal.returns-clause-step
-returns-clause-step g c clean office s = (λ other. c.in-Err.ensures.no_memory clean (ap Err (only_memory c.in-Err.fault other)) office s, c.report.ensures)
+returns-clause-step g c = (λ other clean office s. c.in-Err.ensures.no_memory clean (ap Err (only_memory c.in-Err.fault other)) office s, c.report.ensures)
