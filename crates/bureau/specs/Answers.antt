@@ -16,6 +16,7 @@ use Rattle.counter.specs.Put.{IsPut}
 use Rattle.command_line.specs.Asked.{page_of}
 use Rattle.command_line.specs.declared.help.TheConstants.{USAGE, VERSION}
 use Rattle.service.specs.Outcomes.{HasShown, status_of}
+use Rattle.service.specs.Work.{HasApplied}
 use Rattle.service.specs.declared.outcomes.Outcome.{Outcome}
 
 -- the bytes that a writer has, if they are known
@@ -55,7 +56,8 @@ HasDone (task.Run deck size switches) status output_old output_new errors_old er
 HasDone (task.Assemble source out) status output_old output_new errors_old errors_new =
     HasAssembled status output_old output_new errors_old errors_new
 HasDone (task.Apply file script) status output_old output_new errors_old errors_new =
-    HasEnded status errors_old errors_new
+    (it : Outcome) × HasApplied it output_old output_new × (status ≡ status_of it)
+    × HasShown it errors_old errors_new
 HasDone other status output_old output_new errors_old errors_new =
     Keeps output_old output_new × HasEnded status errors_old errors_new
 

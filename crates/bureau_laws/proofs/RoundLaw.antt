@@ -1,24 +1,19 @@
 -- From round to round.
-use Rattle.std.proofs.Common.{◌≡◌, List, [], ◌∷◌, ◌++◌, take, refl, sym, ap, subst, ◌∙◌}
+use Rattle.std.proofs.Common.{◌≡◌, List, [], ◌∷◌, ◌++◌, take, refl, sym, subst}
 use Rattle.std.proofs.Math.Logic.{∥∥₁_elim, ∥∥₁_map}
 use Rattle.sqlite.specs.Effect.{Database}
 use Rattle.sqlite.specs.Files.{HoldsDatabase}
 use Rattle.sqlite_pool.specs.Stored.{is_summed}
 use Rattle.sqlite.specs.Tree.{Trees}
-use Rattle.office.specs.Office as office
-use Rattle.office.specs.Office.{Office, fold, IsLeft}
+use Rattle.office.specs.Office.{Office, fold}
 use Rattle.office.specs.declared.commands.Command.{Command}
 use Rattle.ledger_tables.specs.Schema.{bureau_schema}
 use Rattle.ledger.specs.Standing.{Rows, LeftAs}
-use Rattle.ledger_files.specs.Opening.{AreOf, Found}
+use Rattle.ledger_files.specs.Opening.{AreOf}
+use Rattle.ledger_files.specs.Rounds.{Found}
+use Rattle.ledger.proofs.WorkLemmas.{fold_both}
 use Rattle.ledger.specs.WholeRows.{HaveWholeRows}
-use Rattle.bureau_laws.specs.Rounds.{AreWholeOf, Round, AreRounds, files_after, AreBeginnings, AreLeftWhole}
-
--- commands after commands
-pub fold_both : (first second : List Command) (o : Office) → (fold (first ++ second) o).0 ≡ (fold second (fold first o).0).0
-unfolding fold
-fold_both [] second o = refl
-fold_both (command ∷ first) second o = fold_both first second (office.take command o).0
+use Rattle.bureau_laws.specs.Rounds.{AreWholeOf, Round, AreRounds, files_after, AreKept, AreLeftWhole}
 
 module _ (law : (db : Database) (o : Office) → Rows db o → HaveWholeRows db o) where
   are_whole : (files : Found) (o : Office) → AreOf files.0 files.1 o → AreWholeOf files o
@@ -31,9 +26,11 @@ module _ (law : (db : Database) (o : Office) → Rows db o → HaveWholeRows db 
   rounds_lead first [] all o are = ∣ ([], refl, are_whole first o are) ∣₁
   rounds_lead first (round ∷ rounds) all o are =
       ∥∥₁_elim (all.0 o are) squash₁ (λ here.
-      ∥∥₁_map (rounds_lead round.files rounds all.1 here.0 here.2) (λ rest.
-      let taken = here.1.0 in
+      let taken = here.1.1.0 in
+      let left = here.1.0 in
+      let is : left ≡ (fold (take taken round.given) o).0 = here.1.1.3 in
+      let same : AreOf round.files.0 round.files.1 (fold (take taken round.given) o).0 = subst (AreOf round.files.0 round.files.1) is here.1.2 in
+      ∥∥₁_map (rounds_lead round.files rounds all.1 (fold (take taken round.given) o).0 same) (λ rest.
       let commands = take taken round.given ++ rest.0 in
-      let same : (fold rest.0 here.0).0 ≡ (fold commands o).0 = ap (λ (x : Office). (fold rest.0 x).0) here.1.3 ∙ sym (fold_both (take taken round.given) rest.0 o) in
-      let r : (done : List Command) × AreBeginnings (round ∷ rounds) done × AreWholeOf (files_after round.files rounds) (fold done o).0 =
-      (commands, (taken, rest.0, here.1.1, here.1.2, refl, rest.1), subst (AreWholeOf (files_after round.files rounds)) same rest.2) in r))
+      let r : (done : List Command) × AreKept o (round ∷ rounds) done × AreWholeOf (files_after round.files rounds) (fold done o).0 =
+      (commands, (taken, rest.0, here.1.1.1, here.1.1.2, here.0, refl, rest.1), subst (AreWholeOf (files_after round.files rounds)) (sym (fold_both (take taken round.given) rest.0 o)) rest.2) in r))

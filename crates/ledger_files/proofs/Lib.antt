@@ -2,3 +2,4 @@ pub mod ClosingLemmas
 pub mod OpeningFinds
 pub mod OpeningLeftovers
 pub mod StopLemmas
+pub mod RoundLemmas

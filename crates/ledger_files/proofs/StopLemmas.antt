@@ -1,5 +1,5 @@
 -- What a stop leaves.
-use Rattle.std.proofs.Common.{◌≡◌, IsTrue, refl, subst, List, [], ◌∷◌}
+use Rattle.std.proofs.Common.{◌≡◌, IsTrue, refl, subst}
 use Rattle.std.proofs.Math.Logic.{∥∥₁_elim, ∥∥₁_map}
 use Rattle.sqlite_disk.specs.declared.Disk.{Ghosts}
 use Rattle.sqlite_wal.specs.Recovery.{Image}
@@ -12,7 +12,6 @@ use Rattle.sqlite_store.specs.Listing.{IsOurs}
 use Rattle.sqlite_store.specs.FileStore.{state, view, schema_in, reading, recovers}
 use Rattle.sqlite.specs.Held.{AreDatabases}
 use Rattle.sqlite.specs.Files.{HoldsDatabase}
-use Rattle.ledger_files.specs.Opening.{Found, Leads, AreRounds, last_of}
 
 -- each image that a crash may leave holds a database that the store allows, and its pages end in sums as the store's do
 pub left_holds : {D : Type 0} {g : Ghosts D} (it : FileStore D g) → IsTrue (view it).is_numbered → AreDatabases (recovers it)
@@ -40,7 +39,3 @@ left_holds it numbered sound left may = ∥∥₁_elim it.safe squash₁ (λ all
       ),
       refl,
     ) in r)))
-
-pub rounds_lead : (first : Found) (rounds : List Found) → AreRounds first rounds → Leads first (last_of first rounds)
-rounds_lead first [] all office are = are
-rounds_lead first (next ∷ more) all office are = rounds_lead next more all.1 office (all.0 office are)

@@ -1,5 +1,5 @@
 -- a bureau's file that was closed
-use Rattle.std.specs.Prelude.{◌≡◌, ◌⊎◌, false, []}
+use Rattle.std.specs.Prelude.{◌≡◌, ◌⊎◌, Bool, false, [], IsTrue}
 use Rattle.sqlite_disk.specs.Disk.{MoreFaults}
 use Rattle.sqlite_disk.specs.declared.Disk.{Ghosts}
 use Rattle.sqlite_store.specs.declared.store.FileStore.{FileStore}
@@ -11,7 +11,7 @@ use Rattle.sqlite.specs.Tree.{Trees}
 use Rattle.office.specs.Office.{Office}
 use Rattle.ledger.specs.Standing.{LeftAs}
 use Rattle.ledger_tables.specs.declared.openings.OpenFault.{OpenFault}
-use Rattle.ledger_tables.specs.declared.openings.OpenFault.TheVariants.{NoMemory}
+use Rattle.ledger_tables.specs.declared.openings.OpenFault.TheVariants.{NoMemory, Store}
 
 -- the database file holds a bureau's database that represents this office, with its log and with
 -- no log
@@ -25,3 +25,10 @@ abbrev pub HindersClosing : {D : Type 0} {g : Ghosts D} → Held (FileStore D g)
     → OpenFault → Type 0
 HindersClosing conn left fault = (fault ≡ NoMemory)
     ⊎ (((view conn.store).is_open ≡ false) ⊎ MoreFaults (faults conn.store) (faults left))
+
+-- why the work with a bureau could not end with closing its file: the bureau is broken, and its file
+-- has to be opened again; or something hindered the closing
+abbrev pub HindersEnding : {D : Type 0} {g : Ghosts D} → Bool → Held (FileStore D g)
+    → FileStore D g → OpenFault → Type 0
+HindersEnding is_broken conn left fault =
+    (IsTrue is_broken × (fault ≡ Store)) ⊎ HindersClosing conn left fault

@@ -1,5 +1,5 @@
 -- files that hold a bureau's database
-use Rattle.std.specs.Prelude.{◌≡◌, Bool, IsTrue, List, [], ◌∷◌, ⊤}
+use Rattle.std.specs.Prelude.{◌≡◌, Bool, IsTrue, ⊤}
 use Rattle.sqlite_disk.specs.declared.Disk.{Ghosts}
 use Rattle.sqlite_pool.specs.Stored.{is_summed}
 use Rattle.sqlite_store.specs.Unopened.{state_of}
@@ -47,24 +47,3 @@ module _ {D : Type 0} {g : Ghosts D} where
   IsCleanKept (kept.Connection conn) = HasCleanDisk (file_state conn)
   IsCleanKept (kept.Left rest) = IsCleanLeft rest
   IsCleanKept kept.Nothing = ⊤
-
--- ---- from one stop to the next
-
--- a bureau's two files, with whether their pages end in sums
-abbrev pub Found : Type 0
-Found = Bool × Image
-
--- if the first files represent an office, the second represent the same one
-abbrev pub Leads : Found → Found → Type 0
-Leads before after = (office : Office) → AreOf before.0 before.1 office →
-    AreOf after.0 after.1 office
-
--- each pair of files represents whatever office the pair before it represents
-abbrev pub AreRounds : Found → List Found → Type 0
-AreRounds first [] = ⊤
-AreRounds first (next ∷ more) = Leads first next × AreRounds next more
-
--- the last files, or the first if there are no others
-abbrev pub last_of : Found → List Found → Found
-last_of first [] = first
-last_of first (next ∷ more) = last_of next more

@@ -37,8 +37,8 @@ pub fn close<D: Disk + Drop>(
     ensures alone { IfOk result (λ files. AreClean D.Disk files.log files.db → (office : Office)
         → Stands (file_state bureau.conn) office → (left : Image)
         → outcomes D.Disk files.log files.db left → StandsAlone left office) }
-    ensures kept { IfErr result (λ e. (office : Office) → Stands (file_state bureau.conn) office
-        → (db : Trees) → recovers e.1 db → LeftAs db office) }
+    ensures kept { IfErr result (λ e. (db : Trees) → recovers e.1 db
+        → (file_state bureau.conn).may_leave db) }
     ensures cause { IfErr result (λ e. IsClean (view e.1) → HindersClosing bureau.conn e.1 e.0) }
 {
     let conn = bureau.into_connection();

@@ -1,10 +1,14 @@
 //! A bureau's file: opened, and opened again after a stop.
 //!
 //! [`open_from`] opens the file at a path as a bureau. What it returns, also if it fails,
-//! represents the office whose files it found. [`close`] copies the log into the file, which alone
-//! is then the bureau. [`stop`] returns the store as a crash at that moment leaves it: each image
-//! that a crash may leave is of the bureau's office. Hence any number of stops and openings keep
-//! the office ([`rounds_keep_the_office`]).
+//! represents the office whose files it found. [`open_and_work`] then does work with the bureau
+//! ([`Work`]): commands that are carried out and replied to. [`finish`] ends it: it closes the file,
+//! which alone is then the bureau ([`close`]), unless the bureau is broken.
+//!
+//! [`with_bureau`] is what a program calls: it finds the file, opens it, works and ends.
+//! [`round`] opens, works, and returns the store as a crash at that moment leaves it ([`stop`]):
+//! whatever is left is of the office after a beginning of the commands that holds every one that
+//! was replied to. Any number of such rounds make the chain of the theorem of stops.
 #![tactic(auto)]
 
 mod closing;
@@ -12,12 +16,12 @@ mod kept;
 mod making;
 mod opening;
 mod places;
-mod stops;
+mod rounds;
 mod working;
 
 pub use closing::close;
 pub use kept::Kept;
 pub use making::init;
 pub use opening::open_from;
-pub use stops::{round, rounds_keep_the_office, stop};
+pub use rounds::{finish, open_and_work, round, stop};
 pub use working::{Work, with_bureau};

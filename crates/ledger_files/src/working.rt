@@ -1,23 +1,45 @@
 //! Work with the bureau whose file is at a path: the file is opened, and closed after it.
 
-use crate::closing::close;
+ghost use Rattle.std.specs.Prelude.{◌≡◌, ◌≤◌, ◌⊎◌, ℕ, List, Option, OnOk, OnErr};
+ghost use Rattle.sqlite.specs.Held.{state};
+ghost use Rattle.sqlite.specs.View.{doubt};
+ghost use Rattle.office.specs.declared.commands.Command.{Command};
+ghost use Rattle.office.specs.declared.replies.Reply.{Reply};
+ghost use Rattle.ledger.specs.Working.{HasWorked};
+ghost use Rattle.ledger_files.specs.Rounds.{IsTold};
+
 use crate::kept::Kept;
-use crate::opening::open_from;
 use crate::places::Place;
+use crate::rounds::{finish, open_and_work};
 use ledger::Bureau;
 use ledger_tables::OpenFault;
 use sqlite::{Alter, FileStore, Unknown};
 use sqlite_disk::Disk;
 use std::fs;
 use std::fs::File;
-use std::io::{ErrorKind, Read};
+use std::io::{ErrorKind, Read, Write};
 
-/// Work with an open bureau, whatever its store is. It keeps its own outcome.
+/// Work with an open bureau, whatever its store is. It keeps its own outcome, and may write to an
+/// output while it goes on.
 // The proof of a function that names a store in files takes many times as long as that of one over
 // any store. So the crates above name none.
 pub trait Work {
+    // What the work before and after it, and the bytes of the output before and after it, tell of
+    // the commands that were carried out, and of the replies to them.
+    ghost tells: { Self → Self → Option (List ℕ) → Option (List ℕ) → List Command → List Reply
+        → Type 0 };
+
     /// Does the work.
-    fn carry_out<S: Alter>(&mut self, rt: &HostRuntime, bureau: &mut Bureau<S>);
+    fn carry_out<S: Alter, O: Write>(
+        &mut self,
+        rt: &HostRuntime,
+        bureau: &mut Bureau<S>,
+        output: &mut O,
+    )
+        ensures works { HasWorked S.Store bureau.old.conn bureau.new.conn bureau.new.broken
+            (tells self.old self.new (O.contents output.old) (O.contents output.new)) }
+        ensures clean { doubt (state S.Store bureau.old.conn).is_clean
+            ≤ doubt (state S.Store bureau.new.conn).is_clean };
 }
 
 /// The first bytes of a database's file.
@@ -42,17 +64,15 @@ fn look(rt: &HostRuntime, path: &str) -> Result<(), OpenFault> {
     }
 }
 
-/// Does work with an open bureau, and closes it. Its log is removed while its file is still locked,
-/// so that no other program has begun to write to that log. If the file cannot be closed, the log
-/// stays.
-fn carry_out_and_close<D: Disk + Drop, W: Work>(
+/// Ends the work with a bureau whose file is at a place. Its log is removed while its file is still
+/// locked, so that no other program has begun to write to that log. If the file is not closed, the
+/// log stays.
+fn close_at<D: Disk + Drop>(
     rt: &HostRuntime,
-    mut bureau: Bureau<FileStore<D>>,
+    bureau: Bureau<FileStore<D>>,
     place: &Place,
-    work: &mut W,
 ) -> Result<(), OpenFault> {
-    work.carry_out(rt, &mut bureau);
-    match close(bureau) {
+    match finish(bureau) {
         Ok(_locked) => {
             place.remove_log(rt);
             Ok(())
@@ -75,13 +95,24 @@ fn let_go<D: Disk + Drop>(rt: &HostRuntime, kept: Kept<D>, place: &Place, log: O
 /// Does work with the bureau whose file is at a path. After it the file alone is the bureau. Fails
 /// with the fault if the file cannot be opened, and then no work is done; or if it cannot be closed
 /// after the work, and then its log stays.
-pub fn with_bureau<W: Work>(rt: &HostRuntime, path: &str, work: &mut W) -> Result<(), OpenFault> {
+pub fn with_bureau<W: Work, O: Write>(
+    rt: &HostRuntime,
+    path: &str,
+    work: &mut W,
+    output: &mut O,
+) -> Result<(), OpenFault>
+    ensures told { OnOk result (IsTold (W.tells work.old work.new (O.contents output.old)
+        (O.contents output.new))) }
+    ensures idle { OnErr result (((work.new ≡ work.old)
+        × (O.contents output.new ≡ O.contents output.old))
+        ⊎ IsTold (W.tells work.old work.new (O.contents output.old) (O.contents output.new))) }
+{
     let place = Place::find(rt, path)?;
     look(rt, &place.file)?;
     place.remove_part(rt)?;
     let log = place.log_length(rt);
-    match open_from(rt, &place.file, Unknown) {
-        Ok(bureau) => carry_out_and_close(rt, bureau, &place, work),
+    match open_and_work(rt, &place.file, Unknown, work, output) {
+        Ok(bureau) => close_at(rt, bureau, &place),
         Err((fault, kept)) => {
             let_go(rt, kept, &place, log);
             Err(fault)

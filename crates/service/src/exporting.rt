@@ -1,15 +1,23 @@
 //! Writing to files what a job has punched and printed.
 
+ghost use Rattle.std.specs.Prelude.{◌≡◌, ◌≤◌, false, OnOk};
+ghost use Rattle.sqlite.specs.Held.{state};
+ghost use Rattle.sqlite.specs.View.{doubt};
+ghost use Rattle.ledger.specs.Working.{HasWorked};
+ghost use Rattle.service.specs.Work.{TellsAsked, TellsExport};
+
 use crate::outcomes::Outcome;
 use cards::write_punched_cards;
 use counter::put_file;
-use ledger::{Bureau, Fault};
+use ledger::{Bureau, Fault, kept_offices_run_whole};
 use ledger_files::{Work, with_bureau};
 use ledger_tables::OpenFault;
 use machine::Meter;
 use office::{Command, JobCommand, Reply};
 use sqlite::Alter;
 use std::alloc::Global;
+use std::io;
+use std::io::Write;
 use units::render;
 
 /// What a job has made, as the bytes of its two files.
@@ -29,7 +37,15 @@ fn ask<S: Alter>(
     customer: &str,
     number: u32,
     command: JobCommand,
-) -> Result<Reply, Outcome> {
+) -> Result<Reply, Outcome>
+    ensures works { HasWorked S.Store bureau.old.conn bureau.new.conn bureau.new.broken
+        (TellsAsked customer.now number command) }
+    ensures whole { OnOk result (bureau.new.broken ≡ false) }
+    ensures clean { doubt (state S.Store bureau.old.conn).is_clean
+        ≤ doubt (state S.Store bureau.new.conn).is_clean }
+{
+    // A law, for the proof: it does nothing.
+    kept_offices_run_whole();
     let Ok(customer) = String::from_str(alloc, customer) else {
         return Err(NO_MEMORY);
     };
@@ -65,7 +81,12 @@ fn made_by<S: Alter>(
     bureau: &mut Bureau<S>,
     customer: &str,
     number: u32,
-) -> Result<Made, Outcome> {
+) -> Result<Made, Outcome>
+    ensures works { HasWorked S.Store bureau.old.conn bureau.new.conn bureau.new.broken
+        (TellsExport customer.now number) }
+    ensures clean { doubt (state S.Store bureau.old.conn).is_clean
+        ≤ doubt (state S.Store bureau.new.conn).is_clean }
+{
     let cards = ask(alloc, bureau, customer, number, JobCommand::Cards)?;
     let cards = bytes_of(alloc, &cards)?;
     let lines = ask(alloc, bureau, customer, number, JobCommand::Lines)?;
@@ -96,7 +117,12 @@ fn write_made<S: Alter>(
     bureau: &mut Bureau<S>,
     customer: &str,
     number: u32,
-) -> Result<(), Outcome> {
+) -> Result<(), Outcome>
+    ensures works { HasWorked S.Store bureau.old.conn bureau.new.conn bureau.new.broken
+        (TellsExport customer.now number) }
+    ensures clean { doubt (state S.Store bureau.old.conn).is_clean
+        ≤ doubt (state S.Store bureau.new.conn).is_clean }
+{
     let made = made_by(rt.alloc(), bureau, customer, number)?;
     put(rt, customer, number, "cards", &made.cards)?;
     put(rt, customer, number, "lines", &made.lines)
@@ -111,7 +137,15 @@ struct ExportWork<'a> {
 }
 
 impl Work for ExportWork<'_> {
-    fn carry_out<S: Alter>(&mut self, rt: &HostRuntime, bureau: &mut Bureau<S>) {
+    ghost tells = { λ before after old new done replies.
+        TellsExport before.customer.now before.number done replies };
+
+    fn carry_out<S: Alter, O: Write>(
+        &mut self,
+        rt: &HostRuntime,
+        bureau: &mut Bureau<S>,
+        _output: &mut O,
+    ) {
         if let Err(outcome) = write_made(rt, bureau, self.customer, self.number) {
             self.outcome = outcome;
         }
@@ -127,6 +161,6 @@ pub fn export(rt: &HostRuntime, path: &str, customer: &str, number: u32) -> Outc
         number,
         outcome: Outcome::Done,
     };
-    let file = with_bureau(rt, path, &mut work);
+    let file = with_bureau(rt, path, &mut work, &mut io::sink());
     work.outcome.with_file(file)
 }

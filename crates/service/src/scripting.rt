@@ -1,17 +1,24 @@
 //! Applying a script.
 
+ghost use Rattle.std.specs.Prelude.{◌≡◌, ◌≤◌};
+ghost use Rattle.sqlite.specs.Held.{state};
+ghost use Rattle.sqlite.specs.View.{doubt};
+ghost use Rattle.ledger.specs.Working.{HasWorked};
+ghost use Rattle.service.specs.Work.{HasApplied, TellsApply, outcome_of};
+
 use crate::outcomes::Outcome;
 use exchanges::{ScriptEnd, Scripted, script};
-use ledger::{Bureau, Fault};
+use ledger::{Bureau, Fault, kept_offices_run_whole};
 use ledger_files::{Work, with_bureau};
-use ledger_tables::OpenFault;
 use machine::Meter;
 use sqlite::Alter;
 use std::fs::File;
 use std::io::Write;
 
 /// The outcome after a script. The line of a fault is already on the output.
-fn outcome_of(scripted: &Scripted) -> Outcome {
+fn outcome_of(scripted: &Scripted) -> Outcome
+    ensures { result ≡ outcome_of scripted.now }
+{
     match scripted.ended {
         ScriptEnd::Whole if scripted.refused => Outcome::Shown,
         ScriptEnd::Whole => Outcome::Done,
@@ -21,43 +28,61 @@ fn outcome_of(scripted: &Scripted) -> Outcome {
     }
 }
 
-/// The work of carrying out the commands of the script at a path, in order.
-#[derive(Drop)]
-struct ApplyWork<'a, W: Write> {
-    script_path: &'a str,
-    output: &'a mut W,
-    outcome: Outcome,
-}
-
-impl<W: Write> ApplyWork<'_, W> {
-    /// Carries them out, by a bureau over any store.
-    fn apply<S: Alter>(&mut self, rt: &HostRuntime, bureau: &mut Bureau<S>) -> Outcome {
-        let Ok(mut file) = File::open(rt, self.script_path) else {
-            return Outcome::Device;
-        };
-        let mut meter = Meter::new();
-        let scripted = script(rt.alloc(), &mut file, self.output, bureau, &mut meter);
-        match self.output.flush() {
-            Ok(()) => outcome_of(&scripted),
-            Err(_) => Outcome::Device,
-        }
+/// Carries out the commands of the script at a path, in order, by a bureau over any store.
+fn run_script<S: Alter, O: Write>(
+    rt: &HostRuntime,
+    script_path: &str,
+    bureau: &mut Bureau<S>,
+    output: &mut O,
+) -> Outcome
+    ensures works { HasWorked S.Store bureau.old.conn bureau.new.conn bureau.new.broken
+        (TellsApply (O.contents output.old) (O.contents output.new) result) }
+    ensures clean { doubt (state S.Store bureau.old.conn).is_clean
+        ≤ doubt (state S.Store bureau.new.conn).is_clean }
+{
+    // A law, for the proof: it does nothing.
+    kept_offices_run_whole();
+    let Ok(mut file) = File::open(rt, script_path) else {
+        return Outcome::Device;
+    };
+    let mut meter = Meter::new();
+    let scripted = script(rt.alloc(), &mut file, output, bureau, &mut meter);
+    match output.flush() {
+        Ok(()) => outcome_of(&scripted),
+        Err(_) => Outcome::Device,
     }
 }
 
-impl<W: Write> Work for ApplyWork<'_, W> {
-    fn carry_out<S: Alter>(&mut self, rt: &HostRuntime, bureau: &mut Bureau<S>) {
-        self.outcome = self.apply(rt, bureau);
+/// The work of carrying out the commands of the script at a path.
+#[derive(Drop)]
+struct ApplyWork<'a> {
+    script_path: &'a str,
+    outcome: Outcome,
+}
+
+impl Work for ApplyWork<'_> {
+    ghost tells = { λ before after old new done replies.
+        TellsApply old new after.outcome done replies };
+
+    fn carry_out<S: Alter, O: Write>(
+        &mut self,
+        rt: &HostRuntime,
+        bureau: &mut Bureau<S>,
+        output: &mut O,
+    ) {
+        self.outcome = run_script(rt, self.script_path, bureau, output);
     }
 }
 
 /// Carries out the commands of the script at `script_path`, in order, by the bureau whose file is
 /// at `path`. The line of each reply is written after its command is in the file.
-pub fn apply<W: Write>(rt: &HostRuntime, path: &str, script_path: &str, output: &mut W) -> Outcome {
+pub fn apply<W: Write>(rt: &HostRuntime, path: &str, script_path: &str, output: &mut W) -> Outcome
+    ensures applied { HasApplied result (W.contents output.old) (W.contents output.new) }
+{
     let mut work = ApplyWork {
         script_path,
-        output,
         outcome: Outcome::Done,
     };
-    let file = with_bureau(rt, path, &mut work);
+    let file = with_bureau(rt, path, &mut work, output);
     work.outcome.with_file(file)
 }

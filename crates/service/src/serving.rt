@@ -1,14 +1,22 @@
 //! Serving requests over HTTP.
 
+ghost use Rattle.std.specs.Prelude.{◌≡◌, ◌≤◌, length};
+ghost use Rattle.sqlite.specs.Held.{state};
+ghost use Rattle.sqlite.specs.View.{doubt};
+ghost use Rattle.ledger.specs.Working.{HasWorked};
+ghost use Rattle.service.specs.Work.{IsSomeWork, TellsServe};
+
 use crate::connections::{Timed, close};
 use crate::outcomes::Outcome;
 use exchanges::{Exchange, exchange};
 use http_requests::Routes;
-use ledger::Bureau;
+use ledger::{Bureau, kept_offices_run_whole};
 use ledger_files::{Work, with_bureau};
 use ledger_tables::OpenFault;
 use machine::Meter;
 use sqlite::Alter;
+use std::io;
+use std::io::Write;
 use std::net::{Ipv4Addr, Net, SocketAddrV4, TcpListener, TcpStream};
 
 /// The number of seconds within which a request has to come, whole.
@@ -27,7 +35,14 @@ fn serve_one<S: Alter>(
     bureau: &mut Bureau<S>,
     stream: &TcpStream,
     meter: &mut Meter,
-) {
+)
+    ensures works { HasWorked S.Store bureau.old.conn bureau.new.conn bureau.new.broken
+        IsSomeWork }
+    ensures clean { doubt (state S.Store bureau.old.conn).is_clean
+        ≤ doubt (state S.Store bureau.new.conn).is_clean }
+{
+    // A law, for the proof: it does nothing.
+    kept_offices_run_whole();
     let (Ok(mut reader), Ok(mut writer)) = (
         Timed::new(rt, stream, REQUEST),
         Timed::new(rt, stream, REQUEST + ANSWER),
@@ -40,7 +55,28 @@ fn serve_one<S: Alter>(
     }
 }
 
-/// Serves this number of connections, one after the other. A connection that fails is dropped.
+/// Serves the next connection. One that fails is dropped.
+fn serve_next<S: Alter>(
+    rt: &HostRuntime,
+    routes: &Routes,
+    bureau: &mut Bureau<S>,
+    stream: io::Result<TcpStream>,
+    meter: &mut Meter,
+)
+    ensures works { HasWorked S.Store bureau.old.conn bureau.new.conn bureau.new.broken
+        IsSomeWork }
+    ensures clean { doubt (state S.Store bureau.old.conn).is_clean
+        ≤ doubt (state S.Store bureau.new.conn).is_clean }
+{
+    // A law, for the proof: it does nothing.
+    kept_offices_run_whole();
+    let Ok(stream) = stream else {
+        return;
+    };
+    serve_one(rt, routes, bureau, &stream, meter);
+}
+
+/// Serves this number of connections, one after the other.
 /// After fault 2 no more are served.
 fn serve_connections<S: Alter>(
     rt: &HostRuntime,
@@ -48,12 +84,17 @@ fn serve_connections<S: Alter>(
     bureau: &mut Bureau<S>,
     listener: &TcpListener,
     count: u32,
-) -> Outcome {
+) -> Outcome
+    ensures works { HasWorked S.Store bureau.old.conn bureau.new.conn bureau.new.broken
+        (TellsServe result) }
+    ensures clean { doubt (state S.Store bureau.old.conn).is_clean
+        ≤ doubt (state S.Store bureau.new.conn).is_clean }
+{
+    // A law, for the proof: it does nothing.
+    kept_offices_run_whole();
     let mut meter = Meter::new();
     for stream in listener.incoming().take(count as usize) {
-        if let Ok(stream) = stream {
-            serve_one(rt, routes, bureau, &stream, &mut meter);
-        }
+        serve_next(rt, routes, bureau, stream, &mut meter);
         if bureau.broken() {
             return Outcome::Fault(OpenFault::Store);
         }
@@ -71,7 +112,14 @@ struct ServeWork {
 
 impl ServeWork {
     /// Serves them, from a bureau over any store.
-    fn serve<S: Alter>(&self, rt: &HostRuntime, bureau: &mut Bureau<S>) -> Outcome {
+    fn serve<S: Alter>(&self, rt: &HostRuntime, bureau: &mut Bureau<S>) -> Outcome
+        ensures works { HasWorked S.Store bureau.old.conn bureau.new.conn bureau.new.broken
+            (TellsServe result) }
+        ensures clean { doubt (state S.Store bureau.old.conn).is_clean
+            ≤ doubt (state S.Store bureau.new.conn).is_clean }
+    {
+        // A law, for the proof: it does nothing.
+        kept_offices_run_whole();
         let Ok(routes) = Routes::new(rt.alloc()) else {
             return Outcome::Fault(OpenFault::NoMemory);
         };
@@ -83,7 +131,14 @@ impl ServeWork {
 }
 
 impl Work for ServeWork {
-    fn carry_out<S: Alter>(&mut self, rt: &HostRuntime, bureau: &mut Bureau<S>) {
+    ghost tells = { λ before after old new done replies. TellsServe after.outcome done replies };
+
+    fn carry_out<S: Alter, O: Write>(
+        &mut self,
+        rt: &HostRuntime,
+        bureau: &mut Bureau<S>,
+        _output: &mut O,
+    ) {
         self.outcome = self.serve(rt, bureau);
     }
 }
@@ -96,6 +151,6 @@ pub fn serve(rt: &HostRuntime, path: &str, port: u16, count: u32) -> Outcome {
         count,
         outcome: Outcome::Done,
     };
-    let file = with_bureau(rt, path, &mut work);
+    let file = with_bureau(rt, path, &mut work, &mut io::sink());
     work.outcome.with_file(file)
 }

@@ -14,8 +14,8 @@ returns-in-Ok-clause-alone g c clean office s left may =
     ∥∥₁_elim held.both squash₁ (λ both. ∥∥₁_map held.alone (λ alone. let r : (db : Trees) × HoldsDatabase left db × HoldsDatabase (record left { log = [] }) db × LeftAs db office = (_, both, alone, kept) in r))
 
 pub returns-in-Err-clause-kept : goal.returns-in-Err-clause-kept
-returns-in-Err-clause-kept g c office s db may =
-    s.left db (subst (λ h. (file_state h).may_leave db) c.into_connection-conn.ensures (c.in-Err.ensures.err.0.quiet.outcomes db may))
+returns-in-Err-clause-kept g c db may =
+    subst (λ h. (file_state h).may_leave db) c.into_connection-conn.ensures (c.in-Err.ensures.err.0.quiet.outcomes db may)
 
 pub returns-in-Err-clause-cause : goal.returns-in-Err-clause-cause
 returns-in-Err-clause-cause g c clean =

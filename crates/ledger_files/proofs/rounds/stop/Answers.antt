@@ -5,7 +5,7 @@ use Rattle.sqlite.specs.Tree.{Trees}
 use Rattle.sqlite.specs.Files.{HoldsDatabase, file_state}
 use Rattle.sqlite.specs.FileStore.{view}
 use Rattle.ledger_files.proofs.StopLemmas.{left_holds}
-use Rattle.bureau_laws.proofs.rounds.store_left.Goals as goal
+use Rattle.ledger_files.proofs.rounds.stop.Goals as goal
 
 pub returns-clause-left : goal.returns-clause-left
 returns-clause-left g c clean left may =
@@ -13,3 +13,6 @@ returns-clause-left g c clean left may =
     ∥∥₁_map (left_holds store (c.into_store.ensures.numbered clean) (c.into_store.ensures.sound clean) left may)
     (λ it. let r : (db : Trees) × (file_state c.args.bureau.conn).may_leave db × (held : HoldsDatabase left db) × (is_summed held.0 ≡ (view store).has_sums) =
     (it.0, subst (λ h. (file_state h).may_leave it.0) c.into_connection.ensures (c.into_store.ensures.quiet.outcomes it.0 it.1), it.2, it.3) in r)
+
+pub returns-clause-kept : goal.returns-clause-kept
+returns-clause-kept g c db may = subst (λ h. (file_state h).may_leave db) c.into_connection.ensures (c.into_store.ensures.quiet.outcomes db may)

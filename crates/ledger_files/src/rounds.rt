@@ -1,0 +1,111 @@
+//! Rounds of work on a bureau's files: they are opened, work is done, and then everything stops, or
+//! the file is closed.
+
+ghost use Rattle.std.specs.Prelude.{◌≡◌, ◌≤◌, Bool, IfOk, IfErr, IsTrue};
+ghost use Rattle.sqlite.specs.FileStore as store;
+ghost use Rattle.sqlite.specs.FileStore.{recovers, view};
+ghost use Rattle.sqlite.specs.Files.{file_state};
+ghost use Rattle.sqlite.specs.Recovery.{Image};
+ghost use Rattle.sqlite.specs.Tree.{Trees};
+ghost use Rattle.sqlite.specs.View.{IsClean, doubt};
+ghost use Rattle.sqlite.specs.WalFiles.{image_at, outcomes};
+ghost use Rattle.sqlite_wal.specs.Reads.{AreClean};
+ghost use Rattle.office.specs.Office.{Office};
+ghost use Rattle.ledger.specs.Standing.{Stands};
+ghost use Rattle.ledger_tables.specs.Versions.{IsKnown};
+ghost use Rattle.ledger_files.specs.Closing.{HindersEnding, StandsAlone};
+ghost use Rattle.ledger_files.specs.Opening.{AreOf, IsCleanKept, KeptStands};
+ghost use Rattle.ledger_files.specs.Rounds.{HasWorkedFrom, HoldsOneOf, IsRound};
+
+use crate::closing::close;
+use crate::kept::Kept;
+use crate::opening::open_from;
+use crate::working::Work;
+use ledger::Bureau;
+use ledger_tables::OpenFault;
+use sqlite::{FileFrom, FileStore, Start};
+use sqlite_disk::{Disk, Files};
+use std::io::Write;
+
+/// Opens the file at a path as a bureau, and does work with it. Fails as [`open_from`] does, and
+/// then does no work.
+pub fn open_and_work<S: Start, W: Work, O: Write>(
+    rt: &HostRuntime,
+    path: &str,
+    start: S,
+    work: &mut W,
+    output: &mut O,
+) -> Result<Bureau<FileStore<FileFrom<S>>>, (OpenFault, Kept<FileFrom<S>>)>
+    ensures worked { IfOk result (λ bureau. HasWorkedFrom (image_at S.Start) bureau.conn
+        bureau.broken (W.tells work.old work.new (O.contents output.old)
+        (O.contents output.new))) }
+    ensures idle { IfErr result (λ e. (work.new ≡ work.old)
+        × (O.contents output.new ≡ O.contents output.old)) }
+    ensures kept { IfErr result (λ e. IsCleanKept e.1 → (has_sums : Bool) → (office : Office)
+        → AreOf has_sums (image_at S.Start) office → KeptStands has_sums e.1 office) }
+    ensures known { IfErr result (λ e. IsCleanKept e.1 → (has_sums : Bool) → (office : Office)
+        → AreOf has_sums (image_at S.Start) office → IsKnown e.0) }
+{
+    match open_from(rt, path, start) {
+        Ok(mut bureau) => {
+            work.carry_out(rt, &mut bureau, output);
+            Ok(bureau)
+        }
+        Err((fault, kept)) => Err((fault, kept)),
+    }
+}
+
+/// Returns the store as a crash at this moment leaves it, whatever the tables represent.
+pub fn stop<D: Disk + Drop>(bureau: Bureau<FileStore<D>>) -> FileStore<D>
+    ensures left { IsClean (view result) → (left : Image) → (store.state result).may_leave left
+        → HoldsOneOf (view result).has_sums left (file_state bureau.conn).may_leave }
+    ensures kept { (db : Trees) → recovers result db → (file_state bureau.conn).may_leave db }
+    ensures clean { doubt (file_state bureau.conn).is_clean ≤ doubt (view result).is_clean }
+{
+    bureau.into_connection().into_store()
+}
+
+/// Ends the work with a bureau: its file is closed, so that it alone is the bureau. The file of a
+/// broken bureau is not, since it has to be opened again: what a crash may leave of it now is kept,
+/// as it is where the closing fails.
+pub fn finish<D: Disk + Drop>(
+    bureau: Bureau<FileStore<D>>,
+) -> Result<Files<D>, (OpenFault, FileStore<D>)>
+    ensures alone { IfOk result (λ files. AreClean D.Disk files.log files.db → (office : Office)
+        → Stands (file_state bureau.conn) office → (left : Image)
+        → outcomes D.Disk files.log files.db left → StandsAlone left office) }
+    ensures kept { IfErr result (λ e. (db : Trees) → recovers e.1 db
+        → (file_state bureau.conn).may_leave db) }
+    ensures cause { IfErr result (λ e. IsClean (view e.1)
+        → HindersEnding bureau.broken bureau.conn e.1 e.0) }
+    ensures broken { IsTrue bureau.broken → IfErr result (λ e. e.0 ≡ OpenFault.Store) }
+{
+    if bureau.broken() {
+        return Err((OpenFault::Store, stop(bureau)));
+    }
+    close(bureau)
+}
+
+/// Opens the file at a path as a bureau, does work with it, and stops: what a crash at this moment
+/// may leave is a link of the chain that the theorem of stops is about. Fails as [`open_from`] does.
+pub fn round<S: Start, W: Work, O: Write>(
+    rt: &HostRuntime,
+    path: &str,
+    start: S,
+    work: &mut W,
+    output: &mut O,
+) -> Result<FileStore<FileFrom<S>>, (OpenFault, Kept<FileFrom<S>>)>
+    ensures round { IfOk result (λ left. IsRound (image_at S.Start) left (W.tells work.old work.new
+        (O.contents output.old) (O.contents output.new))) }
+    ensures idle { IfErr result (λ e. (work.new ≡ work.old)
+        × (O.contents output.new ≡ O.contents output.old)) }
+    ensures kept { IfErr result (λ e. IsCleanKept e.1 → (has_sums : Bool) → (office : Office)
+        → AreOf has_sums (image_at S.Start) office → KeptStands has_sums e.1 office) }
+    ensures known { IfErr result (λ e. IsCleanKept e.1 → (has_sums : Bool) → (office : Office)
+        → AreOf has_sums (image_at S.Start) office → IsKnown e.0) }
+{
+    match open_and_work(rt, path, start, work, output) {
+        Ok(bureau) => Ok(stop(bureau)),
+        Err((fault, kept)) => Err((fault, kept)),
+    }
+}

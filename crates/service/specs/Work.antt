@@ -1,0 +1,80 @@
+-- what the rows for a bureau's file tell of the commands that were carried out
+use Rattle.std.specs.Prelude.{◌≡◌, ◌⊎◌, ℕ, Bool, true, false, List, [], ◌∷◌, length, Option, Result, string_bytes, ⊤}
+use Rattle.std.specs.List.{AllByRecursion}
+use Rattle.std.specs.Io.KnownBytes.{Keeps}
+use Rattle.exchanges.specs.Work.{TellsScript}
+use Rattle.exchanges.specs.declared.endings.ScriptEnd.{ScriptEnd}
+use Rattle.exchanges.specs.declared.endings.ScriptEnd.TheVariants as ended
+use Rattle.exchanges.specs.declared.endings.Scripted.{Scripted}
+use Rattle.ledger_files.specs.Rounds.{IsTold}
+use Rattle.ledger_tables.specs.declared.faults.Fault.TheVariants.{NoMemory, Store}
+use Rattle.ledger_tables.specs.declared.openings.OpenFault.{OpenFault}
+use Rattle.ledger_tables.specs.declared.openings.OpenFault.TheVariants as opening
+use Rattle.office.specs.declared.commands.Command.{Command}
+use Rattle.office.specs.declared.commands.Command.TheVariants.{Job as OnJob}
+use Rattle.office.specs.declared.commands.JobCommand.{JobCommand}
+use Rattle.office.specs.declared.commands.JobCommand.TheVariants.{Cards, Lines}
+use Rattle.office.specs.declared.replies.Reply.{Reply}
+use Rattle.service.specs.Outcomes.{with_file}
+use Rattle.service.specs.declared.outcomes.Outcome.{Outcome}
+use Rattle.service.specs.declared.outcomes.Outcome.TheVariants as outcome
+
+-- the bytes that a writer has, if they are known
+abbrev pub Bytes : Type 0
+Bytes = Option (List ℕ)
+
+-- the outcome after a script that ended so, with a refusal or without one, and with so many
+-- commands acknowledged: what went wrong is on the output but for fault 2
+abbrev pub outcome_by : ScriptEnd → Bool → ℕ → Outcome
+outcome_by ended.Whole true acknowledged = outcome.Shown
+outcome_by ended.Whole false acknowledged = outcome.Done
+outcome_by ended.Bad refused acknowledged = outcome.Shown
+outcome_by (ended.Fault NoMemory) refused acknowledged = outcome.Shown
+outcome_by (ended.Fault Store) refused acknowledged = outcome.Stopped acknowledged
+outcome_by ended.ReadFailed refused acknowledged = outcome.Device
+outcome_by ended.WriteFailed refused acknowledged = outcome.Device
+
+-- the outcome after a script with this result
+abbrev pub outcome_of : Scripted → Outcome
+outcome_of it = outcome_by it.ended it.refused it.acknowledged
+
+-- a script's file could not be opened; or the script was carried out, its lines are on the output,
+-- and the outcome is that of its end, unless the output could not be flushed
+abbrev pub TellsApply : Bytes → Bytes → Outcome → List Command → List Reply → Type 0
+TellsApply old new own done replies =
+    ((own ≡ outcome.Device) × (done ≡ []) × (replies ≡ []) × Keeps old new)
+    ⊎ ((it : Scripted) × (input : Bytes) × (between : Bytes)
+    × TellsScript input old between it done replies × Keeps between new
+    × ((own ≡ outcome_of it) ⊎ (own ≡ outcome.Device)))
+
+-- commands were carried out, and nothing more is told of them
+abbrev pub IsSomeWork : List Command → List Reply → Type 0
+IsSomeWork done replies = ⊤
+
+-- unless it ended with fault 2, each command that was carried out was replied to
+abbrev pub TellsServe : Outcome → List Command → List Reply → Type 0
+TellsServe own done replies =
+    (length replies ≡ length done) ⊎ (own ≡ outcome.Fault opening.Store)
+
+-- the command is this one on the job of this name
+abbrev pub IsOnJob : List ℕ → ℕ → JobCommand → Command → Type 0
+IsOnJob customer number c (OnJob name place it) =
+    (string_bytes name ≡ customer) × (place ≡ number) × (it ≡ c)
+IsOnJob customer number c other = ⊥
+
+-- each command that was carried out is this one on the job of this name
+abbrev pub TellsAsked : List ℕ → ℕ → JobCommand → List Command → List Reply → Type 0
+TellsAsked customer number c done replies = AllByRecursion (IsOnJob customer number c) done
+
+-- each command that was carried out is a query for the job's cards or for its lines
+abbrev pub TellsExport : List ℕ → ℕ → List Command → List Reply → Type 0
+TellsExport customer number done replies = AllByRecursion
+    (λ it. IsOnJob customer number Cards it ⊎ IsOnJob customer number Lines it) done
+
+-- a script was applied to the bureau in a file, with this outcome and with these bytes on the
+-- output; or the file could not be opened, and nothing is on the output
+abbrev pub HasApplied : Outcome → Bytes → Bytes → Type 0
+HasApplied it old new =
+    ((fault : OpenFault) × (it ≡ outcome.Fault fault) × (new ≡ old))
+    ⊎ ((own : Outcome) × (file : Result (Unit {0}) OpenFault) × (it ≡ with_file file own)
+    × IsTold (TellsApply old new own))
