@@ -1,7 +1,7 @@
 //! Rounds of work on a bureau's files: they are opened, work is done, and then everything stops, or
 //! the file is closed.
 
-ghost use Rattle.std.specs.Prelude.{◌≡◌, ◌≤◌, Bool, IfOk, IfErr, IsTrue};
+ghost use Rattle.std.specs.Prelude.{◌≡◌, ◌≤◌, Bool, IfOk, IfErr, IsErrAnd, IsTrue};
 ghost use Rattle.sqlite.specs.FileStore as store;
 ghost use Rattle.sqlite.specs.FileStore.{recovers, view};
 ghost use Rattle.sqlite.specs.Files.{file_state};
@@ -78,7 +78,7 @@ pub fn finish<D: Disk + Drop>(
         → (file_state bureau.conn).may_leave db) }
     ensures cause { IfErr result (λ e. IsClean (view e.1)
         → HindersEnding bureau.broken bureau.conn e.1 e.0) }
-    ensures broken { IsTrue bureau.broken → IfErr result (λ e. e.0 ≡ OpenFault.Store) }
+    ensures broken { IsTrue bureau.broken → IsErrAnd result (λ e. e.0 ≡ OpenFault.Store) }
 {
     if bureau.broken() {
         return Err((OpenFault::Store, stop(bureau)));
