@@ -62,7 +62,7 @@ leaves_on db o first second acknowledged all are it =
 -- a bureau that is not broken has acknowledged all
 pub all_of : {S : Type 0} (g : Ghosts S) (old new : Held S) (commands : List Command) (n : ℕ) → IsEndOf g old new commands false n → (n ≡ length commands) × Continues g old new commands
 all_of g old new commands n (inl all) = all
-all_of g old new commands n (inr broken) = absurd broken.0
+all_of g old new commands n (inr broken) = absurd (let e = broken.0 in cc)
 
 module _ {S : Type 0} (g : Ghosts S) (old mid new : Held S) (first second : List Command) (early : doubt (state g mid).is_clean ≤ doubt (state g new).is_clean) where
   -- work after commands that were all acknowledged is work
