@@ -15,8 +15,8 @@ returns-clause-exchanged g c =
     (sym c.as_slice-bytes.ensures) c.in-Some.ensures.comes in
     (c.in-Some.message.status, c.as_slice-bytes.result.now, comes, c.in-Failed.ensures.0, c.in-Failed.ensures.1)
 
-pub returns-in_default-message-clause-works : goal.returns-in_default-message-clause-works
-returns-in_default-message-clause-works g c =
+pub returns-in_default-clause-works : goal.returns-in_default-clause-works
+returns-in_default-clause-works g c =
     worked_still c.kept_offices_run_whole.ensures g.S.Store c.args.bureau.now.conn c.answer_next.new.bureau.conn c.answer_next.new.bureau.broken _ (λ clean o s. s) (refl, refl)
 
 pub returns-in-Whole-clause-works : goal.returns-in-Whole-clause-works

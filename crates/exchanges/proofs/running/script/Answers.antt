@@ -19,20 +19,20 @@ returns-in-Ok-parse-clause-end g c = inr (
 
 pub returns-in-Err-NoMemory-parse-clause-end : goal.returns-in-Err-NoMemory-parse-clause-end
 returns-in-Err-NoMemory-parse-clause-end g c =
-    inl (refl, refl, c.give_up-in-Err-NoMemory-parse.ensures.none, inr (inl c.give_up-in-Err-NoMemory-parse.ensures.end))
+    inl (refl, refl, (c.give_up-in-Err-NoMemory-parse.ensures.none, inr (inl c.give_up-in-Err-NoMemory-parse.ensures.end)))
 
 pub returns-in-Err-TooLong-clause-end : goal.returns-in-Err-TooLong-clause-end
 returns-in-Err-TooLong-clause-end g c =
     let found = subst (IsFaultOf c.deref.result.now) c.in-Err-TooLong.field-0-is c.in-Err-TooLong.ensures.fault in
     let bad = read_bad (g.R.Read.remaining c.args.reader.now) c.in-Ok.bytes.items c.deref.result.now fault.TooLong c.in-Ok.ensures c.deref.ensures.value found in
-    inl (refl, refl, c.turn_down.ensures.none, inr (inr (fault.TooLong, long_is_other, bad, c.turn_down.ensures.end)))
+    inl (refl, refl, (c.turn_down.ensures.none, inr (inr (fault.TooLong, long_is_other, bad, c.turn_down.ensures.end))))
 
 pub returns-clause-end : goal.returns-clause-end
 returns-clause-end g c =
     let number = c.in-Err-BadLine.number in
     let found = subst (IsFaultOf c.deref.result.now) c.in-Err-BadLine.field-0-is c.in-Err-BadLine.ensures.fault in
     let bad = read_bad (g.R.Read.remaining c.args.reader.now) c.in-Ok.bytes.items c.deref.result.now (fault.BadLine number) c.in-Ok.ensures c.deref.ensures.value found in
-    inl (refl, refl, c.turn_down-in-Err-BadLine.ensures.none, inr (inr (fault.BadLine number, line_is_other number, bad, c.turn_down-in-Err-BadLine.ensures.end)))
+    inl (refl, refl, (c.turn_down-in-Err-BadLine.ensures.none, inr (inr (fault.BadLine number, line_is_other number, bad, c.turn_down-in-Err-BadLine.ensures.end))))
 
 -- ---- the work
 
@@ -47,24 +47,24 @@ returns-in-Ok-parse-clause-works g c =
 pub returns-in-Err-NoMemory-clause-works : goal.returns-in-Err-NoMemory-clause-works
 returns-in-Err-NoMemory-clause-works g c =
     worked_still c.kept_offices_run_whole.ensures g.S.Store c.args.bureau.now.conn c.args.bureau.now.conn c.args.bureau.now.broken _ (λ clean o s. s)
-    (inl (refl, refl, c.give_up.ensures.none, inr (inl c.give_up.ensures.end)))
+    (inl (refl, refl, (c.give_up.ensures.none, inr (inl c.give_up.ensures.end))))
 
 pub returns-in-Err-ReadFailed-clause-works : goal.returns-in-Err-ReadFailed-clause-works
 returns-in-Err-ReadFailed-clause-works g c =
     worked_still c.kept_offices_run_whole.ensures g.S.Store c.args.bureau.now.conn c.args.bureau.now.conn c.args.bureau.now.broken _ (λ clean o s. s)
-    (inl (refl, refl, (refl, refl), inl (refl, refl, refl)))
+    (inl (refl, refl, ((refl, refl), inl (refl, refl, refl))))
 
 pub returns-in-Err-NoMemory-parse-clause-works : goal.returns-in-Err-NoMemory-parse-clause-works
 returns-in-Err-NoMemory-parse-clause-works g c =
     worked_still c.kept_offices_run_whole.ensures g.S.Store c.args.bureau.now.conn c.args.bureau.now.conn c.args.bureau.now.broken _ (λ clean o s. s)
-    (inl (refl, refl, c.give_up-in-Err-NoMemory-parse.ensures.none, inr (inl c.give_up-in-Err-NoMemory-parse.ensures.end)))
+    (inl (refl, refl, (c.give_up-in-Err-NoMemory-parse.ensures.none, inr (inl c.give_up-in-Err-NoMemory-parse.ensures.end))))
 
 pub returns-in-Err-TooLong-clause-works : goal.returns-in-Err-TooLong-clause-works
 returns-in-Err-TooLong-clause-works g c =
     let found = subst (IsFaultOf c.deref.result.now) c.in-Err-TooLong.field-0-is c.in-Err-TooLong.ensures.fault in
     let bad = read_bad (g.R.Read.remaining c.args.reader.now) c.in-Ok.bytes.items c.deref.result.now fault.TooLong c.in-Ok.ensures c.deref.ensures.value found in
     worked_still c.kept_offices_run_whole.ensures g.S.Store c.args.bureau.now.conn c.args.bureau.now.conn c.args.bureau.now.broken _ (λ clean o s. s)
-    (inl (refl, refl, c.turn_down.ensures.none, inr (inr (fault.TooLong, long_is_other, bad, c.turn_down.ensures.end))))
+    (inl (refl, refl, (c.turn_down.ensures.none, inr (inr (fault.TooLong, long_is_other, bad, c.turn_down.ensures.end)))))
 
 pub returns-clause-works : goal.returns-clause-works
 returns-clause-works g c =
@@ -72,7 +72,7 @@ returns-clause-works g c =
     let found = subst (IsFaultOf c.deref.result.now) c.in-Err-BadLine.field-0-is c.in-Err-BadLine.ensures.fault in
     let bad = read_bad (g.R.Read.remaining c.args.reader.now) c.in-Ok.bytes.items c.deref.result.now (fault.BadLine number) c.in-Ok.ensures c.deref.ensures.value found in
     worked_still c.kept_offices_run_whole.ensures g.S.Store c.args.bureau.now.conn c.args.bureau.now.conn c.args.bureau.now.broken _ (λ clean o s. s)
-    (inl (refl, refl, c.turn_down-in-Err-BadLine.ensures.none, inr (inr (fault.BadLine number, line_is_other number, bad, c.turn_down-in-Err-BadLine.ensures.end))))
+    (inl (refl, refl, (c.turn_down-in-Err-BadLine.ensures.none, inr (inr (fault.BadLine number, line_is_other number, bad, c.turn_down-in-Err-BadLine.ensures.end)))))
 
 -- ---- a broken bureau
 
