@@ -1,5 +1,6 @@
 -- Why a close fails.
-use Rattle.std.proofs.Common.{◌≡◌, inl, inr, subst}
+use Rattle.std.proofs.Common.{◌≡◌, inl, inr, subst, Bool, Result, Ok, Err}
+use Rattle.std.specs.Prelude.{IfErr}
 use Rattle.sqlite_disk.specs.declared.Disk.{Ghosts}
 use Rattle.sqlite_store.specs.declared.store.FileStore.{FileStore}
 use Rattle.sqlite_trees.specs.declared.error.StoreError.{StoreError}
@@ -12,7 +13,9 @@ use Rattle.sqlite.specs.declared.error.Error.TheVariants.{SqliteFailure}
 use Rattle.sqlite.specs.declared.error.ErrorCode.TheVariants as code
 use Rattle.ledger_tables.specs.declared.openings.OpenFault.{OpenFault}
 use Rattle.ledger_tables.specs.declared.openings.OpenFault.TheVariants.{NoMemory}
-use Rattle.ledger_files.specs.Closing.{HindersClosing}
+use Rattle.sqlite.specs.FileStore.{view}
+use Rattle.sqlite.specs.View.{IsClean}
+use Rattle.ledger_files.specs.Closing.{HindersClosing, HindersEnding}
 
 module _ {D : Type 0} {g : Ghosts D} (left : FileStore D g) (error : Error) (fault : OpenFault) (memory : error ≡ SqliteFailure code.OutOfMemory → fault ≡ NoMemory) where
   -- what excuses the store's close hinders the bureau's
@@ -26,3 +29,9 @@ module _ {D : Type 0} {g : Ghosts D} (left : FileStore D g) (error : Error) (fau
 
   pub hinders : (bureau conn : Held (FileStore D g)) → conn ≡ bureau → FailsToClose conn left error → HindersClosing bureau left fault
   hinders bureau conn same fails = subst (λ h. HindersClosing h left fault) same (excused conn fails.0 fails.1 fails.2)
+
+-- what hinders the closing hinders the end of the work
+pub ends_hindered : {X D : Type 0} {g : Ghosts D} (is_broken : Bool) (conn : Held (FileStore D g)) (result : Result X (OpenFault × FileStore D g))
+    → IfErr result (λ e. IsClean (view e.1) → HindersClosing conn e.1 e.0) → IfErr result (λ e. IsClean (view e.1) → HindersEnding is_broken conn e.1 e.0)
+ends_hindered is_broken conn (Ok files) cause = tt
+ends_hindered is_broken conn (Err left) cause clean = inr (cause clean)

@@ -1,5 +1,7 @@
 use Rattle.std.proofs.Common.{List, refl, subst, sym, ℕ}
 use Rattle.ledger.proofs.WorkLemmas.{worked_so, worked_still}
+use Rattle.sqlite.specs.Held.{state}
+use Rattle.ledger.specs.Standing.{Stands}
 use Rattle.exchanges.specs.Exchanges.{Comes}
 use Rattle.exchanges.proofs.exchanging.exchange.Goals as goal
 
@@ -17,7 +19,8 @@ returns-clause-exchanged g c =
 
 pub returns-in_default-clause-works : goal.returns-in_default-clause-works
 returns-in_default-clause-works g c =
-    worked_still c.kept_offices_run_whole.ensures g.S.Store c.args.bureau.now.conn c.answer_next.new.bureau.conn c.answer_next.new.bureau.broken _ (λ clean o s. s) (refl, refl)
+    worked_still c.kept_offices_run_whole.ensures g.S.Store c.args.bureau.now.conn c.answer_next.new.bureau.conn c.answer_next.new.bureau.broken _
+    (λ clean o s. subst (λ b. Stands (state g.S.Store b.conn) o) (sym c.in_default.ensures.none.0) s) (refl, refl)
 
 pub returns-in-Whole-clause-works : goal.returns-in-Whole-clause-works
 returns-in-Whole-clause-works g c = c.in-Some.ensures.works
