@@ -1,10 +1,14 @@
 -- One transaction, from its start to its commit.
-use Rattle.std.proofs.Common.{◌≡◌, ◌⊎◌, inl, inr, false, IsTrue, sym, ap, subst, ◌∙◌}
+use Rattle.std.proofs.Common.{◌≡◌, ◌⊎◌, inl, inr, false, IsTrue, Result, Ok, Err, refl, sym, ap, subst, ◌∙◌}
 use Rattle.sqlite.specs.Tree.{Trees}
+use Rattle.sqlite.specs.Held.{Held, state}
+use Rattle.sqlite_trees.specs.declared.store.Store.{Ghosts}
 use Rattle.sqlite.specs.Effect.{Database}
 use Rattle.sqlite.specs.State.{State, HasCleanDisk, Shows, IsRolledBack, KeepsCommit, Survives}
 use Rattle.ledger_tables.specs.Schema.{bureau_schema}
+use Rattle.ledger_tables.specs.Steps.{Frames}
 use Rattle.office.specs.Office.{Office}
+use Rattle.ledger.specs.Adopting.{IsUntouched, begun}
 use Rattle.ledger.specs.Standing.{Rows, StandsIn, LeftAs, Stands}
 
 -- the trees alone tell the office
@@ -43,3 +47,37 @@ left_either old begun mid new office next same early one two s served clean db m
   | inl before ↦ elim (one.crash (early clean) db before) [ inl first ↦ inl (s.left db (same db first)) | inr none ↦ absurd none ]
   | inr made ↦ inr (subst (λ d. LeftAs d next) (sym made) (left_as mid.now next served))
 ]
+
+-- whatever came of a step inside, the last commit is as it was
+pub kept_by : {X E : Type 0} (a b : State) (r : Result X E) → Frames a b r → KeepsCommit a b
+kept_by a b (Ok x) p = p.kept
+kept_by a b (Err e) p = p
+
+-- a transaction that did nothing but what was rolled back
+pub untouched : (old mid new : State) → (IsTrue old.is_open → old.now ≡ old.committed) → old.in_transaction ≡ false → KeepsCommit old mid → IsRolledBack mid new → ((db : Trees) → new.may_leave db → old.may_leave db) → IsUntouched old new
+untouched old mid new settled outside kept back less = record {
+  was_open = λ opened. kept.was_open (back.was_open opened);
+  now = λ opened.
+      let mid_open = back.was_open opened in
+      (back.undone opened).0 ∙ kept.committed mid_open ∙ sym (settled (kept.was_open mid_open));
+  committed = λ opened. (back.undone opened).1 ∙ kept.committed (back.was_open opened);
+  mode = back.autocommit ∙ sym outside;
+  left = less;
+}
+
+-- no call at all
+pub still_untouched : (s : State) → IsUntouched s s
+still_untouched s = record { was_open = λ h. h; now = λ _. refl; committed = λ _. refl; mode = refl; left = λ db h. h }
+
+-- .. from its start to its rollback
+pub rolled_untouched : {S : Type 0} (g : Ghosts S) (old tx mid end : Held S) → tx ≡ begun old → (IsTrue (state g old).is_open → (state g old).now ≡ (state g old).committed) → old.in_transaction ≡ false
+    → KeepsCommit (state g tx) (state g mid) → Survives (state g tx) (state g mid) (λ _. ⊥) → HasCleanDisk (state g mid) → IsRolledBack (state g mid) (state g end) → Survives (state g mid) (state g end) (λ _. ⊥) → HasCleanDisk (state g end)
+    → IsUntouched (state g old) (state g end)
+rolled_untouched g old tx mid end is settled outside kept one early back two late =
+    let here : KeepsCommit (state g (begun old)) (state g mid) = subst (λ h. KeepsCommit (state g h) (state g mid)) is kept in
+    let first : Survives (state g (begun old)) (state g mid) (λ _. ⊥) = subst (λ h. Survives (state g h) (state g mid) (λ _. ⊥)) is one in
+    untouched (state g old) (state g mid) (state g end) settled outside (record { was_open = here.was_open; committed = here.committed }) back
+    (λ db may. elim (two.crash late db may) [
+      | inr none ↦ absurd none
+      | inl before ↦ elim (first.crash early db before) [ inl first_may ↦ first_may | inr none ↦ absurd none ]
+    ])

@@ -1,13 +1,15 @@
 //! The bureau: each command in one transaction, whose commit is the last call of the store.
 
-ghost use Rattle.std.specs.Prelude.{◌≡◌, ◌⊎◌, ◌≤◌, [], false, Err, IsTrue, IfOk, IfErr, OnOk, IsErrOf};
+ghost use Rattle.std.specs.Prelude.{◌≡◌, ◌⊎◌, ◌≤◌, [], true, false, None, Err, IsTrue, IfOk, IfErr, OnOk, IsErrAnd, IsErrOf};
 ghost use Rattle.sqlite.specs.Held.{state};
 ghost use Rattle.sqlite.specs.State.{HasCleanDisk};
 ghost use Rattle.sqlite.specs.View.{doubt};
+ghost use Rattle.ledger_tables.specs.Making.{is_taken};
 ghost use Rattle.ledger_tables.specs.Schema.{no_schema};
+ghost use Rattle.ledger_tables.specs.Versions.{IsAnswer};
 ghost use Rattle.office.specs.Meters.{RisenAtMost};
-ghost use Rattle.office.specs.Office.{served, take, attempted_by, attempted, limit_of};
-ghost use Rattle.ledger.specs.Adopting.{StandsStill, IsNoFaultOfTables, HasOwnVersion};
+ghost use Rattle.office.specs.Office.{early_refusal, served, take, attempted_by, attempted, limit_of};
+ghost use Rattle.ledger.specs.Adopting.{StandsStill, IsNoFaultOfTables, HasOwnVersion, IsTold, MakesNothing, handed, verdict};
 ghost use Rattle.ledger.specs.Replying.{Replies, Rises, RisesAtMost, KeepsOffice, LeavesEither, MakesOffice, LeavesNone};
 ghost use Rattle.ledger.specs.Standing.{Stands, IsAsBefore};
 
@@ -50,6 +52,8 @@ fn transact<S: Alter>(
     ensures most { RisenAtMost (limit_of command.now) meter.old meter.new }
     ensures no_memory { KeepsOffice S.Store conn.old conn.new result }
     ensures crash { LeavesEither S.Store conn.old conn.new (served command.now) }
+    ensures opened { HasCleanDisk (state S.Store conn.new)
+        → OnOk result (IsTrue (state S.Store conn.new).is_open) }
     ensures clean { doubt (state S.Store conn.old).is_clean
         ≤ doubt (state S.Store conn.new).is_clean }
 {
@@ -75,6 +79,13 @@ fn make<S: Alter>(alloc: Global, conn: &mut Connection<S>) -> Result<(), Fault>
     ensures no_memory { HasCleanDisk (state S.Store conn.new) → IsErrOf result Fault.NoMemory
         → IsAsBefore (state S.Store conn.old) (state S.Store conn.new) }
     ensures made { MakesOffice S.Store conn.old conn.new result }
+    ensures new { HasCleanDisk (state S.Store conn.new)
+        → OnOk result (is_taken (state S.Store conn.old).now.schema ≡ false) }
+    ensures opened { HasCleanDisk (state S.Store conn.new)
+        → OnOk result (IsTrue (state S.Store conn.new).is_open) }
+    ensures taken { HasCleanDisk (state S.Store conn.new)
+        → is_taken (state S.Store conn.old).now.schema ≡ true
+        → IsErrAnd result (MakesNothing S.Store conn.old conn.new) }
     ensures crash { LeavesNone S.Store conn.old conn.new }
 {
     if !conn.is_autocommit() {
@@ -100,6 +111,9 @@ fn look<S: Alter>(alloc: Global, conn: &mut Connection<S>) -> Result<(), OpenFau
     ensures stands { StandsStill S.Store conn.old conn.new }
     ensures known { IfErr result (IsNoFaultOfTables S.Store conn.old conn.new) }
     ensures version { OnOk result (HasOwnVersion S.Store conn.old conn.new) }
+    ensures told { IsTold S.Store conn.old conn.new result }
+    ensures answer { HasCleanDisk (state S.Store conn.new)
+        → IsAnswer (state S.Store conn.old).now result }
     ensures clean { doubt (state S.Store conn.old).is_clean
         ≤ doubt (state S.Store conn.new).is_clean }
 {
@@ -126,6 +140,9 @@ impl<S: Alter> Bureau<S> {
         ensures crash { LeavesEither S.Store self.old.conn self.new.conn (take command.now) }
         ensures broken { IsErrOf result Fault.Store → IsTrue self.new.broken }
         ensures kept { (self.new.broken ≡ self.old.broken) ⊎ IsErrOf result Fault.Store }
+        ensures opened { HasCleanDisk (state S.Store self.new.conn)
+            → early_refusal command.now ≡ None
+            → OnOk result (IsTrue (state S.Store self.new.conn).is_open) }
         ensures ended { IsTrue self.old.broken
             → (result ≡ Err Fault.Store) × (self.new ≡ self.old) × (meter.new ≡ meter.old) }
         ensures clean { doubt (state S.Store self.old.conn).is_clean
@@ -153,8 +170,9 @@ impl<S: Alter> Bureau<S> {
 }
 
 impl<S: Alter + Drop> Bureau<S> {
-    /// Creates a bureau without jobs, in a store without tables. After fault 1 nothing was created;
-    /// after fault 2 the tables are there or not, and the file has to be opened again.
+    /// Creates a bureau without jobs, in a store without tables. It fails with 2 if a name of its
+    /// tables is taken, and nothing is changed then. After fault 1 nothing was created; else after
+    /// fault 2 the tables are there or not, and the file has to be opened again.
     pub fn create(
         alloc: Global,
         mut conn: Connection<S>,
@@ -162,6 +180,13 @@ impl<S: Alter + Drop> Bureau<S> {
         ensures made { IfOk result (λ bureau. HasCleanDisk (state S.Store bureau.conn)
             → (state S.Store conn).now.schema ≡ no_schema → Stands (state S.Store bureau.conn) []) }
         ensures whole { IfOk result (λ bureau. bureau.broken ≡ false) }
+        ensures new { HasCleanDisk (state S.Store (handed result))
+            → OnOk result (is_taken (state S.Store conn).now.schema ≡ false) }
+        ensures opened { IfOk result (λ bureau. HasCleanDisk (state S.Store bureau.conn)
+            → IsTrue (state S.Store bureau.conn).is_open) }
+        ensures taken { HasCleanDisk (state S.Store (handed result))
+            → is_taken (state S.Store conn).now.schema ≡ true
+            → IsErrAnd (verdict result) (MakesNothing S.Store conn (handed result)) }
         ensures no_memory { IfErr result (λ e. HasCleanDisk (state S.Store e.1)
             → e.0 ≡ Fault.NoMemory → IsAsBefore (state S.Store conn) (state S.Store e.1)) }
         ensures crash { IfErr result (λ e. LeavesNone S.Store conn e.1) }
@@ -186,6 +211,9 @@ impl<S: Alter + Drop> Bureau<S> {
         ensures stands { IfOk result (λ bureau. StandsStill S.Store conn bureau.conn) }
         ensures whole { IfOk result (λ bureau. bureau.broken ≡ false) }
         ensures version { IfOk result (λ bureau. HasOwnVersion S.Store conn bureau.conn) }
+        ensures told { IsTold S.Store conn (handed result) (verdict result) }
+        ensures answer { HasCleanDisk (state S.Store (handed result))
+            → IsAnswer (state S.Store conn).now (verdict result) }
         ensures kept { IfErr result (λ e. StandsStill S.Store conn e.1) }
         ensures known { IfErr result (λ e. IsNoFaultOfTables S.Store conn e.1 e.0) }
         ensures clean { IfOk result (λ bureau. doubt (state S.Store conn).is_clean

@@ -1,12 +1,19 @@
 -- What an open finds.
-use Rattle.std.proofs.Common.{◌≡◌, IsTrue, sym, ap, subst, ◌∙◌}
+use Rattle.std.proofs.Common.{◌≡◌, IsTrue, Err, refl, sym, ap, ap₂, subst, ◌∙◌}
 use Rattle.sqlite.specs.Tree.{Trees}
-use Rattle.sqlite.specs.Effect.{Database}
+use Rattle.sqlite.specs.Effect.{Database, IsDatabase}
 use Rattle.sqlite.specs.State.{State, Opens, IsLive}
+use Rattle.sqlite_catalog.specs.Listing.{Lists}
 use Rattle.sqlite_catalog.proofs.ReadLemmas.{lists_once}
+use Rattle.sqlite_trees.specs.Objects.{catalog_tree}
 use Rattle.ledger_tables.specs.Schema.{bureau_schema}
+use Rattle.ledger_tables.specs.Versions.{IsAnswer, IsKnown}
+use Rattle.ledger_tables.specs.declared.openings.OpenFault.{OpenFault}
+use Rattle.ledger_tables.specs.declared.openings.OpenFault.TheVariants.{NoMemory, Store, NotABureau, Old}
 use Rattle.office.specs.Office.{Office}
+use Rattle.ledger.specs.Adopting.{IsUntouched}
 use Rattle.ledger.specs.Standing.{Rows, LeftAs, Stands}
+use Rattle.ledger_files.specs.Opening.{HoldsOnly}
 
 -- while the store is open, a crash leaves the last commit alone
 abbrev pub Settles : State → Type 0
@@ -22,3 +29,25 @@ found_stands s office settles opens live here =
       now = λ _. subst (λ d. Rows d office) (same ∙ sym opens.clean) here;
       left = λ d may. subst (λ t. LeftAs t office) (sym (settles d opens.is_open may)) here;
     }
+
+-- a connection that was just opened holds its last commit alone
+pub found_holds : (s : State) → Settles s → Opens s → HoldsOnly s s.committed.trees
+found_holds s settles opens = record { now = λ _. ap (λ (d : Database). d.trees) opens.clean; left = λ db may. settles db opens.is_open may }
+
+-- what is left untouched holds what it held
+pub still_holds : (old new : State) (db : Trees) → IsUntouched old new → IsTrue old.is_open → HoldsOnly old db → HoldsOnly new db
+still_holds old new db same opened held = record { now = λ is_open. ap (λ (d : Database). d.trees) (same.now is_open) ∙ held.now opened; left = λ after may. held.left after (same.left after may) }
+
+-- the database that was found is the one with the same trees
+pub found_is : (s : State) (db : Database) → Opens s → IsLive s → IsDatabase db → s.committed.trees ≡ db.trees → s.now ≡ db
+found_is s db opens live sound same =
+    let here = (live opens.is_open).1 in
+    let schema : s.committed.schema ≡ db.schema = lists_once _ s.committed.schema db.schema here.lists (subst (λ t. Lists (t catalog_tree) db.schema) (sym same) sound.lists) in
+    opens.clean ∙ ap₂ (λ k t. let d : Database = record { schema = k; trees = t } in d) schema same
+
+-- the two faults may come for any database
+pub known_answer : (X : Type 0) (db : Database) (fault : OpenFault) → IsKnown fault → IsAnswer {X = X} db (Err fault)
+known_answer X db NoMemory known = tt
+known_answer X db Store known = tt
+known_answer X db NotABureau known = absurd (known.0 refl)
+known_answer X db Old known = absurd (known.1 refl)

@@ -1,14 +1,30 @@
 -- files that hold a bureau's database
+<<<<<<< HEAD
 use Rattle.std.specs.Prelude.{◌≡◌, Bool, IsTrue, ⊤}
+=======
+use Rattle.std.specs.Prelude.{◌≡◌, ◌⊎◌, Bool, IsTrue, List, [], ◌∷◌, Result, Ok, Err, ⊤}
+>>>>>>> 09821bbfd8e3f05277dd8f5a530ca4102dbf4e73
 use Rattle.sqlite_disk.specs.declared.Disk.{Ghosts}
+use Rattle.sqlite_disk.specs.declared.Files.{Files}
 use Rattle.sqlite_pool.specs.Stored.{is_summed}
 use Rattle.sqlite_store.specs.Unopened.{state_of}
 use Rattle.sqlite.specs.Tree.{Trees}
 use Rattle.sqlite.specs.Recovery.{Image}
 use Rattle.sqlite.specs.WalFiles.{outcomes}
 use Rattle.sqlite.specs.FileStore.{recovers}
-use Rattle.sqlite.specs.State.{HasCleanDisk}
-use Rattle.sqlite.specs.Files.{HoldsDatabase, file_state, IsCleanLeft}
+use Rattle.sqlite.specs.State.{State, HasCleanDisk}
+use Rattle.sqlite.specs.Effect.{Database, IsDatabase}
+use Rattle.sqlite.specs.Files.{HoldsDatabase, FailsToOpenFiles, IsOpened, file_state, image_of, over_files, IsCleanLeft}
+use Rattle.sqlite.specs.Held.{Held}
+use Rattle.sqlite.specs.Start.{FindsIn}
+use Rattle.sqlite.specs.declared.error.Error.{Error}
+use Rattle.sqlite.specs.declared.error.Error.TheVariants.{SqliteFailure}
+use Rattle.sqlite.specs.declared.error.ErrorCode.TheVariants.{OutOfMemory, CannotOpen, DatabaseBusy}
+use Rattle.sqlite_store.specs.declared.store.FileStore.{FileStore}
+use Rattle.ledger_tables.specs.Versions.{IsAnswer, IsKnown}
+use Rattle.ledger_tables.specs.declared.openings.OpenFault.{OpenFault}
+use Rattle.ledger_tables.specs.declared.openings.OpenFault.TheVariants.{NoMemory, Store}
+use Rattle.ledger.specs.Adopting.{IsTold}
 use Rattle.sqlite.specs.declared.file.Leftover.{Leftover}
 use Rattle.sqlite.specs.declared.file.Leftover.TheVariants as left
 use Rattle.office.specs.Office.{Office}
@@ -47,3 +63,43 @@ module _ {D : Type 0} {g : Ghosts D} where
   IsCleanKept (kept.Connection conn) = HasCleanDisk (file_state conn)
   IsCleanKept (kept.Left rest) = IsCleanLeft rest
   IsCleanKept kept.Nothing = ⊤
+
+-- the fault that is told of an error by which files could not be opened: 1 for want of memory, else 2
+abbrev pub store_fault : Error → OpenFault
+store_fault (SqliteFailure OutOfMemory) = NoMemory
+store_fault _ = Store
+
+-- the answer is right for whatever database the two files hold
+abbrev pub IsAnswerFor : Image → Result ⊤ OpenFault → Type 0
+IsAnswerFor image answer =
+    (db : Database) → HoldsDatabase image db.trees → IsDatabase db → IsAnswer db answer
+
+-- the connection, if it is open, sees these trees, and a crash leaves no others
+pub record HoldsOnly (s : State) (db : Trees) : Type 0 where
+  pub now : IsTrue s.is_open → s.now.trees ≡ db
+  pub left : (after : Trees) → s.may_leave after → after ≡ db
+
+module _ {D : Type 0} {g : Ghosts D} where
+  -- the files were opened, and what is handed back still holds this database alone; or they were
+  -- not, and the fault is not that they are no bureau's or an old one's
+  abbrev pub KeptHolds : OpenFault → Kept D g → Trees → Type 0
+  KeptHolds fault (kept.Connection conn) db = HoldsOnly (file_state conn) db
+  KeptHolds fault (kept.Left rest) db = IsKnown fault
+  KeptHolds fault kept.Nothing db = IsKnown fault
+
+  -- the files of this image were opened, and the answer is told right of the connection to them
+  abbrev pub IsToldOpen : Image → Held (FileStore D g) → Result ⊤ OpenFault → Type 0
+  IsToldOpen image conn answer = (first : Held (FileStore D g)) × IsOpened first
+      × FindsIn image (file_state first) × IsTold over_files first conn answer
+
+  -- the fault is told right, by what is handed back: of an open connection, or of the error by
+  -- which the files of this image could not be opened, or not be reached
+  abbrev pub IsToldOf : Image → OpenFault → Kept D g → Type 0
+  IsToldOf image fault (kept.Connection conn) = IsToldOpen image conn (Err fault)
+  IsToldOf image fault (kept.Left rest) = (error : Error) × (files : Files D)
+      × (image_of g files ≡ image) × FailsToOpenFiles files rest error
+      × (fault ≡ store_fault error)
+  IsToldOf image fault kept.Nothing = (error : Error)
+      × ((error ≡ SqliteFailure CannotOpen)
+      ⊎ ((error ≡ SqliteFailure OutOfMemory) ⊎ (error ≡ SqliteFailure DatabaseBusy)))
+      × (fault ≡ store_fault error)

@@ -71,8 +71,8 @@ module _ {D : Type 0} {g : Ghosts D} where
         → (store.state left).may_leave image
         → LeadsBy commands replies (has_sums, files) ((view left).has_sums, image)
 
--- this is told of some commands that were carried out, and of the replies to them
-pub record IsTold (Tells : List Command → List Reply → Type 0) : Type 0 where
+-- some commands were carried out and replied to, of which this is told
+pub record IsWork (Tells : List Command → List Reply → Type 0) : Type 0 where
   pub commands : List Command
   pub replies : List Reply
   pub told : Tells commands replies

@@ -1,16 +1,18 @@
 //! Opening a bureau's file.
 
-ghost use Rattle.std.specs.Prelude.{◌≡◌, ◌≤◌, Bool, IfOk, IfErr};
+ghost use Rattle.std.specs.Prelude.{◌≡◌, ◌≤◌, false, Ok, Err, Bool, IsTrue, IfOk, IfErr};
+ghost use Rattle.sqlite.specs.Effect.{Database, IsDatabase};
 ghost use Rattle.sqlite.specs.Held.{state};
-ghost use Rattle.sqlite.specs.Files.{file_state};
+ghost use Rattle.sqlite.specs.Files.{file_state, HoldsDatabase};
 ghost use Rattle.sqlite.specs.State.{HasCleanDisk, Opens, IsLive};
+ghost use Rattle.sqlite.specs.Tree.{Trees};
 ghost use Rattle.sqlite.specs.View.{doubt};
 ghost use Rattle.sqlite.specs.WalFiles.{image_at};
-ghost use Rattle.ledger_tables.specs.Versions.{IsKnown};
+ghost use Rattle.ledger_tables.specs.Versions.{IsAnswer, IsKnown};
 ghost use Rattle.office.specs.Office.{Office};
-ghost use Rattle.ledger.specs.Adopting.{StandsStill, IsNoFaultOfTables};
+ghost use Rattle.ledger.specs.Adopting.{StandsStill, IsNoFaultOfTables, IsTold, handed, verdict};
 ghost use Rattle.ledger.specs.Standing.{LeftAs, Stands};
-ghost use Rattle.ledger_files.specs.Opening.{AreOf, KeptStands, IsCleanKept};
+ghost use Rattle.ledger_files.specs.Opening.{AreOf, KeptStands, IsCleanKept, store_fault, IsAnswerFor, HoldsOnly, KeptHolds, IsToldOpen, IsToldOf};
 
 use crate::kept::Kept;
 use ledger::Bureau;
@@ -18,12 +20,14 @@ use ledger_tables::OpenFault;
 use sqlite::{Alter, Connection, Error, ErrorCode, FileFrom, FileStore, Start};
 use std::alloc::Global;
 
-/// Proves that a connection that was just opened represents the office of its trees. It is called
-/// only for its clause.
+/// Proves that a connection that was just opened represents the office of its trees, and that a
+/// crash leaves its trees alone. It is called only for its clauses.
 fn opened_stands<S: Alter>(conn: &Connection<S>)
-    ensures { Opens (state S.Store conn.now) → IsLive (state S.Store conn.now)
+    ensures stands { Opens (state S.Store conn.now) → IsLive (state S.Store conn.now)
         → (office : Office) → LeftAs (state S.Store conn.now).committed.trees office
         → Stands (state S.Store conn.now) office }
+    ensures holds { Opens (state S.Store conn.now)
+        → HoldsOnly (state S.Store conn.now) (state S.Store conn.now).committed.trees }
 {}
 
 /// Adopts a connection that was just opened: the bureau represents the office of its trees.
@@ -35,6 +39,13 @@ fn adopted<S: Alter + Drop>(
     ensures opened { Opens (state S.Store conn) → IsLive (state S.Store conn)
         → (office : Office) → LeftAs (state S.Store conn).committed.trees office
         → Stands (state S.Store conn) office }
+    ensures holds { HasCleanDisk (state S.Store (handed result)) → Opens (state S.Store conn)
+        → HoldsOnly (state S.Store (handed result)) (state S.Store conn).committed.trees }
+    ensures whole { IfOk result (λ bureau. bureau.broken ≡ false) }
+    ensures told { IsTold S.Store conn (handed result) (verdict result) }
+    ensures answer { HasCleanDisk (state S.Store (handed result)) → Opens (state S.Store conn)
+        → IsLive (state S.Store conn) → (db : Database) → IsDatabase db
+        → (state S.Store conn).committed.trees ≡ db.trees → IsAnswer db (verdict result) }
     ensures stands { IfOk result (λ bureau. StandsStill S.Store conn bureau.conn) }
     ensures kept { IfErr result (λ e. StandsStill S.Store conn e.1) }
     ensures known { IfErr result (λ e. IsNoFaultOfTables S.Store conn e.1 e.0) }
@@ -51,6 +62,7 @@ fn adopted<S: Alter + Drop>(
 pub(crate) fn store_fault_of(error: Error) -> OpenFault
     ensures memory { error ≡ Error.SqliteFailure ErrorCode.OutOfMemory
         → result ≡ OpenFault.NoMemory }
+    ensures told { result ≡ store_fault error }
     ensures known { IsKnown result }
 {
     match error {
@@ -61,7 +73,8 @@ pub(crate) fn store_fault_of(error: Error) -> OpenFault
 
 /// Opens the file at a path as a bureau. Fails with 50 if it is not a bureau's or is of a later
 /// version, with 51 if it is of an earlier version, with 1 if there is no memory, and else with 2.
-/// The contents of the files are then handed back, as far as they were reached.
+/// The contents of the files are then handed back, as far as they were reached; after 50 and 51 they
+/// hold what they held.
 pub fn open_from<S: Start>(
     rt: &HostRuntime,
     path: &str,
@@ -74,6 +87,18 @@ pub fn open_from<S: Start>(
         → AreOf has_sums (image_at S.Start) office → KeptStands has_sums e.1 office) }
     ensures known { IfErr result (λ e. IsCleanKept e.1 → (has_sums : Bool) → (office : Office)
         → AreOf has_sums (image_at S.Start) office → IsKnown e.0) }
+    ensures whole { IfOk result (λ bureau. bureau.broken ≡ false) }
+    ensures version { IfOk result (λ bureau. HasCleanDisk (file_state bureau.conn)
+        → IsAnswerFor (image_at S.Start) (Ok tt)) }
+    ensures answer { IfErr result (λ e. IsCleanKept e.1
+        → IsAnswerFor (image_at S.Start) (Err e.0)) }
+    ensures opened { IfOk result (λ bureau. HasCleanDisk (file_state bureau.conn)
+        → IsToldOpen (image_at S.Start) bureau.conn (Ok tt)) }
+    ensures told { IfErr result (λ e. IsCleanKept e.1 → IsToldOf (image_at S.Start) e.0 e.1) }
+    ensures holds { IfOk result (λ bureau. HasCleanDisk (file_state bureau.conn) → (db : Trees)
+        → HoldsDatabase (image_at S.Start) db → HoldsOnly (file_state bureau.conn) db) }
+    ensures untouched { IfErr result (λ e. IsCleanKept e.1 → (db : Trees)
+        → HoldsDatabase (image_at S.Start) db → KeptHolds e.0 e.1 db) }
 {
     let conn = match Connection::open_from(rt, path, false, start) {
         Ok(conn) => conn,

@@ -6,7 +6,7 @@ ghost use Rattle.sqlite.specs.View.{doubt};
 ghost use Rattle.office.specs.declared.commands.Command.{Command};
 ghost use Rattle.office.specs.declared.replies.Reply.{Reply};
 ghost use Rattle.ledger.specs.Working.{HasWorked};
-ghost use Rattle.ledger_files.specs.Rounds.{IsTold};
+ghost use Rattle.ledger_files.specs.Rounds.{IsWork};
 
 use crate::kept::Kept;
 use crate::places::Place;
@@ -101,11 +101,11 @@ pub fn with_bureau<W: Work, O: Write>(
     work: &mut W,
     output: &mut O,
 ) -> Result<(), OpenFault>
-    ensures told { OnOk result (IsTold (W.tells work.old work.new (O.contents output.old)
+    ensures told { OnOk result (IsWork (W.tells work.old work.new (O.contents output.old)
         (O.contents output.new))) }
     ensures idle { OnErr result (((work.new ≡ work.old)
         × (O.contents output.new ≡ O.contents output.old))
-        ⊎ IsTold (W.tells work.old work.new (O.contents output.old) (O.contents output.new))) }
+        ⊎ IsWork (W.tells work.old work.new (O.contents output.old) (O.contents output.new))) }
 {
     let place = Place::find(rt, path)?;
     look(rt, &place.file)?;

@@ -20,3 +20,6 @@ pub mod UpdateFlags
 pub mod Stepping
 pub mod Texts
 pub mod UpdateStatements
+pub mod CreateTexts
+pub mod CreateNames
+pub mod OpeningAnswers

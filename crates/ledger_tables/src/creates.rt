@@ -3,9 +3,9 @@
 //! Every table but `bureau` and `jobs` refers to its job by a foreign key. All columns are NOT
 //! NULL, and the tables are STRICT.
 
-ghost use Rattle.std.specs.Prelude.{◌≡◌, OnOk};
+ghost use Rattle.std.specs.Prelude.{◌≡◌, true, false, [], ◌∷◌, codes, IfErr, OnOk};
 ghost use Rattle.ledger_tables.specs.Schema.{no_schema, up_to_bureau, up_to_jobs, up_to_stretches, up_to_pictures, up_to_cards, bureau_schema};
-ghost use Rattle.ledger_tables.specs.Making.{AreMade, Makes};
+ghost use Rattle.ledger_tables.specs.Making.{AreMade, Makes, AddsNames, IsStopped, is_taken};
 ghost use Rattle.ledger_tables.specs.Steps.{Inside, IsStep};
 ghost use Rattle.ledger_tables.specs.Tables.{Holds, no_rows};
 
@@ -18,6 +18,8 @@ impl<S: Alter> OpenTables<'_, '_, S> {
     fn make_bureau(&mut self) -> Result<(), Fault>
         ensures step { IsStep S.Store self.old self.new result }
         ensures made { Makes S.Store self.old self.new result no_schema up_to_bureau }
+        ensures named { Inside S.Store self.old self.new
+            (λ old new. AddsNames (codes "bureau" ∷ []) old new result) }
     {
         self.run(
             "CREATE TABLE bureau (id INTEGER NOT NULL PRIMARY KEY, \
@@ -29,6 +31,8 @@ impl<S: Alter> OpenTables<'_, '_, S> {
     fn make_jobs(&mut self) -> Result<(), Fault>
         ensures step { IsStep S.Store self.old self.new result }
         ensures made { Makes S.Store self.old self.new result up_to_bureau up_to_jobs }
+        ensures named { Inside S.Store self.old self.new
+            (λ old new. AddsNames (codes "jobs" ∷ []) old new result) }
     {
         self.run(
             "CREATE TABLE jobs (customer TEXT NOT NULL, number INTEGER NOT NULL, \
@@ -42,6 +46,8 @@ impl<S: Alter> OpenTables<'_, '_, S> {
     fn make_stretches(&mut self) -> Result<(), Fault>
         ensures step { IsStep S.Store self.old self.new result }
         ensures made { Makes S.Store self.old self.new result up_to_jobs up_to_stretches }
+        ensures named { Inside S.Store self.old self.new
+            (λ old new. AddsNames (codes "stretches" ∷ []) old new result) }
     {
         self.run(
             "CREATE TABLE stretches (customer TEXT NOT NULL, number INTEGER NOT NULL, \
@@ -55,6 +61,8 @@ impl<S: Alter> OpenTables<'_, '_, S> {
     fn make_pictures(&mut self) -> Result<(), Fault>
         ensures step { IsStep S.Store self.old self.new result }
         ensures made { Makes S.Store self.old self.new result up_to_stretches up_to_pictures }
+        ensures named { Inside S.Store self.old self.new
+            (λ old new. AddsNames (codes "pictures" ∷ []) old new result) }
     {
         self.run(
             "CREATE TABLE pictures (customer TEXT NOT NULL, number INTEGER NOT NULL, \
@@ -71,6 +79,8 @@ impl<S: Alter> OpenTables<'_, '_, S> {
     fn make_cards(&mut self) -> Result<(), Fault>
         ensures step { IsStep S.Store self.old self.new result }
         ensures made { Makes S.Store self.old self.new result up_to_pictures up_to_cards }
+        ensures named { Inside S.Store self.old self.new
+            (λ old new. AddsNames (codes "cards" ∷ []) old new result) }
     {
         self.run(
             "CREATE TABLE cards (customer TEXT NOT NULL, number INTEGER NOT NULL, \
@@ -83,6 +93,8 @@ impl<S: Alter> OpenTables<'_, '_, S> {
     fn make_lines(&mut self) -> Result<(), Fault>
         ensures step { IsStep S.Store self.old self.new result }
         ensures made { Makes S.Store self.old self.new result up_to_cards bureau_schema }
+        ensures named { Inside S.Store self.old self.new
+            (λ old new. AddsNames (codes "lines" ∷ []) old new result) }
     {
         self.run(
             "CREATE TABLE lines (customer TEXT NOT NULL, number INTEGER NOT NULL, \
@@ -109,6 +121,8 @@ impl<S: Alter> OpenTables<'_, '_, S> {
     fn make_upper(&mut self) -> Result<(), Fault>
         ensures step { IsStep S.Store self.old self.new result }
         ensures made { Makes S.Store self.old self.new result no_schema up_to_stretches }
+        ensures named { Inside S.Store self.old self.new (λ old new.
+            AddsNames (codes "bureau" ∷ codes "jobs" ∷ codes "stretches" ∷ []) old new result) }
     {
         self.make_bureau()?;
         self.make_jobs()?;
@@ -119,17 +133,24 @@ impl<S: Alter> OpenTables<'_, '_, S> {
     fn make_lower(&mut self) -> Result<(), Fault>
         ensures step { IsStep S.Store self.old self.new result }
         ensures made { Makes S.Store self.old self.new result up_to_stretches bureau_schema }
+        ensures named { Inside S.Store self.old self.new (λ old new.
+            AddsNames (codes "pictures" ∷ codes "cards" ∷ codes "lines" ∷ []) old new result) }
     {
         self.make_pictures()?;
         self.make_cards()?;
         self.make_lines()
     }
 
-    /// Creates the tables of a bureau without jobs, in a database without tables.
+    /// Creates the tables of a bureau without jobs, in a database without tables. It fails if one
+    /// of their names is taken.
     pub fn make(&mut self) -> Result<(), Fault>
         ensures step { IsStep S.Store self.old self.new result }
         ensures made { Inside S.Store self.old self.new
             (λ old new. OnOk result (old.now.schema ≡ no_schema → Holds new.now no_rows)) }
+        ensures new { Inside S.Store self.old self.new
+            (λ old new. OnOk result (is_taken old.now.schema ≡ false)) }
+        ensures taken { Inside S.Store self.old self.new (λ old new.
+            IfErr result (λ fault. is_taken old.now.schema ≡ true → IsStopped old new fault)) }
     {
         self.make_upper()?;
         self.make_lower()?;

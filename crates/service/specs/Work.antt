@@ -6,7 +6,7 @@ use Rattle.exchanges.specs.Work.{TellsScript}
 use Rattle.exchanges.specs.declared.endings.ScriptEnd.{ScriptEnd}
 use Rattle.exchanges.specs.declared.endings.ScriptEnd.TheVariants as ended
 use Rattle.exchanges.specs.declared.endings.Scripted.{Scripted}
-use Rattle.ledger_files.specs.Rounds.{IsTold}
+use Rattle.ledger_files.specs.Rounds.{IsWork}
 use Rattle.ledger_tables.specs.declared.faults.Fault.TheVariants.{NoMemory, Store}
 use Rattle.ledger_tables.specs.declared.openings.OpenFault.{OpenFault}
 use Rattle.ledger_tables.specs.declared.openings.OpenFault.TheVariants as opening
@@ -77,4 +77,4 @@ abbrev pub HasApplied : Outcome → Bytes → Bytes → Type 0
 HasApplied it old new =
     ((fault : OpenFault) × (it ≡ outcome.Fault fault) × (new ≡ old))
     ⊎ ((own : Outcome) × (file : Result (Unit {0}) OpenFault) × (it ≡ with_file file own)
-    × IsTold (TellsApply old new own))
+    × IsWork (TellsApply old new own))

@@ -7,7 +7,9 @@ use Rattle.sqlite.specs.Files.{file_state, HoldsDatabase}
 use Rattle.ledger_tables.specs.Versions.{IsKnown}
 use Rattle.sqlite.specs.WalFiles.{image_at}
 use Rattle.ledger.specs.Standing.{LeftAs, Stands}
-use Rattle.ledger_files.proofs.OpeningLeftovers.{fresh_seen, fresh_left, fresh_stands}
+use Rattle.ledger_files.specs.Opening.{HoldsOnly}
+use Rattle.ledger_files.proofs.OpeningFinds.{known_answer}
+use Rattle.ledger_files.proofs.OpeningLeftovers.{both, fresh_seen, fresh_left, fresh_stands}
 use Rattle.ledger_files.proofs.opening.open_from.Goals as goal
 
 pub returns-in-Ok-adopted-clause-found : goal.returns-in-Ok-adopted-clause-found
@@ -44,3 +46,46 @@ returns-in-Err-clause-known g c clean has_sums office are =
     let known : (db : Trees) → HoldsDatabase (image_at g.S.Start) db → LeftAs db office → IsKnown c.in-Err.fault = λ db held left.
     c.in-Err.ensures.known clean office (c.in-Err.ensures.opened opened.0 opened.1 office (subst (λ d. LeftAs d office) (sym (found.holds db held)) left)) in
     (λ e. ∥∥₁_elim are (λ x y. absurd x) (λ it. (known it.0 it.1 it.3).0 e), λ e. ∥∥₁_elim are (λ x y. absurd x) (λ it. (known it.0 it.1 it.3).1 e))
+
+pub returns-in-Ok-adopted-clause-version : goal.returns-in-Ok-adopted-clause-version
+returns-in-Ok-adopted-clause-version g c clean db held sound =
+    let early : HasCleanDisk (file_state c.in-Ok.conn) = omega (arith, c.in-Ok-adopted.ensures.clean) in
+    let opened = c.in-Ok.ensures.opened early in
+    c.in-Ok-adopted.ensures.answer clean opened.0 opened.1 db sound ((c.in-Ok.ensures.found early).holds db.trees held)
+
+pub returns-in-Ok-adopted-clause-opened : goal.returns-in-Ok-adopted-clause-opened
+returns-in-Ok-adopted-clause-opened g c clean =
+    let early : HasCleanDisk (file_state c.in-Ok.conn) = omega (arith, c.in-Ok-adopted.ensures.clean) in
+    (c.in-Ok.conn, c.in-Ok.ensures.opened early, c.in-Ok.ensures.found early, c.in-Ok-adopted.ensures.told)
+
+pub returns-in-Ok-adopted-clause-holds : goal.returns-in-Ok-adopted-clause-holds
+returns-in-Ok-adopted-clause-holds g c clean db held =
+    let early : HasCleanDisk (file_state c.in-Ok.conn) = omega (arith, c.in-Ok-adopted.ensures.clean) in
+    subst (λ t. HoldsOnly (file_state c.in-Ok-adopted.bureau.conn) t) ((c.in-Ok.ensures.found early).holds db held) (c.in-Ok-adopted.ensures.holds clean (c.in-Ok.ensures.opened early).0)
+
+pub returns-in-Err-clause-answer : goal.returns-in-Err-clause-answer
+returns-in-Err-clause-answer g c clean db held sound =
+    let early : HasCleanDisk (file_state c.in-Ok.conn) = omega (arith, c.in-Err.ensures.clean_still) in
+    let opened = c.in-Ok.ensures.opened early in
+    c.in-Err.ensures.answer clean opened.0 opened.1 db sound ((c.in-Ok.ensures.found early).holds db.trees held)
+
+pub returns-in-Err-clause-told : goal.returns-in-Err-clause-told
+returns-in-Err-clause-told g c clean =
+    let early : HasCleanDisk (file_state c.in-Ok.conn) = omega (arith, c.in-Err.ensures.clean_still) in
+    (c.in-Ok.conn, c.in-Ok.ensures.opened early, c.in-Ok.ensures.found early, c.in-Err.ensures.told)
+
+pub returns-in-Err-clause-untouched : goal.returns-in-Err-clause-untouched
+returns-in-Err-clause-untouched g c clean db held =
+    let early : HasCleanDisk (file_state c.in-Ok.conn) = omega (arith, c.in-Err.ensures.clean_still) in
+    subst (λ t. HoldsOnly (file_state c.in-Err.conn) t) ((c.in-Ok.ensures.found early).holds db held) (c.in-Err.ensures.holds clean (c.in-Ok.ensures.opened early).0)
+
+pub returns-in-Err-default-Some-clause-answer : goal.returns-in-Err-default-Some-clause-answer
+returns-in-Err-default-Some-clause-answer g c clean db held sound = known_answer (Unit {0}) db _ c.store_fault_of.ensures.known
+
+pub returns-in-Err-default-Some-clause-told : goal.returns-in-Err-default-Some-clause-told
+returns-in-Err-default-Some-clause-told g c clean =
+    let it = rw c.in-Err-default-Some.field-0-1-is at c.in-Err-default-Some.ensures.cause in
+    let first = g.S.Start in
+    let log_start : start_of first it.0.log ≡ first.log = ap (λ b. if b then first.log else first.db) it.1.0 in
+    let db_start : start_of first it.0.db ≡ first.db = ap (λ b. if b then first.log else first.db) it.2.0 in
+    (_, it.0, both _ _ (fresh_seen _ _ _ it.1.1 ∙ log_start) (fresh_seen _ _ _ it.2.1 ∙ db_start), (it.3 clean).0, c.store_fault_of.ensures.told)
