@@ -1,9 +1,5 @@
 -- files that hold a bureau's database
-<<<<<<< HEAD
-use Rattle.std.specs.Prelude.{◌≡◌, Bool, IsTrue, ⊤}
-=======
-use Rattle.std.specs.Prelude.{◌≡◌, ◌⊎◌, Bool, IsTrue, List, [], ◌∷◌, Result, Ok, Err, ⊤}
->>>>>>> 09821bbfd8e3f05277dd8f5a530ca4102dbf4e73
+use Rattle.std.specs.Prelude.{◌≡◌, ◌⊎◌, Bool, IsTrue, Result, Ok, Err, ⊤}
 use Rattle.sqlite_disk.specs.declared.Disk.{Ghosts}
 use Rattle.sqlite_disk.specs.declared.Files.{Files}
 use Rattle.sqlite_pool.specs.Stored.{is_summed}

@@ -1,11 +1,12 @@
 //! Rounds of work on a bureau's files: they are opened, work is done, and then everything stops, or
 //! the file is closed.
 
-ghost use Rattle.std.specs.Prelude.{◌≡◌, ◌≤◌, Bool, IfOk, IfErr, IsErrAnd, IsTrue};
+ghost use Rattle.std.specs.Prelude.{◌≡◌, ◌≤◌, Bool, Ok, Err, IfOk, IfErr, IsErrAnd, IsTrue};
 ghost use Rattle.sqlite.specs.FileStore as store;
 ghost use Rattle.sqlite.specs.FileStore.{recovers, view};
-ghost use Rattle.sqlite.specs.Files.{file_state};
+ghost use Rattle.sqlite.specs.Files.{HoldsDatabase, file_state};
 ghost use Rattle.sqlite.specs.Recovery.{Image};
+ghost use Rattle.sqlite.specs.State.{HasCleanDisk};
 ghost use Rattle.sqlite.specs.Tree.{Trees};
 ghost use Rattle.sqlite.specs.View.{IsClean, doubt};
 ghost use Rattle.sqlite.specs.WalFiles.{image_at, outcomes};
@@ -14,7 +15,7 @@ ghost use Rattle.office.specs.Office.{Office};
 ghost use Rattle.ledger.specs.Standing.{Stands};
 ghost use Rattle.ledger_tables.specs.Versions.{IsKnown};
 ghost use Rattle.ledger_files.specs.Closing.{HindersEnding, StandsAlone};
-ghost use Rattle.ledger_files.specs.Opening.{AreOf, IsCleanKept, KeptStands};
+ghost use Rattle.ledger_files.specs.Opening.{AreOf, IsAnswerFor, IsCleanKept, IsToldOf, KeptHolds, KeptStands};
 ghost use Rattle.ledger_files.specs.Rounds.{HasWorkedFrom, HoldsOneOf, IsRound};
 
 use crate::closing::close;
@@ -39,12 +40,19 @@ pub fn open_and_work<S: Start, W: Work, O: Write>(
     ensures worked { IfOk result (λ bureau. HasWorkedFrom (image_at S.Start) bureau.conn
         bureau.broken (W.tells work.old work.new (O.contents output.old)
         (O.contents output.new))) }
+    ensures version { IfOk result (λ bureau. HasCleanDisk (file_state bureau.conn)
+        → IsAnswerFor (image_at S.Start) (Ok tt)) }
     ensures idle { IfErr result (λ e. (work.new ≡ work.old)
         × (O.contents output.new ≡ O.contents output.old)) }
     ensures kept { IfErr result (λ e. IsCleanKept e.1 → (has_sums : Bool) → (office : Office)
         → AreOf has_sums (image_at S.Start) office → KeptStands has_sums e.1 office) }
     ensures known { IfErr result (λ e. IsCleanKept e.1 → (has_sums : Bool) → (office : Office)
         → AreOf has_sums (image_at S.Start) office → IsKnown e.0) }
+    ensures answer { IfErr result (λ e. IsCleanKept e.1
+        → IsAnswerFor (image_at S.Start) (Err e.0)) }
+    ensures told { IfErr result (λ e. IsCleanKept e.1 → IsToldOf (image_at S.Start) e.0 e.1) }
+    ensures untouched { IfErr result (λ e. IsCleanKept e.1 → (db : Trees)
+        → HoldsDatabase (image_at S.Start) db → KeptHolds e.0 e.1 db) }
 {
     match open_from(rt, path, start) {
         Ok(mut bureau) => {
@@ -103,6 +111,11 @@ pub fn round<S: Start, W: Work, O: Write>(
         → AreOf has_sums (image_at S.Start) office → KeptStands has_sums e.1 office) }
     ensures known { IfErr result (λ e. IsCleanKept e.1 → (has_sums : Bool) → (office : Office)
         → AreOf has_sums (image_at S.Start) office → IsKnown e.0) }
+    ensures answer { IfErr result (λ e. IsCleanKept e.1
+        → IsAnswerFor (image_at S.Start) (Err e.0)) }
+    ensures told { IfErr result (λ e. IsCleanKept e.1 → IsToldOf (image_at S.Start) e.0 e.1) }
+    ensures untouched { IfErr result (λ e. IsCleanKept e.1 → (db : Trees)
+        → HoldsDatabase (image_at S.Start) db → KeptHolds e.0 e.1 db) }
 {
     match open_and_work(rt, path, start, work, output) {
         Ok(bureau) => Ok(stop(bureau)),
