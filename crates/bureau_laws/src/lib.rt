@@ -3,14 +3,14 @@
 //!
 //! They are over the definitions that the program's calls are proved against.
 //!
-//! - **Stops lose nothing** ([`stops_lose_nothing`]): rounds in which a bureau's file is opened, work
-//!   is done and everything stops, any number of them, each stopped at any moment. The last files
-//!   are of the office after a beginning of the commands that were carried out in each round, each
-//!   beginning contains every command that was replied to, and the replies are that office's. Each
-//!   job at a halt there has in its rows the cards and lines of one uninterrupted run over its whole
-//!   deck, in order, none lost and none repeated. `ledger_files` proves that a file that is opened,
-//!   any work with it and a stop make such a round; the program's scripts, requests and exports are
-//!   such work.
+//! - **Stops lose nothing** ([`stops_lose_nothing`]): rounds in which a bureau's file is opened,
+//!   work is done and everything stops, any number of them, each stopped at any moment. The last
+//!   files are of the office after a beginning of the commands that were carried out in each round,
+//!   each beginning contains every command that was replied to, and the replies are that office's.
+//!   Each job at a halt there has in its rows the cards and lines of one uninterrupted run over its
+//!   whole deck, in order, none lost and none repeated. `ledger_files` proves that a file that is
+//!   opened, any work with it and a stop make such a round; the program's scripts, requests and
+//!   exports are such work.
 //! - **Customers are apart** ([`customers_are_apart`]): the replies to a customer's commands do not
 //!   depend on any other customer.
 //! - **A submission may be sent again** ([`repeats_in_any_shift`]): one that was taken gets the

@@ -26,8 +26,8 @@ abbrev pub HindersClosing : {D : Type 0} {g : Ghosts D} → Held (FileStore D g)
 HindersClosing conn left fault = (fault ≡ NoMemory)
     ⊎ (((view conn.store).is_open ≡ false) ⊎ MoreFaults (faults conn.store) (faults left))
 
--- why the work with a bureau could not end with closing its file: the bureau is broken, and its file
--- has to be opened again; or something hindered the closing
+-- why the work with a bureau could not end with closing its file: the bureau is broken, and its
+-- file has to be opened again; or something hindered the closing
 abbrev pub HindersEnding : {D : Type 0} {g : Ghosts D} → Bool → Held (FileStore D g)
     → FileStore D g → OpenFault → Type 0
 HindersEnding is_broken conn left fault =

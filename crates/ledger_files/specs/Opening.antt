@@ -60,7 +60,8 @@ module _ {D : Type 0} {g : Ghosts D} where
   IsCleanKept (kept.Left rest) = IsCleanLeft rest
   IsCleanKept kept.Nothing = ⊤
 
--- the fault that is told of an error by which files could not be opened: 1 for want of memory, else 2
+-- the fault that is told of an error by which files could not be opened: 1 for want of memory, or
+-- else 2
 abbrev pub store_fault : Error → OpenFault
 store_fault (SqliteFailure OutOfMemory) = NoMemory
 store_fault _ = Store

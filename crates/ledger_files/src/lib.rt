@@ -2,8 +2,8 @@
 //!
 //! [`open_from`] opens the file at a path as a bureau. What it returns, also if it fails,
 //! represents the office whose files it found. [`open_and_work`] then does work with the bureau
-//! ([`Work`]): commands that are carried out and replied to. [`finish`] ends it: it closes the file,
-//! which alone is then the bureau ([`close`]), unless the bureau is broken.
+//! ([`Work`]): commands that are carried out and replied to. [`finish`] ends it: it closes the
+//! file, which alone is then the bureau ([`close`]), unless the bureau is broken.
 //!
 //! [`with_bureau`] is what a program calls: it finds the file, opens it, works and ends.
 //! [`round`] opens, works, and returns the store as a crash at that moment leaves it ([`stop`]):

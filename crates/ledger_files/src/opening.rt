@@ -73,8 +73,8 @@ pub(crate) fn store_fault_of(error: Error) -> OpenFault
 
 /// Opens the file at a path as a bureau. Fails with 50 if it is not a bureau's or is of a later
 /// version, with 51 if it is of an earlier version, with 1 if there is no memory, and else with 2.
-/// The contents of the files are then handed back, as far as they were reached; after 50 and 51 they
-/// hold what they held.
+/// The contents of the files are then handed back, as far as they were reached; after 50 and 51
+/// they hold what they held.
 pub fn open_from<S: Start>(
     rt: &HostRuntime,
     path: &str,

@@ -95,7 +95,8 @@ pub fn finish<D: Disk + Drop>(
 }
 
 /// Opens the file at a path as a bureau, does work with it, and stops: what a crash at this moment
-/// may leave is a link of the chain that the theorem of stops is about. Fails as [`open_from`] does.
+/// may leave is a link of the chain that the theorem of stops is about. Fails as [`open_from`]
+/// does.
 pub fn round<S: Start, W: Work, O: Write>(
     rt: &HostRuntime,
     path: &str,
