@@ -34,4 +34,4 @@ module _ {D : Type 0} {g : Ghosts D} (left : FileStore D g) (error : Error) (fau
 pub ends_hindered : {X D : Type 0} {g : Ghosts D} (is_broken : Bool) (conn : Held (FileStore D g)) (result : Result X (OpenFault × FileStore D g))
     → IfErr result (λ e. IsClean (view e.1) → HindersClosing conn e.1 e.0) → IfErr result (λ e. IsClean (view e.1) → HindersEnding is_broken conn e.1 e.0)
 ends_hindered is_broken conn (Ok files) cause = tt
-ends_hindered is_broken conn (Err left) cause clean = inr (cause clean)
+ends_hindered is_broken conn (Err left) cause = λ clean. inr (cause clean)
