@@ -1,5 +1,5 @@
 -- What is read back of a job.
-use Rattle.std.proofs.Common.{◌≡◌, ◌<◌, ◌-◌, ◌%◌, ℕ, zero, suc, List, [], ◌∷◌, length, get_or, Option, Some, refl, sym, ap, ◌∙◌, arith}
+use Rattle.std.proofs.Common.{◌≡◌, ◌<◌, ◌-◌, ◌%◌, ℕ, zero, suc, List, [], ◌∷◌, length, get_or, Option, Some, Result, Ok, IfOk, refl, sym, ap, subst, ◌∙◌, arith}
 use Rattle.std.specs.List.{All, AllByRecursion}
 use Rattle.std.proofs.lemmas.List.Elements.{recursion_from_All}
 use Rattle.machine.specs.Run.{State, started, after}
@@ -46,3 +46,7 @@ module _ (law : (m : State) (count : ℕ) → (after m count).works.units.switch
 
 pub some_is : {X : Type 0} {x y : X} → ◌≡◌ {A = Option X} (Some x) (Some y) → x ≡ y
 some_is e = cc
+
+-- what holds of what was read holds of what was told
+pub ok_is : {X E : Type 0} (P : X → Type 0) (x : X) (r : Result X E) → r ≡ Ok x → IfOk r P → P x
+ok_is P x r is h = subst (λ q. IfOk q P) is h

@@ -1,6 +1,6 @@
 //! Reading a job from the tables.
 
-ghost use Rattle.std.specs.Prelude.{◌≡◌, ◌≢◌, List, All, map, Some, IsErrOf, IsSome, IfOk, IfSome};
+ghost use Rattle.std.specs.Prelude.{◌≡◌, ◌≢◌, List, All, map, Some, None, Ok, IsErr, IsErrOf, IsSome, IfOk, IfSome};
 ghost use Rattle.cards.specs.Decks.{IsCard, IsDeck};
 ghost use Rattle.machine.specs.Ranges.{IsInRange};
 ghost use Rattle.machine.specs.Run.{State};
@@ -22,6 +22,20 @@ use office::{Job, JobParts, Stretch, commands_keep_jobs};
 use sqlite::Alter;
 use std::alloc::{AllocError, Global};
 use units::Switches;
+
+/// What was read, if it is there: fault 2 if the rows do not hold it, and fault 1 if there was no
+/// memory.
+fn told<T>(read: Result<Option<T>, AllocError>) -> Result<T, Fault>
+    ensures found { IfOk result (λ it. read ≡ Ok (Some it)) }
+    ensures store { IsErrOf result Fault.Store → read ≡ Ok None }
+    ensures memory { IsErrOf result Fault.NoMemory → IsErr read }
+{
+    match read {
+        Ok(Some(it)) => Ok(it),
+        Ok(None) => Err(Fault::Store),
+        Err(_) => Err(Fault::NoMemory),
+    }
+}
 
 /// The stretch of a row, if it is one.
 fn read_stretch(row: &StretchRow) -> Option<Stretch>
@@ -66,11 +80,7 @@ pub fn find_stretches<S: Alter>(
         (λ office found. HasStretches (job_in name.entry office) found.items) }
 {
     let rows = tables.find_stretches(name)?;
-    match read_stretches(tables.alloc, rows.as_slice()) {
-        Ok(Some(stretches)) => Ok(stretches),
-        Ok(None) => Err(Fault::Store),
-        Err(_) => Err(Fault::NoMemory),
-    }
+    told(read_stretches(tables.alloc, rows.as_slice()))
 }
 
 /// The deck, cards and lines of a machine, from a deck and from rows.
@@ -89,21 +99,9 @@ fn read_media(
         → ShowsMedia m loaded.now cards.now
         → lines.now ≢ map line_cells m.works.units.printer.lines }
 {
-    let deck = match read_deck(alloc, loaded) {
-        Ok(Some(deck)) => deck,
-        Ok(None) => return Err(Fault::Store),
-        Err(_) => return Err(Fault::NoMemory),
-    };
-    let cards = match read_rows(alloc, cards) {
-        Ok(Some(cards)) => cards,
-        Ok(None) => return Err(Fault::Store),
-        Err(_) => return Err(Fault::NoMemory),
-    };
-    let lines = match read_rows(alloc, lines) {
-        Ok(Some(lines)) => lines,
-        Ok(None) => return Err(Fault::Store),
-        Err(_) => return Err(Fault::NoMemory),
-    };
+    let deck = told(read_deck(alloc, loaded))?;
+    let cards = told(read_rows(alloc, cards))?;
+    let lines = told(read_rows(alloc, lines))?;
     Ok(Media {
         deck,
         switches,
@@ -144,11 +142,7 @@ fn machine_of<C: Core>(alloc: Global, row: &PictureRow, media: Media) -> Result<
     ensures store { IsErrOf result Fault.Store → (m : State) → IsInRange m
         → HoldsCharacters m.works.storage → IsMediaOf media m → row.now ≢ picture_cells m }
 {
-    match read_picture(alloc, row, media) {
-        Ok(Some(machine)) => Ok(machine),
-        Ok(None) => Err(Fault::Store),
-        Err(_) => Err(Fault::NoMemory),
-    }
+    told(read_picture(alloc, row, media))
 }
 
 /// Finds a job's machine, given its deck, cards and lines.
@@ -217,11 +211,7 @@ fn job_with<C: Core>(alloc: Global, parts: JobParts<C>) -> Result<Job<C>, Fault>
     ensures job { IfOk result (λ job. job ≡ parts) }
     ensures store { IsErrOf result Fault.Store → ¬ IsJobInRange parts }
 {
-    match Job::from_parts(alloc, parts) {
-        Ok(Some(job)) => Ok(job),
-        Ok(None) => Err(Fault::Store),
-        Err(_) => Err(Fault::NoMemory),
-    }
+    told(Job::from_parts(alloc, parts))
 }
 
 /// Finds the job of this row.

@@ -1,5 +1,5 @@
 -- What an open finds.
-use Rattle.std.proofs.Common.{◌≡◌, IsTrue, Err, refl, sym, ap, ap₂, subst, ◌∙◌}
+use Rattle.std.proofs.Common.{◌≡◌, inr, IsTrue, Err, refl, sym, ap, ap₂, subst, ◌∙◌}
 use Rattle.sqlite.specs.Tree.{Trees}
 use Rattle.sqlite.specs.Effect.{Database, IsDatabase}
 use Rattle.sqlite.specs.State.{State, Opens, IsLive}
@@ -47,7 +47,7 @@ found_is s db opens live sound same =
 
 -- the two faults may come for any database
 pub known_answer : (X : Type 0) (db : Database) (fault : OpenFault) → IsKnown fault → IsAnswer {X = X} db (Err fault)
-known_answer X db NoMemory known = tt
-known_answer X db Store known = tt
+known_answer X db NoMemory known = (inr (λ same. absurd (known.0 same), known.1), λ has. tt)
+known_answer X db Store known = (inr (λ same. absurd (known.0 same), known.1), λ has. tt)
 known_answer X db NotABureau known = absurd (known.0 refl)
 known_answer X db Old known = absurd (known.1 refl)

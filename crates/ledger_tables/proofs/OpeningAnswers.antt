@@ -1,6 +1,8 @@
 -- What an answer about a database means.
 use Rattle.std.proofs.Common.{◌≡◌, ◌⊎◌, inl, inr, ℕ, List, [], map, false, true≢false, Option, None, Ok, Err, Result, IsOk, refl, sym, ap, subst, ◌∙◌}
+use Rattle.std.specs.List.Sorted.{IsPermutation}
 use Rattle.std.proofs.lemmas.Bool.{cases_Bool}
+use Rattle.std.proofs.lemmas.List.Sorted.{IsPermutation-sym}
 use Rattle.sqlite.specs.declared.types.Value.{Value}
 use Rattle.sqlite.specs.declared.error.Error.{Error}
 use Rattle.sqlite.specs.declared.error.Error.TheVariants.{SqliteFailure, SqlInputError}
@@ -14,14 +16,17 @@ use Rattle.sqlite.specs.Clock.{timed}
 use Rattle.sqlite.specs.State.{State, Shown, ShowsRows, FailsToQuery, FailsToShow, IsNotRun, IsTooLate}
 use Rattle.sqlite.specs.Listing.{understood, reads_listing, if_select, is_select, listing_schema}
 use Rattle.sqlite_tied.specs.Compute.{everything}
+use Rattle.sqlite.proofs.Callers.{IsPlain}
 use Rattle.sqlite_resolve.specs.declared.compiled.Compiled.{Compiled}
 use Rattle.sqlite_resolve.specs.Lowering.{Checked, and_then}
 use Rattle.sqlite_schema.specs.declared.command.Returning.{Returning}
+use Rattle.ledger_tables.specs.Schema.{bureau_schema}
 use Rattle.ledger_tables.specs.declared.openings.OpenFault.{OpenFault}
 use Rattle.ledger_tables.specs.declared.openings.OpenFault.TheVariants.{NoMemory, Store, NotABureau, Old}
-use Rattle.ledger_tables.specs.Versions.{select_version, opening_fault, HasVersions, ShowsVersions, IsVerdict, IsRefusedAs, IsAnswer}
+use Rattle.ledger_tables.specs.Versions.{select_version, versions_in, opening_fault, HasVersions, ShowsVersions, IsVerdict, IsVerdictOrFault, IsShownAnswer, IsRefusedAs, IsAnswer}
 use Rattle.ledger_tables.proofs.CreateTexts.{Plan, given, with_plan}
-use Rattle.ledger_tables.proofs.OpeningVersion.{is_input, fails_without_input, refused_to_read}
+use Rattle.ledger_tables.proofs.OpeningVersion.{is_input, fails_without_input, refused_to_read, one_left, versions_permuted}
+use Rattle.ledger_tables.proofs.ReadTexts.{select_version_is}
 
 -- ---- the text is a query, under any schema
 
@@ -76,14 +81,22 @@ shows_versions old new rows h =
     let read = read_plain h.0.command it.0 h.0.formats h.1.now rows query.1 it.2 in
     (h.0, h.1.is, it.0, it.1, rows, read, refl)
 
-pub judged_answer : {X : Type 0} (r : Result X OpenFault) (db : Database) (versions : List Value) → ShowsVersions db versions → IsVerdict versions r → IsAnswer db r
-judged_answer (Ok x) db versions shows is = subst (ShowsVersions db) is shows
-judged_answer (Err NoMemory) db versions shows is = tt
-judged_answer (Err Store) db versions shows is = tt
-judged_answer (Err NotABureau) db versions shows is = inr (versions, shows, is)
-judged_answer (Err Old) db versions shows is = (versions, shows, is)
+-- versions in another order give the same verdict
+moved_verdict : {X : Type 0} (r : Result X OpenFault) (shown held : List Value) → IsPermutation held shown → IsVerdict shown r → IsVerdictOrFault held r
+moved_verdict (Ok x) shown held same is = one_left _ held (subst (IsPermutation held) is same)
+moved_verdict (Err NoMemory) shown held same is = tt
+moved_verdict (Err Store) shown held same is = tt
+moved_verdict (Err NotABureau) shown held same is = λ n one. is n (one_left _ shown (subst (IsPermutation shown) one (IsPermutation-sym held shown same)))
+moved_verdict (Err Old) shown held same is = (is.0, one_left _ held (subst (IsPermutation held) is.1 same), is.2)
+
+pub judged_answer : {X : Type 0} (r : Result X OpenFault) (old new : State) (rows : List Row) → Shown select_version [] old new rows → IsVerdict (map (λ (r : Row). column r 0) rows) r → IsAnswer old.now r
+judged_answer r old new rows h is = (inl (_, shows_versions old new rows h, is), λ has. moved_verdict r _ _ (versions_permuted old new rows h has) is)
 
 -- ---- what was refused
+
+plain_ok : (r : _) → IsPlain r → IsOk r
+plain_ok (Ok c) plain = refl
+plain_ok (Err e) plain = absurd plain
 
 not_asked : (db : Database) (fault : _) → understood db.schema select_version ≡ Err fault → HasVersions db → ⊥
 not_asked db fault is has = let no = subst IsOk is has in cc
@@ -103,11 +116,22 @@ fails_input old new e (inl (inl h)) = not_run_input old new e h
 fails_input old new e (inl (inr h)) = inr (shows_no_input old new h.0 _ e (subst (FailsToShow old new select_version h.0 (timed [] h.0.formats h.1.now) e) (understood_query old.now.schema h.0 h.1.is).0 h.2))
 fails_input old new e (inr h) = inr (ap is_input h.4)
 
-unasked_answer : (X : Type 0) (db : Database) (e : Error) → (HasVersions db → ⊥) ⊎ (is_input e ≡ false) → IsAnswer {X = X} db (Err (opening_fault e))
-unasked_answer X db (SqlInputError fault) (inl none) = inl none
-unasked_answer X db (SqlInputError fault) (inr h) = absurd (true≢false h)
-unasked_answer X db (SqliteFailure NoRoom) h = tt
-unasked_answer X db _ h = tt
+bureau_asked : (db : Database) → db.schema ≡ bureau_schema → HasVersions db
+bureau_asked db has = subst (λ s. IsOk (understood s select_version)) (sym has) (plain_ok _ select_version_is.0.1)
+
+unasked_shown : (X : Type 0) (db : Database) (e : Error) → (HasVersions db → ⊥) ⊎ (is_input e ≡ false) → IsShownAnswer {X = X} db (Err (opening_fault e))
+unasked_shown X db (SqlInputError fault) (inl none) = inr (λ same. none, λ old. absurd (let no = old in cc))
+unasked_shown X db (SqlInputError fault) (inr h) = absurd (true≢false h)
+unasked_shown X db (SqliteFailure NoRoom) h = inr (λ same. absurd (let no = same in cc), λ old. absurd (let no = old in cc))
+unasked_shown X db _ h = inr (λ same. absurd (let no = same in cc), λ old. absurd (let no = old in cc))
+
+unasked_held : (X : Type 0) (db : Database) (e : Error) → (HasVersions db → ⊥) ⊎ (is_input e ≡ false) → db.schema ≡ bureau_schema → IsVerdictOrFault {X = X} (versions_in db) (Err (opening_fault e))
+unasked_held X db (SqlInputError fault) (inl none) has = absurd (none (bureau_asked db has))
+unasked_held X db (SqlInputError fault) (inr h) has = absurd (true≢false h)
+unasked_held X db (SqliteFailure NoRoom) h has = tt
+unasked_held X db _ h has = tt
 
 pub refused_answer : (X : Type 0) (old new : State) (fault : OpenFault) → IsRefusedAs old new fault → IsAnswer {X = X} old.now (Err fault)
-refused_answer X old new fault h = subst (λ f. IsAnswer {X = X} old.now (Err f)) (sym h.2) (unasked_answer X old.now h.0 (fails_input old new h.0 h.1))
+refused_answer X old new fault h =
+    let why = fails_input old new h.0 h.1 in
+    subst (λ f. IsAnswer {X = X} old.now (Err f)) (sym h.2) (unasked_shown X old.now h.0 why, unasked_held X old.now h.0 why)
