@@ -104,12 +104,12 @@ leads_more bytes mid rest (first ∷ commands) lines more it leads begins =
     (leads.0, leads.1 + more, leads.2, leads.3, leads_more leads.2 mid rest commands leads.1 more it leads.4 begins, omega (arith, leads.5))
 
 -- the fault after these commands
-pub fault_after : (bytes rest : List ℕ) (commands : List Command) (lines : ℕ) (it : ScriptFault) → Leads bytes commands lines rest → IsFaultHere rest it
-    → IsFaultOf bytes (later lines it)
-fault_after bytes rest commands lines (fault.BadLine number) leads bad =
-    record { commands = commands; lines = lines; rest = rest; leads = leads; line = number; bad = bad; place = refl }
-fault_after bytes rest commands lines fault.TooLong leads bad = absurd bad
-fault_after bytes rest commands lines fault.NoMemory leads bad = tt
+pub fault_after : (bytes rest : List ℕ) (commands : List Command) (lines : ℕ) (it : ScriptFault) → length bytes ≤ 4000000 → Leads bytes commands lines rest
+    → IsFaultHere rest it → IsFaultOf bytes (later lines it)
+fault_after bytes rest commands lines (fault.BadLine number) short leads bad =
+    (short, record { commands = commands; lines = lines; rest = rest; leads = leads; line = number; bad = bad; place = refl })
+fault_after bytes rest commands lines fault.TooLong short leads bad = absurd bad
+fault_after bytes rest commands lines fault.NoMemory short leads bad = tt
 
 pub not_long : (rest : List ℕ) (lines : ℕ) (it : ScriptFault) → IsFaultHere rest it → later lines it ≢ fault.TooLong
 not_long rest lines (fault.BadLine number) bad same = absurd (cc)

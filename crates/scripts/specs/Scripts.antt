@@ -70,9 +70,13 @@ Leads bytes (command ∷ commands) lines rest =
     (first : ℕ) × (others : ℕ) × (after : List ℕ) × Begins bytes command first after
     × Leads after commands others rest × (lines ≡ first + others)
 
--- the bytes are a script of these commands
+-- the bytes are no more than a script may have
+abbrev pub AreNotTooMany : List ℕ → Type 0
+AreNotTooMany bytes = length bytes ≤ most_bytes
+
+-- the bytes, which are not too many, are a script of these commands
 abbrev pub IsScriptOf : List ℕ → List Command → Type 0
-IsScriptOf bytes commands = (lines : ℕ) × Leads bytes commands lines []
+IsScriptOf bytes commands = AreNotTooMany bytes × (lines : ℕ) × Leads bytes commands lines []
 
 -- ---- a bad line
 
@@ -157,8 +161,9 @@ pub record IsBadAt (bytes : List ℕ) (number : ℕ) : Type 0 where
   pub bad : IsBadHere rest line
   pub place : number ≡ lines + line
 
--- why the bytes are no script: a bad line, too many bytes, or want of memory
+-- why the bytes are no script: too many bytes; or, if they are not too many, a bad line; or want of
+-- memory
 abbrev pub IsFaultOf : List ℕ → ScriptFault → Type 0
-IsFaultOf bytes (fault.BadLine number) = IsBadAt bytes number
+IsFaultOf bytes (fault.BadLine number) = AreNotTooMany bytes × IsBadAt bytes number
 IsFaultOf bytes fault.TooLong = most_bytes < length bytes
 IsFaultOf bytes fault.NoMemory = ⊤
