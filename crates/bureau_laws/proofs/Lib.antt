@@ -7,3 +7,4 @@ pub mod HeadEnds
 pub mod RoundLaw
 pub mod ChainLemmas
 pub mod LaterRoundLaw
+pub mod CustomerRounds

@@ -13,7 +13,8 @@
 //!   such work.
 //!   [`chains_lead_on`] says that the commands which are left are those kept of the rounds.
 //! - **Customers are apart** ([`customers_are_apart`]): the replies to a customer's commands do not
-//!   depend on any other customer.
+//!   depend on any other customer; nor do they over any number of rounds
+//!   ([`customers_are_apart_in_rounds`]).
 //! - **A submission may be sent again** ([`repeats_in_any_shift`]): one that was taken gets the
 //!   same reply when it comes again, after any further commands, and changes nothing then. One that
 //!   would have been taken and was lost is taken when it comes later, unless meanwhile a job with
@@ -34,7 +35,7 @@ mod requests;
 mod rounds;
 
 pub use asking::one_asking;
-pub use customers::customers_are_apart;
+pub use customers::{customers_are_apart, customers_are_apart_in_rounds};
 pub use heads::{one_head, one_refusal};
 pub use later_rounds::repeats_in_later_rounds;
 pub use repeats::repeats_in_any_shift;
