@@ -162,7 +162,7 @@ served_others c o (OnJob customer n k) not = commanded_others c (string_bytes cu
 served_others c o (Jobs customer) not = refl
 served_others c o Queue not = refl
 
-take_others : (c : List ℕ) (o : Office) (command : Command) → names c command ≡ false → own c (take command o).0 ≡ own c o
+pub take_others : (c : List ℕ) (o : Office) (command : Command) → names c command ≡ false → own c (take command o).0 ≡ own c o
 take_others c o command not = go (early_refusal command)
   where
     go : (r : Option Refusal) → own c (taken command o r).0 ≡ own c o

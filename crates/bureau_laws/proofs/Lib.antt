@@ -5,3 +5,6 @@ pub mod AskingLaw
 pub mod RequestLaw
 pub mod HeadEnds
 pub mod RoundLaw
+pub mod ChainLemmas
+pub mod LaterRoundLaw
+pub mod CustomerRounds

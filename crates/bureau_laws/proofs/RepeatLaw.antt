@@ -1,27 +1,31 @@
 -- A job that was handed in stays what was handed in.
-use Rattle.std.proofs.Common.{◌≡◌, ◌⊎◌, ℕ, ◌==◌, ◌&&◌, bytes_eq, List, [], ◌∷◌, ◌++◌, length, Bool, true, false, Option, None, Some, Result, Ok, Err, refl, sym, ap, subst, ◌∙◌, inl, inr, arith, length-append}
-use Rattle.std.specs.Prelude.{string_bytes, IsSome}
+use Rattle.std.proofs.Common.{◌≡◌, ◌⊎◌, ℕ, ◌==◌, ◌&&◌, bytes_eq, List, [], ◌∷◌, ◌++◌, length, Bool, true, false, Option, None, Some, Result, Ok, Err, refl, sym, ap, subst, ◌∙◌, inl, inr, arith, length-append, eq-eqb, true≢false}
+use Rattle.std.specs.Prelude.{string_bytes}
 use Rattle.std.proofs.lemmas.Bool.{and_parts, cases_Bool}
 use Rattle.std.proofs.lemmas.Bool.Decides.{nat_tests}
 use Rattle.std.proofs.lemmas.Slice.Eq.{bytes_eq-Decides}
+use Rattle.cards.specs.declared.decks.Card.{Card}
 use Rattle.cards.specs.Decks.{deck_bytes}
-use Rattle.core_store.specs.Storage.{positions_of}
+use Rattle.core_store.specs.Storage.{positions_of, size_numbered}
+use Rattle.core_store.specs.declared.sizes.Size.{Size}
 use Rattle.units.specs.Switches.{seven}
 use Rattle.units.specs.declared.switches.Switches.{Switches}
 use Rattle.office.specs.declared.commands.Command.{Command}
 use Rattle.office.specs.declared.commands.Command.TheVariants.{Submit, Job as OnJob, Jobs, Queue}
 use Rattle.office.specs.declared.commands.Contents.{Contents}
 use Rattle.office.specs.declared.commands.JobCommand.{JobCommand}
+use Rattle.office.specs.declared.commands.Kind.{Kind}
+use Rattle.office.specs.declared.commands.Kind.TheVariants.{Object, Autocoder}
 use Rattle.office.specs.declared.commands.JobCommand.TheVariants.{Slice, Start, Hold, Release, Collect, Standing as Tell, Cards, Lines}
 use Rattle.office.specs.declared.refusals.Refusal.{Refusal}
 use Rattle.office.specs.declared.replies.Reply.{Reply}
 use Rattle.office.specs.declared.replies.Reply.TheVariants as reply
 use Rattle.office.specs.declared.stretches.Stretch.{Stretch}
-use Rattle.office.specs.Jobs.{Job, loaded_deck, granted_more, one_more}
+use Rattle.office.specs.Jobs.{Job, loaded_of, loaded_deck, granted_more, one_more}
 use Rattle.office.specs.Kept.{kept_of, summary_of, job_refusal, changed_job, job_unless, job_after}
-use Rattle.office.specs.New.{job_or_refusal}
+use Rattle.office.specs.New.{deck_refusal, new_job, job_unless_refused, job_of_size, job_or_refusal}
 use Rattle.office.specs.Office.{Entry, Office, is_entry, job_of, with_job, has_most_jobs, added, submitted_as, is_same_kind, began_with, is_of, repeated, submitted, commanded, name_refusal, early_refusal, served, taken, take, fold}
-use Rattle.bureau_laws.specs.Repeats.{IsRepeatOf, IsNumberTaken, IsLastPlaceTaken}
+use Rattle.bureau_laws.specs.Repeats.{IsRepeatOf, HasContents, IsNumberTaken, IsLastPlaceTaken}
 
 -- ---- a job stays what was handed in, whatever is done with it
 
@@ -213,30 +217,116 @@ kept_again law (Submit customer n contents) commands office cards submits told =
     let later = stays_there c n contents cards commands next there in
     take_served command (fold commands next).0 none ∙ told_again c n contents cards (fold commands next).0 later
 
+-- ---- contents, and jobs that have them
+
+same_kind : (kind : Kind) → is_same_kind kind kind ≡ true
+same_kind Object = refl
+same_kind Autocoder = refl
+
+kinds_are : (a b : Kind) → is_same_kind a b ≡ true → a ≡ b
+kinds_are Object Object is = refl
+kinds_are Object Autocoder is = absurd (let e = is in cc)
+kinds_are Autocoder Object is = absurd (let e = is in cc)
+kinds_are Autocoder Autocoder is = refl
+
+codes_are : (a b : Card) → (a.0 ≡ b.0) → a ≡ b
+codes_are a b same = ap (λ (codes : List ℕ). let card : Card = record { 0 = codes } in card) same
+
+decks_are : (a b : List Card) → (a ≡ b) ⊎ (a ≡ b → ⊥)
+decks_are [] [] = inl refl
+decks_are [] (c ∷ b) = inr (λ same. let e : [] ≡ c ∷ b = same in cc)
+decks_are (c ∷ a) [] = inr (λ same. let e : c ∷ a ≡ [] = same in cc)
+decks_are (c ∷ a) (d ∷ b) = elim (cases_Bool (bytes_eq c.0 d.0)) [
+  | inr apart ↦ inr (λ same. let first : c ≡ d = cc in true≢false (sym ((bytes_eq-Decides c.0 d.0).1 (ap (λ (x : Card). x.0) first)) ∙ apart))
+  | inl alike ↦ elim (decks_are a b) [
+    | inl rest ↦
+        let first : c ≡ d = codes_are c d ((bytes_eq-Decides c.0 d.0).0 alike) in
+        inl (ap (λ (x : Card). x ∷ a) first ∙ ap (λ (xs : List Card). d ∷ xs) rest)
+    | inr other ↦ inr (λ same. let rest : a ≡ b = cc in other rest)
+  ]
+]
+
+of_contents : (contents : Contents) (job : Job) → HasContents contents job → is_of contents job ≡ true
+of_contents contents job has =
+    let one : is_same_kind job.kind contents.kind ≡ true = subst (λ k. is_same_kind job.kind k ≡ true) has.kind (same_kind job.kind) in
+    let two : (positions_of job.size == contents.size) ≡ true = eq-eqb (positions_of job.size) contents.size has.size in
+    let three : began_with (seven contents.switches) job.stretches ≡ true = has.switches in
+    let four : bytes_eq (deck_bytes job.deck) (deck_bytes contents.deck) ≡ true = (bytes_eq-Decides (deck_bytes job.deck) (deck_bytes contents.deck)).1 (ap deck_bytes has.deck) in
+    simp (one, two, three, four)
+
+has_contents : (contents : Contents) (job : Job) → is_of contents job ≡ true → job.deck ≡ contents.deck → HasContents contents job
+has_contents contents job is deck =
+    let three = and_parts (is_same_kind job.kind contents.kind && (positions_of job.size == contents.size) && began_with (seven contents.switches) job.stretches) (bytes_eq (deck_bytes job.deck) (deck_bytes contents.deck)) is in
+    let two = and_parts (is_same_kind job.kind contents.kind && (positions_of job.size == contents.size)) (began_with (seven contents.switches) job.stretches) three.0 in
+    let one = and_parts (is_same_kind job.kind contents.kind) (positions_of job.size == contents.size) two.0 in
+    record { kind = kinds_are job.kind contents.kind one.0; size = grind (arith, nat_tests, one.1); switches = two.1; deck = deck }
+
+has_or_not : (contents : Contents) (job : Job) → HasContents contents job ⊎ (HasContents contents job → ⊥)
+has_or_not contents job = elim (cases_Bool (is_of contents job)) [
+  | inr other ↦ inr (λ has. true≢false (sym (of_contents contents job has) ∙ other))
+  | inl same ↦ elim (decks_are job.deck contents.deck) [
+    | inl deck ↦ inl (has_contents contents job same deck)
+    | inr apart ↦ inr (λ has. apart has.deck)
+  ]
+]
+
+-- ---- the cards that a new job's machine reads
+
+loaded_unless : (size : Size) (contents : Contents) (job : Job) (o : Option Refusal) → job_unless_refused size contents o ≡ Ok job → loaded_deck job ≡ loaded_of contents.kind contents.deck
+loaded_unless size contents job (Some reason) is = absurd (let e = is in cc)
+loaded_unless size contents job None is = let same : new_job size contents ≡ job = cc in ap loaded_deck (sym same)
+
+loaded_sized : (contents : Contents) (job : Job) (o : Option Size) → job_of_size contents o ≡ Ok job → loaded_deck job ≡ loaded_of contents.kind contents.deck
+loaded_sized contents job None is = absurd (let e = is in cc)
+loaded_sized contents job (Some size) is = loaded_unless size contents job (deck_refusal contents.kind contents.deck) is
+
 -- ---- where it is lost whether the submission was kept
 
 module _ (customer : List ℕ) (n : ℕ) (contents : Contents) (cards : ℕ) (office later : Office) where
+  abbrev NumberTaken : Type 0
+  NumberTaken = (job_of customer n office ≡ None) × ((job : Job) × (job_of customer n later ≡ Some job) × (HasContents contents job → ⊥))
+
+  abbrev PlaceTaken : Type 0
+  PlaceTaken = (job_of customer n later ≡ None) × (has_most_jobs customer office ≡ false) × (has_most_jobs customer later ≡ true)
+
   abbrev Told : Type 0
-  Told = ((submitted customer n contents later (job_of customer n later)).1 ≡ reply.Taken cards)
-      ⊎ (((job_of customer n office ≡ None) × IsSome (job_of customer n later)) ⊎ ((has_most_jobs customer office ≡ false) × (has_most_jobs customer later ≡ true)))
+  Told = ((submitted customer n contents later (job_of customer n later)).1 ≡ reply.Taken cards) ⊎ (NumberTaken ⊎ PlaceTaken)
 
   room_of : (job : Job) (b : Bool) → has_most_jobs customer office ≡ b → (added customer n office job).1 ≡ reply.Taken cards → (has_most_jobs customer office ≡ false) × (length (loaded_deck job) ≡ cards)
   room_of job true full told = absurd (let e = rw full at told in cc)
   room_of job false room told = (room, let e : reply.Taken (length (loaded_deck job)) ≡ reply.Taken cards = rw room at told in cc)
 
-  by_place : (job : Job) → (has_most_jobs customer office ≡ false) × (length (loaded_deck job) ≡ cards) → (b : Bool) → has_most_jobs customer later ≡ b
-      → ((added customer n later job).1 ≡ reply.Taken cards) ⊎ ((has_most_jobs customer office ≡ false) × (has_most_jobs customer later ≡ true))
-  by_place job room true full = inr (room.0, full)
-  by_place job room false free = let here : (added customer n later job).1 ≡ reply.Taken cards = simp free (ap (λ k. reply.Taken k) room.1) in inl here
+  by_place : (job : Job) → job_of customer n later ≡ None → (has_most_jobs customer office ≡ false) × (length (loaded_deck job) ≡ cards) → (b : Bool) → has_most_jobs customer later ≡ b
+      → ((added customer n later job).1 ≡ reply.Taken cards) ⊎ PlaceTaken
+  by_place job free room true full = inr (free, room.0, full)
+  by_place job free room false place = let here : (added customer n later job).1 ≡ reply.Taken cards = simp place (ap (λ k. reply.Taken k) room.1) in inl here
 
-  by_new : (r : Result Job Refusal) → (submitted_as customer n office r).1 ≡ reply.Taken cards
-      → ((submitted_as customer n later r).1 ≡ reply.Taken cards) ⊎ ((has_most_jobs customer office ≡ false) × (has_most_jobs customer later ≡ true))
-  by_new (Err reason) told = absurd (let e = told in cc)
-  by_new (Ok job) told = by_place job (room_of job (has_most_jobs customer office) refl told) (has_most_jobs customer later) refl
+  by_new : job_of customer n later ≡ None → (r : Result Job Refusal) → (submitted_as customer n office r).1 ≡ reply.Taken cards → ((submitted_as customer n later r).1 ≡ reply.Taken cards) ⊎ PlaceTaken
+  by_new free (Err reason) told = absurd (let e = told in cc)
+  by_new free (Ok job) told = by_place job free (room_of job (has_most_jobs customer office) refl told) (has_most_jobs customer later) refl
+
+  cards_loaded : (r : Result Job Refusal) → job_or_refusal contents ≡ r → (submitted_as customer n office r).1 ≡ reply.Taken cards → length (loaded_of contents.kind contents.deck) ≡ cards
+  cards_loaded (Err reason) at told = absurd (let e = told in cc)
+  cards_loaded (Ok job) at told =
+      let loaded : loaded_deck job ≡ loaded_of contents.kind contents.deck = loaded_sized contents job (size_numbered contents.size) at in
+      let room = room_of job (has_most_jobs customer office) refl told in
+      ap length (sym loaded) ∙ room.1
+
+  -- a job with the same contents is no exception
+  told_alike : (job : Job) → HasContents contents job → length (loaded_of contents.kind contents.deck) ≡ cards → repeated contents job ≡ reply.Taken cards
+  told_alike job has loaded =
+      let same : is_of contents job ≡ true = of_contents contents job has in
+      let count : length (loaded_deck job) ≡ cards = ap (λ k. length (loaded_of k job.deck)) has.kind ∙ ap (λ d. length (loaded_of contents.kind d)) has.deck ∙ loaded in
+      simp same (ap (λ k. reply.Taken k) count)
 
   by_later : job_of customer n office ≡ None → (submitted_as customer n office (job_or_refusal contents)).1 ≡ reply.Taken cards → (j : Option Job) → job_of customer n later ≡ j → Told
-  by_later free told (Some job) at = inr (inl (free, let some : IsSome (job_of customer n later) = rw at refl in some))
-  by_later free told None at = elim (by_new (job_or_refusal contents) told) [
+  by_later free told (Some job) at = elim (has_or_not contents job) [
+    | inl has ↦
+        let said = told_alike job has (cards_loaded (job_or_refusal contents) refl told) in
+        inl (subst (λ j. (submitted customer n contents later j).1 ≡ reply.Taken cards) (sym at) said)
+    | inr other ↦ inr (inl (free, (job, at, other)))
+  ]
+  by_later free told None at = elim (by_new at (job_or_refusal contents) told) [
     | inl said ↦ inl (subst (λ j. (submitted customer n contents later j).1 ≡ reply.Taken cards) (sym at) said)
     | inr full ↦ inr (inr full)
   ]

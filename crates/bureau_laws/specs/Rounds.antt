@@ -1,5 +1,5 @@
 -- rounds of work on a bureau's files, and what is left after any number of them
-use Rattle.std.specs.Prelude.{◌≡◌, ◌≤◌, ℕ, Bool, List, [], ◌∷◌, ◌++◌, length, take as beginning_of, ⊤}
+use Rattle.std.specs.Prelude.{◌≡◌, ◌≤◌, ℕ, List, [], ◌∷◌, ◌++◌, length, take as beginning_of, ⊤}
 use Rattle.sqlite_pool.specs.Stored.{is_summed}
 use Rattle.sqlite.specs.Files.{HoldsDatabase}
 use Rattle.sqlite.specs.Tree.{Trees}
@@ -25,8 +25,9 @@ pub record Round : Type 0 where
   pub replies : List Reply
   pub files : Found
 
--- each round's files are what a crash left of a bureau that was opened on the files before, carried
--- out the round's commands and replied to them
+-- from each round's files to the next: if the files before a round represent an office, the round's
+-- replies are that office's to the first of its commands, and the round's files represent the
+-- office after a beginning of its commands that holds every one that was replied to
 abbrev pub AreRounds : Found → List Round → Type 0
 AreRounds first [] = ⊤
 AreRounds first (round ∷ rounds) =
@@ -39,7 +40,7 @@ files_after first (round ∷ rounds) = files_after round.files rounds
 
 -- from this office on, the commands are made of a beginning of each round's commands, one after the
 -- other, that holds every one that was replied to, and each round's replies are those of the office
--- at its begin
+-- at its beginning to the first of its commands
 abbrev pub AreKept : Office → List Round → List Command → Type 0
 AreKept office [] commands = commands ≡ []
 AreKept office (round ∷ rounds) commands =

@@ -10,13 +10,16 @@
 //!   Each job at a halt there has in its rows the cards and lines of one uninterrupted run over its
 //!   whole deck, in order, none lost and none repeated. `ledger_files` proves that a file that is
 //!   opened, any work with it and a stop make such a round; the program's scripts, requests and
-//!   exports are such work.
+//!   exports are such work. [`chains_lead_on`] says that the commands which are left are those
+//!   kept of the rounds.
 //! - **Customers are apart** ([`customers_are_apart`]): the replies to a customer's commands do not
-//!   depend on any other customer.
+//!   depend on any other customer; nor do they over any number of rounds
+//!   ([`customers_are_apart_in_rounds`]).
 //! - **A submission may be sent again** ([`repeats_in_any_shift`]): one that was taken gets the
 //!   same reply when it comes again, after any further commands, and changes nothing then. One that
-//!   would have been taken and was lost is taken when it comes later, unless meanwhile its number,
-//!   or the last of the customer's places, was taken.
+//!   would have been taken and was lost is taken when it comes later, unless meanwhile a job with
+//!   other contents took its number, or other jobs the last of the customer's places. The same
+//!   holds over any number of rounds ([`repeats_in_later_rounds`]).
 //! - **Bytes are one request** ([`one_request`]): bytes begin with one head ([`one_head`]); they
 //!   ask for something or are refused, and not both; bytes that begin with a head are refused with
 //!   one status, any others with 400 or 431 ([`one_refusal`]); they ask for one thing
@@ -26,13 +29,15 @@
 mod asking;
 mod customers;
 mod heads;
+mod later_rounds;
 mod repeats;
 mod requests;
 mod rounds;
 
 pub use asking::one_asking;
-pub use customers::customers_are_apart;
+pub use customers::{customers_are_apart, customers_are_apart_in_rounds};
 pub use heads::{one_head, one_refusal};
+pub use later_rounds::repeats_in_later_rounds;
 pub use repeats::repeats_in_any_shift;
 pub use requests::one_request;
-pub use rounds::stops_lose_nothing;
+pub use rounds::{chains_lead_on, stops_lose_nothing};

@@ -10,8 +10,8 @@ use office::submissions_repeat;
 
 /// The law of repeats: a submission that was taken gets the same reply when it comes again after
 /// any further commands, and then changes nothing. If the reply was lost and the job was not kept,
-/// it also gets that reply, unless the number or the last of the customer's places was taken
-/// meanwhile.
+/// it also gets that reply, unless meanwhile a job with other contents took the number, or other
+/// jobs the last of the customer's places.
 pub fn repeats_in_any_shift()
     ensures kept { (first again : Command) (commands : List Command) (office : Office)
         (cards : ℕ) → IsRepeatOf first again → (take first office).1 ≡ Reply.Taken cards →

@@ -1,10 +1,12 @@
 //! What is left after any number of rounds.
 
-ghost use Rattle.std.specs.Prelude.{List};
-ghost use Rattle.office.specs.Office.{Office};
+ghost use Rattle.std.specs.Prelude.{◌≡◌, List};
+ghost use Rattle.office.specs.Office.{Office, fold};
+ghost use Rattle.office.specs.declared.commands.Command.{Command};
 ghost use Rattle.ledger_files.specs.Opening.{AreOf};
 ghost use Rattle.ledger_files.specs.Rounds.{Found};
-ghost use Rattle.bureau_laws.specs.Rounds.{Round, AreRounds, AreLeftWhole};
+ghost use Rattle.bureau_laws.specs.Rounds.{Round, AreRounds, AreKept, AreLeftWhole};
+ghost use Rattle.bureau_laws.specs.KeptRounds.{kept_rounds, kept_in, left_by};
 
 use ledger::kept_offices_run_whole;
 
@@ -20,3 +22,12 @@ pub fn stops_lose_nothing()
     // A law, for the proof: it does nothing.
     kept_offices_run_whole();
 }
+
+/// The law of chains: the commands that are kept of a chain are those that are kept of its rounds,
+/// and the office after them is the one that the last round left.
+pub fn chains_lead_on()
+    ensures { (office : Office) (rounds : List Round) (commands : List Command)
+        (are : AreKept office rounds commands) →
+        let chain = kept_rounds office rounds commands are in
+        (commands ≡ kept_in chain) × ((fold commands office).0 ≡ left_by office chain) }
+{}
