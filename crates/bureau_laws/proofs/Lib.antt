@@ -4,4 +4,6 @@ pub mod HeadLaw
 pub mod AskingLaw
 pub mod RequestLaw
 pub mod HeadEnds
+pub mod LineLaw
+pub mod ScriptLaw
 pub mod RoundLaw

@@ -1,5 +1,5 @@
 //! The theorems of the bureau: stops lose nothing, customers are apart, a submission may be sent
-//! again, and bytes are one request.
+//! again, and bytes are one request and one script.
 //!
 //! They are over the definitions that the program's calls are proved against.
 //!
@@ -19,9 +19,12 @@
 //!   ask for something or are refused, and not both; bytes that begin with a head are refused with
 //!   one status, any others with 400 or 431 ([`one_refusal`]); they ask for one thing
 //!   ([`one_asking`]).
+//! - **Bytes are one script** ([`one_script`]): they are the script of one list of commands, or
+//!   they have one first bad line, or they are too many.
 #![tactic(auto)]
 
 mod asking;
+mod commands;
 mod customers;
 mod heads;
 mod repeats;
@@ -29,6 +32,7 @@ mod requests;
 mod rounds;
 
 pub use asking::one_asking;
+pub use commands::one_script;
 pub use customers::customers_are_apart;
 pub use heads::{one_head, one_refusal};
 pub use repeats::repeats_in_any_shift;
