@@ -6,4 +6,5 @@ pub mod RequestLaw
 pub mod HeadEnds
 pub mod LineLaw
 pub mod ScriptLaw
+pub mod RefusalLaw
 pub mod RoundLaw

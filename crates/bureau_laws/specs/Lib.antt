@@ -1,4 +1,5 @@
 pub mod Customers
 pub mod Repeats
 pub mod Same
+pub mod Refusals
 pub mod Rounds

@@ -1,5 +1,5 @@
 //! The theorems of the bureau: stops lose nothing, customers are apart, a submission may be sent
-//! again, and bytes are one request and one script.
+//! again, bytes are one request and one script, and each refusal has its reason.
 //!
 //! They are over the definitions that the program's calls are proved against.
 //!
@@ -21,12 +21,15 @@
 //!   ([`one_asking`]).
 //! - **Bytes are one script** ([`one_script`]): they are the script of one list of commands, or
 //!   they have one first bad line, or they are too many.
+//! - **Refusals have reasons** ([`refusals_have_reasons`]): for each number with which a command on
+//!   a job is refused, how the job is exactly then, and which reason is given where several hold.
 #![tactic(auto)]
 
 mod asking;
 mod commands;
 mod customers;
 mod heads;
+mod refusals;
 mod repeats;
 mod requests;
 mod rounds;
@@ -35,6 +38,7 @@ pub use asking::one_asking;
 pub use commands::one_script;
 pub use customers::customers_are_apart;
 pub use heads::{one_head, one_refusal};
+pub use refusals::refusals_have_reasons;
 pub use repeats::repeats_in_any_shift;
 pub use requests::one_request;
 pub use rounds::{stops_lose_nothing, working_round};
