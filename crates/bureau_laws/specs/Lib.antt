@@ -1,5 +1,6 @@
 pub mod Customers
 pub mod Repeats
 pub mod Same
+pub mod Ends
 pub mod Refusals
 pub mod Rounds

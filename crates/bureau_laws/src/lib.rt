@@ -19,6 +19,8 @@
 //!   ask for something or are refused, and not both; bytes that begin with a head are refused with
 //!   one status, any others with 400 or 431 ([`one_refusal`]); they ask for one thing
 //!   ([`one_asking`]).
+//! - **Requests end** ([`requests_end`]): a request ends where its Content-Length says. One that is
+//!   cut short asks for nothing and is refused with 400, and bytes after its end do not matter.
 //! - **Bytes are one script** ([`one_script`]): they are the script of one list of commands, or
 //!   they have one first bad line, or they are too many.
 //! - **Refusals have reasons** ([`refusals_have_reasons`]): for each number with which a command on
@@ -28,6 +30,7 @@
 mod asking;
 mod commands;
 mod customers;
+mod ends;
 mod heads;
 mod refusals;
 mod repeats;
@@ -37,6 +40,7 @@ mod rounds;
 pub use asking::one_asking;
 pub use commands::one_script;
 pub use customers::customers_are_apart;
+pub use ends::requests_end;
 pub use heads::{one_head, one_refusal};
 pub use refusals::refusals_have_reasons;
 pub use repeats::repeats_in_any_shift;
