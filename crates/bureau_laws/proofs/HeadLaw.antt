@@ -49,7 +49,7 @@ without_feed front bytes crlf same =
     (13 ∷ [], append_cancel_right front (bytes ++ 13 ∷ []) (10 ∷ []) (same ∙ sym (append_assoc bytes (13 ∷ []) (10 ∷ []))))
 
 -- what has too many fields has too many, whatever follows
-many_always : (room : ℕ) (bytes : List ℕ) → RequestExceeds room bytes → RequestOverflows room bytes
+pub many_always : (room : ℕ) (bytes : List ℕ) → RequestExceeds room bytes → RequestOverflows room bytes
 many_always room bytes (front, rest, same, k, reads, many) =
     let lines = flat_map print_field k.fields in
     let whole : front ++ 10 ∷ [] ≡ started k lines ++ print_end k.last =
@@ -101,7 +101,7 @@ some_is : {x y : ℕ} → Some x ≡ Some y → x ≡ y
 some_is e = cc
 
 -- a head is refused with one status
-one_refusal : (h : RequestHead) (s t : ℕ) → IsRefused h s → IsRefused h t → s ≡ t
+pub one_refusal : (h : RequestHead) (s t : ℕ) → IsRefused h s → IsRefused h t → s ≡ t
 one_refusal h s t (inl a) (inl b) = some_is (sym a ∙ b)
 one_refusal h s t (inl a) (inr b) = let none = b.0 in cc
 one_refusal h s t (inr a) (inl b) = let none = a.0 in cc

@@ -4,6 +4,10 @@ pub mod HeadLaw
 pub mod AskingLaw
 pub mod RequestLaw
 pub mod HeadEnds
+pub mod EndLaw
+pub mod LineLaw
+pub mod ScriptLaw
+pub mod RefusalLaw
 pub mod RoundLaw
 pub mod ChainLemmas
 pub mod LaterRoundLaw

@@ -1,5 +1,5 @@
--- when two requests, or two statuses, are the same
-use Rattle.std.specs.Prelude.{ℕ, ◌≡◌, ◌⊎◌, ⊤, string_bytes}
+-- when two requests, commands or statuses are the same
+use Rattle.std.specs.Prelude.{ℕ, ◌≡◌, ◌⊎◌, ⊤, List, [], ◌∷◌, string_bytes}
 use Rattle.http_requests.specs.declared.targets.Target.{Target}
 use Rattle.http_requests.specs.declared.targets.Target.TheVariants as target
 use Rattle.http_requests.specs.declared.targets.JobName.{JobName}
@@ -40,6 +40,13 @@ IsSameCommand (command.Jobs customer) (command.Jobs name) =
     string_bytes customer ≡ string_bytes name
 IsSameCommand command.Queue command.Queue = ⊤
 IsSameCommand one other = ⊥
+
+-- two lists are of the same commands, in the same order
+abbrev pub AreSameCommands : List Command → List Command → Type 0
+AreSameCommands [] [] = ⊤
+AreSameCommands (one ∷ ones) (other ∷ others) =
+    IsSameCommand one other × AreSameCommands ones others
+AreSameCommands ones others = ⊥
 
 -- two requests are the same: refused with the same status, with the same fault in the deck's text,
 -- or for the same command

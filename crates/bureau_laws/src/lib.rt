@@ -1,5 +1,5 @@
 //! The theorems of the bureau: stops lose nothing, customers are apart, a submission may be sent
-//! again, and bytes are one request.
+//! again, bytes are one request and one script, and each refusal has its reason.
 //!
 //! They are over the definitions that the program's calls are proved against.
 //!
@@ -24,20 +24,32 @@
 //!   ask for something or are refused, and not both; bytes that begin with a head are refused with
 //!   one status, any others with 400 or 431 ([`one_refusal`]); they ask for one thing
 //!   ([`one_asking`]).
+//! - **Requests end** ([`requests_end`]): a request ends where its Content-Length says. One that is
+//!   cut short asks for nothing and is refused with 400, and bytes after its end do not matter.
+//! - **Bytes are one script** ([`one_script`]): they are the script of one list of commands, or
+//!   they have one first bad line, or they are too many.
+//! - **Refusals have reasons** ([`refusals_have_reasons`]): for each number with which a command on
+//!   a job is refused, how the job is exactly then, and which reason is given where several hold.
 #![tactic(auto)]
 
 mod asking;
+mod commands;
 mod customers;
+mod ends;
 mod heads;
 mod later_rounds;
+mod refusals;
 mod repeats;
 mod requests;
 mod rounds;
 
 pub use asking::one_asking;
+pub use commands::one_script;
 pub use customers::{customers_are_apart, customers_are_apart_in_rounds};
+pub use ends::requests_end;
 pub use heads::{one_head, one_refusal};
 pub use later_rounds::repeats_in_later_rounds;
+pub use refusals::refusals_have_reasons;
 pub use repeats::repeats_in_any_shift;
 pub use requests::one_request;
 pub use rounds::{chains_lead_on, stops_lose_nothing};
