@@ -45,6 +45,15 @@ pub record HasEnded (status : Status) (errors_old errors_new : Bytes) : Type 0 w
   pub status_is : status ≡ status_of outcome
   pub shown : HasShown outcome errors_old errors_new
 
+-- a script was applied to a bureau in a file with this exit status: the lines of its replies are on
+-- the output, and its outcome was printed
+pub record HasEndedScript (status : Status) (output_old output_new errors_old errors_new : Bytes)
+    : Type 0 where
+  pub outcome : Outcome
+  pub applied : HasApplied outcome output_old output_new
+  pub status_is : status ≡ status_of outcome
+  pub shown : HasShown outcome errors_old errors_new
+
 -- the task was done, with this exit status and with what it prints
 abbrev pub HasDone : Task → Status → Bytes → Bytes → Bytes → Bytes → Type 0
 HasDone (task.Help row) status output_old output_new errors_old errors_new =
@@ -56,8 +65,7 @@ HasDone (task.Run deck size switches) status output_old output_new errors_old er
 HasDone (task.Assemble source out) status output_old output_new errors_old errors_new =
     HasAssembled status output_old output_new errors_old errors_new
 HasDone (task.Apply file script) status output_old output_new errors_old errors_new =
-    (it : Outcome) × HasApplied it output_old output_new × (status ≡ status_of it)
-    × HasShown it errors_old errors_new
+    HasEndedScript status output_old output_new errors_old errors_new
 HasDone other status output_old output_new errors_old errors_new =
     Keeps output_old output_new × HasEnded status errors_old errors_new
 

@@ -1,5 +1,9 @@
 -- What the rows' work tells.
-use Rattle.std.proofs.Common.{◌≡◌, ◌⊎◌, inl, inr, ℕ, ◌≤◌, Bool, false, List, [], ◌∷◌, ◌++◌, length, refl, subst}
+use Rattle.std.proofs.Common.{◌≡◌, ◌⊎◌, inl, inr, ℕ, ◌≤◌, Bool, false, List, [], ◌∷◌, ◌++◌, length, refl, ap, subst, ◌∙◌, Result, Ok, Err}
+use Rattle.std.specs.Prelude.{OnOk, OnErr}
+use Rattle.ledger_files.specs.Rounds.{IsWork}
+use Rattle.ledger_tables.specs.declared.openings.OpenFault.{OpenFault}
+use Rattle.service.specs.Outcomes.{closing_with, with_file}
 use Rattle.std.specs.List.{AllByRecursion}
 use Rattle.sqlite.specs.Held.{Held, state}
 use Rattle.sqlite.specs.View.{doubt}
@@ -11,7 +15,7 @@ use Rattle.office.specs.declared.commands.Command.{Command}
 use Rattle.office.specs.declared.commands.JobCommand.{JobCommand}
 use Rattle.office.specs.declared.commands.JobCommand.TheVariants.{Cards, Lines}
 use Rattle.office.specs.declared.replies.Reply.{Reply}
-use Rattle.service.specs.Work.{IsOnJob, IsSomeWork, TellsAsked, TellsExport, TellsServe}
+use Rattle.service.specs.Work.{Bytes, HasApplied, IsOnJob, IsSomeWork, TellsApply, TellsAsked, TellsExport, TellsServe}
 use Rattle.service.specs.declared.outcomes.Outcome.{Outcome}
 use Rattle.service.specs.declared.outcomes.Outcome.TheVariants as outcome
 
@@ -60,3 +64,11 @@ module _ {S : Type 0} (g : Ghosts S) (old new : Held S) where
     asked_both mid was_broken is_broken whole early one two =
         worked_after g old mid new is_broken (TellsAsked customer number Cards) (TellsAsked customer number Lines) (TellsExport customer number) early
         (subst (λ b. HasWorked g old mid b (TellsAsked customer number Cards)) whole one) two (λ cs ds rs qs a b. cards_and_lines cs ds a b)
+
+-- ---- applying
+
+pub applied_so : (Same : Type 0) (old new : Bytes) (file : Result (Unit {0}) OpenFault) (own result : Outcome) → (Same → own ≡ outcome.Done) → result ≡ with_file file own
+    → OnOk file (IsWork (TellsApply old new own)) → OnErr file ((Same × (new ≡ old)) ⊎ IsWork (TellsApply old new own)) → HasApplied result old new
+applied_so Same old new (Ok done) own result own_is is told idle = inr (own, Ok done, is, told)
+applied_so Same old new (Err fault) own result own_is is told (inl none) = inl (fault, is ∙ ap (closing_with fault) (own_is none.0), none.1)
+applied_so Same old new (Err fault) own result own_is is told (inr work) = inr (own, Err fault, is, work)

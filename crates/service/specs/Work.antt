@@ -42,7 +42,7 @@ outcome_of it = outcome_by it.ended it.refused it.acknowledged
 -- and the outcome is that of its end, unless the output could not be flushed
 abbrev pub TellsApply : Bytes → Bytes → Outcome → List Command → List Reply → Type 0
 TellsApply old new own done replies =
-    ((own ≡ outcome.Device) × (done ≡ []) × (replies ≡ []) × Keeps old new)
+    ((own ≡ outcome.Device) × (done ≡ []) × (replies ≡ []) × (new ≡ old))
     ⊎ ((it : Scripted) × (input : Bytes) × (between : Bytes)
     × TellsScript input old between it done replies × Keeps between new
     × ((own ≡ outcome_of it) ⊎ (own ≡ outcome.Device)))
