@@ -12,9 +12,7 @@ use Rattle.ledger.proofs.WorkLemmas.{all_of, worked_after, worked_so}
 use Rattle.ledger.specs.Working.{HasWorked}
 use Rattle.ledger_tables.specs.declared.openings.OpenFault.TheVariants as opening
 use Rattle.office.specs.declared.commands.Command.{Command}
-use Rattle.office.specs.declared.commands.JobCommand.{JobCommand}
 use Rattle.office.specs.declared.commands.JobCommand.TheVariants.{Cards, Lines}
-use Rattle.office.specs.declared.replies.Reply.{Reply}
 use Rattle.service.specs.Work.{Bytes, HasApplied, IsOnJob, IsSomeWork, TellsApply, TellsAsked, TellsExport, TellsServe}
 use Rattle.service.specs.declared.outcomes.Outcome.{Outcome}
 use Rattle.service.specs.declared.outcomes.Outcome.TheVariants as outcome

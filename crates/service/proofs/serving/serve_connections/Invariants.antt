@@ -1,4 +1,4 @@
-use Rattle.std.proofs.Common.{◌≡◌, ◌≤◌, false}
+use Rattle.std.proofs.Common.{◌≤◌, false}
 use Rattle.sqlite.specs.Held.{state}
 use Rattle.sqlite.specs.View.{doubt}
 use Rattle.ledger.specs.Working.{HasWorked}
