@@ -15,7 +15,7 @@ ghost use Rattle.command_line.specs.Printed.{IsTextShown, status_code};
 ghost use Rattle.command_line.specs.Asked.{IsHelp, IsVersion, page_of};
 ghost use Rattle.command_line.specs.Plain.{texts};
 ghost use Rattle.command_line.specs.declared.row_names.RowName.{RowName};
-ghost use Rattle.bureau.specs.Answers.{HasAnswered, HasAssembled};
+ghost use Rattle.bureau.specs.Answers.{HasAnswered, HasAssembled, HasEndedScript};
 
 use crate::errors::Unfailing;
 use command_line::{
@@ -53,6 +53,22 @@ fn assemble<W: Write, E: Write>(
     write_out(rt, out, answer, errors)
 }
 
+/// Applies the script in a file to the bureau in a file.
+fn apply_script<W: Write, E: Write>(
+    rt: &HostRuntime,
+    file: &str,
+    script: &str,
+    output: &mut W,
+    errors: &mut E,
+) -> io::Result<Status>
+    ensures { IfOk result (λ status. HasEndedScript status
+        (W.contents output.old) (W.contents output.new)
+        (E.contents errors.old) (E.contents errors.new)) }
+{
+    let outcome = apply(rt, file, script, output);
+    show_outcome(errors, outcome)
+}
+
 /// Does what the words after the program's name ask for.
 fn answer<W: Write, E: Write>(
     rt: &HostRuntime,
@@ -84,10 +100,7 @@ fn answer<W: Write, E: Write>(
         ) => run_input(rt, deck, size, switches, output, errors),
         Ok(Task::Assemble { source, out }) => assemble(rt, source, out, output, errors),
         Ok(Task::Init { file }) => show_outcome(errors, init(rt, file)),
-        Ok(Task::Apply { file, script }) => {
-            let outcome = apply(rt, file, script, output);
-            show_outcome(errors, outcome)
-        }
+        Ok(Task::Apply { file, script }) => apply_script(rt, file, script, output, errors),
         Ok(Task::Serve { file, port, count }) => {
             show_outcome(errors, serve(rt, file, port, count))
         }
