@@ -3,9 +3,9 @@ use Rattle.std.proofs.Common.{◌≡◌, Result, Ok, Err}
 use Rattle.std.specs.Prelude.{IfOk}
 use Rattle.command_line.specs.declared.statuses.Status.{Status}
 use Rattle.service.specs.Outcomes.{HasShown, status_of}
-use Rattle.service.specs.Work.{HasApplied}
+use Rattle.service.specs.Work.{Bytes, HasApplied}
 use Rattle.service.specs.declared.outcomes.Outcome.{Outcome}
-use Rattle.bureau.specs.Answers.{Bytes, HasEndedScript}
+use Rattle.bureau.specs.Answers.{HasEndedScript}
 
 pub ended_script : {X : Type 0} (result : Result Status X) (outcome : Outcome) (output_old output_new errors_old errors_new : Bytes) → HasApplied outcome output_old output_new
     → IfOk result (λ status. (status ≡ status_of outcome) × HasShown outcome errors_old errors_new) → IfOk result (λ status. HasEndedScript status output_old output_new errors_old errors_new)

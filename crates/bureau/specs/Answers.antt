@@ -1,5 +1,5 @@
 -- what the program does by its words
-use Rattle.std.specs.Prelude.{◌≡◌, ◌⊎◌, ℕ, List, [], ◌∷◌, ◌++◌, Option}
+use Rattle.std.specs.Prelude.{◌≡◌, ◌⊎◌, ℕ, List, [], ◌∷◌, ◌++◌}
 use Rattle.std.specs.Io.KnownBytes.{Appends, Keeps}
 use Rattle.counter.specs.Assembling.{Assembles}
 use Rattle.counter.specs.Runs.{Tells}
@@ -16,12 +16,8 @@ use Rattle.counter.specs.Put.{IsPut}
 use Rattle.command_line.specs.Asked.{page_of}
 use Rattle.command_line.specs.declared.help.TheConstants.{USAGE, VERSION}
 use Rattle.service.specs.Outcomes.{HasShown, status_of}
-use Rattle.service.specs.Work.{HasApplied}
+use Rattle.service.specs.Work.{Bytes, HasApplied}
 use Rattle.service.specs.declared.outcomes.Outcome.{Outcome}
-
--- the bytes that a writer has, if they are known
-abbrev pub Bytes : Type 0
-Bytes = Option (List ℕ)
 
 -- a text was assembled, and its bytes for OUT were written or that failed
 pub record HasAssembledText (status : Status) (output_old output_new errors_old errors_new : Bytes)

@@ -1,10 +1,12 @@
 //! The program's rows on a bureau's file: it is created, a script is applied to it, requests are
 //! served from it, and what a job made is exported from it.
 //!
-//! The results of a script's commands and of requests are proved below, in `exchanges`; this crate
-//! connects them to files and to sockets, which the clauses of the kit do not mention. So the only
-//! contract is that of [`show_outcome`]: what is printed when a row has ended, and the exit status.
-//! `cases/check`, and days of scripts and requests, test that the right files are read and written.
+//! A script, requests and an export are each a `Work` of `ledger_files`: it is proved of them that
+//! commands are carried out and replied to, and what a crash leaves. Of [`apply`] it is proved that
+//! the lines of the replies are on the output, and of [`show_outcome`] what is printed when a row
+//! has ended, and the exit status. The clauses of the kit do not mention the contents of files and
+//! sockets; `cases/check`, and days of scripts and requests, test that the right ones are read and
+//! written.
 #![tactic(auto)]
 
 mod connections;
