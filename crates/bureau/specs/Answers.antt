@@ -4,7 +4,7 @@ use Rattle.std.specs.Io.KnownBytes.{Appends, Keeps}
 use Rattle.counter.specs.Assembling.{Assembles}
 use Rattle.counter.specs.Runs.{Tells}
 use Rattle.command_line.specs.Tasks.{IsMisuse, Wants}
-use Rattle.command_line.specs.Printed.{IsTextShown, fault_words, misuse_message, misuse_status}
+use Rattle.command_line.specs.Printed.{IsTextShown, fault_words, misuse_message, misuse_status, version_text}
 use Rattle.command_line.specs.declared.faults.Fault.TheVariants.{Device}
 use Rattle.command_line.specs.declared.statuses.Status.{Status}
 use Rattle.command_line.specs.declared.statuses.Status.TheVariants.{NotDone}
@@ -14,7 +14,6 @@ use Rattle.command_line.specs.declared.tasks.Task.TheVariants as task
 use Rattle.counter.specs.declared.Assembled.{Assembled}
 use Rattle.counter.specs.Put.{IsPut}
 use Rattle.command_line.specs.Asked.{page_of}
-use Rattle.command_line.specs.declared.help.TheConstants.{USAGE, VERSION}
 use Rattle.service.specs.Outcomes.{HasShown, status_of}
 use Rattle.service.specs.Work.{Bytes, HasApplied}
 use Rattle.service.specs.declared.outcomes.Outcome.{Outcome}
@@ -55,7 +54,7 @@ abbrev pub HasDone : Task → Status → Bytes → Bytes → Bytes → Bytes →
 HasDone (task.Help row) status output_old output_new errors_old errors_new =
     IsTextShown (page_of row) status output_old output_new errors_old errors_new
 HasDone task.Version status output_old output_new errors_old errors_new =
-    IsTextShown VERSION.now status output_old output_new errors_old errors_new
+    IsTextShown version_text status output_old output_new errors_old errors_new
 HasDone (task.Run deck size switches) status output_old output_new errors_old errors_new =
     (text : List ℕ) × Tells text size switches status output_old output_new errors_old errors_new
 HasDone (task.Assemble source out) status output_old output_new errors_old errors_new =
@@ -79,7 +78,7 @@ pub record HasToldMisuse (words : List (List ℕ)) (status : Status)
   pub is : IsMisuse words misuse
   pub status_is : status ≡ misuse_status misuse
   pub kept : Keeps output_old output_new
-  pub told : Appends errors_old errors_new (misuse_message USAGE.now misuse)
+  pub told : Appends errors_old errors_new (misuse_message misuse)
 
 -- the task that the words ask for was done, or the misuse in them was printed
 abbrev pub HasAnswered : List (List ℕ) → Status → Bytes → Bytes → Bytes → Bytes → Type 0

@@ -11,7 +11,7 @@ mod errors;
 
 ghost use Rattle.std.specs.Prelude.{◌≡◌, Option, IfOk, IfErr};
 ghost use Rattle.std.specs.Process.{exit_status};
-ghost use Rattle.command_line.specs.Printed.{IsTextShown, status_code};
+ghost use Rattle.command_line.specs.Printed.{IsTextShown, status_code, version_text};
 ghost use Rattle.command_line.specs.Asked.{IsHelp, IsVersion, page_of};
 ghost use Rattle.command_line.specs.Plain.{texts};
 ghost use Rattle.command_line.specs.declared.row_names.RowName.{RowName};
@@ -19,7 +19,7 @@ ghost use Rattle.bureau.specs.Answers.{HasAnswered, HasAssembled, HasEndedScript
 
 use crate::errors::Unfailing;
 use command_line::{
-    Fault, Misuse, Status, Task, VERSION, show_help, show_version, task_of, tell_fault, tell_misuse,
+    Fault, Misuse, Status, Task, show_help, show_version, task_of, tell_fault, tell_misuse,
 };
 use counter::{assemble_deck, run_input, write_out};
 use service::{apply, export, init, serve, show_outcome};
@@ -81,7 +81,7 @@ fn answer<W: Write, E: Write>(
         (W.contents output.old) (W.contents output.new)
         (E.contents errors.old) (E.contents errors.new)) }
     ensures version { IsVersion (texts words.now)
-        → IfOk result (λ status. IsTextShown VERSION.now status
+        → IfOk result (λ status. IsTextShown version_text status
         (W.contents output.old) (W.contents output.new)
         (E.contents errors.old) (E.contents errors.new)) }
     ensures answered { IfOk result (λ status. HasAnswered (texts words.now) status

@@ -1,5 +1,5 @@
 -- The rounds of a chain, one after the other.
-use Rattle.std.proofs.Common.{◌≡◌, ℕ, ◌≤◌, List, [], ◌∷◌, ◌++◌, length, take as beginning_of, refl, sym, ap, subst, ◌∙◌}
+use Rattle.std.proofs.Common.{◌≡◌, ℕ, ◌≤◌, ◌+◌, List, [], ◌∷◌, ◌++◌, length, take as beginning_of, refl, sym, ap, subst, ◌∙◌}
 use Rattle.office.specs.Office.{Office, fold}
 use Rattle.office.specs.declared.commands.Command.{Command}
 use Rattle.ledger.proofs.WorkLemmas.{fold_both}
@@ -11,6 +11,7 @@ pub record IsKept (k : KeptRound) : Type 0 where
   pub taken : ℕ
   pub replied : length k.round.replies ≤ taken
   pub most : taken ≤ length k.round.given
+  pub all : length k.round.given ≤ length k.round.replies + 1
   pub kept : k.kept ≡ beginning_of taken k.round.given
   pub replies : k.round.replies ≡ (fold (beginning_of (length k.round.replies) k.round.given) k.office).1
 
@@ -22,7 +23,7 @@ AreLinked o (k ∷ chain) = (k.office ≡ o) × IsKept k × AreLinked (left_afte
 linked : (o : Office) (rounds : List Round) (commands : List Command) (are : AreKept o rounds commands) → AreLinked o (kept_rounds o rounds commands are)
 linked o [] commands are = tt
 linked o (round ∷ rounds) commands are =
-    (refl, record { taken = are.0; replied = are.2; most = are.3; kept = refl; replies = are.4 }, linked (fold (beginning_of are.0 round.given) o).0 rounds are.1 are.6)
+    (refl, record { taken = are.0; replied = are.2; most = are.3; all = are.6; kept = refl; replies = are.4 }, linked (fold (beginning_of are.0 round.given) o).0 rounds are.1 are.7)
 
 pub is_linked : (o : Office) (chain : List KeptRound) → IsChain o chain → AreLinked o chain
 is_linked o chain is = subst (AreLinked o) (sym is.3) (linked o is.0 is.1 is.2)
@@ -46,7 +47,7 @@ left_is o chain is = left_linked o chain (is_linked o chain is)
 kept_are : (o : Office) (rounds : List Round) (commands : List Command) (are : AreKept o rounds commands) → commands ≡ kept_in (kept_rounds o rounds commands are)
 kept_are o [] commands are = are
 kept_are o (round ∷ rounds) commands are =
-    are.5 ∙ ap (λ (cs : List Command). beginning_of are.0 round.given ++ cs) (kept_are (fold (beginning_of are.0 round.given) o).0 rounds are.1 are.6)
+    are.5 ∙ ap (λ (cs : List Command). beginning_of are.0 round.given ++ cs) (kept_are (fold (beginning_of are.0 round.given) o).0 rounds are.1 are.7)
 
 pub chain_leads : (o : Office) (rounds : List Round) (commands : List Command) (are : AreKept o rounds commands)
     → (commands ≡ kept_in (kept_rounds o rounds commands are)) × ((fold commands o).0 ≡ left_by o (kept_rounds o rounds commands are))

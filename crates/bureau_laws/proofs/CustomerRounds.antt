@@ -1,5 +1,5 @@
 -- One customer's part of a chain of rounds.
-use Rattle.std.proofs.Common.{◌≡◌, ℕ, suc, ◌≤◌, List, [], ◌∷◌, ◌++◌, length, map, filter, take as beginning_of, drop, refl, sym, ap, subst, ◌∙◌, inl, inr, arith, length-append, take-append-drop, take-take}
+use Rattle.std.proofs.Common.{◌≡◌, ℕ, suc, ◌≤◌, ◌+◌, List, [], ◌∷◌, ◌++◌, length, map, filter, take as beginning_of, drop, refl, sym, ap, subst, ◌∙◌, inl, inr, arith, length-append, take-append-drop, take-take}
 use Rattle.std.proofs.Math.Seq.{take-append_seam}
 use Rattle.std.proofs.lemmas.Bool.{cases_Bool}
 use Rattle.std.proofs.lemmas.List.{map-append}
@@ -57,6 +57,21 @@ module _ (c : List ℕ) where
   own_replies o given replies are =
       to_first given replies ∙ ap (replies_to c (beginning_of (length replies) given)) are ∙ (are_apart c (beginning_of (length replies) given) o).replies_are
 
+  -- if all commands but the last have a reply, so have all of the customer's but the last
+  but_last : (given : List Command) (replies : List Reply) → length given ≤ length replies + 1 → length (commands_of c given) ≤ length (replies_to c given replies) + 1
+  but_last [] replies all = omega arith
+  but_last (x ∷ []) [] all = elim (cases_Bool (names c x)) [
+    | inl is ↦ let r : 1 ≤ 1 = omega arith in simp is r
+    | inr not ↦ let r : 0 ≤ 1 = omega arith in simp not r
+  ]
+  but_last (x ∷ (y ∷ given)) [] all = absurd (omega (arith, all))
+  but_last (x ∷ given) (r ∷ replies) all =
+      let rest = but_last given replies (omega (arith, all)) in
+      elim (cases_Bool (names c x)) [
+        | inl is ↦ let more : suc (length (commands_of c given)) ≤ suc (length (replies_to c given replies)) + 1 = omega (arith, rest) in simp is more
+        | inr not ↦ simp not rest
+      ]
+
 -- ---- the customer's own chain
 
 -- the customer's own rounds are kept from this office on, and are a chain of the customer's own parts
@@ -80,15 +95,15 @@ own_chain c o part own_is (round ∷ rounds) commands are =
     own_replies c o given round.replies are.4 ∙ ap (λ (x : Office). (fold (commands_of c (beginning_of n given)) x).1) (sym own_is) ∙ ap (λ cs. (fold cs part).1) (sym replied) in
     let next : (fold (beginning_of taken own_given) part).0 ≡ own c (fold front o).0 =
     ap (λ cs. (fold cs part).0) begun ∙ ap (λ (x : Office). (fold (commands_of c front) x).0) own_is ∙ sym (are_apart c front o).own_is in
-    let rest = own_chain c (fold front o).0 (fold (beginning_of taken own_given) part).0 next rounds are.1 are.6 in
+    let rest = own_chain c (fold front o).0 (fold (beginning_of taken own_given) part).0 next rounds are.1 are.7 in
     let split : commands_of c commands ≡ beginning_of taken own_given ++ commands_of c are.1 =
     ap (commands_of c) are.5 ∙ filter-append (names c) front are.1 ∙ ap (λ (cs : List Command). cs ++ commands_of c are.1) (sym begun) in
     let least : some ≤ taken = subst (λ k. k ≤ taken) (sym count) (grows c n are.0 given are.2) in
-    let kept : AreKept part (map (own_round c) (round ∷ rounds)) (commands_of c commands) = (taken, commands_of c are.1, least, fewer c are.0 given, reply_are, split, rest.kept) in
+    let kept : AreKept part (map (own_round c) (round ∷ rounds)) (commands_of c commands) = (taken, commands_of c are.1, least, fewer c are.0 given, reply_are, split, but_last c given round.replies are.6, rest.kept) in
     record {
       kept = kept;
-      chain_is = ap (λ (x : Office). let all : List KeptRound = (record { round = own_round c round; office = x; kept = commands_of c front }) ∷ map (own_kept c) (kept_rounds (fold front o).0 rounds are.1 are.6) in all) (sym own_is)
-          ∙ ap (λ (cs : List Command). let all : List KeptRound = (record { round = own_round c round; office = part; kept = cs }) ∷ map (own_kept c) (kept_rounds (fold front o).0 rounds are.1 are.6) in all) (sym begun)
+      chain_is = ap (λ (x : Office). let all : List KeptRound = (record { round = own_round c round; office = x; kept = commands_of c front }) ∷ map (own_kept c) (kept_rounds (fold front o).0 rounds are.1 are.7) in all) (sym own_is)
+          ∙ ap (λ (cs : List Command). let all : List KeptRound = (record { round = own_round c round; office = part; kept = cs }) ∷ map (own_kept c) (kept_rounds (fold front o).0 rounds are.1 are.7) in all) (sym begun)
           ∙ ap (λ (ks : List KeptRound). let all : List KeptRound = (record { round = own_round c round; office = part; kept = beginning_of taken own_given }) ∷ ks in all) rest.chain_is;
     }
 

@@ -1,5 +1,5 @@
 -- From a submission to its repeats in the same round and in later ones.
-use Rattle.std.proofs.Common.{◌≡◌, ◌⊎◌, inl, inr, ℕ, zero, suc, ◌≤◌, ◌<◌, List, [], ◌∷◌, ◌++◌, length, take as beginning_of, refl, sym, ap, subst, ◌∙◌, arith}
+use Rattle.std.proofs.Common.{◌≡◌, ◌⊎◌, inl, inr, ℕ, zero, suc, ◌≤◌, ◌<◌, List, [], ◌∷◌, ◌++◌, length, take as beginning_of, refl, sym, ap, subst, ◌∙◌, arith, length-append}
 use Rattle.std.proofs.Math.Seq.{take-append_seam}
 use Rattle.std.proofs.lemmas.Bool.{cases_lt}
 use Rattle.office.specs.Office.{Office, take, fold}
@@ -143,10 +143,11 @@ module _ (law : Repeats) where
 
   -- a command that was given leads to what comes in later rounds, from the office before it or from that after it
   pub given_later : (o : Office) (earlier later : List KeptRound) (k : KeptRound) → IsChain o (earlier ++ k ∷ later) → (sooner more : List Command) (first : Command) (cards : ℕ) → k.round.given ≡ sooner ++ first ∷ more
-      → length sooner ≤ length k.round.replies → (take first (fold sooner k.office).0).1 ≡ reply.Taken cards → (before after : List Answer) (again : Answer) → answers_in later ≡ before ++ again ∷ after → IsRepeatOf first again.command
+      → (take first (fold sooner k.office).0).1 ≡ reply.Taken cards → (before after : List Answer) (again : Answer) → answers_in later ≡ before ++ again ∷ after → IsRepeatOf first again.command
       → (again.reply ≡ reply.Taken cards) ⊎ (IsNumberTaken first (fold sooner k.office).0 again.before ⊎ IsLastPlaceTaken first (fold sooner k.office).0 again.before)
-  given_later o earlier later k is sooner more first cards given replied told before after again place same =
+  given_later o earlier later k is sooner more first cards given told before after again place same =
       let there = at_round earlier k later o (is_linked o (earlier ++ k ∷ later) is) in
+      let replied : length sooner ≤ length k.round.replies = omega (arith, there.0.all, ap length given, length-append sooner (first ∷ more)) in
       elim (kept_or_lost k there.0 sooner more first given replied) [
         | inl kept ↦
             let already = told_again first (fold sooner k.office).0 again cards (kept_reached k later there.1 sooner kept.0 first kept.1 before after again place) same told in

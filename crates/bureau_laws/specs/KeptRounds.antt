@@ -26,7 +26,7 @@ kept_rounds office [] commands are = []
 kept_rounds office (round ∷ rounds) commands are =
     let kept : List Command = beginning_of are.0 round.given in
     (record { round = round; office = office; kept = kept })
-    ∷ kept_rounds (fold kept office).0 rounds are.1 are.6
+    ∷ kept_rounds (fold kept office).0 rounds are.1 are.7
 
 -- this is the chain of some rounds that are kept from this office on
 abbrev pub IsChain : Office → List KeptRound → Type 0

@@ -1,6 +1,6 @@
 //! The law of repeats over rounds.
 
-ghost use Rattle.std.specs.Prelude.{◌≡◌, ◌⊎◌, ◌≤◌, ◌++◌, ◌∷◌, ℕ, List, length};
+ghost use Rattle.std.specs.Prelude.{◌≡◌, ◌⊎◌, ◌++◌, ◌∷◌, ℕ, List};
 ghost use Rattle.office.specs.Office.{Office, take, fold};
 ghost use Rattle.office.specs.declared.commands.Command.{Command};
 ghost use Rattle.office.specs.declared.replies.Reply.{Reply};
@@ -15,9 +15,7 @@ use office::submissions_repeat;
 ///
 /// If it would have been taken, the repeat gets that reply in any later round, whether the first
 /// was kept or not, unless meanwhile a job with other contents took its number, or other jobs the
-/// last of its customer's places. That is said of a command that was carried out after all before
-/// it in its round were replied to; a bureau carries out no other, since it goes on only after a
-/// reply.
+/// last of its customer's places.
 pub fn repeats_in_later_rounds()
     ensures replied { (office : Office) (chain : List KeptRound) → IsChain office chain →
         (earlier between later : List Answer) (first again : Answer) (cards : ℕ) →
@@ -36,7 +34,6 @@ pub fn repeats_in_later_rounds()
         IsChain office (earlier ++ round ∷ later) →
         (sooner more : List Command) (first : Command) (cards : ℕ) →
         round.round.given ≡ sooner ++ first ∷ more →
-        length sooner ≤ length round.round.replies →
         let then = (fold sooner round.office).0 in
         (take first then).1 ≡ Reply.Taken cards → (before after : List Answer) (again : Answer) →
         answers_in later ≡ before ++ again ∷ after → IsRepeatOf first again.command →

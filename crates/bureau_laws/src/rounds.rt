@@ -1,10 +1,10 @@
 //! What is left after any number of rounds.
 
 ghost use Rattle.std.specs.Prelude.{◌≡◌, List};
+ghost use Rattle.sqlite.specs.Recovery.{Image};
 ghost use Rattle.office.specs.Office.{Office, fold};
 ghost use Rattle.office.specs.declared.commands.Command.{Command};
 ghost use Rattle.ledger_files.specs.Opening.{AreOf};
-ghost use Rattle.ledger_files.specs.Rounds.{Found};
 ghost use Rattle.bureau_laws.specs.Rounds.{Round, AreRounds, AreKept, AreLeftWhole};
 ghost use Rattle.bureau_laws.specs.KeptRounds.{kept_rounds, kept_in, left_by};
 
@@ -16,8 +16,8 @@ use ledger::kept_offices_run_whole;
 /// and each job at a halt there has the cards and lines of one uninterrupted run. `round` of
 /// `ledger_files` is such a round, with any work.
 pub fn stops_lose_nothing()
-    ensures { (first : Found) → (rounds : List Round) → AreRounds first rounds
-        → (office : Office) → AreOf first.0 first.1 office → AreLeftWhole first rounds office }
+    ensures { (first : Image) → (rounds : List Round) → AreRounds first rounds
+        → (office : Office) → AreOf first office → AreLeftWhole first rounds office }
 {
     // A law, for the proof: it does nothing.
     kept_offices_run_whole();

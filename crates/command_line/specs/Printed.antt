@@ -72,12 +72,21 @@ abbrev pub asks_for_help : Misuse → Bool
 asks_for_help (misuse.Words f) = is_help_fault f
 asks_for_help _ = false
 
+-- the line on how to call the program
+abbrev pub usage_line : List ℕ
+usage_line = codes "usage: bureau [ROW WORDS..]; bureau --help lists the rows and their words"
+
+-- the version, and the toolchain that the program was built with
+abbrev pub version_text : List ℕ
+version_text = codes "bureau 1" ++ line_feed ∷ codes "rattle-kit-13f logic dac8208d650f15bf"
+    ++ line_feed ∷ []
+
 -- what is printed for a misuse: the fault of memory, the help asked for, or else a complaint and
 -- the line on how to call the program
-abbrev pub misuse_message : List ℕ → Misuse → List ℕ
-misuse_message usage m = if is_want_of_memory m then fault_words fault.Memory ++ line_feed ∷ []
+abbrev pub misuse_message : Misuse → List ℕ
+misuse_message m = if is_want_of_memory m then fault_words fault.Memory ++ line_feed ∷ []
     else (if asks_for_help m then misuse_words m
-    else codes "bureau: " ++ misuse_words m ++ line_feed ∷ usage ++ line_feed ∷ [])
+    else codes "bureau: " ++ misuse_words m ++ line_feed ∷ usage_line ++ line_feed ∷ [])
 
 -- the exit status after a misuse
 abbrev pub misuse_status : Misuse → Status

@@ -260,13 +260,13 @@ enough memory. Status 2: the words are not as above. Status 3: the bureau's file
 /// The text that `--version` prints: the version, and the line that `rt version` prints of the
 /// toolchain. `cases/check` compares that line with the output of `rt version` when the program is
 /// tested.
-pub const VERSION: &str = "\
+pub(crate) const VERSION: &str = "\
 bureau 1
 rattle-kit-13f logic dac8208d650f15bf
 ";
 
 /// The line that is printed after what is wrong with the words.
-pub const USAGE: &str = "usage: bureau [ROW WORDS..]; bureau --help lists the rows and their words";
+pub(crate) const USAGE: &str = "usage: bureau [ROW WORDS..]; bureau --help lists the rows and their words";
 
 /// The help of a row, or the whole help.
 pub fn page(row: Option<RowName>) -> &'static str

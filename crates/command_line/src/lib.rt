@@ -31,7 +31,6 @@ mod telling;
 
 pub use asked::{Words, WordsFault};
 pub use faults::Fault;
-pub use help::VERSION;
 pub use parsing::words;
 pub use row_names::RowName;
 pub use statuses::Status;

@@ -3,7 +3,7 @@
 ghost use Rattle.std.specs.Prelude.{◌≡◌, ◌∷◌, [], ◌++◌, IfOk, OnOk};
 ghost use Rattle.std.specs.Io.KnownBytes.{Appends};
 ghost use Rattle.command_line.specs.Asked.{page_of};
-ghost use Rattle.command_line.specs.Printed.{IsTextShown, fault_words, misuse_message, misuse_status};
+ghost use Rattle.command_line.specs.Printed.{IsTextShown, fault_words, misuse_message, misuse_status, version_text};
 
 use crate::faults::Fault;
 use crate::help::{USAGE, VERSION, page};
@@ -35,7 +35,7 @@ pub fn tell_fault<E: Write>(errors: &mut E, fault: Fault) -> io::Result<Status>
 pub fn tell_misuse<E: Write>(errors: &mut E, misuse: Misuse<'_>) -> io::Result<Status>
     ensures { IfOk result (λ status. (status ≡ misuse_status misuse.entry)
         × Appends (E.contents errors.old) (E.contents errors.new)
-        (misuse_message USAGE.now misuse.entry)) }
+        (misuse_message misuse.entry)) }
 {
     if misuse.is_want_of_memory() {
         return tell_fault(errors, Fault::Memory);
@@ -77,7 +77,7 @@ pub fn show_help<W: Write, E: Write>(
 /// Writes the version, and the line of the toolchain. An error is the second writer's, on which
 /// nothing can be printed.
 pub fn show_version<W: Write, E: Write>(output: &mut W, errors: &mut E) -> io::Result<Status>
-    ensures { IfOk result (λ status. IsTextShown VERSION.now status
+    ensures { IfOk result (λ status. IsTextShown version_text status
         (W.contents output.old) (W.contents output.new)
         (E.contents errors.old) (E.contents errors.new)) }
 {

@@ -19,6 +19,8 @@ mod devices;
 #[cfg(test)]
 mod exchange_failing;
 #[cfg(test)]
+mod failing_disks;
+#[cfg(test)]
 mod fixed_answers;
 #[cfg(test)]
 mod lines_sent;

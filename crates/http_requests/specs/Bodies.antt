@@ -1,5 +1,5 @@
 -- how the body of a request is read
-use Rattle.std.specs.Prelude.{ℕ, ◌≡◌, ◌+◌, ◌<◌, ◌≤◌, ◌++◌, List, Option, length, take, ⊤}
+use Rattle.std.specs.Prelude.{ℕ, ◌≡◌, ◌+◌, ◌-◌, ◌<◌, ◌≤◌, ◌++◌, List, Option, length, take, ⊤}
 use Rattle.std.specs.Io.KnownBytes.{Consumes, IsAtEnd}
 use Rattle.http_requests.specs.declared.bodies.Body.{Body}
 use Rattle.http_requests.specs.declared.bodies.Body.TheVariants as body
@@ -27,3 +27,13 @@ abbrev pub IsBodyOf : List ℕ → ℕ → Body → Type 0
 IsBodyOf after count (body.Whole bytes) = (count ≤ length after) × (bytes.items ≡ take count after)
 IsBodyOf after count body.Short = length after < count
 IsBodyOf after count body.ReadFailed = ⊤
+
+-- the reader lost exactly the bytes that the body lacked after those that were begun, and none that
+-- follow it; or it ended before
+abbrev pub LosesMissing : List ℕ → ℕ → Option (List ℕ) → Option (List ℕ) → Body → Type 0
+LosesMissing begun count old new (body.Whole bytes) =
+    (missing : List ℕ) × (length missing ≡ count - length begun) × Consumes old new missing
+LosesMissing begun count old new body.Short =
+    (missing : List ℕ) × (length begun + length missing < count) × Consumes old new missing
+    × IsAtEnd new
+LosesMissing begun count old new body.ReadFailed = ⊤

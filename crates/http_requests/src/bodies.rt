@@ -1,7 +1,7 @@
 //! The body of a request.
 
 ghost use Rattle.std.specs.Prelude.{◌≡◌, ◌<◌, ◌++◌, length, IfOk, IfSome};
-ghost use Rattle.http_requests.specs.Bodies.{IsBodyOf, IsFilled, IsFilledAfter};
+ghost use Rattle.http_requests.specs.Bodies.{IsBodyOf, IsFilled, IsFilledAfter, LosesMissing};
 
 use std::alloc::{AllocError, Global};
 use std::io::Read;
@@ -65,8 +65,10 @@ pub fn read_body<R: Read>(
     begun: &[u8],
     count: u32,
 ) -> Result<Body, AllocError>
-    ensures { IfOk result (λ body. IfSome (R.remaining reader.old)
+    ensures body { IfOk result (λ body. IfSome (R.remaining reader.old)
         (λ rest. IsBodyOf (begun.now ++ rest) count body)) }
+    ensures taken { IfOk result (λ body. LosesMissing begun.now count (R.remaining reader.old)
+        (R.remaining reader.new) body) }
 {
     let count = count as usize;
     let mut bytes = vec![in alloc; 0u8; count]?;

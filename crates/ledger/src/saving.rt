@@ -11,7 +11,6 @@ ghost use Rattle.ledger_rows.specs.Columns.{HoldsCharacters, IsLine};
 ghost use Rattle.ledger_tables.specs.Named.{HasNoJob, HasNoPicture, HasPicture};
 ghost use Rattle.ledger_tables.specs.Steps.{Changes, IsStep};
 ghost use Rattle.ledger.specs.Saving.{job_in, HasFirstCards, with_all_cards, HasFirstLines, with_all_lines, HasFirst, with_made, HasFewerGranted, HasOneLess, with_all_stretches, with_machine, with_progress, with_start, HasNotStarted, new_cells, with_handed, HadMade, IsAfter, with_after, IsFlagged, with_flagged, IsFreeName, IsTakenAs, with_new};
-ghost use Rattle.ledger.specs.declared.saving.TheConstants.{MOST_MADE};
 ghost use Rattle.ledger.specs.Standing.{kind_number};
 ghost use Rattle.ledger.specs.Steps.{Saves};
 
@@ -24,9 +23,6 @@ use office::{Contents, Job, JobCommand, Kind, Stretch, commands_keep_jobs};
 use sqlite::Alter;
 use std::alloc::{AllocError, Global};
 use units::{Line, Units};
-
-/// The greatest number of cards or lines of a job.
-const MOST_MADE: usize = 20_000;
 
 /// The numbers of cards and lines that a job has made.
 #[derive(Clone, Copy)]
@@ -50,14 +46,15 @@ impl Made {
     }
 }
 
-/// Inserts the cards after the first `before`, which the tables have already.
+/// Inserts the cards after the first `before`, which the tables have already. A job makes at most
+/// 20,000.
 fn insert_cards<S: Alter>(
     tables: &mut OpenTables<'_, '_, S>,
     name: JobName<'_>,
     cards: &[Card],
     before: usize,
 ) -> Result<(), Fault>
-    requires { length cards.now ≤ MOST_MADE }
+    requires { length cards.now ≤ 20000 }
     ensures step { IsStep S.Store tables.old tables.new result }
     ensures added { Changes S.Store tables.old tables.new result
         (HasFirstCards name.entry before cards.now) (with_all_cards name.entry cards.now) }
@@ -70,14 +67,15 @@ fn insert_cards<S: Alter>(
     Ok(())
 }
 
-/// Inserts the lines after the first `before`, which the tables have already.
+/// Inserts the lines after the first `before`, which the tables have already. A job makes at most
+/// 20,000.
 fn insert_lines<S: Alter>(
     tables: &mut OpenTables<'_, '_, S>,
     name: JobName<'_>,
     lines: &[Line],
     before: usize,
 ) -> Result<(), Fault>
-    requires { length lines.now ≤ MOST_MADE }
+    requires { length lines.now ≤ 20000 }
     ensures step { IsStep S.Store tables.old tables.new result }
     ensures added { Changes S.Store tables.old tables.new result
         (HasFirstLines name.entry before lines.now) (with_all_lines name.entry lines.now) }
@@ -97,8 +95,8 @@ fn insert_made<S: Alter>(
     units: &Units,
     before: Made,
 ) -> Result<(), Fault>
-    requires cards { length units.now.punch ≤ MOST_MADE }
-    requires lines { length units.now.printer.lines ≤ MOST_MADE }
+    requires cards { length units.now.punch ≤ 20000 }
+    requires lines { length units.now.printer.lines ≤ 20000 }
     ensures step { IsStep S.Store tables.old tables.new result }
     ensures added { Changes S.Store tables.old tables.new result
         (HasFirst name.entry before units.now) (with_made name.entry units.now) }

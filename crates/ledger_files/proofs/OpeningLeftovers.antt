@@ -1,5 +1,6 @@
 -- What an open that failed hands back still holds the database.
-use Rattle.std.proofs.Common.{◌≡◌, ℕ, ◌≤◌, ◌%◌, true, false, List, refl, sym, ap, subst, ◌∙◌, inl, inr, arith, IsTrue, eq-eqb, ne_eqb, Bool, [], ◌∷◌, ap₂, if◌then◌else◌}
+use Rattle.std.proofs.Common.{◌≡◌, ℕ, ◌≤◌, ◌%◌, true, false, List, refl, sym, ap, subst, ◌∙◌, inl, inr, arith, IsTrue, eq-eqb, ne_eqb, Bool, [], ◌∷◌, ap₂, if◌then◌else◌, Option, Some, None}
+use Rattle.std.specs.Prelude.{IfSome}
 use Rattle.std.proofs.lemmas.Bool.{cases_Bool, cases_eq}
 use Rattle.std.proofs.Math.Logic.{∥∥₁_map}
 use Rattle.sqlite_disk.specs.declared.Disk.{Ghosts}
@@ -17,13 +18,16 @@ use Rattle.sqlite_store.specs.declared.store.FileStore.{FileStore}
 use Rattle.sqlite_store.specs.FileStore.{recovers}
 use Rattle.sqlite_trees.specs.Tree.{Trees}
 use Rattle.sqlite.specs.Opening.{HoldsIn}
-use Rattle.sqlite.specs.Files.{HoldsDatabase, LeavesFiles, NamesSize, SaysSums, image_of}
+use Rattle.sqlite.specs.Files.{FailsToOpenFiles, HoldsDatabase, IsCleanLeft, LeavesFiles, NamesSize, SaysSums, image_of}
+use Rattle.sqlite.specs.declared.error.Error.{Error}
 use Rattle.sqlite.specs.declared.file.Leftover.{Leftover}
 use Rattle.sqlite.specs.declared.file.Leftover.TheVariants as left
 use Rattle.sqlite.proofs.FileLemmas.{is_something}
 use Rattle.office.specs.Office.{Office}
 use Rattle.ledger.specs.Standing.{LeftAs}
-use Rattle.ledger_files.specs.Opening.{AreOf, LeftStands}
+use Rattle.ledger_files.proofs.OpeningFinds.{known_answer}
+use Rattle.ledger_tables.specs.Versions.{IsKnown}
+use Rattle.ledger_files.specs.Opening.{AreRefused, AreStoredAs, IsCleanKept, IsOutOfReach, LeftStands, kept_of, store_fault}
 
 reserved_is : (size : ℕ) → reserved size ≡ if is_summed size then 8 else 0
 reserved_is size = elim (cases_eq (size % 16) 8) [
@@ -77,14 +81,14 @@ module _ (image : Image) (db : Trees) (held : HoldsDatabase image db) where
   used_size_is size true is taken names says = one_used held.0 size (is ∙ sym (taken refl)) (one_size (stored_size size) names)
   used_size_is size false is taken names says = let stored = one_size (stored_size size) names in one_used held.0 size (is ∙ sym (no_sums size is stored says)) stored
 
-module _ {D : Type 0} (g : Ghosts D) (files : Files D) (alone : (image : Image) → outcomes g files.log files.db image → image ≡ image_of g files) (has_sums : Bool) (office : Office) (are : AreOf has_sums (image_of g files) office) where
+module _ {D : Type 0} (g : Ghosts D) (files : Files D) (alone : (image : Image) → outcomes g files.log files.db image → image ≡ image_of g files) (has_sums : Bool) (office : Office) (are : AreStoredAs has_sums (image_of g files) office) where
   abbrev IsFileOf : Image → Type 0
   IsFileOf image = (db : Trees) × (held : HoldsDatabase image db) × (is_summed held.0 ≡ has_sums) × LeftAs db office
 
-  files_stand : (now : Files D) → ((image : Image) → outcomes g now.log now.db image → outcomes g files.log files.db image) → (image : Image) → outcomes g now.log now.db image → AreOf has_sums image office
-  files_stand now leaves image may = subst (λ i. AreOf has_sums i office) (sym (alone image (leaves image may))) are
+  files_stand : (now : Files D) → ((image : Image) → outcomes g now.log now.db image → outcomes g files.log files.db image) → (image : Image) → outcomes g now.log now.db image → AreStoredAs has_sums image office
+  files_stand now leaves image may = subst (λ i. AreStoredAs has_sums i office) (sym (alone image (leaves image may))) are
 
-  unopened_stand : (now : Unopened D g) → LeavesFiles files (left.Unopened now) → (IsTrue has_sums → IsTrue (is_summed (state_of now).page_size)) → (image : Image) → (state_of now).may_leave image → AreOf has_sums image office
+  unopened_stand : (now : Unopened D g) → LeavesFiles files (left.Unopened now) → (IsTrue has_sums → IsTrue (is_summed (state_of now).page_size)) → (image : Image) → (state_of now).may_leave image → AreStoredAs has_sums image office
   unopened_stand now leaves taken image may = ∥∥₁_map are (λ it. elim leaves [
     | inl nothing ↦ absurd (is_something (image_of g files) it.0 it.1 nothing.0)
     | inr kept ↦ elim (kept.4 image may).same [
@@ -118,7 +122,42 @@ both a b log db = ap₂ (λ x y. let i : Image = record { log = x; db = y } in i
 
 -- what is left of an open of files that were as `start` says
 pub fresh_stands : {D : Type 0} {g : Ghosts D} (files : Files D) (rest : Leftover D g) → LeavesFiles files rest → (start : Image) → g.seen files.log ≡ start.log → g.seen files.db ≡ start.db
-    → ((c : List ℕ) → g.may_leave files.log c → c ≡ start.log) → ((c : List ℕ) → g.may_leave files.db c → c ≡ start.db) → (has_sums : Bool) (office : Office) → AreOf has_sums start office → LeftStands has_sums rest office
+    → ((c : List ℕ) → g.may_leave files.log c → c ≡ start.log) → ((c : List ℕ) → g.may_leave files.db c → c ≡ start.db) → (has_sums : Bool) (office : Office) → AreStoredAs has_sums start office → LeftStands has_sums rest office
 fresh_stands {D} {g} files rest leaves start log_seen db_seen log_left db_left has_sums office are =
     left_stands g files (λ image out. both _ _ (log_left image.log out.0 ∙ sym log_seen) (db_left image.db out.1 ∙ sym db_seen)) has_sums office
-    (subst (λ i. AreOf has_sums i office) (sym (both _ _ log_seen db_seen)) are) rest leaves
+    (subst (λ i. AreStoredAs has_sums i office) (sym (both _ _ log_seen db_seen)) are) rest leaves
+
+-- these files have been as this image says since they were opened
+pub record AreAsFound {D : Type 0} (g : Ghosts D) (start : Image) (files : Files D) : Type 0 where
+  pub seen : image_of g files ≡ start
+  pub log : (c : List ℕ) → g.may_leave files.log c → c ≡ start.log
+  pub db : (c : List ℕ) → g.may_leave files.db c → c ≡ start.db
+
+pub if_some : {A : Type 0} {P Q : A → Type 0} (x : Option A) → ((a : A) → P a → Q a) → IfSome x P → IfSome x Q
+if_some (Some a) f p = f a p
+if_some None f p = tt
+
+module _ {D : Type 0} {g : Ghosts D} (start : Image) (error : Error) (known : IsKnown (store_fault error)) where
+  -- an open that failed leaves this of files that were as `start` says
+  abbrev pub IsLeftBy : Leftover D g → Type 0
+  IsLeftBy left = (files : Files D) × AreAsFound g start files × (IsCleanLeft left → FailsToOpenFiles files left error × LeavesFiles files left)
+
+  pub not_opened : (left : Option (Leftover D g)) → (left ≡ None → IsOutOfReach error) → IfSome left IsLeftBy → IsCleanKept (kept_of left) → AreRefused start (store_fault error) (kept_of left)
+  not_opened (Some left) far cause clean =
+      let files = cause.0 in
+      let found = cause.1 in
+      let all = cause.2 clean in
+      record {
+        known = λ office are. known;
+        stands = λ has_sums office are. fresh_stands files left all.1 start (ap (λ (i : Image). i.log) found.seen) (ap (λ (i : Image). i.db) found.seen) found.log found.db has_sums office are;
+        answer = λ db held sound. known_answer (Unit {0}) db _ known;
+        told = (error, files, found.seen, all.0, refl);
+        untouched = λ db held. known;
+      }
+  not_opened None far cause clean = record {
+    known = λ office are. known;
+    stands = λ has_sums office are. tt;
+    answer = λ db held sound. known_answer (Unit {0}) db _ known;
+    told = (error, far refl, refl);
+    untouched = λ db held. known;
+  }

@@ -1,5 +1,5 @@
 -- files that hold a bureau's database
-use Rattle.std.specs.Prelude.{◌≡◌, ◌⊎◌, Bool, IsTrue, Result, Ok, Err, ⊤}
+use Rattle.std.specs.Prelude.{◌≡◌, ◌⊎◌, Bool, IsTrue, Option, Some, None, Result, Ok, Err, ⊤}
 use Rattle.sqlite_disk.specs.declared.Disk.{Ghosts}
 use Rattle.sqlite_disk.specs.declared.Files.{Files}
 use Rattle.sqlite_pool.specs.Stored.{is_summed}
@@ -28,10 +28,14 @@ use Rattle.ledger.specs.Standing.{LeftAs, Stands}
 use Rattle.ledger_files.specs.declared.kept.Kept.{Kept}
 use Rattle.ledger_files.specs.declared.kept.Kept.TheVariants as kept
 
+-- the two files hold a bureau's database that represents this office
+abbrev pub AreOf : Image → Office → Type 0
+AreOf image office = ∥ ((db : Trees) × HoldsDatabase image db × LeftAs db office) ∥₁
+
 -- the two files hold a bureau's database that represents this office, and its pages end in sums or
 -- do not
-abbrev pub AreOf : Bool → Image → Office → Type 0
-AreOf has_sums image office =
+abbrev pub AreStoredAs : Bool → Image → Office → Type 0
+AreStoredAs has_sums image office =
     ∥ ((db : Trees) × (held : HoldsDatabase image db) × (is_summed held.0 ≡ has_sums)
     × LeftAs db office) ∥₁
 
@@ -40,10 +44,10 @@ module _ {D : Type 0} {g : Ghosts D} where
   -- files with sums that are handed back unopened as files without
   abbrev pub LeftStands : Bool → Leftover D g → Office → Type 0
   LeftStands has_sums (left.Files files) office = (image : Image) →
-      outcomes g files.log files.db image → AreOf has_sums image office
+      outcomes g files.log files.db image → AreStoredAs has_sums image office
   LeftStands has_sums (left.Unopened files) office =
       (IsTrue has_sums → IsTrue (is_summed (state_of files).page_size)) → (image : Image) →
-      (state_of files).may_leave image → AreOf has_sums image office
+      (state_of files).may_leave image → AreStoredAs has_sums image office
   LeftStands has_sums (left.Store store) office =
       ∥ ((db : Trees) → recovers store db → LeftAs db office) ∥₁
 
@@ -71,12 +75,23 @@ abbrev pub IsAnswerFor : Image → Result ⊤ OpenFault → Type 0
 IsAnswerFor image answer =
     (db : Database) → HoldsDatabase image db.trees → IsDatabase db → IsAnswer db answer
 
+-- there was no file to open, no memory, or another program has the files: these errors come of
+-- files that could not be reached
+abbrev pub IsOutOfReach : Error → Type 0
+IsOutOfReach error = (error ≡ SqliteFailure CannotOpen)
+    ⊎ ((error ≡ SqliteFailure OutOfMemory) ⊎ (error ≡ SqliteFailure DatabaseBusy))
+
 -- the connection, if it is open, sees these trees, and a crash leaves no others
 pub record HoldsOnly (s : State) (db : Trees) : Type 0 where
   pub now : IsTrue s.is_open → s.now.trees ≡ db
   pub left : (after : Trees) → s.may_leave after → after ≡ db
 
 module _ {D : Type 0} {g : Ghosts D} where
+  -- what is handed back of files that could not be opened: all that is left of them
+  abbrev pub kept_of : Option (Leftover D g) → Kept D g
+  kept_of (Some left) = kept.Left left
+  kept_of None = kept.Nothing
+
   -- the files were opened, and what is handed back still holds this database alone; or they were
   -- not, and the fault is not that they are no bureau's or an old one's
   abbrev pub KeptHolds : OpenFault → Kept D g → Trees → Type 0
@@ -96,7 +111,17 @@ module _ {D : Type 0} {g : Ghosts D} where
   IsToldOf image fault (kept.Left rest) = (error : Error) × (files : Files D)
       × (image_of g files ≡ image) × FailsToOpenFiles files rest error
       × (fault ≡ store_fault error)
-  IsToldOf image fault kept.Nothing = (error : Error)
-      × ((error ≡ SqliteFailure CannotOpen)
-      ⊎ ((error ≡ SqliteFailure OutOfMemory) ⊎ (error ≡ SqliteFailure DatabaseBusy)))
-      × (fault ≡ store_fault error)
+  IsToldOf image fault kept.Nothing =
+      (error : Error) × IsOutOfReach error × (fault ≡ store_fault error)
+
+  -- the files of this image were not opened as a bureau's, for this fault, and this is handed back
+  pub record AreRefused (image : Image) (fault : OpenFault) (rest : Kept D g) : Type 0 where
+    -- files of an office are refused by faults 1 and 2 alone, and the rest represents that office
+    pub known : (office : Office) → AreOf image office → IsKnown fault
+    pub stands : (has_sums : Bool) → (office : Office) → AreStoredAs has_sums image office
+        → KeptStands has_sums rest office
+    -- the fault is right for what the files hold, and by what is handed back
+    pub answer : IsAnswerFor image (Err fault)
+    pub told : IsToldOf image fault rest
+    -- what the files hold is not changed
+    pub untouched : (db : Trees) → HoldsDatabase image db → KeptHolds fault rest db

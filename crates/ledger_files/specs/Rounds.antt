@@ -1,6 +1,7 @@
 -- rounds of work on a bureau's files: what they tell, and what a crash leaves of them
-use Rattle.std.specs.Prelude.{◌≡◌, ◌⊎◌, ◌+◌, ℕ, Bool, List, length, take as beginning_of, Option, IsTrue}
+use Rattle.std.specs.Prelude.{◌≡◌, ◌≤◌, ◌⊎◌, ◌+◌, ℕ, Bool, List, length, take as beginning_of, Option, IsTrue}
 use Rattle.sqlite_disk.specs.declared.Disk.{Ghosts}
+use Rattle.sqlite_disk.specs.declared.Files.{Files}
 use Rattle.sqlite_pool.specs.Stored.{is_summed}
 use Rattle.sqlite_store.specs.declared.store.FileStore.{FileStore}
 use Rattle.sqlite.specs.FileStore as store
@@ -11,16 +12,14 @@ use Rattle.sqlite.specs.Recovery.{Image}
 use Rattle.sqlite.specs.State.{HasCleanDisk}
 use Rattle.sqlite.specs.Tree.{Trees}
 use Rattle.sqlite.specs.View.{IsClean}
+use Rattle.sqlite.specs.WalFiles.{outcomes}
+use Rattle.sqlite_wal.specs.Reads.{AreClean}
 use Rattle.office.specs.Office.{Office, fold, IsLeft}
 use Rattle.office.specs.declared.commands.Command.{Command}
 use Rattle.office.specs.declared.replies.Reply.{Reply}
 use Rattle.ledger.specs.Shifting.{LeavesWhole}
 use Rattle.ledger.specs.Standing.{Stands}
 use Rattle.ledger_files.specs.Opening.{AreOf}
-
--- a bureau's two files, with whether their pages end in sums
-abbrev pub Found : Type 0
-Found = Bool × Image
 
 -- the two files hold one of the databases that a crash may leave, with or without sums on its pages
 abbrev pub HoldsOneOf : Bool → Image → (Trees → Type 0) → Type 0
@@ -31,11 +30,11 @@ HoldsOneOf has_sums image may_leave =
 -- if the first files represent an office, the replies are that office's to the first of the
 -- commands, and the second files represent the office after a beginning of the commands that holds
 -- every one that was replied to
-abbrev pub LeadsBy : List Command → List Reply → Found → Found → Type 0
-LeadsBy commands replies before after = (office : Office) → AreOf before.0 before.1 office
+abbrev pub LeadsBy : List Command → List Reply → Image → Image → Type 0
+LeadsBy commands replies before after = (office : Office) → AreOf before office
     → ∥ ((replies ≡ (fold (beginning_of (length replies) commands) office).1)
     × ((left : Office) × IsLeft office commands (length replies) left
-    × AreOf after.0 after.1 left)) ∥₁
+    × AreOf after left)) ∥₁
 
 module _ {D : Type 0} {g : Ghosts D} where
   -- after the commands were carried out for this office: the replies are the office's, whatever a
@@ -57,19 +56,28 @@ module _ {D : Type 0} {g : Ghosts D} where
     pub told : Tells commands replies
     pub all : (length replies ≡ length commands)
         ⊎ (IsTrue is_broken × (length commands ≡ length replies + 1))
-    pub after : HasCleanDisk (file_state now) → (has_sums : Bool) → (office : Office)
-        → AreOf has_sums files office → ∥ IsAfter now commands replies office ∥₁
+    pub after : HasCleanDisk (file_state now) → (office : Office) → AreOf files office
+        → ∥ IsAfter now commands replies office ∥₁
 
-  -- a round from these files to those that a crash may leave of the store: the commands that were
-  -- carried out, the replies to them, and what is told of them
-  pub record IsRound (files : Image) (left : FileStore D g)
-      (Tells : List Command → List Reply → Type 0) : Type 0 where
-    pub commands : List Command
-    pub replies : List Reply
-    pub told : Tells commands replies
-    pub leads : IsClean (view left) → (has_sums : Bool) → (image : Image)
-        → (store.state left).may_leave image
-        → LeadsBy commands replies (has_sums, files) ((view left).has_sums, image)
+  -- this is what a crash may leave of the store, whose disk has returned what was written to it
+  abbrev pub MayLeave : FileStore D g → Image → Type 0
+  MayLeave left image = IsClean (view left) × (store.state left).may_leave image
+
+  -- this is what a crash may leave of the closed files, whose disk has returned what was written
+  -- to it
+  abbrev pub MayLeaveFiles : Files D → Image → Type 0
+  MayLeaveFiles files image =
+      AreClean g files.log files.db × outcomes g files.log files.db image
+
+-- a round from these files to those that may be left: the commands that were carried out, the
+-- replies to them, to all or to all but the last, and what is told of them
+pub record IsRound (files : Image) (may_leave : Image → Type 0)
+    (Tells : List Command → List Reply → Type 0) : Type 0 where
+  pub commands : List Command
+  pub replies : List Reply
+  pub told : Tells commands replies
+  pub all : length commands ≤ length replies + 1
+  pub leads : (image : Image) → may_leave image → LeadsBy commands replies files image
 
 -- some commands were carried out and replied to, of which this is told
 pub record IsWork (Tells : List Command → List Reply → Type 0) : Type 0 where

@@ -5,6 +5,7 @@ ghost use Rattle.sqlite.specs.FileStore.{recovers, view};
 ghost use Rattle.sqlite.specs.Files.{file_state};
 ghost use Rattle.sqlite.specs.Held.{state};
 ghost use Rattle.sqlite.specs.Recovery.{Image};
+ghost use Rattle.sqlite.specs.State.{HasCleanDisk};
 ghost use Rattle.sqlite.specs.Tree.{Trees};
 ghost use Rattle.sqlite.specs.View.{IsClean};
 ghost use Rattle.sqlite.specs.WalFiles.{outcomes};
@@ -37,6 +38,8 @@ pub fn close<D: Disk + Drop>(
     ensures alone { IfOk result (λ files. AreClean D.Disk files.log files.db → (office : Office)
         → Stands (file_state bureau.conn) office → (left : Image)
         → outcomes D.Disk files.log files.db left → StandsAlone left office) }
+    ensures clean { IfOk result (λ files. AreClean D.Disk files.log files.db
+        → HasCleanDisk (file_state bureau.conn)) }
     ensures kept { IfErr result (λ e. (db : Trees) → recovers e.1 db
         → (file_state bureau.conn).may_leave db) }
     ensures cause { IfErr result (λ e. IsClean (view e.1) → HindersClosing bureau.conn e.1 e.0) }

@@ -1,6 +1,6 @@
 //! Opening a bureau's file.
 
-ghost use Rattle.std.specs.Prelude.{◌≡◌, ◌≤◌, false, Ok, Err, Bool, IsTrue, IfOk, IfErr};
+ghost use Rattle.std.specs.Prelude.{◌≡◌, ◌≤◌, false, Ok, IfOk, IfErr};
 ghost use Rattle.sqlite.specs.Effect.{Database, IsDatabase};
 ghost use Rattle.sqlite.specs.Held.{state};
 ghost use Rattle.sqlite.specs.Files.{file_state, HoldsDatabase};
@@ -12,12 +12,12 @@ ghost use Rattle.ledger_tables.specs.Versions.{IsAnswer, IsKnown};
 ghost use Rattle.office.specs.Office.{Office};
 ghost use Rattle.ledger.specs.Adopting.{StandsStill, IsNoFaultOfTables, IsTold, handed, verdict};
 ghost use Rattle.ledger.specs.Standing.{LeftAs, Stands};
-ghost use Rattle.ledger_files.specs.Opening.{AreOf, KeptStands, IsCleanKept, store_fault, IsAnswerFor, HoldsOnly, KeptHolds, IsToldOpen, IsToldOf};
+ghost use Rattle.ledger_files.specs.Opening.{AreOf, AreRefused, HoldsOnly, IsAnswerFor, IsCleanKept, IsToldOpen, kept_of, store_fault};
 
 use crate::kept::Kept;
 use ledger::Bureau;
 use ledger_tables::OpenFault;
-use sqlite::{Alter, Connection, Error, ErrorCode, FileFrom, FileStore, Start};
+use sqlite::{Alter, Connection, Error, ErrorCode, FileFrom, FileStore, Leftover, Start};
 use std::alloc::Global;
 
 /// Proves that a connection that was just opened represents the office of its trees, and that a
@@ -71,6 +71,21 @@ pub(crate) fn store_fault_of(error: Error) -> OpenFault
     }
 }
 
+/// Hands on an error by which files could not be opened, and all that is left of the files.
+fn handed_on<S: Start>(
+    error: Error,
+    left: Option<Leftover<FileFrom<S>>>,
+) -> (OpenFault, Kept<FileFrom<S>>)
+    ensures all { result ≡ (store_fault error, kept_of left) }
+    ensures known { IsKnown result.0 }
+{
+    let kept = match left {
+        Some(left) => Kept::Left(left),
+        None => Kept::Nothing,
+    };
+    (store_fault_of(error), kept)
+}
+
 /// Opens the file at a path as a bureau. Fails with 50 if it is not a bureau's or is of a later
 /// version, with 51 if it is of an earlier version, with 1 if there is no memory, and else with 2.
 /// The contents of the files are then handed back, as far as they were reached; after 50 and 51
@@ -81,29 +96,21 @@ pub fn open_from<S: Start>(
     start: S,
 ) -> Result<Bureau<FileStore<FileFrom<S>>>, (OpenFault, Kept<FileFrom<S>>)>
     ensures found { IfOk result (λ bureau. HasCleanDisk (file_state bureau.conn)
-        → (has_sums : Bool) → (office : Office) → AreOf has_sums (image_at S.Start) office
+        → (office : Office) → AreOf (image_at S.Start) office
         → ∥ Stands (file_state bureau.conn) office ∥₁) }
-    ensures kept { IfErr result (λ e. IsCleanKept e.1 → (has_sums : Bool) → (office : Office)
-        → AreOf has_sums (image_at S.Start) office → KeptStands has_sums e.1 office) }
-    ensures known { IfErr result (λ e. IsCleanKept e.1 → (has_sums : Bool) → (office : Office)
-        → AreOf has_sums (image_at S.Start) office → IsKnown e.0) }
     ensures whole { IfOk result (λ bureau. bureau.broken ≡ false) }
     ensures version { IfOk result (λ bureau. HasCleanDisk (file_state bureau.conn)
         → IsAnswerFor (image_at S.Start) (Ok tt)) }
-    ensures answer { IfErr result (λ e. IsCleanKept e.1
-        → IsAnswerFor (image_at S.Start) (Err e.0)) }
     ensures opened { IfOk result (λ bureau. HasCleanDisk (file_state bureau.conn)
         → IsToldOpen (image_at S.Start) bureau.conn (Ok tt)) }
-    ensures told { IfErr result (λ e. IsCleanKept e.1 → IsToldOf (image_at S.Start) e.0 e.1) }
     ensures holds { IfOk result (λ bureau. HasCleanDisk (file_state bureau.conn) → (db : Trees)
         → HoldsDatabase (image_at S.Start) db → HoldsOnly (file_state bureau.conn) db) }
-    ensures untouched { IfErr result (λ e. IsCleanKept e.1 → (db : Trees)
-        → HoldsDatabase (image_at S.Start) db → KeptHolds e.0 e.1 db) }
+    ensures refused { IfErr result (λ e. IsCleanKept e.1
+        → AreRefused (image_at S.Start) e.0 e.1) }
 {
     let conn = match Connection::open_from(rt, path, false, start) {
         Ok(conn) => conn,
-        Err((error, Some(left))) => return Err((store_fault_of(error), Kept::Left(left))),
-        Err((error, None)) => return Err((store_fault_of(error), Kept::Nothing)),
+        Err((error, left)) => return Err(handed_on(error, left)),
     };
     match adopted(rt.alloc(), conn) {
         Ok(bureau) => Ok(bureau),

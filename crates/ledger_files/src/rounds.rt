@@ -1,7 +1,7 @@
 //! Rounds of work on a bureau's files: they are opened, work is done, and then everything stops, or
 //! the file is closed.
 
-ghost use Rattle.std.specs.Prelude.{◌≡◌, ◌≤◌, Bool, Ok, Err, IfOk, IfErr, IsErrAnd, IsTrue};
+ghost use Rattle.std.specs.Prelude.{◌≡◌, ◌≤◌, List, Ok, IfOk, IfErr, IsErrAnd, IsTrue};
 ghost use Rattle.sqlite.specs.FileStore as store;
 ghost use Rattle.sqlite.specs.FileStore.{recovers, view};
 ghost use Rattle.sqlite.specs.Files.{HoldsDatabase, file_state};
@@ -12,11 +12,12 @@ ghost use Rattle.sqlite.specs.View.{IsClean, doubt};
 ghost use Rattle.sqlite.specs.WalFiles.{image_at, outcomes};
 ghost use Rattle.sqlite_wal.specs.Reads.{AreClean};
 ghost use Rattle.office.specs.Office.{Office};
+ghost use Rattle.office.specs.declared.commands.Command.{Command};
+ghost use Rattle.office.specs.declared.replies.Reply.{Reply};
 ghost use Rattle.ledger.specs.Standing.{Stands};
-ghost use Rattle.ledger_tables.specs.Versions.{IsKnown};
 ghost use Rattle.ledger_files.specs.Closing.{HindersEnding, StandsAlone};
-ghost use Rattle.ledger_files.specs.Opening.{AreOf, IsAnswerFor, IsCleanKept, IsToldOf, KeptHolds, KeptStands};
-ghost use Rattle.ledger_files.specs.Rounds.{HasWorkedFrom, HoldsOneOf, IsRound};
+ghost use Rattle.ledger_files.specs.Opening.{AreRefused, IsAnswerFor, IsCleanKept};
+ghost use Rattle.ledger_files.specs.Rounds.{HasWorkedFrom, HoldsOneOf, IsRound, MayLeave, MayLeaveFiles};
 
 use crate::closing::close;
 use crate::kept::Kept;
@@ -44,15 +45,8 @@ pub fn open_and_work<S: Start, W: Work, O: Write>(
         → IsAnswerFor (image_at S.Start) (Ok tt)) }
     ensures idle { IfErr result (λ e. (work.new ≡ work.old)
         × (O.contents output.new ≡ O.contents output.old)) }
-    ensures kept { IfErr result (λ e. IsCleanKept e.1 → (has_sums : Bool) → (office : Office)
-        → AreOf has_sums (image_at S.Start) office → KeptStands has_sums e.1 office) }
-    ensures known { IfErr result (λ e. IsCleanKept e.1 → (has_sums : Bool) → (office : Office)
-        → AreOf has_sums (image_at S.Start) office → IsKnown e.0) }
-    ensures answer { IfErr result (λ e. IsCleanKept e.1
-        → IsAnswerFor (image_at S.Start) (Err e.0)) }
-    ensures told { IfErr result (λ e. IsCleanKept e.1 → IsToldOf (image_at S.Start) e.0 e.1) }
-    ensures untouched { IfErr result (λ e. IsCleanKept e.1 → (db : Trees)
-        → HoldsDatabase (image_at S.Start) db → KeptHolds e.0 e.1 db) }
+    ensures refused { IfErr result (λ e. IsCleanKept e.1
+        → AreRefused (image_at S.Start) e.0 e.1) }
 {
     match open_from(rt, path, start) {
         Ok(mut bureau) => {
@@ -63,10 +57,15 @@ pub fn open_and_work<S: Start, W: Work, O: Write>(
     }
 }
 
-/// Returns the store as a crash at this moment leaves it, whatever the tables represent.
+/// Returns the store as a crash at this moment finds it, whatever the tables represent. Work that
+/// was done with the bureau is then a round from the files that were opened to whatever the crash
+/// leaves.
 pub fn stop<D: Disk + Drop>(bureau: Bureau<FileStore<D>>) -> FileStore<D>
     ensures left { IsClean (view result) → (left : Image) → (store.state result).may_leave left
         → HoldsOneOf (view result).has_sums left (file_state bureau.conn).may_leave }
+    ensures round { (first : Image) → (Tells : List Command → List Reply → Type 0)
+        → HasWorkedFrom first bureau.conn bureau.broken Tells
+        → IsRound first (MayLeave result) Tells }
     ensures kept { (db : Trees) → recovers result db → (file_state bureau.conn).may_leave db }
     ensures clean { doubt (file_state bureau.conn).is_clean ≤ doubt (view result).is_clean }
 {
@@ -75,13 +74,18 @@ pub fn stop<D: Disk + Drop>(bureau: Bureau<FileStore<D>>) -> FileStore<D>
 
 /// Ends the work with a bureau: its file is closed, so that it alone is the bureau. The file of a
 /// broken bureau is not, since it has to be opened again: what a crash may leave of it now is kept,
-/// as it is where the closing fails.
+/// as it is where the closing fails. Work that was done with the bureau is then a round from the
+/// files that were opened to whatever a crash leaves of the closed ones.
 pub fn finish<D: Disk + Drop>(
     bureau: Bureau<FileStore<D>>,
 ) -> Result<Files<D>, (OpenFault, FileStore<D>)>
     ensures alone { IfOk result (λ files. AreClean D.Disk files.log files.db → (office : Office)
         → Stands (file_state bureau.conn) office → (left : Image)
         → outcomes D.Disk files.log files.db left → StandsAlone left office) }
+    ensures round { IfOk result (λ files. (first : Image)
+        → (Tells : List Command → List Reply → Type 0)
+        → HasWorkedFrom first bureau.conn bureau.broken Tells
+        → IsRound first (MayLeaveFiles files) Tells) }
     ensures kept { IfErr result (λ e. (db : Trees) → recovers e.1 db
         → (file_state bureau.conn).may_leave db) }
     ensures cause { IfErr result (λ e. IsClean (view e.1)
@@ -94,9 +98,7 @@ pub fn finish<D: Disk + Drop>(
     close(bureau)
 }
 
-/// Opens the file at a path as a bureau, does work with it, and stops: what a crash at this moment
-/// may leave is a link of the chain that the theorem of stops is about. Fails as [`open_from`]
-/// does.
+/// Opens the file at a path as a bureau, does work with it, and stops. Fails as [`open_from`] does.
 pub fn round<S: Start, W: Work, O: Write>(
     rt: &HostRuntime,
     path: &str,
@@ -104,19 +106,12 @@ pub fn round<S: Start, W: Work, O: Write>(
     work: &mut W,
     output: &mut O,
 ) -> Result<FileStore<FileFrom<S>>, (OpenFault, Kept<FileFrom<S>>)>
-    ensures round { IfOk result (λ left. IsRound (image_at S.Start) left (W.tells work.old work.new
-        (O.contents output.old) (O.contents output.new))) }
+    ensures round { IfOk result (λ left. IsRound (image_at S.Start) (MayLeave left)
+        (W.tells work.old work.new (O.contents output.old) (O.contents output.new))) }
     ensures idle { IfErr result (λ e. (work.new ≡ work.old)
         × (O.contents output.new ≡ O.contents output.old)) }
-    ensures kept { IfErr result (λ e. IsCleanKept e.1 → (has_sums : Bool) → (office : Office)
-        → AreOf has_sums (image_at S.Start) office → KeptStands has_sums e.1 office) }
-    ensures known { IfErr result (λ e. IsCleanKept e.1 → (has_sums : Bool) → (office : Office)
-        → AreOf has_sums (image_at S.Start) office → IsKnown e.0) }
-    ensures answer { IfErr result (λ e. IsCleanKept e.1
-        → IsAnswerFor (image_at S.Start) (Err e.0)) }
-    ensures told { IfErr result (λ e. IsCleanKept e.1 → IsToldOf (image_at S.Start) e.0 e.1) }
-    ensures untouched { IfErr result (λ e. IsCleanKept e.1 → (db : Trees)
-        → HoldsDatabase (image_at S.Start) db → KeptHolds e.0 e.1 db) }
+    ensures refused { IfErr result (λ e. IsCleanKept e.1
+        → AreRefused (image_at S.Start) e.0 e.1) }
 {
     match open_and_work(rt, path, start, work, output) {
         Ok(bureau) => Ok(stop(bureau)),

@@ -1,5 +1,6 @@
 use Rattle.std.proofs.Common.{subst, sym, []}
 use Rattle.std.proofs.Math.Logic.{∥∥₁_elim, ∥∥₁_map}
+use Rattle.sqlite.specs.State.{HasCleanDisk}
 use Rattle.sqlite.specs.Tree.{Trees}
 use Rattle.sqlite.specs.Files.{HoldsDatabase, file_state}
 use Rattle.ledger.specs.Standing.{LeftAs, Stands}
@@ -20,3 +21,6 @@ returns-in-Err-clause-kept g c db may =
 pub returns-in-Err-clause-cause : goal.returns-in-Err-clause-cause
 returns-in-Err-clause-cause g c clean =
     hinders c.in-Err.store c.in-Err.error _ c.store_fault_of.ensures.memory _ _ c.into_connection-conn.ensures (c.in-Err.ensures.err.1 clean)
+
+pub returns-in-Ok-clause-clean : goal.returns-in-Ok-clause-clean
+returns-in-Ok-clause-clean g c clean = subst (λ h. HasCleanDisk (file_state h)) c.into_connection-conn.ensures (c.in-Ok.ensures.copied clean).was_clean

@@ -1,9 +1,11 @@
-use Rattle.std.proofs.Common.{◌≡◌, subst}
+use Rattle.std.proofs.Common.{◌≡◌, ◌≤◌, subst}
 use Rattle.std.proofs.Math.Logic.{∥∥₁_map}
 use Rattle.sqlite_pool.specs.Stored.{is_summed}
 use Rattle.sqlite.specs.Tree.{Trees}
 use Rattle.sqlite.specs.Files.{HoldsDatabase, file_state}
 use Rattle.sqlite.specs.FileStore.{view}
+use Rattle.sqlite.specs.View.{doubt}
+use Rattle.ledger_files.proofs.RoundLemmas.{round_from}
 use Rattle.ledger_files.proofs.StopLemmas.{left_holds}
 use Rattle.ledger_files.proofs.rounds.stop.Goals as goal
 
@@ -16,3 +18,6 @@ returns-clause-left g c clean left may =
 
 pub returns-clause-kept : goal.returns-clause-kept
 returns-clause-kept g c db may = subst (λ h. (file_state h).may_leave db) c.into_connection.ensures (c.into_store.ensures.quiet.outcomes db may)
+
+pub returns-clause-round : goal.returns-clause-round
+returns-clause-round g c first Tells = round_from first Tells c.args.bureau.conn c.args.bureau.broken c.into_store.result (subst (λ h. doubt (file_state h).is_clean ≤ doubt (view c.into_store.result).is_clean) c.into_connection.ensures c.into_store.ensures.quiet.clean) (returns-clause-left g c)
