@@ -266,7 +266,8 @@ rattle-kit-13f logic dac8208d650f15bf
 ";
 
 /// The line that is printed after what is wrong with the words.
-pub(crate) const USAGE: &str = "usage: bureau [ROW WORDS..]; bureau --help lists the rows and their words";
+pub(crate) const USAGE: &str =
+    "usage: bureau [ROW WORDS..]; bureau --help lists the rows and their words";
 
 /// The help of a row, or the whole help.
 pub fn page(row: Option<RowName>) -> &'static str

@@ -97,11 +97,13 @@ fn fails_after<S: Alter>(
     let mut writer = Narrow::new(alloc, 1000, false);
     let ended = script(alloc, &mut reader, &mut writer, bureau, &mut Meter::new());
     let written = "taken 1\n".repeat(alloc, ended.acknowledged)?;
-    Ok(ended.ended == ScriptEnd::Fault(Fault::Store)
-        && ended.acknowledged >= least
-        && ended.acknowledged < 100
-        && ended.sent == written.len()
-        && writer.taken.as_slice() == written.as_str().as_bytes())
+    Ok(
+        ended.ended == ScriptEnd::Fault(Fault::Store)
+            && ended.acknowledged >= least
+            && ended.acknowledged < 100
+            && ended.sent == written.len()
+            && writer.taken.as_slice() == written.as_str().as_bytes(),
+    )
 }
 
 /// A script that meets the failure, and one after it.

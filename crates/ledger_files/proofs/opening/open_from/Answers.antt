@@ -60,10 +60,13 @@ returns-in-Err-default-clause-refused g c =
     subst (λ p. IsCleanKept p.1 → AreRefused (image_at first) p.0 p.1) (sym c.handed_on.ensures.all)
     (not_opened (image_at first) c.in-Err-default.error known c.in-Err-default.left c.in-Err-default.ensures.unopened
     (if_some c.in-Err-default.left (λ left it.
-      let log_start : start_of first it.0.log ≡ first.log = ap (λ b. if b then first.log else first.db) it.1.0 in
-      let db_start : start_of first it.0.db ≡ first.db = ap (λ b. if b then first.log else first.db) it.2.0 in
-      (it.0, record {
+    let log_start : start_of first it.0.log ≡ first.log = ap (λ b. if b then first.log else first.db) it.1.0 in
+    let db_start : start_of first it.0.db ≡ first.db = ap (λ b. if b then first.log else first.db) it.2.0 in (
+      it.0,
+      record {
         seen = both _ _ (fresh_seen _ _ _ it.1.1 ∙ log_start) (fresh_seen _ _ _ it.2.1 ∙ db_start);
         log = λ x may. fresh_left _ _ _ _ it.1.1 x may ∙ log_start;
         db = λ x may. fresh_left _ _ _ _ it.2.1 x may ∙ db_start;
-      }, it.3)) c.in-Err-default.ensures.cause))
+      },
+      it.3,
+    )) c.in-Err-default.ensures.cause))
