@@ -3,8 +3,7 @@ use Rattle.std.proofs.Common.{◌≡◌, ◌+◌, ℕ, List, [], ◌∷◌, map,
 use Rattle.std.specs.List.{AllByRecursion}
 use Rattle.cards.specs.Decks.{deck_bytes}
 use Rattle.core_store.specs.Storage.{positions_of}
-use Rattle.core_store.specs.declared.sizes.Size.{Size}
-use Rattle.core_store.specs.declared.sizes.Size.TheVariants.{Positions1400, Positions2000, Positions4000}
+use Rattle.core_store.proofs.SizeLemmas.{same_size}
 use Rattle.office.specs.Jobs.{HasSwitches}
 use Rattle.office.specs.Office.{Entry, Office, job_of}
 use Rattle.office.specs.declared.commands.Kind.{Kind}
@@ -28,17 +27,6 @@ same_kind Object Object is = refl
 same_kind Object Autocoder is = absurd (omega (arith, is))
 same_kind Autocoder Object is = absurd (omega (arith, is))
 same_kind Autocoder Autocoder is = refl
-
-same_size : (a b : Size) → positions_of a ≡ positions_of b → a ≡ b
-same_size Positions1400 Positions1400 is = refl
-same_size Positions1400 Positions2000 is = absurd (omega (arith, is))
-same_size Positions1400 Positions4000 is = absurd (omega (arith, is))
-same_size Positions2000 Positions1400 is = absurd (omega (arith, is))
-same_size Positions2000 Positions2000 is = refl
-same_size Positions2000 Positions4000 is = absurd (omega (arith, is))
-same_size Positions4000 Positions1400 is = absurd (omega (arith, is))
-same_size Positions4000 Positions2000 is = absurd (omega (arith, is))
-same_size Positions4000 Positions4000 is = refl
 
 same_truth : (a b : Bool) → truth a ≡ truth b → a ≡ b
 same_truth true true is = refl

@@ -1,8 +1,7 @@
 -- What a job that is handed in adds to the office and to the tables
-use Rattle.std.proofs.Common.{true≢false, inl, inr, ◌≡◌, ◌==◌, ℕ, List, [], ◌∷◌, ◌++◌, map, Bool, true, false, if◌then◌else◌, Option, None, Some, Ok, refl, sym, ap, subst, ◌∙◌, arith}
+use Rattle.std.proofs.Common.{true≢false, inl, inr, ◌≡◌, ℕ, List, [], ◌∷◌, ◌++◌, map, Bool, true, false, if◌then◌else◌, Option, None, Some, Ok, refl, sym, ap, subst, ◌∙◌, arith}
 use Rattle.std.proofs.Math.Path.{fun_ext}
 use Rattle.std.proofs.lemmas.Bool.{cases_Bool}
-use Rattle.std.proofs.lemmas.Bool.Decides.{nat_tests}
 use Rattle.std.proofs.lemmas.List.{map-append}
 use Rattle.std.specs.List.{All, AllByRecursion}
 use Rattle.sqlite.specs.Effect.{Database}
@@ -13,7 +12,7 @@ use Rattle.cards.specs.declared.decks.Card.{Card}
 use Rattle.cards.specs.Decks.{deck_bytes, IsCard, IsDeck}
 use Rattle.core_store.specs.Storage.{positions_of}
 use Rattle.core_store.specs.declared.sizes.Size.{Size}
-use Rattle.core_store.specs.declared.sizes.Size.TheVariants.{Positions1400, Positions2000, Positions4000}
+use Rattle.core_store.proofs.SizeLemmas.{numbered}
 use Rattle.machine.specs.Run.{State, after, lines_of}
 use Rattle.office.specs.Jobs.{Job, loaded_deck, picture, resumed, IsJob}
 use Rattle.office.specs.Kept.{Kept, kept_of}
@@ -98,19 +97,10 @@ new_of contents job is = go (size_numbered contents.size) refl is
     go None at is = absurd (let e = is in cc)
     go (Some size) at is = (size, at, as_new size contents job (deck_refusal contents.kind contents.deck) is)
 
-size_told : (positions : ℕ) (size : Size) → size_numbered positions ≡ Some size → positions_of size ≡ positions
-size_told positions size is = go (positions == 1400) refl (positions == 2000) refl (positions == 4000) refl
-  where
-    go : (a : Bool) → (positions == 1400) ≡ a → (b : Bool) → (positions == 2000) ≡ b → (c : Bool) → (positions == 4000) ≡ c → positions_of size ≡ positions
-    go true one b two c three = let same : Some Positions1400 ≡ Some size = rw one at is in let it : Positions1400 ≡ size = cc in subst (λ s. positions_of s ≡ positions) it (grind (arith, nat_tests))
-    go false one true two c three = let same : Some Positions2000 ≡ Some size = rw (one, two) at is in let it : Positions2000 ≡ size = cc in subst (λ s. positions_of s ≡ positions) it (grind (arith, nat_tests))
-    go false one false two true three = let same : Some Positions4000 ≡ Some size = rw (one, two, three) at is in let it : Positions4000 ≡ size = cc in subst (λ s. positions_of s ≡ positions) it (grind (arith, nat_tests))
-    go false one false two false three = absurd (let none = rw (one, two, three) at is in cc)
-
 -- the columns are those of the job
 row_of_new : (contents : Contents) (size : Size) (loaded : List Card) → size_numbered contents.size ≡ Some size → loaded ≡ loaded_deck (new_job size contents) → new_cells contents loaded ≡ job_cells (new_job size contents)
 row_of_new contents size loaded sized is =
-    ap (λ (n : ℕ). let row : JobCells = record { kind = kind_number contents.kind; size = n; deck = deck_bytes contents.deck; loaded = deck_bytes loaded; held = truth false; collected = truth false } in row) (sym (size_told contents.size size sized))
+    ap (λ (n : ℕ). let row : JobCells = record { kind = kind_number contents.kind; size = n; deck = deck_bytes contents.deck; loaded = deck_bytes loaded; held = truth false; collected = truth false } in row) (sym (numbered contents.size size sized))
     ∙ ap (λ (d : List Card). let row : JobCells = record { kind = kind_number contents.kind; size = positions_of size; deck = deck_bytes contents.deck; loaded = deck_bytes d; held = truth false; collected = truth false } in row) is
 
 new_row : (contents : Contents) (job : Job) (loaded : List Card) → job_or_refusal contents ≡ Ok job → loaded ≡ loaded_deck job → new_cells contents loaded ≡ job_cells job

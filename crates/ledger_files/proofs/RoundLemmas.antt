@@ -1,5 +1,5 @@
 -- From files to files.
-use Rattle.std.proofs.Common.{◌≡◌, ◌⊎◌, inl, inr, ◌≤◌, Bool, IsTrue, false, List, length, take, refl, sym, ap, subst, arith, Result, Ok, Err}
+use Rattle.std.proofs.Common.{◌≡◌, ◌⊎◌, inl, inr, ◌≤◌, ◌+◌, Bool, IsTrue, false, List, length, take, refl, sym, ap, subst, arith, Result, Ok, Err}
 use Rattle.std.specs.Prelude.{IfOk}
 use Rattle.std.proofs.Math.Logic.{∥∥₁_elim, ∥∥₁_map}
 use Rattle.std.proofs.Math.Seq.{take-length}
@@ -23,75 +23,72 @@ use Rattle.ledger.specs.Standing.{LeftAs, Stands}
 use Rattle.ledger.specs.Working.{HasWorked}
 use Rattle.ledger_files.specs.Closing.{StandsAlone}
 use Rattle.ledger_files.specs.Opening.{AreOf}
-use Rattle.ledger_files.specs.Rounds.{HasWorkedFrom, HoldsOneOf, IsAfter, IsRound, LeadsBy, MayLeave, MayLeaveFiles}
+use Rattle.ledger_files.specs.Rounds.{HasDone, HasWorkedFrom, HoldsOneOf, IsAfter, IsLink, LeadsBy, MayLeave, MayLeaveFiles}
 use Rattle.ledger_tables.specs.declared.openings.OpenFault.{OpenFault}
 
-module _ {D : Type 0} {g : Ghosts D} (files : Image) (Tells : List Command → List Reply → Type 0) where
+module _ {D : Type 0} {g : Ghosts D} (files : Image) where
   -- work of a bureau that was opened on files
-  pub worked_from : (old now : Held (FileStore D g)) (is_broken : Bool) → doubt (file_state old).is_clean ≤ doubt (file_state now).is_clean
+  pub worked_from : (Tells : List Command → List Reply → Type 0) (old now : Held (FileStore D g)) (is_broken : Bool) → doubt (file_state old).is_clean ≤ doubt (file_state now).is_clean
       → (HasCleanDisk (file_state old) → (o : Office) → AreOf files o → ∥ Stands (file_state old) o ∥₁)
       → HasWorked over_files old now is_broken Tells → HasWorkedFrom files now is_broken Tells
-  worked_from old now is_broken early found it = record {
+  worked_from Tells old now is_broken early found it = record {
     commands = it.commands;
     replies = it.replies;
     told = it.told;
-    all = elim it.works.ends [ inl whole ↦ inl whole.0 | inr broken ↦ inr broken ];
-    after = λ clean o are.
-        let was : HasCleanDisk (file_state old) = omega (arith, early) in
-        ∥∥₁_map (found was o are) (λ s.
-        let r : IsAfter now it.commands it.replies o = record {
-          replied = it.are clean o s;
-          left = λ db may. it.works.leads clean o s db may;
-          stands = λ all. elim it.works.ends [ inl whole ↦ whole.1 clean o s | inr broken ↦ absurd (omega (arith, all, broken.1)) ];
-        } in r);
+    done = record {
+      all = elim it.works.ends [ inl whole ↦ inl whole.0 | inr broken ↦ inr broken ];
+      after = λ clean o are.
+          let was : HasCleanDisk (file_state old) = omega (arith, early) in
+          ∥∥₁_map (found was o are) (λ s.
+          let r : IsAfter now it.commands it.replies o = record {
+            replied = it.are clean o s;
+            left = λ db may. it.works.leads clean o s db may;
+            stands = λ all. elim it.works.ends [ inl whole ↦ whole.1 clean o s | inr broken ↦ absurd (omega (arith, all, broken.1)) ];
+          } in r);
+    };
   }
 
-  -- all commands, or all but the last, were replied to
-  all_but_last : (now : Held (FileStore D g)) (is_broken : Bool) (it : HasWorkedFrom files now is_broken Tells) → length it.commands ≤ length it.replies + 1
-  all_but_last now is_broken it = elim it.all [ inl whole ↦ omega (arith, whole) | inr broken ↦ omega (arith, broken.1) ]
+  module _ (now : Held (FileStore D g)) (is_broken : Bool) (commands : List Command) (replies : List Reply) (it : HasDone files now is_broken commands replies) where
+    -- all commands, or all but the last, were replied to
+    all_but_last : length commands ≤ length replies + 1
+    all_but_last = elim it.all [ inl whole ↦ omega (arith, whole) | inr broken ↦ omega (arith, broken.1) ]
 
-  -- what a stop leaves of it
-  pub round_from : (now : Held (FileStore D g)) (is_broken : Bool) (left : FileStore D g) → doubt (file_state now).is_clean ≤ doubt (view left).is_clean
-      → (IsClean (view left) → (image : Image) → (store.state left).may_leave image → HoldsOneOf (view left).has_sums image (file_state now).may_leave)
-      → HasWorkedFrom files now is_broken Tells → IsRound files (MayLeave left) Tells
-  round_from now is_broken left late holds it = record {
-    commands = it.commands;
-    replies = it.replies;
-    told = it.told;
-    all = all_but_last now is_broken it;
-    leads = λ image may o are.
-        let was : HasCleanDisk (file_state now) = omega (arith, late, may.0) in
-        ∥∥₁_elim (it.after was o are) squash₁ (λ after.
-        ∥∥₁_map (holds may.0 image may.1) (λ one.
-        let here = after.left one.0 one.1 in
-        let r : (it.replies ≡ (fold (take (length it.replies) it.commands) o).1) × ((x : Office) × IsLeft o it.commands (length it.replies) x × AreOf image x) =
-        (after.replied, (here.left, here.beginning, ∣ (let f : (db : Trees) × HoldsDatabase image db × LeftAs db here.left = (one.0, one.2, here.rows) in f) ∣₁)) in r));
-  }
+    -- what a stop leaves of it
+    pub link_from : (left : FileStore D g) → doubt (file_state now).is_clean ≤ doubt (view left).is_clean
+        → (IsClean (view left) → (image : Image) → (store.state left).may_leave image → HoldsOneOf (view left).has_sums image (file_state now).may_leave)
+        → IsLink files (MayLeave left) commands replies
+    link_from left late holds = record {
+      all = all_but_last;
+      leads = λ image may o are.
+          let was : HasCleanDisk (file_state now) = omega (arith, late, may.0) in
+          ∥∥₁_elim (it.after was o are) squash₁ (λ after.
+          ∥∥₁_map (holds may.0 image may.1) (λ one.
+          let here = after.left one.0 one.1 in
+          let r : (replies ≡ (fold (take (length replies) commands) o).1) × ((x : Office) × IsLeft o commands (length replies) x × AreOf image x) =
+          (after.replied, (here.left, here.beginning, ∣ (let f : (db : Trees) × HoldsDatabase image db × LeftAs db here.left = (one.0, one.2, here.rows) in f) ∣₁)) in r));
+    }
 
-  -- what is left of it once its files were closed
-  closed_round_of : (now : Held (FileStore D g)) (is_broken : Bool) → is_broken ≡ false → (closed : Files D) → (AreClean g closed.log closed.db → HasCleanDisk (file_state now))
-      → (AreClean g closed.log closed.db → (o : Office) → Stands (file_state now) o → (left : Image) → outcomes g closed.log closed.db left → StandsAlone left o)
-      → HasWorkedFrom files now is_broken Tells → IsRound files (MayLeaveFiles closed) Tells
-  closed_round_of now is_broken whole closed cleaned alone it =
-      let all : length it.replies ≡ length it.commands = elim it.all [ inl same ↦ same | inr broken ↦ absurd (let t = broken.0 in let e = whole in cc) ] in
-      record {
-        commands = it.commands;
-        replies = it.replies;
-        told = it.told;
-        all = all_but_last now is_broken it;
-        leads = λ image may o are.
-            ∥∥₁_elim (it.after (cleaned may.0) o are) squash₁ (λ after.
-            let last = (fold it.commands o).0 in
-            ∥∥₁_map (alone may.0 last (after.stands all) image may.1) (λ one.
-            let taken : IsLeft o it.commands (length it.replies) last = (length it.commands, omega (arith, all), omega arith, ap (λ cs. (fold cs o).0) (sym (take-length it.commands))) in
-            let r : (it.replies ≡ (fold (take (length it.replies) it.commands) o).1) × ((x : Office) × IsLeft o it.commands (length it.replies) x × AreOf image x) =
-            (after.replied, (last, taken, ∣ (let f : (db : Trees) × HoldsDatabase image db × LeftAs db last = (one.0, one.1, one.3) in f) ∣₁)) in r));
-      }
+    -- what is left of it once its files were closed
+    closed_link_of : is_broken ≡ false → (closed : Files D) → (AreClean g closed.log closed.db → HasCleanDisk (file_state now))
+        → (AreClean g closed.log closed.db → (o : Office) → Stands (file_state now) o → (left : Image) → outcomes g closed.log closed.db left → StandsAlone left o)
+        → IsLink files (MayLeaveFiles g closed) commands replies
+    closed_link_of whole closed cleaned alone =
+        let all : length replies ≡ length commands = elim it.all [ inl same ↦ same | inr broken ↦ absurd (let t = broken.0 in let e = whole in cc) ] in
+        record {
+          all = all_but_last;
+          leads = λ image may o are.
+              ∥∥₁_elim (it.after (cleaned may.0) o are) squash₁ (λ after.
+              let last = (fold commands o).0 in
+              ∥∥₁_map (alone may.0 last (after.stands all) image may.1) (λ one.
+              let taken : IsLeft o commands (length replies) last = (length commands, omega (arith, all), omega arith, ap (λ cs. (fold cs o).0) (sym (take-length commands))) in
+              let r : (replies ≡ (fold (take (length replies) commands) o).1) × ((x : Office) × IsLeft o commands (length replies) x × AreOf image x) =
+              (after.replied, (last, taken, ∣ (let f : (db : Trees) × HoldsDatabase image db × LeftAs db last = (one.0, one.1, one.3) in f) ∣₁)) in r));
+        }
 
--- an end that closes the files is a round for any work before it
-pub closed_round : {D : Type 0} {g : Ghosts D} (now : Held (FileStore D g)) (is_broken : Bool) → is_broken ≡ false → (result : Result (Files D) (OpenFault × FileStore D g))
+-- an end that closes the files is a link for any work before it
+pub closed_link : {D : Type 0} {g : Ghosts D} (now : Held (FileStore D g)) (is_broken : Bool) → is_broken ≡ false → (result : Result (Files D) (OpenFault × FileStore D g))
     → IfOk result (λ closed. AreClean g closed.log closed.db → HasCleanDisk (file_state now))
     → IfOk result (λ closed. AreClean g closed.log closed.db → (o : Office) → Stands (file_state now) o → (left : Image) → outcomes g closed.log closed.db left → StandsAlone left o)
-    → IfOk result (λ closed. (files : Image) → (Tells : List Command → List Reply → Type 0) → HasWorkedFrom files now is_broken Tells → IsRound files (MayLeaveFiles closed) Tells)
-closed_round now is_broken whole (Ok closed) cleaned alone = λ files Tells it. closed_round_of files Tells now is_broken whole closed cleaned alone it
-closed_round now is_broken whole (Err left) cleaned alone = tt
+    → IfOk result (λ closed. (files : Image) → (commands : List Command) → (replies : List Reply) → HasDone files now is_broken commands replies → IsLink files (MayLeaveFiles g closed) commands replies)
+closed_link now is_broken whole (Ok closed) cleaned alone = λ files commands replies it. closed_link_of files now is_broken commands replies it whole closed cleaned alone
+closed_link now is_broken whole (Err left) cleaned alone = tt

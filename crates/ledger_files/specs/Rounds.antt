@@ -47,37 +47,49 @@ module _ {D : Type 0} {g : Ghosts D} where
         → LeavesWhole db office commands (length replies)
     pub stands : length replies ≡ length commands → Stands (file_state now) (fold commands office).0
 
-  -- a bureau that was opened on these files has carried out commands and replied to them, to all or
-  -- to all but the last, of which the bureau is broken; and this is told of them
-  pub record HasWorkedFrom (files : Image) (now : Held (FileStore D g)) (is_broken : Bool)
-      (Tells : List Command → List Reply → Type 0) : Type 0 where
-    pub commands : List Command
-    pub replies : List Reply
-    pub told : Tells commands replies
+  -- a bureau that was opened on these files has carried out these commands and replied so, to all
+  -- of them or to all but the last, of which the bureau is broken
+  pub record HasDone (files : Image) (now : Held (FileStore D g)) (is_broken : Bool)
+      (commands : List Command) (replies : List Reply) : Type 0 where
     pub all : (length replies ≡ length commands)
         ⊎ (IsTrue is_broken × (length commands ≡ length replies + 1))
     pub after : HasCleanDisk (file_state now) → (office : Office) → AreOf files office
         → ∥ IsAfter now commands replies office ∥₁
 
+  -- a bureau that was opened on these files has carried out commands, and this is told of them and
+  -- of the replies
+  pub record HasWorkedFrom (files : Image) (now : Held (FileStore D g)) (is_broken : Bool)
+      (Tells : List Command → List Reply → Type 0) : Type 0 where
+    pub commands : List Command
+    pub replies : List Reply
+    pub told : Tells commands replies
+    pub done : HasDone files now is_broken commands replies
+
   -- this is what a crash may leave of the store, whose disk has returned what was written to it
   abbrev pub MayLeave : FileStore D g → Image → Type 0
   MayLeave left image = IsClean (view left) × (store.state left).may_leave image
 
-  -- this is what a crash may leave of the closed files, whose disk has returned what was written
-  -- to it
-  abbrev pub MayLeaveFiles : Files D → Image → Type 0
-  MayLeaveFiles files image =
-      AreClean g files.log files.db × outcomes g files.log files.db image
+-- this is what a crash may leave of the closed files, whose disk has returned what was written to
+-- it
+abbrev pub MayLeaveFiles : {D : Type 0} → Ghosts D → Files D → Image → Type 0
+MayLeaveFiles g files image =
+    AreClean g files.log files.db × outcomes g files.log files.db image
 
--- a round from these files to those that may be left: the commands that were carried out, the
--- replies to them, to all or to all but the last, and what is told of them
+-- a link from these files to those that may be left: all of the commands, or all but the last, were
+-- replied to, and each of the files that may be left is led to by them
+pub record IsLink (files : Image) (may_leave : Image → Type 0) (commands : List Command)
+    (replies : List Reply) : Type 0 where
+  pub all : length commands ≤ length replies + 1
+  pub leads : (image : Image) → may_leave image → LeadsBy commands replies files image
+
+-- a round from these files to those that may be left: commands that are a link, the replies to
+-- them, and what is told of both
 pub record IsRound (files : Image) (may_leave : Image → Type 0)
     (Tells : List Command → List Reply → Type 0) : Type 0 where
   pub commands : List Command
   pub replies : List Reply
   pub told : Tells commands replies
-  pub all : length commands ≤ length replies + 1
-  pub leads : (image : Image) → may_leave image → LeadsBy commands replies files image
+  pub link : IsLink files may_leave commands replies
 
 -- some commands were carried out and replied to, of which this is told
 pub record IsWork (Tells : List Command → List Reply → Type 0) : Type 0 where

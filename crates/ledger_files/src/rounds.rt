@@ -17,7 +17,7 @@ ghost use Rattle.office.specs.declared.replies.Reply.{Reply};
 ghost use Rattle.ledger.specs.Standing.{Stands};
 ghost use Rattle.ledger_files.specs.Closing.{HindersEnding, StandsAlone};
 ghost use Rattle.ledger_files.specs.Opening.{AreRefused, IsAnswerFor, IsCleanKept};
-ghost use Rattle.ledger_files.specs.Rounds.{HasWorkedFrom, HoldsOneOf, IsRound, MayLeave, MayLeaveFiles};
+ghost use Rattle.ledger_files.specs.Rounds.{HasDone, HasWorkedFrom, HoldsOneOf, IsLink, IsRound, MayLeave, MayLeaveFiles};
 
 use crate::closing::close;
 use crate::kept::Kept;
@@ -58,14 +58,14 @@ pub fn open_and_work<S: Start, W: Work, O: Write>(
 }
 
 /// Returns the store as a crash at this moment finds it, whatever the tables represent. Work that
-/// was done with the bureau is then a round from the files that were opened to whatever the crash
+/// was done with the bureau is then a link from the files that were opened to whatever the crash
 /// leaves.
 pub fn stop<D: Disk + Drop>(bureau: Bureau<FileStore<D>>) -> FileStore<D>
     ensures left { IsClean (view result) → (left : Image) → (store.state result).may_leave left
         → HoldsOneOf (view result).has_sums left (file_state bureau.conn).may_leave }
-    ensures round { (first : Image) → (Tells : List Command → List Reply → Type 0)
-        → HasWorkedFrom first bureau.conn bureau.broken Tells
-        → IsRound first (MayLeave result) Tells }
+    ensures link { (first : Image) → (commands : List Command) → (replies : List Reply)
+        → HasDone first bureau.conn bureau.broken commands replies
+        → IsLink first (MayLeave result) commands replies }
     ensures kept { (db : Trees) → recovers result db → (file_state bureau.conn).may_leave db }
     ensures clean { doubt (file_state bureau.conn).is_clean ≤ doubt (view result).is_clean }
 {
@@ -74,7 +74,7 @@ pub fn stop<D: Disk + Drop>(bureau: Bureau<FileStore<D>>) -> FileStore<D>
 
 /// Ends the work with a bureau: its file is closed, so that it alone is the bureau. The file of a
 /// broken bureau is not, since it has to be opened again: what a crash may leave of it now is kept,
-/// as it is where the closing fails. Work that was done with the bureau is then a round from the
+/// as it is where the closing fails. Work that was done with the bureau is then a link from the
 /// files that were opened to whatever a crash leaves of the closed ones.
 pub fn finish<D: Disk + Drop>(
     bureau: Bureau<FileStore<D>>,
@@ -82,10 +82,9 @@ pub fn finish<D: Disk + Drop>(
     ensures alone { IfOk result (λ files. AreClean D.Disk files.log files.db → (office : Office)
         → Stands (file_state bureau.conn) office → (left : Image)
         → outcomes D.Disk files.log files.db left → StandsAlone left office) }
-    ensures round { IfOk result (λ files. (first : Image)
-        → (Tells : List Command → List Reply → Type 0)
-        → HasWorkedFrom first bureau.conn bureau.broken Tells
-        → IsRound first (MayLeaveFiles files) Tells) }
+    ensures link { IfOk result (λ files. (first : Image) → (commands : List Command)
+        → (replies : List Reply) → HasDone first bureau.conn bureau.broken commands replies
+        → IsLink first (MayLeaveFiles D.Disk files) commands replies) }
     ensures kept { IfErr result (λ e. (db : Trees) → recovers e.1 db
         → (file_state bureau.conn).may_leave db) }
     ensures cause { IfErr result (λ e. IsClean (view e.1)

@@ -36,30 +36,30 @@ returns-in-Ok-adopted-clause-holds g c clean db held =
     subst (λ t. HoldsOnly (file_state c.in-Ok-adopted.bureau.conn) t) ((c.in-Ok.ensures.found early).holds db held) (c.in-Ok-adopted.ensures.holds clean (c.in-Ok.ensures.opened early).0)
 
 -- the files were opened, and are no bureau's
-pub returns-in-Err-clause-refused : goal.returns-in-Err-clause-refused
-returns-in-Err-clause-refused g c clean =
-    let early : HasCleanDisk (file_state c.in-Ok.conn) = omega (arith, c.in-Err.ensures.clean_still) in
+pub returns-in-Err-adopted-clause-refused : goal.returns-in-Err-adopted-clause-refused
+returns-in-Err-adopted-clause-refused g c clean =
+    let early : HasCleanDisk (file_state c.in-Ok.conn) = omega (arith, c.in-Err-adopted.ensures.clean_still) in
     let opened = c.in-Ok.ensures.opened early in
     let found = c.in-Ok.ensures.found early in
-    let known : (office : _) (db : Trees) → HoldsDatabase (image_at g.S.Start) db → LeftAs db office → IsKnown c.in-Err.fault = λ office db held left.
-    c.in-Err.ensures.known clean office (c.in-Err.ensures.opened opened.0 opened.1 office (subst (λ d. LeftAs d office) (sym (found.holds db held)) left)) in
+    let known : (office : _) (db : Trees) → HoldsDatabase (image_at g.S.Start) db → LeftAs db office → IsKnown c.in-Err-adopted.fault = λ office db held left.
+    c.in-Err-adopted.ensures.known clean office (c.in-Err-adopted.ensures.opened opened.0 opened.1 office (subst (λ d. LeftAs d office) (sym (found.holds db held)) left)) in
     record {
       known = λ office are. (λ e. ∥∥₁_elim are (λ x y. absurd x) (λ it. (known office it.0 it.1 it.2).0 e), λ e. ∥∥₁_elim are (λ x y. absurd x) (λ it. (known office it.0 it.1 it.2).1 e));
-      stands = λ has_sums office are. ∥∥₁_map are (λ it. let r : Stands (file_state c.in-Err.conn) office =
-          c.in-Err.ensures.kept clean office (c.in-Err.ensures.opened opened.0 opened.1 office (subst (λ d. LeftAs d office) (sym (found.holds it.0 it.1)) it.3)) in r);
-      answer = λ db held sound. c.in-Err.ensures.answer clean opened.0 opened.1 db sound (found.holds db.trees held);
-      told = (c.in-Ok.conn, opened, found, c.in-Err.ensures.told);
-      untouched = λ db held. subst (λ t. HoldsOnly (file_state c.in-Err.conn) t) (found.holds db held) (c.in-Err.ensures.holds clean opened.0);
+      stands = λ has_sums office are. ∥∥₁_map are (λ it. let r : Stands (file_state c.in-Err-adopted.conn) office =
+          c.in-Err-adopted.ensures.kept clean office (c.in-Err-adopted.ensures.opened opened.0 opened.1 office (subst (λ d. LeftAs d office) (sym (found.holds it.0 it.1)) it.3)) in r);
+      answer = λ db held sound. c.in-Err-adopted.ensures.answer clean opened.0 opened.1 db sound (found.holds db.trees held);
+      told = (c.in-Ok.conn, opened, found, c.in-Err-adopted.ensures.told);
+      untouched = λ db held. subst (λ t. HoldsOnly (file_state c.in-Err-adopted.conn) t) (found.holds db held) (c.in-Err-adopted.ensures.holds clean opened.0);
     }
 
 -- the files were not opened
-pub returns-in-Err-default-clause-refused : goal.returns-in-Err-default-clause-refused
-returns-in-Err-default-clause-refused g c =
+pub returns-in-Err-clause-refused : goal.returns-in-Err-clause-refused
+returns-in-Err-clause-refused g c =
     let first = g.S.Start in
     let known = subst (λ p. IsKnown p.0) c.handed_on.ensures.all c.handed_on.ensures.known in
     subst (λ p. IsCleanKept p.1 → AreRefused (image_at first) p.0 p.1) (sym c.handed_on.ensures.all)
-    (not_opened (image_at first) c.in-Err-default.error known c.in-Err-default.left c.in-Err-default.ensures.unopened
-    (if_some c.in-Err-default.left (λ left it.
+    (not_opened (image_at first) c.in-Err.error known c.in-Err.left c.in-Err.ensures.unopened
+    (if_some c.in-Err.left (λ left it.
     let log_start : start_of first it.0.log ≡ first.log = ap (λ b. if b then first.log else first.db) it.1.0 in
     let db_start : start_of first it.0.db ≡ first.db = ap (λ b. if b then first.log else first.db) it.2.0 in (
       it.0,
@@ -69,4 +69,4 @@ returns-in-Err-default-clause-refused g c =
         db = λ x may. fresh_left _ _ _ _ it.2.1 x may ∙ db_start;
       },
       it.3,
-    )) c.in-Err-default.ensures.cause))
+    )) c.in-Err.ensures.cause))

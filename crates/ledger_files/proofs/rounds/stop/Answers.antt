@@ -5,7 +5,7 @@ use Rattle.sqlite.specs.Tree.{Trees}
 use Rattle.sqlite.specs.Files.{HoldsDatabase, file_state}
 use Rattle.sqlite.specs.FileStore.{view}
 use Rattle.sqlite.specs.View.{doubt}
-use Rattle.ledger_files.proofs.RoundLemmas.{round_from}
+use Rattle.ledger_files.proofs.RoundLemmas.{link_from}
 use Rattle.ledger_files.proofs.StopLemmas.{left_holds}
 use Rattle.ledger_files.proofs.rounds.stop.Goals as goal
 
@@ -19,5 +19,7 @@ returns-clause-left g c clean left may =
 pub returns-clause-kept : goal.returns-clause-kept
 returns-clause-kept g c db may = subst (λ h. (file_state h).may_leave db) c.into_connection.ensures (c.into_store.ensures.quiet.outcomes db may)
 
-pub returns-clause-round : goal.returns-clause-round
-returns-clause-round g c first Tells = round_from first Tells c.args.bureau.conn c.args.bureau.broken c.into_store.result (subst (λ h. doubt (file_state h).is_clean ≤ doubt (view c.into_store.result).is_clean) c.into_connection.ensures c.into_store.ensures.quiet.clean) (returns-clause-left g c)
+pub returns-clause-link : goal.returns-clause-link
+returns-clause-link g c first commands replies it =
+    link_from first c.args.bureau.conn c.args.bureau.broken commands replies it c.into_store.result
+    (subst (λ h. doubt (file_state h).is_clean ≤ doubt (view c.into_store.result).is_clean) c.into_connection.ensures c.into_store.ensures.quiet.clean) (returns-clause-left g c)
