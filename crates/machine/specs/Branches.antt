@@ -1,5 +1,5 @@
 -- the conditions and tests of branches
-use Rattle.std.specs.Prelude.{ℕ, ◌==◌, ◌||◌, not, codes, Bool, true, false, if◌then◌else◌, Option, Some, None}
+use Rattle.std.specs.Prelude.{ℕ, ◌==◌, ◌||◌, not, codes, Bool, true, false, List, [], ◌∷◌, Option}
 use Rattle.std.specs.Int.RustNames.{bit_and}
 use Rattle.bcd.specs.Table.{zone_of, zone_number}
 use Rattle.bcd.specs.declared.Zone.{Zone}
@@ -14,44 +14,54 @@ use Rattle.machine.specs.declared.branches.PositionTest.{PositionTest}
 use Rattle.machine.specs.declared.branches.PositionTest.TheVariants.{HasMark, HasZone, HasZoneOrMark}
 use Rattle.units.specs.declared.switches.Switches.{Switches}
 use Rattle.units.specs.declared.units.Units.{Units}
-use Rattle.machine.specs.Glyphs.{is_glyph}
+use Rattle.units.specs.Carriages.{meant_among}
 use Rattle.units.specs.Units.{is_last_card}
 
 -- the sense switch of this bit: A is the lowest bit, G the highest
 abbrev pub switch : ℕ → Switches
 switch bit = record { 0 = bit }
 
+-- the conditions of a branch of five characters: the last character of each, and what it means
+abbrev pub conditions : List (List ℕ × Condition)
+conditions =
+    (codes " ", Always)
+    ∷ (codes "/", IsUnequal)
+    ∷ (codes "S", IsEqual)
+    ∷ (codes "T", IsLow)
+    ∷ (codes "U", IsHigh)
+    ∷ (codes "Z", Overflow)
+    ∷ (codes "A", LastCard)
+    ∷ (codes "B", SwitchOn (switch 2))
+    ∷ (codes "C", SwitchOn (switch 4))
+    ∷ (codes "D", SwitchOn (switch 8))
+    ∷ (codes "E", SwitchOn (switch 16))
+    ∷ (codes "F", SwitchOn (switch 32))
+    ∷ (codes "G", SwitchOn (switch 64))
+    ∷ (codes "@", Channel12)
+    ∷ []
+
 -- the condition that the last character of a branch of five characters names, if it names one
 unfoldable pub condition_of : ℕ → Option Condition
-condition_of code =
-    if is_glyph code (codes " ") then Some Always
-    else (if is_glyph code (codes "/") then Some IsUnequal
-    else (if is_glyph code (codes "S") then Some IsEqual
-    else (if is_glyph code (codes "T") then Some IsLow
-    else (if is_glyph code (codes "U") then Some IsHigh
-    else (if is_glyph code (codes "Z") then Some Overflow
-    else (if is_glyph code (codes "A") then Some LastCard
-    else (if is_glyph code (codes "B") then Some (SwitchOn (switch 2))
-    else (if is_glyph code (codes "C") then Some (SwitchOn (switch 4))
-    else (if is_glyph code (codes "D") then Some (SwitchOn (switch 8))
-    else (if is_glyph code (codes "E") then Some (SwitchOn (switch 16))
-    else (if is_glyph code (codes "F") then Some (SwitchOn (switch 32))
-    else (if is_glyph code (codes "G") then Some (SwitchOn (switch 64))
-    else (if is_glyph code (codes "@") then Some Channel12 else None)))))))))))))
+condition_of code = meant_among conditions code
+
+-- the tests of a branch on word mark or zone: the last character of each, and what it means
+abbrev pub tests : List (List ℕ × PositionTest)
+tests =
+    (codes "1", HasMark)
+    ∷ (codes "2", HasZone Bare)
+    ∷ (codes "3", HasZoneOrMark Bare)
+    ∷ (codes "B", HasZone AB)
+    ∷ (codes "C", HasZoneOrMark AB)
+    ∷ (codes "K", HasZone B)
+    ∷ (codes "L", HasZoneOrMark B)
+    ∷ (codes "S", HasZone A)
+    ∷ (codes "T", HasZoneOrMark A)
+    ∷ []
 
 -- the test of a position that the last character of a branch on word mark or zone names, if it
 -- names one
 unfoldable pub test_of : ℕ → Option PositionTest
-test_of code =
-    if is_glyph code (codes "1") then Some HasMark
-    else (if is_glyph code (codes "2") then Some (HasZone Bare)
-    else (if is_glyph code (codes "B") then Some (HasZone AB)
-    else (if is_glyph code (codes "K") then Some (HasZone B)
-    else (if is_glyph code (codes "S") then Some (HasZone A)
-    else (if is_glyph code (codes "3") then Some (HasZoneOrMark Bare)
-    else (if is_glyph code (codes "C") then Some (HasZoneOrMark AB)
-    else (if is_glyph code (codes "L") then Some (HasZoneOrMark B)
-    else (if is_glyph code (codes "T") then Some (HasZoneOrMark A) else None))))))))
+test_of code = meant_among tests code
 
 -- whether the compare indicator is equal
 abbrev pub is_equal : Compared → Bool

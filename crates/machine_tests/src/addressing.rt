@@ -1,10 +1,10 @@
 //! Addresses that are read, indexed, looked up and stored.
 
-use crate::sheets::{Case, check, cut, number};
+use crate::sheets::{Case, agreed, check, cut, number};
 use crate::storage::{at_places, blank, code, lay};
 use addresses::{Tagged, decode, effective_address, encode, operand, store};
 use bcd::Code;
-use core_store::{Check, Core, FlagCore, LARGEST_SIZE, Size};
+use core_store::{Check, Core, FlagCore, LARGEST_SIZE, PlaneCore, Size};
 use std::alloc::Global;
 use std::test::Fail;
 
@@ -18,7 +18,7 @@ fn three(glyphs: &str) -> [Code; 3] {
 }
 
 /// The glyphs with which a number below 16000 is written.
-fn written(number: u16) -> [char; 3] {
+pub(crate) fn written(number: u16) -> [char; 3] {
     if number >= LARGEST_SIZE {
         return [' '; 3];
     }
@@ -68,9 +68,15 @@ fn addresses_read_and_written(rt: HostRuntime) -> Result<(), Fail> {
 }
 
 /// The number that an address represents with this text in the second index location, or the check.
-fn number_of(core: &mut FlagCore, address: Tagged, index: &str) -> Result<u16, Check> {
+fn number_of<C: Core>(core: &mut C, address: Tagged, index: &str) -> Result<u16, Check> {
     lay(core, 92, index);
     effective_address(core, address)
+}
+
+/// The output of a case of `Indexing` with one kind of storage.
+fn indexed<C: Core>(alloc: Global, address: Tagged, index: &str) -> Result<String, Fail> {
+    let number = number_of(&mut blank::<C>(alloc)?, address, index);
+    Ok(format!(in alloc; "{number:?}")?)
 }
 
 /// Indexing. Input: an address, and the text in the second index location of 1400 positions.
@@ -83,8 +89,9 @@ impl Case for Indexing {
         let Some(tagged) = decode(three(address)) else {
             return Ok(String::new(alloc));
         };
-        let number = number_of(&mut blank(alloc)?, tagged, index);
-        Ok(format!(in alloc; "{number:?}")?)
+        let flags = indexed::<FlagCore>(alloc, tagged, index)?;
+        let planes = indexed::<PlaneCore>(alloc, tagged, index)?;
+        agreed(alloc, flags, planes)
     }
 }
 
@@ -99,10 +106,16 @@ const INDEXED: &str = "\
 ";
 
 /// The position that an address represents with 91 in the first index location, or the check.
-fn position_of(core: &mut FlagCore, address: &str) -> Result<u16, Check> {
+fn position_of<C: Core>(core: &mut C, address: &str) -> Result<u16, Check> {
     lay(core, 87, "091");
     let [first, second, third] = three(address);
     operand(core, first, second, third)
+}
+
+/// The output of a case of `Operand` with one kind of storage.
+fn named<C: Core>(alloc: Global, address: &str) -> Result<String, Fail> {
+    let position = position_of(&mut C::blank(alloc, Size::Positions4000)?, address);
+    Ok(format!(in alloc; "{position:?}")?)
 }
 
 /// Operands. Input: an address in 4000 positions with 91 in the first index location. Output: the
@@ -111,8 +124,9 @@ struct Operand;
 
 impl Case for Operand {
     fn outcome(alloc: Global, given: &str) -> Result<String, Fail> {
-        let position = position_of(&mut FlagCore::blank(alloc, Size::Positions4000)?, given);
-        Ok(format!(in alloc; "{position:?}")?)
+        let flags = named::<FlagCore>(alloc, given)?;
+        let planes = named::<PlaneCore>(alloc, given)?;
+        agreed(alloc, flags, planes)
     }
 }
 
@@ -133,9 +147,9 @@ fn index_locations_and_operands(rt: HostRuntime) -> Result<(), Fail> {
 }
 
 /// The result of storing a number, and the text at a place after it.
-fn stored(
+fn stored<C: Core>(
     alloc: Global,
-    core: &mut FlagCore,
+    core: &mut C,
     position: u16,
     number: u16,
     place: &str,
@@ -145,16 +159,29 @@ fn stored(
     Ok(format!(in alloc; "{answer:?} {shown}")?)
 }
 
+/// The output of a case of `Storing` with one kind of storage.
+fn outcome<C: Core>(alloc: Global, given: &str) -> Result<String, Fail> {
+    let (position, given) = cut(given, " ");
+    let (stored_number, place) = cut(given, "|");
+    let (position, stored_number) = (number(position), number(stored_number));
+    stored(
+        alloc,
+        &mut blank::<C>(alloc)?,
+        position,
+        stored_number,
+        place,
+    )
+}
+
 /// Storing. Input: a position of 1400, a number and a place. Output: the result, and the text at
 /// the place after it.
 struct Storing;
 
 impl Case for Storing {
     fn outcome(alloc: Global, given: &str) -> Result<String, Fail> {
-        let (position, given) = cut(given, " ");
-        let (stored_number, place) = cut(given, "|");
-        let (position, stored_number) = (number(position), number(stored_number));
-        stored(alloc, &mut blank(alloc)?, position, stored_number, place)
+        let flags = outcome::<FlagCore>(alloc, given)?;
+        let planes = outcome::<PlaneCore>(alloc, given)?;
+        agreed(alloc, flags, planes)
     }
 }
 

@@ -1,11 +1,11 @@
 //! The calls of `arith`, `moves` and `units`, each by itself and without a machine.
 
 use crate::machines::{deck_of, new_units};
-use crate::sheets::{Case, check, cut, number};
+use crate::sheets::{Case, agreed, check, cut, number};
 use crate::storage::{at_places, blank, lay_places, registers_shown, text_of};
 use arith::{add, compare, modify, subtract, zero_add, zero_subtract};
 use bitflags::Flags;
-use core_store::{Check, Compared, Core, FlagCore, Registers};
+use core_store::{Check, Compared, Core, FlagCore, PlaneCore, Registers};
 use moves::{
     clear_mark, clear_storage, digit, edit, load_field, move_field, set_mark, suppress, zone,
 };
@@ -14,7 +14,7 @@ use std::test::Fail;
 use units::{Devices, Switches, Units, operate, punch_card, read_card, render};
 
 /// Does the operation of a character.
-fn call(operation: &str, core: &mut FlagCore, registers: &mut Registers) -> Result<(), Check> {
+fn call<C: Core>(operation: &str, core: &mut C, registers: &mut Registers) -> Result<(), Check> {
     match operation {
         "A" => add(core, registers),
         "S" => subtract(core, registers),
@@ -35,9 +35,9 @@ fn call(operation: &str, core: &mut FlagCore, registers: &mut Registers) -> Resu
 }
 
 /// The registers after an operation and the texts at some places, or `check`.
-fn called(
+fn called<C: Core>(
     alloc: Global,
-    core: &mut FlagCore,
+    core: &mut C,
     order: &str,
     places: &str,
 ) -> Result<String, AllocError> {
@@ -58,6 +58,14 @@ fn called(
     format!(in alloc; "{registers} {shown}")
 }
 
+/// The output of a case of `Calls` with one kind of storage.
+fn outcome<C: Core>(alloc: Global, given: &str) -> Result<String, Fail> {
+    let (order, places) = cut(given, "|");
+    let mut core = blank::<C>(alloc)?;
+    lay_places(&mut core, places);
+    Ok(called(alloc, &mut core, order, places)?)
+}
+
 /// A call. Input: the operation's character, the registers A and B, and the texts at some places.
 /// Output: the registers I, A and B, the indicators that are not as at the beginning, and the texts
 /// after it; or `check`.
@@ -65,10 +73,9 @@ struct Calls;
 
 impl Case for Calls {
     fn outcome(alloc: Global, given: &str) -> Result<String, Fail> {
-        let (order, places) = cut(given, "|");
-        let mut core = blank(alloc)?;
-        lay_places(&mut core, places);
-        Ok(called(alloc, &mut core, order, places)?)
+        let flags = outcome::<FlagCore>(alloc, given)?;
+        let planes = outcome::<PlaneCore>(alloc, given)?;
+        agreed(alloc, flags, planes)
     }
 }
 
@@ -98,13 +105,13 @@ fn operations_by_themselves(rt: HostRuntime) -> Result<(), Fail> {
 }
 
 /// Whether the three units work together from the storage as it was.
-fn work_together(core: &mut FlagCore, units: &mut Units) -> bool {
+fn work_together<C: Core>(core: &mut C, units: &mut Units) -> bool {
     let devices = Devices::READER | Devices::PUNCH | Devices::PRINTER;
     core.size() >= 333 && operate(core, units, devices).is_ok()
 }
 
 /// Whether the reader and the punch work alone.
-fn work_alone(core: &mut FlagCore, units: &mut Units) -> bool {
+fn work_alone<C: Core>(core: &mut C, units: &mut Units) -> bool {
     core.size() >= 81
         && read_card(core, &mut units.hopper).is_ok()
         && core.size() >= 181
@@ -125,7 +132,7 @@ fn made(alloc: Global, units: &Units) -> Result<String, AllocError> {
 }
 
 /// The output from a storage with texts in the punch and print areas, and from two cards.
-fn works(alloc: Global, core: &mut FlagCore, units: &mut Units) -> Result<String, Fail> {
+fn works<C: Core>(alloc: Global, core: &mut C, units: &mut Units) -> Result<String, Fail> {
     lay_places(core, "100 -PUNCH|200 -LINE");
     if !work_together(core, units) || !work_alone(core, units) || !units.is_last_card() {
         return Err("units at work".into());
@@ -135,12 +142,21 @@ fn works(alloc: Global, core: &mut FlagCore, units: &mut Units) -> Result<String
     Ok(format!(in alloc; "{read}{made}")?)
 }
 
+/// The output with one kind of storage.
+fn made_by<C: Core>(alloc: Global) -> Result<String, Fail> {
+    let mut core = blank::<C>(alloc)?;
+    let deck = deck_of(alloc, "CARD;NEXT")?;
+    works(
+        alloc,
+        &mut core,
+        &mut new_units(alloc, deck, 0, Switches::A),
+    )
+}
+
 #[test]
 fn units_without_a_machine(rt: HostRuntime) -> Result<(), Fail> {
-    let mut core = blank(rt.alloc())?;
-    let deck = deck_of(rt.alloc(), "CARD;NEXT")?;
-    let mut units = new_units(rt.alloc(), deck, 0, Switches::A);
-    let works = works(rt.alloc(), &mut core, &mut units)?;
-    assert!(rt; works.as_str() == "|NEXT|PUNCH;PUNCH;LINE\n");
+    let made = "|NEXT|PUNCH;PUNCH;LINE\n";
+    assert_eq!(rt; made_by::<FlagCore>(rt.alloc())?.as_str(), made);
+    assert_eq!(rt; made_by::<PlaneCore>(rt.alloc())?.as_str(), made);
     Ok(())
 }

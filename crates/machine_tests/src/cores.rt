@@ -1,6 +1,6 @@
 //! Storages with their marks, sizes, and registers.
 
-use crate::sheets::{Case, check, cut, number};
+use crate::sheets::{Case, agreed, check, cut, number};
 use crate::storage::{blank, code};
 use core_store::{
     Compared, Core, FlagCore, PlaneCore, Registers, Size, are_inside, cut_length, field_length,
@@ -151,23 +151,23 @@ fn finds<C: Core>(core: &C, marked: u16, position: u16) -> bool {
         && core.mark_after(position) == (if is_after { Some(marked) } else { None })
 }
 
-/// The first position of 1400 from which a storage with one mark does not find it.
-fn first_missed<C: Core>(core: &C, marked: u16) -> Option<u16> {
-    for position in 0..1400 {
-        if !finds(core, marked, position) {
+/// The first position of 1400 from which a storage with one mark does not find it; of `all`, or of
+/// each 101st one, which are others at another mark.
+fn first_missed<C: Core>(core: &C, marked: u16, all: bool) -> Option<u16> {
+    for position in 0..1400u16 {
+        let is_tried = all || position.wrapping_add(marked) % 101 == 0;
+        if is_tried && !finds(core, marked, position) {
             return Some(position);
         }
     }
     None
 }
 
-/// Whether a storage finds its one mark from everywhere, for `count` positions of the mark, `apart`
-/// positions apart.
-fn finds_each<C: Core>(core: &mut C, count: u16, apart: u16) -> bool {
-    for turn in 0..count {
-        let marked = turn.saturating_mul(apart);
+/// Whether a storage finds its one mark, wherever that is; from `all` positions, or from some.
+fn finds_each<C: Core>(core: &mut C, all: bool) -> bool {
+    for marked in 0..1400 {
         put_mark(core, marked, true);
-        if first_missed(core, marked).is_some() {
+        if first_missed(core, marked, all).is_some() {
             return false;
         }
         put_mark(core, marked, false);
@@ -208,11 +208,23 @@ fn agree_throughout(flags: &mut FlagCore, planes: &mut PlaneCore) -> bool {
 }
 
 #[test]
-fn both_storages_find_every_mark(rt: HostRuntime) -> Result<(), Fail> {
-    let mut flags = blank(rt.alloc())?;
-    let mut planes = PlaneCore::blank(rt.alloc(), Size::Positions1400)?;
-    assert!(rt; finds_each(&mut flags, 38, 37));
-    assert!(rt; finds_each(&mut planes, 1400, 1));
+fn flags_find_each_mark(rt: HostRuntime) -> Result<(), Fail> {
+    let mut flags = blank::<FlagCore>(rt.alloc())?;
+    assert!(rt; finds_each(&mut flags, false));
+    Ok(())
+}
+
+#[test]
+fn planes_find_each_mark_from_everywhere(rt: HostRuntime) -> Result<(), Fail> {
+    let mut planes = blank::<PlaneCore>(rt.alloc())?;
+    assert!(rt; finds_each(&mut planes, true));
+    Ok(())
+}
+
+#[test]
+fn both_storages_find_the_same_marks(rt: HostRuntime) -> Result<(), Fail> {
+    let mut flags = blank::<FlagCore>(rt.alloc())?;
+    let mut planes = blank::<PlaneCore>(rt.alloc())?;
     assert!(rt; agree_throughout(&mut flags, &mut planes));
     Ok(())
 }
@@ -293,7 +305,7 @@ fn sixteen_characters_are_copied_at_once(rt: HostRuntime) -> Result<(), Fail> {
 }
 
 /// The lengths of the field at a position, and of its cut, with only 010 marked.
-fn lengths(core: &mut FlagCore, position: u16, limit: u16) -> (Option<u16>, Option<u16>) {
+fn lengths<C: Core>(core: &mut C, position: u16, limit: u16) -> (Option<u16>, Option<u16>) {
     if core.size() > 10 {
         core.set_mark(10);
     }
@@ -306,6 +318,12 @@ fn lengths(core: &mut FlagCore, position: u16, limit: u16) -> (Option<u16>, Opti
     )
 }
 
+/// The output of a case of `Cut` with one kind of storage.
+fn measured<C: Core>(alloc: Global, position: u16, limit: u16) -> Result<String, Fail> {
+    let (field, cut) = lengths(&mut blank::<C>(alloc)?, position, limit);
+    Ok(format!(in alloc; "{field:?} {cut:?}")?)
+}
+
 /// Fields and cuts. Input: a position and a limit, in a storage with only 010 marked. Output: the
 /// length of the field there, and that of the cut to the limit.
 struct Cut;
@@ -313,15 +331,24 @@ struct Cut;
 impl Case for Cut {
     fn outcome(alloc: Global, given: &str) -> Result<String, Fail> {
         let (position, limit) = cut(given, " ");
-        let (field, cut) = lengths(&mut blank(alloc)?, number(position), number(limit));
-        Ok(format!(in alloc; "{field:?} {cut:?}")?)
+        let (position, limit) = (number(position), number(limit));
+        let flags = measured::<FlagCore>(alloc, position, limit)?;
+        let planes = measured::<PlaneCore>(alloc, position, limit)?;
+        agreed(alloc, flags, planes)
     }
 }
 
-/// Cuts that are shorter than the field, that end at its mark, and that would pass position 0.
+/// Cuts that are shorter than the field, that end at its mark, that have about 16 characters, and
+/// that would pass position 0.
 const CUTS: &str = "\
 14 4 -> Some(5) Some(4)
 14 6 -> Some(5) Some(5)
+25 15 -> Some(16) Some(15)
+25 16 -> Some(16) Some(16)
+25 17 -> Some(16) Some(16)
+26 16 -> Some(17) Some(16)
+26 17 -> Some(17) Some(17)
+26 18 -> Some(17) Some(17)
 9 10 -> None Some(10)
 9 11 -> None None
 ";
@@ -333,7 +360,7 @@ fn fields_and_cuts(rt: HostRuntime) -> Result<(), Fail> {
 
 /// Whether both are positions of a storage of 1400.
 fn both_inside(alloc: Global, a: u16, b: u16) -> Result<bool, AllocError> {
-    Ok(are_inside(&blank(alloc)?, a, b))
+    Ok(are_inside(&blank::<PlaneCore>(alloc)?, a, b))
 }
 
 #[test]
@@ -349,7 +376,7 @@ fn places_of_operands(rt: HostRuntime) -> Result<(), Fail> {
 }
 
 /// Whether a field with this character as its units is negative.
-fn makes_minus(core: &mut FlagCore, glyph: u8) -> bool {
+fn makes_minus(core: &mut PlaneCore, glyph: u8) -> bool {
     if core.size() > 7 {
         core.put(7, code(glyph));
     }

@@ -4,7 +4,7 @@
 //! `cases/`, which the program runs.
 
 use crate::storage::blank;
-use core_store::{Check, Core, FlagCore};
+use core_store::{Check, Core, PlaneCore};
 use std::alloc::Global;
 use std::test::Fail;
 use units::{Carriage, CarriageOrder, Fault, Motion, Printer, move_carriage, print_line};
@@ -50,7 +50,7 @@ fn orders_a_space(printer: &mut Printer) -> bool {
 }
 
 /// Whether a line is refused, and changes nothing.
-fn refuses_a_line(core: &FlagCore, printer: &mut Printer) -> bool {
+fn refuses_a_line(core: &PlaneCore, printer: &mut Printer) -> bool {
     core.size() >= 333
         && print_line(core, printer) == Err(Fault::Stopped(Check::PrinterFull))
         && is_at_the_end(printer, Some(Motion::Space))
@@ -73,7 +73,7 @@ fn spaces_to_the_end(printer: &mut Printer) -> bool {
 }
 
 /// Whether one line is printed at the line before the last one, and no second one after it.
-fn prints_to_the_end(core: &FlagCore, printer: &mut Printer) -> bool {
+fn prints_to_the_end(core: &PlaneCore, printer: &mut Printer) -> bool {
     core.size() >= 333
         && print_line(core, printer).is_ok()
         && ends(printer, 1, None)

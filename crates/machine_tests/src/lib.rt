@@ -22,7 +22,11 @@ mod cores;
 #[cfg(test)]
 mod decks;
 #[cfg(test)]
+mod draws;
+#[cfg(test)]
 mod forms;
+#[cfg(test)]
+mod last_characters;
 #[cfg(test)]
 mod machines;
 #[cfg(test)]

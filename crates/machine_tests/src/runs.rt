@@ -3,19 +3,19 @@
 //! Whole runs with their listings are in `cases/`, as the decks that the program runs.
 
 use crate::machines::{deck_of, new_units};
-use crate::sheets::{Case, check, cut, number};
+use crate::sheets::{Case, agreed, check, cut, number};
 use crate::storage::text_of;
 use bcd::Code;
 use bitflags::Flags;
 use cards::{Deck, DeckFault};
-use core_store::{Core, FlagCore, Size};
+use core_store::{Core, FlagCore, PlaneCore, Size};
 use machine::{Machine, Meter, Parts, Standing};
 use std::alloc::{AllocError, Global};
 use std::test::Fail;
 use units::{Switches, Units};
 
 /// A machine after the load button.
-fn load(alloc: Global, size: &str, switch: &str, cards: &str) -> Result<Machine<FlagCore>, Fail> {
+fn load<C: Core>(alloc: Global, size: &str, switch: &str, cards: &str) -> Result<Machine<C>, Fail> {
     let size = match size {
         "4000" => Size::Positions4000,
         _ => Size::Positions1400,
@@ -29,7 +29,7 @@ fn load(alloc: Global, size: &str, switch: &str, cards: &str) -> Result<Machine<
     if deck.cards().len() == 0 {
         return Err("no card".into());
     }
-    Ok(Machine::<FlagCore>::load(alloc, deck, size, switches)?)
+    Ok(Machine::<C>::load(alloc, deck, size, switches)?)
 }
 
 /// A copy of the units of a picture that has punched nothing.
@@ -46,9 +46,9 @@ fn units_of(alloc: Global, units: &Units) -> Result<Units, DeckFault> {
 }
 
 /// A copy of a picture.
-fn copy_of(alloc: Global, parts: &Parts<FlagCore>) -> Result<Parts<FlagCore>, Fail> {
+fn copy_of<C: Core>(alloc: Global, parts: &Parts<C>) -> Result<Parts<C>, Fail> {
     let size = Size::of_positions(u32::from(parts.core.size())).ok_or("a size")?;
-    let mut core = FlagCore::blank(alloc, size)?;
+    let mut core = C::blank(alloc, size)?;
     core.copy_from(&parts.core);
     Ok(Parts {
         core,
@@ -59,7 +59,7 @@ fn copy_of(alloc: Global, parts: &Parts<FlagCore>) -> Result<Parts<FlagCore>, Fa
 }
 
 /// Puts a wrong value into a picture.
-fn put_wrong(parts: &mut Parts<FlagCore>, wrong: &str) {
+fn put_wrong<C: Core>(parts: &mut Parts<C>, wrong: &str) {
     match wrong {
         "register" => parts.registers.b = 16000,
         "carriage" => parts.units.printer.carriage.line = 67,
@@ -72,7 +72,7 @@ fn put_wrong(parts: &mut Parts<FlagCore>, wrong: &str) {
 }
 
 /// Starts a machine that is at a halt, with all switches off.
-fn start(machine: &mut Machine<FlagCore>) -> Result<(), Fail> {
+fn start<C: Core>(machine: &mut Machine<C>) -> Result<(), Fail> {
     if !matches!(machine.parts().standing, Standing::Halted) {
         return Err("a halt".into());
     }
@@ -81,9 +81,9 @@ fn start(machine: &mut Machine<FlagCore>) -> Result<(), Fail> {
 }
 
 /// Runs a machine, and returns the number of executed instructions and its standing.
-fn run(
+fn run<C: Core>(
     alloc: Global,
-    machine: &mut Machine<FlagCore>,
+    machine: &mut Machine<C>,
     meter: &mut Meter,
     limit: u16,
 ) -> Result<String, AllocError> {
@@ -94,16 +94,16 @@ fn run(
 }
 
 /// Replaces a machine by one made from a copy of its picture.
-fn copy(alloc: Global, machine: &mut Machine<FlagCore>) -> Result<(), Fail> {
+fn copy<C: Core>(alloc: Global, machine: &mut Machine<C>) -> Result<(), Fail> {
     let picture = copy_of(alloc, machine.parts())?;
     *machine = Machine::from_parts(alloc, picture)?.ok_or("a picture in range")?;
     Ok(())
 }
 
 /// Does one order: `start`, `copy`, or the limit of a run.
-fn follow(
+fn follow<C: Core>(
     alloc: Global,
-    machine: &mut Machine<FlagCore>,
+    machine: &mut Machine<C>,
     meter: &mut Meter,
     order: &str,
 ) -> Result<String, Fail> {
@@ -122,7 +122,7 @@ fn push_text(made: &mut String, alloc: Global, codes: &[Code]) -> Result<(), All
 }
 
 /// The cards that a machine has punched, and the lines that it has printed.
-fn made(alloc: Global, machine: &Machine<FlagCore>) -> Result<String, AllocError> {
+fn made<C: Core>(alloc: Global, machine: &Machine<C>) -> Result<String, AllocError> {
     let mut made = String::from_str(alloc, "punched |")?;
     for card in &machine.parts().units.punch.cards {
         push_text(&mut made, alloc, &card.0)?;
@@ -135,7 +135,7 @@ fn made(alloc: Global, machine: &Machine<FlagCore>) -> Result<String, AllocError
 }
 
 /// The next address of a machine, its carriage's line, and what it has made.
-fn state(alloc: Global, machine: &Machine<FlagCore>) -> Result<String, AllocError> {
+fn state<C: Core>(alloc: Global, machine: &Machine<C>) -> Result<String, AllocError> {
     let next = machine.parts().registers.i;
     let line = machine.parts().units.printer.carriage.line;
     let made = made(alloc, machine)?;
@@ -144,7 +144,11 @@ fn state(alloc: Global, machine: &Machine<FlagCore>) -> Result<String, AllocErro
 
 /// Does the orders, and returns the result of each run, the ticks of the meter, and the machine
 /// after them.
-fn followed(alloc: Global, machine: &mut Machine<FlagCore>, orders: &str) -> Result<String, Fail> {
+fn followed<C: Core>(
+    alloc: Global,
+    machine: &mut Machine<C>,
+    orders: &str,
+) -> Result<String, Fail> {
     let mut meter = Meter::new();
     let mut runs = String::new(alloc);
     for order in orders.split_whitespace() {
@@ -155,6 +159,14 @@ fn followed(alloc: Global, machine: &mut Machine<FlagCore>, orders: &str) -> Res
     Ok(format!(in alloc; "{runs}ticks {ticks} {state}")?)
 }
 
+/// The output of a case of `Runs` with one kind of storage.
+fn outcome<C: Core>(alloc: Global, given: &str) -> Result<String, Fail> {
+    let (size, given) = cut(given, "|");
+    let (switch, given) = cut(given, "|");
+    let (cards, orders) = cut(given, "|");
+    followed(alloc, &mut load::<C>(alloc, size, switch, cards)?, orders)
+}
+
 /// Runs. Input: the size, the switch that is on, the cards, and orders. Output: for each run, the
 /// number of executed instructions and the standing; then the ticks of the meter, the next address,
 /// the carriage's line, and the cards and lines made.
@@ -162,10 +174,9 @@ struct Runs;
 
 impl Case for Runs {
     fn outcome(alloc: Global, given: &str) -> Result<String, Fail> {
-        let (size, given) = cut(given, "|");
-        let (switch, given) = cut(given, "|");
-        let (cards, orders) = cut(given, "|");
-        followed(alloc, &mut load(alloc, size, switch, cards)?, orders)
+        let flags = outcome::<FlagCore>(alloc, given)?;
+        let planes = outcome::<PlaneCore>(alloc, given)?;
+        agreed(alloc, flags, planes)
     }
 }
 
@@ -204,9 +215,9 @@ fn runs_of_decks(rt: HostRuntime) -> Result<(), Fail> {
 
 /// Whether the units of a picture with a wrong value are in range, and whether it has a machine,
 /// after both lines of a deck were printed.
-fn remakes(
+fn remakes<C: Core>(
     alloc: Global,
-    machine: &mut Machine<FlagCore>,
+    machine: &mut Machine<C>,
     wrong: &str,
 ) -> Result<(bool, bool), Fail> {
     machine.run(34, &mut Meter::new())?;
@@ -216,15 +227,22 @@ fn remakes(
     Ok((are_units, Machine::from_parts(alloc, picture)?.is_some()))
 }
 
+/// The output of a case of `Picture` with one kind of storage.
+fn remade<C: Core>(alloc: Global, given: &str) -> Result<String, Fail> {
+    let mut machine = load::<C>(alloc, "1400", "A", "list;HELLO;WORLD")?;
+    let (are_units, is_made) = remakes(alloc, &mut machine, given)?;
+    Ok(format!(in alloc; "{are_units} {is_made}")?)
+}
+
 /// A picture. Input: the wrong value in it. Output: whether its units are in range, and whether it
 /// has a machine.
 struct Picture;
 
 impl Case for Picture {
     fn outcome(alloc: Global, given: &str) -> Result<String, Fail> {
-        let mut machine = load(alloc, "1400", "A", "list;HELLO;WORLD")?;
-        let (are_units, is_made) = remakes(alloc, &mut machine, given)?;
-        Ok(format!(in alloc; "{are_units} {is_made}")?)
+        let flags = remade::<FlagCore>(alloc, given)?;
+        let planes = remade::<PlaneCore>(alloc, given)?;
+        agreed(alloc, flags, planes)
     }
 }
 

@@ -21,6 +21,14 @@ pub(crate) fn check<C: Case>(alloc: Global, sheet: &str) -> Result<(), Fail> {
     Ok(())
 }
 
+/// The outcome of a case with either kind of storage; both outcomes if they differ.
+pub(crate) fn agreed(alloc: Global, flags: String, planes: String) -> Result<String, Fail> {
+    if flags.as_str() == planes.as_str() {
+        return Ok(flags);
+    }
+    Ok(format!(in alloc; "{flags} and in planes {planes}")?)
+}
+
 /// The text before a sign and the text after it; without the sign, the whole text and an empty one.
 pub(crate) fn cut<'a>(text: &'a str, sign: &str) -> (&'a str, &'a str) {
     text.split_once(sign).unwrap_or((text, ""))

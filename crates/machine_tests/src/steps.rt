@@ -1,10 +1,10 @@
 //! Single steps of machines that are put together by hand.
 
 use crate::machines::{deck_of, new_units};
-use crate::sheets::{Case, check, cut, number};
+use crate::sheets::{Case, agreed, check, cut, number};
 use crate::storage::{at_places, blank, lay, lay_places, registers_shown};
 use bitflags::Flags;
-use core_store::{Compared, Core, FlagCore, Registers};
+use core_store::{Compared, Core, FlagCore, PlaneCore, Registers};
 use machine::{Event, Machine, Meter, Parts, Standing};
 use std::alloc::{AllocError, Global};
 use std::test::Fail;
@@ -15,7 +15,7 @@ const START: u16 = 400;
 
 /// A running machine with this storage that has read its only card, with these registers A and B
 /// and the switches A, B and D on.
-fn running(alloc: Global, core: FlagCore, registers: &str) -> Result<Machine<FlagCore>, Fail> {
+fn running<C: Core>(alloc: Global, core: C, registers: &str) -> Result<Machine<C>, Fail> {
     if core.size() < 1400 {
         return Err("a smaller storage".into());
     }
@@ -38,20 +38,20 @@ fn running(alloc: Global, core: FlagCore, registers: &str) -> Result<Machine<Fla
 }
 
 /// A machine of 1400 positions before a program, with these registers and texts at some places.
-fn machine(
+fn machine<C: Core>(
     alloc: Global,
     registers: &str,
     program: &str,
     places: &str,
-) -> Result<Machine<FlagCore>, Fail> {
-    let mut core = blank(alloc)?;
+) -> Result<Machine<C>, Fail> {
+    let mut core = blank::<C>(alloc)?;
     lay(&mut core, START, program);
     lay_places(&mut core, places);
     running(alloc, core, registers)
 }
 
 /// The event of the last of `steps` steps.
-fn last_event(machine: &mut Machine<FlagCore>, steps: u16) -> Result<Event, AllocError> {
+fn last_event<C: Core>(machine: &mut Machine<C>, steps: u16) -> Result<Event, AllocError> {
     let mut meter = Meter::new();
     let mut event = Event::Next;
     for _ in 0..steps {
@@ -61,9 +61,9 @@ fn last_event(machine: &mut Machine<FlagCore>, steps: u16) -> Result<Event, Allo
 }
 
 /// Does the steps, and returns the last event, the registers, and the texts at some places.
-fn stepped(
+fn stepped<C: Core>(
     alloc: Global,
-    machine: &mut Machine<FlagCore>,
+    machine: &mut Machine<C>,
     steps: u16,
     places: &str,
 ) -> Result<String, Fail> {
@@ -85,6 +85,15 @@ fn steps_of(text: &str) -> u16 {
     }
 }
 
+/// The output of a case of `Steps` with one kind of storage.
+pub(crate) fn outcome<C: Core>(alloc: Global, given: &str) -> Result<String, Fail> {
+    let (order, given) = cut(given, "|");
+    let (program, places) = cut(given, "|");
+    let (steps, registers) = order.split_once("A ").ok_or("registers")?;
+    let mut machine = machine::<C>(alloc, registers, program, places)?;
+    stepped(alloc, &mut machine, steps_of(steps), places)
+}
+
 /// Steps, of a machine whose comparison is low and whose overflow is off. Input: how many, if more
 /// than one, the registers A and B, the program, and the texts at some places. Output: the last
 /// event, if it is not the next instruction, the registers I, A and B, the indicators that are not
@@ -93,11 +102,9 @@ pub(crate) struct Steps;
 
 impl Case for Steps {
     fn outcome(alloc: Global, given: &str) -> Result<String, Fail> {
-        let (order, given) = cut(given, "|");
-        let (program, places) = cut(given, "|");
-        let (steps, registers) = order.split_once("A ").ok_or("registers")?;
-        let mut machine = machine(alloc, registers, program, places)?;
-        stepped(alloc, &mut machine, steps_of(steps), places)
+        let flags = outcome::<FlagCore>(alloc, given)?;
+        let planes = outcome::<PlaneCore>(alloc, given)?;
+        agreed(alloc, flags, planes)
     }
 }
 

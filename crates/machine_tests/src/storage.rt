@@ -6,7 +6,7 @@
 use crate::sheets::{cut, number};
 use bcd::Code;
 use cards::{COLUMNS, Card};
-use core_store::{Compared, Core, FlagCore, Registers, Size};
+use core_store::{Compared, Core, Registers, Size};
 use std::alloc::{AllocError, Global};
 
 /// The character of a glyph, or blank if there is none.
@@ -15,12 +15,12 @@ pub(crate) fn code(glyph: u8) -> Code {
 }
 
 /// A blank storage of 1400 positions.
-pub(crate) fn blank(alloc: Global) -> Result<FlagCore, AllocError> {
-    FlagCore::blank(alloc, Size::Positions1400)
+pub(crate) fn blank<C: Core>(alloc: Global) -> Result<C, AllocError> {
+    C::blank(alloc, Size::Positions1400)
 }
 
 /// Puts a text into storage from a position on, as far as there is storage.
-pub(crate) fn lay(core: &mut FlagCore, first: u16, text: &str) {
+pub(crate) fn lay<C: Core>(core: &mut C, first: u16, text: &str) {
     let mut next = first;
     for glyph in text.bytes() {
         if next >= core.size() {
@@ -36,7 +36,7 @@ pub(crate) fn lay(core: &mut FlagCore, first: u16, text: &str) {
 }
 
 /// Puts the texts of a list of places into storage.
-pub(crate) fn lay_places(core: &mut FlagCore, places: &str) {
+pub(crate) fn lay_places<C: Core>(core: &mut C, places: &str) {
     for place in places.split('|') {
         let (first, text) = cut(place, " ");
         lay(core, number(first), text);
@@ -44,9 +44,9 @@ pub(crate) fn lay_places(core: &mut FlagCore, places: &str) {
 }
 
 /// Adds the characters from a position on, as many as a text has, and a bar.
-pub(crate) fn push_place(
+pub(crate) fn push_place<C: Core>(
     shown: &mut String,
-    core: &FlagCore,
+    core: &C,
     first: u16,
     text: &str,
 ) -> Result<(), AllocError> {
@@ -64,9 +64,9 @@ pub(crate) fn push_place(
 }
 
 /// The texts at the places of a list, between bars.
-pub(crate) fn at_places(
+pub(crate) fn at_places<C: Core>(
     alloc: Global,
-    core: &FlagCore,
+    core: &C,
     places: &str,
 ) -> Result<String, AllocError> {
     let mut shown = String::from_str(alloc, "|")?;

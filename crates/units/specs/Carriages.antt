@@ -1,5 +1,5 @@
 -- the carriage of the printer, and the orders to it
-use Rattle.std.specs.Prelude.{ℕ, ◌+◌, ◌-◌, nat_le, nat_lt, ◌&&◌, ◌||◌, ◌==◌, Bool, false, if◌then◌else◌, List, Option, Some, None, Result, Ok, unwrap_or, codes}
+use Rattle.std.specs.Prelude.{ℕ, ◌+◌, ◌-◌, nat_le, nat_lt, ◌&&◌, ◌||◌, ◌==◌, Bool, false, if◌then◌else◌, List, [], ◌∷◌, Option, Some, None, Result, Ok, unwrap_or, codes}
 use Rattle.bcd.specs.Table.{glyph_of, byte}
 use Rattle.core_store.specs.Checked.{find_or}
 use Rattle.core_store.specs.declared.checks.Check.{Check}
@@ -60,18 +60,28 @@ after_line c = moved_by (unwrap_or c.waiting Space) (record c { waiting = None }
 abbrev pub is_glyph : ℕ → List ℕ → Bool
 is_glyph code glyph = glyph_of code == byte glyph
 
+-- what a character means in a list of glyphs with their meanings, if its glyph is there
+abbrev pub meant_among : {T : Type 0} → List (List ℕ × T) → ℕ → Option T
+meant_among [] code = None
+meant_among (first ∷ rest) code =
+    if is_glyph code first.0 then Some first.1 else meant_among rest code
+
+-- the orders to the carriage: the character of each, and what it means
+abbrev pub orders : List (List ℕ × CarriageOrder)
+orders =
+    (codes "J", Now Space)
+    ∷ (codes "K", Now DoubleSpace)
+    ∷ (codes "L", Now TripleSpace)
+    ∷ (codes "/", AfterLine Space)
+    ∷ (codes "S", AfterLine DoubleSpace)
+    ∷ (codes "T", AfterLine TripleSpace)
+    ∷ (codes "1", Now SkipToChannel1)
+    ∷ (codes "A", AfterLine SkipToChannel1)
+    ∷ []
+
 -- the order to the carriage that a character names, if it names one
 unfoldable pub order_of : ℕ → Option CarriageOrder
-order_of code =
-    if is_glyph code (codes "J") then Some (Now Space)
-    else (if is_glyph code (codes "K") then Some (Now DoubleSpace)
-    else (if is_glyph code (codes "L") then Some (Now TripleSpace)
-    else (if is_glyph code (codes "1") then Some (Now SkipToChannel1)
-    else (if is_glyph code (codes "/") then Some (AfterLine Space)
-    else (if is_glyph code (codes "S") then Some (AfterLine DoubleSpace)
-    else (if is_glyph code (codes "T") then Some (AfterLine TripleSpace)
-    else (if is_glyph code (codes "A") then Some (AfterLine SkipToChannel1)
-    else None)))))))
+order_of code = meant_among orders code
 
 -- the carriage after an order: a motion at once, or one that waits for the next line in place of
 -- any before
