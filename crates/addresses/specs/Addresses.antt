@@ -8,7 +8,6 @@ use Rattle.core_store.specs.Storage.{largest_size}
 use Rattle.addresses.specs.Digits.{digit_under}
 use Rattle.addresses.specs.declared.tagged.IndexLocation.{IndexLocation}
 use Rattle.addresses.specs.declared.tagged.IndexLocation.TheVariants.{First, Second, Third}
-use Rattle.addresses.specs.declared.tagged.Tagged.{Tagged}
 
 -- a number greater than any address, for three characters that are no address
 abbrev pub unreadable : ℕ
@@ -44,6 +43,11 @@ location_of Bare = None
 location_of A = Some First
 location_of B = Some Second
 location_of AB = Some Third
+
+-- an address: its base, and its index location if it names one
+pub record Tagged : Type 0 where
+  pub base : ℕ
+  pub index : Option IndexLocation
 
 -- the address of three characters, if they are one: its base and its index location
 unfoldable pub tagged : ℕ → ℕ → ℕ → Option Tagged

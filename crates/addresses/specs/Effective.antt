@@ -4,10 +4,9 @@ use Rattle.core_store.specs.Storage.{Storage, code_at}
 use Rattle.core_store.specs.Checked.{require, find_or, and_then}
 use Rattle.core_store.specs.declared.checks.Check.{Check}
 use Rattle.core_store.specs.declared.checks.Check.TheVariants.{Address}
-use Rattle.addresses.specs.Addresses.{base, tagged}
+use Rattle.addresses.specs.Addresses.{Tagged, base, tagged}
 use Rattle.addresses.specs.declared.tagged.IndexLocation.{IndexLocation}
 use Rattle.addresses.specs.declared.tagged.IndexLocation.TheVariants.{First, Second, Third}
-use Rattle.addresses.specs.declared.tagged.Tagged.{Tagged}
 
 -- the units position of an index location: 89, 94 or 99
 abbrev pub units_position : IndexLocation → ℕ

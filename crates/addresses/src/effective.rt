@@ -31,7 +31,8 @@ pub fn base_ending<C: Core>(core: &C, position: u16) -> Option<u16>
 /// A base plus the number at an index location, modulo 16000.
 #[tactic(auto, unfolding(crate::specs::Effective::with_index))]
 fn with_index<C: Core>(core: &C, base: u16, location: IndexLocation) -> Result<u16, Check>
-    ensures { result ≡ with_index (C.cells core.now) base (Some location) }
+    ensures number { result ≡ with_index (C.cells core.now) base (Some location) }
+    ensures below { IfOk result (λ number. number < largest_size) }
 {
     let units = location.units_position();
     if units >= core.size() {
@@ -43,11 +44,12 @@ fn with_index<C: Core>(core: &C, base: u16, location: IndexLocation) -> Result<u
     Ok(((base as u32 + index as u32) % LARGEST_SIZE as u32) as u16)
 }
 
-/// The number that an address represents: its base, plus the number at its index location if it
-/// names one. Check ADDRESS if the index location cannot be read.
+/// The number that an address represents, always below 16000: its base, plus the number at its
+/// index location if it names one. Check ADDRESS if the index location cannot be read.
 #[tactic(auto, unfolding(crate::specs::Effective::with_index))]
 pub fn effective_address<C: Core>(core: &C, tagged: Tagged) -> Result<u16, Check>
-    ensures { result ≡ effective (C.cells core.now) tagged }
+    ensures number { result ≡ effective (C.cells core.now) tagged }
+    ensures below { IfOk result (λ number. number < largest_size) }
 {
     match tagged.index {
         None => Ok(tagged.base),

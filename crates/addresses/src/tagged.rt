@@ -8,6 +8,7 @@ ghost use Rattle.addresses.specs.Effective.{units_position};
 
 use crate::tables::{UNREADABLE, base};
 use bcd::{Code, Zone};
+use std::marker::Model;
 
 /// The three index locations of storage, whose numbers are added to the addresses that name them.
 #[derive(Clone, Copy, Debug, PartialEq, Eq)]
@@ -20,13 +21,27 @@ pub enum IndexLocation {
     Third,
 }
 
-/// An address that was read: its base and its index location.
+/// An address that was read: its base, always below 16000, and its index location.
 #[derive(Clone, Copy, Debug, PartialEq, Eq)]
 pub struct Tagged {
     /// The number spelled by its digits and by the zones of its first and third character.
     pub base: u16,
     /// The index location named by the zone of its second character.
     pub index: Option<IndexLocation>,
+}
+
+impl Model for Tagged {
+    ghost use Rattle.std.specs.Prelude.{◌<◌};
+    ghost use Rattle.core_store.specs.Storage.{largest_size};
+    ghost use Rattle.addresses.specs.Addresses.{Tagged};
+
+    ghost Value = { Tagged };
+
+    ghost view = { λ address. record { base = address.base; index = address.index } };
+
+    ghost invariant = { λ address. address.base < largest_size };
+
+    ghost inverse = { λ address. record { base = address.base; index = address.index } };
 }
 
 impl IndexLocation {

@@ -17,7 +17,7 @@ use Rattle.autocoder_statements.specs.declared.operations.Operation.{Operation}
 use Rattle.autocoder_statements.specs.declared.operations.Operation.TheVariants as operation
 use Rattle.autocoder_statements.specs.declared.reading.Statement.{Statement}
 use Rattle.autocoder_statements.specs.declared.reading.Statement.TheVariants as statement
-use Rattle.autocoder_laws.specs.Instructions.{mnemonic_on}
+use Rattle.autocoder_laws.specs.Cards.{mnemonic_on}
 use Rattle.autocoder_statements.proofs.Found.{mapped, bound, is_found}
 use Rattle.autocoder_laws.proofs.SuitLemmas.{Entry}
 

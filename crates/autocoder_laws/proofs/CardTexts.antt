@@ -44,7 +44,7 @@ use Rattle.autocoder_statements.proofs.Tests.{both, neither}
 
 -- ---- fields that are spelled, as they are joined
 
-joined_read : {A : Type 0} (P : A → List ℕ → Type 0) (reader : List ℕ → Option (A × ℕ)) →
+pub joined_read : {A : Type 0} (P : A → List ℕ → Type 0) (reader : List ℕ → Option (A × ℕ)) →
     ((x : A) (text rest : List ℕ) → P x text → IsEnd rest → whole (text ++ rest) (reader (text ++ rest)) ≡ Some x) →
     (x : A) (field : List ℕ) → Joined (P x) IsEnd field → whole field (reader field) ≡ Some x
 joined_read P reader law x field j = ap (λ f. whole f (reader f)) j.said ∙ law x j.one j.other j.is_one j.is_other
@@ -57,7 +57,7 @@ size_read Positions1400 text rest h = rw h refl
 size_read Positions2000 text rest h = rw h refl
 size_read Positions4000 text rest h = rw h refl
 
-size_law : (s : Size) (text rest : List ℕ) → IsSize s text → IsEnd rest → whole (text ++ rest) (size (text ++ rest)) ≡ Some s
+pub size_law : (s : Size) (text rest : List ℕ) → IsSize s text → IsEnd rest → whole (text ++ rest) (size (text ++ rest)) ≡ Some s
 size_law s text rest h end = ap (whole (text ++ rest)) (size_read s text rest h) ∙ whole_read s text rest end
 
 abbrev Found : Type 0
@@ -95,7 +95,7 @@ size_spelled text s n e = by_first (begins (codes "1") text) refl e
     by_first true t h = own first h (begins_typed (codes "1") text refl t)
     by_first false t h = by_second (begins (codes "2") text) refl h
 
-size_law_back : (s : Size) (field : List ℕ) → whole field (size field) ≡ Some s → Joined (IsSize s) IsEnd field
+pub size_law_back : (s : Size) (field : List ℕ) → whole field (size field) ≡ Some s → Joined (IsSize s) IsEnd field
 size_law_back s field e = whole_spelled IsSize field (size field) s e (λ x count read. size_spelled field x count read)
 
 -- ---- starts of programs
@@ -111,12 +111,12 @@ starts_not_ended text s = ap is_ended s.said ∙ not_ended s.first s.tail (blank
 expression_starts : (e : Expression) (field : List ℕ) → Joined (IsExpression e) IsEnd field → Starts field
 expression_starts e field j = before j.one j.other field j.said (before j.is_one.one j.is_one.other j.one j.is_one.said (base_starts e.base j.is_one.one j.is_one.is_one))
 
-start_read : (s : Option Expression) (field : List ℕ) → IsStart s field → start field ≡ Some s
+pub start_read : (s : Option Expression) (field : List ℕ) → IsStart s field → start field ≡ Some s
 unfolding start
 start_read None field h = rw (fronts.ended field h) refl
 start_read (Some e) field h = rw (starts_not_ended field (expression_starts e field h), joined_read IsExpression expression expression_law e field h) refl
 
-start_spelled : (field : List ℕ) (s : Option Expression) → start field ≡ Some s → IsStart s field
+pub start_spelled : (field : List ℕ) (s : Option Expression) → start field ≡ Some s → IsStart s field
 unfolding start
 start_spelled field s e = by_test (is_ended field) refl e
   where
@@ -177,7 +177,7 @@ in_forms form (Some g) (Some h) chosen field o apart (inr (inr same)) e =
     let k = ap (λ f. operands f field) own ∙ e in
     rw (apart_forms form h field o q.0 k, apart_forms g h field o q.1 k, k) refl
 
-instruction_read : (m : Mnemonic) (i : Instruction) (field : List ℕ) → are_apart m.forms ≡ true → IsInstruction m i field → instruction m field ≡ Some i
+pub instruction_read : (m : Mnemonic) (i : Instruction) (field : List ℕ) → are_apart m.forms ≡ true → IsInstruction m i field → instruction m field ≡ Some i
 unfolding instruction operands_in
 instruction_read m i field apart h =
     let j = h.said in
@@ -201,7 +201,7 @@ forms_back forms field o e =
     (λ h. let (f, same, read) = if_form forms.other field o h in record { form = f; among = inr (inl same); read = read })
     (λ h. let (f, same, read) = if_form forms.third field o h in record { form = f; among = inr (inr same); read = read }))
 
-instruction_spelled : (m : Mnemonic) (i : Instruction) (field : List ℕ) → instruction m field ≡ Some i → IsInstruction m i field
+pub instruction_spelled : (m : Mnemonic) (i : Instruction) (field : List ℕ) → instruction m field ≡ Some i → IsInstruction m i field
 unfolding instruction
 instruction_spelled m i field e =
     let (o, read, same) = mapped (instruction_with m) (operands_in m.forms field) i e in
@@ -295,12 +295,12 @@ says_back (operation.Instruction m) said label field plain e =
 
 -- ---- cards
 
-asterisk_read : (xs : List ℕ) → take 1 xs ≡ 44 ∷ [] → begins (codes "*") (take 10 xs) ≡ true
+pub asterisk_read : (xs : List ℕ) → take 1 xs ≡ 44 ∷ [] → begins (codes "*") (take 10 xs) ≡ true
 unfolding begins glyph_of
 asterisk_read [] e = absurd (cc)
 asterisk_read (c ∷ xs) e = let k : c ≡ 44 = cc in rw k refl
 
-asterisk_spelled : (xs : List ℕ) → begins (codes "*") (take 10 xs) ≡ true → take 1 xs ≡ 44 ∷ []
+pub asterisk_spelled : (xs : List ℕ) → begins (codes "*") (take 10 xs) ≡ true → take 1 xs ≡ 44 ∷ []
 unfolding begins
 asterisk_spelled [] e = absurd (cc)
 asterisk_spelled (c ∷ xs) e = ap (λ x. x ∷ []) (asterisk_is c (both (glyph_of c == 42) true e).0)

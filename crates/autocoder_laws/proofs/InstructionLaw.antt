@@ -15,7 +15,8 @@ use Rattle.autocoder_layout.specs.Cells.{instruction_codes}
 use Rattle.autocoder_layout.specs.Literals.{Characters}
 use Rattle.autocoder_layout.specs.declared.slots.Slot.{Slot}
 use Rattle.autocoder_laws.specs.Meanings.{Meaning, meanings}
-use Rattle.autocoder_laws.specs.Instructions.{IsOfForm, IsAssembledAs, mnemonic_on}
+use Rattle.autocoder_laws.specs.Cards.{mnemonic_on}
+use Rattle.autocoder_laws.specs.Instructions.{IsOfForm, IsAssembledAs}
 use Rattle.autocoder_laws.proofs.CardLemmas.{of_card}
 use Rattle.autocoder_laws.proofs.FormLemmas.{in_forms}
 use Rattle.autocoder_statements.proofs.Found.{mapped}

@@ -21,7 +21,7 @@ use Rattle.autocoder_statements.proofs.Found.{bound, is_found}
 
 -- ---- results
 
-same_ok : {A : Type 0} (a b : A) → ◌≡◌ {A = Result A StatementFault} (Ok a) (Ok b) → a ≡ b
+pub same_ok : {A : Type 0} (a b : A) → ◌≡◌ {A = Result A StatementFault} (Ok a) (Ok b) → a ≡ b
 same_ok a b e = cc
 
 -- ---- words
@@ -45,12 +45,12 @@ blank_plain (c ∷ field) h = let e : c ≡ 0 = cc in rw e refl
 pub blanks_are_plain : (field : List ℕ) → AreBlanks field → IsPlain field
 blanks_are_plain field h = record { unbroken = blank_unbroken field h; asterisk = blank_plain field h }
 
-name_some : (name : Name) (text : List ℕ) → IsName name text → 0 < length text
+pub name_some : (name : Name) (text : List ℕ) → IsName name text → 0 < length text
 unfolding glyph_of
 name_some name [] h = let e = h.letter in absurd (cc)
 name_some name (c ∷ text) h = omega arith
 
-name_plain : (name : Name) (text rest : List ℕ) → IsName name text → begins (codes "*") (text ++ rest) ≡ false
+pub name_plain : (name : Name) (text rest : List ℕ) → IsName name text → begins (codes "*") (text ++ rest) ≡ false
 unfolding begins glyph_of
 name_plain name [] rest h = let e = h.letter in absurd (cc)
 name_plain name (c ∷ text) rest h = rw (letter_no_asterisk c h.letter) refl

@@ -22,3 +22,8 @@ pub mod Words
 pub mod Operations
 pub mod Labels
 pub mod CardTexts
+pub mod FaultFields
+pub mod FaultOrder
+pub mod FaultTests
+pub mod CardFaults
+pub mod SourceFaults

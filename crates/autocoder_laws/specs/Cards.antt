@@ -4,8 +4,9 @@ use Rattle.std.specs.List.{list_all}
 use Rattle.cards.specs.declared.decks.Card.{Card}
 use Rattle.core_store.specs.declared.sizes.Size.{Size}
 use Rattle.core_store.specs.declared.sizes.Size.TheVariants.{Positions1400, Positions2000, Positions4000}
+use Rattle.autocoder_statements.specs.Characters.{with_blanks}
 use Rattle.autocoder_statements.specs.Mnemonics.{orders, mnemonics, mnemonic_of, instruction_with, IsAmong}
-use Rattle.autocoder_statements.specs.Statements.{columns}
+use Rattle.autocoder_statements.specs.Statements.{columns, operation_columns, operation_field, word}
 use Rattle.autocoder_statements.specs.declared.expressions.Expression.{Expression}
 use Rattle.autocoder_statements.specs.declared.constants.Constant.{Constant}
 use Rattle.autocoder_statements.specs.declared.operand_forms.OperandForm.{OperandForm}
@@ -47,6 +48,10 @@ HasWord false field = AreBlanks field
 HasWord true field = Joined IsWord AreBlanks field
 
 -- ---- the operation field
+
+-- the word in a card's operation field, filled up with blanks
+abbrev pub mnemonic_on : Card → List ℕ
+mnemonic_on card = with_blanks operation_columns (word (operation_field card))
 
 -- the operations with their names, blanks after each name
 unfoldable pub operations : List (List ℕ × Operation)

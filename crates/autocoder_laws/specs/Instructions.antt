@@ -1,7 +1,6 @@
 -- instructions as the assembler makes them and the machine reads them
 use Rattle.std.specs.Prelude.{ℕ, ◌≡◌, ◌+◌, ◌-◌, ⊤, nat_lt, true, List, length, slice_index, Option, Some, None, Ok, is_some}
 use Rattle.std.specs.List.{All}
-use Rattle.cards.specs.declared.decks.Card.{Card}
 use Rattle.core_store.specs.Storage.{Storage, cell_at, is_marked}
 use Rattle.core_store.specs.Checked.{and_then}
 use Rattle.core_store.specs.declared.registers.Registers.{Registers}
@@ -9,10 +8,8 @@ use Rattle.machine.specs.Operations.{Form, form_of}
 use Rattle.machine.specs.Word as machine
 use Rattle.machine.specs.declared.named.Decoded.{Decoded}
 use Rattle.machine.specs.declared.named.Modifier as modifier
-use Rattle.autocoder_statements.specs.Characters.{with_blanks}
 use Rattle.autocoder_statements.specs.Mnemonics.{entry, instruction_length}
 use Rattle.autocoder_statements.specs.Operands.{is_modifier}
-use Rattle.autocoder_statements.specs.Statements.{operation_columns, operation_field, word}
 use Rattle.autocoder_statements.specs.declared.operand_forms.OperandForm.{OperandForm}
 use Rattle.autocoder_statements.specs.declared.operand_forms.OperandForm.TheVariants.{Empty, Modifier, One, OneAndModifier, Two, TwoAndModifier}
 use Rattle.autocoder_statements.specs.declared.modifiers.Modifiers.{Modifiers}
@@ -102,7 +99,3 @@ IsAssembledAs mnemonic spelled =
     (size : ℕ) (slots : List Slot) (literals : List Characters) →
     IsInstructionOf mnemonic (instruction_length spelled)
     (instruction_codes size slots literals spelled)
-
--- the word in a card's operation field, filled up with blanks
-abbrev pub mnemonic_on : Card → List ℕ
-mnemonic_on card = with_blanks operation_columns (word (operation_field card))

@@ -8,3 +8,5 @@ pub mod Addresses
 pub mod Constants
 pub mod OperandFields
 pub mod Cards
+pub mod Needs
+pub mod Faults

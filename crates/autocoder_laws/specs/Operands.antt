@@ -4,8 +4,8 @@ use Rattle.core_store.specs.Storage.{Storage, largest_size}
 use Rattle.core_store.specs.Checked.{require, and_then}
 use Rattle.core_store.specs.declared.checks.Check.{Check}
 use Rattle.core_store.specs.declared.checks.Check.TheVariants as check
+use Rattle.addresses.specs.Addresses.{Tagged}
 use Rattle.addresses.specs.Effective.{effective}
-use Rattle.addresses.specs.declared.tagged.Tagged.{Tagged}
 use Rattle.autocoder_statements.specs.declared.operands.Operand.{Operand}
 use Rattle.autocoder_statements.specs.declared.operands.Operand.TheVariants.{Address, Literal}
 use Rattle.autocoder_layout.specs.Cells.{position_in}

@@ -10,7 +10,8 @@ ghost use Rattle.autocoder_statements.specs.declared.operands.Operands.{Operands
 ghost use Rattle.autocoder_statements.specs.declared.operand_forms.OperandForms.{OperandForms};
 ghost use Rattle.autocoder_statements.specs.declared.operations.Instruction.{Instruction};
 ghost use Rattle.autocoder_statements.specs.declared.reading.Statement as statement;
-ghost use Rattle.autocoder_laws.specs.Instructions.{IsOfForm, IsAssembledAs, mnemonic_on};
+ghost use Rattle.autocoder_laws.specs.Cards.{mnemonic_on};
+ghost use Rattle.autocoder_laws.specs.Instructions.{IsOfForm, IsAssembledAs};
 
 /// The law of instructions: each mnemonic, in each of its forms, with each last character that it
 /// allows, is assembled to an instruction that the machine decodes as the operation that the

@@ -6,8 +6,11 @@
 //! address, a constant, operands or a whole card. The laws join the two ([`cards_are_read`] and
 //! those of its parts): each text that spells a thing is read as that thing, whatever comment comes
 //! after it, and each text that is read as a thing spells it. A card says one thing at most, and it
-//! has a fault exactly if it spells nothing; which fault that is, only the definition of reading
-//! says.
+//! has a fault exactly if it spells nothing.
+//!
+//! **Faults.** What it is to have each fault is defined without the others, by what each operation
+//! wants of its card (`specs/Needs.antt`, `specs/Faults.antt`). By [`lowest_faults_are_told`] the
+//! faults of a source are the lowest of each card.
 //!
 //! **Meaning.** The table of mnemonics is the assembler's, the table of operations the machine's.
 //! By [`instructions_are_decoded`] they agree: the machine decodes the characters of an assembled
@@ -18,6 +21,7 @@
 
 mod constants;
 mod expressions;
+mod faults;
 mod instructions;
 mod numbers;
 mod operand_fields;
@@ -26,6 +30,7 @@ mod source_cards;
 
 pub use constants::constants_are_read;
 pub use expressions::expressions_are_read;
+pub use faults::lowest_faults_are_told;
 pub use instructions::instructions_are_decoded;
 pub use numbers::numbers_are_read;
 pub use operand_fields::operand_fields_are_read;

@@ -323,6 +323,56 @@ T|DS|2|
 = from 333 by 5: 333 '.'5'.'.' |
 ";
 
+/// Cards with two faults at once, of which the lower is told.
+const TWO_FAULTS_AT_ONCE: &str = "\
+1A|DS|0|
+|H||
+|END||
+= faults 1:42|
+|CTL|1|
+A|CTL|1|
+A|CTL X|1|
+|H||
+|END||
+= faults 2:42 3:40|
+A|H||
+A|EQU|LOST|
+A|EQU|4000|
+A|B|LOST|
+A|DS|4000|
+|END||
+= faults 2:44 3:44 4:44 5:44|
+|H||
+1A|EQU|LOST|
+A|ORG|LOST|
+A|ORG|4000|
+A|END|LOST|
+= faults 2:43 3:43 4:43 5:43|
+|H||
+|SW|LOST,4000|
+|SW|4000,LOST|
+|END||
+= faults 2:45 3:45|
+|ORG|079|
+|DC|5|
+|ORG|079|
+|SW|LOST,4000|
+|ORG|079|
+|SW|4000,1|
+|ORG|079|
+|DC|5|
+|ORG|079|
+|DC|#4000|
+|H||
+|END||
+= faults 2:47 4:45 6:46 8:47 10:46 11:46|
+|ORG|500|
+|DC|5|
+|ORG|500|
+|SW|4000,1|
+= faults 4:46|
+";
+
 /// The starts of sources.
 const STARTS: &str = "\
 |ORG|3999|
@@ -362,6 +412,7 @@ fn what_sources_are_assembled_to(rt: HostRuntime) -> Result<(), Fail> {
         LITERALS,
         NAMES,
         POSITIONS,
+        TWO_FAULTS_AT_ONCE,
         STARTS,
     ] {
         assert_eq!(rt; misassembled(rt.alloc(), sheets)?, "");

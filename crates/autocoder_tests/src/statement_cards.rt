@@ -258,6 +258,36 @@ const WHAT_IS_NOT_LOOKED_AT: &str = "\
 0||H|  @|
 ";
 
+/// Cards with two faults at once, of which the lower is told: a gap before a wrong operation or wrong
+/// operands, no operation before a wrong label, and wrong operands before a wrong label.
+const TWO_FAULTS_AT_ONCE: &str = "\
+40|A B|XYZ||
+40||DS X|0|
+40|1 A|DS|0|
+41|1A|XYZ|A|
+42|1A|CTL|4|
+42|1A|ORG|@A@|
+42||EQU|@A@|
+42|1A|EQU|@A@|
+42|1A|DCW|A|
+42|ABCDEFG|DC|A|
+42|1A|DS|0|
+42|X1|DS||
+42|1A|MCW|A|
+42|A.B|SW||
+42|X3|B||
+42|1A|BLC|A,B|
+42|1A|BSS|A,H|
+42|1A|BCE|A,B|
+42|1A|BWZ|A,B,A|
+42|1A|R|@A@|
+42|1A|CC|B|
+42|1A|SBR||
+42|1A|NOP|A|
+43|1A|NOP||
+43|1A|DS|5|
+";
+
 #[test]
 fn faults_of_cards(rt: HostRuntime) -> Result<(), Fail> {
     for sheet in [
@@ -271,6 +301,7 @@ fn faults_of_cards(rt: HostRuntime) -> Result<(), Fail> {
         AN_OPERAND_BEGINS_IN_ITS_FIRST_COLUMN,
         LITERALS_FOR_ADDRESSES,
         WHAT_IS_NOT_LOOKED_AT,
+        TWO_FAULTS_AT_ONCE,
     ] {
         assert_eq!(rt; misread(rt.alloc(), sheet)?, "");
     }
