@@ -41,7 +41,7 @@ use Rattle.autocoder_laws.specs.Names.{IsName}
 use Rattle.autocoder_laws.specs.Addresses.{IsExpression}
 use Rattle.autocoder_laws.specs.Constants.{IsConstant}
 use Rattle.autocoder_laws.specs.Cards.{IsSize, IsInstruction}
-use Rattle.autocoder_laws.specs.Needs.{HasOperation, IsMissingOrGood, SuitsLabel, SuitsOperands, HasExpression, Addresses}
+use Rattle.autocoder_laws.specs.Needs.{HasOperation, IsMissingOrGood, SuitsLabel, SuitsOperands, HasExpression, HasAddress}
 use Rattle.autocoder_laws.specs.Faults.{InSource, HasGap, names_for, HasValue, PassesOutside, HasFault}
 use Rattle.autocoder_laws.proofs.CardTexts.{joined_read, size_law, size_law_back, start_read, start_spelled, instruction_read, instruction_spelled}
 use Rattle.autocoder_laws.proofs.Fields.{positive_law, positive_law_back, expression_law, expression_law_back, constant_law, constant_law_back}
@@ -246,19 +246,19 @@ module _ (limit : ℕ) (before : List Card) (card : Card) (after : List Card) (e
 
       -- an address of this operation with a value
       abbrev HasOwn : Value → Operation → Line → Type 0
-      HasOwn value other line = (e : Expression) × Addresses other e field × (value_in limit (names_for other (here line)) e ≡ value)
+      HasOwn value other line = (e : Expression) × HasAddress other e field × (value_in limit (names_for other (here line)) e ≡ value)
 
       own_value : (value : Value) (line : Line) → HasValue value (here line) → HasOwn value o line
       own_value value line h = subst (λ x. HasOwn value x line) (only h.operation h.has) (h.expression, h.said, h.is)
 
-      no_own : ((e : Expression) → Addresses o e field → ⊥) → (value : Value) (line : Line) → HasValue value (here line) → ⊥
+      no_own : ((e : Expression) → HasAddress o e field → ⊥) → (value : Value) (line : Line) → HasValue value (here line) → ⊥
       no_own none value line h = let (e, said, is) = own_value value line h in none e said
 
       no_pass : (line : Line) → (operation.Area ≡ o → ⊥) → passes_outside limit (slot_for line) line ≡ false → Decides (passes_outside limit (slot_for line) line) (PassesOutside (here line))
       no_pass line other e = decides_false _ e (λ h. other (only operation.Area h.0))
 
       -- a card without addresses, whose label is right
-      no_addresses : (line : Line) → ((e : Expression) → Addresses o e field → ⊥) → expressions_of line ≡ (None, None) →
+      no_addresses : (line : Line) → ((e : Expression) → HasAddress o e field → ⊥) → expressions_of line ≡ (None, None) →
           Above 45 (HasFault (here line)) → (slot_for line).fault ≡ None → Decides (passes_outside limit (slot_for line) line) (PassesOutside (here line)) → Goal line
       no_addresses line none named above e passes = no_value line named (no_own none Unknown line) (no_own none Outside line) above e passes
 
@@ -365,7 +365,7 @@ module _ (limit : ℕ) (before : List Card) (card : Card) (after : List Card) (e
 
     -- ---- constants and areas
 
-    constants : (o : Operation) (marked : Bool) → operation.Control ≢ o → operation.End ≢ o → operation.Area ≢ o → ((e : Expression) → Addresses o e field → ⊥) →
+    constants : (o : Operation) (marked : Bool) → operation.Control ≢ o → operation.End ≢ o → operation.Area ≢ o → ((e : Expression) → HasAddress o e field → ⊥) →
         ((c : Constant) → Joined (IsConstant c) IsEnd field → SuitsOperands o field) → (SuitsOperands o field → (c : Constant) × Joined (IsConstant c) IsEnd field) →
         (IsMissingOrGood (word label) → SuitsLabel o (word label)) → (SuitsLabel o (word label) → IsMissingOrGood (word label)) →
         operation_in (operation_field card) ≡ Some o → (line : Line) →

@@ -1,5 +1,5 @@
 -- for `lowest_faults_are_told`: how a card is read, and the tests of its faults
-use Rattle.std.proofs.Common.{◌≡◌, ◌≢◌, ℕ, ◌-◌, ◌<◌, ◌≤◌, ◌==◌, Bool, true, false, ◌||◌, ◌&&◌, List, [], ◌∷◌, Option, Some, None, Result, Ok, Err, if◌then◌else◌, is_some, refl, sym, ◌∙◌, ap, subst, inl, inr, true≢false}
+use Rattle.std.proofs.Common.{◌≡◌, ℕ, ◌<◌, ◌≤◌, ◌==◌, Bool, true, false, ◌||◌, ◌&&◌, List, [], ◌∷◌, Option, Some, None, Result, Ok, Err, if◌then◌else◌, is_some, refl, sym, ◌∙◌, ap, subst, inl, inr, true≢false}
 use Rattle.std.specs.Prelude.{cond, find, nat_lt, nat_le, nat_eq}
 use Rattle.std.proofs.lemmas.Bool.{leb-true, le-leb}
 use Rattle.std.proofs.lemmas.Bool.Decides.{Decides-eqb, Decides-ltb, Decides-at}
@@ -7,7 +7,6 @@ use Rattle.std.specs.Bool.{Decides}
 use Rattle.std.specs.List.{Any, list_any}
 use Rattle.addresses.specs.declared.tagged.IndexLocation.{IndexLocation}
 use Rattle.cards.specs.declared.decks.Card.{Card}
-use Rattle.autocoder_statements.specs.Expressions.{expression}
 use Rattle.autocoder_statements.specs.Names.{name_of}
 use Rattle.autocoder_statements.specs.Statements.{◌>>=◌, word_run, word, operation_of, or_fault, must_label, may_label, may_not_label, whole, size, start, statement_of}
 use Rattle.autocoder_statements.specs.declared.expressions.Expression.{Expression}

@@ -21,7 +21,7 @@ use Rattle.autocoder_layout.specs.declared.slots.Role.TheVariants.{Instruction}
 use Rattle.autocoder_layout.specs.declared.slots.Slot.{Slot}
 use Rattle.autocoder_laws.specs.Texts.{blank, IsEnd}
 use Rattle.autocoder_laws.specs.Names.{IsName}
-use Rattle.autocoder_laws.specs.Needs.{IsNoComment, HasOperation, label_on, SuitsLabel, SuitsOperands, Addresses}
+use Rattle.autocoder_laws.specs.Needs.{IsNoComment, HasOperation, label_on, SuitsLabel, SuitsOperands, HasAddress}
 
 -- ---- a card in its source
 
@@ -116,7 +116,7 @@ pub record HasValue (value : Value) (c : InSource) : Type 0 where
   pub operation : Operation
   pub has : HasOperation operation c.card
   pub expression : Expression
-  pub said : Addresses operation expression (field_on c)
+  pub said : HasAddress operation expression (field_on c)
   pub is : value_in c.size (names_for operation c) expression ≡ value
 
 -- 46 of a DS: it passes a position that is not in storage

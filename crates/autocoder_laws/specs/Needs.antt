@@ -89,15 +89,15 @@ HasExpression expression spelled = (index : Option IndexLocation)
     ⊎ (spelled.second ≡ Some (Address (record { expression = expression; index = index }))))
 
 -- the operand field has an address with this expression
-abbrev pub Addresses : Operation → Expression → List ℕ → Type 0
-Addresses operation.Job expression field = ⊥
-Addresses operation.Control expression field = ⊥
-Addresses operation.Origin expression field = Joined (IsExpression expression) IsEnd field
-Addresses operation.Equate expression field = Joined (IsExpression expression) IsEnd field
-Addresses operation.MarkedConstant expression field = ⊥
-Addresses operation.Constant expression field = ⊥
-Addresses operation.Area expression field = ⊥
-Addresses operation.End expression field = Joined (IsExpression expression) IsEnd field
-Addresses (operation.Instruction mnemonic) expression field =
+abbrev pub HasAddress : Operation → Expression → List ℕ → Type 0
+HasAddress operation.Job expression field = ⊥
+HasAddress operation.Control expression field = ⊥
+HasAddress operation.Origin expression field = Joined (IsExpression expression) IsEnd field
+HasAddress operation.Equate expression field = Joined (IsExpression expression) IsEnd field
+HasAddress operation.MarkedConstant expression field = ⊥
+HasAddress operation.Constant expression field = ⊥
+HasAddress operation.Area expression field = ⊥
+HasAddress operation.End expression field = Joined (IsExpression expression) IsEnd field
+HasAddress (operation.Instruction mnemonic) expression field =
     (spelled : Instruction) × IsInstruction mnemonic spelled field
     × HasExpression expression spelled
