@@ -1,5 +1,5 @@
 -- what the program does by its words
-use Rattle.std.specs.Prelude.{◌≡◌, ◌⊎◌, ℕ, List, [], ◌∷◌, ◌++◌}
+use Rattle.std.specs.Prelude.{◌≡◌, ◌⊎◌, ℕ, List, ◌++◌, codes}
 use Rattle.std.specs.Io.KnownBytes.{Appends, Keeps}
 use Rattle.counter.specs.Assembling.{Assembles}
 use Rattle.counter.specs.Runs.{Tells}
@@ -31,7 +31,7 @@ pub record HasAssembledText (status : Status) (output_old output_new errors_old 
 abbrev pub HasAssembled : Status → Bytes → Bytes → Bytes → Bytes → Type 0
 HasAssembled status output_old output_new errors_old errors_new =
     ((status ≡ NotDone) × Keeps output_old output_new
-    × Appends errors_old errors_new (fault_words Device ++ 10 ∷ []))
+    × Appends errors_old errors_new (fault_words Device ++ codes "\n"))
     ⊎ HasAssembledText status output_old output_new errors_old errors_new
 
 -- a row for a bureau's file had this exit status, and its outcome was printed

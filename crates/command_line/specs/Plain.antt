@@ -1,5 +1,5 @@
 -- words that are no options
-use Rattle.std.specs.Prelude.{◌==◌, not, ℕ, List, [], ◌∷◌, Bool, String, map, string_bytes, true}
+use Rattle.std.specs.Prelude.{◌==◌, not, ℕ, List, [], ◌∷◌, Bool, String, map, string_bytes, true, codes, slice_index_or}
 use Rattle.std.specs.List.{AllPass}
 use Rattle.std.specs.declared.alloc.Global.{Global}
 
@@ -7,11 +7,15 @@ use Rattle.std.specs.declared.alloc.Global.{Global}
 abbrev pub texts : List (String Global) → List (List ℕ)
 texts words = map string_bytes words
 
+-- the byte of a hyphen
+abbrev pub hyphen : ℕ
+hyphen = slice_index_or (codes "-") 0 0
+
 -- whether a word is no option: it does not begin with a hyphen, or is one byte long
 abbrev pub is_plain : List ℕ → Bool
 is_plain [] = true
 is_plain (x ∷ []) = true
-is_plain (x ∷ y ∷ ys) = not (x == 45)
+is_plain (x ∷ y ∷ ys) = not (x == hyphen)
 
 -- none of the words is an option
 abbrev pub ArePlain : List (List ℕ) → Type 0
