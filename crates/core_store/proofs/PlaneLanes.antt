@@ -47,14 +47,14 @@ module _ (marks : List ℕ) (place mask : ℕ) (within : place < length marks) (
       omega (arith, bound, is)
 
   -- the top bit of the mask
-  record Top : Type 0 where
+  pub record Top : Type 0 where
     pub at : ℕ
     pub near : at < 16
     pub zeros : count_leading_zeros 64 mask + suc at ≡ 64
     pub least : 2 ^ at ≤ mask
     pub below : mask < 2 ^ suc at
 
-  top : mask ≢ 0 → Top
+  pub top : mask ≢ 0 → Top
   top some =
       let wide : mask < 2 ^ 64 = omega (arith, small, pow_mono {i = 16} {j = 64} (omega arith)) in
       let (j, zeros, least, below) = leading_top 64 mask (omega (arith, some)) wide in
@@ -70,26 +70,19 @@ module _ (marks : List ℕ) (place mask : ℕ) (within : place < length marks) (
         below = below;
       }
 
-  pub count_most : mask ≢ 0 → count_leading_zeros 64 mask - 48 ≤ 16
-  count_most some = omega (arith, (top some).zeros)
-
-  pub count_room : mask ≢ 0 → 48 ≤ count_leading_zeros 64 mask
-  count_room some = omega (arith, (top some).zeros, (top some).near)
-
-  pub count_after : mask ≢ 0 → (k : ℕ) → k < count_leading_zeros 64 mask - 48 → get_or marks (place - k) 0 ≡ 0
-  count_after some k lt =
-      let t = top some in
-      let above : t.at < 15 - k = omega (arith, t.zeros, t.near) in
+  -- no byte is marked that is nearer than the one of the top bit
+  pub none_nearer : (t : Top) (k : ℕ) → t.at + k < 15 → get_or marks (place - k) 0 ≡ 0
+  none_nearer t k lt =
       let bound : mask_l (map is_some (chunk (place - 15) 16 marks)) < 2 ^ (15 - k) = omega (arith, is, t.below, pow_mono {i = suc t.at} {j = 15 - k} (omega arith)) in
       let here : place - 15 + (15 - k) ≡ place - k = omega arith in
       not_zero (get_or marks (place - k) 0)
       (ap (λ n. is_some (get_or marks n 0)) (sym here) ∙ sym (byte (15 - k) (omega arith)) ∙ above_mask (map is_some (chunk (place - 15) 16 marks)) (15 - k) bound)
 
-  pub count_stops : mask ≢ 0 → get_or marks (place - (count_leading_zeros 64 mask - 48)) 0 ≢ 0
-  count_stops some =
-      let t = top some in
-      let here : place - 15 + t.at ≡ place - (count_leading_zeros 64 mask - 48) = omega (arith, t.zeros, t.near) in
-      some_is (get_or marks (place - (count_leading_zeros 64 mask - 48)) 0)
+  -- and that one is marked
+  pub top_marked : (t : Top) (k : ℕ) → t.at + k ≡ 15 → get_or marks (place - k) 0 ≢ 0
+  top_marked t k same =
+      let here : place - 15 + t.at ≡ place - k = omega (arith, t.near) in
+      some_is (get_or marks (place - k) 0)
       (ap (λ n. is_some (get_or marks n 0)) (sym here) ∙ sym (byte t.at t.near)
       ∙ top_of_mask (map is_some (chunk (place - 15) 16 marks)) t.at (omega (arith, is, t.least)) (omega (arith, is, t.below)))
 
