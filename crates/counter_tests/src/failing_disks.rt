@@ -82,8 +82,8 @@ fn a_request_that_meets_a_failure_is_answered_503(rt: HostRuntime) -> Result<(),
     Ok(())
 }
 
-/// Whether a script of these commands ends with fault 2 once it has written just the lines of the
-/// jobs that were taken: more than `least`, and fewer than 100.
+/// Whether a script of these commands ends with fault 2, and has written just the lines of the jobs
+/// that were taken, at least `least` and fewer than 100, and the line of the fault.
 fn fails_after<S: Alter>(
     alloc: Global,
     bureau: &mut Bureau<S>,
@@ -96,7 +96,8 @@ fn fails_after<S: Alter>(
     };
     let mut writer = Narrow::new(alloc, 1000, false);
     let ended = script(alloc, &mut reader, &mut writer, bureau, &mut Meter::new());
-    let written = "taken 1\n".repeat(alloc, ended.acknowledged)?;
+    let mut written = "taken 1\n".repeat(alloc, ended.acknowledged)?;
+    written.push_str("fault 2\n")?;
     Ok(
         ended.ended == ScriptEnd::Fault(Fault::Store)
             && ended.acknowledged >= least
