@@ -13,8 +13,8 @@ use ledger::kept_offices_run_whole;
 /// The theorem of stops: however often the bureau stops, nothing is lost and nothing is repeated.
 /// The last files are of the office after beginnings of the commands that were carried out in each
 /// round, which contain every one that was replied to; the replies of each round are that office's;
-/// and each job at a halt there has the cards and lines of one uninterrupted run. `round` of
-/// `ledger_files` is such a round, with any work.
+/// and each job at a halt there has the cards and lines of one uninterrupted run. In `ledger_files`
+/// `open_and_work` begins such a round, with any work, and `stop` or `finish` ends it.
 pub fn stops_lose_nothing()
     ensures { (first : Image) → (rounds : List Round) → AreRounds first rounds
         → (office : Office) → AreOf first office → AreLeftWhole first rounds office }
