@@ -39,6 +39,11 @@ abbrev pub reading_fault : ErrorKind → Fault
 reading_fault OutOfMemory = fault.Card out_of_memory
 reading_fault _ = fault.Device
 
+-- the fault of a file that could not be written: want of memory, or a failed device
+abbrev pub writing_fault : ErrorKind → Fault
+writing_fault OutOfMemory = fault.Memory
+writing_fault _ = fault.Device
+
 -- the fault of a deck that takes no further card
 abbrev pub fault_of_deck : DeckFault → Fault
 fault_of_deck deck.TooManyCards = fault.TooManyCards

@@ -2,7 +2,7 @@
 
 ghost use Rattle.std.specs.Prelude.{◌≡◌, Some};
 ghost use Rattle.std.specs.IoError.{error_kind};
-ghost use Rattle.command_line.specs.Printed.{fault_words, reading_fault};
+ghost use Rattle.command_line.specs.Printed.{fault_words, reading_fault, writing_fault};
 
 use cards::{CardError, CardFault, DeckFault};
 use std::alloc::AllocError;
@@ -20,7 +20,7 @@ pub enum Fault {
     Empty,
     /// The cards that load a program and the data cards after them are over 2,000.
     TooManyCards,
-    /// There is no memory for the machine, for what is assembled, or for a listing.
+    /// There is no memory for the machine, what is assembled or a listing, or to write a file.
     Memory,
     /// A deck cannot be read, or a listing or a deck cannot be written.
     Device,
@@ -37,6 +37,16 @@ impl Fault {
                 card: 0,
                 column: 0,
             }),
+            _ => Fault::Device,
+        }
+    }
+
+    /// The fault of a file that cannot be written with this error.
+    pub fn of_writing(error: &io::Error) -> Fault
+        ensures { result ≡ writing_fault (error_kind error.now) }
+    {
+        match error.kind() {
+            ErrorKind::OutOfMemory => Fault::Memory,
             _ => Fault::Device,
         }
     }

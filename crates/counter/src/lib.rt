@@ -11,7 +11,8 @@
 //! not mention the contents of files, so `cases/check` and `examples/check` test that the right
 //! file is read, and what is left at a path. The contracts cover the rest: [`run_input`] prints the
 //! result of the run of some text, with the size and the switches that were given; and
-//! [`write_out`] prints nothing and ends as the assembly did, or prints the fault of a device.
+//! [`write_out`] prints nothing and ends as the assembly did, or prints the fault: it had no
+//! memory, or the device failed.
 #![tactic(auto)]
 
 mod assembling;

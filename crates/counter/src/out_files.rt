@@ -7,12 +7,12 @@ ghost use Rattle.counter.specs.Put.{IsPut};
 
 use crate::replacing::put_file;
 use crate::showing::Assembled;
-use command_line::{Fault, Status, tell_fault};
+use command_line::{Status, tell_fault};
 use std::io;
 use std::io::Write;
 
 /// Writes the bytes that an assembly returned for OUT, if any, and returns how the program ends. If
-/// the file cannot be written, the fault of a device is printed. Fails only if `errors` itself fails.
+/// the file cannot be written, the fault is printed. Fails only if `errors` itself fails.
 pub fn write_out<E: Write>(
     rt: &HostRuntime,
     out: &str,
@@ -30,7 +30,7 @@ pub fn write_out<E: Write>(
             out: Some(deck),
         } => match put_file(rt, out, &deck) {
             Ok(()) => Ok(status),
-            Err(_) => tell_fault(errors, Fault::Device),
+            Err(fault) => tell_fault(errors, fault),
         },
         Assembled { status, out: None } => Ok(status),
     }

@@ -1,5 +1,9 @@
 //! Replacing a file.
 
+ghost use Rattle.std.specs.Prelude.{IfErr};
+ghost use Rattle.counter.specs.Put.{IsWritingFault};
+
+use command_line::Fault;
 use std::fs::{File, OpenFile, OpenOptions, Permissions};
 use std::io::{ErrorKind, Write};
 use std::{fs, io};
@@ -52,12 +56,9 @@ fn put_by_name(
     put
 }
 
-/// Writes bytes to the file at a path, replacing its contents.
-///
-/// If there is a writable regular file at the path, or none, the file has all the bytes in the end,
-/// or stays as it was. Anything else (a device, a pipe, a link to a file) is written directly, and
-/// may be left with a part of the bytes if that fails.
-pub fn put_file(rt: &HostRuntime, path: &str, bytes: &[u8]) -> io::Result<()> {
+/// Writes bytes to the file at a path, by another name and a rename where a regular file or nothing
+/// is there.
+fn replace(rt: &HostRuntime, path: &str, bytes: &[u8]) -> io::Result<()> {
     match fs::symlink_metadata(rt, path) {
         Ok(found) if found.is_file() => {
             OpenOptions::new().write(true).open(rt, path)?;
@@ -66,5 +67,20 @@ pub fn put_file(rt: &HostRuntime, path: &str, bytes: &[u8]) -> io::Result<()> {
         Ok(_) => fs::write(rt, path, bytes),
         Err(error) if error.kind() == ErrorKind::NotFound => put_by_name(rt, path, bytes, None),
         Err(error) => Err(error),
+    }
+}
+
+/// Writes bytes to the file at a path, replacing its contents.
+///
+/// If there is a writable regular file at the path, or none, the file has all the bytes in the end,
+/// or stays as it was. Anything else (a device, a pipe, a link to a file) is written directly, and
+/// may be left with a part of the bytes if that fails. Fails with [`Fault::Memory`] if there is no
+/// memory, and with [`Fault::Device`] if the file cannot be written.
+pub fn put_file(rt: &HostRuntime, path: &str, bytes: &[u8]) -> Result<(), Fault>
+    ensures { IfErr result IsWritingFault }
+{
+    match replace(rt, path, bytes) {
+        Ok(()) => Ok(()),
+        Err(error) => Err(Fault::of_writing(&error)),
     }
 }

@@ -8,6 +8,7 @@ ghost use Rattle.service.specs.Work.{TellsAsked, TellsExport};
 
 use crate::outcomes::Outcome;
 use cards::write_punched_cards;
+use command_line::Fault as WritingFault;
 use counter::put_file;
 use ledger::{Bureau, Fault, kept_offices_run_whole};
 use ledger_files::{Work, with_bureau};
@@ -107,6 +108,7 @@ fn put(
     };
     match put_file(rt, &name, bytes) {
         Ok(()) => Ok(()),
+        Err(WritingFault::Memory) => Err(NO_MEMORY),
         Err(_) => Err(Outcome::Device),
     }
 }
