@@ -29,20 +29,22 @@ impl Read for Dripping<'_> {
     }
 }
 
-/// A writer that takes at most three bytes a call. When it has no room left, it takes none, or
-/// fails.
+/// A writer that takes few bytes a call. When it has no room left, it takes none, or fails.
 #[derive(Drop)]
 pub(crate) struct Narrow {
     pub(crate) taken: Vec<u8>,
+    /// The number of bytes that it takes a call, at most.
+    pub(crate) most: usize,
     pub(crate) room: usize,
     pub(crate) fails: bool,
 }
 
 impl Narrow {
-    /// A writer that has taken nothing.
+    /// A writer that has taken nothing, and takes at most three bytes a call.
     pub(crate) fn new(alloc: Global, room: usize, fails: bool) -> Narrow {
         Narrow {
             taken: Vec::new(alloc),
+            most: 3,
             room,
             fails,
         }
@@ -51,7 +53,7 @@ impl Narrow {
 
 impl Write for Narrow {
     fn write(&mut self, buf: &[u8]) -> io::Result<usize> {
-        let count = buf.len().min(self.room).min(3);
+        let count = buf.len().min(self.room).min(self.most);
         if count == 0 && self.fails {
             return Err(io::Error::from(ErrorKind::BrokenPipe));
         }

@@ -36,13 +36,19 @@ fn ends<S: Alter>(
     scripted == wanted && writer.taken.as_slice() == taken
 }
 
-/// Whether a script whose reader fails after these bytes ends so, and the bureau has no job then.
-fn is_left_alone<S: Alter + Drop>(alloc: Global, mut bureau: Bureau<S>, rest: &[u8]) -> bool {
+/// Whether a script from this reader ends so and writes this line, and the bureau has no job then.
+fn is_left_alone<S: Alter + Drop>(
+    alloc: Global,
+    mut bureau: Bureau<S>,
+    (rest, fails): (&[u8], bool),
+    ended: ScriptEnd,
+    line: &[u8],
+) -> bool {
     let failed = Scripted {
         acknowledged: 0,
-        sent: 0,
+        sent: line.len(),
         refused: false,
-        ended: ScriptEnd::ReadFailed,
+        ended,
     };
     let asked = Scripted {
         acknowledged: 2,
@@ -51,17 +57,40 @@ fn is_left_alone<S: Alter + Drop>(alloc: Global, mut bureau: Bureau<S>, rest: &[
         ended: ScriptEnd::Whole,
     };
     let query = (b"queue\njobs ACME\n".as_slice(), false, 100);
-    ends(alloc, &mut bureau, (rest, true, 100), failed, b"")
+    ends(alloc, &mut bureau, (rest, fails, 100), failed, line)
         && ends(alloc, &mut bureau, query, asked, b"queue\njobs\n")
 }
 
 #[test]
 fn nothing_is_applied_where_the_reader_fails(rt: HostRuntime) -> Result<(), Fail> {
     let lines = held(rt.alloc())?;
-    for count in [0, 1, 30, 111, lines.len()] {
+    for count in 0..=lines.len() {
         let rest = lines.as_str().as_bytes().get(..count).ok_or("bytes")?;
         let bureau = in_memory(rt.alloc())?;
-        assert!(rt; is_left_alone(rt.alloc(), bureau, rest), "{count} bytes");
+        assert!(rt;
+            is_left_alone(rt.alloc(), bureau, (rest, true), ScriptEnd::ReadFailed, b""),
+            "{count} bytes"
+        );
+    }
+    Ok(())
+}
+
+/// The script ends within its first line, or within the card or before it.
+#[test]
+fn nothing_is_applied_where_the_script_ends_too_early(rt: HostRuntime) -> Result<(), Fail> {
+    let lines = held(rt.alloc())?;
+    for count in 1..111 {
+        let line = if count < 30 {
+            b"bad line 1\n".as_slice()
+        } else {
+            b"bad line 2\n"
+        };
+        let rest = lines.as_str().as_bytes().get(..count).ok_or("bytes")?;
+        let bureau = in_memory(rt.alloc())?;
+        assert!(rt;
+            is_left_alone(rt.alloc(), bureau, (rest, false), ScriptEnd::Bad, line),
+            "{count} bytes"
+        );
     }
     Ok(())
 }
