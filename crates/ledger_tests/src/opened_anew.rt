@@ -142,9 +142,9 @@ const COMMANDS: [&str; 11] = [
 ];
 
 /// Statements, each after a mark for each command: `2` if it is then answered by fault 2, because
-/// it reads a row that is none of a bureau's, or misses one; `.` if it is answered as before; `-` if
-/// it is not tried, since it does not see that. The last line makes a table whose numbers may be
-/// texts.
+/// it reads a row that is none of a bureau's, or misses one; `.` if it is answered as before; and
+/// `-` if it is not tried, since it does not see that. The last line makes a table whose numbers
+/// may be texts.
 const ALTERED_ROWS: &str = "\
 ...........|UPDATE stretches SET switches = 127 WHERE number = 9 AND place > 0
 222222222..|UPDATE stretches SET switches = 128 WHERE number = 9 AND place = 1
@@ -156,7 +156,8 @@ const ALTERED_ROWS: &str = "\
 -2222......|UPDATE jobs SET loaded = x'40' WHERE number = 9
 .2222......|UPDATE jobs SET loaded = x'\
     40000000000000000000000000000000000000000000000000000000000000000000000000000000\
-    00000000000000000000000000000000000000000000000000000000000000000000000000000000' WHERE number = 9
+    00000000000000000000000000000000000000000000000000000000000000000000000000000000\
+    ' WHERE number = 9
 .2222222222|UPDATE pictures SET standing = 9 WHERE number = 9
 .2222222222|UPDATE pictures SET i = 65536 WHERE number = 9
 .2222......|UPDATE pictures SET i = 16000 WHERE number = 9
