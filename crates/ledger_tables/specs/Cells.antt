@@ -1,5 +1,5 @@
 -- the columns of a row, without the job that it names and its place
-use Rattle.std.specs.Prelude.{ℕ, List}
+use Rattle.std.specs.Prelude.{ℕ, List, Option}
 
 -- the columns of a job's row: kind, size, deck, the deck that its machine loads, and flags
 pub record JobCells : Type 0 where
@@ -10,23 +10,14 @@ pub record JobCells : Type 0 where
   pub held : ℕ
   pub collected : ℕ
 
--- the columns of the picture row of a job's machine: storage, registers, carriage, counts and
--- standing
-pub record PictureCells : Type 0 where
+-- the columns of a page's row: its number, from 0, and its bytes
+pub record PageCells : Type 0 where
+  pub page : ℕ
   pub storage : List ℕ
-  pub i : ℕ
-  pub a : ℕ
-  pub b : ℕ
-  pub compare : ℕ
-  pub overflow : ℕ
-  pub channel : ℕ
-  pub waiting : ℕ
-  pub form : ℕ
-  pub line : ℕ
-  pub taken : ℕ
-  pub cards : ℕ
-  pub lines : ℕ
-  pub standing : ℕ
+
+-- the bytes of the pages of a job's storage that have a row, by number
+abbrev pub Pages : Type 0
+Pages = ℕ → Option (List ℕ)
 
 -- the columns of a job's row that are its name
 pub record QueuedName : Type 0 where
