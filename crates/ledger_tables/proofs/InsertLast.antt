@@ -35,6 +35,10 @@ still_shared h one three seven nine = record {
   lines = still nine h.lines;
 }
 
+-- .. and do not depend on states and pages
+pub shared_with : {t : Tables} {db : Trees} (states : ByJob (Option StateRow)) (pages : ByJob Pages) → HoldsShared db t → HoldsShared db (record t { states = states; pages = pages })
+shared_with states pages h = record { jobs = h.jobs; jobs_rise = h.jobs_rise; distinct = h.distinct; stretches = h.stretches; cards = h.cards; lines = h.lines }
+
 -- the name of a job is tested by its customer and number
 pub name_is : (customer c : List ℕ) (number n : ℕ) → bytes_eq customer c && (number == n) ≡ true → (customer ≡ c) × (number ≡ n)
 name_is customer c number n h =

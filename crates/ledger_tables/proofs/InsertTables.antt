@@ -17,7 +17,7 @@ use Rattle.ledger_tables.specs.Tables.{NamedJob, Tables, Holds, job_named, with_
 use Rattle.ledger_tables.proofs.Texts.{insert_jobs, insert_jobs_is, insert_stretches, insert_stretches_is, insert_states, insert_states_is, insert_cards, insert_cards_is, insert_lines, insert_lines_is}
 use Rattle.ledger_tables.proofs.InsertStatement.{adds, apart, cast_int, cast_null}
 use Rattle.ledger_tables.proofs.InsertPlaces.{next_cells, next_shaped}
-use Rattle.ledger_tables.proofs.InsertLast.{still, still_pages, still_shared, distinct_with, placed_behind, state_behind, row_behind}
+use Rattle.ledger_tables.proofs.InsertLast.{still, still_pages, still_shared, shared_with, distinct_with, placed_behind, state_behind, row_behind}
 
 abbrev pub named : List ℕ → ℕ → JobCells → NamedJob
 named customer number job = record { customer = customer; number = number; cells = job }
@@ -78,7 +78,7 @@ state_added old new customer number state count h t holds at =
       schema = did.0;
       sound = did.3;
       version = did.2.0 (apart refl) ∙ holds.version;
-      shared = still_shared holds.shared (did.2.1.0 (apart refl)) (did.2.1.1.0 (apart refl)) (did.2.1.1.1.0 (apart refl)) (did.2.1.1.1.1.0 (apart refl));
+      shared = shared_with _ _ (still_shared holds.shared (did.2.1.0 (apart refl)) (did.2.1.1.0 (apart refl)) (did.2.1.1.1.0 (apart refl)) (did.2.1.1.1.1.0 (apart refl)));
       states = still now (row_behind customer number (state_columns state) (old.now.trees 11) _ _ holds.states (state_behind customer number state t.states at));
       pages = still_pages (did.2.1.1.1.1.1.1.0 (apart refl)) holds.pages;
       beside = tt;

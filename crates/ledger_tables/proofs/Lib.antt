@@ -25,4 +25,5 @@ pub mod CreateNames
 pub mod OpeningAnswers
 pub mod PageTables
 pub mod PageLookups
+pub mod PageClears
 pub mod RaisingTables

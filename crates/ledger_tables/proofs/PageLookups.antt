@@ -58,7 +58,7 @@ each_k : {X : Type 0} (Q : ℕ → X → Type 0) (xs : List X) → ((k : ℕ) �
 each_k Q [] all = tt
 each_k Q (x ∷ xs) all = (λ k. (all k).0, each_k Q xs (λ k. (all k).1))
 
-all_at : {X : Type 0} (P : X → Type 0) (xs : List X) → AllByRecursion P xs → All P xs
+pub all_at : {X : Type 0} (P : X → Type 0) (xs : List X) → AllByRecursion P xs → All P xs
 all_at P [] all k d less = absurd (omega (arith, less))
 all_at P (x ∷ xs) all zero d less = all.0
 all_at P (x ∷ xs) all (suc k) d less = all_at P xs all.1 k d (omega (arith, less))

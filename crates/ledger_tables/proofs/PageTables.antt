@@ -37,7 +37,7 @@ use Rattle.ledger_tables.specs.Schema.{bureau_schema, raising_schema, pages}
 use Rattle.ledger_tables.specs.Tables.{Beside, ByJob, Tables, HoldsAs, IsOfPages, NamesPage, at_job, at_page, cells, is_page_of, page_row, page_rows, with_page}
 use Rattle.ledger_tables.proofs.InsertStatement.{Means, adds, apart, cast_int, cast_null, went, same_value}
 use Rattle.ledger_tables.proofs.InsertPlaces.{next_cells, next_shaped}
-use Rattle.ledger_tables.proofs.InsertLast.{still, still_shared, name_is, name_yes, all_push}
+use Rattle.ledger_tables.proofs.InsertLast.{still, still_shared, shared_with, name_is, name_yes, all_push}
 use Rattle.ledger_tables.proofs.LookupStatement.{passes, show, plain_query, plain_answer}
 use Rattle.ledger_tables.proofs.LookupKeys.{place_passes, kept_cells, each_test}
 use Rattle.ledger_tables.proofs.ReadTexts.{is_place, delete_pages, delete_pages_is, delete_pages_beside}
@@ -81,7 +81,7 @@ module _ (schema : Schema) (sql : List ℕ) (at : ℕ) (table : Table) (tests te
 -- ---- rows that are left
 
 -- the rows that don't pass a test
-abbrev left : (Row → Bool) → List Row → List Row
+abbrev pub left : (Row → Bool) → List Row → List Row
 left test = filter (λ row. not (test row))
 
 module _ (p test : Row → Bool) (same : (r : Row) → p r ≡ test (drop 1 r)) where
@@ -113,11 +113,11 @@ module _ (p test : Row → Bool) (same : (r : Row) → p r ≡ test (drop 1 r)) 
           let less : value_cmp (rowid r) (Int id) ≡ Less = (subst (AllByRecursion (λ x. value_cmp (rowid r) (rowid x) ≡ Less)) later (all-filter (λ x. value_cmp (rowid r) (rowid x) ≡ Less) p rows shaped.0.0)).0 in
           rw (less, this) (ap (λ rs. drop 1 r ∷ rs) (rest later))
 
-same_filter : {X : Type 0} (p q : X → Bool) (xs : List X) → AllByRecursion (λ x. p x ≡ q x) xs → filter p xs ≡ filter q xs
+pub same_filter : {X : Type 0} (p q : X → Bool) (xs : List X) → AllByRecursion (λ x. p x ≡ q x) xs → filter p xs ≡ filter q xs
 same_filter p q [] same = refl
 same_filter p q (x ∷ xs) same = rw same.0 (ap (λ ys. cond (q x) (x ∷ ys) ys) (same_filter p q xs same.1))
 
-all_left : {X : Type 0} (P : X → Type 0) (p : X → Bool) (xs : List X) → AllByRecursion P xs → AllByRecursion P (filter p xs)
+pub all_left : {X : Type 0} (P : X → Type 0) (p : X → Bool) (xs : List X) → AllByRecursion P xs → AllByRecursion P (filter p xs)
 all_left P p [] all = tt
 all_left P p (x ∷ xs) all = elim (p x) as (λ b. AllByRecursion P (cond b (x ∷ filter p xs) (filter p xs))) [ true ↦ (all.0, all_left P p xs all.1) | false ↦ all_left P p xs all.1 ]
 
@@ -206,7 +206,7 @@ module _ (customer : List ℕ) (number page : ℕ) (storage : List ℕ) where
         schema = did.0;
         sound = did.3;
         version = did.2.0 (apart refl) ∙ holds.version;
-        shared = still_shared holds.shared (did.2.1.0 (apart refl)) (did.2.1.1.0 (apart refl)) (did.2.1.1.1.0 (apart refl)) (did.2.1.1.1.1.0 (apart refl));
+        shared = shared_with _ _ (still_shared holds.shared (did.2.1.0 (apart refl)) (did.2.1.1.0 (apart refl)) (did.2.1.1.1.0 (apart refl)) (did.2.1.1.1.1.0 (apart refl)));
         states = still (did.2.1.1.1.1.1.0 (apart refl)) holds.states;
         pages = one_behind (old.now.trees 13) (new.now.trees 13) t.pages holds.pages none now;
         beside = tt;
@@ -218,7 +218,7 @@ module _ (customer : List ℕ) (number page : ℕ) (storage : List ℕ) where
         schema = did.0;
         sound = did.3;
         version = did.2.0 (apart refl) ∙ holds.version;
-        shared = still_shared holds.shared (did.2.1.0 (apart refl)) (did.2.1.1.0 (apart refl)) (did.2.1.1.1.1.0 (apart refl)) (did.2.1.1.1.1.1.0 (apart refl));
+        shared = shared_with _ _ (still_shared holds.shared (did.2.1.0 (apart refl)) (did.2.1.1.0 (apart refl)) (did.2.1.1.1.1.0 (apart refl)) (did.2.1.1.1.1.1.0 (apart refl)));
         states = still (did.2.1.1.1.1.1.1.0 (apart refl)) holds.states;
         pages = one_behind (old.now.trees 13) (new.now.trees 13) t.pages holds.pages none now;
         beside = still (did.2.1.1.1.0 (apart refl)) holds.beside;
@@ -310,7 +310,7 @@ module _ (customer : List ℕ) (number page : ℕ) where
         schema = did.2;
         sound = did.5;
         version = others.0 (apart refl) ∙ holds.version;
-        shared = still_shared holds.shared (others.1.0 (apart refl)) (others.1.1.0 (apart refl)) (others.1.1.1.0 (apart refl)) (others.1.1.1.1.0 (apart refl));
+        shared = shared_with _ _ (still_shared holds.shared (others.1.0 (apart refl)) (others.1.1.0 (apart refl)) (others.1.1.1.0 (apart refl)) (others.1.1.1.1.0 (apart refl)));
         states = still (others.1.1.1.1.1.0 (apart refl)) holds.states;
         pages = one_less old.now.trees new.now.trees t.pages did.0 holds.pages did.3 some;
         beside = tt;
@@ -323,7 +323,7 @@ module _ (customer : List ℕ) (number page : ℕ) where
         schema = did.2;
         sound = did.5;
         version = others.0 (apart refl) ∙ holds.version;
-        shared = still_shared holds.shared (others.1.0 (apart refl)) (others.1.1.0 (apart refl)) (others.1.1.1.1.0 (apart refl)) (others.1.1.1.1.1.0 (apart refl));
+        shared = shared_with _ _ (still_shared holds.shared (others.1.0 (apart refl)) (others.1.1.0 (apart refl)) (others.1.1.1.1.0 (apart refl)) (others.1.1.1.1.1.0 (apart refl)));
         states = still (others.1.1.1.1.1.1.0 (apart refl)) holds.states;
         pages = one_less old.now.trees new.now.trees t.pages did.0 holds.pages did.3 some;
         beside = still (others.1.1.1.0 (apart refl)) holds.beside;

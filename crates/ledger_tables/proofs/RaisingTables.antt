@@ -7,6 +7,7 @@ use Rattle.std.proofs.lemmas.Cmp.{tied_itself}
 use Rattle.sqlite_value.proofs.OrderLemmas.{value_cmp_total}
 use Rattle.sqlite.specs.declared.types.Value.TheVariants.{Null, Int, Text, Blob}
 use Rattle.sqlite.specs.Order.{Row, column, value_cmp}
+use Rattle.sqlite.specs.Program.{overlay}
 use Rattle.sqlite.specs.Collation.TheVariants.{Binary}
 use Rattle.sqlite.specs.Cast.{cast, cast_row}
 use Rattle.sqlite.specs.Kind.TheVariants.{Integer}
@@ -41,7 +42,7 @@ use Rattle.ledger_tables.specs.Shown.{shown_queued, shown_storage}
 use Rattle.ledger_tables.specs.Tables.{NamedJob, ByJob, Tables, HoldsAs, HoldsFirst, HoldsShared, IsOf, NamesJob, cells, is_row_of, job_row, picture_row, picture_rows, state_row, state_rows, version_rows, without_pages}
 use Rattle.ledger_tables.specs.declared.rows.StateRow.{StateRow}
 use Rattle.ledger_tables.proofs.CreateStatement.{creates}
-use Rattle.ledger_tables.proofs.InsertLast.{still, still_pages, still_shared}
+use Rattle.ledger_tables.proofs.InsertLast.{still, still_pages, still_shared, shared_with}
 use Rattle.ledger_tables.proofs.InsertPlaces.{next_cells, next_shaped}
 use Rattle.ledger_tables.proofs.InsertStatement.{Means, apart, went, same_value, cast_int, cast_null}
 use Rattle.ledger_tables.proofs.LookupAnswers.{looks_in}
@@ -287,9 +288,9 @@ module _ (tree : ℕ) (terms : List Term) where
   ids_rise [] shaped = tt
   ids_rise (r ∷ rows) shaped = (before_all r rows shaped.0.0, ids_rise rows (shaped.0.1, shaped.1.1))
 
-  in_their_order : (db : Trees) (rows : List Row) → IsShaped Rising (db tree) → IsSureAnswer by_rowid db [] rows → rows ≡ map (show terms []) (db tree)
-  in_their_order db rows shaped sure =
-      ordered_answer tree [] terms (col 1 0) [] db rows refl sure (subst (λ rs. IsAscending (λ a b. output_cmp by_rowid a b ≡ Less) (map (keyed_pair tree [] terms (col 1 0) []) rs)) (sym (all_pass (db tree))) (ids_rise (db tree) shaped))
+  in_their_order : (db : Trees) (rows : List Row) → overlay db [] tree ≡ db tree → IsShaped Rising (db tree) → IsSureAnswer by_rowid (overlay db []) [] rows → rows ≡ map (show terms []) (db tree)
+  in_their_order db rows below shaped sure =
+      ordered_answer tree [] terms (col 1 0) [] db rows below sure (subst (λ rs. IsAscending (λ a b. output_cmp by_rowid a b ≡ Less) (map (keyed_pair tree [] terms (col 1 0) []) rs)) (sym (all_pass (db tree))) (ids_rise (db tree) shaped))
       ∙ ap (map (show terms [])) (all_pass (db tree))
 
 pub pictures_copied : (old new : State) (count : ℕ) → ExecutesInside 0 copy_pictures [] old new (Ok count) → (t : Tables) (storages : ByJob (List ℕ)) → HasNewTables old.now t storages
@@ -298,7 +299,7 @@ pictures_copied old new count h t storages holds =
     let did = copies raising_schema copy_pictures 6 (record states { tree = 11 }) copy_query copy_pictures_is refl old new count holds.first.schema_is h.0 in
     let db = old.now.trees in
     let are_pictures = all_pictures storages t.states (db 5) holds.first.pictures in
-    let whole = in_their_order 5 copied_terms db did.0 holds.first.pictures.rise (any_collations _ did.0 did.1.answer) in
+    let whole = in_their_order 5 copied_terms db did.0 refl holds.first.pictures.rise (any_collations _ did.0 did.1.answer) in
     let sources : map (λ (s : Row). cast_row (record states { tree = 11 }) (drop 0 s)) did.0 ≡ map (λ (r : Row). let s : Row = Null ∷ r in s) (map without_storage (cells (db 5))) =
     ap (map (λ (s : Row). cast_row (record states { tree = 11 }) (drop 0 s))) whole ∙ sources_cast (db 5) (with_ids (db 5) are_pictures) in
     let behind = all_behind [] (map without_storage (cells (db 5))) (tt, tt) in
@@ -311,7 +312,7 @@ pictures_copied old new count h t storages holds =
       schema = did.2;
       sound = did.5;
       version = others.0 (apart refl) ∙ holds.first.version;
-      shared = still_shared holds.first.shared (others.1.0 (apart refl)) (others.1.1.0 (apart refl)) (others.1.1.1.1.0 (apart refl)) (others.1.1.1.1.1.0 (apart refl));
+      shared = shared_with _ _ (still_shared holds.first.shared (others.1.0 (apart refl)) (others.1.1.0 (apart refl)) (others.1.1.1.1.0 (apart refl)) (others.1.1.1.1.1.0 (apart refl)));
       states = record {
         each = λ c n. ap (filter (is_row_of c n)) are ∙ same_names c n (cells (db 5)) are_pictures ∙ ap (map without_storage) (holds.first.pictures.each c n) ∙ state_of_picture c n (storages c n) (t.states c n);
         named = subst (AllByRecursion NamesJob) (sym are) (still_named (cells (db 5)) are_pictures);
@@ -340,7 +341,7 @@ pub names_read : (old new : State) (rows : List Row) → Shown select_all_names 
     → IsUnchanged old new × (rows ≡ map shown_queued (all_names t))
 names_read old new rows h t storages version holds =
     let did = looks_in raising_schema select_all_names _ _ select_all_names_is old new [] rows holds.schema h in
-    (did.0, in_their_order 1 name_terms old.now.trees rows holds.shared.jobs_rise did.1 ∙ names_shown (old.now.trees 1) t.jobs holds.shared.jobs)
+    (did.0, in_their_order 1 name_terms old.now.trees rows refl holds.shared.jobs_rise did.1 ∙ names_shown (old.now.trees 1) t.jobs holds.shared.jobs)
 
 storage_shown : (customer : List ℕ) (number : ℕ) (storage : List ℕ) (o : Option StateRow) → map (view (2 ∷ [])) (picture_rows customer number storage o) ≡ map shown_storage (option_to_list (option_map (λ state. storage) o))
 storage_shown customer number storage None = refl
@@ -438,5 +439,5 @@ made_dropped old new count h made =
     let was = made.empty in
     record {
       is = did.0;
-      empty = (kept.0 ∙ was.0, kept.1.0 ∙ was.1.0, kept.1.1.0 ∙ was.1.1.0, kept.1.1.1.0 ∙ was.1.1.1.1.0, kept.1.1.1.1.0 ∙ was.1.1.1.1.1.0, kept.1.1.1.1.1.0 ∙ was.1.1.1.1.1.1.0, kept.1.1.1.1.1.1.0 ∙ was.1.1.1.1.1.1.1.0, tt);
+      empty = (kept.0 ∙ was.0, (kept.1.0 ∙ was.1.0, (kept.1.1.0 ∙ was.1.1.0, (kept.1.1.1.0 ∙ was.1.1.1.1.0, (kept.1.1.1.1.0 ∙ was.1.1.1.1.1.0, (kept.1.1.1.1.1.0 ∙ was.1.1.1.1.1.1.0, (kept.1.1.1.1.1.1.0 ∙ was.1.1.1.1.1.1.1.0, tt)))))));
     }

@@ -30,7 +30,7 @@ use Rattle.ledger_tables.specs.Schema.{bureau_schema, raising_schema, to_job, st
 use Rattle.ledger_tables.specs.Tables.{Tables, Holds, NamesJob, cells, placed, is_row_of, stretch_row, state_row, state_rows, with_stretches, with_state}
 use Rattle.ledger_tables.specs.declared.rows.StateRow.{StateRow}
 use Rattle.ledger_tables.specs.declared.rows.StretchRow.{StretchRow}
-use Rattle.ledger_tables.proofs.InsertLast.{still, still_pages, still_shared}
+use Rattle.ledger_tables.proofs.InsertLast.{still, still_pages, still_shared, shared_with}
 use Rattle.ledger_tables.proofs.InsertStatement.{Means, apart, went, same_value, cast_int}
 use Rattle.ledger_tables.proofs.LookupStatement.{passes, show, plain_query, plain_answer}
 use Rattle.ledger_tables.proofs.ReadTexts.{is_key, is_place, update_granted, update_granted_is, granted_terms, update_state, update_state_is, new_state_terms}
@@ -146,7 +146,7 @@ module _ (customer : List ℕ) (number : ℕ) (p : StateRow) where
         schema = did.2;
         sound = did.5;
         version = others.0 (apart refl) ∙ holds.version;
-        shared = still_shared holds.shared (others.1.0 (apart refl)) (others.1.1.0 (apart refl)) (others.1.1.1.0 (apart refl)) (others.1.1.1.1.0 (apart refl));
+        shared = shared_with _ _ (still_shared holds.shared (others.1.0 (apart refl)) (others.1.1.0 (apart refl)) (others.1.1.1.0 (apart refl)) (others.1.1.1.1.0 (apart refl)));
         states = renews customer number (drop 2 state_params) of_key keyed (db 11) (new.now.trees 11) (λ c n. state_rows c n (t.states c n)) (λ c n. state_rows c n ((with_state customer number p t).states c n)) holds.states are shaped turned;
         pages = still_pages (others.1.1.1.1.1.1.0 (apart refl)) holds.pages;
         beside = tt;

@@ -274,15 +274,15 @@ HasBeside (Some storages) db t = HasPictures db t storages
 
 -- the database has states and pages, with this beside them, its tables hold this and nothing else,
 -- and they are marked as of this version
-pub record HoldsAs (beside : Beside) (version : ℕ) (db : Database) (t : Tables) : Type 0 where
-  pub schema : db.schema ≡ schema_beside beside
+pub record HoldsAs (there : Beside) (number : ℕ) (db : Database) (t : Tables) : Type 0 where
+  pub schema : db.schema ≡ schema_beside there
   pub sound : IsDatabase db
-  pub version : db.trees 0 ≡ version_rows version
+  pub version : db.trees 0 ≡ version_rows number
   pub shared : HoldsShared db.trees t
   pub states : IsOf (db.trees 11)
       (λ customer number. state_rows customer number (t.states customer number))
   pub pages : IsOfPages (db.trees 13) t.pages
-  pub beside : HasBeside beside db.trees t
+  pub beside : HasBeside there db.trees t
 
 -- the database is a bureau's of this program's version, and its tables hold this and nothing else
 abbrev pub Holds : Database → Tables → Type 0

@@ -85,7 +85,7 @@ impl<S: Alter> OpenTables<'_, '_, S> {
             → (version : ℕ) → (IsTrue old.is_open → HoldsAs None version old.now t)
             → HoldsAs None version new.now (without_blank_pages t))) }
     {
-        self.run("DELETE FROM pages WHERE storage = ?1", params![&BLANK])
+        self.run("DELETE FROM pages WHERE storage = ?1", params![&BLANK[..]])
     }
 
     /// Marks the tables as of this program's version.
