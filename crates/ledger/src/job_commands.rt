@@ -13,7 +13,7 @@ ghost use Rattle.ledger.specs.Steps.{Serves, ServesWhere, Ticks, TicksAtMost};
 use crate::by_summary::{collect, hold, release, tell_standing};
 use crate::reading::find_whole;
 use crate::saving::{Made, save};
-use core_store::FlagCore;
+use core_store::PlaneCore;
 use ledger_tables::{Fault, JobName, OpenTables};
 use machine::Meter;
 use office::{Job, JobCommand, Refusal, Reply, commands_act_on_pictures, commands_keep_jobs};
@@ -23,7 +23,7 @@ use sqlite::Alter;
 fn carry_out<S: Alter>(
     tables: &mut OpenTables<'_, '_, S>,
     name: JobName<'_>,
-    job: &mut Job<FlagCore>,
+    job: &mut Job<PlaneCore>,
     command: JobCommand,
     meter: &mut Meter,
 ) -> Result<Reply, Fault>
