@@ -9,12 +9,13 @@ use machine::{Parts, Standing};
 use office::{Job, JobCommand, JobParts, Stretch};
 use std::alloc::Global;
 use std::test::Fail;
-use units::{Carriage, Hopper, Printer, Punch, Switches, Units, put_card};
+use units::{Carriage, Counts, Hopper, Printer, Punch, Switches, Units, put_card};
 
 /// Units that have read the first card of a deck.
 fn units_with(alloc: Global, deck: Deck) -> Units {
     Units {
         hopper: Hopper { deck, taken: 1 },
+        before: Counts { cards: 0, lines: 0 },
         punch: Punch {
             cards: Vec::new(alloc),
         },
