@@ -130,7 +130,8 @@ const ALTERED_ROWS: &str = "\
 2|UPDATE pictures SET waiting = 5
 2|UPDATE pictures SET standing = 9
 2|UPDATE pictures SET line = 67
-2|UPDATE pictures SET cards = 1
+2|UPDATE pictures SET cards = 10001
+2|UPDATE pictures SET lines = 20001
 2|DELETE FROM pictures
 2|INSERT INTO cards VALUES ('ACME', 9, 1, x'40')
 2|INSERT INTO lines VALUES ('ACME', 9, 1, 1, 1, x'00')

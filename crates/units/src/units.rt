@@ -10,7 +10,7 @@ use crate::switches::Switches;
 use bitflags::Flags;
 
 /// How many cards and how many lines.
-#[derive(Clone, Copy, Debug, PartialEq, Eq)]
+#[derive(Clone, Copy)]
 pub struct Counts {
     pub cards: u32,
     pub lines: u32,
