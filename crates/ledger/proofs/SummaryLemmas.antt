@@ -9,6 +9,7 @@ use Rattle.office.specs.Kept.{Kept, kept_of, summary_of, job_refusal, needs_mach
 use Rattle.office.specs.Limits.{most_granted}
 use Rattle.office.specs.Office.{Office, job_of, with_job, commanded, attempted_of}
 use Rattle.office.specs.declared.commands.JobCommand.{JobCommand}
+use Rattle.office.specs.declared.commands.JobCommand.TheVariants.{Cards, Lines}
 use Rattle.office.specs.declared.refusals.Refusal.{Refusal}
 use Rattle.office.specs.declared.replies.Reply.{Reply}
 use Rattle.office.specs.declared.replies.Reply.TheVariants as reply
@@ -65,3 +66,12 @@ none_attempted c k none = go (job_refusal c (summary_of k))
 pub attempts_none : (c : JobCommand) (job : Option Job) → needs_machine c ≡ false → attempted_of c job ≡ 0
 attempts_none c None none = refl
 attempts_none c (Some job) none = none_attempted c (kept_of job) none
+
+-- a query attempts nothing
+pub cards_attempt_none : (job : Option Job) → attempted_of Cards job ≡ 0
+cards_attempt_none None = refl
+cards_attempt_none (Some job) = refl
+
+pub lines_attempt_none : (job : Option Job) → attempted_of Lines job ≡ 0
+lines_attempt_none None = refl
+lines_attempt_none (Some job) = refl
