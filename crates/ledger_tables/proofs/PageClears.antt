@@ -135,11 +135,11 @@ module _ (p : Row → Bool) where
       others (x ∷ xs) less all = (let apart_from = after_other r x shaped.1.0 less.0 in rw apart_from all.0, others xs less.1 all.1)
 
       go : (b : Bool) → p r ≡ b → AllByRecursion (λ x. lacks (map id_of (filter p rows)) x ≡ not (p x)) rows → AllByRecursion (λ x. lacks (map id_of (filter p (r ∷ rows))) x ≡ not (p x)) (r ∷ rows)
-      go true this rest = let own = has_own r shaped.1.0 in rw (this, this) (rw own refl, others rows shaped.0.0 rest)
+      go true this rest = let own = has_own r shaped.1.0 in rw this (rw own refl, others rows shaped.0.0 rest)
       go false this rest =
           let less = all-filter (λ x. value_cmp (rowid r) (rowid x) ≡ Less) p rows shaped.0.0 in
           let ints = all-filter (λ x. IsTrue (is_int (rowid x))) p rows shaped.1.1 in
-          rw (this, this) (lacks_later r (filter p rows) less ints, rest)
+          rw this (lacks_later r (filter p rows) less ints, rest)
 
 -- the order of rowids does not matter
 lacks_all : (ids : List ℤ) (r : Row) → lacks ids r ≡ true → AllByRecursion (λ id. has_rowid id r ≡ false) ids
@@ -182,8 +182,8 @@ left_cells (r ∷ rows) = go (is_blank (drop 1 r)) refl (left_cells rows)
   where
     go : (b : Bool) → is_blank (drop 1 r) ≡ b → cells (filter (λ x. not (passes is_stored blank_params x)) rows) ≡ left is_blank (cells rows)
         → cells (filter (λ x. not (passes is_stored blank_params x)) (r ∷ rows)) ≡ left is_blank (cells (r ∷ rows))
-    go true this rest = rw (blind_storage r, this, this) rest
-    go false this rest = rw (blind_storage r, this, this) (ap (λ xs. drop 1 r ∷ xs) rest)
+    go true this rest = rw (blind_storage r, this) rest
+    go false this rest = rw (blind_storage r, this) (ap (λ xs. drop 1 r ∷ xs) rest)
 
 -- two tests in either order
 tests_turned : {X : Type 0} (p q : X → Bool) (xs : List X) → filter p (filter q xs) ≡ filter q (filter p xs)
@@ -191,8 +191,8 @@ tests_turned p q [] = refl
 tests_turned p q (x ∷ xs) = go (p x) refl (q x) refl (tests_turned p q xs)
   where
     go : (b : Bool) → p x ≡ b → (d : Bool) → q x ≡ d → filter p (filter q xs) ≡ filter q (filter p xs) → filter p (filter q (x ∷ xs)) ≡ filter q (filter p (x ∷ xs))
-    go true this true that rest = rw (this, that, this, that) (ap (λ ys. x ∷ ys) rest)
-    go true this false that rest = rw (this, that, that) rest
+    go true this true that rest = rw (this, that, this) (ap (λ ys. x ∷ ys) rest)
+    go true this false that rest = rw (this, that) rest
     go false this true that rest = rw (this, that, this) rest
     go false this false that rest = rw (this, that) rest
 
