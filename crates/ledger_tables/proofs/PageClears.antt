@@ -32,8 +32,8 @@ use Rattle.sqlite_trees.specs.declared.store.Shape.TheVariants.{Table as Rising}
 use Rattle.sqlite_trees.proofs.TreeLemmas.{IsShaped-filter}
 use Rattle.sqlite_trees.proofs.ListLemmas.{all-filter}
 use Rattle.sqlite_value.proofs.OrderLemmas.{value_cmp_total, value_cmp-Blob}
-use Rattle.ledger_tables.specs.Cells.{Pages}
-use Rattle.ledger_tables.specs.Raising.{blank_bytes, unless_blank, without_blank_pages}
+use Rattle.ledger_tables.specs.Cells.{blank_bytes, unless_blank}
+use Rattle.ledger_tables.specs.Raising.{without_blank_pages}
 use Rattle.ledger_tables.specs.Schema.{bureau_schema, pages}
 use Rattle.ledger_tables.specs.Tables.{ByJob, Tables, HoldsAs, IsOfPages, NamesPage, cells, is_page_of, page_row, page_rows}
 use Rattle.ledger_tables.proofs.InsertLast.{still, still_shared, shared_with}
@@ -135,11 +135,17 @@ module _ (p : Row → Bool) where
       others (x ∷ xs) less all = (let apart_from = after_other r x shaped.1.0 less.0 in rw apart_from all.0, others xs less.1 all.1)
 
       go : (b : Bool) → p r ≡ b → AllByRecursion (λ x. lacks (map id_of (filter p rows)) x ≡ not (p x)) rows → AllByRecursion (λ x. lacks (map id_of (filter p (r ∷ rows))) x ≡ not (p x)) (r ∷ rows)
-      go true this rest = let own = has_own r shaped.1.0 in rw this (rw own refl, others rows shaped.0.0 rest)
+      go true this rest =
+          let kept : filter p (r ∷ rows) ≡ r ∷ filter p rows = rw this refl in
+          let own = has_own r shaped.1.0 in
+          let first : lacks (map id_of (r ∷ filter p rows)) r ≡ not (p r) = rw (own, this) refl in
+          subst (λ fs. AllByRecursion (λ x. lacks (map id_of fs) x ≡ not (p x)) (r ∷ rows)) (sym kept) (first, others rows shaped.0.0 rest)
       go false this rest =
+          let kept : filter p (r ∷ rows) ≡ filter p rows = rw this refl in
           let less = all-filter (λ x. value_cmp (rowid r) (rowid x) ≡ Less) p rows shaped.0.0 in
           let ints = all-filter (λ x. IsTrue (is_int (rowid x))) p rows shaped.1.1 in
-          rw this (lacks_later r (filter p rows) less ints, rest)
+          let first : lacks (map id_of (filter p rows)) r ≡ not (p r) = rw this (lacks_later r (filter p rows) less ints) in
+          subst (λ fs. AllByRecursion (λ x. lacks (map id_of fs) x ≡ not (p x)) (r ∷ rows)) (sym kept) (first, rest)
 
 -- the order of rowids does not matter
 lacks_all : (ids : List ℤ) (r : Row) → lacks ids r ≡ true → AllByRecursion (λ id. has_rowid id r ≡ false) ids

@@ -1,5 +1,5 @@
 -- the columns of a row, without the job that it names and its place
-use Rattle.std.specs.Prelude.{ℕ, List, Option}
+use Rattle.std.specs.Prelude.{ℕ, bytes_eq, if◌then◌else◌, List, replicate, Option, Some, None}
 
 -- the columns of a job's row: kind, size, deck, the deck that its machine loads, and flags
 pub record JobCells : Type 0 where
@@ -18,6 +18,15 @@ pub record PageCells : Type 0 where
 -- the bytes of the pages of a job's storage that have a row, by number
 abbrev pub Pages : Type 0
 Pages = ℕ → Option (List ℕ)
+
+-- the bytes of a page in which each position is blank and has no mark
+abbrev pub blank_bytes : List ℕ
+blank_bytes = replicate 100 0
+
+-- a page's bytes, or none if they are blank
+abbrev pub unless_blank : Option (List ℕ) → Option (List ℕ)
+unless_blank None = None
+unless_blank (Some storage) = if bytes_eq storage blank_bytes then None else Some storage
 
 -- the columns of a job's row that are its name
 pub record QueuedName : Type 0 where

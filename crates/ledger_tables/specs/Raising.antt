@@ -1,8 +1,8 @@
 -- tables of an earlier version that are made those of this one
-use Rattle.std.specs.Prelude.{◌≡◌, ◌==◌, ℕ, Bool, bytes_eq, if◌then◌else◌, List, [], map, replicate, Option, Some, None}
+use Rattle.std.specs.Prelude.{◌≡◌, ℕ, List, [], map, Option}
 use Rattle.std.specs.Option.{option_map}
 use Rattle.sqlite.specs.Effect.{Database}
-use Rattle.ledger_tables.specs.Cells.{Pages, QueuedName}
+use Rattle.ledger_tables.specs.Cells.{QueuedName, unless_blank}
 use Rattle.ledger_tables.specs.Listed.{queued_name}
 use Rattle.ledger_tables.specs.Named.{of_job}
 use Rattle.ledger_tables.specs.Schema.{raising_schema, up_to_states}
@@ -28,15 +28,6 @@ all_names t = map queued_name t.jobs
 -- the bytes of the storage of the job of this name, if it has a state
 abbrev pub storage_of : JobName → ByJob (List ℕ) → Tables → Option (List ℕ)
 storage_of name storages t = option_map (λ state. of_job name storages) (of_job name t.states)
-
--- the bytes of a page in which each position is blank and has no mark
-abbrev pub blank_bytes : List ℕ
-blank_bytes = replicate 100 0
-
--- the row of a page that is not blank, or none
-abbrev pub unless_blank : Option (List ℕ) → Option (List ℕ)
-unless_blank None = None
-unless_blank (Some storage) = if bytes_eq storage blank_bytes then None else Some storage
 
 -- the tables without the rows of blank pages
 abbrev pub without_blank_pages : Tables → Tables
