@@ -5,7 +5,8 @@ pub mod SavingFlags
 pub mod SavingJobs
 pub mod ListLemmas
 pub mod Offices
-pub mod PictureRows
+pub mod StateRows
+pub mod PageMixes
 pub mod OneOfficeLaw
 pub mod ReadingLemmas
 pub mod Replies

@@ -13,11 +13,12 @@ ghost use Rattle.ledger.specs.Steps.{Serves, ServesWhere, Ticks, TicksAtMost};
 
 use crate::by_summary::{collect, hold, release, tell_standing};
 use crate::outputs::{tell_cards, tell_lines};
+use crate::page_saving::copy_of;
 use crate::reading::find_to_run;
 use crate::saving::save;
 use core_store::PlaneCore;
 use ledger_tables::{Fault, JobName, OpenTables};
-use machine::Meter;
+use machine::{Meter, runs_only_add};
 use office::{Job, JobCommand, Refusal, Reply, commands_act_on_pictures, commands_keep_jobs};
 use sqlite::Alter;
 
@@ -43,10 +44,12 @@ fn carry_out<S: Alter>(
     // Laws, for the proof: they do nothing.
     commands_act_on_pictures();
     commands_keep_jobs();
+    runs_only_add();
+    let earlier = copy_of(tables.alloc, &job.parts().machine.core)?;
     match job.take(tables.alloc, &command, meter)? {
         Reply::Refused(reason) => Ok(Reply::Refused(reason)),
         reply => {
-            save(tables, name, command, job)?;
+            save(tables, name, command, &earlier, job)?;
             Ok(reply)
         }
     }

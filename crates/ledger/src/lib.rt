@@ -2,7 +2,7 @@
 //!
 //! `office` defines jobs and the effect of commands on them. `reading` reads a job from the tables,
 //! without its cards and lines, `summaries` without its machine, and `outputs` what it has made;
-//! `saving` writes it; all of them through `ledger_tables` and `ledger_rows`. `submissions`,
+//! `saving` and `page_saving` write it; all of them through `ledger_tables` and `ledger_rows`. `submissions`,
 //! `job_commands`, `by_summary` and `lists` connect them to `office`. `bureau` puts each command
 //! into one transaction, whose commit is the last call of the store. `shifts` applies a list of
 //! commands up to the first fault.
@@ -21,6 +21,7 @@ mod laws;
 mod lists;
 mod outcomes;
 mod outputs;
+mod page_saving;
 mod reading;
 mod saving;
 mod serving;

@@ -19,6 +19,10 @@ pub record PageCells : Type 0 where
 abbrev pub Pages : Type 0
 Pages = ℕ → Option (List ℕ)
 
+-- no page has a row
+abbrev pub no_pages : Pages
+no_pages page = None
+
 -- the bytes of a page in which each position is blank and has no mark
 abbrev pub blank_bytes : List ℕ
 blank_bytes = replicate 100 0

@@ -3,7 +3,7 @@ use Rattle.sqlite.specs.State.{HasCleanDisk}
 use Rattle.ledger_tables.specs.Steps.{seen}
 use Rattle.ledger_tables.proofs.Frames.{on_ok_then}
 use Rattle.ledger.specs.Saving.{with_all_stretches}
-use Rattle.ledger.proofs.saving.insert_start.Goals as goal
+use Rattle.ledger.proofs.saving.insert_begun.Goals as goal
 
 pub returns-clause-added : goal.returns-clause-added
 returns-clause-added g c clean inside =
@@ -13,4 +13,4 @@ returns-clause-added g c clean inside =
     let stretches : c.parts-parts.result.stretches.now ≡ c.args.job.now.stretches = search rules in
     let did = rw stretches at (c.in_ok-insert_last_stretch.ensures.added early inside) in
     let more = rw machine at (c.insert_machine.ensures.added clean on.inside) in
-    on_ok_then c.insert_machine.result _ _ (λ more t holds has. more (with_all_stretches c.args.name c.args.job.now.stretches t) (did t holds has.stretches) has.picture) more
+    on_ok_then c.insert_machine.result _ _ (λ more t holds has. more (with_all_stretches c.args.name c.args.job.now.stretches t) (did t holds has.stretches) (record { state = has.machine.state; pages = has.machine.pages })) more
