@@ -19,6 +19,7 @@ mod by_summary;
 mod job_commands;
 mod laws;
 mod lists;
+mod migrating;
 mod outcomes;
 mod outputs;
 mod page_saving;
@@ -31,6 +32,7 @@ mod summaries;
 
 pub use bureau::Bureau;
 pub use laws::{kept_offices_run_whole, tables_represent_one_office};
-pub use ledger_tables::Fault;
+pub use ledger_tables::{Fault, OpenFault};
+pub use migrating::migrate;
 pub use outcomes::Shift;
 pub use shifts::shift;

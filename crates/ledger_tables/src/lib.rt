@@ -27,7 +27,7 @@ pub use faults::Fault;
 pub use lists::lists_are_in_order;
 pub use names::JobName;
 pub use open_tables::OpenTables;
-pub use openings::OpenFault;
+pub use openings::{OpenFault, VERSION};
 pub use rows::{
     CardRow, JobRow, LineRow, NameRow, PageRow, ProgressRow, QueuedRow, StateRow, StorageRow,
     StretchRow,
