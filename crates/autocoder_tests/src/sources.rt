@@ -107,7 +107,7 @@ const FAULTS_BY_CARD: &str = "\
 = faults 0:49|
 |XYZ||
 = faults 1:41|
-|CTL|4|
+|CTL|5|
 |CTL|1|
 |CTL X|1|
 |B|3999|

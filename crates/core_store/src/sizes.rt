@@ -9,6 +9,7 @@ pub enum Size {
     Positions1400,
     Positions2000,
     Positions4000,
+    Positions8000,
 }
 
 impl Size {
@@ -21,6 +22,7 @@ impl Size {
             Size::Positions1400 => 1400,
             Size::Positions2000 => 2000,
             Size::Positions4000 => 4000,
+            Size::Positions8000 => 8000,
         }
     }
 
@@ -34,6 +36,7 @@ impl Size {
             1400 => Some(Size::Positions1400),
             2000 => Some(Size::Positions2000),
             4000 => Some(Size::Positions4000),
+            8000 => Some(Size::Positions8000),
             _ => None,
         }
     }
