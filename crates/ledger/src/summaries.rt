@@ -69,6 +69,9 @@ fn find_granted<S: Alter>(
         (λ office found. HasGranted (job_in name.entry office) found) }
 {
     let stretches = find_stretches(tables, name)?;
+    if stretches.is_empty() {
+        return Err(Fault::Store);
+    }
     Ok(granted_in(&stretches))
 }
 
