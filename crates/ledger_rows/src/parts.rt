@@ -90,8 +90,8 @@ fn read_registers(row: &PictureRow) -> Option<Registers>
     })
 }
 
-/// The carriage of a row, if it is valid.
-fn read_carriage(row: &PictureRow) -> Option<Carriage>
+/// Returns the carriage of a row, or `None` if it is not valid. The result may be out of range.
+pub fn read_carriage(row: &PictureRow) -> Option<Carriage>
     ensures all { (c : Carriage) → c.line ≤ lines_of_form → HasCarriage row.now c
         → result ≡ Some c }
     ensures only { IfSome result (λ c. HasCarriage row.now c) }
