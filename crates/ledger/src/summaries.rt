@@ -16,7 +16,7 @@ use office::{Stretch, Summary, commands_keep_jobs};
 use sqlite::Alter;
 
 /// Finds the progress of the job of this name.
-fn find_progress<S: Alter>(
+pub fn find_progress<S: Alter>(
     tables: &mut OpenTables<'_, '_, S>,
     name: JobName<'_>,
 ) -> Result<Progress, Fault>
