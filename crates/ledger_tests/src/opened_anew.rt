@@ -147,18 +147,18 @@ const COMMANDS: [&str; 11] = [
 /// may be texts.
 const ALTERED_ROWS: &str = "\
 ...........|UPDATE stretches SET switches = 127 WHERE number = 9 AND place > 0
-222222222..|UPDATE stretches SET switches = 128 WHERE number = 9 AND place = 1
-222222222..|UPDATE stretches SET switches = 256 WHERE number = 9 AND place = 1
-222222222..|DELETE FROM stretches WHERE number = 9
+222..2222..|UPDATE stretches SET switches = 128 WHERE number = 9 AND place = 1
+222..2222..|UPDATE stretches SET switches = 256 WHERE number = 9 AND place = 1
+222..2222..|DELETE FROM stretches WHERE number = 9
 ...........|DELETE FROM stretches WHERE number = 9 AND place = 0
 .2222222222|DELETE FROM pictures WHERE number = 9
-.222222222-|UPDATE jobs SET held = 2 WHERE number = 9
-.222222222.|UPDATE jobs SET collected = 2 WHERE number = 9
+.22..22222-|UPDATE jobs SET held = 2 WHERE number = 9
+.22..22222.|UPDATE jobs SET collected = 2 WHERE number = 9
 2..........|UPDATE jobs SET kind = 2 WHERE number = 9
 2..........|UPDATE jobs SET size = 1401 WHERE number = 9
 2..........|UPDATE jobs SET deck = x'40' WHERE number = 9
-22222......|UPDATE jobs SET loaded = x'40' WHERE number = 9
-.2222......|UPDATE jobs SET loaded = x'\
+222........|UPDATE jobs SET loaded = x'40' WHERE number = 9
+.22........|UPDATE jobs SET loaded = x'\
     40000000000000000000000000000000000000000000000000000000000000000000000000000000\
     00000000000000000000000000000000000000000000000000000000000000000000000000000000\
     ' WHERE number = 9
@@ -167,28 +167,28 @@ const ALTERED_ROWS: &str = "\
 .2222222222|UPDATE pictures SET i = 16000 WHERE number = 9
 .2222222222|UPDATE pictures SET cards = 10001 WHERE number = 9
 .2222222222|UPDATE pictures SET lines = 20001 WHERE number = 9
-.2222......|UPDATE pictures SET storage = x'00' WHERE number = 9
-.2222......|UPDATE pictures SET a = 16000 WHERE number = 9
-.2222......|UPDATE pictures SET b = 16000 WHERE number = 9
-.2222......|UPDATE pictures SET compare = 3 WHERE number = 9
-.2222......|UPDATE pictures SET overflow = 2 WHERE number = 9
-.2222......|UPDATE pictures SET channel = 2 WHERE number = 9
-.2222......|UPDATE pictures SET waiting = 5 WHERE number = 9
-.2222......|UPDATE pictures SET form = 0 WHERE number = 9
-.2222......|UPDATE pictures SET form = 2000000001 WHERE number = 9
-.2222......|UPDATE pictures SET line = 67 WHERE number = 9
-.2222......|UPDATE pictures SET taken = 0 WHERE number = 9
-.2222......|UPDATE pictures SET taken = 2 WHERE number = 9
-.2222...-..|UPDATE pictures SET cards = 1 WHERE number = 9
-.2222......|INSERT INTO cards SELECT customer, number, 0, card FROM cards WHERE place = 1
-.2222......|DELETE FROM cards WHERE place = 1
+.22........|UPDATE pictures SET storage = x'00' WHERE number = 9
+.22........|UPDATE pictures SET a = 16000 WHERE number = 9
+.22........|UPDATE pictures SET b = 16000 WHERE number = 9
+.22........|UPDATE pictures SET compare = 3 WHERE number = 9
+.22........|UPDATE pictures SET overflow = 2 WHERE number = 9
+.22.2......|UPDATE pictures SET channel = 2 WHERE number = 9
+.22.2......|UPDATE pictures SET waiting = 5 WHERE number = 9
+.22.2......|UPDATE pictures SET form = 0 WHERE number = 9
+.22.2......|UPDATE pictures SET form = 2000000001 WHERE number = 9
+.22.2......|UPDATE pictures SET line = 67 WHERE number = 9
+.22........|UPDATE pictures SET taken = 0 WHERE number = 9
+.22........|UPDATE pictures SET taken = 2 WHERE number = 9
+.2.2....-..|UPDATE pictures SET cards = 1 WHERE number = 9
+...2.......|INSERT INTO cards SELECT customer, number, 0, card FROM cards WHERE place = 1
+...2.......|DELETE FROM cards WHERE place = 1
 ...........|UPDATE cards SET place = 0 WHERE place = 1
-.2222......|UPDATE cards SET card = x'40' WHERE place = 2
-.2222......|DELETE FROM lines WHERE place = 2
-.2222......|UPDATE lines SET image = x'00' WHERE place = 1
-.2222......|UPDATE lines SET line = 1 WHERE place = 2
-.2222......|UPDATE lines SET line = 3 WHERE place = 2
-.2222......|UPDATE lines SET form = 2 WHERE place = 2
+...2.......|UPDATE cards SET card = x'40' WHERE place = 2
+....2......|DELETE FROM lines WHERE place = 2
+....2......|UPDATE lines SET image = x'00' WHERE place = 1
+....2......|UPDATE lines SET line = 1 WHERE place = 2
+....2......|UPDATE lines SET line = 3 WHERE place = 2
+....2......|UPDATE lines SET form = 2 WHERE place = 2
 .2222222222|CREATE TABLE kept (customer, number, storage, i, a, b, compare, overflow, channel, \
     waiting, form, line, taken, cards, lines, standing)\
     #execute|INSERT INTO kept SELECT * FROM pictures\
