@@ -126,7 +126,7 @@ started|start|ACME|9|-
 taken 1|submit|ZETA|1|1400|-|loop
 ";
 
-/// The commands that a line of `ALTERED_ROWS` has a mark for.
+/// The commands that a line of a sheet of altered rows has a mark for.
 const COMMANDS: [&str; 11] = [
     "submit|ACME|9|1400|-|a line and a card",
     "slice|ACME|9|2000",
@@ -141,17 +141,15 @@ const COMMANDS: [&str; 11] = [
     "queue|",
 ];
 
-/// Statements, each after a mark for each command: `2` if it is then answered by fault 2, because
-/// it reads a row that is none of a bureau's, or misses one; `.` if it is answered as before; and
-/// `-` if it is not tried, since it does not see that. The last line makes a table whose numbers
-/// may be texts.
-const ALTERED_ROWS: &str = "\
+/// Statements on the rows of jobs and stretches, each after a mark for each command: `2` if it is
+/// then answered by fault 2, because it reads a row that is none of a bureau's, or misses one; `.`
+/// if it is answered as before; and `-` if it is not tried, since it does not see that.
+const ALTERED_JOBS: &str = "\
 ...........|UPDATE stretches SET switches = 127 WHERE number = 9 AND place > 0
 222..2222..|UPDATE stretches SET switches = 128 WHERE number = 9 AND place = 1
 222..2222..|UPDATE stretches SET switches = 256 WHERE number = 9 AND place = 1
 222..2222..|DELETE FROM stretches WHERE number = 9
 ...........|DELETE FROM stretches WHERE number = 9 AND place = 0
-.2222222222|DELETE FROM pictures WHERE number = 9
 .22..22222-|UPDATE jobs SET held = 2 WHERE number = 9
 .22..22222.|UPDATE jobs SET collected = 2 WHERE number = 9
 2..........|UPDATE jobs SET kind = 2 WHERE number = 9
@@ -162,6 +160,11 @@ const ALTERED_ROWS: &str = "\
     40000000000000000000000000000000000000000000000000000000000000000000000000000000\
     00000000000000000000000000000000000000000000000000000000000000000000000000000000\
     ' WHERE number = 9
+";
+
+/// The same for rows of pictures. The last line makes a table whose numbers may be texts.
+const ALTERED_PICTURES: &str = "\
+.2222222222|DELETE FROM pictures WHERE number = 9
 .2222222222|UPDATE pictures SET standing = 9 WHERE number = 9
 .2222222222|UPDATE pictures SET i = 65536 WHERE number = 9
 .2222222222|UPDATE pictures SET i = 16000 WHERE number = 9
@@ -180,6 +183,18 @@ const ALTERED_ROWS: &str = "\
 .22........|UPDATE pictures SET taken = 0 WHERE number = 9
 .22........|UPDATE pictures SET taken = 2 WHERE number = 9
 .2.2....-..|UPDATE pictures SET cards = 1 WHERE number = 9
+.2222222222|CREATE TABLE kept (customer, number, storage, i, a, b, compare, overflow, channel, \
+    waiting, form, line, taken, cards, lines, standing)\
+    #execute|INSERT INTO kept SELECT * FROM pictures\
+    #execute|DROP TABLE pictures\
+    #execute|CREATE TABLE pictures (customer, number, storage, i, a, b, compare, overflow, \
+    channel, waiting, form, line, taken, cards, lines, standing)\
+    #execute|INSERT INTO pictures SELECT * FROM kept\
+    #execute|UPDATE pictures SET standing = '0' WHERE number = 9
+";
+
+/// The same for rows of cards and lines, which `cards` and `lines` alone read.
+const ALTERED_OUTPUTS: &str = "\
 ...2.......|INSERT INTO cards SELECT customer, number, 0, card FROM cards WHERE place = 1
 ...2.......|DELETE FROM cards WHERE place = 1
 ...........|UPDATE cards SET place = 0 WHERE place = 1
@@ -189,14 +204,6 @@ const ALTERED_ROWS: &str = "\
 ....2......|UPDATE lines SET line = 1 WHERE place = 2
 ....2......|UPDATE lines SET line = 3 WHERE place = 2
 ....2......|UPDATE lines SET form = 2 WHERE place = 2
-.2222222222|CREATE TABLE kept (customer, number, storage, i, a, b, compare, overflow, channel, \
-    waiting, form, line, taken, cards, lines, standing)\
-    #execute|INSERT INTO kept SELECT * FROM pictures\
-    #execute|DROP TABLE pictures\
-    #execute|CREATE TABLE pictures (customer, number, storage, i, a, b, compare, overflow, \
-    channel, waiting, form, line, taken, cards, lines, standing)\
-    #execute|INSERT INTO pictures SELECT * FROM kept\
-    #execute|UPDATE pictures SET standing = '0' WHERE number = 9
 ";
 
 /// What a command is answered after a statement on the tables, and the ticks; another customer's
@@ -209,24 +216,34 @@ fn answer_after(alloc: Global, sql: &str, command: &str) -> Result<String, Fail>
     Ok(format!(in alloc; "{told}, {ticks} ticks")?)
 }
 
-/// Whether a command is answered after a statement as this mark says.
-fn is_answered(alloc: Global, mark: u8, sql: &str, command: &str) -> Result<bool, Fail> {
-    let told = answer_after(alloc, sql, command)?;
+/// What each command is answered where no row was altered.
+fn usual_answers(alloc: Global) -> Result<Vec<String>, Fail> {
+    let mut answers = Vec::new(alloc);
+    for command in COMMANDS {
+        answers.push(answer_after(alloc, "UPDATE bureau SET version = 1", command)?)?;
+    }
+    Ok(answers)
+}
+
+/// Whether this is what a mark says, given the usual answer.
+fn is_marked(mark: u8, told: &str, usual: &str) -> bool {
     match mark {
-        b'2' => Ok(told.as_str() == "ran 1, running; fault Store, 12 ticks"),
-        b'.' => Ok(told == answer_after(alloc, "UPDATE bureau SET version = 1", command)?),
-        _ => Ok(mark == b'-'),
+        b'2' => told == "ran 1, running; fault Store, 12 ticks",
+        b'.' => told == usual,
+        _ => mark == b'-',
     }
 }
 
 /// The first line of a sheet after whose statement a command is answered otherwise than the line
 /// says, and the command; empty if there is none.
 fn misread(alloc: Global, sheet: &str) -> Result<String, Fail> {
+    let answers = usual_answers(alloc)?;
     for line in sheet.lines() {
         let (marks, sql) = line.split_once('|').ok_or("marks")?;
-        for (mark, command) in marks.bytes().zip(COMMANDS) {
-            if !is_answered(alloc, mark, sql, command)? {
-                return Ok(format!(in alloc; "{command} after {sql}")?);
+        for ((mark, command), usual) in marks.bytes().zip(COMMANDS).zip(answers.iter()) {
+            let told = answer_after(alloc, sql, command)?;
+            if !is_marked(mark, told.as_str(), usual.as_str()) {
+                return Ok(format!(in alloc; "{command} after {sql}: {told}")?);
             }
         }
     }
@@ -234,7 +251,19 @@ fn misread(alloc: Global, sheet: &str) -> Result<String, Fail> {
 }
 
 #[test]
-fn rows_that_are_none_of_a_bureau(rt: HostRuntime) -> Result<(), Fail> {
-    assert_eq!(rt; misread(rt.alloc(), ALTERED_ROWS)?.as_str(), "");
+fn jobs_and_stretches_that_are_none_of_a_bureau(rt: HostRuntime) -> Result<(), Fail> {
+    assert_eq!(rt; misread(rt.alloc(), ALTERED_JOBS)?.as_str(), "");
+    Ok(())
+}
+
+#[test]
+fn pictures_that_are_none_of_a_bureau(rt: HostRuntime) -> Result<(), Fail> {
+    assert_eq!(rt; misread(rt.alloc(), ALTERED_PICTURES)?.as_str(), "");
+    Ok(())
+}
+
+#[test]
+fn cards_and_lines_that_are_none_of_a_bureau(rt: HostRuntime) -> Result<(), Fail> {
+    assert_eq!(rt; misread(rt.alloc(), ALTERED_OUTPUTS)?.as_str(), "");
     Ok(())
 }
