@@ -149,7 +149,7 @@ const ALTERED_JOBS: &str = "\
 222..2222..|UPDATE stretches SET switches = 128 WHERE number = 9 AND place = 1
 222..2222..|UPDATE stretches SET switches = 256 WHERE number = 9 AND place = 1
 222..2222..|DELETE FROM stretches WHERE number = 9
-...........|DELETE FROM stretches WHERE number = 9 AND place = 0
+........-..|DELETE FROM stretches WHERE number = 9 AND place = 0
 .22..22222-|UPDATE jobs SET held = 2 WHERE number = 9
 .22..22222.|UPDATE jobs SET collected = 2 WHERE number = 9
 2..........|UPDATE jobs SET kind = 2 WHERE number = 9
@@ -162,7 +162,9 @@ const ALTERED_JOBS: &str = "\
     ' WHERE number = 9
 ";
 
-/// The same for rows of pictures. The last line makes a table whose numbers may be texts.
+/// The same for rows of pictures, and `r` if the job is run first, and the command is answered by
+/// fault 2 because it finds a row in the place of one that it adds. The last line makes a table
+/// whose numbers may be texts.
 const ALTERED_PICTURES: &str = "\
 .2222222222|DELETE FROM pictures WHERE number = 9
 .2222222222|UPDATE pictures SET standing = 9 WHERE number = 9
@@ -182,7 +184,8 @@ const ALTERED_PICTURES: &str = "\
 .22.2......|UPDATE pictures SET line = 67 WHERE number = 9
 .22........|UPDATE pictures SET taken = 0 WHERE number = 9
 .22........|UPDATE pictures SET taken = 2 WHERE number = 9
-.2.2....-..|UPDATE pictures SET cards = 1 WHERE number = 9
+.r.2....-..|UPDATE pictures SET cards = 1 WHERE number = 9
+.r..2...-..|UPDATE pictures SET lines = 1 WHERE number = 9
 .2222222222|CREATE TABLE kept (customer, number, storage, i, a, b, compare, overflow, channel, \
     waiting, form, line, taken, cards, lines, standing)\
     #execute|INSERT INTO kept SELECT * FROM pictures\
@@ -229,6 +232,7 @@ fn usual_answers(alloc: Global) -> Result<Vec<String>, Fail> {
 fn is_marked(mark: u8, told: &str, usual: &str) -> bool {
     match mark {
         b'2' => told == "ran 1, running; fault Store, 12 ticks",
+        b'r' => told == "ran 1, running; fault Store, 16 ticks",
         b'.' => told == usual,
         _ => mark == b'-',
     }
