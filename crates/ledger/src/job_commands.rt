@@ -21,8 +21,8 @@ use machine::Meter;
 use office::{Job, JobCommand, Refusal, Reply, commands_act_on_pictures, commands_keep_jobs};
 use sqlite::Alter;
 
-/// Carries out a slice or a start on a job that was found without its cards and lines, and saves the
-/// result.
+/// Carries out a slice or a start on a job that was found without its cards and lines, and saves
+/// the result.
 fn carry_out<S: Alter>(
     tables: &mut OpenTables<'_, '_, S>,
     name: JobName<'_>,
