@@ -3,11 +3,13 @@ use Rattle.std.proofs.Common.{◌≡◌, ◌<◌, ◌-◌, ◌%◌, ℕ, zero, s
 use Rattle.std.specs.List.{All, AllByRecursion}
 use Rattle.std.proofs.lemmas.List.Elements.{recursion_from_All}
 use Rattle.machine.specs.Run.{State, started, after}
-use Rattle.office.specs.Jobs.{Job, resumed, picture, loaded_deck, HasSwitches}
+use Rattle.machine.proofs.Steps.{stems_after, stems_same}
+use Rattle.office.specs.Jobs.{Job, resumed, beginning, picture, loaded_deck, HasSwitches}
 use Rattle.office.specs.declared.stretches.Stretch.{Stretch}
 use Rattle.ledger_rows.proofs.FromCellsRows.{AreTold}
 use Rattle.ledger_tables.specs.declared.rows.StretchRow.{StretchRow}
 use Rattle.units.specs.Switches.{seven, AreSeven}
+use Rattle.units.specs.Units.{nothing_made}
 use Rattle.units.specs.declared.switches.Switches.{Switches}
 use Rattle.ledger.specs.Standing.{stretch_row}
 
@@ -43,6 +45,17 @@ module _ (law : (m : State) (count : ℕ) → (after m count).works.units.switch
 
   pub picture_switches : (job : Job) (last : Stretch) → All HasSwitches job.stretches → 0 < length job.stretches → last ≡ get_or job.stretches (length job.stretches - 1) last → (picture job).works.units.switches ≡ last.switches
   picture_switches job last all some is = resumed_switches _ job.stretches (length job.stretches - 1) last (recursion_from_All HasSwitches job.stretches all) (omega (arith, some)) is
+
+-- and it has all that it has made itself
+resumed_before : (m : State) (stretches : List Stretch) → (resumed m stretches).works.units.before ≡ m.works.units.before
+unfolding resumed
+resumed_before m [] = refl
+resumed_before m (s ∷ stretches) =
+    let now = started m s.switches in
+    resumed_before (after now s.granted) stretches ∙ (stems_after now now s.granted (stems_same now)).before
+
+pub picture_before : (job : Job) → (picture job).works.units.before ≡ nothing_made
+picture_before job = resumed_before (beginning job) job.stretches
 
 pub some_is : {X : Type 0} {x y : X} → ◌≡◌ {A = Option X} (Some x) (Some y) → x ≡ y
 some_is e = cc

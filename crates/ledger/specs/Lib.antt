@@ -1,3 +1,4 @@
+pub mod Earlier
 pub mod Found
 pub mod Allowed
 pub mod Listed

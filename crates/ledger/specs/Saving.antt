@@ -1,9 +1,9 @@
 -- what is written to the tables about a job
-use Rattle.std.specs.Prelude.{◌≡◌, ◌≤◌, ℕ, Bool, false, List, [], ◌∷◌, ◌++◌, map, take, length, Option, Some, None, Ok}
+use Rattle.std.specs.Prelude.{◌≡◌, ℕ, Bool, false, List, [], ◌∷◌, ◌++◌, map, length, Option, Some, None, Ok}
 use Rattle.cards.specs.Decks.{deck_bytes}
 use Rattle.cards.specs.declared.decks.Card.{Card}
-use Rattle.machine.specs.Run.{State, lines_of}
-use Rattle.office.specs.Jobs.{Job, granted_more, picture, IsJob}
+use Rattle.machine.specs.Run.{State}
+use Rattle.office.specs.Jobs.{Job, granted_more, IsJob}
 use Rattle.office.specs.Kept.{Kept, kept_of, changed, changed_job}
 use Rattle.office.specs.New.{job_or_refusal}
 use Rattle.office.specs.Office.{Office, job_of, with_job, and_job}
@@ -17,36 +17,39 @@ use Rattle.ledger_tables.specs.Tables.{Tables, with_stretches, with_cards, with_
 use Rattle.ledger_tables.specs.declared.names.JobName.{JobName}
 use Rattle.units.specs.declared.printer.Line.{Line}
 use Rattle.units.specs.declared.units.Units.{Units}
-use Rattle.ledger.specs.declared.saving.Made.{Made}
+use Rattle.ledger.specs.Earlier.{kept_alone, with_outputs_of, HasCounted}
 use Rattle.ledger.specs.Standing.{kind_number, stretch_row}
 
--- the job's card rows are the first so many of these cards
-pub record HasFirstCards (name : JobName) (many : ℕ) (all : List Card) (t : Tables) : Type 0 where
-  pub are : of_job name t.cards ≡ map (λ card. card.0) (take many all)
-  pub fit : many ≤ length all
+-- the job's card rows are those of these cards, as many as were made before
+pub record HasCardRows (name : JobName) (before : ℕ) (earlier : List Card) (t : Tables)
+    : Type 0 where
+  pub are : of_job name t.cards ≡ map (λ card. card.0) earlier
+  pub count : before ≡ length earlier
 
 -- the tables with these cards as the job's card rows
 abbrev pub with_all_cards : JobName → List Card → Tables → Tables
 with_all_cards name cards = with_cards name.customer.now name.number (map (λ card. card.0) cards)
 
--- the job's line rows are the first so many of these lines
-pub record HasFirstLines (name : JobName) (many : ℕ) (all : List Line) (t : Tables) : Type 0 where
-  pub are : of_job name t.lines ≡ map line_cells (take many all)
-  pub fit : many ≤ length all
+-- the job's line rows are those of these lines, as many as were made before
+pub record HasLineRows (name : JobName) (before : ℕ) (earlier : List Line) (t : Tables)
+    : Type 0 where
+  pub are : of_job name t.lines ≡ map line_cells earlier
+  pub count : before ≡ length earlier
 
 -- the tables with these lines as the job's line rows
 abbrev pub with_all_lines : JobName → List Line → Tables → Tables
 with_all_lines name lines = with_lines name.customer.now name.number (map line_cells lines)
 
--- the job's card and line rows are the first so many of the cards and lines that these units have
--- made
-pub record HasFirst (name : JobName) (made : Made) (units : Units) (t : Tables) : Type 0 where
-  pub cards : HasFirstCards name made.cards units.punch t
-  pub lines : HasFirstLines name made.lines units.printer.lines t
+-- the job's rows are those of these cards and lines, as many as were made before those of the units
+pub record HasEarlier (name : JobName) (punched : List Card) (printed : List Line) (units : Units)
+    (t : Tables) : Type 0 where
+  pub cards : HasCardRows name units.before.cards punched t
+  pub lines : HasLineRows name units.before.lines printed t
 
--- the tables with all cards and lines that these units have made as the job's rows
-abbrev pub with_made : JobName → Units → Tables → Tables
-with_made name units t = with_all_lines name units.printer.lines (with_all_cards name units.punch t)
+-- the tables with these cards and lines, and then those of the units, as the job's rows
+abbrev pub with_made : JobName → List Card → List Line → Units → Tables → Tables
+with_made name cards lines units t = with_all_lines name (lines ++ units.printer.lines)
+    (with_all_cards name (cards ++ units.punch) t)
 
 -- the tables with these stretches as the job's stretch rows
 abbrev pub with_all_stretches : JobName → List Stretch → Tables → Tables
@@ -106,17 +109,14 @@ with_handed name contents loaded = with_new_job name (new_cells contents loaded)
 abbrev pub job_in : JobName → Office → Option Job
 job_in name = job_of name.customer.now name.number
 
--- the job had made this many cards and lines
-pub record HadMade (made : Made) (old : Job) : Type 0 where
-  pub cards : made.cards ≡ length (picture old).works.units.punch
-  pub lines : made.lines ≡ length (lines_of (picture old))
-
--- the office has this job, and the job with its machine is what the command makes of it
+-- the office has this job; the job with its machine is what the command makes of it without its
+-- cards and lines, and with them it is what the command makes of it
 pub record IsAfter (name : JobName) (kept : Kept) (c : JobCommand) (old : Job) (office : Office)
     : Type 0 where
   pub found : job_in name office ≡ Some old
-  pub made : kept ≡ changed c (kept_of old)
-  pub is : kept ≡ kept_of (changed_job c old)
+  pub made : kept ≡ changed c (kept_alone old)
+  pub counted : HasCounted old kept
+  pub is : with_outputs_of old kept ≡ kept_of (changed_job c old)
   pub job : IsJob (changed_job c old)
 
 -- the office with the job as a command that is not refused makes it
@@ -126,13 +126,6 @@ with_after name c old = with_job name.customer.now name.number (changed_job c ol
 -- the job with these flags
 abbrev pub flagged_job : Bool → Bool → Job → Job
 flagged_job held collected job = record job { held = held; collected = collected }
-
--- the office has this job, and the job with its machine is the same with these flags
-pub record IsFlagged (name : JobName) (kept : Kept) (held collected : Bool) (old : Job)
-    (office : Office) : Type 0 where
-  pub found : job_in name office ≡ Some old
-  pub is : kept ≡ kept_of (flagged_job held collected old)
-  pub job : IsJob (flagged_job held collected old)
 
 -- the office with these flags of the job
 abbrev pub with_flagged : JobName → Bool → Bool → Job → Office → Office

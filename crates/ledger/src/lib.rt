@@ -1,10 +1,11 @@
 //! The bureau: jobs that customers hand in, kept in tables, and commands on them.
 //!
-//! `office` defines jobs and the effect of commands on them. `reading` and `summaries` read a job
-//! from the tables, whole or without its machine, and `saving` writes it, through `ledger_tables`
-//! and `ledger_rows`. `submissions`, `job_commands`, `by_summary` and `lists` connect them to
-//! `office`. `bureau` puts each command into one transaction, whose commit is the last call of the
-//! store. `shifts` applies a list of commands up to the first fault.
+//! `office` defines jobs and the effect of commands on them. `reading` reads a job from the tables,
+//! without its cards and lines, `summaries` without its machine, and `outputs` what it has made;
+//! `saving` writes it; all of them through `ledger_tables` and `ledger_rows`. `submissions`,
+//! `job_commands`, `by_summary` and `lists` connect them to `office`. `bureau` puts each command
+//! into one transaction, whose commit is the last call of the store. `shifts` applies a list of
+//! commands up to the first fault.
 //!
 //! The contract for the layers above: if the tables represent an office, a reply is the one of
 //! `office`, and the tables then represent its next office (`specs/Standing.antt`); and what a
@@ -19,6 +20,7 @@ mod job_commands;
 mod laws;
 mod lists;
 mod outcomes;
+mod outputs;
 mod reading;
 mod saving;
 mod serving;

@@ -1,23 +1,25 @@
-//! Reading a job from the tables.
+//! Reading a job from the tables: its machine has none of the cards and lines that the job has
+//! made, and counts them by its picture.
 
 ghost use Rattle.std.specs.Prelude.{◌≡◌, ◌≢◌, List, All, map, Some, None, Ok, IsErr, IsErrOf, IsSome, IfOk, IfSome};
-ghost use Rattle.cards.specs.Decks.{IsCard, IsDeck};
+ghost use Rattle.cards.specs.Decks.{deck_bytes, IsDeck};
+ghost use Rattle.machine.specs.Earlier.{without_outputs};
 ghost use Rattle.machine.specs.Ranges.{IsInRange};
 ghost use Rattle.machine.specs.Run.{State};
-ghost use Rattle.office.specs.Jobs.{HasSwitches};
+ghost use Rattle.office.specs.Jobs.{Job as KnownJob, HasSwitches};
 ghost use Rattle.office.specs.Kept.{IsJobInRange};
 ghost use Rattle.office.specs.declared.stretches.Stretch.{Stretch};
-ghost use Rattle.ledger_rows.specs.Columns.{line_cells, picture_cells, HoldsCharacters, IsLine};
+ghost use Rattle.ledger_rows.specs.Columns.{picture_cells, HoldsCharacters};
 ghost use Rattle.ledger_tables.specs.Steps.{IsOpenStep};
-ghost use Rattle.ledger.specs.Found.{IsMediaOf, IsFoundAs, IsHandedAs, ShowsMedia, HasStretches, HasMedia, HasMachine, HasMachineWith, HasKept, BeganWith};
+ghost use Rattle.ledger.specs.Found.{IsMediaOf, IsFoundAs, IsHandedAs, HasStretches, HasMachine, HasMachineWith, HasKept, BeganWith};
 ghost use Rattle.ledger.specs.Saving.{job_in};
-ghost use Rattle.ledger.specs.Standing.{stretch_row};
+ghost use Rattle.ledger.specs.Standing.{job_cells, stretch_row, CanBeKept};
 ghost use Rattle.ledger.specs.Steps.{FindsIn};
 
-use core_store::Core;
-use ledger_rows::{Media, read_deck, read_picture, read_rows, read_switches, read_truth};
-use ledger_tables::{CardRow, Fault, JobName, JobRow, LineRow, OpenTables, PictureRow, StretchRow};
-use machine::{Parts, runs_only_add};
+use core_store::{Core, Size};
+use ledger_rows::{Media, read_deck, read_picture, read_switches, read_truth};
+use ledger_tables::{Fault, JobName, JobRow, OpenTables, PictureRow, StretchRow};
+use machine::{Parts, outputs_are_put_back, runs_only_add};
 use office::{Job, JobParts, Stretch, commands_keep_jobs};
 use sqlite::Alter;
 use std::alloc::{AllocError, Global};
@@ -25,7 +27,7 @@ use units::Switches;
 
 /// What was read, if it is there: fault 2 if the rows do not hold it, and fault 1 if there was no
 /// memory.
-fn told<T>(read: Result<Option<T>, AllocError>) -> Result<T, Fault>
+pub fn told<T>(read: Result<Option<T>, AllocError>) -> Result<T, Fault>
     ensures found { IfOk result (λ it. read ≡ Ok (Some it)) }
     ensures store { IsErrOf result Fault.Store → read ≡ Ok None }
     ensures memory { IsErrOf result Fault.NoMemory → IsErr read }
@@ -83,55 +85,21 @@ pub fn find_stretches<S: Alter>(
     told(read_stretches(tables.alloc, rows.as_slice()))
 }
 
-/// The deck, cards and lines of a machine, from a deck and from rows.
-fn read_media(
-    alloc: Global,
-    loaded: &[u8],
-    switches: Switches,
-    cards: &[CardRow],
-    lines: &[LineRow],
-) -> Result<Media, Fault>
-    ensures read { IfOk result (λ media. (m : State)
-        → ShowsMedia m loaded.now cards.now
-        → lines.now ≡ map line_cells m.works.units.printer.lines
-        → switches ≡ m.works.units.switches → IsMediaOf media m) }
-    ensures store { IsErrOf result Fault.Store → (m : State)
-        → ShowsMedia m loaded.now cards.now
-        → lines.now ≢ map line_cells m.works.units.printer.lines }
+/// The deck and the switches of a machine, without its cards and lines.
+fn read_media(alloc: Global, loaded: &[u8], switches: Switches) -> Result<Media, Fault>
+    ensures read { IfOk result (λ media. (m : State) → IsDeck m.works.units.hopper.deck
+        → loaded.now ≡ deck_bytes m.works.units.hopper.deck → switches ≡ m.works.units.switches
+        → IsMediaOf media (without_outputs m)) }
+    ensures store { IsErrOf result Fault.Store → (m : State) → IsDeck m.works.units.hopper.deck
+        → loaded.now ≢ deck_bytes m.works.units.hopper.deck }
 {
     let deck = told(read_deck(alloc, loaded))?;
-    let cards = told(read_rows(alloc, cards))?;
-    let lines = told(read_rows(alloc, lines))?;
     Ok(Media {
         deck,
         switches,
-        cards,
-        lines,
+        cards: Vec::new(alloc),
+        lines: Vec::new(alloc),
     })
-}
-
-/// Finds the deck, cards and lines of a job's machine.
-fn find_media<S: Alter>(
-    tables: &mut OpenTables<'_, '_, S>,
-    name: JobName<'_>,
-    loaded: &[u8],
-    switches: Switches,
-) -> Result<Media, Fault>
-    ensures step { IsOpenStep S.Store tables.old tables.new result }
-    ensures found { FindsIn S.Store tables.old tables.new result
-        (λ office found. HasMedia (job_in name.entry office) loaded.now switches found) }
-{
-    // A law, for the proof: it does nothing.
-    runs_only_add();
-    let cards = tables.find_cards(name)?;
-    let lines = tables.find_lines(name)?;
-    read_media(
-        tables.alloc,
-        loaded,
-        switches,
-        cards.as_slice(),
-        lines.as_slice(),
-    )
 }
 
 /// The machine of a picture.
@@ -145,7 +113,7 @@ fn machine_of<C: Core>(alloc: Global, row: &PictureRow, media: Media) -> Result<
     told(read_picture(alloc, row, media))
 }
 
-/// Finds a job's machine, given its deck, cards and lines.
+/// Finds a job's machine without its cards and lines, given its deck and its switches.
 fn find_machine<S: Alter, C: Core>(
     tables: &mut OpenTables<'_, '_, S>,
     name: JobName<'_>,
@@ -155,15 +123,16 @@ fn find_machine<S: Alter, C: Core>(
     ensures found { FindsIn S.Store tables.old tables.new result
         (λ office found. HasMachineWith (job_in name.entry office) media found) }
 {
-    // A law, for the proof: it does nothing.
+    // Laws, for the proof: they do nothing.
     commands_keep_jobs();
+    outputs_are_put_back();
     match tables.find_picture(name)? {
         Some(row) => machine_of(tables.alloc, &row, media),
         None => Err(Fault::Store),
     }
 }
 
-/// Finds a job's machine, with its deck, cards and lines.
+/// Finds a job's machine without its cards and lines.
 fn find_running<S: Alter, C: Core>(
     tables: &mut OpenTables<'_, '_, S>,
     name: JobName<'_>,
@@ -174,11 +143,13 @@ fn find_running<S: Alter, C: Core>(
     ensures found { FindsIn S.Store tables.old tables.new result
         (λ office found. HasMachine (job_in name.entry office) loaded.now switches found) }
 {
-    let media = find_media(tables, name, loaded, switches)?;
+    // A law, for the proof: it does nothing.
+    runs_only_add();
+    let media = read_media(tables.alloc, loaded, switches)?;
     find_machine(tables, name, media)
 }
 
-/// Finds the parts of a job, given its row.
+/// Finds the parts of a job, its machine without its cards and lines, given its row.
 fn find_parts<S: Alter, C: Core>(
     tables: &mut OpenTables<'_, '_, S>,
     name: JobName<'_>,
@@ -214,7 +185,7 @@ fn job_with<C: Core>(alloc: Global, parts: JobParts<C>) -> Result<Job<C>, Fault>
     told(Job::from_parts(alloc, parts))
 }
 
-/// Finds the job of this row.
+/// Finds the job of this row, its machine without its cards and lines.
 fn find_kept<S: Alter, C: Core>(
     tables: &mut OpenTables<'_, '_, S>,
     name: JobName<'_>,
@@ -228,8 +199,8 @@ fn find_kept<S: Alter, C: Core>(
     job_with(tables.alloc, parts)
 }
 
-/// Finds the job of this name, if there is one.
-pub fn find_whole<S: Alter, C: Core>(
+/// Finds the job of this name, its machine without its cards and lines, if there is such a job.
+pub fn find_to_run<S: Alter, C: Core>(
     tables: &mut OpenTables<'_, '_, S>,
     name: JobName<'_>,
 ) -> Result<Option<Job<C>>, Fault>
@@ -270,6 +241,19 @@ fn first_switches<S: Alter>(
     }
 }
 
+/// That this row can be a job's: fault 2 if its kind, its size, or a deck of it is none.
+fn check_handed(alloc: Global, row: &JobRow) -> Result<(), Fault>
+    ensures store { IsErrOf result Fault.Store → (job : KnownJob) → CanBeKept job
+        → row.now ≢ job_cells job }
+{
+    if row.kind > 1 || Size::of_positions(row.size).is_none() {
+        return Err(Fault::Store);
+    }
+    told(read_deck(alloc, &row.deck))?;
+    told(read_deck(alloc, &row.loaded))?;
+    Ok(())
+}
+
 /// What the job of this name was handed in with, if there is such a job.
 pub fn find_handed<S: Alter>(
     tables: &mut OpenTables<'_, '_, S>,
@@ -281,6 +265,7 @@ pub fn find_handed<S: Alter>(
 {
     match tables.find_job(name)? {
         Some(row) => {
+            check_handed(tables.alloc, &row)?;
             let switches = first_switches(tables, name)?;
             Ok(Some(Handed { row, switches }))
         }

@@ -1,16 +1,19 @@
 //! Writing a job to the tables.
 
-ghost use Rattle.std.specs.Prelude.{◌≡◌, ◌≤◌, ℕ, Bool, Some, All, take, length, IfOk, OnOk};
+ghost use Rattle.std.specs.Prelude.{◌≡◌, ◌≤◌, ◌+◌, ◌++◌, ℕ, true, Some, All, List, length, IfOk, OnOk};
+ghost use Rattle.cards.specs.declared.decks.Card.{Card};
 ghost use Rattle.cards.specs.Decks.{IsCard, IsDeck};
 ghost use Rattle.machine.specs.Ranges.{IsInRange};
-ghost use Rattle.machine.specs.Run.{lines_of};
 ghost use Rattle.office.specs.Jobs.{Job as KnownJob};
 ghost use Rattle.office.specs.declared.commands.JobCommand.{JobCommand};
+ghost use Rattle.units.specs.declared.printer.Line.{Line};
 ghost use Rattle.units.specs.declared.switches.Switches.{Switches};
+ghost use Rattle.units.specs.Units.{made_in_all};
 ghost use Rattle.ledger_rows.specs.Columns.{HoldsCharacters, IsLine};
 ghost use Rattle.ledger_tables.specs.Named.{HasNoJob, HasNoPicture, HasPicture};
 ghost use Rattle.ledger_tables.specs.Steps.{Changes, IsStep};
-ghost use Rattle.ledger.specs.Saving.{job_in, HasFirstCards, with_all_cards, HasFirstLines, with_all_lines, HasFirst, with_made, HasFewerGranted, HasOneLess, with_all_stretches, with_machine, with_progress, with_start, HasNotStarted, new_cells, with_handed, HadMade, IsAfter, with_after, IsFlagged, with_flagged, IsFreeName, IsTakenAs, with_new};
+ghost use Rattle.ledger.specs.Earlier.{drives_machine};
+ghost use Rattle.ledger.specs.Saving.{job_in, HasCardRows, with_all_cards, HasLineRows, with_all_lines, HasEarlier, with_made, HasFewerGranted, HasOneLess, with_all_stretches, with_machine, with_progress, with_start, HasNotStarted, new_cells, with_handed, IsAfter, with_after, with_flagged, IsFreeName, IsTakenAs, with_new};
 ghost use Rattle.ledger.specs.Standing.{kind_number};
 ghost use Rattle.ledger.specs.Steps.{Saves};
 
@@ -24,91 +27,68 @@ use sqlite::Alter;
 use std::alloc::{AllocError, Global};
 use units::{Line, Units};
 
-/// The numbers of cards and lines that a job has made.
-#[derive(Clone, Copy)]
-pub struct Made {
-    pub cards: usize,
-    pub lines: usize,
-}
-
-impl Made {
-    /// The numbers of cards and lines that a job has made so far.
-    pub fn by<C: Core>(job: &Job<C>) -> Made
-        ensures cards { result.cards ≡ length job.now.machine.works.units.punch }
-        ensures lines { result.lines ≡ length (lines_of job.now.machine) }
-    {
-        let machine = job.parts().machine;
-        let units = &machine.units;
-        Made {
-            cards: units.punch.cards.len(),
-            lines: units.printer.lines.len(),
-        }
-    }
-}
-
-/// Inserts the cards after the first `before`, which the tables have already. A job makes at most
-/// 20,000.
+/// Inserts cards after the `before` cards that the tables have already. A job makes at most 20,000.
 fn insert_cards<S: Alter>(
     tables: &mut OpenTables<'_, '_, S>,
     name: JobName<'_>,
+    before: u32,
     cards: &[Card],
-    before: usize,
 ) -> Result<(), Fault>
-    requires { length cards.now ≤ 20000 }
+    requires { before + length cards.now ≤ 20000 }
     ensures step { IsStep S.Store tables.old tables.new result }
-    ensures added { Changes S.Store tables.old tables.new result
-        (HasFirstCards name.entry before cards.now) (with_all_cards name.entry cards.now) }
-    ensures characters { OnOk result (All IsCard (take before cards.now) → All IsCard cards.now) }
+    ensures added { (earlier : List Card) → Changes S.Store tables.old tables.new result
+        (HasCardRows name.entry before earlier)
+        (with_all_cards name.entry (earlier ++ cards.now)) }
+    ensures characters { OnOk result (All IsCard cards.now) }
 {
-    for place in before..cards.len() {
+    for place in 0..cards.len() {
         let bytes = card_bytes(&cards[place]);
-        tables.insert_card(name, place as u32 + 1, &bytes)?;
+        tables.insert_card(name, before + place as u32 + 1, &bytes)?;
     }
     Ok(())
 }
 
-/// Inserts the lines after the first `before`, which the tables have already. A job makes at most
-/// 20,000.
+/// Inserts lines after the `before` lines that the tables have already. A job makes at most 20,000.
 fn insert_lines<S: Alter>(
     tables: &mut OpenTables<'_, '_, S>,
     name: JobName<'_>,
+    before: u32,
     lines: &[Line],
-    before: usize,
 ) -> Result<(), Fault>
-    requires { length lines.now ≤ 20000 }
+    requires { before + length lines.now ≤ 20000 }
     ensures step { IsStep S.Store tables.old tables.new result }
-    ensures added { Changes S.Store tables.old tables.new result
-        (HasFirstLines name.entry before lines.now) (with_all_lines name.entry lines.now) }
-    ensures characters { OnOk result (All IsLine (take before lines.now) → All IsLine lines.now) }
+    ensures added { (earlier : List Line) → Changes S.Store tables.old tables.new result
+        (HasLineRows name.entry before earlier)
+        (with_all_lines name.entry (earlier ++ lines.now)) }
+    ensures characters { OnOk result (All IsLine lines.now) }
 {
-    for place in before..lines.len() {
+    for place in 0..lines.len() {
         let row = line_row(tables.alloc, &lines[place])?;
-        tables.insert_line(name, place as u32 + 1, &row)?;
+        tables.insert_line(name, before + place as u32 + 1, &row)?;
     }
     Ok(())
 }
 
-/// Inserts the cards and lines that a machine has made beyond `before`.
+/// Inserts the cards and lines of a machine, which has made others before.
 fn insert_made<S: Alter>(
     tables: &mut OpenTables<'_, '_, S>,
     name: JobName<'_>,
     units: &Units,
-    before: Made,
 ) -> Result<(), Fault>
-    requires cards { length units.now.punch ≤ 20000 }
-    requires lines { length units.now.printer.lines ≤ 20000 }
+    requires cards { (made_in_all units.now).cards ≤ 20000 }
+    requires lines { (made_in_all units.now).lines ≤ 20000 }
     ensures step { IsStep S.Store tables.old tables.new result }
-    ensures added { Changes S.Store tables.old tables.new result
-        (HasFirst name.entry before units.now) (with_made name.entry units.now) }
-    ensures cards { OnOk result
-        (All IsCard (take before.cards units.now.punch) → All IsCard units.now.punch) }
-    ensures lines { OnOk result (All IsLine (take before.lines units.now.printer.lines)
-        → All IsLine units.now.printer.lines) }
+    ensures added { (cards : List Card) (lines : List Line)
+        → Changes S.Store tables.old tables.new result
+        (HasEarlier name.entry cards lines units.now)
+        (with_made name.entry cards lines units.now) }
+    ensures cards { OnOk result (All IsCard units.now.punch) }
+    ensures lines { OnOk result (All IsLine units.now.printer.lines) }
 {
     let cards = units.punch.cards.as_slice();
     let lines = units.printer.lines.as_slice();
-    insert_cards(tables, name, cards, before.cards)?;
-    insert_lines(tables, name, lines, before.lines)
+    insert_cards(tables, name, units.before.cards, cards)?;
+    insert_lines(tables, name, units.before.lines, lines)
 }
 
 /// Replaces the picture of a job's machine.
@@ -164,24 +144,20 @@ fn set_progress<S: Alter, C: Core>(
     set_last_granted(tables, name, parts.stretches)
 }
 
-/// Saves a job after a slice. `before` is what it had made before the slice.
+/// Saves a job after a slice.
 fn save_slice<S: Alter, C: Core>(
     tables: &mut OpenTables<'_, '_, S>,
     name: JobName<'_>,
     job: &Job<C>,
-    before: Made,
 ) -> Result<(), Fault>
     ensures step { IsStep S.Store tables.old tables.new result }
-    ensures saved { (limit : ℕ) (old : KnownJob) → HadMade before old
-        → Saves S.Store tables.old tables.new result
+    ensures saved { (limit : ℕ) (old : KnownJob) → Saves S.Store tables.old tables.new result
         (IsAfter name.entry job.now (JobCommand.Slice limit) old)
         (with_after name.entry (JobCommand.Slice limit) old) }
 {
-    // A law, for the proof: it does nothing.
-    runs_only_add();
     let machine = job.parts().machine;
     let units = &machine.units;
-    insert_made(tables, name, units, before)?;
+    insert_made(tables, name, units)?;
     set_progress(tables, name, job)
 }
 
@@ -241,45 +217,22 @@ pub fn note_flags<S: Alter>(
     tables.set_flags(name, truth(held), truth(collected))
 }
 
-/// Saves a job's flags.
-fn save_flags<S: Alter, C: Core>(
-    tables: &mut OpenTables<'_, '_, S>,
-    name: JobName<'_>,
-    job: &Job<C>,
-) -> Result<(), Fault>
-    ensures step { IsStep S.Store tables.old tables.new result }
-    ensures saved { (held collected : Bool) (old : KnownJob)
-        → Saves S.Store tables.old tables.new result
-        (IsFlagged name.entry job.now held collected old)
-        (with_flagged name.entry held collected old) }
-{
-    let flagged = job.parts();
-    note_flags(tables, name, flagged.held, flagged.collected)
-}
-
-/// Saves a job after a command that was not refused. `before` is what it had made before the
-/// command.
+/// Saves a job after a slice or a start that was not refused.
 pub fn save<S: Alter, C: Core>(
     tables: &mut OpenTables<'_, '_, S>,
     name: JobName<'_>,
     command: JobCommand,
     job: &Job<C>,
-    before: Made,
 ) -> Result<(), Fault>
+    requires { drives_machine command ≡ true }
     ensures step { IsStep S.Store tables.old tables.new result }
-    ensures saved { (old : KnownJob) → HadMade before old
-        → Saves S.Store tables.old tables.new result
+    ensures saved { (old : KnownJob) → Saves S.Store tables.old tables.new result
         (IsAfter name.entry job.now command old) (with_after name.entry command old) }
 {
     match command {
-        JobCommand::Slice { .. } => save_slice(tables, name, job, before),
+        JobCommand::Slice { .. } => save_slice(tables, name, job),
         JobCommand::Start { .. } => save_start(tables, name, job),
-        JobCommand::Hold => save_flags(tables, name, job),
-        JobCommand::Release => save_flags(tables, name, job),
-        JobCommand::Collect => save_flags(tables, name, job),
-        JobCommand::Standing => Ok(()),
-        JobCommand::Cards => Ok(()),
-        JobCommand::Lines => Ok(()),
+        _ => unreachable!(),
     }
 }
 

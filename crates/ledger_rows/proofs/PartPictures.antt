@@ -1,5 +1,5 @@
 -- pictures and their rows
-use Rattle.std.proofs.Common.{◌≤◌, List, [], ◌∷◌, ap}
+use Rattle.std.proofs.Common.{◌≡◌, ◌≤◌, List, [], ◌∷◌, ap}
 use Rattle.units.specs.declared.printer.Line.{Line}
 use Rattle.units.specs.Carriages.{lines_of_form}
 use Rattle.units.specs.declared.carriage.Carriage.{Carriage}
@@ -8,7 +8,8 @@ use Rattle.units.specs.Ranges.{AreRising, carriage_place, line_place, places_the
 use Rattle.machine.specs.Run.{State, lines_of}
 use Rattle.ledger_rows.specs.declared.parts.Media.{Media}
 use Rattle.ledger_rows.specs.Pictures.{IsPictured}
-use Rattle.ledger_rows.specs.Rows.{HasUnits}
+use Rattle.ledger_rows.specs.Columns.{picture_cells}
+use Rattle.ledger_rows.specs.Rows.{HasCarriage, HasUnits}
 use Rattle.ledger_tables.specs.Cells.{PictureCells}
 
 below_line : (c : Carriage) (l : Line) (lines : List Line) → AreRising (line_place l) (places_then (carriage_place c) lines) → c.line ≤ lines_of_form
@@ -23,6 +24,14 @@ below_all c (l ∷ lines) rising = below_line c l lines rising.1
 pub carriage_line : (m : State) → IsInRange m → m.works.units.printer.carriage.line ≤ lines_of_form
 carriage_line m range = below_all m.works.units.printer.carriage (lines_of m) range.units.printer.places
 
+pub has_carriage : (row : PictureCells) (m : State) → row ≡ picture_cells m → HasCarriage row m.works.units.printer.carriage
+has_carriage row m row_is = record {
+  form = ap (λ (r : PictureCells). r.form) row_is;
+  line = ap (λ (r : PictureCells). r.line) row_is;
+  waiting = ap (λ (r : PictureCells). r.waiting) row_is;
+  channel = ap (λ (r : PictureCells). r.channel) row_is;
+}
+
 pub has_units : (row : PictureCells) (media : Media) (m : State) → IsPictured row media m → HasUnits row media m.works.units
 has_units row media m pictured = record {
   deck = pictured.deck;
@@ -32,10 +41,5 @@ has_units row media m pictured = record {
   cards = ap (λ (r : PictureCells). r.cards) pictured.row_is;
   printed = pictured.lines;
   lines = ap (λ (r : PictureCells). r.lines) pictured.row_is;
-  carriage = record {
-    form = ap (λ (r : PictureCells). r.form) pictured.row_is;
-    line = ap (λ (r : PictureCells). r.line) pictured.row_is;
-    waiting = ap (λ (r : PictureCells). r.waiting) pictured.row_is;
-    channel = ap (λ (r : PictureCells). r.channel) pictured.row_is;
-  };
+  carriage = has_carriage row m pictured.row_is;
 }

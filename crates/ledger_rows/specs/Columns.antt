@@ -9,6 +9,7 @@ use Rattle.core_store.specs.declared.registers.Compared.{Compared}
 use Rattle.core_store.specs.declared.registers.Compared.TheVariants.{Equal, Low, High}
 use Rattle.machine.specs.declared.standings.Standing.{Standing}
 use Rattle.machine.specs.declared.standings.Standing.TheVariants.{Running, Halted, Checked}
+use Rattle.units.specs.Units.{made_in_all}
 use Rattle.units.specs.declared.printer.Line.{Line}
 use Rattle.units.specs.declared.carriage.Motion.{Motion}
 use Rattle.units.specs.declared.carriage.Motion.TheVariants.{Space, DoubleSpace, TripleSpace, SkipToChannel1}
@@ -63,7 +64,7 @@ standing_number (Checked check) = check_number check
 abbrev pub line_cells : Line → LineCells
 line_cells l = record { form = l.form; line = l.line; image = l.codes }
 
--- the columns of a machine's picture row
+-- the columns of a machine's picture row, which counts all cards and lines that were made
 abbrev pub picture_cells : State → PictureCells
 picture_cells m = record {
   storage = storage_bytes m.works.storage;
@@ -77,8 +78,8 @@ picture_cells m = record {
   form = m.works.units.printer.carriage.form;
   line = m.works.units.printer.carriage.line;
   taken = m.works.units.hopper.taken;
-  cards = length m.works.units.punch;
-  lines = length m.works.units.printer.lines;
+  cards = (made_in_all m.works.units).cards;
+  lines = (made_in_all m.works.units).lines;
   standing = standing_number m.standing;
 }
 

@@ -1,6 +1,7 @@
 -- the parts of a machine that are columns of its picture row
-use Rattle.std.specs.Prelude.{◌≡◌, length}
+use Rattle.std.specs.Prelude.{◌≡◌}
 use Rattle.core_store.specs.declared.registers.Registers.{Registers}
+use Rattle.units.specs.Units.{made_in_all}
 use Rattle.units.specs.declared.carriage.Carriage.{Carriage}
 use Rattle.units.specs.declared.units.Units.{Units}
 use Rattle.ledger_rows.specs.declared.parts.Media.{Media}
@@ -28,7 +29,7 @@ pub record HasUnits (row : PictureCells) (media : Media) (u : Units) : Type 0 wh
   pub taken : row.taken ≡ u.hopper.taken
   pub switches : media.switches ≡ u.switches
   pub punched : media.cards.items ≡ u.punch
-  pub cards : row.cards ≡ length u.punch
+  pub cards : row.cards ≡ (made_in_all u).cards
   pub printed : media.lines.items ≡ u.printer.lines
-  pub lines : row.lines ≡ length u.printer.lines
+  pub lines : row.lines ≡ (made_in_all u).lines
   pub carriage : HasCarriage row u.printer.carriage

@@ -19,5 +19,5 @@ pub use decks::{card_bytes, deck_bytes, read_deck};
 pub use from_cells::{FromCells, read_rows};
 pub use lines::line_row;
 pub use numbers::{read_switches, read_truth, switches_number, truth};
-pub use parts::{Media, picture_row, read_picture};
+pub use parts::{Media, picture_row, read_carriage, read_picture};
 pub use progress::{Progress, read_progress};

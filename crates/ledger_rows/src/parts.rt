@@ -1,6 +1,6 @@
 //! Pictures of machines as rows.
 
-ghost use Rattle.std.specs.Prelude.{◌≡◌, ◌≤◌, Some, IfOk, IfSome};
+ghost use Rattle.std.specs.Prelude.{◌≡◌, ◌≤◌, ◌+◌, ◌<◌, ℕ, None, Some, IfOk, IfSome};
 ghost use Rattle.core_store.specs.declared.registers.Registers.{Registers};
 ghost use Rattle.units.specs.declared.carriage.Carriage.{Carriage};
 ghost use Rattle.units.specs.Carriages.{lines_of_form};
@@ -22,7 +22,7 @@ use core_store::{Core, Registers};
 use ledger_tables::PictureRow;
 use machine::Parts;
 use std::alloc::{AllocError, Global};
-use units::{Carriage, Hopper, Line, Printer, Punch, Switches, Units};
+use units::{Carriage, Counts, Hopper, Line, Printer, Punch, Switches, Units};
 
 /// The deck, switches, cards and lines of a machine, which are in other tables than its picture.
 #[derive(Drop)]
@@ -30,9 +30,9 @@ pub struct Media {
     /// The deck in the card reader. It includes the cards already read.
     pub deck: Deck,
     pub switches: Switches,
-    /// The cards punched.
+    /// The cards punched: all of them, or some last ones.
     pub cards: Vec<Card>,
-    /// The lines printed.
+    /// The lines printed: all of them, or some last ones.
     pub lines: Vec<Line>,
 }
 
@@ -57,8 +57,8 @@ pub fn picture_row<C: Core>(alloc: Global, parts: &Parts<C>) -> Result<PictureRo
         form: carriage.form,
         line: carriage.line as u32,
         taken: parts.units.hopper.taken as u32,
-        cards: parts.units.punch.cards.len() as u32,
-        lines: printer.lines.len() as u32,
+        cards: parts.units.before.cards + parts.units.punch.cards.len() as u32,
+        lines: parts.units.before.lines + printer.lines.len() as u32,
         standing: standing_number(parts.standing),
     })
 }
@@ -90,8 +90,8 @@ fn read_registers(row: &PictureRow) -> Option<Registers>
     })
 }
 
-/// The carriage of a row, if it is valid.
-fn read_carriage(row: &PictureRow) -> Option<Carriage>
+/// Returns the carriage of a row, or `None` if it is not valid. The result may be out of range.
+pub fn read_carriage(row: &PictureRow) -> Option<Carriage>
     ensures all { (c : Carriage) → c.line ≤ lines_of_form → HasCarriage row.now c
         → result ≡ Some c }
     ensures only { IfSome result (λ c. HasCarriage row.now c) }
@@ -113,15 +113,31 @@ fn read_carriage(row: &PictureRow) -> Option<Carriage>
     })
 }
 
-/// The units of a row and of a machine's media, if they are valid.
+/// How many were made before `these`, if `all` were made in all.
+fn count_before(all: u32, these: usize) -> Option<u32>
+    ensures all { (before : ℕ) → all ≡ before + these → result ≡ Some before }
+    ensures only { IfSome result (λ before. all ≡ before + these) }
+    ensures none { result ≡ None → all < these }
+{
+    if these > all as usize {
+        return None;
+    }
+    Some(all - these as u32)
+}
+
+/// The units of a row and of a machine's media, if they are valid. Cards and lines that the row
+/// counts beyond those of the media were made before these.
 fn read_units(row: &PictureRow, media: Media) -> Option<Units>
     ensures all { (u : Units) → HasRead u.hopper → u.printer.carriage.line ≤ lines_of_form
         → HasUnits row.now media u → result ≡ Some u }
     ensures only { IfSome result (λ u. HasUnits row.now media u) }
 {
-    if row.cards as usize != media.cards.len() || row.lines as usize != media.lines.len() {
+    let Some(cards_before) = count_before(row.cards, media.cards.len()) else {
         return None;
-    }
+    };
+    let Some(lines_before) = count_before(row.lines, media.lines.len()) else {
+        return None;
+    };
     let Ok(taken) = u16::try_from(row.taken) else {
         return None;
     };
@@ -136,6 +152,10 @@ fn read_units(row: &PictureRow, media: Media) -> Option<Units>
     } = media;
     Some(Units {
         hopper: Hopper { deck, taken },
+        before: Counts {
+            cards: cards_before,
+            lines: lines_before,
+        },
         punch: Punch { cards },
         printer: Printer { lines, carriage },
         switches,

@@ -24,6 +24,6 @@ returns-clause-saved g c switches old clean inside =
     (λ more office stands is.
     let mid = with_machine c.args.name c.args.job.now.machine (tables_of office) in
     let moved = did (tables_of office) stands.tables (ap is_some (ap picture_of is.found)) in
-    start_saved (seen g.S.Store c.args.tables.now).now (seen g.S.Store c.insert_last_stretch.new.tables).now office customer number switches old c.args.job.now stands is.found is.made is.is is.job storage
+    start_saved (seen g.S.Store c.args.tables.now).now (seen g.S.Store c.insert_last_stretch.new.tables).now office customer number switches old c.args.job.now stands is.found is.made is.counted is.is is.job storage
     (more mid moved (old.stretches, record { switches = seven switches; granted = 0 }, ap (λ (k : Kept). k.stretches) is.made, ap stretches_of is.found)))
     more

@@ -3,7 +3,7 @@ use Rattle.sqlite.specs.State.{HasCleanDisk}
 use Rattle.ledger_tables.specs.Steps.{seen}
 use Rattle.ledger.specs.Standing.{tables_of}
 use Rattle.ledger.proofs.Offices.{still, row_found, row_none}
-use Rattle.ledger.proofs.reading.find_whole.Goals as goal
+use Rattle.ledger.proofs.reading.find_to_run.Goals as goal
 
 pub returns-in_ok-job-in-Some-clause-found : goal.returns-in_ok-job-in-Some-clause-found
 returns-in_ok-job-in-Some-clause-found g c clean inside office s =
