@@ -162,16 +162,30 @@ const ALTERED_JOBS: &str = "\
     ' WHERE number = 9
 ";
 
-/// The same for rows of pictures, and `r` if the job is run first, and the command is answered by
-/// fault 2 because it finds a row in the place of one that it adds. The last line makes a table
-/// whose numbers may be texts.
-const ALTERED_PICTURES: &str = "\
+/// The same for the columns of pictures that are read without a machine, and `r` if the job is run
+/// first, and the command is answered by fault 2 because it finds a row in the place of one that it
+/// adds. The last line makes a table whose numbers may be texts.
+const ALTERED_PROGRESS: &str = "\
 .2222222222|DELETE FROM pictures WHERE number = 9
 .2222222222|UPDATE pictures SET standing = 9 WHERE number = 9
 .2222222222|UPDATE pictures SET i = 65536 WHERE number = 9
 .2222222222|UPDATE pictures SET i = 16000 WHERE number = 9
 .2222222222|UPDATE pictures SET cards = 10001 WHERE number = 9
 .2222222222|UPDATE pictures SET lines = 20001 WHERE number = 9
+.r.2....-..|UPDATE pictures SET cards = 1 WHERE number = 9
+.r..2...-..|UPDATE pictures SET lines = 1 WHERE number = 9
+.2222222222|CREATE TABLE kept (customer, number, storage, i, a, b, compare, overflow, channel, \
+    waiting, form, line, taken, cards, lines, standing)\
+    #execute|INSERT INTO kept SELECT * FROM pictures\
+    #execute|DROP TABLE pictures\
+    #execute|CREATE TABLE pictures (customer, number, storage, i, a, b, compare, overflow, \
+    channel, waiting, form, line, taken, cards, lines, standing)\
+    #execute|INSERT INTO pictures SELECT * FROM kept\
+    #execute|UPDATE pictures SET standing = '0' WHERE number = 9
+";
+
+/// The same for the other columns of pictures; `lines` reads those of the carriage.
+const ALTERED_MACHINES: &str = "\
 .22........|UPDATE pictures SET storage = x'00' WHERE number = 9
 .22........|UPDATE pictures SET a = 16000 WHERE number = 9
 .22........|UPDATE pictures SET b = 16000 WHERE number = 9
@@ -184,16 +198,6 @@ const ALTERED_PICTURES: &str = "\
 .22.2......|UPDATE pictures SET line = 67 WHERE number = 9
 .22........|UPDATE pictures SET taken = 0 WHERE number = 9
 .22........|UPDATE pictures SET taken = 2 WHERE number = 9
-.r.2....-..|UPDATE pictures SET cards = 1 WHERE number = 9
-.r..2...-..|UPDATE pictures SET lines = 1 WHERE number = 9
-.2222222222|CREATE TABLE kept (customer, number, storage, i, a, b, compare, overflow, channel, \
-    waiting, form, line, taken, cards, lines, standing)\
-    #execute|INSERT INTO kept SELECT * FROM pictures\
-    #execute|DROP TABLE pictures\
-    #execute|CREATE TABLE pictures (customer, number, storage, i, a, b, compare, overflow, \
-    channel, waiting, form, line, taken, cards, lines, standing)\
-    #execute|INSERT INTO pictures SELECT * FROM kept\
-    #execute|UPDATE pictures SET standing = '0' WHERE number = 9
 ";
 
 /// The same for rows of cards and lines, which `cards` and `lines` alone read.
@@ -261,8 +265,14 @@ fn jobs_and_stretches_that_are_none_of_a_bureau(rt: HostRuntime) -> Result<(), F
 }
 
 #[test]
-fn pictures_that_are_none_of_a_bureau(rt: HostRuntime) -> Result<(), Fail> {
-    assert_eq!(rt; misread(rt.alloc(), ALTERED_PICTURES)?.as_str(), "");
+fn progress_that_is_none_of_a_bureau(rt: HostRuntime) -> Result<(), Fail> {
+    assert_eq!(rt; misread(rt.alloc(), ALTERED_PROGRESS)?.as_str(), "");
+    Ok(())
+}
+
+#[test]
+fn machines_that_are_none_of_a_bureau(rt: HostRuntime) -> Result<(), Fail> {
+    assert_eq!(rt; misread(rt.alloc(), ALTERED_MACHINES)?.as_str(), "");
     Ok(())
 }
 
