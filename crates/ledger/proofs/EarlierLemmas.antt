@@ -1,5 +1,5 @@
 -- Jobs whose cards and lines are only in the tables.
-use Rattle.std.proofs.Common.{◌≡◌, ℕ, true, Option, None, Some, refl, sym, ap, subst, ◌∙◌}
+use Rattle.std.proofs.Common.{◌≡◌, ℕ, true, length, Option, None, Some, refl, sym, ap, subst, ◌∙◌}
 use Rattle.machine.proofs.EarlierSteps.{after_along, behind_after, attempts_along, executed_along, put_back, left_behind}
 use Rattle.machine.specs.Earlier.{with_earlier, without_outputs, IsBehind}
 use Rattle.machine.specs.Run.{State, started, after, attempts, executed, lines_of}
@@ -98,6 +98,20 @@ module _ (old : Job) where
         is = ap (with_outputs_of old) made ∙ changed_whole c drives ∙ goes;
         job = subst IsJob stays (keep c old it);
       }
+
+-- a command leaves a machine its size
+module _ (law : (m : State) (count : ℕ) → length (after m count).works.storage ≡ length m.works.storage) where
+  changed_size : (c : JobCommand) (k : Kept) → drives_machine c ≡ true → length (changed c k).machine.works.storage ≡ length k.machine.works.storage
+  changed_size (Slice limit) k drives = law k.machine limit
+  changed_size (Start switches) k drives = refl
+  changed_size other k drives = absurd (let e = drives in cc)
+
+  pub same_size : (c : JobCommand) (k : Kept) → drives_machine c ≡ true → length (take_kept c k).0.machine.works.storage ≡ length k.machine.works.storage
+  same_size c k drives = go (job_refusal c (summary_of k))
+    where
+      go : (o : Option Refusal) → length (taken_unless c k o).0.machine.works.storage ≡ length k.machine.works.storage
+      go (Some reason) = refl
+      go None = changed_size c k drives
 
 -- no other command drives a machine
 pub drives_no_other : (c : JobCommand) → ((limit : ℕ) → c ≡ Slice limit → ⊥) → ((switches : Switches) → c ≡ Start switches → ⊥) → drives_machine c ≡ true → ⊥

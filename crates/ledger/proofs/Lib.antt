@@ -1,11 +1,14 @@
 pub mod SavingChanges
 pub mod BureauTransactions
+pub mod BureauVersions
 pub mod EarlierLemmas
 pub mod SavingFlags
 pub mod SavingJobs
 pub mod ListLemmas
+pub mod MigratingPages
 pub mod Offices
-pub mod PictureRows
+pub mod StateRows
+pub mod PageMixes
 pub mod OneOfficeLaw
 pub mod ReadingLemmas
 pub mod Replies

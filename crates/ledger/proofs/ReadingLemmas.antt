@@ -2,8 +2,9 @@
 use Rattle.std.proofs.Common.{◌≡◌, ◌<◌, ◌-◌, ◌%◌, ℕ, zero, suc, List, [], ◌∷◌, length, get_or, Option, Some, Result, Ok, IfOk, refl, sym, ap, subst, ◌∙◌, arith}
 use Rattle.std.specs.List.{All, AllByRecursion}
 use Rattle.std.proofs.lemmas.List.Elements.{recursion_from_All}
-use Rattle.machine.specs.Run.{State, started, after}
-use Rattle.machine.proofs.Steps.{stems_after, stems_same}
+use Rattle.machine.specs.Run.{State, first_card, started, after}
+use Rattle.core_store.specs.Storage.{positions_of}
+use Rattle.machine.proofs.Steps.{length-loaded, stems_after, stems_same}
 use Rattle.office.specs.Jobs.{Job, resumed, beginning, picture, loaded_deck, HasSwitches}
 use Rattle.office.specs.declared.stretches.Stretch.{Stretch}
 use Rattle.ledger_rows.proofs.FromCellsRows.{AreTold}
@@ -32,6 +33,16 @@ module _ (law : (m : State) (count : ℕ) → (after m count).works.units.hopper
 
   pub picture_deck : (job : Job) → (picture job).works.units.hopper.deck ≡ loaded_deck job
   picture_deck job = resumed_deck _ job.stretches
+
+-- and its size
+module _ (law : (m : State) (count : ℕ) → length (after m count).works.storage ≡ length m.works.storage) where
+  resumed_size : (m : State) (stretches : List Stretch) → length (resumed m stretches).works.storage ≡ length m.works.storage
+  unfolding resumed
+  resumed_size m [] = refl
+  resumed_size m (s ∷ stretches) = resumed_size (after (started m s.switches) s.granted) stretches ∙ law (started m s.switches) s.granted
+
+  pub picture_size : (job : Job) → length (picture job).works.storage ≡ positions_of job.size
+  picture_size job = resumed_size (beginning job) job.stretches ∙ length-loaded _ job.size (first_card (loaded_deck job)) refl
 
 -- and its switches are those of the last one
 module _ (law : (m : State) (count : ℕ) → (after m count).works.units.switches ≡ m.works.units.switches) where

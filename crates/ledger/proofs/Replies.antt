@@ -118,7 +118,7 @@ pub command_refused : (new : State) (customer : List ℕ) (number : ℕ) (c : Jo
 command_refused new customer number c reason office old is told s =
     let why = refused_so c (kept_of old) reason told in
     let stays : job_after c old ≡ old = ap (job_unless c old) why in
-    let whole : with_job customer number (job_after c old) office ≡ office = ap (λ (j : Job). with_job customer number j office) stays ∙ same_job customer number old office s.tables.distinct is in
+    let whole : with_job customer number (job_after c old) office ≡ office = ap (λ (j : Job). with_job customer number j office) stays ∙ same_job customer number old office s.tables.shared.distinct is in
     record {
       reply_is = told ∙ ap (λ (o : Option Job). (commanded customer number c office o).1) (sym is);
       stands = subst (λ (o : Option Job). StandsIn new (commanded customer number c office o).0) (sym is) (subst (StandsIn new) (sym whole) s);

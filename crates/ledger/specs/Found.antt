@@ -1,7 +1,7 @@
 -- what is read from the tables about a job
 use Rattle.std.specs.Prelude.{◌≡◌, ℕ, List, ◌∷◌, Option, Some, None}
-use Rattle.cards.specs.Decks.{deck_bytes}
 use Rattle.cards.specs.declared.decks.Card.{Card}
+use Rattle.core_store.specs.Storage.{positions_of}
 use Rattle.machine.specs.Earlier.{without_outputs}
 use Rattle.machine.specs.Run.{State, lines_of}
 use Rattle.units.specs.Printed.{Printed}
@@ -9,7 +9,7 @@ use Rattle.units.specs.declared.carriage.Carriage.{Carriage}
 use Rattle.units.specs.declared.printer.Line.{Line}
 use Rattle.units.specs.declared.switches.Switches.{Switches}
 use Rattle.ledger_rows.specs.declared.parts.Media.{Media}
-use Rattle.office.specs.Jobs.{Job, loaded_deck, picture, granted}
+use Rattle.office.specs.Jobs.{Job, picture, granted}
 use Rattle.machine.specs.Standings.{standing_of}
 use Rattle.office.specs.Kept.{Kept, kept_of, summary_of}
 use Rattle.machine.specs.declared.standings.StandingAt.{StandingAt}
@@ -74,18 +74,18 @@ HasCarriageAt here found =
 abbrev pub printed_with : Carriage → List Line → Printed
 printed_with carriage lines = record { lines = lines; carriage = carriage }
 
--- if there is the job, and these are its machine's deck and switches, without cards and lines, this
--- is the state of its machine without them
-abbrev pub HasMachineWith : Option Job → Media → State → Type 0
-HasMachineWith here media found =
-    (job : Job) → here ≡ Some job → IsMediaOf media (without_outputs (picture job))
-    → found ≡ without_outputs (picture job)
+-- if there is the job, and these are its machine's number of positions, deck and switches, without
+-- cards and lines, this is the state of its machine without them
+abbrev pub HasMachineWith : Option Job → ℕ → Media → State → Type 0
+HasMachineWith here size media found =
+    (job : Job) → here ≡ Some job → size ≡ positions_of job.size
+    → IsMediaOf media (without_outputs (picture job)) → found ≡ without_outputs (picture job)
 
--- if there is the job, and these are its loaded deck and its machine's switches, this is the state
--- of its machine without the cards and lines
-abbrev pub HasMachine : Option Job → List ℕ → Switches → State → Type 0
-HasMachine here loaded switches found =
-    (job : Job) → here ≡ Some job → loaded ≡ deck_bytes (loaded_deck job)
+-- if there is the job, and these are its row and its machine's switches, this is the state of its
+-- machine without the cards and lines
+abbrev pub HasMachine : Option Job → JobCells → Switches → State → Type 0
+HasMachine here row switches found =
+    (job : Job) → here ≡ Some job → row ≡ job_cells job
     → switches ≡ (picture job).works.units.switches → found ≡ without_outputs (picture job)
 
 -- if there is the job, and this is its row, this is the job, its machine without the cards and

@@ -12,3 +12,5 @@ pub mod WholeRows
 pub mod Meters
 pub mod Shifting
 pub mod Working
+pub mod Older
+pub mod Migrating

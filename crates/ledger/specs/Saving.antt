@@ -3,17 +3,19 @@ use Rattle.std.specs.Prelude.{◌≡◌, ℕ, Bool, false, List, [], ◌∷◌, 
 use Rattle.cards.specs.Decks.{deck_bytes}
 use Rattle.cards.specs.declared.decks.Card.{Card}
 use Rattle.machine.specs.Run.{State}
-use Rattle.office.specs.Jobs.{Job, granted_more, IsJob}
+use Rattle.office.specs.Jobs.{Job, granted_more, picture, IsJob}
 use Rattle.office.specs.Kept.{Kept, kept_of, changed, changed_job}
 use Rattle.office.specs.New.{job_or_refusal}
 use Rattle.office.specs.Office.{Office, job_of, with_job, and_job}
 use Rattle.office.specs.declared.commands.Contents.{Contents}
 use Rattle.office.specs.declared.commands.JobCommand.{JobCommand}
 use Rattle.office.specs.declared.stretches.Stretch.{Stretch}
-use Rattle.ledger_rows.specs.Columns.{line_cells, picture_cells, truth}
-use Rattle.ledger_tables.specs.Cells.{JobCells}
-use Rattle.ledger_tables.specs.Named.{of_job, with_picture_of, with_new_job}
-use Rattle.ledger_tables.specs.Tables.{Tables, with_stretches, with_cards, with_lines}
+use Rattle.core_store.specs.Storage.{Storage}
+use Rattle.ledger_rows.specs.Columns.{line_cells, state_row, truth}
+use Rattle.ledger_rows.specs.Pages.{rows_of}
+use Rattle.ledger_tables.specs.Cells.{JobCells, no_pages}
+use Rattle.ledger_tables.specs.Named.{of_job, with_state_of, with_new_job, HasNoState, HasState}
+use Rattle.ledger_tables.specs.Tables.{Tables, with_stretches, with_pages, with_cards, with_lines}
 use Rattle.ledger_tables.specs.declared.names.JobName.{JobName}
 use Rattle.units.specs.declared.printer.Line.{Line}
 use Rattle.units.specs.declared.units.Units.{Units}
@@ -63,9 +65,30 @@ HasFewerGranted name stretches t =
     (before : List Stretch) × (limit : ℕ) × (stretches ≡ granted_more limit before)
     × (of_job name t.stretches ≡ map stretch_row before)
 
--- the tables with this machine as the job's picture
+-- the job has no page rows
+abbrev pub HasNoPages : JobName → Tables → Type 0
+HasNoPages name t = of_job name t.pages ≡ no_pages
+
+-- the job's page rows are those of this storage
+abbrev pub HasPages : JobName → Storage → Tables → Type 0
+HasPages name s t = of_job name t.pages ≡ rows_of s
+
+-- the tables with the rows of this storage's pages as the job's
+abbrev pub with_storage : JobName → Storage → Tables → Tables
+with_storage name s = with_pages name.customer.now name.number (rows_of s)
+
+-- the job's page rows are those of this storage, and it has a state
+pub record HasRows (name : JobName) (s : Storage) (t : Tables) : Type 0 where
+  pub pages : HasPages name s t
+  pub state : HasState name t
+
+-- the tables with this machine as the job's, but for its storage
+abbrev pub with_running : JobName → State → Tables → Tables
+with_running name m = with_state_of name (state_row m)
+
+-- the tables with this machine as the job's: its state and its pages
 abbrev pub with_machine : JobName → State → Tables → Tables
-with_machine name m = with_picture_of name (picture_cells m)
+with_machine name m t = with_running name m (with_storage name m.works.storage t)
 
 -- the job's stretch rows are these stretches without the last
 abbrev pub HasOneLess : JobName → List Stretch → Tables → Type 0
@@ -78,15 +101,20 @@ abbrev pub with_progress : JobName → Kept → Tables → Tables
 with_progress name kept t =
     with_all_stretches name kept.stretches (with_machine name kept.machine t)
 
--- the tables with this job's stretches and machine, as a start leaves them
-abbrev pub with_start : JobName → Kept → Tables → Tables
-with_start name kept t =
+-- the tables with the stretches and the machine of a new job
+abbrev pub with_begun : JobName → Kept → Tables → Tables
+with_begun name kept t =
     with_machine name kept.machine (with_all_stretches name kept.stretches t)
 
--- the job's stretch rows are these stretches without the last, and it has no picture
+-- the job has no state and no page rows
+pub record HasNoMachine (name : JobName) (t : Tables) : Type 0 where
+  pub state : HasNoState name t
+  pub pages : HasNoPages name t
+
+-- the job's stretch rows are these stretches without the last, and it has no machine
 pub record HasNotStarted (name : JobName) (kept : Kept) (t : Tables) : Type 0 where
   pub stretches : HasOneLess name kept.stretches t
-  pub picture : of_job name t.pictures ≡ None
+  pub machine : HasNoMachine name t
 
 -- the columns of a new job of these contents, with the deck that its machine loads
 abbrev pub new_cells : Contents → List Card → JobCells
@@ -118,6 +146,12 @@ pub record IsAfter (name : JobName) (kept : Kept) (c : JobCommand) (old : Job) (
   pub counted : HasCounted old kept
   pub is : with_outputs_of old kept ≡ kept_of (changed_job c old)
   pub job : IsJob (changed_job c old)
+
+-- the same, and this was the storage of the job's machine before
+pub record IsAfterStorage (name : JobName) (earlier : Storage) (kept : Kept) (c : JobCommand)
+    (old : Job) (office : Office) : Type 0 where
+  pub after : IsAfter name kept c old office
+  pub storage : earlier ≡ (picture old).works.storage
 
 -- the office with the job as a command that is not refused makes it
 abbrev pub with_after : JobName → JobCommand → Job → Office → Office

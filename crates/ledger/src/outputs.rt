@@ -38,7 +38,7 @@ fn read_cards(alloc: Global, rows: &[CardRow], count: u32) -> Result<Vec<Card>, 
     Ok(cards)
 }
 
-/// Finds the cards that the job of this name has punched, as many as its picture counts.
+/// Finds the cards that the job of this name has punched, as many as its state counts.
 fn find_cards<S: Alter>(
     tables: &mut OpenTables<'_, '_, S>,
     name: JobName<'_>,
@@ -63,10 +63,10 @@ fn find_carriage<S: Alter>(
 {
     // A law, for the proof: it does nothing.
     commands_keep_jobs();
-    let Some(row) = tables.find_picture(name)? else {
+    let Some(row) = tables.find_state(name)? else {
         return Err(Fault::Store);
     };
-    match read_carriage(&row) {
+    match read_carriage(row) {
         Some(carriage) => Ok(carriage),
         None => Err(Fault::Store),
     }
@@ -99,7 +99,7 @@ fn read_lines(
     Ok(printer.lines)
 }
 
-/// Finds the lines that the job of this name has printed, as many as its picture counts.
+/// Finds the lines that the job of this name has printed, as many as its state counts.
 fn find_lines<S: Alter>(
     tables: &mut OpenTables<'_, '_, S>,
     name: JobName<'_>,

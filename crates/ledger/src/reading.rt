@@ -1,7 +1,7 @@
 //! Reading a job from the tables: its machine has none of the cards and lines that the job has
-//! made, and counts them by its picture.
+//! made, and counts them by its state.
 
-ghost use Rattle.std.specs.Prelude.{◌≡◌, ◌≢◌, List, All, map, Some, None, Ok, IsErr, IsErrOf, IsSome, IfOk, IfSome};
+ghost use Rattle.std.specs.Prelude.{◌≡◌, ◌≢◌, ℕ, List, All, map, Some, None, Ok, IsErr, IsErrOf, IsSome, IfOk, IfSome};
 ghost use Rattle.cards.specs.Decks.{deck_bytes, IsDeck};
 ghost use Rattle.machine.specs.Earlier.{without_outputs};
 ghost use Rattle.machine.specs.Ranges.{IsInRange};
@@ -9,7 +9,8 @@ ghost use Rattle.machine.specs.Run.{State};
 ghost use Rattle.office.specs.Jobs.{Job as KnownJob, HasSwitches};
 ghost use Rattle.office.specs.Kept.{IsJobInRange};
 ghost use Rattle.office.specs.declared.stretches.Stretch.{Stretch};
-ghost use Rattle.ledger_rows.specs.Columns.{picture_cells, HoldsCharacters};
+ghost use Rattle.ledger_rows.specs.Columns.{HoldsCharacters};
+ghost use Rattle.ledger_rows.specs.Pictures.{IsPictured};
 ghost use Rattle.ledger_tables.specs.Steps.{IsOpenStep};
 ghost use Rattle.ledger.specs.Found.{IsMediaOf, IsFoundAs, IsHandedAs, HasStretches, HasMachine, HasMachineWith, HasKept, BeganWith};
 ghost use Rattle.ledger.specs.Saving.{job_in};
@@ -18,7 +19,7 @@ ghost use Rattle.ledger.specs.Steps.{FindsIn};
 
 use core_store::{Core, Size};
 use ledger_rows::{Media, read_deck, read_picture, read_switches, read_truth};
-use ledger_tables::{Fault, JobName, JobRow, OpenTables, PictureRow, StretchRow};
+use ledger_tables::{Fault, JobName, JobRow, OpenTables, PageRow, StateRow, StretchRow};
 use machine::{Parts, outputs_are_put_back, runs_only_add};
 use office::{Job, JobParts, Stretch, commands_keep_jobs};
 use sqlite::Alter;
@@ -103,50 +104,59 @@ fn read_media(alloc: Global, loaded: &[u8], switches: Switches) -> Result<Media,
 }
 
 /// The machine of a picture.
-fn machine_of<C: Core>(alloc: Global, row: &PictureRow, media: Media) -> Result<Parts<C>, Fault>
+fn machine_of<C: Core>(
+    alloc: Global,
+    size: u32,
+    row: StateRow,
+    pages: &[PageRow],
+    media: Media,
+) -> Result<Parts<C>, Fault>
     ensures machine { IfOk result (λ machine. (m : State) → IsInRange m
-        → HoldsCharacters m.works.storage → row.now ≡ picture_cells m → IsMediaOf media m
+        → HoldsCharacters m.works.storage → IsPictured size row pages.now media m
         → machine ≡ m) }
     ensures store { IsErrOf result Fault.Store → (m : State) → IsInRange m
-        → HoldsCharacters m.works.storage → IsMediaOf media m → row.now ≢ picture_cells m }
+        → HoldsCharacters m.works.storage → ¬ IsPictured size row pages.now media m }
 {
-    told(read_picture(alloc, row, media))
+    told(read_picture(alloc, size, row, pages, media))
 }
 
-/// Finds a job's machine without its cards and lines, given its deck and its switches.
+/// Finds a job's machine of this size without its cards and lines, given its deck and switches.
 fn find_machine<S: Alter, C: Core>(
     tables: &mut OpenTables<'_, '_, S>,
     name: JobName<'_>,
+    size: u32,
     media: Media,
 ) -> Result<Parts<C>, Fault>
     ensures step { IsOpenStep S.Store tables.old tables.new result }
     ensures found { FindsIn S.Store tables.old tables.new result
-        (λ office found. HasMachineWith (job_in name.entry office) media found) }
+        (λ office found. HasMachineWith (job_in name.entry office) size media found) }
 {
     // Laws, for the proof: they do nothing.
     commands_keep_jobs();
     outputs_are_put_back();
-    match tables.find_picture(name)? {
-        Some(row) => machine_of(tables.alloc, &row, media),
-        None => Err(Fault::Store),
-    }
+    runs_only_add();
+    let Some(row) = tables.find_state(name)? else {
+        return Err(Fault::Store);
+    };
+    let pages = tables.find_pages(name)?;
+    machine_of(tables.alloc, size, row, pages.as_slice(), media)
 }
 
-/// Finds a job's machine without its cards and lines.
+/// Finds a job's machine without its cards and lines, given its row.
 fn find_running<S: Alter, C: Core>(
     tables: &mut OpenTables<'_, '_, S>,
     name: JobName<'_>,
-    loaded: &[u8],
+    row: &JobRow,
     switches: Switches,
 ) -> Result<Parts<C>, Fault>
     ensures step { IsOpenStep S.Store tables.old tables.new result }
     ensures found { FindsIn S.Store tables.old tables.new result
-        (λ office found. HasMachine (job_in name.entry office) loaded.now switches found) }
+        (λ office found. HasMachine (job_in name.entry office) row.now switches found) }
 {
     // A law, for the proof: it does nothing.
     runs_only_add();
-    let media = read_media(tables.alloc, loaded, switches)?;
-    find_machine(tables, name, media)
+    let media = read_media(tables.alloc, &row.loaded, switches)?;
+    find_machine(tables, name, row.size, media)
 }
 
 /// Finds the parts of a job, its machine without its cards and lines, given its row.
@@ -168,7 +178,7 @@ fn find_parts<S: Alter, C: Core>(
     let Some(last) = stretches.last() else {
         return Err(Fault::Store);
     };
-    let machine = find_running(tables, name, &row.loaded, last.switches)?;
+    let machine = find_running(tables, name, row, last.switches)?;
     Ok(JobParts {
         stretches,
         held,

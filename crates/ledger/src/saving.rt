@@ -9,17 +9,19 @@ ghost use Rattle.office.specs.declared.commands.JobCommand.{JobCommand};
 ghost use Rattle.units.specs.declared.printer.Line.{Line};
 ghost use Rattle.units.specs.declared.switches.Switches.{Switches};
 ghost use Rattle.units.specs.Units.{made_in_all};
+ghost use Rattle.core_store.specs.Pages.{cells_of};
 ghost use Rattle.ledger_rows.specs.Columns.{HoldsCharacters, IsLine};
-ghost use Rattle.ledger_tables.specs.Named.{HasNoJob, HasNoPicture, HasPicture};
+ghost use Rattle.ledger_tables.specs.Named.{HasNoJob, HasState};
 ghost use Rattle.ledger_tables.specs.Steps.{Changes, IsStep};
 ghost use Rattle.ledger.specs.Earlier.{drives_machine};
-ghost use Rattle.ledger.specs.Saving.{job_in, HasCardRows, with_all_cards, HasLineRows, with_all_lines, HasEarlier, with_made, HasFewerGranted, HasOneLess, with_all_stretches, with_machine, with_progress, with_start, HasNotStarted, new_cells, with_handed, IsAfter, with_after, with_flagged, IsFreeName, IsTakenAs, with_new};
+ghost use Rattle.ledger.specs.Saving.{job_in, HasCardRows, with_all_cards, HasLineRows, with_all_lines, HasEarlier, with_made, HasFewerGranted, HasOneLess, with_all_stretches, with_running, with_machine, with_progress, with_begun, HasRows, HasNoMachine, HasNotStarted, new_cells, with_handed, IsAfter, IsAfterStorage, with_after, with_flagged, IsFreeName, IsTakenAs, with_new};
 ghost use Rattle.ledger.specs.Standing.{kind_number};
 ghost use Rattle.ledger.specs.Steps.{Saves};
 
+use crate::page_saving::{insert_pages, save_pages, storage_holds_characters};
 use cards::{Card, Deck};
-use core_store::Core;
-use ledger_rows::{card_bytes, deck_bytes, line_row, picture_row, switches_number, truth};
+use core_store::PlaneCore;
+use ledger_rows::{card_bytes, deck_bytes, line_row, state_row, switches_number, truth};
 use ledger_tables::{Fault, JobName, JobRow, OpenTables, StretchRow};
 use machine::{Parts, runs_only_add};
 use office::{Contents, Job, JobCommand, Kind, Stretch, commands_keep_jobs};
@@ -91,20 +93,39 @@ fn insert_made<S: Alter>(
     insert_lines(tables, name, units.before.lines, lines)
 }
 
-/// Replaces the picture of a job's machine.
-fn set_machine<S: Alter, C: Core>(
+/// Replaces the state of a job's machine.
+fn set_state<S: Alter>(
     tables: &mut OpenTables<'_, '_, S>,
     name: JobName<'_>,
-    machine: &Parts<C>,
+    machine: &Parts<PlaneCore>,
 ) -> Result<(), Fault>
     requires { IsInRange machine.now }
     ensures step { IsStep S.Store tables.old tables.new result }
     ensures set { Changes S.Store tables.old tables.new result
-        (HasPicture name.entry) (with_machine name.entry machine.now) }
+        (HasState name.entry) (with_running name.entry machine.now) }
+    ensures characters { HoldsCharacters machine.now.works.storage }
+{
+    // A law, for the proof: it does nothing.
+    storage_holds_characters(&machine.core);
+    tables.set_state(name, state_row(machine))
+}
+
+/// Replaces the state of a job's machine, and those of its pages that are no longer as they were.
+fn set_machine<S: Alter>(
+    tables: &mut OpenTables<'_, '_, S>,
+    name: JobName<'_>,
+    earlier: &PlaneCore,
+    machine: &Parts<PlaneCore>,
+) -> Result<(), Fault>
+    requires range { IsInRange machine.now }
+    requires size { length (cells_of earlier.now) ≡ length machine.now.works.storage }
+    ensures step { IsStep S.Store tables.old tables.new result }
+    ensures set { Changes S.Store tables.old tables.new result
+        (HasRows name.entry (cells_of earlier.now)) (with_machine name.entry machine.now) }
     ensures characters { OnOk result (HoldsCharacters machine.now.works.storage) }
 {
-    let row = picture_row(tables.alloc, machine)?;
-    tables.set_picture(name, &row)
+    save_pages(tables, name, earlier, &machine.core)?;
+    set_state(tables, name, machine)
 }
 
 /// Saves the number of instructions granted in a job's last stretch.
@@ -127,38 +148,43 @@ fn set_last_granted<S: Alter>(
     tables.set_granted(name, place, last.granted)
 }
 
-/// Saves the picture of a job's machine, and what was granted.
-fn set_progress<S: Alter, C: Core>(
+/// Saves a job's machine, whose storage was the earlier one, and what was granted.
+fn set_progress<S: Alter>(
     tables: &mut OpenTables<'_, '_, S>,
     name: JobName<'_>,
-    job: &Job<C>,
+    earlier: &PlaneCore,
+    job: &Job<PlaneCore>,
 ) -> Result<(), Fault>
+    requires { length (cells_of earlier.now) ≡ length job.now.machine.works.storage }
     ensures step { IsStep S.Store tables.old tables.new result }
     ensures set { Changes S.Store tables.old tables.new result
-        (λ t. HasPicture name.entry t × HasFewerGranted name.entry job.now.stretches t)
+        (λ t. HasRows name.entry (cells_of earlier.now) t
+        × HasFewerGranted name.entry job.now.stretches t)
         (with_progress name.entry job.now) }
     ensures characters { OnOk result (HoldsCharacters job.now.machine.works.storage) }
 {
     let parts = job.parts();
-    set_machine(tables, name, parts.machine)?;
+    set_machine(tables, name, earlier, parts.machine)?;
     set_last_granted(tables, name, parts.stretches)
 }
 
-/// Saves a job after a slice.
-fn save_slice<S: Alter, C: Core>(
+/// Saves a job after a slice, before which its machine had the earlier storage.
+fn save_slice<S: Alter>(
     tables: &mut OpenTables<'_, '_, S>,
     name: JobName<'_>,
-    job: &Job<C>,
+    earlier: &PlaneCore,
+    job: &Job<PlaneCore>,
 ) -> Result<(), Fault>
+    requires { length (cells_of earlier.now) ≡ length job.now.machine.works.storage }
     ensures step { IsStep S.Store tables.old tables.new result }
     ensures saved { (limit : ℕ) (old : KnownJob) → Saves S.Store tables.old tables.new result
-        (IsAfter name.entry job.now (JobCommand.Slice limit) old)
+        (IsAfterStorage name.entry (cells_of earlier.now) job.now (JobCommand.Slice limit) old)
         (with_after name.entry (JobCommand.Slice limit) old) }
 {
     let machine = job.parts().machine;
     let units = &machine.units;
     insert_made(tables, name, units)?;
-    set_progress(tables, name, job)
+    set_progress(tables, name, earlier, job)
 }
 
 /// Inserts a job's last stretch.
@@ -186,10 +212,10 @@ fn insert_last_stretch<S: Alter>(
 }
 
 /// Saves a job after a start.
-fn save_start<S: Alter, C: Core>(
+fn save_start<S: Alter>(
     tables: &mut OpenTables<'_, '_, S>,
     name: JobName<'_>,
-    job: &Job<C>,
+    job: &Job<PlaneCore>,
 ) -> Result<(), Fault>
     ensures step { IsStep S.Store tables.old tables.new result }
     ensures saved { (switches : Switches) (old : KnownJob)
@@ -198,7 +224,7 @@ fn save_start<S: Alter, C: Core>(
         (with_after name.entry (JobCommand.Start switches) old) }
 {
     let started = job.parts();
-    set_machine(tables, name, started.machine)?;
+    set_state(tables, name, started.machine)?;
     insert_last_stretch(tables, name, started.stretches)
 }
 
@@ -217,20 +243,24 @@ pub fn note_flags<S: Alter>(
     tables.set_flags(name, truth(held), truth(collected))
 }
 
-/// Saves a job after a slice or a start that was not refused.
-pub fn save<S: Alter, C: Core>(
+/// Saves a job after a slice or a start that was not refused, before which its machine had the
+/// earlier storage.
+pub fn save<S: Alter>(
     tables: &mut OpenTables<'_, '_, S>,
     name: JobName<'_>,
     command: JobCommand,
-    job: &Job<C>,
+    earlier: &PlaneCore,
+    job: &Job<PlaneCore>,
 ) -> Result<(), Fault>
-    requires { drives_machine command ≡ true }
+    requires drives { drives_machine command ≡ true }
+    requires size { length (cells_of earlier.now) ≡ length job.now.machine.works.storage }
     ensures step { IsStep S.Store tables.old tables.new result }
     ensures saved { (old : KnownJob) → Saves S.Store tables.old tables.new result
-        (IsAfter name.entry job.now command old) (with_after name.entry command old) }
+        (IsAfterStorage name.entry (cells_of earlier.now) job.now command old)
+        (with_after name.entry command old) }
 {
     match command {
-        JobCommand::Slice { .. } => save_slice(tables, name, job),
+        JobCommand::Slice { .. } => save_slice(tables, name, earlier, job),
         JobCommand::Start { .. } => save_start(tables, name, job),
         _ => unreachable!(),
     }
@@ -279,31 +309,33 @@ fn insert_handed<S: Alter>(
     tables.insert_job(name, &row)
 }
 
-/// Inserts the picture of a job's machine.
-fn insert_machine<S: Alter, C: Core>(
+/// Inserts the state of a job's machine and the pages of its storage that are not blank.
+fn insert_machine<S: Alter>(
     tables: &mut OpenTables<'_, '_, S>,
     name: JobName<'_>,
-    machine: &Parts<C>,
+    machine: &Parts<PlaneCore>,
 ) -> Result<(), Fault>
     requires { IsInRange machine.now }
     ensures step { IsStep S.Store tables.old tables.new result }
     ensures added { Changes S.Store tables.old tables.new result
-        (HasNoPicture name.entry) (with_machine name.entry machine.now) }
-    ensures characters { OnOk result (HoldsCharacters machine.now.works.storage) }
+        (HasNoMachine name.entry) (with_machine name.entry machine.now) }
+    ensures characters { HoldsCharacters machine.now.works.storage }
 {
-    let row = picture_row(tables.alloc, machine)?;
-    tables.insert_picture(name, &row)
+    // A law, for the proof: it does nothing.
+    storage_holds_characters(&machine.core);
+    insert_pages(tables, name, &machine.core)?;
+    tables.insert_state(name, state_row(machine))
 }
 
-/// Inserts a job's first stretch and the picture of its machine.
-fn insert_start<S: Alter, C: Core>(
+/// Inserts a job's first stretch and its machine.
+fn insert_begun<S: Alter>(
     tables: &mut OpenTables<'_, '_, S>,
     name: JobName<'_>,
-    job: &Job<C>,
+    job: &Job<PlaneCore>,
 ) -> Result<(), Fault>
     ensures step { IsStep S.Store tables.old tables.new result }
     ensures added { Changes S.Store tables.old tables.new result
-        (HasNotStarted name.entry job.now) (with_start name.entry job.now) }
+        (HasNotStarted name.entry job.now) (with_begun name.entry job.now) }
     ensures characters { OnOk result (HoldsCharacters job.now.machine.works.storage) }
 {
     let parts = job.parts();
@@ -312,11 +344,11 @@ fn insert_start<S: Alter, C: Core>(
 }
 
 /// Inserts a job that was handed in.
-pub fn save_new<S: Alter, C: Core>(
+pub fn save_new<S: Alter>(
     tables: &mut OpenTables<'_, '_, S>,
     name: JobName<'_>,
     contents: &Contents,
-    job: &Job<C>,
+    job: &Job<PlaneCore>,
 ) -> Result<(), Fault>
     ensures step { IsStep S.Store tables.old tables.new result }
     ensures saved { (new : KnownJob) → IsTakenAs contents.now job.now new
@@ -329,5 +361,5 @@ pub fn save_new<S: Alter, C: Core>(
     let machine = job.parts().machine;
     let deck = &machine.units.hopper.deck;
     insert_handed(tables, name, contents, deck)?;
-    insert_start(tables, name, job)
+    insert_begun(tables, name, job)
 }

@@ -14,16 +14,20 @@ use Rattle.units.specs.declared.printer.Line.{Line}
 use Rattle.units.specs.declared.carriage.Motion.{Motion}
 use Rattle.units.specs.declared.carriage.Motion.TheVariants.{Space, DoubleSpace, TripleSpace, SkipToChannel1}
 use Rattle.machine.specs.Run.{State}
-use Rattle.ledger_tables.specs.Cells.{PictureCells, LineCells}
+use Rattle.ledger_tables.specs.Cells.{LineCells}
+use Rattle.ledger_tables.specs.declared.rows.StateRow.{StateRow}
 
 -- the bytes of a deck, 80 for each card, each the number of a column's character
 abbrev pub deck_bytes : List Card → List ℕ
 deck_bytes = flat_map (λ card. card.0)
 
--- the bytes of storage, one for each position: its character's number, and 64 more if it has a word
--- mark
+-- the byte of a position: its character's number, and 64 more if it has a word mark
+abbrev pub byte_of : ℕ × Bool → ℕ
+byte_of cell = if cell.1 then 64 + cell.0 else cell.0
+
+-- the bytes of storage, one for each position
 abbrev pub storage_bytes : Storage → List ℕ
-storage_bytes = map (λ cell. if cell.1 then 64 + cell.0 else cell.0)
+storage_bytes = map byte_of
 
 -- the number of a flag: 1 if it is set, else 0
 abbrev pub truth : Bool → ℕ
@@ -64,10 +68,9 @@ standing_number (Checked check) = check_number check
 abbrev pub line_cells : Line → LineCells
 line_cells l = record { form = l.form; line = l.line; image = l.codes }
 
--- the columns of a machine's picture row, which counts all cards and lines that were made
-abbrev pub picture_cells : State → PictureCells
-picture_cells m = record {
-  storage = storage_bytes m.works.storage;
+-- the columns of a machine's state row, which counts all cards and lines that were made
+abbrev pub state_row : State → StateRow
+state_row m = record {
   i = m.works.registers.i;
   a = m.works.registers.a;
   b = m.works.registers.b;

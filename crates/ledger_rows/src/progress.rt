@@ -1,10 +1,10 @@
-//! The progress of a machine, from four columns of its picture.
+//! The progress of a machine, from four columns of its state.
 
 ghost use Rattle.std.specs.Prelude.{◌≡◌, ◌≤◌, Some, ◌↔◌, IfSome, IsTrue};
 ghost use Rattle.units.specs.Units.{most_cards, most_lines};
 ghost use Rattle.machine.specs.Ranges.{IsInRange};
 ghost use Rattle.machine.specs.Run.{State};
-ghost use Rattle.ledger_rows.specs.Columns.{picture_cells};
+ghost use Rattle.ledger_rows.specs.Columns.{state_row};
 ghost use Rattle.ledger_rows.specs.Progress.{progress_cells, progress_of, IsReached};
 ghost use Rattle.ledger_tables.specs.Listed.{progress_row};
 
@@ -40,7 +40,7 @@ pub fn read_progress(row: &ProgressRow) -> Option<Progress>
         → result ≡ Some it }
     ensures only { IfSome result (λ it. (progress_cells it ≡ row.now) × IsReached it) }
     ensures picture { (m : State) → IsInRange m
-        → row.now ≡ progress_row (picture_cells m) → result ≡ Some (progress_of m) }
+        → row.now ≡ progress_row (state_row m) → result ≡ Some (progress_of m) }
 {
     let Ok(i) = u16::try_from(row.i) else {
         return None;

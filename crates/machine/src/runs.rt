@@ -279,6 +279,8 @@ pub fn stays_in_range()
 /// The law of what was made: a run keeps the deck, the switches and the counts of what was made
 /// before, and the cards and lines from before it are the first of those after it.
 pub fn runs_only_add()
+    ensures size { (m : State) (count : ℕ) →
+        length (after m count).works.storage ≡ length m.works.storage }
     ensures deck { (m : State) (count : ℕ) →
         (after m count).works.units.hopper.deck ≡ m.works.units.hopper.deck }
     ensures before { (m : State) (count : ℕ) →

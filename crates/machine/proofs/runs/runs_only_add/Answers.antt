@@ -5,6 +5,7 @@ use Rattle.machine.proofs.runs.runs_only_add.Goals as goal
 
 pub returns : goal.returns
 returns c = record {
+  size = λ m count. (stems_after m m count (stems_same m)).size;
   deck = λ m count. (stems_after m m count (stems_same m)).deck;
   before = λ m count. (stems_after m m count (stems_same m)).before;
   switches = λ m count. (stems_after m m count (stems_same m)).switches;
