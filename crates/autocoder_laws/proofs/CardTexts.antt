@@ -4,7 +4,7 @@ use Rattle.bcd.specs.Table.{glyph_of}
 use Rattle.addresses.specs.Digits.{code_of}
 use Rattle.cards.specs.declared.decks.Card.{Card}
 use Rattle.core_store.specs.declared.sizes.Size.{Size}
-use Rattle.core_store.specs.declared.sizes.Size.TheVariants.{Positions1400, Positions2000, Positions4000}
+use Rattle.core_store.specs.declared.sizes.Size.TheVariants.{Positions1400, Positions2000, Positions4000, Positions8000, Positions12000, Positions16000}
 use Rattle.autocoder_statements.specs.Characters.{begins, is_ended}
 use Rattle.autocoder_statements.specs.Constants.{constant}
 use Rattle.autocoder_statements.specs.Expressions.{positive, expression}
@@ -56,6 +56,9 @@ unfolding size begins glyph_of code_of
 size_read Positions1400 text rest h = rw h refl
 size_read Positions2000 text rest h = rw h refl
 size_read Positions4000 text rest h = rw h refl
+size_read Positions8000 text rest h = rw h refl
+size_read Positions12000 text rest h = rw h refl
+size_read Positions16000 text rest h = rw h refl
 
 pub size_law : (s : Size) (text rest : List ℕ) → IsSize s text → IsEnd rest → whole (text ++ rest) (size (text ++ rest)) ≡ Some s
 size_law s text rest h end = ap (whole (text ++ rest)) (size_read s text rest h) ∙ whole_read s text rest end
@@ -72,6 +75,31 @@ second = (Positions2000, 1)
 abbrev third : Found
 third = (Positions4000, 1)
 
+abbrev fourth : Found
+fourth = (Positions8000, 1)
+
+abbrev fifth : Found
+fifth = (Positions12000, 1)
+
+abbrev sixth : Found
+sixth = (Positions16000, 1)
+
+-- what is read where the text begins with no earlier digit
+abbrev from_sixth : List ℕ → Option Found
+from_sixth text = if begins (codes "6") text then Some sixth else None
+
+abbrev from_fifth : List ℕ → Option Found
+from_fifth text = if begins (codes "5") text then Some fifth else from_sixth text
+
+abbrev from_fourth : List ℕ → Option Found
+from_fourth text = if begins (codes "4") text then Some fourth else from_fifth text
+
+abbrev from_third : List ℕ → Option Found
+from_third text = if begins (codes "3") text then Some third else from_fourth text
+
+abbrev from_second : List ℕ → Option Found
+from_second text = if begins (codes "2") text then Some second else from_third text
+
 size_spelled : (text : List ℕ) (s : Size) (n : ℕ) → size text ≡ Some (s, n) → Front (IsSize s) text n
 unfolding size code_of glyph_of
 size_spelled text s n e = by_first (begins (codes "1") text) refl e
@@ -82,16 +110,27 @@ size_spelled text s n e = by_first (begins (codes "1") text) refl e
     own : (found : Found) → Some found ≡ Some (s, n) → Front (IsSize found.0) text found.1 → Front (IsSize s) text n
     own found h f = subst (λ (p : Found). Front (IsSize p.0) text p.1) (same found (s, n) h) f
 
-    by_third : (test : Bool) → begins (codes "3") text ≡ test → (if test then Some third else None) ≡ Some (s, n) → Front (IsSize s) text n
-    by_third true t h = own third h (begins_typed (codes "3") text refl t)
-    by_third false t h = absurd (cc)
+    by_sixth : (test : Bool) → begins (codes "6") text ≡ test → (if test then Some sixth else None) ≡ Some (s, n) → Front (IsSize s) text n
+    by_sixth true t h = own sixth h (begins_typed (codes "6") text refl t)
+    by_sixth false t h = absurd (cc)
 
-    by_second : (test : Bool) → begins (codes "2") text ≡ test → (if test then Some second else (if begins (codes "3") text then Some third else None)) ≡ Some (s, n) → Front (IsSize s) text n
+    by_fifth : (test : Bool) → begins (codes "5") text ≡ test → (if test then Some fifth else from_sixth text) ≡ Some (s, n) → Front (IsSize s) text n
+    by_fifth true t h = own fifth h (begins_typed (codes "5") text refl t)
+    by_fifth false t h = by_sixth (begins (codes "6") text) refl h
+
+    by_fourth : (test : Bool) → begins (codes "4") text ≡ test → (if test then Some fourth else from_fifth text) ≡ Some (s, n) → Front (IsSize s) text n
+    by_fourth true t h = own fourth h (begins_typed (codes "4") text refl t)
+    by_fourth false t h = by_fifth (begins (codes "5") text) refl h
+
+    by_third : (test : Bool) → begins (codes "3") text ≡ test → (if test then Some third else from_fourth text) ≡ Some (s, n) → Front (IsSize s) text n
+    by_third true t h = own third h (begins_typed (codes "3") text refl t)
+    by_third false t h = by_fourth (begins (codes "4") text) refl h
+
+    by_second : (test : Bool) → begins (codes "2") text ≡ test → (if test then Some second else from_third text) ≡ Some (s, n) → Front (IsSize s) text n
     by_second true t h = own second h (begins_typed (codes "2") text refl t)
     by_second false t h = by_third (begins (codes "3") text) refl h
 
-    by_first : (test : Bool) → begins (codes "1") text ≡ test →
-        (if test then Some first else (if begins (codes "2") text then Some second else (if begins (codes "3") text then Some third else None))) ≡ Some (s, n) → Front (IsSize s) text n
+    by_first : (test : Bool) → begins (codes "1") text ≡ test → (if test then Some first else from_second text) ≡ Some (s, n) → Front (IsSize s) text n
     by_first true t h = own first h (begins_typed (codes "1") text refl t)
     by_first false t h = by_second (begins (codes "2") text) refl h
 

@@ -3,7 +3,7 @@ use Rattle.std.specs.Prelude.{ℕ, ◌≡◌, ◌≢◌, ◌<◌, ◌⊎◌, Boo
 use Rattle.std.specs.List.{list_all}
 use Rattle.cards.specs.declared.decks.Card.{Card}
 use Rattle.core_store.specs.declared.sizes.Size.{Size}
-use Rattle.core_store.specs.declared.sizes.Size.TheVariants.{Positions1400, Positions2000, Positions4000}
+use Rattle.core_store.specs.declared.sizes.Size.TheVariants.{Positions1400, Positions2000, Positions4000, Positions8000, Positions12000, Positions16000}
 use Rattle.autocoder_statements.specs.Characters.{with_blanks}
 use Rattle.autocoder_statements.specs.Mnemonics.{orders, mnemonics, mnemonic_of, instruction_with, IsAmong}
 use Rattle.autocoder_statements.specs.Statements.{columns, operation_columns, operation_field, word}
@@ -71,6 +71,9 @@ abbrev pub IsSize : Size → List ℕ → Type 0
 IsSize Positions1400 text = IsTyped (codes "1") text
 IsSize Positions2000 text = IsTyped (codes "2") text
 IsSize Positions4000 text = IsTyped (codes "3") text
+IsSize Positions8000 text = IsTyped (codes "4") text
+IsSize Positions12000 text = IsTyped (codes "5") text
+IsSize Positions16000 text = IsTyped (codes "6") text
 
 -- where a program starts: nothing, or an expression
 abbrev pub IsStart : Option Expression → List ℕ → Type 0

@@ -3,7 +3,7 @@ use Rattle.std.specs.Prelude.{ℕ, ◌+◌, ◌-◌, ◌==◌, Bool, true, false
 use Rattle.std.specs.List.{list_all}
 use Rattle.cards.specs.declared.decks.Card.{Card}
 use Rattle.core_store.specs.declared.sizes.Size.{Size}
-use Rattle.core_store.specs.declared.sizes.Size.TheVariants.{Positions1400, Positions2000, Positions4000}
+use Rattle.core_store.specs.declared.sizes.Size.TheVariants.{Positions1400, Positions2000, Positions4000, Positions8000, Positions12000, Positions16000}
 use Rattle.autocoder_statements.specs.Characters.{run, begins, is_blank, is_ended, with_blanks}
 use Rattle.autocoder_statements.specs.Names.{name_of}
 use Rattle.autocoder_statements.specs.Expressions.{positive, expression}
@@ -104,13 +104,16 @@ unfoldable pub whole : {A : Type 0} → List ℕ → Option (A × ℕ) → Optio
 whole field None = None
 whole field (Some found) = if is_ended (drop found.1 field) then Some found.0 else None
 
--- the size of storage by its digit in a CTL card: 1, 2 or 3
+-- the size of storage by its digit in a CTL card: 1 to 6
 unfoldable pub size : List ℕ → Option (Size × ℕ)
 size text =
     if begins (codes "1") text then Some (Positions1400, 1)
     else (if begins (codes "2") text then Some (Positions2000, 1)
     else (if begins (codes "3") text then Some (Positions4000, 1)
-    else None))
+    else (if begins (codes "4") text then Some (Positions8000, 1)
+    else (if begins (codes "5") text then Some (Positions12000, 1)
+    else (if begins (codes "6") text then Some (Positions16000, 1)
+    else None)))))
 
 -- where the program starts by the operand field of END: an expression, or nothing given if it is
 -- blank

@@ -149,6 +149,15 @@ fn read_size(text: &[Code]) -> Option<(Size, usize)>
     if begins(text, b"3") {
         return Some((Size::Positions4000, 1));
     }
+    if begins(text, b"4") {
+        return Some((Size::Positions8000, 1));
+    }
+    if begins(text, b"5") {
+        return Some((Size::Positions12000, 1));
+    }
+    if begins(text, b"6") {
+        return Some((Size::Positions16000, 1));
+    }
     None
 }
 

@@ -79,6 +79,8 @@ fn ends_and_sizes_of_sources(rt: HostRuntime) -> Result<(), Fail> {
     assert_eq!(rt; unended.as_str(), "4 cards, false, 2000 positions");
     let one = extent(alloc, "|ORG|500|")?;
     assert_eq!(rt; one.as_str(), "1 cards, false, 4000 positions");
+    let largest = extent(alloc, "|CTL|6|")?;
+    assert_eq!(rt; largest.as_str(), "1 cards, false, 16000 positions");
     let given = sizes(alloc, "|ORG|500|\n|CTL|2|\n|CTL|1|\n|END||\n|CTL|3|\n")?;
     assert_eq!(rt; given.as_str(), "0 2000 42 0 ");
     Ok(())

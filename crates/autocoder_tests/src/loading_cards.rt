@@ -124,6 +124,21 @@ DE                                     L002406)405405,406406N0000001040
                                        /400080
 ";
 
+/// A program that begins at 8000 of 16000 positions.
+const HIGH_SOURCE: &str = "\
+|CTL|6|
+|ORG|8000|
+|H||
+|END||
+";
+
+/// Its cards. The addresses have zone bits in the units.
+const HIGH: &str = "\
+,008015,022029,036040,047054,061068,072)008015)022029)036036N0000001040
+.                                      L00200J,00J00JN000000N0000001040
+                                       /00!080
+";
+
 #[test]
 fn cards_that_load_a_program(rt: HostRuntime) -> Result<(), Fail> {
     for (source, cards) in [
@@ -133,6 +148,7 @@ fn cards_that_load_a_program(rt: HostRuntime) -> Result<(), Fail> {
         (UNMARKED_SOURCE, UNMARKED),
         (FORTY_SOURCE, FORTY),
         (GAP_SOURCE, GAP),
+        (HIGH_SOURCE, HIGH),
     ] {
         assert_eq!(rt; loading(rt.alloc(), source)?.as_str(), cards);
     }

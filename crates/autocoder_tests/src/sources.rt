@@ -93,6 +93,73 @@ DONE|H||
 = from 333 by 4: 333 'BI99'BIZ9'.' |
 ";
 
+/// The last addresses of each larger storage and the first beyond it, and instructions whose blank
+/// has the last position, or would have the next one.
+const LARGE_STORAGES: &str = "\
+|CTL|6|
+|ORG|8000|
+|H||
+|END||
+= from 8000 by 4: 8000 '.' |
+|CTL|6|
+|ORG|15998|
+|H||
+|END||
+= from 15998 by 4: 15998 '.' |
+|CTL|6|
+|ORG|15999|
+|H||
+|END||
+= faults 3:46|
+|CTL|6|
+|ORG|15999|
+|DCW|5|
+|B|15999|
+|END|90|
+= faults 4:46|
+|CTL|6|
+|B|15999|
+|B|8000|
+|DCW|5|
+|END||
+= from 333 by 5: 333 'BI9I'B00!'5|
+|CTL|6|
+|B|16000|
+|B|15999&X1|
+|END||
+= faults 2:46|
+|CTL|5|
+|B|11999|
+|B|12000|
+|END||
+= faults 3:46|
+|CTL|5|
+|ORG|11998|
+|H||
+|END||
+= from 11998 by 4: 11998 '.' |
+|CTL|5|
+|ORG|11999|
+|H||
+|END||
+= faults 3:46|
+|CTL|4|
+|B|7999|
+|B|8000|
+|END||
+= faults 3:46|
+|CTL|4|
+|ORG|7998|
+|H||
+|END||
+= from 7998 by 4: 7998 '.' |
+|CTL|4|
+|ORG|7999|
+|H||
+|END||
+= faults 3:46|
+";
+
 /// Faults of single cards, including those that give the size or end the source.
 const FAULTS_BY_CARD: &str = "\
 |XYZ||
@@ -107,12 +174,17 @@ const FAULTS_BY_CARD: &str = "\
 = faults 0:49|
 |XYZ||
 = faults 1:41|
-|CTL|4|
+|CTL|7|
 |CTL|1|
 |CTL X|1|
 |B|3999|
 |END||
 = faults 1:42 2:42 3:40|
+|CTL|6|
+|CTL|1|
+|B|15999|
+|END||
+= faults 2:42|
 |CTL X|1|
 |CTL|1|
 |B|3999|
@@ -407,6 +479,7 @@ A|H||
 fn what_sources_are_assembled_to(rt: HostRuntime) -> Result<(), Fail> {
     for sheets in [
         PROGRAMS,
+        LARGE_STORAGES,
         FAULTS_BY_CARD,
         ENDS_AT_FAULT,
         LITERALS,
@@ -477,11 +550,27 @@ const LISTING_OF_EACH_KIND: &str = "   1                      CTL  2
 LIT  00514 B
 ";
 
+/// An instruction past 8000 positions.
+const FAR_UP: &str = "\
+|CTL|6|
+|ORG|15998|
+|H||
+|END||
+";
+
+/// Its listing.
+const LISTING_FAR_UP: &str = "   1                      CTL  6
+   2                      ORG  15998
+   3 15998                H
+   4                      END
+";
+
 #[test]
 fn listings(rt: HostRuntime) -> Result<(), Fail> {
     for (sheet, wanted) in [
         (EQUAL_LITERALS, LISTING_OF_EQUAL_LITERALS),
         (CARDS_OF_EACH_KIND, LISTING_OF_EACH_KIND),
+        (FAR_UP, LISTING_FAR_UP),
     ] {
         assert_eq!(rt; listed(rt.alloc(), sheet)?.as_str(), wanted);
     }

@@ -166,8 +166,13 @@ const LAST_CHARACTERS_AND_SINGLE_FORMS: &str = "\
 /// Orders to the assembler.
 const ORDERS_TO_THE_ASSEMBLER: &str = "\
 0||CTL|1|
-42||CTL|4|
+0||CTL|4|
+0||CTL|5|
+0||CTL|6|
+42||CTL|0|
+42||CTL|7|
 42||CTL|22|
+42||CTL|66|
 42||CTL||
 0||ORG|A&5|
 42||ORG|500&X1|
@@ -265,7 +270,7 @@ const TWO_FAULTS_AT_ONCE: &str = "\
 40||DS X|0|
 40|1 A|DS|0|
 41|1A|XYZ|A|
-42|1A|CTL|4|
+42|1A|CTL|7|
 42|1A|ORG|@A@|
 42||EQU|@A@|
 42|1A|EQU|@A@|
@@ -523,6 +528,10 @@ end||END||
 size 1400||CTL|1|
 size 2000||CTL|2|
 size 4000||CTL|3|
+size 8000||CTL|4|
+size 12000||CTL|5|
+size 16000||CTL|6|
+size 16000||CTL|6  @|
 10 positions||DS|10|
 comment|* A B|XYZ|@|
 ";

@@ -1,18 +1,50 @@
--- From round to round.
-use Rattle.std.proofs.Common.{◌≡◌, List, [], ◌∷◌, ◌++◌, take, refl, sym, subst}
+-- From link to link.
+use Rattle.std.proofs.Common.{◌≡◌, ◌⊎◌, inl, inr, ℕ, List, [], ◌∷◌, ◌++◌, take, Ok, refl, sym, subst}
 use Rattle.std.proofs.Math.Logic.{∥∥₁_elim, ∥∥₁_map}
-use Rattle.sqlite.specs.Effect.{Database}
+use Rattle.sqlite.specs.Effect.{Database, IsDatabase}
 use Rattle.sqlite.specs.Files.{HoldsDatabase}
 use Rattle.sqlite.specs.Recovery.{Image}
 use Rattle.sqlite.specs.Tree.{Trees}
 use Rattle.office.specs.Office.{Office, fold}
 use Rattle.office.specs.declared.commands.Command.{Command}
-use Rattle.ledger_tables.specs.Schema.{bureau_schema}
+use Rattle.ledger_tables.specs.Schema.{bureau_schema, own_version}
+use Rattle.ledger.specs.Older.{LeftOf, RowsOf, schema_of}
 use Rattle.ledger.specs.Standing.{Rows, LeftAs}
-use Rattle.ledger_files.specs.Opening.{AreOf}
+use Rattle.ledger_files.specs.Migrating.{AreOfVersion}
+use Rattle.ledger_files.specs.Opening.{AreOf, IsAnswerFor}
+use Rattle.ledger.proofs.BureauVersions.{own_rows, rows_version, same_version}
 use Rattle.ledger.proofs.WorkLemmas.{fold_both}
 use Rattle.ledger.specs.WholeRows.{HaveWholeRows}
-use Rattle.bureau_laws.specs.Rounds.{AreWholeOf, Round, AreRounds, files_after, AreKept, AreLeftWhole}
+use Rattle.bureau_laws.specs.Rounds.{AreWholeOf, Round, Link, worked, migrated, rounds_of, AreLinks, files_after, AreKept, AreLeftWhole, AreStillOf}
+
+-- ---- versions of files
+
+rows_sound : (version : ℕ) (db : Database) (o : Office) → RowsOf version db o → IsDatabase db
+rows_sound version db o (inl (is, rows)) = rows.tables.sound
+rows_sound version db o (inr (inl (is, rows))) = rows.tables.sound
+rows_sound version db o (inr (inr (is, rows))) = rows.tables.sound
+
+left_of_own : (db : Trees) (o : Office) → LeftAs db o → LeftOf own_version db o
+left_of_own db o left = inr (inr (refl, left))
+
+left_as_own : (version : ℕ) (db : Trees) (o : Office) → own_version ≡ version → LeftOf version db o → LeftAs db o
+left_as_own version db o own left = own_rows _ o (subst (λ n. LeftOf n db o) (sym own) left)
+
+pub of_own : (files : Image) (o : Office) → AreOf files o → AreOfVersion own_version files o
+of_own files o are = ∥∥₁_map are (λ it. let r : (db : Trees) × HoldsDatabase files db × LeftOf own_version db o = (it.0, it.1, left_of_own it.0 o it.2) in r)
+
+own_of : (files : Image) (o : Office) → AreOfVersion own_version files o → AreOf files o
+own_of files o are = ∥∥₁_map are (λ it. let r : (db : Trees) × HoldsDatabase files db × LeftAs db o = (it.0, it.1, left_as_own own_version it.0 o refl it.2) in r)
+
+-- files of an office that were found to be of this program's version represent it in that version
+pub found_own : (files : Image) → IsAnswerFor files (Ok tt) → (version : ℕ) (o : Office) → AreOfVersion version files o → AreOf files o
+found_own files found version o are = ∥∥₁_map are (λ it.
+    let db : Database = record { schema = schema_of version; trees = it.0 } in
+    let of = rows_version version db o it.2 in
+    let own = (found db it.1 (rows_sound version db o it.2)).1 of.0 in
+    let r : (t : Trees) × HoldsDatabase files t × LeftAs t o = (it.0, it.1, left_as_own version it.0 o (same_version db own_version version own of.1) it.2) in r)
+
+-- ---- links
 
 module _ (law : (db : Database) (o : Office) → Rows db o → HaveWholeRows db o) where
   are_whole : (files : Image) (o : Office) → AreOf files o → AreWholeOf files o
@@ -20,16 +52,29 @@ module _ (law : (db : Database) (o : Office) → Rows db o → HaveWholeRows db 
       let r : (db : Trees) × HoldsDatabase files db × LeftAs db o × HaveWholeRows (record { schema = bureau_schema; trees = db }) o =
       (it.0, it.1, it.2, law _ o it.2) in r)
 
-  pub rounds_lead : (first : Image) (rounds : List Round) → AreRounds first rounds → (o : Office) → AreOf first o → AreLeftWhole first rounds o
+  pub links_lead : (first : Image) (links : List Link) → AreLinks first links → (o : Office) → AreOf first o → AreLeftWhole first links o
   unfolding fold
-  rounds_lead first [] all o are = ∣ ([], refl, are_whole first o are) ∣₁
-  rounds_lead first (round ∷ rounds) all o are =
-      ∥∥₁_elim (all.1 o are) squash₁ (λ here.
+  links_lead first [] all o are = ∣ ([], refl, are_whole first o are) ∣₁
+  links_lead first (worked round ∷ links) all o are =
+      ∥∥₁_elim (all.2 o are) squash₁ (λ here.
       let taken = here.1.1.0 in
       let left = here.1.0 in
       let is : left ≡ (fold (take taken round.given) o).0 = here.1.1.3 in
       let same : AreOf round.files (fold (take taken round.given) o).0 = subst (AreOf round.files) is here.1.2 in
-      ∥∥₁_map (rounds_lead round.files rounds all.2 (fold (take taken round.given) o).0 same) (λ rest.
+      ∥∥₁_map (links_lead round.files links all.3 (fold (take taken round.given) o).0 same) (λ rest.
       let commands = take taken round.given ++ rest.0 in
-      let r : (done : List Command) × AreKept o (round ∷ rounds) done × AreWholeOf (files_after round.files rounds) (fold done o).0 =
-      (commands, (taken, rest.0, here.1.1.1, here.1.1.2, here.0, refl, all.0, rest.1), subst (AreWholeOf (files_after round.files rounds)) (sym (fold_both (take taken round.given) rest.0 o)) rest.2) in r))
+      let r : (done : List Command) × AreKept o (round ∷ rounds_of links) done × AreWholeOf (files_after round.files links) (fold done o).0 =
+      (commands, (taken, rest.0, here.1.1.1, here.1.1.2, here.0, refl, all.1, rest.1), subst (AreWholeOf (files_after round.files links)) (sym (fold_both (take taken round.given) rest.0 o)) rest.2) in r))
+  links_lead first (migrated files ∷ links) all o are =
+      ∥∥₁_elim (all.0 own_version o (of_own first o are)) squash₁ (λ here.
+      links_lead files links all.1 o (elim here [ inl same ↦ own_of files o same | inr own ↦ own ]))
+
+  pub links_raise : (first : Image) (links : List Link) → AreLinks first links → (version : ℕ) (o : Office) → AreOfVersion version first o
+      → ∥ (AreLeftWhole first links o ⊎ AreStillOf version first links o) ∥₁
+  links_raise first [] all version o are = ∣ inr (refl, are) ∣₁
+  links_raise first (worked round ∷ links) all version o are = ∣ inl (links_lead first (worked round ∷ links) all o (found_own first all.0 version o are)) ∣₁
+  links_raise first (migrated files ∷ links) all version o are =
+      ∥∥₁_elim (all.0 version o are) squash₁ (λ here. elim here [
+        | inl same ↦ links_raise files links all.1 version o same
+        | inr own ↦ ∣ inl (links_lead files links all.1 o own) ∣₁
+      ])

@@ -1,5 +1,5 @@
--- rounds of work on a bureau's files, and what is left after any number of them
-use Rattle.std.specs.Prelude.{◌≡◌, ◌≤◌, ◌+◌, ℕ, List, [], ◌∷◌, ◌++◌, length, take as beginning_of, ⊤}
+-- rounds of work on a bureau's files and migrations of them, and what is left after any number
+use Rattle.std.specs.Prelude.{◌≡◌, ◌≤◌, ◌+◌, ℕ, List, [], ◌∷◌, ◌++◌, length, take as beginning_of, Ok, ⊤}
 use Rattle.sqlite.specs.Files.{HoldsDatabase}
 use Rattle.sqlite.specs.Recovery.{Image}
 use Rattle.sqlite.specs.Tree.{Trees}
@@ -9,6 +9,8 @@ use Rattle.office.specs.declared.replies.Reply.{Reply}
 use Rattle.ledger_tables.specs.Schema.{bureau_schema}
 use Rattle.ledger.specs.Standing.{LeftAs}
 use Rattle.ledger.specs.WholeRows.{HaveWholeRows}
+use Rattle.ledger_files.specs.Migrating.{AreOfVersion, MigratesTo}
+use Rattle.ledger_files.specs.Opening.{IsAnswerFor}
 use Rattle.ledger_files.specs.Rounds.{LeadsBy}
 
 -- the two files hold a bureau's database of this office, and the rows of its jobs at a halt are
@@ -24,19 +26,34 @@ pub record Round : Type 0 where
   pub replies : List Reply
   pub files : Image
 
--- from each round's files to the next: if the files before a round represent an office, the round's
--- replies are that office's to its commands, to all or to all but the last, and the round's files
--- represent the office after a beginning of its commands that holds every one that was replied to
-abbrev pub AreRounds : Image → List Round → Type 0
-AreRounds first [] = ⊤
-AreRounds first (round ∷ rounds) =
-    (length round.given ≤ length round.replies + 1)
-    × LeadsBy round.given round.replies first round.files × AreRounds round.files rounds
+-- what was done with a bureau's files: a round of work, or a migration, which left these files
+pub data Link : Type 0 where
+  worked : Round → Link
+  migrated : Image → Link
 
--- the files after the last round, or the first files if there is no round
-abbrev pub files_after : Image → List Round → Image
+-- the rounds of work among the links
+abbrev pub rounds_of : List Link → List Round
+rounds_of [] = []
+rounds_of (worked round ∷ links) = round ∷ rounds_of links
+rounds_of (migrated files ∷ links) = rounds_of links
+
+-- from each link's files to the next. Before a round of work the files were found to be of this
+-- program's version; if they represent an office, the round's replies are that office's to its
+-- commands, to all or to all but the last, and the round's files represent the office after a
+-- beginning of its commands that holds every one that was replied to. After a migration the files
+-- are of the same office, in the version that they had or in this program's
+abbrev pub AreLinks : Image → List Link → Type 0
+AreLinks first [] = ⊤
+AreLinks first (worked round ∷ links) =
+    IsAnswerFor first (Ok tt) × (length round.given ≤ length round.replies + 1)
+    × LeadsBy round.given round.replies first round.files × AreLinks round.files links
+AreLinks first (migrated files ∷ links) = MigratesTo first files × AreLinks files links
+
+-- the files after the last link, or the first files if there is no link
+abbrev pub files_after : Image → List Link → Image
 files_after first [] = first
-files_after first (round ∷ rounds) = files_after round.files rounds
+files_after first (worked round ∷ links) = files_after round.files links
+files_after first (migrated files ∷ links) = files_after files links
 
 -- from this office on, the commands are made of a beginning of each round's commands, one after the
 -- other, that holds every one that was replied to, and each round's replies are those of the office
@@ -54,7 +71,12 @@ AreKept office (round ∷ rounds) commands =
 -- the last files represent the office after a beginning of each round's commands, which holds every
 -- one that was replied to, with the replies that the office gave; and the rows of its jobs at a
 -- halt are whole
-abbrev pub AreLeftWhole : Image → List Round → Office → Type 0
-AreLeftWhole first rounds office =
-    ∥ ((commands : List Command) × AreKept office rounds commands
-    × AreWholeOf (files_after first rounds) (fold commands office).0) ∥₁
+abbrev pub AreLeftWhole : Image → List Link → Office → Type 0
+AreLeftWhole first links office =
+    ∥ ((commands : List Command) × AreKept office (rounds_of links) commands
+    × AreWholeOf (files_after first links) (fold commands office).0) ∥₁
+
+-- no work was done, and the last files still represent the office, in this version
+abbrev pub AreStillOf : ℕ → Image → List Link → Office → Type 0
+AreStillOf version first links office =
+    (rounds_of links ≡ []) × AreOfVersion version (files_after first links) office

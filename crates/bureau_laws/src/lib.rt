@@ -10,8 +10,9 @@
 //!   Each job at a halt there has in its rows the cards and lines of one uninterrupted run over its
 //!   whole deck, in order, none lost and none repeated. `ledger_files` proves that a file that is
 //!   opened, any work with it and a stop make such a round; the program's scripts, requests and
-//!   exports are such work. [`chains_lead_on`] says that the commands which are left are those
-//!   kept of the rounds.
+//!   exports are such work. The file may be migrated before and between the rounds, and everything
+//!   may stop there too. [`chains_lead_on`] says that the commands which are left are those kept of
+//!   the rounds.
 //! - **Customers are apart** ([`customers_are_apart`]): the replies to a customer's commands do not
 //!   depend on any other customer; nor do they over any number of rounds
 //!   ([`customers_are_apart_in_rounds`]).

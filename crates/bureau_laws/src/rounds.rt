@@ -1,11 +1,12 @@
-//! What is left after any number of rounds.
+//! What is left after any number of rounds of work and of migrations.
 
-ghost use Rattle.std.specs.Prelude.{◌≡◌, List};
+ghost use Rattle.std.specs.Prelude.{◌≡◌, ◌⊎◌, ℕ, List};
 ghost use Rattle.sqlite.specs.Recovery.{Image};
 ghost use Rattle.office.specs.Office.{Office, fold};
 ghost use Rattle.office.specs.declared.commands.Command.{Command};
+ghost use Rattle.ledger_files.specs.Migrating.{AreOfVersion};
 ghost use Rattle.ledger_files.specs.Opening.{AreOf};
-ghost use Rattle.bureau_laws.specs.Rounds.{Round, AreRounds, AreKept, AreLeftWhole};
+ghost use Rattle.bureau_laws.specs.Rounds.{Link, Round, AreLinks, AreKept, AreLeftWhole, AreStillOf};
 ghost use Rattle.bureau_laws.specs.KeptRounds.{kept_rounds, kept_in, left_by};
 
 use ledger::kept_offices_run_whole;
@@ -15,9 +16,16 @@ use ledger::kept_offices_run_whole;
 /// round, which contain every one that was replied to; the replies of each round are that office's;
 /// and each job at a halt there has the cards and lines of one uninterrupted run. In `ledger_files`
 /// `open_and_work` begins such a round, with any work, and `stop` or `finish` ends it.
+///
+/// Between the rounds the files may be migrated, as often as one likes: `migrate_from` begins a
+/// migration, and `leave` or `close_connection` ends it. Where the first files are of an earlier
+/// version, no work is done before a migration has ended.
 pub fn stops_lose_nothing()
-    ensures { (first : Image) → (rounds : List Round) → AreRounds first rounds
-        → (office : Office) → AreOf first office → AreLeftWhole first rounds office }
+    ensures whole { (first : Image) → (links : List Link) → AreLinks first links
+        → (office : Office) → AreOf first office → AreLeftWhole first links office }
+    ensures older { (first : Image) → (links : List Link) → AreLinks first links
+        → (version : ℕ) → (office : Office) → AreOfVersion version first office
+        → ∥ (AreLeftWhole first links office ⊎ AreStillOf version first links office) ∥₁ }
 {
     // A law, for the proof: it does nothing.
     kept_offices_run_whole();

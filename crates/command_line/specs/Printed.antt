@@ -53,7 +53,7 @@ fault_of_deck deck.NoMemory = fault.Memory
 abbrev pub misuse_words : Misuse → List ℕ
 misuse_words (misuse.Words f) = complaint f
 misuse_words misuse.NoText = codes "a word is not UTF-8 text"
-misuse_words misuse.Size = codes "SIZE must be 1400, 2000 or 4000"
+misuse_words misuse.Size = codes "SIZE must be 1400, 2000, 4000, 8000, 12000 or 16000"
 misuse_words misuse.Switches = codes "SWITCHES must be rising letters of ABCDEFG, or - for none"
 misuse_words misuse.Port = codes "PORT must be a number from 1 to 65535"
 misuse_words misuse.Count = codes "COUNT must be a number from 1 to 1000000"

@@ -23,7 +23,7 @@ usage:
   bureau --version                    prints the version, and the toolchain it was built with
 
 DECK, IN  a deck as text: on each line one card, its 80 columns as glyphs; at most 2,000 cards
-SIZE      the machine's positions of storage: 1400, 2000 or 4000
+SIZE      the machine's positions of storage: 1400, 2000, 4000, 8000, 12000 or 16000
 SWITCHES  the sense switches that are on: rising letters of ABCDEFG, as A or BDG, or - for none
 FILE      a bureau's file: it keeps all jobs, what was punched and printed, and how far each ran;
           after a stop, FILE-wal beside it is a part of it
@@ -99,7 +99,7 @@ of the cards of a source:
 refusals of a bureau, which change nothing:
   10      CUSTOMER is no customer           1 to 12 capitals and digits
   11      NUMBER is no number              1 to 9 digits, the first not 0
-  12      the size is none                  1400, 2000 or 4000
+  12      the size is none                  1400, 2000, 4000, 8000, 12000 or 16000
   13      the deck has no card, or more     make two jobs of it
           than 2,000 with its loading cards
   14      the number has another job        give the job another number
@@ -121,7 +121,7 @@ pub const RUN_HELP: &str = "\
 bureau run DECK SIZE SWITCHES: runs the deck in the file DECK.
 
 DECK      a deck as text: on each line one card, its 80 columns as glyphs; at most 2,000 cards
-SIZE      the machine's positions of storage: 1400, 2000 or 4000
+SIZE      the machine's positions of storage: 1400, 2000, 4000, 8000, 12000 or 16000
 SWITCHES  the sense switches that are on: rising letters of ABCDEFG, as A or BDG, or - for none
 
 examples:

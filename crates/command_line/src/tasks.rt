@@ -133,7 +133,9 @@ impl<'a> Display for Misuse<'a> {
         match self {
             Misuse::Words(fault) => write!(formatter, "{fault}"),
             Misuse::NoText => formatter.write_str("a word is not UTF-8 text"),
-            Misuse::Size => formatter.write_str("SIZE must be 1400, 2000 or 4000"),
+            Misuse::Size => formatter.write_str(
+                "SIZE must be 1400, 2000, 4000, 8000, 12000 or 16000",
+            ),
             Misuse::Switches => {
                 formatter.write_str("SWITCHES must be rising letters of ABCDEFG, or - for none")
             }

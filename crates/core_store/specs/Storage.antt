@@ -2,7 +2,7 @@
 use Rattle.std.specs.Prelude.{[], ◌∷◌, ℕ, zero, suc, ◌≡◌, ◌==◌, ◌+◌, ◌-◌, ◌<◌, ◌≤◌, List, Bool, true, false, if◌then◌else◌, Option, Some, None, slice_index_or, slice_set, slice_range, map, replicate, MatchOption}
 use Rattle.std.specs.Option.{option_map}
 use Rattle.core_store.specs.declared.sizes.Size.{Size}
-use Rattle.core_store.specs.declared.sizes.Size.TheVariants.{Positions1400, Positions2000, Positions4000}
+use Rattle.core_store.specs.declared.sizes.Size.TheVariants.{Positions1400, Positions2000, Positions4000, Positions8000, Positions12000, Positions16000}
 
 -- the number of positions that an address can name
 abbrev pub largest_size : ℕ
@@ -21,13 +21,19 @@ abbrev pub positions_of : Size → ℕ
 positions_of Positions1400 = 1400
 positions_of Positions2000 = 2000
 positions_of Positions4000 = 4000
+positions_of Positions8000 = 8000
+positions_of Positions12000 = 12000
+positions_of Positions16000 = 16000
 
--- the size of storage with so many positions: 1400, 2000 or 4000, or none
+-- the size of storage with so many positions, or none
 abbrev pub size_numbered : ℕ → Option Size
 size_numbered size =
     if size == 1400 then Some Positions1400 else
     if size == 2000 then Some Positions2000 else
     if size == 4000 then Some Positions4000 else
+    if size == 8000 then Some Positions8000 else
+    if size == 12000 then Some Positions12000 else
+    if size == 16000 then Some Positions16000 else
     None
 
 -- a blank without a word mark

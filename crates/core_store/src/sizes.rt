@@ -9,6 +9,9 @@ pub enum Size {
     Positions1400,
     Positions2000,
     Positions4000,
+    Positions8000,
+    Positions12000,
+    Positions16000,
 }
 
 impl Size {
@@ -21,6 +24,9 @@ impl Size {
             Size::Positions1400 => 1400,
             Size::Positions2000 => 2000,
             Size::Positions4000 => 4000,
+            Size::Positions8000 => 8000,
+            Size::Positions12000 => 12_000,
+            Size::Positions16000 => 16_000,
         }
     }
 
@@ -34,6 +40,9 @@ impl Size {
             1400 => Some(Size::Positions1400),
             2000 => Some(Size::Positions2000),
             4000 => Some(Size::Positions4000),
+            8000 => Some(Size::Positions8000),
+            12_000 => Some(Size::Positions12000),
+            16_000 => Some(Size::Positions16000),
             _ => None,
         }
     }

@@ -85,6 +85,27 @@ row_none customer number office found told is = go (job_of customer number offic
     go None at = at
     go (Some job) at = absurd (let e : None ≡ Some (job_cells job) = sym is ∙ told ∙ row_told customer number office ∙ ap (option_map job_cells) at in cc)
 
+-- .. and a look-up of a part of it
+module _ {X : Type 0} (part : JobCells → X) where
+  part_told : (customer : List ℕ) (number : ℕ) (office : Office) (found : Option X) (job : Option Job) → found ≡ option_map part (option_map (λ (j : NamedJob). j.cells) (job_named customer number (map named office))) → job_of customer number office ≡ job
+      → found ≡ option_map part (option_map job_cells job)
+  part_told customer number office found job told at = told ∙ ap (option_map part) (row_told customer number office ∙ ap (option_map job_cells) at)
+
+  pub part_found : (customer : List ℕ) (number : ℕ) (office : Office) (found : Option X) (row : X) → found ≡ option_map part (option_map (λ (j : NamedJob). j.cells) (job_named customer number (map named office))) → found ≡ Some row
+      → (job : Job) × (job_of customer number office ≡ Some job) × (row ≡ part (job_cells job))
+  part_found customer number office found row told is = go (job_of customer number office) refl
+    where
+      go : (o : Option Job) → job_of customer number office ≡ o → (job : Job) × (job_of customer number office ≡ Some job) × (row ≡ part (job_cells job))
+      go None at = absurd (let e : Some row ≡ None = sym is ∙ part_told customer number office found None told at in cc)
+      go (Some job) at = (job, at, let e : Some row ≡ Some (part (job_cells job)) = sym is ∙ part_told customer number office found (Some job) told at in cc)
+
+  pub part_none : (customer : List ℕ) (number : ℕ) (office : Office) (found : Option X) → found ≡ option_map part (option_map (λ (j : NamedJob). j.cells) (job_named customer number (map named office))) → found ≡ None → job_of customer number office ≡ None
+  part_none customer number office found told is = go (job_of customer number office) refl
+    where
+      go : (o : Option Job) → job_of customer number office ≡ o → job_of customer number office ≡ None
+      go None at = at
+      go (Some job) at = absurd (let e : None ≡ Some (part (job_cells job)) = sym is ∙ part_told customer number office found (Some job) told at in cc)
+
 pub kept_is : (stretches : List Stretch) (held collected : Bool) (machine : run.State) (job : Job) → stretches ≡ job.stretches → held ≡ job.held → collected ≡ job.collected → machine ≡ without_outputs (picture job)
     → ◌≡◌ {A = Kept} (record { stretches = stretches; held = held; collected = collected; machine = machine }) (kept_alone job)
 kept_is stretches held collected machine job one two three four = rw (one, two, three, four)

@@ -1,7 +1,8 @@
 -- what is read from the tables about a job
-use Rattle.std.specs.Prelude.{◌≡◌, ℕ, List, ◌∷◌, Option, Some, None}
+use Rattle.std.specs.Prelude.{◌≡◌, ◌≤◌, ℕ, List, ◌∷◌, Option, Some, None, IsSome}
+use Rattle.cards.specs.Decks.{deck_bytes, IsDeck}
 use Rattle.cards.specs.declared.decks.Card.{Card}
-use Rattle.core_store.specs.Storage.{positions_of}
+use Rattle.core_store.specs.Storage.{positions_of, size_numbered}
 use Rattle.machine.specs.Earlier.{without_outputs}
 use Rattle.machine.specs.Run.{State, lines_of}
 use Rattle.units.specs.Printed.{Printed}
@@ -17,7 +18,8 @@ use Rattle.office.specs.declared.summaries.Summary.{Summary}
 use Rattle.office.specs.declared.stretches.Stretch.{Stretch}
 use Rattle.ledger_rows.specs.Progress.{progress_of}
 use Rattle.ledger_rows.specs.declared.progress.Progress.{Progress}
-use Rattle.ledger_tables.specs.Cells.{JobCells}
+use Rattle.ledger_tables.specs.Cells.{JobCells, LoadedCells}
+use Rattle.ledger_tables.specs.Listed.{loaded_row}
 use Rattle.ledger.specs.declared.reading.Handed.{Handed}
 use Rattle.ledger.specs.Earlier.{kept_alone}
 use Rattle.ledger.specs.Standing.{job_cells}
@@ -46,6 +48,17 @@ abbrev pub IsHandedAs : Option Handed → Option Job → Type 0
 IsHandedAs None job = job ≡ None
 IsHandedAs (Some handed) job = (it : Job) × (job ≡ Some it) × (handed.row ≡ job_cells it)
     × IsFirst handed.switches it.stretches
+
+-- these are the bytes of a deck
+abbrev pub HoldsDeck : List ℕ → Type 0
+HoldsDeck bytes = (deck : List Card) × (deck_bytes deck ≡ bytes) × IsDeck deck
+
+-- a row that can be a job's: its kind is 0 or 1, its size is a size, and its decks are decks
+pub record CanBeOfJob (row : JobCells) : Type 0 where
+  pub kind : row.kind ≤ 1
+  pub size : IsSome (size_numbered row.size)
+  pub deck : HoldsDeck row.deck
+  pub loaded : HoldsDeck row.loaded
 
 -- ---- what is read about a job, if there is one
 
@@ -81,18 +94,18 @@ HasMachineWith here size media found =
     (job : Job) → here ≡ Some job → size ≡ positions_of job.size
     → IsMediaOf media (without_outputs (picture job)) → found ≡ without_outputs (picture job)
 
--- if there is the job, and these are its row and its machine's switches, this is the state of its
--- machine without the cards and lines
-abbrev pub HasMachine : Option Job → JobCells → Switches → State → Type 0
+-- if there is the job, and these are the columns that its machine needs and the machine's switches,
+-- this is the state of its machine without the cards and lines
+abbrev pub HasMachine : Option Job → LoadedCells → Switches → State → Type 0
 HasMachine here row switches found =
-    (job : Job) → here ≡ Some job → row ≡ job_cells job
+    (job : Job) → here ≡ Some job → row ≡ loaded_row (job_cells job)
     → switches ≡ (picture job).works.units.switches → found ≡ without_outputs (picture job)
 
--- if there is the job, and this is its row, this is the job, its machine without the cards and
--- lines
-abbrev pub HasKept : Option Job → JobCells → Kept → Type 0
+-- if there is the job, and these are the columns that its machine needs, this is the job, its
+-- machine without the cards and lines
+abbrev pub HasKept : Option Job → LoadedCells → Kept → Type 0
 HasKept here row found =
-    (job : Job) → here ≡ Some job → row ≡ job_cells job → found ≡ kept_alone job
+    (job : Job) → here ≡ Some job → row ≡ loaded_row (job_cells job) → found ≡ kept_alone job
 
 -- if there is the job, this is its machine's standing, I register, and counts of cards and lines
 abbrev pub HasProgress : Option Job → Progress → Type 0

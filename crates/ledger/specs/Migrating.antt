@@ -1,5 +1,5 @@
 -- the contracts of a migration and of its steps
-use Rattle.std.specs.Prelude.{◌≡◌, ◌≢◌, ◌⊎◌, ◌+◌, ◌++◌, ◌∷◌, [], pos, ℕ, List, length, map, take, Some, IsTrue, Result, IfErr, IfOk, OnOk}
+use Rattle.std.specs.Prelude.{◌≡◌, ◌≢◌, ◌⊎◌, ◌+◌, ◌++◌, ◌∷◌, [], pos, ℕ, List, length, map, take, Some, IsTrue, Result, Ok, Err, IfErr, IfOk, OnOk}
 use Rattle.std.specs.List.{AllByRecursion}
 use Rattle.core_store.specs.Storage.{Storage}
 use Rattle.machine.specs.Ranges.{HasSize}
@@ -13,6 +13,7 @@ use Rattle.sqlite.specs.declared.types.Value.TheVariants.{Int}
 use Rattle.sqlite_trees.specs.declared.store.Store.{Ghosts}
 use Rattle.ledger_tables.specs.Cells.{QueuedName}
 use Rattle.ledger_tables.specs.Listed.{queued_name}
+use Rattle.ledger_tables.specs.Schema.{own_version}
 use Rattle.ledger_tables.specs.Steps.{Inside}
 use Rattle.ledger_tables.specs.Tables.{ByJob, Tables, Holds, HoldsAs}
 use Rattle.ledger_tables.specs.Versions.{HasVersions, versions_in, IsBureaus}
@@ -20,7 +21,8 @@ use Rattle.ledger_tables.specs.declared.faults.Fault.{Fault}
 use Rattle.ledger_tables.specs.declared.names.JobName.{JobName}
 use Rattle.ledger_tables.specs.declared.open_tables.OpenTables.{OpenTables}
 use Rattle.ledger_tables.specs.declared.openings.OpenFault.{OpenFault}
-use Rattle.ledger_tables.specs.declared.openings.OpenFault.TheVariants.{NotABureau, Old}
+use Rattle.ledger_tables.specs.declared.openings.OpenFault.TheVariants.{NoMemory, NotABureau, Old}
+use Rattle.ledger.specs.Adopting.{IsUntouched}
 use Rattle.ledger.specs.Listed.{IsIts}
 use Rattle.ledger.specs.Older.{storages_of, with_first_pages, HasWhole, LeftOf, RowsOf, StandsOf}
 use Rattle.ledger.specs.Saving.{with_storage}
@@ -138,6 +140,13 @@ module _ {S : Type 0} (g : Ghosts S) (old new : Held S) where
   LeavesEitherVersion = HasCleanDisk (state g new) → (version : ℕ) (office : Office)
       → StandsOf version (state g old) office → (db : Trees) → (state g new).may_leave db
       → LeftOf version db office ⊎ LeftAs db office
+
+  -- if the tables were this program's already, or the fault is that there is no memory or that they
+  -- are no bureau's, all is left as it was
+  abbrev pub LeavesUntouched : Result ℕ OpenFault → Type 0
+  LeavesUntouched result = HasCleanDisk (state g new)
+      → (result ≡ Ok own_version) ⊎ ((result ≡ Err NoMemory) ⊎ (result ≡ Err NotABureau))
+      → IsUntouched (state g old) (state g new)
 
   -- the tables can be asked for their version; and if their schema is a bureau's, they hold this
   -- one alone

@@ -3,7 +3,7 @@
 ghost use Rattle.std.specs.Prelude.{IfErr, IfOk, IsErrOf};
 ghost use Rattle.ledger_tables.specs.Steps.{IsStep};
 ghost use Rattle.ledger_tables.specs.Versions.{IsKnown, IsNotOld};
-ghost use Rattle.ledger.specs.Migrating.{AddsPages, AddsNext, AddsPagesOf, AddsAllPages, EndsFirst, RaisesFrom, FindsVersion, RaisesFound, KnowsFault, IsRaised, IsKeptOf, LeavesEitherVersion, IsNoFaultOfVersion, HasVersion};
+ghost use Rattle.ledger.specs.Migrating.{AddsPages, AddsNext, AddsPagesOf, AddsAllPages, EndsFirst, RaisesFrom, FindsVersion, RaisesFound, KnowsFault, IsRaised, IsKeptOf, LeavesEitherVersion, LeavesUntouched, IsNoFaultOfVersion, HasVersion};
 ghost use Rattle.ledger.specs.Older.{FirstRows, RowsOf, SecondRows};
 
 use crate::page_saving::insert_pages;
@@ -157,6 +157,7 @@ pub fn migrate<S: Alter>(alloc: Global, conn: &mut Connection<S>) -> Result<u32,
     ensures crash { LeavesEitherVersion S.Store conn.old conn.new }
     ensures known { IfErr result (IsNoFaultOfVersion S.Store conn.old conn.new) }
     ensures version { IfOk result (HasVersion S.Store conn.old conn.new) }
+    ensures untouched { LeavesUntouched S.Store conn.old conn.new result }
 {
     if !conn.is_autocommit() {
         return Err(OpenFault::Store);

@@ -123,7 +123,7 @@ pub fn tell_cards<S: Alter>(
     ensures done { Serves S.Store tables.old tables.new result
         (with_commanded name.entry JobCommand.Cards) }
 {
-    let Some(_row) = tables.find_job(name)? else {
+    let Some(_row) = tables.find_loaded(name)? else {
         return Ok(Reply::Refused(Refusal::NoJob));
     };
     let cards = find_cards(tables, name)?;
@@ -139,7 +139,7 @@ pub fn tell_lines<S: Alter>(
     ensures done { Serves S.Store tables.old tables.new result
         (with_commanded name.entry JobCommand.Lines) }
 {
-    let Some(_row) = tables.find_job(name)? else {
+    let Some(_row) = tables.find_loaded(name)? else {
         return Ok(Reply::Refused(Refusal::NoJob));
     };
     let lines = find_lines(tables, name)?;

@@ -1,7 +1,7 @@
 //! Reading a job from the tables: its machine has none of the cards and lines that the job has
 //! made, and counts them by its state.
 
-ghost use Rattle.std.specs.Prelude.{◌≡◌, ◌≢◌, ℕ, List, All, map, Some, None, Ok, IsErr, IsErrOf, IsSome, IfOk, IfSome};
+ghost use Rattle.std.specs.Prelude.{◌≡◌, ◌≢◌, ℕ, List, All, map, Some, None, Ok, IsErr, IsErrOf, IsSome, IfOk, IfSome, OnOk};
 ghost use Rattle.cards.specs.Decks.{deck_bytes, IsDeck};
 ghost use Rattle.machine.specs.Earlier.{without_outputs};
 ghost use Rattle.machine.specs.Ranges.{IsInRange};
@@ -11,15 +11,16 @@ ghost use Rattle.office.specs.Kept.{IsJobInRange};
 ghost use Rattle.office.specs.declared.stretches.Stretch.{Stretch};
 ghost use Rattle.ledger_rows.specs.Columns.{HoldsCharacters};
 ghost use Rattle.ledger_rows.specs.Pictures.{IsPictured};
-ghost use Rattle.ledger_tables.specs.Steps.{IsOpenStep};
-ghost use Rattle.ledger.specs.Found.{IsMediaOf, IsFoundAs, IsHandedAs, HasStretches, HasMachine, HasMachineWith, HasKept, BeganWith};
+ghost use Rattle.ledger_tables.specs.Named.{of_job};
+ghost use Rattle.ledger_tables.specs.Steps.{Finds, IsOpenStep};
+ghost use Rattle.ledger.specs.Found.{IsMediaOf, IsFoundAs, IsHandedAs, CanBeOfJob, HasStretches, HasMachine, HasMachineWith, HasKept, BeganWith};
 ghost use Rattle.ledger.specs.Saving.{job_in};
 ghost use Rattle.ledger.specs.Standing.{job_cells, stretch_row, CanBeKept};
 ghost use Rattle.ledger.specs.Steps.{FindsIn};
 
 use core_store::{Core, Size};
 use ledger_rows::{Media, read_deck, read_picture, read_switches, read_truth};
-use ledger_tables::{Fault, JobName, JobRow, OpenTables, PageRow, StateRow, StretchRow};
+use ledger_tables::{Fault, JobName, JobRow, LoadedRow, OpenTables, PageRow, StateRow, StretchRow};
 use machine::{Parts, outputs_are_put_back, runs_only_add};
 use office::{Job, JobParts, Stretch, commands_keep_jobs};
 use sqlite::Alter;
@@ -81,6 +82,8 @@ pub fn find_stretches<S: Alter>(
     ensures step { IsOpenStep S.Store tables.old tables.new result }
     ensures found { FindsIn S.Store tables.old tables.new result
         (λ office found. HasStretches (job_in name.entry office) found.items) }
+    ensures rows { Finds S.Store tables.old tables.new result
+        (λ t found. map stretch_row found.items ≡ of_job name.entry t.stretches) }
 {
     let rows = tables.find_stretches(name)?;
     told(read_stretches(tables.alloc, rows.as_slice()))
@@ -142,11 +145,11 @@ fn find_machine<S: Alter, C: Core>(
     machine_of(tables.alloc, size, row, pages.as_slice(), media)
 }
 
-/// Finds a job's machine without its cards and lines, given its row.
+/// Finds a job's machine without its cards and lines, given the columns that it needs.
 fn find_running<S: Alter, C: Core>(
     tables: &mut OpenTables<'_, '_, S>,
     name: JobName<'_>,
-    row: &JobRow,
+    row: &LoadedRow,
     switches: Switches,
 ) -> Result<Parts<C>, Fault>
     ensures step { IsOpenStep S.Store tables.old tables.new result }
@@ -159,11 +162,12 @@ fn find_running<S: Alter, C: Core>(
     find_machine(tables, name, row.size, media)
 }
 
-/// Finds the parts of a job, its machine without its cards and lines, given its row.
+/// Finds the parts of a job, its machine without its cards and lines, given the columns that its
+/// machine needs.
 fn find_parts<S: Alter, C: Core>(
     tables: &mut OpenTables<'_, '_, S>,
     name: JobName<'_>,
-    row: &JobRow,
+    row: &LoadedRow,
 ) -> Result<JobParts<C>, Fault>
     ensures step { IsOpenStep S.Store tables.old tables.new result }
     ensures found { FindsIn S.Store tables.old tables.new result
@@ -199,7 +203,7 @@ fn job_with<C: Core>(alloc: Global, parts: JobParts<C>) -> Result<Job<C>, Fault>
 fn find_kept<S: Alter, C: Core>(
     tables: &mut OpenTables<'_, '_, S>,
     name: JobName<'_>,
-    row: &JobRow,
+    row: &LoadedRow,
 ) -> Result<Job<C>, Fault>
     ensures step { IsOpenStep S.Store tables.old tables.new result }
     ensures found { FindsIn S.Store tables.old tables.new result
@@ -218,7 +222,7 @@ pub fn find_to_run<S: Alter, C: Core>(
     ensures found { FindsIn S.Store tables.old tables.new result
         (λ office found. IsFoundAs found (job_in name.entry office)) }
 {
-    match tables.find_job(name)? {
+    match tables.find_loaded(name)? {
         Some(row) => {
             let job = find_kept(tables, name, &row)?;
             Ok(Some(job))
@@ -255,6 +259,7 @@ fn first_switches<S: Alter>(
 fn check_handed(alloc: Global, row: &JobRow) -> Result<(), Fault>
     ensures store { IsErrOf result Fault.Store → (job : KnownJob) → CanBeKept job
         → row.now ≢ job_cells job }
+    ensures ok { OnOk result (CanBeOfJob row.now) }
 {
     if row.kind > 1 || Size::of_positions(row.size).is_none() {
         return Err(Fault::Store);
@@ -272,6 +277,7 @@ pub fn find_handed<S: Alter>(
     ensures step { IsOpenStep S.Store tables.old tables.new result }
     ensures found { FindsIn S.Store tables.old tables.new result
         (λ office found. IsHandedAs found (job_in name.entry office)) }
+    ensures checked { IfOk result (λ found. IfSome found (λ handed. CanBeOfJob handed.row)) }
 {
     match tables.find_job(name)? {
         Some(row) => {

@@ -1,9 +1,10 @@
 //! The summary of a job, read without its machine: its standing, its flags, and how much it was
 //! granted and has made.
 
-ghost use Rattle.std.specs.Prelude.{◌≡◌, ◌-◌, ◌^◌, min};
+ghost use Rattle.std.specs.Prelude.{◌≡◌, ◌≢◌, ◌-◌, ◌^◌, [], min};
 ghost use Rattle.office.specs.Jobs.{granted};
-ghost use Rattle.ledger_tables.specs.Steps.{IsOpenStep};
+ghost use Rattle.ledger_tables.specs.Named.{of_job};
+ghost use Rattle.ledger_tables.specs.Steps.{Finds, IsOpenStep};
 ghost use Rattle.ledger.specs.Found.{HasProgress, HasStanding, HasGranted, HasSummary};
 ghost use Rattle.ledger.specs.Saving.{job_in};
 ghost use Rattle.ledger.specs.Steps.{FindsIn};
@@ -67,6 +68,8 @@ fn find_granted<S: Alter>(
     ensures step { IsOpenStep S.Store tables.old tables.new result }
     ensures found { FindsIn S.Store tables.old tables.new result
         (λ office found. HasGranted (job_in name.entry office) found) }
+    ensures some { Finds S.Store tables.old tables.new result
+        (λ t found. of_job name.entry t.stretches ≢ []) }
 {
     let stretches = find_stretches(tables, name)?;
     if stretches.is_empty() {

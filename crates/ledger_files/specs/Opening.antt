@@ -32,24 +32,32 @@ use Rattle.ledger_files.specs.declared.kept.Kept.TheVariants as kept
 abbrev pub AreOf : Image → Office → Type 0
 AreOf image office = ∥ ((db : Trees) × HoldsDatabase image db × LeftAs db office) ∥₁
 
+-- the two files hold a bureau's database for which this holds, and its pages end in sums or do not
+abbrev pub AreStoredWith : Bool → Image → (Trees → Type 0) → Type 0
+AreStoredWith has_sums image Here =
+    ∥ ((db : Trees) × (held : HoldsDatabase image db) × (is_summed held.0 ≡ has_sums)
+    × Here db) ∥₁
+
 -- the two files hold a bureau's database that represents this office, and its pages end in sums or
 -- do not
 abbrev pub AreStoredAs : Bool → Image → Office → Type 0
-AreStoredAs has_sums image office =
-    ∥ ((db : Trees) × (held : HoldsDatabase image db) × (is_summed held.0 ≡ has_sums)
-    × LeftAs db office) ∥₁
+AreStoredAs has_sums image office = AreStoredWith has_sums image (λ db. LeftAs db office)
 
 module _ {D : Type 0} {g : Ghosts D} where
-  -- what an open that failed leaves, files or trees, represents the office; nothing is said of
-  -- files with sums that are handed back unopened as files without
-  abbrev pub LeftStands : Bool → Leftover D g → Office → Type 0
-  LeftStands has_sums (left.Files files) office = (image : Image) →
-      outcomes g files.log files.db image → AreStoredAs has_sums image office
-  LeftStands has_sums (left.Unopened files) office =
+  -- what an open that failed leaves, files or trees, is a database for which this holds; nothing is
+  -- said of files with sums that are handed back unopened as files without
+  abbrev pub LeftHolds : Bool → Leftover D g → (Trees → Type 0) → Type 0
+  LeftHolds has_sums (left.Files files) Here = (image : Image) →
+      outcomes g files.log files.db image → AreStoredWith has_sums image Here
+  LeftHolds has_sums (left.Unopened files) Here =
       (IsTrue has_sums → IsTrue (is_summed (state_of files).page_size)) → (image : Image) →
-      (state_of files).may_leave image → AreStoredAs has_sums image office
-  LeftStands has_sums (left.Store store) office =
-      ∥ ((db : Trees) → recovers store db → LeftAs db office) ∥₁
+      (state_of files).may_leave image → AreStoredWith has_sums image Here
+  LeftHolds has_sums (left.Store store) Here =
+      ∥ ((db : Trees) → recovers store db → Here db) ∥₁
+
+  -- what an open that failed leaves represents the office
+  abbrev pub LeftStands : Bool → Leftover D g → Office → Type 0
+  LeftStands has_sums rest office = LeftHolds has_sums rest (λ db. LeftAs db office)
 
   -- what is handed back of an open represents the office: its connection, or what a failed open
   -- leaves

@@ -10,7 +10,7 @@ use Rattle.std.proofs.lemmas.Slice.Eq.{bytes_eq-Decides}
 use Rattle.core_store.specs.Pages.{page_at, page_count}
 use Rattle.core_store.specs.Storage.{Storage, blank_storage, positions_of}
 use Rattle.core_store.specs.declared.sizes.Size.{Size}
-use Rattle.core_store.specs.declared.sizes.Size.TheVariants.{Positions1400, Positions2000, Positions4000}
+use Rattle.core_store.specs.declared.sizes.Size.TheVariants.{Positions1400, Positions2000, Positions4000, Positions8000, Positions12000, Positions16000}
 use Rattle.ledger_tables.specs.Cells.{PageCells, blank_bytes, unless_blank}
 use Rattle.ledger_tables.specs.Named.{ArePages}
 use Rattle.ledger_rows.specs.Columns.{byte_of, HoldsCharacters}
@@ -245,6 +245,9 @@ module _ (s : Storage) (holds : HoldsCharacters s) where
   hundred Positions1400 = refl
   hundred Positions2000 = refl
   hundred Positions4000 = refl
+  hundred Positions8000 = refl
+  hundred Positions12000 = refl
+  hundred Positions16000 = refl
 
   abbrev blank : Storage
   blank = blank_storage (length s)

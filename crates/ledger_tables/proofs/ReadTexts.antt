@@ -63,6 +63,16 @@ pub select_job_is : Selects select_job (plain_query 1 is_key job_terms) (codes "
 unfolding understood everything
 select_job_is = ((refl, (refl, refl)), refl)
 
+abbrev pub select_loaded : List ℕ
+select_loaded = codes "SELECT size, loaded, held, collected FROM jobs WHERE customer = ?1 AND number = ?2"
+
+abbrev pub loaded_terms : List Term
+loaded_terms = col 1 4 ∷ col 1 6 ∷ col 1 7 ∷ col 1 8 ∷ []
+
+pub select_loaded_is : Selects select_loaded (plain_query 1 is_key loaded_terms) (codes "size" ∷ codes "loaded" ∷ codes "held" ∷ codes "collected" ∷ [])
+unfolding understood everything
+select_loaded_is = ((refl, (refl, refl)), refl)
+
 abbrev pub select_numbers : List ℕ
 select_numbers = codes "SELECT number FROM jobs WHERE customer = ?1"
 

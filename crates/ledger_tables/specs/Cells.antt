@@ -10,6 +10,13 @@ pub record JobCells : Type 0 where
   pub held : ℕ
   pub collected : ℕ
 
+-- the columns of a job's row that its machine needs: size, the deck that it loads, and flags
+pub record LoadedCells : Type 0 where
+  pub size : ℕ
+  pub loaded : List ℕ
+  pub held : ℕ
+  pub collected : ℕ
+
 -- the columns of a page's row: its number, from 0, and its bytes
 pub record PageCells : Type 0 where
   pub page : ℕ

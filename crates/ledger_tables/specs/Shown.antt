@@ -2,7 +2,7 @@
 use Rattle.std.specs.Prelude.{ℕ, pos, List, [], ◌∷◌}
 use Rattle.sqlite.specs.declared.types.Value.TheVariants.{Int, Text, Blob}
 use Rattle.sqlite.specs.Order.{Row}
-use Rattle.ledger_tables.specs.Cells.{JobCells, LineCells, PageCells, QueuedName}
+use Rattle.ledger_tables.specs.Cells.{JobCells, LineCells, LoadedCells, PageCells, QueuedName}
 use Rattle.ledger_tables.specs.Tables.{NamedJob, state_columns}
 use Rattle.ledger_tables.specs.declared.rows.NameRow.{NameRow}
 use Rattle.ledger_tables.specs.declared.rows.ProgressRow.{ProgressRow}
@@ -13,6 +13,11 @@ use Rattle.ledger_tables.specs.declared.rows.StretchRow.{StretchRow}
 abbrev pub shown_job : JobCells → Row
 shown_job job = Int (pos job.kind) ∷ Int (pos job.size) ∷ Blob job.deck ∷ Blob job.loaded
     ∷ Int (pos job.held) ∷ Int (pos job.collected) ∷ []
+
+-- the columns read of a job for its machine
+abbrev pub shown_loaded : LoadedCells → Row
+shown_loaded job = Int (pos job.size) ∷ Blob job.loaded ∷ Int (pos job.held)
+    ∷ Int (pos job.collected) ∷ []
 
 -- the column read of a job's number
 abbrev pub shown_number : NamedJob → Row

@@ -5,12 +5,12 @@ ghost use Rattle.std.specs.Option.{option_to_list};
 ghost use Rattle.sqlite.specs.Order.{Row as Values};
 ghost use Rattle.sqlite.specs.declared.error.ErrorCode.TheVariants.{OutOfMemory};
 ghost use Rattle.ledger_tables.specs.Reading.{AreReadable, CanRead};
-ghost use Rattle.ledger_tables.specs.Shown.{shown_job, shown_name, shown_queued, shown_stretch, shown_state, shown_progress, shown_page, shown_storage, shown_card, shown_line};
+ghost use Rattle.ledger_tables.specs.Shown.{shown_job, shown_loaded, shown_name, shown_queued, shown_stretch, shown_state, shown_progress, shown_page, shown_storage, shown_card, shown_line};
 
 use crate::faults::{Fault, fault_of};
 use crate::rows::{
-    CardRow, JobRow, LineRow, NameRow, PageRow, ProgressRow, QueuedRow, StateRow, StorageRow,
-    StretchRow,
+    CardRow, JobRow, LineRow, LoadedRow, NameRow, PageRow, ProgressRow, QueuedRow, StateRow,
+    StorageRow, StretchRow,
 };
 use sqlite::{Error, Row};
 use std::alloc::Global;
@@ -39,6 +39,19 @@ impl FromRow for JobRow {
             loaded: row.get(3)?,
             held: row.get(4)?,
             collected: row.get(5)?,
+        })
+    }
+}
+
+impl FromRow for LoadedRow {
+    ghost shown = { shown_loaded };
+
+    fn from_row(row: &Row) -> Result<LoadedRow, Error> {
+        Ok(LoadedRow {
+            size: row.get(0)?,
+            loaded: row.get(1)?,
+            held: row.get(2)?,
+            collected: row.get(3)?,
         })
     }
 }

@@ -29,6 +29,6 @@ pub use names::JobName;
 pub use open_tables::OpenTables;
 pub use openings::{OpenFault, VERSION};
 pub use rows::{
-    CardRow, JobRow, LineRow, NameRow, PageRow, ProgressRow, QueuedRow, StateRow, StorageRow,
-    StretchRow,
+    CardRow, JobRow, LineRow, LoadedRow, NameRow, PageRow, ProgressRow, QueuedRow, StateRow,
+    StorageRow, StretchRow,
 };

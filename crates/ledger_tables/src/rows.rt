@@ -34,6 +34,32 @@ impl Model for JobRow {
     } };
 }
 
+/// The columns of `jobs` that a job's machine needs.
+#[derive(Drop)]
+pub struct LoadedRow {
+    /// The number of positions of storage.
+    pub size: u32,
+    /// The deck in the card reader: 80 bytes a card, each the number of a character.
+    pub loaded: Vec<u8>,
+    /// 0 or 1.
+    pub held: u32,
+    /// 0 or 1.
+    pub collected: u32,
+}
+
+impl Model for LoadedRow {
+    ghost use Rattle.ledger_tables.specs.Cells.{LoadedCells};
+
+    ghost Value = { LoadedCells };
+
+    ghost view = { λ row. record {
+      size = row.size;
+      loaded = row.loaded.items;
+      held = row.held;
+      collected = row.collected;
+    } };
+}
+
 /// The columns of `jobs` in the list of a customer's jobs.
 #[derive(Clone, Copy)]
 pub struct NameRow {

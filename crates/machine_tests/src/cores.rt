@@ -425,7 +425,7 @@ fn is_size(positions: u16) -> bool {
 fn registers_and_sizes(rt: HostRuntime) {
     assert!(rt; are_lowered());
     assert!(rt; lower(0, 1) == 15999);
-    for positions in [1400, 2000, 4000] {
+    for positions in [1400, 2000, 4000, 8000, 12_000, 16_000] {
         assert!(rt; is_size(positions));
     }
     assert!(rt; !is_size(1399));

@@ -1,7 +1,7 @@
 use Rattle.std.proofs.Common.{◌≡◌, length, get_or, ◌-◌, sym, ap, subst, ◌∙◌, arith}
 use Rattle.sqlite.specs.State.{HasCleanDisk}
 use Rattle.ledger_tables.specs.Steps.{seen}
-use Rattle.ledger_tables.specs.Cells.{JobCells}
+use Rattle.ledger_tables.specs.Cells.{LoadedCells}
 use Rattle.ledger.proofs.Offices.{job_is, kept_is}
 use Rattle.ledger.proofs.ReadingLemmas.{some_is, picture_switches}
 use Rattle.ledger.proofs.reading.find_parts.Goals as goal
@@ -19,8 +19,8 @@ returns-clause-found g c clean inside office s =
           let kept = job_is c.args.name.customer.now c.args.name.number office job s.jobs is in
           let cells = c.row.view_is ∙ row in
           let stretches = found.1 job is in
-          let held = some_is (sym c.in-Some-Some.is-0 ∙ c.read_truth.ensures.all job.held (ap (λ (r : JobCells). r.held) cells)) in
-          let collected = some_is (sym c.in-Some-Some.is-1 ∙ c.read_truth-2.ensures.all job.collected (ap (λ (r : JobCells). r.collected) cells)) in
+          let held = some_is (sym c.in-Some-Some.is-0 ∙ c.read_truth.ensures.all job.held (ap (λ (r : LoadedCells). r.held) cells)) in
+          let collected = some_is (sym c.in-Some-Some.is-1 ∙ c.read_truth-2.ensures.all job.collected (ap (λ (r : LoadedCells). r.collected) cells)) in
           let switches = picture_switches c.runs_only_add.ensures.switches job c.in-Some.last.now kept.job.stretches.switches kept.job.stretches.begun (subst (λ xs. c.in-Some.last.now ≡ get_or xs (length xs - 1) c.in-Some.last.now) (c.deref.ensures.value ∙ stretches) c.in-Some.ensures.item.1) in
           kept_is _ _ _ _ job stretches held collected (rest.1 job is row (sym switches)),
     )

@@ -1,0 +1,64 @@
+"""Bureaus' files of earlier versions, for scripts that try `migrate`."""
+
+import sqlite3
+from contextlib import closing
+
+PAGE = 100
+# The tables of versions 1 and 2, in the order in which their programs made them.
+TABLES = {
+    1: ("bureau", "jobs", "stretches", "pictures", "cards", "lines"),
+    2: ("bureau", "jobs", "stretches", "cards", "lines", "states", "pages"),
+}
+
+
+def rows(path):
+    """All rows of all tables, and the text of each table, in order."""
+    with closing(sqlite3.connect(f"file:{path}?mode=ro", uri=True)) as db:
+        named = db.execute("SELECT name, sql FROM sqlite_schema WHERE type = 'table' "
+                           "ORDER BY name").fetchall()
+        return [(name, sql, sorted(db.execute(f'SELECT * FROM "{name}"'))) for name, sql in named]
+
+
+def with_storage(states):
+    """The text of the table `pictures`: that of `states` with the storage before the registers."""
+    text = states.replace("states", "pictures", 1)
+    return text.replace("number INTEGER NOT NULL, i ", "number INTEGER NOT NULL, storage BLOB NOT NULL, i ", 1)
+
+
+def storage_of(db, job):
+    """The storage of a job as a whole."""
+    size, = db.execute("SELECT size FROM jobs WHERE customer = ? AND number = ?", job).fetchone()
+    storage = bytearray(size)
+    for page, cells in db.execute(
+            "SELECT page, storage FROM pages WHERE customer = ? AND number = ?", job):
+        storage[page * PAGE:(page + 1) * PAGE] = cells
+    return bytes(storage)
+
+
+def old_rows(db, table, version):
+    """The rows that a table of this version has."""
+    if table == "bureau":
+        return [(1, version)]
+    if table == "pictures":
+        states = db.execute("SELECT * FROM states ORDER BY rowid").fetchall()
+        return [(*row[:2], storage_of(db, row[:2]), *row[2:]) for row in states]
+    if table == "pages":
+        jobs = db.execute("SELECT customer, number FROM states ORDER BY rowid").fetchall()
+        return [(*job, at // PAGE, storage[at:at + PAGE]) for job in jobs
+                for storage in [storage_of(db, job)] for at in range(0, len(storage), PAGE)]
+    return db.execute(f"SELECT * FROM {table} ORDER BY rowid").fetchall()
+
+
+def make_old(path, old, version):
+    """Makes a file of an earlier version, with the jobs of a bureau's file of version 3."""
+    with closing(sqlite3.connect(f"file:{path}?mode=ro", uri=True)) as db, \
+            closing(sqlite3.connect(old)) as made, made:
+        texts = dict(db.execute("SELECT name, sql FROM sqlite_schema WHERE type = 'table'"))
+        texts["pictures"] = with_storage(texts["states"])
+        for table in TABLES[version]:
+            made.execute(texts[table])
+        for table in TABLES[version]:
+            found = old_rows(db, table, version)
+            if found:
+                places = ", ".join("?" * len(found[0]))
+                made.executemany(f"INSERT INTO {table} VALUES ({places})", found)
