@@ -1,5 +1,6 @@
 pub mod CommandValues
 pub mod CommandLeaves
+pub mod CommandParses
 pub mod CommandPlaces
 pub mod RowNameLemmas
 pub mod CommandRows

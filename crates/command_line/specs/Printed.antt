@@ -81,9 +81,9 @@ asks_for_help _ = false
 abbrev pub usage_line : List ℕ
 usage_line = codes "usage: bureau [ROW WORDS..]; bureau --help lists the rows and their words"
 
--- the version, and the toolchain that the program was built with
+-- the version, and the logic that the program is proved in
 abbrev pub version_text : List ℕ
-version_text = codes "bureau 1" ++ line_feed ∷ codes "rattle-kit-13f logic dac8208d650f15bf"
+version_text = codes "bureau 1" ++ line_feed ∷ codes "Rattle logic dac8208d650f15bf"
     ++ line_feed ∷ []
 
 -- what is printed for a misuse: the fault of memory, the help asked for, or else a complaint and

@@ -20,7 +20,7 @@ usage:
   bureau migrate FILE                 makes a file of an earlier version one of this version
   bureau ROW --help                   prints the help of a row alone, as run --help (or -h)
   bureau --help                       prints this text (or -h)
-  bureau --version                    prints the version, and the toolchain it was built with
+  bureau --version                    prints the version, and the logic that it is proved in
 
 DECK, IN  a deck as text: on each line one card, its 80 columns as glyphs; at most 2,000 cards
 SIZE      the machine's positions of storage: 1400, 2000, 4000, 8000, 12000 or 16000
@@ -278,12 +278,12 @@ enough memory. Status 2: the words are not as above. Status 3: the bureau's file
 `bureau --help` lists the faults and refusals.
 ";
 
-/// The text that `--version` prints: the version, and the line that `rt version` prints of the
-/// toolchain. `cases/check` compares that line with the output of `rt version` when the program is
-/// tested.
+/// The text that `--version` prints: the version, and the logic that the program is proved in.
+/// `cases/check` compares that with what `rt version` prints when the program is tested. The kit's
+/// own name is not there, since kits of one logic prove the same.
 pub(crate) const VERSION: &str = "\
 bureau 1
-rattle-kit-13f logic dac8208d650f15bf
+Rattle logic dac8208d650f15bf
 ";
 
 /// The line that is printed after what is wrong with the words.

@@ -22,20 +22,21 @@ use Rattle.office.specs.declared.replies.Reply.{Reply}
 use Rattle.ledger.specs.Standing.{LeftAs, Stands}
 use Rattle.ledger.specs.Working.{HasWorked}
 use Rattle.ledger_files.specs.Closing.{StandsAlone}
-use Rattle.ledger_files.specs.Opening.{AreOf}
+use Rattle.ledger_files.specs.Opening.{AreOf, IsAnswerFor}
 use Rattle.ledger_files.specs.Rounds.{HasDone, HasWorkedFrom, HoldsOneOf, IsAfter, IsLink, LeadsBy, MayLeave, MayLeaveFiles}
 use Rattle.ledger_tables.specs.declared.openings.OpenFault.{OpenFault}
 
 module _ {D : Type 0} {g : Ghosts D} (files : Image) where
   -- work of a bureau that was opened on files
   pub worked_from : (Tells : List Command → List Reply → Type 0) (old now : Held (FileStore D g)) (is_broken : Bool) → doubt (file_state old).is_clean ≤ doubt (file_state now).is_clean
-      → (HasCleanDisk (file_state old) → (o : Office) → AreOf files o → ∥ Stands (file_state old) o ∥₁)
+      → (HasCleanDisk (file_state old) → IsAnswerFor files (Ok tt)) → (HasCleanDisk (file_state old) → (o : Office) → AreOf files o → ∥ Stands (file_state old) o ∥₁)
       → HasWorked over_files old now is_broken Tells → HasWorkedFrom files now is_broken Tells
-  worked_from Tells old now is_broken early found it = record {
+  worked_from Tells old now is_broken early version found it = record {
     commands = it.commands;
     replies = it.replies;
     told = it.told;
     done = record {
+      opened = λ clean. let was : HasCleanDisk (file_state old) = omega (arith, early) in version was;
       all = elim it.works.ends [ inl whole ↦ inl whole.0 | inr broken ↦ inr broken ];
       after = λ clean o are.
           let was : HasCleanDisk (file_state old) = omega (arith, early) in
@@ -58,6 +59,7 @@ module _ {D : Type 0} {g : Ghosts D} (files : Image) where
         → (IsClean (view left) → (image : Image) → (store.state left).may_leave image → HoldsOneOf (view left).has_sums image (file_state now).may_leave)
         → IsLink files (MayLeave left) commands replies
     link_from left late holds = record {
+      opened = λ image may. let was : HasCleanDisk (file_state now) = omega (arith, late, may.0) in it.opened was;
       all = all_but_last;
       leads = λ image may o are.
           let was : HasCleanDisk (file_state now) = omega (arith, late, may.0) in
@@ -75,6 +77,7 @@ module _ {D : Type 0} {g : Ghosts D} (files : Image) where
     closed_link_of whole closed cleaned alone =
         let all : length replies ≡ length commands = elim it.all [ inl same ↦ same | inr broken ↦ absurd (let t = broken.0 in let e = whole in cc) ] in
         record {
+          opened = λ image may. it.opened (cleaned may.0);
           all = all_but_last;
           leads = λ image may o are.
               ∥∥₁_elim (it.after (cleaned may.0) o are) squash₁ (λ after.

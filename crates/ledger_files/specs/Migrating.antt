@@ -1,5 +1,5 @@
 -- files that hold a bureau's database of any version, and what a migration makes of them
-use Rattle.std.specs.Prelude.{◌≡◌, ◌≢◌, ◌⊎◌, ◌×◌, ◌∷◌, [], pos, ℕ, Bool, ⊤}
+use Rattle.std.specs.Prelude.{◌≡◌, ◌≢◌, ◌⊎◌, ◌∷◌, [], pos, ℕ, Bool, ⊤}
 use Rattle.sqlite_disk.specs.declared.Disk.{Ghosts}
 use Rattle.sqlite_store.specs.declared.store.FileStore.{FileStore}
 use Rattle.sqlite.specs.Effect.{Database, IsDatabase}
@@ -34,10 +34,16 @@ MigratesTo before after = (version : ℕ) (office : Office) → AreOfVersion ver
 abbrev pub IsMigration : Image → (Image → Type 0) → Type 0
 IsMigration files may_leave = (image : Image) → may_leave image → MigratesTo files image
 
+-- the database can be asked for its version; and if its schema is a bureau's, it holds this one
+-- alone
+abbrev pub IsVersionIn : Database → ℕ → Type 0
+IsVersionIn db found = HasVersions db
+    × (IsBureaus db.schema → versions_in db ≡ Int (pos found) ∷ [])
+
 -- this is the version of whatever database the two files hold
 abbrev pub IsVersionOf : Image → ℕ → Type 0
-IsVersionOf image found = (db : Database) → HoldsDatabase image db.trees → IsDatabase db
-    → HasVersions db × (IsBureaus db.schema → versions_in db ≡ Int (pos found) ∷ [])
+IsVersionOf image found =
+    (db : Database) → HoldsDatabase image db.trees → IsDatabase db → IsVersionIn db found
 
 module _ {D : Type 0} {g : Ghosts D} where
   -- if the files were of an office, in any version, that is the version that was found, and the

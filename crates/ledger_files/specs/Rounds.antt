@@ -1,5 +1,5 @@
 -- rounds of work on a bureau's files: what they tell, and what a crash leaves of them
-use Rattle.std.specs.Prelude.{◌≡◌, ◌≤◌, ◌⊎◌, ◌+◌, ℕ, Bool, List, length, take as beginning_of, Option, IsTrue}
+use Rattle.std.specs.Prelude.{◌≡◌, ◌≤◌, ◌⊎◌, ◌+◌, ℕ, Bool, List, length, take as beginning_of, Ok, Option, IsTrue}
 use Rattle.sqlite_disk.specs.declared.Disk.{Ghosts}
 use Rattle.sqlite_disk.specs.declared.Files.{Files}
 use Rattle.sqlite_pool.specs.Stored.{is_summed}
@@ -19,7 +19,7 @@ use Rattle.office.specs.declared.commands.Command.{Command}
 use Rattle.office.specs.declared.replies.Reply.{Reply}
 use Rattle.ledger.specs.Shifting.{LeavesWhole}
 use Rattle.ledger.specs.Standing.{Stands}
-use Rattle.ledger_files.specs.Opening.{AreOf}
+use Rattle.ledger_files.specs.Opening.{AreOf, IsAnswerFor}
 
 -- the two files hold one of the databases that a crash may leave, with or without sums on its pages
 abbrev pub HoldsOneOf : Bool → Image → (Trees → Type 0) → Type 0
@@ -47,10 +47,12 @@ module _ {D : Type 0} {g : Ghosts D} where
         → LeavesWhole db office commands (length replies)
     pub stands : length replies ≡ length commands → Stands (file_state now) (fold commands office).0
 
-  -- a bureau that was opened on these files has carried out these commands and replied so, to all
-  -- of them or to all but the last, of which the bureau is broken
+  -- a bureau that was opened on these files, which were found to be of this program's version, has
+  -- carried out these commands and replied so, to all of them or to all but the last, of which the
+  -- bureau is broken
   pub record HasDone (files : Image) (now : Held (FileStore D g)) (is_broken : Bool)
       (commands : List Command) (replies : List Reply) : Type 0 where
+    pub opened : HasCleanDisk (file_state now) → IsAnswerFor files (Ok tt)
     pub all : (length replies ≡ length commands)
         ⊎ (IsTrue is_broken × (length commands ≡ length replies + 1))
     pub after : HasCleanDisk (file_state now) → (office : Office) → AreOf files office
@@ -75,10 +77,12 @@ abbrev pub MayLeaveFiles : {D : Type 0} → Ghosts D → Files D → Image → T
 MayLeaveFiles g files image =
     AreClean g files.log files.db × outcomes g files.log files.db image
 
--- a link from these files to those that may be left: all of the commands, or all but the last, were
--- replied to, and each of the files that may be left is led to by them
+-- a link from these files, which were found to be of this program's version, to those that may be
+-- left: all of the commands, or all but the last, were replied to, and each of the files that may
+-- be left is led to by them
 pub record IsLink (files : Image) (may_leave : Image → Type 0) (commands : List Command)
     (replies : List Reply) : Type 0 where
+  pub opened : (image : Image) → may_leave image → IsAnswerFor files (Ok tt)
   pub all : length commands ≤ length replies + 1
   pub leads : (image : Image) → may_leave image → LeadsBy commands replies files image
 

@@ -1,6 +1,6 @@
-//! Closing a bureau's file.
+//! Closing a bureau's file, or a connection to it.
 
-ghost use Rattle.std.specs.Prelude.{IsTrue, IfOk, IfErr};
+ghost use Rattle.std.specs.Prelude.{ℕ, IsTrue, IfOk, IfErr};
 ghost use Rattle.sqlite.specs.FileStore.{recovers, view};
 ghost use Rattle.sqlite.specs.Files.{file_state};
 ghost use Rattle.sqlite.specs.Held.{state};
@@ -12,7 +12,10 @@ ghost use Rattle.sqlite.specs.WalFiles.{outcomes};
 ghost use Rattle.sqlite_wal.specs.Reads.{AreClean};
 ghost use Rattle.office.specs.Office.{Office};
 ghost use Rattle.ledger.specs.Standing.{LeftAs, Stands};
+ghost use Rattle.ledger_tables.specs.Versions.{IsKnown};
 ghost use Rattle.ledger_files.specs.Closing.{HindersClosing, StandsAlone};
+ghost use Rattle.ledger_files.specs.Migrating.{IsMigrated, IsMigration};
+ghost use Rattle.ledger_files.specs.Rounds.{MayLeaveFiles};
 
 use crate::opening::store_fault_of;
 use ledger::Bureau;
@@ -27,6 +30,32 @@ fn committed_stands<S: Alter>(conn: &Connection<S>)
         → Stands (state S.Store conn.now) office
         → LeftAs (state S.Store conn.now).committed.trees office }
 {}
+
+/// Closes a connection: everything in the log is copied into its file. Returns both files, still
+/// locked: from now on the file alone is the database, whatever a crash leaves, and the log may be
+/// removed. Fails with 1 if there is no memory, and with 2 if the files fail now or a fault of them
+/// came before; the two files together are then the database, as before.
+pub fn close_connection<D: Disk + Drop>(
+    conn: Connection<FileStore<D>>,
+) -> Result<Files<D>, (OpenFault, FileStore<D>)>
+    ensures alone { IfOk result (λ files. AreClean D.Disk files.log files.db → (office : Office)
+        → Stands (file_state conn) office → (left : Image)
+        → outcomes D.Disk files.log files.db left → StandsAlone left office) }
+    ensures clean { IfOk result (λ files. AreClean D.Disk files.log files.db
+        → HasCleanDisk (file_state conn)) }
+    ensures migration { IfOk result (λ files. (first : Image) → (found : ℕ)
+        → IsMigrated first found conn → IsMigration first (MayLeaveFiles D.Disk files)) }
+    ensures kept { IfErr result (λ e. (db : Trees) → recovers e.1 db
+        → (file_state conn).may_leave db) }
+    ensures cause { IfErr result (λ e. IsClean (view e.1) → HindersClosing conn e.1 e.0) }
+    ensures known { IfErr result (λ e. IsKnown e.0) }
+{
+    committed_stands(&conn);
+    match conn.close_files() {
+        Ok(files) => Ok(files),
+        Err((error, store)) => Err((store_fault_of(error), store)),
+    }
+}
 
 /// Closes a bureau: everything in the log is copied into its file. Returns both files, still
 /// locked: from now on the file alone is the bureau, whatever a crash leaves, and the log may be
@@ -44,10 +73,5 @@ pub fn close<D: Disk + Drop>(
         → (file_state bureau.conn).may_leave db) }
     ensures cause { IfErr result (λ e. IsClean (view e.1) → HindersClosing bureau.conn e.1 e.0) }
 {
-    let conn = bureau.into_connection();
-    committed_stands(&conn);
-    match conn.close_files() {
-        Ok(files) => Ok(files),
-        Err((error, store)) => Err((store_fault_of(error), store)),
-    }
+    close_connection(bureau.into_connection())
 }

@@ -9,19 +9,25 @@
 //! [`round`] opens, works, and returns the store as a crash at that moment leaves it ([`stop`]):
 //! whatever is left is of the office after a beginning of the commands that holds every one that
 //! was replied to. Any number of such rounds make the chain of the theorem of stops.
+//!
+//! [`migrate`] raises the file at a path to this program's version. [`migrate_from`] opens it and
+//! raises its tables, and its connection is then closed ([`close_connection`]), or everything stops
+//! ([`leave`]): the files are of the same office, in the version that they had or in this program's.
 #![tactic(auto)]
 
 mod closing;
 mod kept;
 mod making;
+mod migrating;
 mod opening;
 mod places;
 mod rounds;
 mod working;
 
-pub use closing::close;
+pub use closing::{close, close_connection};
 pub use kept::Kept;
 pub use making::init;
+pub use migrating::{close_migrated, migrate, migrate_from};
 pub use opening::open_from;
-pub use rounds::{finish, open_and_work, round, stop};
+pub use rounds::{finish, leave, open_and_work, round, stop};
 pub use working::{Work, with_bureau};

@@ -72,7 +72,7 @@ pub(crate) fn store_fault_of(error: Error) -> OpenFault
 }
 
 /// Hands on an error by which files could not be opened, and all that is left of the files.
-fn handed_on<S: Start>(
+pub(crate) fn handed_on<S: Start>(
     error: Error,
     left: Option<Leftover<FileFrom<S>>>,
 ) -> (OpenFault, Kept<FileFrom<S>>)

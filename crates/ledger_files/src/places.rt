@@ -1,5 +1,8 @@
 //! Where a bureau's file lies, and the names beside it.
 
+ghost use Rattle.std.specs.Prelude.{IfErr};
+ghost use Rattle.ledger_tables.specs.Versions.{IsNotOld};
+
 use ledger_tables::OpenFault;
 use std::fs::{Metadata, OpenOptions};
 use std::io::ErrorKind;
@@ -28,7 +31,9 @@ pub(crate) struct Place {
 impl Place {
     /// The place of the file that is at a path. Links are followed, since the log is beside the
     /// file itself.
-    pub(crate) fn find(rt: &HostRuntime, path: &str) -> Result<Place, OpenFault> {
+    pub(crate) fn find(rt: &HostRuntime, path: &str) -> Result<Place, OpenFault>
+        ensures { IfErr result IsNotOld }
+    {
         match fs::canonicalize(rt, path) {
             Ok(real) => Place::at(beside(rt, real.as_str(), "")?, rt),
             Err(error) => Err(fault_of(&error)),
@@ -36,7 +41,9 @@ impl Place {
     }
 
     /// The place of a file at a path without links.
-    fn at(file: String, rt: &HostRuntime) -> Result<Place, OpenFault> {
+    fn at(file: String, rt: &HostRuntime) -> Result<Place, OpenFault>
+        ensures { IfErr result IsNotOld }
+    {
         let log = beside(rt, &file, "-wal")?;
         Ok(Place { file, log })
     }
@@ -85,13 +92,17 @@ impl Place {
 
     /// Removes the second name of the file, `FILE.N.part`, which it has if the program that made it
     /// was stopped at the end.
-    pub(crate) fn remove_part(&self, rt: &HostRuntime) -> Result<(), OpenFault> {
+    pub(crate) fn remove_part(&self, rt: &HostRuntime) -> Result<(), OpenFault>
+        ensures { IfErr result IsNotOld }
+    {
         remove_part_of(rt, &self.file)
     }
 }
 
 /// The fault where a path cannot be used.
-fn fault_of(error: &io::Error) -> OpenFault {
+fn fault_of(error: &io::Error) -> OpenFault
+    ensures { IsNotOld result }
+{
     match error.kind() {
         ErrorKind::OutOfMemory => OpenFault::NoMemory,
         _ => OpenFault::Store,
@@ -99,7 +110,9 @@ fn fault_of(error: &io::Error) -> OpenFault {
 }
 
 /// The path with more letters at its end.
-pub(crate) fn beside(rt: &HostRuntime, path: &str, end: &str) -> Result<String, OpenFault> {
+pub(crate) fn beside(rt: &HostRuntime, path: &str, end: &str) -> Result<String, OpenFault>
+    ensures { IfErr result IsNotOld }
+{
     match format!(in rt.alloc(); "{path}{end}") {
         Ok(name) => Ok(name),
         Err(_) => Err(OpenFault::NoMemory),
@@ -107,7 +120,9 @@ pub(crate) fn beside(rt: &HostRuntime, path: &str, end: &str) -> Result<String, 
 }
 
 /// A name beside a path, for a file that is not whole yet.
-fn part_name(rt: &HostRuntime, path: &str, number: u16) -> Result<String, OpenFault> {
+fn part_name(rt: &HostRuntime, path: &str, number: u16) -> Result<String, OpenFault>
+    ensures { IfErr result IsNotOld }
+{
     match format!(in rt.alloc(); "{path}.{number}.part") {
         Ok(name) => Ok(name),
         Err(_) => Err(OpenFault::NoMemory),
@@ -146,7 +161,9 @@ fn is_at(rt: &HostRuntime, file: &Metadata, path: &str) -> bool {
 }
 
 /// Removes the second name of the file at a path, `PATH.N.part`, if it has one.
-pub(crate) fn remove_part_of(rt: &HostRuntime, path: &str) -> Result<(), OpenFault> {
+pub(crate) fn remove_part_of(rt: &HostRuntime, path: &str) -> Result<(), OpenFault>
+    ensures { IfErr result IsNotOld }
+{
     let Ok(file) = fs::symlink_metadata(rt, path) else {
         return Ok(());
     };

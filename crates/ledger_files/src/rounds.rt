@@ -16,6 +16,7 @@ ghost use Rattle.office.specs.declared.commands.Command.{Command};
 ghost use Rattle.office.specs.declared.replies.Reply.{Reply};
 ghost use Rattle.ledger.specs.Standing.{Stands};
 ghost use Rattle.ledger_files.specs.Closing.{HindersEnding, StandsAlone};
+ghost use Rattle.ledger_files.specs.Migrating.{IsMidway, IsMigration};
 ghost use Rattle.ledger_files.specs.Opening.{AreRefused, IsAnswerFor, IsCleanKept};
 ghost use Rattle.ledger_files.specs.Rounds.{HasDone, HasWorkedFrom, HoldsOneOf, IsLink, IsRound, MayLeave, MayLeaveFiles};
 
@@ -25,7 +26,7 @@ use crate::opening::open_from;
 use crate::working::Work;
 use ledger::Bureau;
 use ledger_tables::OpenFault;
-use sqlite::{FileFrom, FileStore, Start};
+use sqlite::{Connection, FileFrom, FileStore, Start};
 use sqlite_disk::{Disk, Files};
 use std::io::Write;
 
@@ -57,6 +58,19 @@ pub fn open_and_work<S: Start, W: Work, O: Write>(
     }
 }
 
+/// Returns the store of a connection as a crash at this moment finds it, whatever the tables
+/// represent.
+pub fn leave<D: Disk + Drop>(conn: Connection<FileStore<D>>) -> FileStore<D>
+    ensures left { IsClean (view result) → (left : Image) → (store.state result).may_leave left
+        → HoldsOneOf (view result).has_sums left (file_state conn).may_leave }
+    ensures migration { (first : Image) → IsMidway first conn
+        → IsMigration first (MayLeave result) }
+    ensures kept { (db : Trees) → recovers result db → (file_state conn).may_leave db }
+    ensures clean { doubt (file_state conn).is_clean ≤ doubt (view result).is_clean }
+{
+    conn.into_store()
+}
+
 /// Returns the store as a crash at this moment finds it, whatever the tables represent. Work that
 /// was done with the bureau is then a link from the files that were opened to whatever the crash
 /// leaves.
@@ -69,7 +83,7 @@ pub fn stop<D: Disk + Drop>(bureau: Bureau<FileStore<D>>) -> FileStore<D>
     ensures kept { (db : Trees) → recovers result db → (file_state bureau.conn).may_leave db }
     ensures clean { doubt (file_state bureau.conn).is_clean ≤ doubt (view result).is_clean }
 {
-    bureau.into_connection().into_store()
+    leave(bureau.into_connection())
 }
 
 /// Ends the work with a bureau: its file is closed, so that it alone is the bureau. The file of a

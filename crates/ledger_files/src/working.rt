@@ -1,11 +1,12 @@
 //! Work with the bureau whose file is at a path: the file is opened, and closed after it.
 
-ghost use Rattle.std.specs.Prelude.{◌≡◌, ◌≤◌, ◌⊎◌, ℕ, List, Option, OnOk, OnErr};
+ghost use Rattle.std.specs.Prelude.{◌≡◌, ◌≤◌, ◌⊎◌, ℕ, List, Option, IfErr, OnOk, OnErr};
 ghost use Rattle.sqlite.specs.Held.{state};
 ghost use Rattle.sqlite.specs.View.{doubt};
 ghost use Rattle.office.specs.declared.commands.Command.{Command};
 ghost use Rattle.office.specs.declared.replies.Reply.{Reply};
 ghost use Rattle.ledger.specs.Working.{HasWorked};
+ghost use Rattle.ledger_tables.specs.Versions.{IsNotOld};
 ghost use Rattle.ledger_files.specs.Rounds.{IsWork};
 
 use crate::kept::Kept;
@@ -47,7 +48,9 @@ const BEGINNING: [u8; 16] = *b"SQLite format 3\0";
 
 /// Checks that the file at a path begins like a database. This comes before it is opened as one,
 /// since that would create a missing file, and fill an empty one.
-fn look(rt: &HostRuntime, path: &str) -> Result<(), OpenFault> {
+pub(crate) fn look(rt: &HostRuntime, path: &str) -> Result<(), OpenFault>
+    ensures { IfErr result IsNotOld }
+{
     match fs::metadata(rt, path) {
         Ok(found) if found.is_file() => {}
         _ => return Err(OpenFault::Store),
@@ -84,7 +87,12 @@ fn close_at<D: Disk + Drop>(
 /// Lets go of what an open that failed handed back. The log, which had this length before, becomes
 /// what it was before the file's lock is released. Where the file was not locked, nothing is
 /// touched: the log is another program's.
-fn let_go<D: Disk + Drop>(rt: &HostRuntime, kept: Kept<D>, place: &Place, log: Option<u64>) {
+pub(crate) fn let_go<D: Disk + Drop>(
+    rt: &HostRuntime,
+    kept: Kept<D>,
+    place: &Place,
+    log: Option<u64>,
+) {
     match &kept {
         Kept::Nothing => {}
         Kept::Connection(_) | Kept::Left(_) => place.restore_log(rt, log),

@@ -1,7 +1,7 @@
 //! Addresses that are read, indexed, looked up and stored.
 
 use crate::sheets::{Case, agreed, check, cut, number};
-use crate::storage::{at_places, blank, code, lay};
+use crate::storage::{at_places, blank, code, lay, size_of};
 use addresses::{Tagged, decode, effective_address, encode, operand, store};
 use bcd::Code;
 use core_store::{Check, Core, FlagCore, LARGEST_SIZE, PlaneCore, Size};
@@ -113,31 +113,47 @@ fn position_of<C: Core>(core: &mut C, address: &str) -> Result<u16, Check> {
 }
 
 /// The output of a case of `Operand` with one kind of storage.
-fn named<C: Core>(alloc: Global, address: &str) -> Result<String, Fail> {
-    let position = position_of(&mut C::blank(alloc, Size::Positions4000)?, address);
+fn named<C: Core>(alloc: Global, size: Size, address: &str) -> Result<String, Fail> {
+    let position = position_of(&mut C::blank(alloc, size)?, address);
     Ok(format!(in alloc; "{position:?}")?)
 }
 
-/// Operands. Input: an address in 4000 positions with 91 in the first index location. Output: the
-/// position, or the check.
+/// Operands. Input: the size of a storage with 91 in the first index location, and an address.
+/// Output: the position, or the check.
 struct Operand;
 
 impl Case for Operand {
     fn outcome(alloc: Global, given: &str) -> Result<String, Fail> {
-        let flags = named::<FlagCore>(alloc, given)?;
-        let planes = named::<PlaneCore>(alloc, given)?;
+        let (size, address) = cut(given, " ");
+        let size = size_of(size)?;
+        let flags = named::<FlagCore>(alloc, size, address)?;
+        let planes = named::<PlaneCore>(alloc, size, address)?;
         agreed(alloc, flags, planes)
     }
 }
 
-/// Addresses inside the storage and past its end.
+/// Addresses inside the storage and past its end; the last two are indexed past 15999.
 const OPERANDS: &str = "\
-I99 -> Ok(3999)
-00! -> Err(Address)
-I9I -> Err(Address)
-#00 -> Err(Address)
-I?9 -> Ok(3909)
-I/9 -> Err(Address)
+4000 I99 -> Ok(3999)
+4000 00! -> Err(Address)
+4000 I9I -> Err(Address)
+4000 #00 -> Err(Address)
+4000 I?9 -> Ok(3909)
+4000 I/9 -> Err(Address)
+8000 I/9 -> Ok(4010)
+8000 I9Z -> Ok(7999)
+8000 00! -> Err(Address)
+8000 I/Z -> Err(Address)
+12000 00! -> Ok(8000)
+12000 I/Z -> Ok(8010)
+12000 I9R -> Ok(11999)
+12000 00? -> Err(Address)
+16000 00! -> Ok(8000)
+16000 00? -> Ok(12000)
+16000 I9I -> Ok(15999)
+16000 #00 -> Err(Address)
+16000 I/I -> Ok(10)
+1400 I/I -> Ok(10)
 ";
 
 #[test]

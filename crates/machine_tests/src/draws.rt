@@ -46,19 +46,19 @@ impl Draws {
         glyphs.get(place as usize).copied().unwrap_or(b' ') as char
     }
 
-    /// An address near the beginning of 1400 positions, near their end, or past 200.
-    fn address(&mut self) -> u16 {
-        self.number_of(&[0, 200, 200, 1320])
+    /// An address near the beginning of so many positions, near their end, or past 200.
+    fn address(&mut self, positions: u16) -> u16 {
+        self.number_of(&[0, 200, 200, positions.saturating_sub(80)])
             .saturating_add(self.below(80))
     }
 
     /// An address close to another one, or any.
-    fn second_address(&mut self, first: u16) -> u16 {
+    fn second_address(&mut self, positions: u16, first: u16) -> u16 {
         if self.below(2) == 0 {
-            return self.address();
+            return self.address(positions);
         }
         let above = first.saturating_add(self.below(80));
-        above.saturating_sub(40).min(1399)
+        above.saturating_sub(40).min(positions.saturating_sub(1))
     }
 
     /// Where the field that ends at an address begins.
@@ -127,10 +127,15 @@ fn push_program(
     row.push_str("~|")
 }
 
-/// A drawn row that begins with an operation.
-fn row(alloc: Global, draws: &mut Draws, operation: u8) -> Result<String, AllocError> {
-    let a = draws.address();
-    let b = draws.second_address(a);
+/// A drawn row that begins with an operation, of a storage of so many positions.
+fn row(
+    alloc: Global,
+    draws: &mut Draws,
+    positions: u16,
+    operation: u8,
+) -> Result<String, AllocError> {
+    let a = draws.address(positions);
+    let b = draws.second_address(positions, a);
     let filling = Filling {
         glyphs: draws.glyphs(),
         marked: draws.number_of(MARKED),
@@ -138,18 +143,19 @@ fn row(alloc: Global, draws: &mut Draws, operation: u8) -> Result<String, AllocE
         second: draws.first_of(b),
     };
     let steps = draws.number_of(&[1, 1, 2, 4]);
-    let mut row = format!(in alloc; "{steps} steps, A 0 B 0|")?;
+    let mut row = format!(in alloc; "{positions} positions, {steps} steps, A 0 B 0|")?;
     push_program(&mut row, draws, operation, [a, b])?;
     row.push_str("0 ")?;
     push_characters(&mut row, draws, &filling, 0, 320)?;
-    row.push_str("1180 ")?;
-    push_characters(&mut row, draws, &filling, 1180, 1400)?;
+    let first = positions.saturating_sub(220);
+    write!(&mut row, "{first} ")?;
+    push_characters(&mut row, draws, &filling, first, positions)?;
     Ok(row)
 }
 
 /// Whether the steps of a drawn row end without a check. Fails if the two kinds of storage differ.
-fn goes_on(alloc: Global, draws: &mut Draws, operation: u8) -> Result<bool, Fail> {
-    let row = row(alloc, draws, operation)?;
+fn goes_on(alloc: Global, draws: &mut Draws, positions: u16, operation: u8) -> Result<bool, Fail> {
+    let row = row(alloc, draws, positions, operation)?;
     let flags = outcome::<FlagCore>(alloc, &row)?;
     let planes = outcome::<PlaneCore>(alloc, &row)?;
     if flags.as_str() != planes.as_str() {
@@ -158,19 +164,33 @@ fn goes_on(alloc: Global, draws: &mut Draws, operation: u8) -> Result<bool, Fail
     Ok(!flags.starts_with("Stop"))
 }
 
-#[test]
-fn both_storages_step_alike(rt: HostRuntime) -> Result<(), Fail> {
+/// Draws so many rows for each operation. Fails if the two kinds of storage differ, or if few rows
+/// of an operation end without a check.
+fn step_alike(alloc: Global, positions: u16, rows: u16) -> Result<(), Fail> {
     for operation in FIRST {
         let mut draws = Draws(u64::from(*operation));
         let mut done = 0u16;
-        for _ in 0..50 {
-            if goes_on(rt.alloc(), &mut draws, *operation)? {
+        for _ in 0..rows {
+            if goes_on(alloc, &mut draws, positions, *operation)? {
                 done = done.saturating_add(1);
             }
         }
-        if done < 10 {
+        if done < rows / 5 {
             return Err(Fail::new(format_args!("few steps of {operation}: {done}")));
         }
+    }
+    Ok(())
+}
+
+#[test]
+fn both_storages_step_alike(rt: HostRuntime) -> Result<(), Fail> {
+    step_alike(rt.alloc(), 1400, 50)
+}
+
+#[test]
+fn larger_storages_step_alike(rt: HostRuntime) -> Result<(), Fail> {
+    for positions in [2000, 4000, 8000, 12_000, 16_000] {
+        step_alike(rt.alloc(), positions, 15)?;
     }
     Ok(())
 }

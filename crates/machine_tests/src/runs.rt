@@ -4,7 +4,7 @@
 
 use crate::machines::{deck_of, new_units};
 use crate::sheets::{Case, agreed, check, cut, number};
-use crate::storage::text_of;
+use crate::storage::{size_of, text_of};
 use bcd::Code;
 use bitflags::Flags;
 use cards::{Deck, DeckFault};
@@ -16,10 +16,7 @@ use units::{Counts, Switches, Units};
 
 /// A machine after the load button.
 fn load<C: Core>(alloc: Global, size: &str, switch: &str, cards: &str) -> Result<Machine<C>, Fail> {
-    let size = match size {
-        "4000" => Size::Positions4000,
-        _ => Size::Positions1400,
-    };
+    let size = size_of(size)?;
     let switches = if switch == "A" {
         Switches::A
     } else {
@@ -203,8 +200,9 @@ impl Case for Runs {
 }
 
 /// Cards that are printed as lines; a start after the halt; runs that do not halt; orders to the
-/// carriage; cards that are punched; and machines that continue from their picture, without their
-/// earlier line, and after nearly all cards and lines that may be made.
+/// carriage; cards that are punched; machines that continue from their picture, without their
+/// earlier line, and after nearly all cards and lines that may be made; and larger storages, in
+/// which a field is loaded to the last positions of 16000 and printed from there.
 const RUNS: &str = "\
 4000|A|list;HELLO;WORLD|34 -> 34 Running ticks 34 next 360 line 3 punched | printed |HELLO|WORLD|
 4000|A|list;HELLO;WORLD|34 2000 \
@@ -235,6 +233,14 @@ const RUNS: &str = "\
     -> 6 Halted ticks 6 next 31 line 2 punched |PUNCH| printed ||
 1400||,008015,022029,030031M0361054.-PUNCH|2000 \
     -> 6 Halted ticks 6 next 31 line 1 punched |PUNCH| printed |
+8000|A|list;HELLO;WORLD|34 copy 2000 \
+    -> 34 Running 1 Halted ticks 35 next 361 line 3 punched | printed |HELLO|WORLD|
+16000|A|list;HELLO;WORLD|34 copy 2000 \
+    -> 34 Running 1 Halted ticks 35 next 361 line 3 punched | printed |HELLO|WORLD|
+16000||,008015,022029,036043,044045L046I9IMI9I2042.HI|5 copy 2000 \
+    -> 5 Running 3 Halted ticks 8 next 45 line 2 punched | printed |  HI|
+12000||,008015,022029,036043,044045L046I9IMI9I2042.HI|2000 \
+    -> 4 Checked(Address) ticks 5 next 29 line 1 punched | printed |
 ";
 
 #[test]

@@ -2,9 +2,9 @@
 
 use crate::machines::{deck_of, new_units};
 use crate::sheets::{Case, agreed, check, cut, number};
-use crate::storage::{at_places, blank, lay, lay_places, registers_shown};
+use crate::storage::{at_places, lay, lay_places, registers_shown, size_of};
 use bitflags::Flags;
-use core_store::{Compared, Core, FlagCore, PlaneCore, Registers};
+use core_store::{Compared, Core, FlagCore, PlaneCore, Registers, Size};
 use machine::{Event, Machine, Meter, Parts, Standing};
 use std::alloc::{AllocError, Global};
 use std::test::Fail;
@@ -37,14 +37,15 @@ fn running<C: Core>(alloc: Global, core: C, registers: &str) -> Result<Machine<C
     Ok(Machine::from_parts(alloc, parts)?.ok_or("a picture in range")?)
 }
 
-/// A machine of 1400 positions before a program, with these registers and texts at some places.
+/// A machine of this size before a program, with these registers and texts at some places.
 fn machine<C: Core>(
     alloc: Global,
+    size: Size,
     registers: &str,
     program: &str,
     places: &str,
 ) -> Result<Machine<C>, Fail> {
-    let mut core = blank::<C>(alloc)?;
+    let mut core = C::blank(alloc, size)?;
     lay(&mut core, START, program);
     lay_places(&mut core, places);
     running(alloc, core, registers)
@@ -85,19 +86,28 @@ fn steps_of(text: &str) -> u16 {
     }
 }
 
+/// The size of the storage, as in `2000 positions, `, and the rest; 1400 if nothing is said.
+fn size_before(text: &str) -> Result<(Size, &str), Fail> {
+    match text.split_once(" positions, ") {
+        Some((positions, rest)) => Ok((size_of(positions)?, rest)),
+        None => Ok((Size::Positions1400, text)),
+    }
+}
+
 /// The output of a case of `Steps` with one kind of storage.
 pub(crate) fn outcome<C: Core>(alloc: Global, given: &str) -> Result<String, Fail> {
+    let (size, given) = size_before(given)?;
     let (order, given) = cut(given, "|");
     let (program, places) = cut(given, "|");
     let (steps, registers) = order.split_once("A ").ok_or("registers")?;
-    let mut machine = machine::<C>(alloc, registers, program, places)?;
+    let mut machine = machine::<C>(alloc, size, registers, program, places)?;
     stepped(alloc, &mut machine, steps_of(steps), places)
 }
 
-/// Steps, of a machine whose comparison is low and whose overflow is off. Input: how many, if more
-/// than one, the registers A and B, the program, and the texts at some places. Output: the last
-/// event, if it is not the next instruction, the registers I, A and B, the indicators that are not
-/// as at the beginning, and the texts after them.
+/// Steps, of a machine whose comparison is low and whose overflow is off. Input: the size of the
+/// storage, if it is not 1400, how many steps, if more than one, the registers A and B, the program,
+/// and the texts at some places. Output: the last event, if it is not the next instruction, the
+/// registers I, A and B, the indicators that are not as at the beginning, and the texts after them.
 pub(crate) struct Steps;
 
 impl Case for Steps {
@@ -142,6 +152,28 @@ A 10 B 20|~)3J5~|92 005|320 ~ | -> I 404 A 319 B 319 |005| |
 #[test]
 fn operations(rt: HostRuntime) -> Result<(), Fail> {
     check::<Steps>(rt.alloc(), OPERATIONS)
+}
+
+/// Fields, marks and instructions at the end of larger storages, and past it.
+const LARGE_STORAGES: &str = "\
+16000 positions, A 10 B 20|~A010I9I~|8 ~005|15997 ~123| -> I 407 A 7 B 15996 |~005|~128|
+16000 positions, A 10 B 20|~MI9I020~|15997 ~ABC|18 ~XYZ| -> I 407 A 15996 B 17 |~ABC|~ABC|
+16000 positions, A 10 B 20|~L01000!~|8 ~ABC|7998 ~XYZ| -> I 407 A 7 B 7997 |~ABC|~ABC|
+16000 positions, A 10 B 20|~/I9I~|15899 ~A~B|15998 ~C~D| -> I 404 A 15999 B 15899 |~A |  |
+16000 positions, A 10 B 20|~,I9I00!~|15998 AB|8000 C| -> I 407 A 15998 B 7999 |A~B|~C|
+16000 positions, 2 steps, A 10 B 20|~BI9?~|8 ~005|15990 ~A010020~ |18 ~123| \
+    -> I 15997 A 7 B 17 |~005|~A010020~ |~128|
+8000 positions, A 10 B 20|~A010I9Z~|8 ~005|7997 ~123| -> I 407 A 7 B 7996 |~005|~128|
+8000 positions, A 10 B 20|~A01000!~|8 ~005|7997 ~123| \
+    -> Stop(Address) I 400 A 10 B 20 |~005|~123|
+12000 positions, A 10 B 20|~A010I9R~|8 ~005|11997 ~123| -> I 407 A 7 B 11996 |~005|~128|
+12000 positions, A 10 B 20|~A01000?~|8 ~005|11997 ~123| \
+    -> Stop(Address) I 400 A 10 B 20 |~005|~123|
+";
+
+#[test]
+fn large_storages(rt: HostRuntime) -> Result<(), Fail> {
+    check::<Steps>(rt.alloc(), LARGE_STORAGES)
 }
 
 /// Branches on each condition, on a character, and on marks and zones.

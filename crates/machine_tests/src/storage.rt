@@ -8,6 +8,7 @@ use bcd::Code;
 use cards::{COLUMNS, Card};
 use core_store::{Compared, Core, Registers, Size};
 use std::alloc::{AllocError, Global};
+use std::test::Fail;
 
 /// The character of a glyph, or blank if there is none.
 pub(crate) fn code(glyph: u8) -> Code {
@@ -17,6 +18,21 @@ pub(crate) fn code(glyph: u8) -> Code {
 /// A blank storage of 1400 positions.
 pub(crate) fn blank<C: Core>(alloc: Global) -> Result<C, AllocError> {
     C::blank(alloc, Size::Positions1400)
+}
+
+/// Each size of storage.
+pub(crate) const SIZES: [Size; 6] = [
+    Size::Positions1400,
+    Size::Positions2000,
+    Size::Positions4000,
+    Size::Positions8000,
+    Size::Positions12000,
+    Size::Positions16000,
+];
+
+/// The size with a number of positions that a row gives.
+pub(crate) fn size_of(positions: &str) -> Result<Size, Fail> {
+    Ok(Size::of_positions(u32::from(number(positions))).ok_or("a size")?)
 }
 
 /// Puts a text into storage from a position on, as far as there is storage.

@@ -1,9 +1,10 @@
-use Rattle.std.proofs.Common.{◌≡◌, ap, sym, subst, arith, rules, IsTrue}
-use Rattle.sqlite.specs.State.{HasCleanDisk, Survives}
+use Rattle.std.proofs.Common.{◌≡◌, false, ap, sym, subst, arith, rules, IsTrue}
+use Rattle.sqlite.specs.State.{HasCleanDisk, IsRolledBack, Survives}
 use Rattle.sqlite.specs.Held.{state}
+use Rattle.ledger.specs.Adopting.{IsUntouched}
 use Rattle.ledger.specs.Older.{RowsOf}
 use Rattle.ledger.specs.Standing.{Rows, Stands}
-use Rattle.ledger.proofs.BureauTransactions.{committed_stands}
+use Rattle.ledger.proofs.BureauTransactions.{committed_stands, kept_by, rolled_untouched}
 use Rattle.ledger.proofs.BureauVersions.{left_in_either}
 use Rattle.ledger.proofs.migrating.migrate.Goals as goal
 
@@ -78,3 +79,22 @@ returns-in-Err-clause-known g c = (
       let early : HasCleanDisk (state g.S.Store mid) = search (rules, c.rollback-in-Err.ensures.survives.clean) in
       c.in-Err.ensures.known early inside version office (λ opened. rw begun (s.now (rw begun at opened))),
 )
+
+pub returns-in-Err-clause-untouched : goal.returns-in-Err-clause-untouched
+returns-in-Err-clause-untouched g c clean which =
+    let begun = c.transaction-tx.ensures.begun in
+    let tx = c.transaction-tx.result.conn.now in
+    let mid = c.raise_found-found.new.tables.tx.now.conn.now in
+    let end = c.rollback-in-Err.new.self.0 in
+    let same : end ≡ c.conn-in-Err-1.given.0 = search rules in
+    let inside : IsTrue tx.in_transaction = ap (λ h. h.in_transaction) begun in
+    let late : HasCleanDisk (state g.S.Store end) = search rules in
+    let early : HasCleanDisk (state g.S.Store mid) = search (rules, c.rollback-in-Err.ensures.survives.clean) in
+    let step = c.raise_found-found.ensures.step in
+    let to_last : mid ≡ c.tx-2-1.given.0.conn.now = search rules in
+    let back = subst (λ h. IsRolledBack (state g.S.Store h) (state g.S.Store end)) (sym to_last) (c.rollback-in-Err.ensures.undone late) in
+    let two = subst (λ h. Survives (state g.S.Store h) (state g.S.Store end) (λ _. ⊥)) (sym to_last) c.rollback-in-Err.ensures.survives in
+    let settled : IsTrue (state g.S.Store c.args.conn.now).is_open → (state g.S.Store c.args.conn.now).now ≡ (state g.S.Store c.args.conn.now).committed = search rules in
+    let outside : c.args.conn.now.in_transaction ≡ false = search rules in
+    subst (λ h. IsUntouched (state g.S.Store c.args.conn.now) (state g.S.Store h)) same
+    (rolled_untouched g.S.Store c.args.conn.now tx mid end begun settled outside (kept_by _ _ c.raise_found-found.result (step.frame early inside)) step.survives early back two late)

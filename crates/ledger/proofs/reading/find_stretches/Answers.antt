@@ -12,3 +12,8 @@ returns-clause-found g c clean inside = if_ok_then _ _ c.told.result (λ stretch
     let found = c.in_ok-rows.ensures.found clean inside (tables_of office) s.tables in
     let here = still old new office found.0 s in
     (here, λ job named. (ok_is _ _ c.read_stretches.result is c.read_stretches.ensures.all job.stretches (job_is c.args.name.customer.now c.args.name.number office job s.jobs named).job.stretches.switches (c.as_slice.ensures.value ∙ found.1 ∙ ap stretches_of named)).0)) c.told.ensures.found
+
+pub returns-clause-rows : goal.returns-clause-rows
+returns-clause-rows g c clean inside = if_ok_then _ _ c.told.result (λ stretches is t holds.
+    let found = c.in_ok-rows.ensures.found clean inside t holds in
+    (found.0, (ok_is _ _ c.read_stretches.result is c.read_stretches.ensures.only).0 ∙ c.as_slice.ensures.value ∙ found.1)) c.told.ensures.found

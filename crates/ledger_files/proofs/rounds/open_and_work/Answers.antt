@@ -6,7 +6,8 @@ use Rattle.ledger_files.proofs.rounds.open_and_work.Goals as goal
 
 pub returns-in-Ok-clause-worked : goal.returns-in-Ok-clause-worked
 returns-in-Ok-clause-worked g c =
-    worked_from _ _ c.in-Ok.bureau.conn c.carry_out.new.bureau.conn c.carry_out.new.bureau.broken c.carry_out.ensures.clean c.in-Ok.ensures.found c.carry_out.ensures.works
+    worked_from _ _ c.in-Ok.bureau.conn c.carry_out.new.bureau.conn c.carry_out.new.bureau.broken c.carry_out.ensures.clean c.in-Ok.ensures.version c.in-Ok.ensures.found
+    c.carry_out.ensures.works
 
 pub returns-in-Ok-clause-version : goal.returns-in-Ok-clause-version
 returns-in-Ok-clause-version g c clean =

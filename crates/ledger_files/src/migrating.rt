@@ -1,0 +1,172 @@
+//! Raising a bureau's file of an earlier version to this program's version.
+
+ghost use Rattle.std.specs.Prelude.{◌≡◌, ◌≤◌, ℕ, IfErr, IfOk, IsErrOf};
+ghost use Rattle.sqlite.specs.Effect.{Database, IsDatabase};
+ghost use Rattle.sqlite.specs.Files.{HoldsDatabase, file_state};
+ghost use Rattle.sqlite.specs.Held.{state};
+ghost use Rattle.sqlite.specs.Recovery.{Image};
+ghost use Rattle.sqlite.specs.State.{HasCleanDisk, IsLive, Opens};
+ghost use Rattle.sqlite.specs.Tree.{Trees};
+ghost use Rattle.sqlite.specs.View.{doubt};
+ghost use Rattle.sqlite.specs.WalFiles.{image_at, outcomes};
+ghost use Rattle.sqlite_wal.specs.Reads.{AreClean};
+ghost use Rattle.office.specs.Office.{Office};
+ghost use Rattle.ledger_tables.specs.Schema.{own_version};
+ghost use Rattle.ledger_tables.specs.Versions.{IsNotOld};
+ghost use Rattle.ledger.specs.Migrating.{IsKeptOf, IsNoFaultOfVersion, IsRaised, LeavesEitherVersion};
+ghost use Rattle.ledger.specs.Older.{LeftOf, StandsOf};
+ghost use Rattle.ledger.specs.Standing.{Stands};
+ghost use Rattle.ledger_files.specs.Closing.{StandsAlone};
+ghost use Rattle.ledger_files.specs.Migrating.{AreNotMigrated, IsMidway, IsMigrated, IsMigration, IsVersionIn, IsVersionOf};
+ghost use Rattle.ledger_files.specs.Opening.{HoldsOnly, IsCleanKept};
+ghost use Rattle.ledger_files.specs.Rounds.{MayLeaveFiles};
+
+use crate::closing::close_connection;
+use crate::kept::Kept;
+use crate::opening::handed_on;
+use crate::places::Place;
+use crate::working::{let_go, look};
+use ledger_tables::{OpenFault, VERSION};
+use sqlite::{Alter, Connection, FileFrom, FileStore, Start, Unknown};
+use sqlite_disk::{Disk, Files};
+use std::alloc::Global;
+
+/// Proves that a connection that was just opened represents the office of its trees in their
+/// version. It is called only for its clause.
+fn opened_stands_of<S: Alter>(conn: &Connection<S>)
+    ensures { Opens (state S.Store conn.now) → IsLive (state S.Store conn.now)
+        → (version : ℕ) → (office : Office)
+        → LeftOf version (state S.Store conn.now).committed.trees office
+        → StandsOf version (state S.Store conn.now) office }
+{}
+
+/// Raises the tables of a connection that was just opened, and returns the version that they had.
+// It is over any store, so that `migrate_from`, which names a store in files, makes one call only.
+fn raised<S: Alter + Drop>(
+    alloc: Global,
+    mut conn: Connection<S>,
+) -> Result<(u32, Connection<S>), (OpenFault, Connection<S>)>
+    ensures opened { Opens (state S.Store conn) → IsLive (state S.Store conn)
+        → (version : ℕ) → (office : Office)
+        → LeftOf version (state S.Store conn).committed.trees office
+        → StandsOf version (state S.Store conn) office }
+    ensures raised { IfOk result (λ done. IsRaised S.Store conn done.1 done.0) }
+    ensures midway { IfOk result (λ done. LeavesEitherVersion S.Store conn done.1) }
+    ensures version { IfOk result (λ done. HasCleanDisk (state S.Store done.1)
+        → Opens (state S.Store conn) → IsLive (state S.Store conn) → (db : Database)
+        → IsDatabase db → (state S.Store conn).committed.trees ≡ db.trees
+        → IsVersionIn db done.0) }
+    ensures alone { IfOk result (λ done. done.0 ≡ own_version
+        → HasCleanDisk (state S.Store done.1) → Opens (state S.Store conn)
+        → HoldsOnly (state S.Store done.1) (state S.Store conn).committed.trees) }
+    ensures known { IfErr result (λ e. IsNoFaultOfVersion S.Store conn e.1 e.0) }
+    ensures kept { IfErr result (λ e. e.0 ≡ OpenFault.NoMemory → IsKeptOf S.Store conn e.1) }
+    ensures left { IfErr result (λ e. LeavesEitherVersion S.Store conn e.1) }
+    ensures untouched { IfErr result (λ e. e.0 ≡ OpenFault.NotABureau
+        → HasCleanDisk (state S.Store e.1) → Opens (state S.Store conn)
+        → HoldsOnly (state S.Store e.1) (state S.Store conn).committed.trees) }
+    ensures clean { IfOk result (λ done. doubt (state S.Store conn).is_clean
+        ≤ doubt (state S.Store done.1).is_clean) }
+    ensures clean_still { IfErr result (λ e. doubt (state S.Store conn).is_clean
+        ≤ doubt (state S.Store e.1).is_clean) }
+{
+    opened_stands_of(&conn);
+    match ledger::migrate(alloc, &mut conn) {
+        Ok(version) => Ok((version, conn)),
+        Err(fault) => Err((fault, conn)),
+    }
+}
+
+/// Opens the file at a path, and raises its tables to this program's version, in one commit.
+/// Returns the version that they had, and the connection, to be closed; if that was this version,
+/// nothing was written. Fails with 50 if the file is not a bureau's or is of a later version, with
+/// 1 if there is no memory, and else with 2. The contents of the files are then handed back, as far
+/// as they were reached: after 1 and 50 they hold what they held, after 2 they may be raised.
+pub fn migrate_from<S: Start>(
+    rt: &HostRuntime,
+    path: &str,
+    start: S,
+) -> Result<(u32, Connection<FileStore<FileFrom<S>>>), (OpenFault, Kept<FileFrom<S>>)>
+    ensures raised { IfOk result (λ done. IsMigrated (image_at S.Start) done.0 done.1) }
+    ensures midway { IfOk result (λ done. IsMidway (image_at S.Start) done.1) }
+    ensures version { IfOk result (λ done. HasCleanDisk (file_state done.1)
+        → IsVersionOf (image_at S.Start) done.0) }
+    ensures alone { IfOk result (λ done. done.0 ≡ own_version → HasCleanDisk (file_state done.1)
+        → (db : Trees) → HoldsDatabase (image_at S.Start) db
+        → HoldsOnly (file_state done.1) db) }
+    ensures refused { IfErr result (λ e. IsCleanKept e.1
+        → AreNotMigrated (image_at S.Start) e.0 e.1) }
+{
+    let conn = match Connection::open_from(rt, path, false, start) {
+        Ok(conn) => conn,
+        Err((error, left)) => return Err(handed_on(error, left)),
+    };
+    match raised(rt.alloc(), conn) {
+        Ok(done) => Ok(done),
+        Err((fault, conn)) => Err((fault, Kept::Connection(conn))),
+    }
+}
+
+/// Closes the file of a connection whose tables had this version and were raised. Fails with 1 only
+/// if nothing was raised, since 1 says that the file is as it was; otherwise with 2.
+pub fn close_migrated<D: Disk + Drop>(
+    version: u32,
+    conn: Connection<FileStore<D>>,
+) -> Result<Files<D>, (OpenFault, FileStore<D>)>
+    ensures alone { IfOk result (λ files. AreClean D.Disk files.log files.db → (office : Office)
+        → Stands (file_state conn) office → (left : Image)
+        → outcomes D.Disk files.log files.db left → StandsAlone left office) }
+    ensures migration { IfOk result (λ files. (first : Image) → IsMigrated first version conn
+        → IsMigration first (MayLeaveFiles D.Disk files)) }
+    ensures memory { IfErr result (λ e. e.0 ≡ OpenFault.NoMemory → version ≡ own_version) }
+    ensures told { IfErr result (λ e. IsNotOld e.0) }
+{
+    match close_connection(conn) {
+        Ok(files) => Ok(files),
+        Err((fault, store)) if version == VERSION => Err((fault, store)),
+        Err((_, store)) => Err((OpenFault::Store, store)),
+    }
+}
+
+/// Ends a migration of the file at a place from this version. Its log is removed while its file is
+/// still locked, so that no other program has begun to write to that log. If the file is not
+/// closed, the log stays.
+fn close_at<D: Disk + Drop>(
+    rt: &HostRuntime,
+    version: u32,
+    conn: Connection<FileStore<D>>,
+    place: &Place,
+) -> Result<u32, OpenFault>
+    ensures ok { IfOk result (λ told. told ≡ version) }
+    ensures memory { IsErrOf result OpenFault.NoMemory → version ≡ own_version }
+    ensures told { IfErr result IsNotOld }
+{
+    match close_migrated(version, conn) {
+        Ok(_locked) => {
+            place.remove_log(rt);
+            Ok(version)
+        }
+        Err((fault, _store)) => Err(fault),
+    }
+}
+
+/// Raises the bureau's file at a path to this program's version, and returns the version that it
+/// had. After it the file alone is the bureau; if it was of this version, it holds what it held.
+/// Fails with 50 if the file is not a bureau's or is of a later version, with 1 if there is no
+/// memory, and else with 2. After 1 and 50 it holds what it held, after 2 it may be raised; it can
+/// be migrated again. If it was raised and could not be closed, its log stays.
+pub fn migrate(rt: &HostRuntime, path: &str) -> Result<u32, OpenFault>
+    ensures { IfErr result IsNotOld }
+{
+    let place = Place::find(rt, path)?;
+    look(rt, &place.file)?;
+    place.remove_part(rt)?;
+    let log = place.log_length(rt);
+    match migrate_from(rt, &place.file, Unknown) {
+        Ok((version, conn)) => close_at(rt, version, conn, &place),
+        Err((fault, kept)) => {
+            let_go(rt, kept, &place, log);
+            Err(fault)
+        }
+    }
+}
