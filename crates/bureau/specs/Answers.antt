@@ -14,6 +14,7 @@ use Rattle.command_line.specs.declared.tasks.Task.TheVariants as task
 use Rattle.counter.specs.declared.Assembled.{Assembled}
 use Rattle.counter.specs.Put.{IsPut}
 use Rattle.command_line.specs.Asked.{page_of}
+use Rattle.service.specs.Migrating.{HasMigrated}
 use Rattle.service.specs.Outcomes.{HasShown, status_of}
 use Rattle.service.specs.Work.{Bytes, HasApplied}
 use Rattle.service.specs.declared.outcomes.Outcome.{Outcome}
@@ -49,6 +50,15 @@ pub record HasEndedScript (status : Status) (output_old output_new errors_old er
   pub status_is : status ≡ status_of outcome
   pub shown : HasShown outcome errors_old errors_new
 
+-- a bureau's file was migrated with this exit status: the line for its version is on the output,
+-- and the outcome was printed
+pub record HasEndedMigration (status : Status)
+    (output_old output_new errors_old errors_new : Bytes) : Type 0 where
+  pub outcome : Outcome
+  pub migrated : HasMigrated outcome output_old output_new
+  pub status_is : status ≡ status_of outcome
+  pub shown : HasShown outcome errors_old errors_new
+
 -- the task was done, with this exit status and with what it prints
 abbrev pub HasDone : Task → Status → Bytes → Bytes → Bytes → Bytes → Type 0
 HasDone (task.Help row) status output_old output_new errors_old errors_new =
@@ -61,6 +71,8 @@ HasDone (task.Assemble source out) status output_old output_new errors_old error
     HasAssembled status output_old output_new errors_old errors_new
 HasDone (task.Apply file script) status output_old output_new errors_old errors_new =
     HasEndedScript status output_old output_new errors_old errors_new
+HasDone (task.Migrate file) status output_old output_new errors_old errors_new =
+    HasEndedMigration status output_old output_new errors_old errors_new
 HasDone other status output_old output_new errors_old errors_new =
     Keeps output_old output_new × HasEnded status errors_old errors_new
 

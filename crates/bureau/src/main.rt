@@ -15,14 +15,14 @@ ghost use Rattle.command_line.specs.Printed.{IsTextShown, status_code, version_t
 ghost use Rattle.command_line.specs.Asked.{IsHelp, IsVersion, page_of};
 ghost use Rattle.command_line.specs.Plain.{texts};
 ghost use Rattle.command_line.specs.declared.row_names.RowName.{RowName};
-ghost use Rattle.bureau.specs.Answers.{HasAnswered, HasAssembled, HasEndedScript};
+ghost use Rattle.bureau.specs.Answers.{HasAnswered, HasAssembled, HasEndedMigration, HasEndedScript};
 
 use crate::errors::Unfailing;
 use command_line::{
     Fault, Misuse, Status, Task, show_help, show_version, task_of, tell_fault, tell_misuse,
 };
 use counter::{assemble_deck, run_input, write_out};
-use service::{apply, export, init, serve, show_outcome};
+use service::{apply, export, init, migrate, serve, show_outcome};
 use std::fs::File;
 use std::io::Write;
 use std::process::ExitCode;
@@ -69,6 +69,21 @@ fn apply_script<W: Write, E: Write>(
     show_outcome(errors, outcome)
 }
 
+/// Makes the bureau's file one of this version.
+fn migrate_file<W: Write, E: Write>(
+    rt: &HostRuntime,
+    file: &str,
+    output: &mut W,
+    errors: &mut E,
+) -> io::Result<Status>
+    ensures { IfOk result (λ status. HasEndedMigration status
+        (W.contents output.old) (W.contents output.new)
+        (E.contents errors.old) (E.contents errors.new)) }
+{
+    let outcome = migrate(rt, file, output);
+    show_outcome(errors, outcome)
+}
+
 /// Does what the words after the program's name ask for.
 fn answer<W: Write, E: Write>(
     rt: &HostRuntime,
@@ -101,6 +116,7 @@ fn answer<W: Write, E: Write>(
         Ok(Task::Assemble { source, out }) => assemble(rt, source, out, output, errors),
         Ok(Task::Init { file }) => show_outcome(errors, init(rt, file)),
         Ok(Task::Apply { file, script }) => apply_script(rt, file, script, output, errors),
+        Ok(Task::Migrate { file }) => migrate_file(rt, file, output, errors),
         Ok(Task::Serve { file, port, count }) => {
             show_outcome(errors, serve(rt, file, port, count))
         }

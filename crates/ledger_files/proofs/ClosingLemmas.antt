@@ -1,5 +1,5 @@
 -- Why a close fails.
-use Rattle.std.proofs.Common.{◌≡◌, inl, inr, subst, Bool, Result, Ok, Err}
+use Rattle.std.proofs.Common.{◌≡◌, inl, inr, Bool, Result, Ok, Err}
 use Rattle.std.specs.Prelude.{IfErr}
 use Rattle.sqlite_disk.specs.declared.Disk.{Ghosts}
 use Rattle.sqlite_store.specs.declared.store.FileStore.{FileStore}
@@ -18,7 +18,7 @@ use Rattle.sqlite.specs.View.{IsClean}
 use Rattle.ledger_files.specs.Closing.{HindersClosing, HindersEnding}
 
 module _ {D : Type 0} {g : Ghosts D} (left : FileStore D g) (error : Error) (fault : OpenFault) (memory : error ≡ SqliteFailure code.OutOfMemory → fault ≡ NoMemory) where
-  -- what excuses the store's close hinders the bureau's
+  -- what excuses the store's close hinders the connection's
   excused : (conn : Held (FileStore D g)) (cause : StoreError) → error ≡ store_error cause → ExcusesClose conn left cause → HindersClosing conn left fault
   excused conn stored.OutOfMemory is excuse = inl (memory is)
   excused conn stored.Io is excuse = inr (inr excuse)
@@ -27,8 +27,8 @@ module _ {D : Type 0} {g : Ghosts D} (left : FileStore D g) (error : Error) (fau
   excused conn stored.Broken is excuse = inr excuse
   excused conn stored.Unstorable is excuse = absurd excuse
 
-  pub hinders : (bureau conn : Held (FileStore D g)) → conn ≡ bureau → FailsToClose conn left error → HindersClosing bureau left fault
-  hinders bureau conn same fails = subst (λ h. HindersClosing h left fault) same (excused conn fails.0 fails.1 fails.2)
+  pub hinders : (conn : Held (FileStore D g)) → FailsToClose conn left error → HindersClosing conn left fault
+  hinders conn fails = excused conn fails.0 fails.1 fails.2
 
 -- what hinders the closing hinders the end of the work
 pub ends_hindered : {X D : Type 0} {g : Ghosts D} (is_broken : Bool) (conn : Held (FileStore D g)) (result : Result X (OpenFault × FileStore D g))

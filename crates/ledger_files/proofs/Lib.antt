@@ -1,5 +1,6 @@
 pub mod ClosingLemmas
 pub mod OpeningFinds
 pub mod OpeningLeftovers
+pub mod MigratingLemmas
 pub mod StopLemmas
 pub mod RoundLemmas

@@ -1,5 +1,5 @@
 -- What an open finds.
-use Rattle.std.proofs.Common.{◌≡◌, inr, IsTrue, Err, refl, sym, ap, ap₂, subst, ◌∙◌}
+use Rattle.std.proofs.Common.{◌≡◌, inl, inr, ℕ, IsTrue, Err, refl, sym, ap, ap₂, subst, ◌∙◌}
 use Rattle.sqlite.specs.Tree.{Trees}
 use Rattle.sqlite.specs.Effect.{Database, IsDatabase}
 use Rattle.sqlite.specs.State.{State, Opens, IsLive}
@@ -12,6 +12,7 @@ use Rattle.ledger_tables.specs.declared.openings.OpenFault.{OpenFault}
 use Rattle.ledger_tables.specs.declared.openings.OpenFault.TheVariants.{NoMemory, Store, NotABureau, Old}
 use Rattle.office.specs.Office.{Office}
 use Rattle.ledger.specs.Adopting.{IsUntouched}
+use Rattle.ledger.specs.Older.{LeftOf, RowsOf, StandsOf, schema_of}
 use Rattle.ledger.specs.Standing.{Rows, LeftAs, Stands}
 use Rattle.ledger_files.specs.Opening.{HoldsOnly}
 
@@ -44,6 +45,22 @@ found_is s db opens live sound same =
     let here = (live opens.is_open).1 in
     let schema : s.committed.schema ≡ db.schema = lists_once _ s.committed.schema db.schema here.lists (subst (λ t. Lists (t catalog_tree) db.schema) (sym same) sound.lists) in
     opens.clean ∙ ap₂ (λ k t. let d : Database = record { schema = k; trees = t } in d) schema same
+
+-- rows of any version are in a database
+rows_sound : (version : ℕ) (db : Database) (office : Office) → RowsOf version db office → IsDatabase db
+rows_sound version db office (inl (is, rows)) = rows.tables.sound
+rows_sound version db office (inr (inl (is, rows))) = rows.tables.sound
+rows_sound version db office (inr (inr (is, rows))) = rows.tables.sound
+
+-- a connection that was just opened represents the office of its trees, in their version
+pub found_stands_of : (s : State) (version : ℕ) (office : Office) → Settles s → Opens s → IsLive s → LeftOf version s.committed.trees office → StandsOf version s office
+found_stands_of s version office settles opens live here =
+    let db : Database = record { schema = schema_of version; trees = s.committed.trees } in
+    record {
+      outside = opens.autocommit;
+      now = λ _. subst (λ d. RowsOf version d office) (sym (found_is s db opens live (rows_sound version db office here) refl)) here;
+      left = λ d may. subst (λ t. LeftOf version t office) (sym (settles d opens.is_open may)) here;
+    }
 
 -- the two faults may come for any database
 pub known_answer : (X : Type 0) (db : Database) (fault : OpenFault) → IsKnown fault → IsAnswer {X = X} db (Err fault)

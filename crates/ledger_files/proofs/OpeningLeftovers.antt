@@ -23,11 +23,12 @@ use Rattle.sqlite.specs.declared.error.Error.{Error}
 use Rattle.sqlite.specs.declared.file.Leftover.{Leftover}
 use Rattle.sqlite.specs.declared.file.Leftover.TheVariants as left
 use Rattle.sqlite.proofs.FileLemmas.{is_something}
-use Rattle.office.specs.Office.{Office}
+use Rattle.ledger.specs.Older.{LeftOf}
 use Rattle.ledger.specs.Standing.{LeftAs}
 use Rattle.ledger_files.proofs.OpeningFinds.{known_answer}
 use Rattle.ledger_tables.specs.Versions.{IsKnown}
-use Rattle.ledger_files.specs.Opening.{AreRefused, AreStoredAs, IsCleanKept, IsOutOfReach, LeftStands, kept_of, store_fault}
+use Rattle.ledger_files.specs.Migrating.{AreNotMigrated}
+use Rattle.ledger_files.specs.Opening.{AreRefused, AreStoredWith, IsCleanKept, IsOutOfReach, LeftHolds, kept_of, store_fault}
 
 reserved_is : (size : ℕ) → reserved size ≡ if is_summed size then 8 else 0
 reserved_is size = elim (cases_eq (size % 16) 8) [
@@ -81,14 +82,14 @@ module _ (image : Image) (db : Trees) (held : HoldsDatabase image db) where
   used_size_is size true is taken names says = one_used held.0 size (is ∙ sym (taken refl)) (one_size (stored_size size) names)
   used_size_is size false is taken names says = let stored = one_size (stored_size size) names in one_used held.0 size (is ∙ sym (no_sums size is stored says)) stored
 
-module _ {D : Type 0} (g : Ghosts D) (files : Files D) (alone : (image : Image) → outcomes g files.log files.db image → image ≡ image_of g files) (has_sums : Bool) (office : Office) (are : AreStoredAs has_sums (image_of g files) office) where
+module _ {D : Type 0} (g : Ghosts D) (files : Files D) (alone : (image : Image) → outcomes g files.log files.db image → image ≡ image_of g files) (has_sums : Bool) (Here : Trees → Type 0) (are : AreStoredWith has_sums (image_of g files) Here) where
   abbrev IsFileOf : Image → Type 0
-  IsFileOf image = (db : Trees) × (held : HoldsDatabase image db) × (is_summed held.0 ≡ has_sums) × LeftAs db office
+  IsFileOf image = (db : Trees) × (held : HoldsDatabase image db) × (is_summed held.0 ≡ has_sums) × Here db
 
-  files_stand : (now : Files D) → ((image : Image) → outcomes g now.log now.db image → outcomes g files.log files.db image) → (image : Image) → outcomes g now.log now.db image → AreStoredAs has_sums image office
-  files_stand now leaves image may = subst (λ i. AreStoredAs has_sums i office) (sym (alone image (leaves image may))) are
+  files_stand : (now : Files D) → ((image : Image) → outcomes g now.log now.db image → outcomes g files.log files.db image) → (image : Image) → outcomes g now.log now.db image → AreStoredWith has_sums image Here
+  files_stand now leaves image may = subst (λ i. AreStoredWith has_sums i Here) (sym (alone image (leaves image may))) are
 
-  unopened_stand : (now : Unopened D g) → LeavesFiles files (left.Unopened now) → (IsTrue has_sums → IsTrue (is_summed (state_of now).page_size)) → (image : Image) → (state_of now).may_leave image → AreStoredAs has_sums image office
+  unopened_stand : (now : Unopened D g) → LeavesFiles files (left.Unopened now) → (IsTrue has_sums → IsTrue (is_summed (state_of now).page_size)) → (image : Image) → (state_of now).may_leave image → AreStoredWith has_sums image Here
   unopened_stand now leaves taken image may = ∥∥₁_map are (λ it. elim leaves [
     | inl nothing ↦ absurd (is_something (image_of g files) it.0 it.1 nothing.0)
     | inr kept ↦ elim (kept.4 image may).same [
@@ -100,11 +101,11 @@ module _ {D : Type 0} (g : Ghosts D) (files : Files D) (alone : (image : Image) 
     ]
   ])
 
-  store_stands : (now : FileStore D g) → LeavesFiles files (left.Store now) → ∥ ((db : Trees) → recovers now db → LeftAs db office) ∥₁
-  store_stands now leaves = ∥∥₁_map are (λ it. let r : (db : Trees) → recovers now db → LeftAs db office = λ db may. subst (λ d. LeftAs d office) (sym ((leaves db may).1 it.0 it.1)) it.3 in r)
+  store_stands : (now : FileStore D g) → LeavesFiles files (left.Store now) → ∥ ((db : Trees) → recovers now db → Here db) ∥₁
+  store_stands now leaves = ∥∥₁_map are (λ it. let r : (db : Trees) → recovers now db → Here db = λ db may. subst Here (sym ((leaves db may).1 it.0 it.1)) it.3 in r)
 
   -- each of the three
-  pub left_stands : (rest : Leftover D g) → LeavesFiles files rest → LeftStands has_sums rest office
+  pub left_stands : (rest : Leftover D g) → LeavesFiles files rest → LeftHolds has_sums rest Here
   left_stands (left.Files now) leaves = files_stand now leaves
   left_stands (left.Unopened now) leaves = unopened_stand now leaves
   left_stands (left.Store now) leaves = store_stands now leaves
@@ -122,10 +123,10 @@ both a b log db = ap₂ (λ x y. let i : Image = record { log = x; db = y } in i
 
 -- what is left of an open of files that were as `start` says
 pub fresh_stands : {D : Type 0} {g : Ghosts D} (files : Files D) (rest : Leftover D g) → LeavesFiles files rest → (start : Image) → g.seen files.log ≡ start.log → g.seen files.db ≡ start.db
-    → ((c : List ℕ) → g.may_leave files.log c → c ≡ start.log) → ((c : List ℕ) → g.may_leave files.db c → c ≡ start.db) → (has_sums : Bool) (office : Office) → AreStoredAs has_sums start office → LeftStands has_sums rest office
-fresh_stands {D} {g} files rest leaves start log_seen db_seen log_left db_left has_sums office are =
-    left_stands g files (λ image out. both _ _ (log_left image.log out.0 ∙ sym log_seen) (db_left image.db out.1 ∙ sym db_seen)) has_sums office
-    (subst (λ i. AreStoredAs has_sums i office) (sym (both _ _ log_seen db_seen)) are) rest leaves
+    → ((c : List ℕ) → g.may_leave files.log c → c ≡ start.log) → ((c : List ℕ) → g.may_leave files.db c → c ≡ start.db) → (has_sums : Bool) (Here : Trees → Type 0) → AreStoredWith has_sums start Here → LeftHolds has_sums rest Here
+fresh_stands {D} {g} files rest leaves start log_seen db_seen log_left db_left has_sums Here are =
+    left_stands g files (λ image out. both _ _ (log_left image.log out.0 ∙ sym log_seen) (db_left image.db out.1 ∙ sym db_seen)) has_sums Here
+    (subst (λ i. AreStoredWith has_sums i Here) (sym (both _ _ log_seen db_seen)) are) rest leaves
 
 -- these files have been as this image says since they were opened
 pub record AreAsFound {D : Type 0} (g : Ghosts D) (start : Image) (files : Files D) : Type 0 where
@@ -149,7 +150,7 @@ module _ {D : Type 0} {g : Ghosts D} (start : Image) (error : Error) (known : Is
       let all = cause.2 clean in
       record {
         known = λ office are. known;
-        stands = λ has_sums office are. fresh_stands files left all.1 start (ap (λ (i : Image). i.log) found.seen) (ap (λ (i : Image). i.db) found.seen) found.log found.db has_sums office are;
+        stands = λ has_sums office are. fresh_stands files left all.1 start (ap (λ (i : Image). i.log) found.seen) (ap (λ (i : Image). i.db) found.seen) found.log found.db has_sums (λ db. LeftAs db office) are;
         answer = λ db held sound. known_answer (Unit {0}) db _ known;
         told = (error, files, found.seen, all.0, refl);
         untouched = λ db held. known;
@@ -160,4 +161,25 @@ module _ {D : Type 0} {g : Ghosts D} (start : Image) (error : Error) (known : Is
     answer = λ db held sound. known_answer (Unit {0}) db _ known;
     told = (error, far refl, refl);
     untouched = λ db held. known;
+  }
+
+  -- .. nor migrated
+  pub not_migrated : (left : Option (Leftover D g)) → (left ≡ None → IsOutOfReach error) → IfSome left IsLeftBy → IsCleanKept (kept_of left) → AreNotMigrated start (store_fault error) (kept_of left)
+  not_migrated (Some left) far cause clean =
+      let files = cause.0 in
+      let found = cause.1 in
+      let all = cause.2 clean in
+      record {
+        not_old = known.1;
+        known = λ version office are. known.0;
+        keeps = λ has_sums version office are. fresh_stands files left all.1 start (ap (λ (i : Image). i.log) found.seen) (ap (λ (i : Image). i.db) found.seen) found.log found.db has_sums (λ db. LeftOf version db office) are;
+        told = (error, files, found.seen, all.0, refl);
+        untouched = λ is db held. tt;
+      }
+  not_migrated None far cause clean = record {
+    not_old = known.1;
+    known = λ version office are. known.0;
+    keeps = λ has_sums version office are. tt;
+    told = (error, far refl, refl);
+    untouched = λ is db held. tt;
   }

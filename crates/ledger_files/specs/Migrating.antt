@@ -15,7 +15,7 @@ use Rattle.ledger_tables.specs.declared.openings.OpenFault.TheVariants.{NoMemory
 use Rattle.office.specs.Office.{Office}
 use Rattle.ledger.specs.Older.{LeftOf, StandsOf}
 use Rattle.ledger.specs.Standing.{LeftAs, Stands}
-use Rattle.ledger_files.specs.Opening.{AreOf, AreStoredWith, HoldsOnly, LeftHolds}
+use Rattle.ledger_files.specs.Opening.{AreOf, AreStoredWith, HoldsOnly, IsToldOf, LeftHolds}
 use Rattle.ledger_files.specs.declared.kept.Kept.{Kept}
 use Rattle.ledger_files.specs.declared.kept.Kept.TheVariants as kept
 
@@ -77,6 +77,11 @@ module _ {D : Type 0} {g : Ghosts D} where
   KeptAlone (kept.Connection conn) db = HoldsOnly (file_state conn) db
   KeptAlone rest db = ⊤
 
+  -- where files could not be opened, or not be reached, the fault is told right of the error
+  abbrev pub IsToldUnopened : Image → OpenFault → Kept D g → Type 0
+  IsToldUnopened image fault (kept.Connection conn) = ⊤
+  IsToldUnopened image fault rest = IsToldOf image fault rest
+
   -- the files of this image were not migrated, for this fault, and this is handed back
   pub record AreNotMigrated (image : Image) (fault : OpenFault) (rest : Kept D g) : Type 0 where
     -- the fault is never that the files are of an old version, and files of an office, in any
@@ -87,6 +92,7 @@ module _ {D : Type 0} {g : Ghosts D} where
     pub keeps : (has_sums : Bool) (version : ℕ) (office : Office)
         → AreStoredWith has_sums image (λ db. LeftOf version db office)
         → KeptKeeps has_sums version fault rest office
+    pub told : IsToldUnopened image fault rest
     -- what the files hold is not changed by fault 50
     pub untouched : fault ≡ NotABureau → (db : Trees) → HoldsDatabase image db
         → KeptAlone rest db

@@ -11,8 +11,9 @@
 //! was replied to. Any number of such rounds make the chain of the theorem of stops.
 //!
 //! [`migrate`] raises the file at a path to this program's version. [`migrate_from`] opens it and
-//! raises its tables, and its connection is then closed ([`close_connection`]), or everything stops
-//! ([`leave`]): the files are of the same office, in the version that they had or in this program's.
+//! raises its tables; its connection is then closed ([`close_migrated`], by [`close_connection`]),
+//! or everything stops ([`leave`]). The files are then of the same office as before, in the version
+//! that they had or in this program's.
 #![tactic(auto)]
 
 mod closing;

@@ -31,15 +31,6 @@ use sqlite::{Alter, Connection, FileFrom, FileStore, Start, Unknown};
 use sqlite_disk::{Disk, Files};
 use std::alloc::Global;
 
-/// Proves that a connection that was just opened represents the office of its trees in their
-/// version. It is called only for its clause.
-fn opened_stands_of<S: Alter>(conn: &Connection<S>)
-    ensures { Opens (state S.Store conn.now) → IsLive (state S.Store conn.now)
-        → (version : ℕ) → (office : Office)
-        → LeftOf version (state S.Store conn.now).committed.trees office
-        → StandsOf version (state S.Store conn.now) office }
-{}
-
 /// Raises the tables of a connection that was just opened, and returns the version that they had.
 // It is over any store, so that `migrate_from`, which names a store in files, makes one call only.
 fn raised<S: Alter + Drop>(
@@ -70,7 +61,6 @@ fn raised<S: Alter + Drop>(
     ensures clean_still { IfErr result (λ e. doubt (state S.Store conn).is_clean
         ≤ doubt (state S.Store e.1).is_clean) }
 {
-    opened_stands_of(&conn);
     match ledger::migrate(alloc, &mut conn) {
         Ok(version) => Ok((version, conn)),
         Err(fault) => Err((fault, conn)),
@@ -96,6 +86,7 @@ pub fn migrate_from<S: Start>(
         → HoldsOnly (file_state done.1) db) }
     ensures refused { IfErr result (λ e. IsCleanKept e.1
         → AreNotMigrated (image_at S.Start) e.0 e.1) }
+    ensures told { IfErr result (λ e. IsNotOld e.0) }
 {
     let conn = match Connection::open_from(rt, path, false, start) {
         Ok(conn) => conn,

@@ -5,8 +5,8 @@
 //! its caller begins and ends. Its contract has two parts (`specs/Steps.antt`). First, a step stays
 //! in the transaction, or leaves the commit below it, and adds nothing to what a crash may leave.
 //! Second, the change of `Tables` that it makes, or what it reads of them without a change.
-//! `find_version` checks whether the database is a bureau's at all, and of which version. The tables of
-//! an earlier version are made this one's by the statements of `raising`.
+//! `find_version` checks whether the database is a bureau's at all, and of which version. The
+//! tables of an earlier version are made this one's by the statements of `raising`.
 #![tactic(auto)]
 
 mod creates;

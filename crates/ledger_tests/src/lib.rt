@@ -1,6 +1,6 @@
 //! Tests of the bureau: the replies to sheets of commands and the rows after them; disks that fail
-//! and memory that is refused; shifts; and, below it, the rows of its tables and the pictures of
-//! machines in them.
+//! and memory that is refused; shifts; tables of older versions; and, below it, the rows of its
+//! tables and the pictures of machines in them.
 //!
 //! They are one crate, because each crate over `sqlite` takes a minute to start.
 #![tactic(auto)]
@@ -22,11 +22,17 @@ mod machines;
 #[cfg(test)]
 mod media;
 #[cfg(test)]
+mod migrations;
+#[cfg(test)]
 mod numbers;
+#[cfg(test)]
+mod old_tables;
 #[cfg(test)]
 mod opened_anew;
 #[cfg(test)]
 mod opened_files;
+#[cfg(test)]
+mod page_rows;
 #[cfg(test)]
 mod refusals;
 #[cfg(test)]

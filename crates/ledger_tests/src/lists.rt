@@ -1,7 +1,7 @@
 //! The lists of a few jobs, before and after their flags are set.
 
-use crate::rows::picture;
-use ledger_tables::{Fault, JobName, JobRow, OpenTables, PictureRow, StretchRow};
+use crate::rows::STATE;
+use ledger_tables::{Fault, JobName, JobRow, OpenTables, StretchRow};
 use sqlite::{Alter, Connection};
 use std::alloc::Global;
 use std::test::Fail;
@@ -33,7 +33,6 @@ fn add<S: Alter>(
     tables: &mut OpenTables<'_, '_, S>,
     name: JobName<'_>,
     job: &JobRow,
-    picture: &PictureRow,
 ) -> Result<(), Fault> {
     tables.insert_job(name, job)?;
     let stretch = StretchRow {
@@ -41,13 +40,12 @@ fn add<S: Alter>(
         granted: 2,
     };
     tables.insert_stretch(name, 0, stretch)?;
-    tables.insert_picture(name, picture)
+    tables.insert_state(name, STATE)
 }
 
 /// Makes the tables, with jobs of three customers.
 fn fill<S: Alter>(tables: &mut OpenTables<'_, '_, S>) -> Result<(), Fail> {
     let job = job(tables.alloc)?;
-    let picture = picture(tables.alloc)?;
     tables.make()?;
     for (customer, number) in [
         ("ACME", 10),
@@ -56,7 +54,7 @@ fn fill<S: Alter>(tables: &mut OpenTables<'_, '_, S>) -> Result<(), Fail> {
         ("ACM", 100),
         ("ACME", 2),
     ] {
-        add(tables, JobName { customer, number }, &job, &picture)?;
+        add(tables, JobName { customer, number }, &job)?;
     }
     Ok(())
 }

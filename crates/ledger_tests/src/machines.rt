@@ -1,12 +1,12 @@
 //! A machine kept as rows, and made again from them.
 
 use crate::decks::deck_named;
-use core_store::{FlagCore, Size};
+use core_store::{Core, FlagCore, LARGEST_SIZE, PAGE_SIZE, Size};
 use ledger_rows::{
-    Media, deck_bytes, line_row, picture_row, read_deck, read_picture, read_rows, read_switches,
-    switches_number,
+    Media, deck_bytes, is_blank_page, line_row, page_bytes, read_deck, read_picture, read_rows,
+    read_switches, state_row, switches_number,
 };
-use ledger_tables::{LineRow, PictureRow};
+use ledger_tables::{LineRow, PageRow, StateRow};
 use machine::{Machine, Meter, Parts};
 use std::alloc::Global;
 use std::test::Fail;
@@ -29,9 +29,40 @@ fn machine_after(alloc: Global, limit: u32) -> Result<Machine<FlagCore>, Fail> {
     Ok(machine)
 }
 
-/// The row of a machine's picture.
-fn row_of(alloc: Global, machine: &Machine<FlagCore>) -> Result<PictureRow, Fail> {
-    Ok(picture_row(alloc, machine.parts())?)
+/// The rows of the pages of a storage that are not blank.
+pub(crate) fn page_rows<C: Core>(alloc: Global, core: &C) -> Result<Vec<PageRow>, Fail> {
+    let mut rows = Vec::new(alloc);
+    if core.size() > LARGEST_SIZE {
+        return Err("too many positions")?;
+    }
+    for page in 0..core.size() / PAGE_SIZE {
+        let bytes = page_bytes(core, page);
+        if !is_blank_page(&bytes) {
+            rows.push(PageRow {
+                page: u32::from(page),
+                storage: Vec::from_slice(alloc, &bytes)?,
+            })?;
+        }
+    }
+    Ok(rows)
+}
+
+/// The rows of a machine's picture.
+#[derive(Drop)]
+struct PictureRows {
+    positions: u32,
+    state: StateRow,
+    pages: Vec<PageRow>,
+}
+
+/// The rows of a machine's picture.
+fn rows_of(alloc: Global, machine: &Machine<FlagCore>) -> Result<PictureRows, Fail> {
+    let parts = machine.parts();
+    Ok(PictureRows {
+        positions: u32::from(parts.core.size()),
+        state: state_row(parts),
+        pages: page_rows(alloc, &parts.core)?,
+    })
 }
 
 /// The cards and lines of a machine, except punched cards, written and read back.
@@ -49,9 +80,24 @@ fn media_of(alloc: Global, parts: &Parts<FlagCore>) -> Result<Media, Fail> {
     })
 }
 
+/// The picture of these rows, if it is one.
+fn picture_of(
+    alloc: Global,
+    rows: &PictureRows,
+    media: Media,
+) -> Result<Option<Parts<FlagCore>>, Fail> {
+    Ok(read_picture::<FlagCore>(
+        alloc,
+        rows.positions,
+        rows.state,
+        rows.pages.as_slice(),
+        media,
+    )?)
+}
+
 /// The machine of these rows.
-fn remade(alloc: Global, row: &PictureRow, media: Media) -> Result<Machine<FlagCore>, Fail> {
-    let parts = read_picture::<FlagCore>(alloc, row, media)?.ok_or("a picture")?;
+fn remade(alloc: Global, rows: &PictureRows, media: Media) -> Result<Machine<FlagCore>, Fail> {
+    let parts = picture_of(alloc, rows, media)?.ok_or("a picture")?;
     Ok(Machine::from_parts(alloc, parts)?.ok_or("a picture in range")?)
 }
 
@@ -62,35 +108,39 @@ fn listing_of(alloc: Global, machine: &Machine<FlagCore>) -> Result<Vec<u8>, Fai
 
 /// A machine made again from its rows.
 fn made_again(alloc: Global, machine: &Machine<FlagCore>) -> Result<Machine<FlagCore>, Fail> {
-    let row = row_of(alloc, machine)?;
+    let rows = rows_of(alloc, machine)?;
     let media = media_of(alloc, machine.parts())?;
-    remade(alloc, &row, media)
+    remade(alloc, &rows, media)
 }
 
-/// The row of a machine's picture, as a text.
-fn row_text(alloc: Global, machine: &Machine<FlagCore>) -> Result<String, Fail> {
-    let row = row_of(alloc, machine)?;
-    Ok(format!(in alloc; "{row:?}")?)
+/// The rows of a machine's picture, as a text.
+fn rows_text(alloc: Global, machine: &Machine<FlagCore>) -> Result<String, Fail> {
+    let rows = rows_of(alloc, machine)?;
+    let mut text = format!(in alloc; "{:?}", rows.state)?;
+    for row in &rows.pages {
+        write!(&mut text, "; {}: {:?}", row.page, row.storage)?;
+    }
+    Ok(text)
 }
 
-/// Whether a machine has this row, and its listing after it has run on.
+/// Whether a machine has these rows, and its listing after it has run on.
 fn told_at_its_end(
     alloc: Global,
     machine: &mut Machine<FlagCore>,
-    row: &str,
+    rows: &str,
 ) -> Result<String, Fail> {
-    let same = row_text(alloc, machine)?.as_str() == row;
+    let same = rows_text(alloc, machine)?.as_str() == rows;
     run_on(machine, 2000)?;
     let listing = listing_of(alloc, machine)?;
     let text = str::from_utf8(&listing).ok().ok_or("glyphs")?;
-    Ok(format!(in alloc; "the same row {same}, {text}")?)
+    Ok(format!(in alloc; "the same rows {same}, {text}")?)
 }
 
 /// The same for a machine that is made again from the rows of this one.
 fn told_of_the_next(alloc: Global, machine: &Machine<FlagCore>) -> Result<String, Fail> {
-    let row = row_text(alloc, machine)?;
+    let rows = rows_text(alloc, machine)?;
     let mut next = made_again(alloc, machine)?;
-    told_at_its_end(alloc, &mut next, row.as_str())
+    told_at_its_end(alloc, &mut next, rows.as_str())
 }
 
 /// The same for a machine that has run for at most `limit` instructions and is made again.
@@ -102,36 +152,36 @@ fn told_again(alloc: Global, limit: u32) -> Result<String, Fail> {
 #[test]
 fn a_machine_goes_on_from_its_rows(rt: HostRuntime) -> Result<(), Fail> {
     let told = told_again(rt.alloc(), 30)?;
-    assert_eq!(rt; told.as_str(), "the same row true, HELLO\nWORLD\n");
+    assert_eq!(rt; told.as_str(), "the same rows true, HELLO\nWORLD\n");
     Ok(())
 }
 
-/// How many lines the picture of a row has made before those of its media, if it is one: the media
-/// have at most `most` lines.
+/// How many lines the picture of some rows has made before those of its media, if it is one: the
+/// media have at most `most` lines.
 fn lines_before(
     alloc: Global,
     machine: &Machine<FlagCore>,
-    row: &PictureRow,
+    rows: &PictureRows,
     most: usize,
 ) -> Result<Option<u32>, Fail> {
     let mut media = media_of(alloc, machine.parts())?;
     media.lines.truncate(most);
-    match read_picture::<FlagCore>(alloc, row, media)? {
+    match picture_of(alloc, rows, media)? {
         Some(parts) => Ok(Some(parts.units.before.lines)),
         None => Ok(None),
     }
 }
 
-/// The row of a machine, and the lines before those of its media: two, one, none, and two where the
-/// row counts one.
+/// The row of a machine's state, and the lines before those of its media: two, one, none, and two
+/// where the row counts one.
 fn row_told(alloc: Global, machine: &Machine<FlagCore>) -> Result<String, Fail> {
-    let mut row = row_of(alloc, machine)?;
-    let (lines, taken, standing) = (row.lines, row.taken, row.standing);
-    let two = lines_before(alloc, machine, &row, 2)?;
-    let one = lines_before(alloc, machine, &row, 1)?;
-    let none = lines_before(alloc, machine, &row, 0)?;
-    row.lines = 1;
-    let less = lines_before(alloc, machine, &row, 2)?;
+    let mut rows = rows_of(alloc, machine)?;
+    let (lines, taken, standing) = (rows.state.lines, rows.state.taken, rows.state.standing);
+    let two = lines_before(alloc, machine, &rows, 2)?;
+    let one = lines_before(alloc, machine, &rows, 1)?;
+    let none = lines_before(alloc, machine, &rows, 0)?;
+    rows.state.lines = 1;
+    let less = lines_before(alloc, machine, &rows, 2)?;
     Ok(format!(in alloc;
         "{lines} lines, {taken} taken, standing {standing}, \
         before {two:?} {one:?} {none:?} {less:?}"

@@ -1,22 +1,22 @@
 //! Storage, indicators, orders, standings and switches as numbers, and read back.
 
 use crate::decks::deck_named;
+use crate::machines::page_rows;
 use bcd::Code;
 use bitflags::Flags;
-use core_store::{Core, FlagCore, Size};
+use core_store::{Core, FlagCore, PlaneCore, Size};
 use ledger_rows::{
-    Media, picture_row, read_picture, read_switches, read_truth, switches_number, truth,
+    Media, read_picture, read_storage, read_switches, read_truth, state_row, switches_number, truth,
 };
-use ledger_tables::PictureRow;
+use ledger_tables::{PageRow, StateRow};
 use machine::{Machine, Parts};
 use std::alloc::Global;
 use std::test::Fail;
 use units::Switches;
 
-/// A row with these numbers and this storage, for a machine that has read a card and made nothing.
-fn row_with(storage: Vec<u8>, compare: u32, waiting: u32, standing: u32) -> PictureRow {
-    PictureRow {
-        storage,
+/// A state's row with these numbers, for a machine that has read a card and made nothing.
+fn row_with(compare: u32, waiting: u32, standing: u32) -> StateRow {
+    StateRow {
         i: 1,
         a: 0,
         b: 0,
@@ -43,23 +43,33 @@ fn media(alloc: Global) -> Result<Media, Fail> {
     })
 }
 
-/// The picture of a row, if it is one.
-fn picture_of(alloc: Global, row: &PictureRow) -> Result<Option<Parts<FlagCore>>, Fail> {
-    Ok(read_picture::<FlagCore>(alloc, row, media(alloc)?)?)
+/// The picture of a state's row, of a number of positions with these pages, if it is one.
+fn picture_of(
+    alloc: Global,
+    positions: u32,
+    row: StateRow,
+    pages: &[PageRow],
+) -> Result<Option<Parts<FlagCore>>, Fail> {
+    Ok(read_picture::<FlagCore>(
+        alloc,
+        positions,
+        row,
+        pages,
+        media(alloc)?,
+    )?)
 }
 
-/// The row of a machine with these parts.
-fn row_again(alloc: Global, parts: Parts<FlagCore>) -> Result<PictureRow, Fail> {
+/// The row of the state of a machine with these parts.
+fn row_again(alloc: Global, parts: Parts<FlagCore>) -> Result<StateRow, Fail> {
     let machine = Machine::from_parts(alloc, parts)?.ok_or("a picture in range")?;
-    Ok(picture_row(alloc, machine.parts())?)
+    Ok(state_row(machine.parts()))
 }
 
 /// A picture with these numbers in words: the comparison, the order that waits and the standing;
 /// and the numbers of that picture.
 fn told(alloc: Global, compare: u32, waiting: u32, standing: u32) -> Result<String, Fail> {
-    let storage = vec![in alloc; 0; 1400]?;
-    let row = row_with(storage, compare, waiting, standing);
-    let Some(parts) = picture_of(alloc, &row)? else {
+    let row = row_with(compare, waiting, standing);
+    let Some(parts) = picture_of(alloc, 1400, row, &[])? else {
         return Ok(String::from_str(alloc, "none")?);
     };
     let compared = parts.registers.compare;
@@ -151,38 +161,35 @@ fn marked_core(alloc: Global, glyph: u8) -> Result<FlagCore, Fail> {
     Ok(core)
 }
 
-/// The picture of a machine with this storage.
-fn parts_with(alloc: Global, core: FlagCore) -> Result<Parts<FlagCore>, Fail> {
-    let row = row_with(vec![in alloc; 0; 1400]?, 0, 0, 0);
-    let Parts {
-        core: _,
-        registers,
-        units,
-        standing,
-    } = picture_of(alloc, &row)?.ok_or("a picture")?;
-    if core.size() < 1400 {
-        return Err("too few positions")?;
+/// The rows of the pages of the storage that these rows make, if they do.
+fn pages_again(alloc: Global, pages: &[PageRow]) -> Result<Option<Vec<PageRow>>, Fail> {
+    match picture_of(alloc, 1400, row_with(0, 0, 0), pages)? {
+        Some(parts) => Ok(Some(page_rows(alloc, &parts.core)?)),
+        None => Ok(None),
     }
-    Ok(Parts {
-        core,
-        registers,
-        units,
-        standing,
-    })
 }
 
-/// A storage with two characters and a mark as bytes: their number, those of the positions 0, 1 and
-/// 1399, and whether they are the same after they are read and written again.
+/// Rows of pages in words: of each its number, how many bytes it has, and the first two and the last
+/// one.
+fn pages_text(alloc: Global, pages: &[PageRow]) -> Result<String, Fail> {
+    let mut text = String::new(alloc);
+    for row in pages {
+        let bytes = row.storage.as_slice();
+        let (first, second, last) = (bytes.get(0), bytes.get(1), bytes.get(99));
+        let (page, count) = (row.page, bytes.len());
+        write!(&mut text, "{page}: {count}, {first:?} {second:?} {last:?}; ")?;
+    }
+    Ok(text)
+}
+
+/// A storage with two characters and a mark as rows of pages, and whether they are the same after
+/// they are read and written again.
 fn storage_told(alloc: Global) -> Result<String, Fail> {
-    let parts = parts_with(alloc, marked_core(alloc, b'A')?)?;
-    let row = row_again(alloc, parts)?;
-    let read = picture_of(alloc, &row)?.ok_or("a picture")?;
-    let again = row_again(alloc, read)?;
-    let same = again.storage == row.storage;
-    let bytes = row.storage.as_slice();
-    let (first, second, last) = (bytes.get(0), bytes.get(1), bytes.get(1399));
-    let count = bytes.len();
-    Ok(format!(in alloc; "{count} bytes: {first:?}, {second:?}, {last:?}; again {same}")?)
+    let pages = page_rows(alloc, &marked_core(alloc, b'A')?)?;
+    let again = pages_again(alloc, pages.as_slice())?.ok_or("a picture")?;
+    let text = pages_text(alloc, pages.as_slice())?;
+    let same = pages_text(alloc, again.as_slice())?.as_str() == text.as_str();
+    Ok(format!(in alloc; "{text}again {same}")?)
 }
 
 #[test]
@@ -190,15 +197,15 @@ fn a_marked_character_to_a_byte_and_back(rt: HostRuntime) -> Result<(), Fail> {
     let told = storage_told(rt.alloc())?;
     assert_eq!(rt;
         told.as_str(),
-        "1400 bytes: Some(0), Some(49), Some(113); again true"
+        "0: 100, Some(0) Some(49) Some(0); 13: 100, Some(0) Some(0) Some(113); again true"
     );
     Ok(())
 }
 
-/// Whether `count` equal bytes are the storage of a picture.
+/// Whether `count` equal bytes are the storage of a picture of version 1.
 fn is_storage(alloc: Global, count: usize, byte: u8) -> Result<bool, Fail> {
     let storage = vec![in alloc; byte; count]?;
-    Ok(picture_of(alloc, &row_with(storage, 0, 0, 0))?.is_some())
+    Ok(read_storage::<PlaneCore>(alloc, &storage)?.is_some())
 }
 
 #[test]
@@ -206,6 +213,7 @@ fn bytes_that_are_storage_and_others(rt: HostRuntime) -> Result<(), Fail> {
     for (count, byte, wanted) in [
         (1400, 127, true),
         (4000, 0, true),
+        (16_000, 127, true),
         (1400, 128, false),
         (1399, 0, false),
         (66_936, 0, false),
@@ -214,6 +222,41 @@ fn bytes_that_are_storage_and_others(rt: HostRuntime) -> Result<(), Fail> {
             is_storage(rt.alloc(), count, byte)?,
             wanted,
             "{count} of {byte}"
+        );
+    }
+    Ok(())
+}
+
+/// Whether a number of positions has a page of this number with `count` equal bytes.
+fn is_page(alloc: Global, positions: u32, page: u32, count: usize, byte: u8) -> Result<bool, Fail> {
+    let mut pages = Vec::new(alloc);
+    pages.push(PageRow {
+        page,
+        storage: vec![in alloc; byte; count]?,
+    })?;
+    let picture = picture_of(alloc, positions, row_with(0, 0, 0), pages.as_slice())?;
+    Ok(picture.is_some())
+}
+
+#[test]
+fn rows_that_are_pages_and_others(rt: HostRuntime) -> Result<(), Fail> {
+    for (positions, page, count, byte, wanted) in [
+        (1400, 0, 100, 127, true),
+        (1400, 13, 100, 0, true),
+        (1400, 14, 100, 0, false),
+        (1400, 65_536, 100, 0, false),
+        (1400, 0, 100, 128, false),
+        (1400, 0, 99, 0, false),
+        (1400, 0, 101, 0, false),
+        (1399, 0, 100, 0, false),
+        (66_936, 0, 100, 0, false),
+        (16_000, 159, 100, 127, true),
+        (16_000, 160, 100, 0, false),
+    ] {
+        assert_eq!(rt;
+            is_page(rt.alloc(), positions, page, count, byte)?,
+            wanted,
+            "page {page} of {positions}, {count} of {byte}"
         );
     }
     Ok(())

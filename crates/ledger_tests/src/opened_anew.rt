@@ -72,7 +72,7 @@ fn told_after(
 /// A job that punches three cards is submitted.
 const THREE_CARDS: &str = "taken 1|submit|ACME|9|1400|-|three cards\n";
 
-/// The machine continues from its picture, whatever was granted.
+/// The machine continues from its state, whatever was granted.
 const GOES_ON: &str = "\
 ran 1, running|slice|ACME|9|1
 running, false false 9 0 0|standing|ACME|9|
@@ -154,7 +154,8 @@ const ALTERED_JOBS: &str = "\
 .2..2222-22|UPDATE jobs SET held = 2 WHERE number = 9
 .2..2222.22|UPDATE jobs SET collected = 2 WHERE number = 9
 2..........|UPDATE jobs SET kind = 2 WHERE number = 9
-2..........|UPDATE jobs SET size = 1401 WHERE number = 9
+22.......2.|UPDATE jobs SET size = 1401 WHERE number = 9
+-..........|UPDATE jobs SET size = 2000 WHERE number = 9
 2..........|UPDATE jobs SET deck = x'40' WHERE number = 9
 22.......2.|UPDATE jobs SET loaded = x'40' WHERE number = 9
 22.......2.|UPDATE jobs SET loaded = x'\
@@ -163,42 +164,96 @@ const ALTERED_JOBS: &str = "\
     ' WHERE number = 9
 ";
 
-/// The same for the columns of pictures that are read without a machine, and `r` if the job is run
+/// The same for the columns of states that are read without a machine, and `r` if the job is run
 /// first, and the command is answered by fault 2 because it finds a row in the place of one that it
 /// adds. The last line makes a table whose numbers may be texts.
 const ALTERED_PROGRESS: &str = "\
-.2222222222|DELETE FROM pictures WHERE number = 9
-.2222222222|UPDATE pictures SET standing = 9 WHERE number = 9
-.2222222222|UPDATE pictures SET i = 65536 WHERE number = 9
-.2222222222|UPDATE pictures SET i = 16000 WHERE number = 9
-.2222222222|UPDATE pictures SET cards = 10001 WHERE number = 9
-.2222222222|UPDATE pictures SET lines = 20001 WHERE number = 9
-..2...-..r.|UPDATE pictures SET cards = 1 WHERE number = 9
-...2..-..r.|UPDATE pictures SET lines = 1 WHERE number = 9
-.2222222222|CREATE TABLE kept (customer, number, storage, i, a, b, compare, overflow, channel, \
+.2222222222|DELETE FROM states WHERE number = 9
+.2222222222|UPDATE states SET standing = 9 WHERE number = 9
+.2222222222|UPDATE states SET i = 65536 WHERE number = 9
+.2222222222|UPDATE states SET i = 16000 WHERE number = 9
+.2222222222|UPDATE states SET cards = 10001 WHERE number = 9
+.2222222222|UPDATE states SET lines = 20001 WHERE number = 9
+..2...-..r.|UPDATE states SET cards = 1 WHERE number = 9
+...2..-..r.|UPDATE states SET lines = 1 WHERE number = 9
+.2222222222|CREATE TABLE kept (customer, number, i, a, b, compare, overflow, channel, \
     waiting, form, line, taken, cards, lines, standing)\
-    #execute|INSERT INTO kept SELECT * FROM pictures\
-    #execute|DROP TABLE pictures\
-    #execute|CREATE TABLE pictures (customer, number, storage, i, a, b, compare, overflow, \
+    #execute|INSERT INTO kept SELECT * FROM states\
+    #execute|DROP TABLE states\
+    #execute|CREATE TABLE states (customer, number, i, a, b, compare, overflow, \
     channel, waiting, form, line, taken, cards, lines, standing)\
-    #execute|INSERT INTO pictures SELECT * FROM kept\
-    #execute|UPDATE pictures SET standing = '0' WHERE number = 9
+    #execute|INSERT INTO states SELECT * FROM kept\
+    #execute|UPDATE states SET standing = '0' WHERE number = 9
 ";
 
-/// The same for the other columns of pictures; `lines` reads those of the carriage.
+/// The same for the other columns of states; `lines` reads those of the carriage.
 const ALTERED_MACHINES: &str = "\
-.2.......2.|UPDATE pictures SET storage = x'00' WHERE number = 9
-.2.......2.|UPDATE pictures SET a = 16000 WHERE number = 9
-.2.......2.|UPDATE pictures SET b = 16000 WHERE number = 9
-.2.......2.|UPDATE pictures SET compare = 3 WHERE number = 9
-.2.......2.|UPDATE pictures SET overflow = 2 WHERE number = 9
-.2.2.....2.|UPDATE pictures SET channel = 2 WHERE number = 9
-.2.2.....2.|UPDATE pictures SET waiting = 5 WHERE number = 9
-.2.2.....2.|UPDATE pictures SET form = 0 WHERE number = 9
-.2.2.....2.|UPDATE pictures SET form = 2000000001 WHERE number = 9
-.2.2.....2.|UPDATE pictures SET line = 67 WHERE number = 9
-.2.......2.|UPDATE pictures SET taken = 0 WHERE number = 9
-.2.......2.|UPDATE pictures SET taken = 2 WHERE number = 9
+.2.......2.|UPDATE states SET a = 16000 WHERE number = 9
+.2.......2.|UPDATE states SET b = 16000 WHERE number = 9
+...........|UPDATE states SET b = 15999 WHERE number = 9
+.2.......2.|UPDATE states SET compare = 3 WHERE number = 9
+.2.......2.|UPDATE states SET overflow = 2 WHERE number = 9
+.2.2.....2.|UPDATE states SET channel = 2 WHERE number = 9
+.2.2.....2.|UPDATE states SET waiting = 5 WHERE number = 9
+.2.2.....2.|UPDATE states SET form = 0 WHERE number = 9
+.2.2.....2.|UPDATE states SET form = 2000000001 WHERE number = 9
+.2.2.....2.|UPDATE states SET line = 67 WHERE number = 9
+.2.......2.|UPDATE states SET taken = 0 WHERE number = 9
+.2.......2.|UPDATE states SET taken = 2 WHERE number = 9
+";
+
+/// The same for rows of pages, which only a machine needs. A job of 1400 positions has pages up to
+/// 13. Each position has a byte below 128; these pages do not change what the program does, even
+/// where a blank one has a row. The last two lines make a table whose columns may be anything.
+const ALTERED_PAGES: &str = "\
+.2.......2.|UPDATE pages SET storage = x'00' WHERE number = 9
+.2.......2.|INSERT INTO pages SELECT customer, number, 13, x'\
+    7F000000000000000000000000000000000000000000000000000000000000000000000000000000\
+    00000000000000000000000000000000000000000000000000000000000000000000000000000000\
+    00000000000000000000000000000000000000\
+    ' FROM jobs WHERE number = 9
+.2.......2.|INSERT INTO pages SELECT customer, number, 13, x'\
+    7F000000000000000000000000000000000000000000000000000000000000000000000000000000\
+    00000000000000000000000000000000000000000000000000000000000000000000000000000000\
+    000000000000000000000000000000000000000000\
+    ' FROM jobs WHERE number = 9
+.2.......2.|INSERT INTO pages SELECT customer, number, 13, x'\
+    80000000000000000000000000000000000000000000000000000000000000000000000000000000\
+    00000000000000000000000000000000000000000000000000000000000000000000000000000000\
+    0000000000000000000000000000000000000000\
+    ' FROM jobs WHERE number = 9
+...........|INSERT INTO pages SELECT customer, number, 13, x'\
+    7F000000000000000000000000000000000000000000000000000000000000000000000000000000\
+    00000000000000000000000000000000000000000000000000000000000000000000000000000000\
+    0000000000000000000000000000000000000000\
+    ' FROM jobs WHERE number = 9
+...........|INSERT INTO pages SELECT customer, number, 5, x'\
+    00000000000000000000000000000000000000000000000000000000000000000000000000000000\
+    00000000000000000000000000000000000000000000000000000000000000000000000000000000\
+    0000000000000000000000000000000000000000\
+    ' FROM jobs WHERE number = 9
+.2.......2.|INSERT INTO pages SELECT customer, number, 14, storage FROM pages \
+    WHERE number = 9 AND page = 0
+.2.......2.|INSERT INTO pages SELECT customer, number, 65549, storage FROM pages \
+    WHERE number = 9 AND page = 0
+.2.......2.|INSERT INTO pages SELECT customer, number, 4294967309, storage FROM pages \
+    WHERE number = 9 AND page = 0
+.2.......2.|UPDATE pages SET page = -1 WHERE number = 9 AND page = 0
+-..........|INSERT INTO pages SELECT customer, number, 14, storage FROM pages \
+    WHERE number = 9 AND page = 0\
+    #execute|UPDATE jobs SET size = 2000 WHERE number = 9
+.2.......2.|CREATE TABLE kept (customer, number, page, storage)\
+    #execute|INSERT INTO kept SELECT * FROM pages\
+    #execute|DROP TABLE pages\
+    #execute|CREATE TABLE pages (customer, number, page, storage)\
+    #execute|INSERT INTO pages SELECT * FROM kept\
+    #execute|UPDATE pages SET page = '0' WHERE number = 9 AND page = 0
+.2.......2.|CREATE TABLE kept (customer, number, page, storage)\
+    #execute|INSERT INTO kept SELECT * FROM pages\
+    #execute|DROP TABLE pages\
+    #execute|CREATE TABLE pages (customer, number, page, storage)\
+    #execute|INSERT INTO pages SELECT * FROM kept\
+    #execute|UPDATE pages SET storage = NULL WHERE number = 9 AND page = 0
 ";
 
 /// The same for rows of cards and lines, which `cards` and `lines` alone read.
@@ -271,6 +326,31 @@ fn progress_that_is_none_of_a_bureau(rt: HostRuntime) -> Result<(), Fail> {
 #[test]
 fn machines_that_are_none_of_a_bureau(rt: HostRuntime) -> Result<(), Fail> {
     assert_eq!(rt; misread(rt.alloc(), ALTERED_MACHINES)?.as_str(), "");
+    Ok(())
+}
+
+#[test]
+fn pages_that_are_none_of_a_bureau(rt: HostRuntime) -> Result<(), Fail> {
+    assert_eq!(rt; misread(rt.alloc(), ALTERED_PAGES)?.as_str(), "");
+    Ok(())
+}
+
+/// A machine whose first page is missing finds blanks there.
+const BLANKED: &str = "\
+ran 0, Instruction at 1|slice|ACME|9|2000
+Instruction at 1, false false 2000 0 0|standing|ACME|9|
+";
+
+#[test]
+fn a_page_without_a_row_is_blank(rt: HostRuntime) -> Result<(), Fail> {
+    let told = told_after(
+        rt.alloc(),
+        THREE_CARDS,
+        "DELETE FROM pages",
+        BLANKED,
+        "SELECT count(*) FROM pages",
+    )?;
+    assert_eq!(rt; told.as_str(), "0, 1 ticks");
     Ok(())
 }
 

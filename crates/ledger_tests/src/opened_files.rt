@@ -23,6 +23,14 @@ pub(crate) fn told_at(rt: &HostRuntime, path: &str, sheet: &str) -> Result<Strin
     Ok(told)
 }
 
+/// What stages tell over the database at a path.
+fn told_by(rt: &HostRuntime, path: &str, stages: &str) -> Result<String, Fail> {
+    let mut session = Session::of(rt.alloc(), stages)?;
+    over_path(rt, path, &mut session)?;
+    let Session { told, .. } = session;
+    Ok(told)
+}
+
 /// A job is submitted and run in part.
 pub(crate) const BEFORE: &str = "\
 taken 6|submit|ACME|9|4000|A|two lines
@@ -48,6 +56,21 @@ fn a_file_is_opened_again(rt: HostRuntime) -> Result<(), Fail> {
     assert_eq!(rt; told_at(&rt, path, AFTER)?.as_str(), "");
     fs::remove_file(&rt, path)?;
     fs::remove_file(&rt, "opened_again.db-wal")?;
+    Ok(())
+}
+
+#[test]
+fn an_older_file_is_left_until_it_is_raised(rt: HostRuntime) -> Result<(), Fail> {
+    let path = "older.db";
+    let stages = format!(in rt.alloc(); "lay|#sheet|{BEFORE}#old|1#rows|#")?;
+    let rows = told_by(&rt, path, stages.as_str())?;
+    assert_eq!(rt; told_at(&rt, path, "")?.as_str(), "51");
+    assert_eq!(rt; told_by(&rt, path, "rows|#")?.as_str(), rows.as_str());
+    assert_eq!(rt; told_by(&rt, path, "migrate|#")?.as_str(), "version 1");
+    assert_eq!(rt; told_at(&rt, path, AFTER)?.as_str(), "");
+    assert_eq!(rt; told_by(&rt, path, "migrate|#")?.as_str(), "version 3");
+    fs::remove_file(&rt, path)?;
+    fs::remove_file(&rt, "older.db-wal")?;
     Ok(())
 }
 

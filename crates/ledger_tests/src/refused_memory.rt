@@ -5,9 +5,9 @@
 //! preparations, but no assertion may fail.
 
 use crate::commands::command_of;
+use crate::old_tables::{lay_first, make_old};
 use crate::opened_files::{AFTER, BEFORE, create, told_at};
-use ledger::{Bureau, Fault};
-use ledger_tables::OpenFault;
+use ledger::{Bureau, Fault, OpenFault, migrate};
 use machine::Meter;
 use office::Command;
 use sqlite::{Alter, Connection, MemStore};
@@ -131,6 +131,51 @@ fn apply_runs_a_slice_or_keeps_the_tables(rt: HostRuntime) -> Result<(), Fail> {
 #[test]
 fn adopt_keeps_the_tables(rt: HostRuntime) -> Result<(), Fail> {
     assert!(rt; is_adopted_or_not(rt.alloc())?);
+    Ok(())
+}
+
+/// The number of the version of the tables, and ten if they have pictures.
+fn version<S: Alter>(conn: &mut Connection<S>) -> Result<i64, Fail> {
+    let version: i64 = conn.query_row("SELECT version FROM bureau", &[])?.get(0)?;
+    let pictures = conn.query_row("SELECT count(*) FROM pictures", &[]);
+    Ok(version.wrapping_add(if pictures.is_ok() { 10 } else { 0 }))
+}
+
+/// Tables of version 1, with a job that has run.
+fn first_tables(alloc: Global) -> Result<Connection<MemStore>, Fail> {
+    let conn = lay_first(Connection::open_in_memory(alloc)?)?;
+    let Ok(mut bureau) = Bureau::adopt(alloc, conn) else {
+        return Err("not adopted")?;
+    };
+    for line in [SUBMIT, SLICE] {
+        if bureau
+            .apply(&command_of(alloc, line)?, &mut Meter::new())
+            .is_err()
+        {
+            return Err("not applied")?;
+        }
+    }
+    make_old(alloc, bureau.into_connection(), "1")
+}
+
+/// Whether tables of version 1 are raised; or are left as they were, and raised by another
+/// migration.
+fn is_raised_or_not(alloc: Global) -> Result<bool, Fail> {
+    let mut conn = first_tables(alloc)?;
+    match migrate(alloc, &mut conn) {
+        Ok(found) => Ok(found == 1 && version(&mut conn)? == 3 && contents(&mut conn)? == 113),
+        Err(OpenFault::NoMemory) => Ok(version(&mut conn)? == 11
+            && contents(&mut conn)? == 113
+            && migrate(alloc, &mut conn) == Ok(1)
+            && version(&mut conn)? == 3
+            && contents(&mut conn)? == 113),
+        Err(_) => Ok(false),
+    }
+}
+
+#[test]
+fn migrate_raises_the_tables_or_keeps_them(rt: HostRuntime) -> Result<(), Fail> {
+    assert!(rt; is_raised_or_not(rt.alloc())?);
     Ok(())
 }
 

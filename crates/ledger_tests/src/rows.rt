@@ -1,6 +1,6 @@
 //! A row of each table.
 
-use ledger_tables::{Fault, JobName, JobRow, LineRow, OpenTables, PictureRow, StretchRow};
+use ledger_tables::{Fault, JobName, JobRow, LineRow, OpenTables, StateRow, StretchRow};
 use sqlite::{Alter, Connection, MemStore};
 use std::alloc::Global;
 use std::test::Fail;
@@ -21,25 +21,22 @@ fn job(alloc: Global) -> Result<JobRow, Fail> {
     })
 }
 
-/// The picture of a machine, with all its numbers different.
-pub(crate) fn picture(alloc: Global) -> Result<PictureRow, Fail> {
-    Ok(PictureRow {
-        storage: Vec::from_slice(alloc, &[64, 0])?,
-        i: 333,
-        a: 334,
-        b: 335,
-        compare: 1,
-        overflow: 0,
-        channel: 1,
-        waiting: 4,
-        form: 6,
-        line: 7,
-        taken: 8,
-        cards: 9,
-        lines: 10,
-        standing: 5,
-    })
-}
+/// The state of a machine, with all its numbers different.
+pub(crate) const STATE: StateRow = StateRow {
+    i: 333,
+    a: 334,
+    b: 335,
+    compare: 1,
+    overflow: 0,
+    channel: 1,
+    waiting: 4,
+    form: 6,
+    line: 7,
+    taken: 8,
+    cards: 9,
+    lines: 10,
+    standing: 5,
+};
 
 fn line(alloc: Global) -> Result<LineRow, Fail> {
     Ok(LineRow {
@@ -60,15 +57,21 @@ fn take_job<S: Alter>(tables: &mut OpenTables<'_, '_, S>, job: &JobRow) -> Resul
     tables.insert_stretch(NAME, 0, stretch)
 }
 
-/// Adds the job's picture, a card and a line.
-fn run_job<S: Alter>(
-    tables: &mut OpenTables<'_, '_, S>,
-    picture: &PictureRow,
-    line: &LineRow,
-) -> Result<(), Fault> {
-    tables.insert_picture(NAME, picture)?;
+/// Adds the job's state, a card and a line.
+fn run_job<S: Alter>(tables: &mut OpenTables<'_, '_, S>, line: &LineRow) -> Result<(), Fault> {
+    tables.insert_state(NAME, STATE)?;
     tables.insert_card(NAME, 1, &[15, 16])?;
     tables.insert_line(NAME, 1, line)
+}
+
+/// Sets three pages, of which the second one is cleared again and the third one set again.
+fn put_pages<S: Alter>(tables: &mut OpenTables<'_, '_, S>) -> Result<(), Fault> {
+    tables.put_page(NAME, 0, &[17])?;
+    tables.put_page(NAME, 1, &[18, 19])?;
+    tables.put_page(NAME, 39, &[20])?;
+    tables.clear_page(NAME, 1)?;
+    tables.clear_page(NAME, 2)?;
+    tables.put_page(NAME, 39, &[21, 22, 23])
 }
 
 fn take_again<S: Alter>(tables: &mut OpenTables<'_, '_, S>, job: &JobRow) -> Result<(), Fault> {
@@ -78,14 +81,14 @@ fn take_again<S: Alter>(tables: &mut OpenTables<'_, '_, S>, job: &JobRow) -> Res
 /// Adds a row to each table, and then the job a second time, which returns the fault.
 fn fill<S: Alter>(tables: &mut OpenTables<'_, '_, S>) -> Result<Option<Fault>, Fail> {
     let job = job(tables.alloc)?;
-    let picture = picture(tables.alloc)?;
     let line = line(tables.alloc)?;
     take_job(tables, &job)?;
-    run_job(tables, &picture, &line)?;
+    run_job(tables, &line)?;
+    put_pages(tables)?;
     Ok(take_again(tables, &job).err())
 }
 
-/// A connection to tables with one row each.
+/// A connection to tables with one row each, and two rows of pages.
 fn filled(alloc: Global) -> Result<Connection<MemStore>, Fail> {
     let mut conn = Connection::open_in_memory(alloc)?;
     if !conn.is_autocommit() {
@@ -102,17 +105,21 @@ fn filled(alloc: Global) -> Result<Connection<MemStore>, Fail> {
 
 /// Queries, each after the number that it returns.
 const NUMBERS: &str = "\
-1|SELECT version FROM bureau
+3|SELECT version FROM bureau
 1|SELECT count(*) FROM jobs
 1|SELECT count(*) FROM stretches
-1|SELECT count(*) FROM pictures
+1|SELECT count(*) FROM states
 1|SELECT count(*) FROM cards
 1|SELECT count(*) FROM lines
+2|SELECT count(*) FROM pages
 4000|SELECT size FROM jobs
 1000|SELECT granted FROM stretches
-5|SELECT standing FROM pictures
+5|SELECT standing FROM states
+335|SELECT b FROM states
 2|SELECT length(card) FROM cards
 11|SELECT form FROM lines
+1|SELECT length(storage) FROM pages WHERE page = 0
+3|SELECT length(storage) FROM pages WHERE page = 39
 ";
 
 /// The number that a query returns.

@@ -3,24 +3,30 @@
 //! A session is a text. Each stage ends with `#`; it has a word, `|` and the rest:
 //!
 //! - `make` creates the tables.
+//! - `lay` creates them beside those of version 1; the bureau does not know these.
+//! - `old` makes the tables those of the version after it: 1, after `lay`, or 2. They hold the same
+//!   jobs.
 //! - `create` and `adopt` create the bureau and open it: each tells `done`, or the fault.
+//! - `migrate` tells the version from which it raises the tables, or the number of the fault.
 //! - `sheet` opens the bureau and applies the commands of a sheet: it tells the first line that gets
 //!   another reply, if there is one.
 //! - `commands` opens the bureau and applies commands, one in each line: it tells the replies, or
 //!   the fault of opening it.
 //! - `execute` executes a statement.
 //! - `faults` tells the number of the fault of opening the bureau, and that of looking for the
-//!   version of the tables; each is 0 if there is none.
+//!   version of the tables; each is 0 if there is none. An older version follows its 51.
 //! - `number` tells the number that a query returns, and the text before the query and `|`.
-//! - `rows` tells every row of every table.
+//! - `numbers` tells all numbers that a query returns, and the text.
+//! - `rows` tells every row of every table, also of tables that only older versions have.
 //! - `office` tells the number of the fault of opening the bureau, and if it is 0 every row too.
 
 use crate::commands::{misanswered, reply_to};
 use crate::connections::{Work, over_memory};
-use ledger::Bureau;
+use crate::old_tables::{lay_first, make_old};
+use ledger::{Bureau, OpenFault, migrate};
 use ledger_tables::OpenTables;
 use machine::Meter;
-use sqlite::{Alter, Connection};
+use sqlite::{Alter, Connection, Error};
 use std::alloc::Global;
 use std::test::Fail;
 
@@ -96,19 +102,38 @@ fn executed<S: Alter + Drop>(mut conn: Connection<S>, sql: &str) -> Result<Conne
     Ok(conn)
 }
 
-/// The number of the fault of looking for the version, 0 for none.
-fn version_fault<S: Alter>(alloc: Global, conn: &mut Connection<S>) -> Result<u8, Fail> {
+/// The number of a fault, with the version if it is an older one.
+fn fault_text(alloc: Global, fault: OpenFault) -> Result<String, Fail> {
+    match fault {
+        OpenFault::Old(version) => Ok(format!(in alloc; "{} of {version}", fault.number())?),
+        _ => Ok(format!(in alloc; "{}", fault.number())?),
+    }
+}
+
+/// The fault of looking for the version, 0 for none.
+fn version_fault<S: Alter>(alloc: Global, conn: &mut Connection<S>) -> Result<String, Fail> {
     if !conn.is_autocommit() {
         return Err("in a transaction")?;
     }
     let mut tx = conn.transaction();
     let mut tables = OpenTables { tx: &mut tx, alloc };
-    let number = match tables.find_version() {
-        Ok(()) => 0,
-        Err(fault) => fault.number(),
-    };
+    let found = tables.find_version();
     tx.rollback();
-    Ok(number)
+    match found {
+        Ok(()) => Ok(String::from_str(alloc, "0")?),
+        Err(fault) => fault_text(alloc, fault),
+    }
+}
+
+/// The fault of opening the bureau, 0 for none, and the connection.
+fn opening_fault<S: Alter + Drop>(
+    alloc: Global,
+    conn: Connection<S>,
+) -> Result<(String, Connection<S>), Fail> {
+    match Bureau::adopt(alloc, conn) {
+        Ok(bureau) => Ok((String::from_str(alloc, "0")?, bureau.into_connection())),
+        Err((fault, conn)) => Ok((fault_text(alloc, fault)?, conn)),
+    }
 }
 
 /// The number of the fault of opening the bureau, 0 for none, and the connection.
@@ -147,7 +172,7 @@ fn faulted<S: Alter + Drop>(
     conn: Connection<S>,
     told: &mut String,
 ) -> Result<Connection<S>, Fail> {
-    let (opening, mut conn) = adoption(alloc, conn);
+    let (opening, mut conn) = opening_fault(alloc, conn)?;
     let version = version_fault(alloc, &mut conn)?;
     told.push_str(format!(in alloc; "{opening} {version}, ")?.as_str())?;
     Ok(conn)
@@ -166,22 +191,72 @@ fn numbered<S: Alter + Drop>(
     Ok(conn)
 }
 
+/// The stage `numbers`.
+fn numbered_all<S: Alter + Drop>(
+    alloc: Global,
+    mut conn: Connection<S>,
+    rest: &str,
+    told: &mut String,
+) -> Result<Connection<S>, Fail> {
+    let (text, sql) = rest.split_once('|').ok_or("a query")?;
+    for row in &conn.query_all(sql, &[])? {
+        let number: i64 = row.get(0)?;
+        told.push_str(format!(in alloc; "{number} ")?.as_str())?;
+    }
+    told.push_str(text)?;
+    Ok(conn)
+}
+
+/// Every table of any version, and the order of its rows.
+const TABLES: [&str; 8] = [
+    "bureau ORDER BY id",
+    "jobs ORDER BY customer, number",
+    "stretches ORDER BY customer, number, place",
+    "pictures ORDER BY customer, number",
+    "states ORDER BY customer, number",
+    "pages ORDER BY customer, number, page",
+    "cards ORDER BY customer, number, place",
+    "lines ORDER BY customer, number, place",
+];
+
+/// The rows of a table, or the fault of looking for them.
+fn rows_of<S: Alter>(
+    alloc: Global,
+    conn: &mut Connection<S>,
+    table: &str,
+) -> Result<String, Fail> {
+    let sql = format!(in alloc; "SELECT * FROM {table}")?;
+    match conn.query_all(sql.as_str(), &[]) {
+        Ok(rows) => Ok(format!(in alloc; "{rows:?}\n")?),
+        Err(Error::SqlInputError(_)) => Ok(String::from_str(alloc, "no table\n")?),
+        Err(error) => Err(error)?,
+    }
+}
+
 /// The stage `rows`.
 fn shown<S: Alter + Drop>(
     alloc: Global,
     mut conn: Connection<S>,
     told: &mut String,
 ) -> Result<Connection<S>, Fail> {
-    for sql in [
-        "SELECT * FROM bureau",
-        "SELECT * FROM jobs",
-        "SELECT * FROM stretches",
-        "SELECT * FROM pictures",
-        "SELECT * FROM cards",
-        "SELECT * FROM lines",
-    ] {
-        let rows = conn.query_all(sql, &[])?;
-        told.push_str(format!(in alloc; "{rows:?}\n")?.as_str())?;
+    for table in TABLES {
+        told.push_str(rows_of(alloc, &mut conn, table)?.as_str())?;
+    }
+    Ok(conn)
+}
+
+/// The stage `migrate`.
+fn migrated<S: Alter + Drop>(
+    alloc: Global,
+    mut conn: Connection<S>,
+    told: &mut String,
+) -> Result<Connection<S>, Fail> {
+    match migrate(alloc, &mut conn) {
+        Ok(version) => told.push_str(format!(in alloc; "version {version}")?.as_str())?,
+        Err(fault) => {
+            let fault = fault_text(alloc, fault)?;
+            told.push_str(format!(in alloc; "fault {fault}")?.as_str())?;
+        }
     }
     Ok(conn)
 }
@@ -211,6 +286,9 @@ fn after<S: Alter + Drop>(
     let (word, rest) = stage.split_once('|').ok_or("a stage")?;
     match word {
         "make" => made(alloc, conn),
+        "lay" => lay_first(conn),
+        "old" => make_old(alloc, conn, rest),
+        "migrate" => migrated(alloc, conn, told),
         "create" => ended(creation(alloc, conn), told),
         "adopt" => ended(adoption(alloc, conn), told),
         "sheet" => answered(alloc, conn, rest, meter, told),
@@ -218,6 +296,7 @@ fn after<S: Alter + Drop>(
         "execute" => executed(conn, rest),
         "faults" => faulted(alloc, conn, told),
         "number" => numbered(alloc, conn, rest, told),
+        "numbers" => numbered_all(alloc, conn, rest, told),
         "rows" => shown(alloc, conn, told),
         "office" => told_office(alloc, conn, told),
         _ => Err("a word")?,

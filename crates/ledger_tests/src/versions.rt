@@ -8,14 +8,18 @@ const OTHER_TABLES: &str = "\
 execute|CREATE TABLE cards (card TEXT)#faults|#\
 execute|CREATE TABLE bureau (name TEXT)#faults|#";
 
-/// The tables of a bureau, with its version and with others.
+/// The tables of a bureau, with its version and with others, with two versions and with none.
 const VERSIONS: &str = "make|#\
+faults|#\
 execute|UPDATE bureau SET version = 1#faults|#\
 execute|UPDATE bureau SET version = 2#faults|#\
 execute|UPDATE bureau SET version = 0#faults|#\
 execute|UPDATE bureau SET version = -1#faults|#\
-execute|UPDATE bureau SET version = 1#faults|#\
-execute|INSERT INTO bureau (id, version) VALUES (2, 1)#faults|#\
+execute|UPDATE bureau SET version = 4#faults|#\
+execute|UPDATE bureau SET version = 4294967299#faults|#\
+execute|UPDATE bureau SET version = 3#faults|#\
+execute|INSERT INTO bureau (id, version) VALUES (2, 3)#faults|#\
+execute|UPDATE bureau SET version = 2#faults|#\
 execute|DELETE FROM bureau#faults|#\
 execute|DROP TABLE bureau#faults|#";
 
@@ -38,7 +42,8 @@ fn one_version_is_adopted(rt: HostRuntime) -> Result<(), Fail> {
     let (told, _) = told_in_memory(rt.alloc(), VERSIONS)?;
     assert_eq!(rt;
         told.as_str(),
-        "0 0, 50 50, 51 51, 51 51, 0 0, 50 50, 50 50, 50 50, "
+        "0 0, 51 of 1 51 of 1, 51 of 2 51 of 2, 50 50, 50 50, 50 50, 50 50, 0 0, \
+        50 50, 50 50, 50 50, 50 50, "
     );
     Ok(())
 }

@@ -1,2 +1,3 @@
+pub mod Migrating
 pub mod Outcomes
 pub mod Work

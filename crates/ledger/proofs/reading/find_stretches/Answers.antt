@@ -1,6 +1,8 @@
-use Rattle.std.proofs.Common.{ap, ◌∙◌}
+use Rattle.std.proofs.Common.{◌≡◌, ap, map, ◌∙◌}
+use Rattle.std.specs.List.{All}
 use Rattle.ledger_tables.specs.Steps.{seen}
-use Rattle.ledger.specs.Standing.{tables_of, stretches_of}
+use Rattle.office.specs.Jobs.{HasSwitches}
+use Rattle.ledger.specs.Standing.{tables_of, stretch_row, stretches_of}
 use Rattle.ledger.proofs.Offices.{still, if_ok_then, job_is}
 use Rattle.ledger.proofs.ReadingLemmas.{ok_is}
 use Rattle.ledger.proofs.reading.find_stretches.Goals as goal
@@ -16,4 +18,5 @@ returns-clause-found g c clean inside = if_ok_then _ _ c.told.result (λ stretch
 pub returns-clause-rows : goal.returns-clause-rows
 returns-clause-rows g c clean inside = if_ok_then _ _ c.told.result (λ stretches is t holds.
     let found = c.in_ok-rows.ensures.found clean inside t holds in
-    (found.0, (ok_is _ _ c.read_stretches.result is c.read_stretches.ensures.only).0 ∙ c.as_slice.ensures.value ∙ found.1)) c.told.ensures.found
+    let read : (map stretch_row stretches.items ≡ c.as_slice.result.now) × All HasSwitches stretches.items = ok_is _ _ c.read_stretches.result is c.read_stretches.ensures.only in
+    (found.0, read.0 ∙ c.as_slice.ensures.value ∙ found.1)) c.told.ensures.found

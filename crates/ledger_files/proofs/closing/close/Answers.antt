@@ -1,26 +1,31 @@
-use Rattle.std.proofs.Common.{subst, sym, []}
-use Rattle.std.proofs.Math.Logic.{∥∥₁_elim, ∥∥₁_map}
+use Rattle.std.proofs.Common.{subst}
+use Rattle.std.specs.Prelude.{IfErr, IfOk}
+use Rattle.sqlite.specs.Files.{file_state}
+use Rattle.sqlite.specs.FileStore.{recovers, view}
+use Rattle.sqlite.specs.Recovery.{Image}
 use Rattle.sqlite.specs.State.{HasCleanDisk}
 use Rattle.sqlite.specs.Tree.{Trees}
-use Rattle.sqlite.specs.Files.{HoldsDatabase, file_state}
-use Rattle.ledger.specs.Standing.{LeftAs, Stands}
-use Rattle.ledger_files.proofs.ClosingLemmas.{hinders}
+use Rattle.sqlite.specs.View.{IsClean}
+use Rattle.sqlite.specs.WalFiles.{outcomes}
+use Rattle.sqlite_wal.specs.Reads.{AreClean}
+use Rattle.office.specs.Office.{Office}
+use Rattle.ledger.specs.Standing.{Stands}
+use Rattle.ledger_files.specs.Closing.{HindersClosing, StandsAlone}
 use Rattle.ledger_files.proofs.closing.close.Goals as goal
 
-pub returns-in-Ok-clause-alone : goal.returns-in-Ok-clause-alone
-returns-in-Ok-clause-alone g c clean office s left may =
-    let copied = c.in-Ok.ensures.copied clean in
-    let kept = c.committed_stands.ensures copied.was_open office (subst (λ h. Stands (file_state h) office) (sym c.into_connection-conn.ensures) s) in
-    let held = copied.left left may in
-    ∥∥₁_elim held.both squash₁ (λ both. ∥∥₁_map held.alone (λ alone. let r : (db : Trees) × HoldsDatabase left db × HoldsDatabase (record left { log = [] }) db × LeftAs db office = (_, both, alone, kept) in r))
+pub returns-clause-alone : goal.returns-clause-alone
+returns-clause-alone g c =
+    subst (λ h. IfOk c.close_connection.result (λ files. AreClean g.D.Disk files.log files.db → (office : Office) → Stands (file_state h) office → (left : Image) → outcomes g.D.Disk files.log files.db left → StandsAlone left office))
+    c.into_connection.ensures c.close_connection.ensures.alone
 
-pub returns-in-Err-clause-kept : goal.returns-in-Err-clause-kept
-returns-in-Err-clause-kept g c db may =
-    subst (λ h. (file_state h).may_leave db) c.into_connection-conn.ensures (c.in-Err.ensures.err.0.quiet.outcomes db may)
+pub returns-clause-clean : goal.returns-clause-clean
+returns-clause-clean g c =
+    subst (λ h. IfOk c.close_connection.result (λ files. AreClean g.D.Disk files.log files.db → HasCleanDisk (file_state h))) c.into_connection.ensures c.close_connection.ensures.clean
 
-pub returns-in-Err-clause-cause : goal.returns-in-Err-clause-cause
-returns-in-Err-clause-cause g c clean =
-    hinders c.in-Err.store c.in-Err.error _ c.store_fault_of.ensures.memory _ _ c.into_connection-conn.ensures (c.in-Err.ensures.err.1 clean)
+pub returns-clause-kept : goal.returns-clause-kept
+returns-clause-kept g c =
+    subst (λ h. IfErr c.close_connection.result (λ e. (db : Trees) → recovers e.1 db → (file_state h).may_leave db)) c.into_connection.ensures c.close_connection.ensures.kept
 
-pub returns-in-Ok-clause-clean : goal.returns-in-Ok-clause-clean
-returns-in-Ok-clause-clean g c clean = subst (λ h. HasCleanDisk (file_state h)) c.into_connection-conn.ensures (c.in-Ok.ensures.copied clean).was_clean
+pub returns-clause-cause : goal.returns-clause-cause
+returns-clause-cause g c =
+    subst (λ h. IfErr c.close_connection.result (λ e. IsClean (view e.1) → HindersClosing h e.1 e.0)) c.into_connection.ensures c.close_connection.ensures.cause

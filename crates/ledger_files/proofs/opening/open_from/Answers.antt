@@ -44,7 +44,7 @@ returns-in-Err-adopted-clause-refused g c clean =
     let known : (office : _) (db : Trees) → HoldsDatabase (image_at g.S.Start) db → LeftAs db office → IsKnown c.in-Err-adopted.fault = λ office db held left.
     c.in-Err-adopted.ensures.known clean office (c.in-Err-adopted.ensures.opened opened.0 opened.1 office (subst (λ d. LeftAs d office) (sym (found.holds db held)) left)) in
     record {
-      known = λ office are. (λ e. ∥∥₁_elim are (λ x y. absurd x) (λ it. (known office it.0 it.1 it.2).0 e), λ e. ∥∥₁_elim are (λ x y. absurd x) (λ it. (known office it.0 it.1 it.2).1 e));
+      known = λ office are. (λ e. ∥∥₁_elim are (λ x y. absurd x) (λ it. (known office it.0 it.1 it.2).0 e), λ version e. ∥∥₁_elim are (λ x y. absurd x) (λ it. (known office it.0 it.1 it.2).1 version e));
       stands = λ has_sums office are. ∥∥₁_map are (λ it. let r : Stands (file_state c.in-Err-adopted.conn) office =
           c.in-Err-adopted.ensures.kept clean office (c.in-Err-adopted.ensures.opened opened.0 opened.1 office (subst (λ d. LeftAs d office) (sym (found.holds it.0 it.1)) it.3)) in r);
       answer = λ db held sound. c.in-Err-adopted.ensures.answer clean opened.0 opened.1 db sound (found.holds db.trees held);

@@ -1,25 +1,21 @@
-use Rattle.std.proofs.Common.{◌≡◌, ◌≤◌, subst}
-use Rattle.std.proofs.Math.Logic.{∥∥₁_map}
-use Rattle.sqlite_pool.specs.Stored.{is_summed}
-use Rattle.sqlite.specs.Tree.{Trees}
-use Rattle.sqlite.specs.Files.{HoldsDatabase, file_state}
+use Rattle.std.proofs.Common.{◌≤◌, subst}
+use Rattle.sqlite.specs.Files.{file_state}
 use Rattle.sqlite.specs.FileStore.{view}
 use Rattle.sqlite.specs.View.{doubt}
+use Rattle.ledger_files.specs.Rounds.{HoldsOneOf}
 use Rattle.ledger_files.proofs.RoundLemmas.{link_from}
-use Rattle.ledger_files.proofs.StopLemmas.{left_holds}
 use Rattle.ledger_files.proofs.rounds.stop.Goals as goal
 
 pub returns-clause-left : goal.returns-clause-left
 returns-clause-left g c clean left may =
-    let store = c.into_store.result in
-    ∥∥₁_map (left_holds store (c.into_store.ensures.numbered clean) (c.into_store.ensures.sound clean) left may)
-    (λ it. let r : (db : Trees) × (file_state c.args.bureau.conn).may_leave db × (held : HoldsDatabase left db) × (is_summed held.0 ≡ (view store).has_sums) =
-    (it.0, subst (λ h. (file_state h).may_leave it.0) c.into_connection.ensures (c.into_store.ensures.quiet.outcomes it.0 it.1), it.2, it.3) in r)
+    subst (λ h. HoldsOneOf (view c.leave.result).has_sums left (file_state h).may_leave) c.into_connection.ensures (c.leave.ensures.left clean left may)
 
 pub returns-clause-kept : goal.returns-clause-kept
-returns-clause-kept g c db may = subst (λ h. (file_state h).may_leave db) c.into_connection.ensures (c.into_store.ensures.quiet.outcomes db may)
+returns-clause-kept g c db may = subst (λ h. (file_state h).may_leave db) c.into_connection.ensures (c.leave.ensures.kept db may)
+
+pub returns-clause-clean : goal.returns-clause-clean
+returns-clause-clean g c = subst (λ h. doubt (file_state h).is_clean ≤ doubt (view c.leave.result).is_clean) c.into_connection.ensures c.leave.ensures.clean
 
 pub returns-clause-link : goal.returns-clause-link
 returns-clause-link g c first commands replies it =
-    link_from first c.args.bureau.conn c.args.bureau.broken commands replies it c.into_store.result
-    (subst (λ h. doubt (file_state h).is_clean ≤ doubt (view c.into_store.result).is_clean) c.into_connection.ensures c.into_store.ensures.quiet.clean) (returns-clause-left g c)
+    link_from first c.args.bureau.conn c.args.bureau.broken commands replies it c.leave.result (returns-clause-clean g c) (returns-clause-left g c)

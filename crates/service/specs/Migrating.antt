@@ -1,0 +1,28 @@
+-- what is printed of a bureau's file that was migrated
+use Rattle.std.specs.Prelude.{◌≡◌, ◌⊎◌, ◌==◌, ◌++◌, if◌then◌else◌, ℕ, List, codes, decimal, Result, Ok, Err, IfErr}
+use Rattle.ledger_tables.specs.Schema.{own_version}
+use Rattle.ledger_tables.specs.Versions.{IsNotOld}
+use Rattle.ledger_tables.specs.declared.openings.OpenFault.{OpenFault}
+use Rattle.service.specs.Outcomes.{IsLine}
+use Rattle.service.specs.Work.{Bytes}
+use Rattle.service.specs.declared.outcomes.Outcome.{Outcome}
+use Rattle.service.specs.declared.outcomes.Outcome.TheVariants as outcome
+
+-- the words for a file that was found to be of this version: from which version to which it was
+-- raised, or which it is of
+abbrev pub version_words : ℕ → List ℕ
+version_words found = if found == own_version then codes "version " ++ decimal found
+    else codes "version " ++ decimal found ++ codes " to " ++ decimal own_version
+
+-- the outcome and the bytes on the output by what came of the migration: the line for the version
+-- that was found, unless the output failed; or the fault, and then nothing is on the output
+abbrev pub TellsMigrated : Result ℕ OpenFault → Outcome → Bytes → Bytes → Type 0
+TellsMigrated (Ok found) it old new =
+    ((it ≡ outcome.Done) × IsLine (version_words found) old new) ⊎ (it ≡ outcome.Device)
+TellsMigrated (Err fault) it old new = (it ≡ outcome.Fault fault) × (new ≡ old)
+
+-- the file was migrated, or it was not, for a fault that is never that it is of an earlier version;
+-- and this is told of it
+abbrev pub HasMigrated : Outcome → Bytes → Bytes → Type 0
+HasMigrated it old new = (migrated : Result ℕ OpenFault) × IfErr migrated IsNotOld
+    × TellsMigrated migrated it old new
