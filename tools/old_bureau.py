@@ -1,7 +1,10 @@
 """Bureaus' files of earlier versions, for scripts that try `migrate`."""
 
+import os
+import shutil
 import sqlite3
-from contextlib import closing
+import tempfile
+from contextlib import closing, contextmanager
 
 PAGE = 100
 # The tables of versions 1 and 2, in the order in which their programs made them.
@@ -11,9 +14,19 @@ TABLES = {
 }
 
 
+@contextmanager
+def copied(path):
+    """A connection to a copy of a file, since SQLite leaves files beside the one that it opens."""
+    with tempfile.TemporaryDirectory() as folder:
+        copy = os.path.join(folder, "copy")
+        shutil.copyfile(path, copy)
+        with closing(sqlite3.connect(copy)) as db:
+            yield db
+
+
 def rows(path):
     """All rows of all tables, and the text of each table, in order."""
-    with closing(sqlite3.connect(f"file:{path}?mode=ro", uri=True)) as db:
+    with copied(path) as db:
         named = db.execute("SELECT name, sql FROM sqlite_schema WHERE type = 'table' "
                            "ORDER BY name").fetchall()
         return [(name, sql, sorted(db.execute(f'SELECT * FROM "{name}"'))) for name, sql in named]
@@ -22,7 +35,7 @@ def rows(path):
 def with_storage(states):
     """The text of the table `pictures`: that of `states` with the storage before the registers."""
     text = states.replace("states", "pictures", 1)
-    return text.replace("number INTEGER NOT NULL, i ", "number INTEGER NOT NULL, storage BLOB NOT NULL, i ", 1)
+    return text.replace(" i INTEGER", " storage BLOB NOT NULL, i INTEGER", 1)
 
 
 def storage_of(db, job):
@@ -51,8 +64,7 @@ def old_rows(db, table, version):
 
 def make_old(path, old, version):
     """Makes a file of an earlier version, with the jobs of a bureau's file of version 3."""
-    with closing(sqlite3.connect(f"file:{path}?mode=ro", uri=True)) as db, \
-            closing(sqlite3.connect(old)) as made, made:
+    with copied(path) as db, closing(sqlite3.connect(old)) as made, made:
         texts = dict(db.execute("SELECT name, sql FROM sqlite_schema WHERE type = 'table'"))
         texts["pictures"] = with_storage(texts["states"])
         for table in TABLES[version]:

@@ -1,5 +1,5 @@
 -- A migration that was closed, and one that stopped.
-use Rattle.std.proofs.Common.{◌≡◌, ◌⊎◌, inl, inr, ◌≤◌, ℕ, arith}
+use Rattle.std.proofs.Common.{◌⊎◌, inl, inr, ◌≤◌, ℕ, arith}
 use Rattle.std.proofs.Math.Logic.{∥∥₁_elim, ∥∥₁_map}
 use Rattle.sqlite_disk.specs.declared.Disk.{Ghosts}
 use Rattle.sqlite_disk.specs.declared.Files.{Files}

@@ -1,5 +1,5 @@
 -- From files to files.
-use Rattle.std.proofs.Common.{◌≡◌, ◌⊎◌, inl, inr, ◌≤◌, ◌+◌, Bool, IsTrue, false, List, length, take, refl, sym, ap, subst, arith, Result, Ok, Err}
+use Rattle.std.proofs.Common.{◌≡◌, inl, inr, ◌≤◌, ◌+◌, Bool, false, List, length, take, sym, ap, arith, Result, Ok, Err}
 use Rattle.std.specs.Prelude.{IfOk}
 use Rattle.std.proofs.Math.Logic.{∥∥₁_elim, ∥∥₁_map}
 use Rattle.std.proofs.Math.Seq.{take-length}
@@ -23,7 +23,7 @@ use Rattle.ledger.specs.Standing.{LeftAs, Stands}
 use Rattle.ledger.specs.Working.{HasWorked}
 use Rattle.ledger_files.specs.Closing.{StandsAlone}
 use Rattle.ledger_files.specs.Opening.{AreOf, IsAnswerFor}
-use Rattle.ledger_files.specs.Rounds.{HasDone, HasWorkedFrom, HoldsOneOf, IsAfter, IsLink, LeadsBy, MayLeave, MayLeaveFiles}
+use Rattle.ledger_files.specs.Rounds.{HasDone, HasWorkedFrom, HoldsOneOf, IsAfter, IsLink, MayLeave, MayLeaveFiles}
 use Rattle.ledger_tables.specs.declared.openings.OpenFault.{OpenFault}
 
 module _ {D : Type 0} {g : Ghosts D} (files : Image) where

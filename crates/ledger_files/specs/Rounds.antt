@@ -1,5 +1,5 @@
 -- rounds of work on a bureau's files: what they tell, and what a crash leaves of them
-use Rattle.std.specs.Prelude.{◌≡◌, ◌≤◌, ◌⊎◌, ◌+◌, ℕ, Bool, List, length, take as beginning_of, Ok, Option, IsTrue}
+use Rattle.std.specs.Prelude.{◌≡◌, ◌≤◌, ◌⊎◌, ◌+◌, Bool, List, length, take as beginning_of, Ok, IsTrue}
 use Rattle.sqlite_disk.specs.declared.Disk.{Ghosts}
 use Rattle.sqlite_disk.specs.declared.Files.{Files}
 use Rattle.sqlite_pool.specs.Stored.{is_summed}

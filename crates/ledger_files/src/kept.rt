@@ -5,7 +5,7 @@ use sqlite_disk::Disk;
 
 /// What is handed back if files were not opened as a bureau's.
 pub enum Kept<D: Disk> {
-    /// They were opened, and are not a bureau's, or there was no memory.
+    /// They were opened, and are not a bureau's, or a fault came after that.
     Connection(Connection<FileStore<D>>),
     /// They were not opened.
     Left(Leftover<D>),

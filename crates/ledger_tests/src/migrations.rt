@@ -1,7 +1,7 @@
 //! Tables of older versions that are raised to this one, and go on as if they had never been old;
 //! also after a migration in which a disk fails from some call on, each call in turn.
 
-use crate::disks::{Calls, Failing, empty_disks, over_failing, told_on};
+use crate::disks::{ALL, Calls, Failing, empty_disks, over_failing, told_on};
 use crate::sessions::{Session, told_in_memory};
 use sqlite::Files;
 use sqlite_disk::Memory;
@@ -244,10 +244,12 @@ fn told_of_disks(alloc: Global, disks: &Files<Memory>, stages: &str) -> Result<S
     Ok(told)
 }
 
-/// The disks after some stages over empty ones.
+/// The disks after some stages over empty ones. Their log is short, since it is often copied into
+/// the database file.
 fn disks_after(alloc: Global, stages: &str) -> Result<Files<Memory>, Fail> {
-    let (told, _, disks) = told_on(alloc, &empty_disks(alloc), stages)?;
-    if !told.is_empty() {
+    let mut session = Session::of(alloc, stages)?;
+    let disks = over_failing(alloc, &empty_disks(alloc), ALL, &mut session)?;
+    if !session.told.is_empty() {
         return Err("another reply")?;
     }
     Ok(disks)

@@ -6,7 +6,8 @@ use std::test::Fail;
 
 /// The statements that create the tables of version 1, and beside them those that version 3 has in
 /// place of `pictures`.
-const FIRST_TABLES: [&str; 9] = [
+const FIRST_TABLES: [&str; 11] = [
+    "BEGIN",
     "CREATE TABLE bureau (id INTEGER NOT NULL PRIMARY KEY, version INTEGER NOT NULL) STRICT",
     "CREATE TABLE jobs (customer TEXT NOT NULL, number INTEGER NOT NULL, kind INTEGER NOT NULL, \
     size INTEGER NOT NULL, deck BLOB NOT NULL, loaded BLOB NOT NULL, held INTEGER NOT NULL, \
@@ -39,13 +40,20 @@ const FIRST_TABLES: [&str; 9] = [
     page INTEGER NOT NULL, storage BLOB NOT NULL, PRIMARY KEY (customer, number, page), \
     FOREIGN KEY (customer, number) REFERENCES jobs (customer, number)) STRICT",
     "INSERT INTO bureau (id, version) VALUES (1, 3)",
+    "COMMIT",
 ];
+
+/// Executes statements.
+fn execute_all<S: Alter>(conn: &mut Connection<S>, statements: &[&str]) -> Result<(), Fail> {
+    for sql in statements {
+        conn.execute(sql, &[])?;
+    }
+    Ok(())
+}
 
 /// Creates the tables of version 1, and beside them those that a bureau uses in place of `pictures`.
 pub(crate) fn lay_first<S: Alter + Drop>(mut conn: Connection<S>) -> Result<Connection<S>, Fail> {
-    for sql in FIRST_TABLES {
-        conn.execute(sql, &[])?;
-    }
+    execute_all(&mut conn, &FIRST_TABLES)?;
     Ok(conn)
 }
 
@@ -152,14 +160,6 @@ fn add_blanks<S: Alter>(conn: &mut Connection<S>, job: &Stored) -> Result<(), Fa
     Ok(())
 }
 
-/// Executes statements.
-fn execute_all<S: Alter>(conn: &mut Connection<S>, statements: &[&str]) -> Result<(), Fail> {
-    for sql in statements {
-        conn.execute(sql, &[])?;
-    }
-    Ok(())
-}
-
 /// Makes the tables those of version 1, which are there already.
 fn make_first<S: Alter>(alloc: Global, conn: &mut Connection<S>) -> Result<(), Fail> {
     for job in &jobs_of(alloc, conn)? {
@@ -189,10 +189,12 @@ pub(crate) fn make_old<S: Alter + Drop>(
     mut conn: Connection<S>,
     version: &str,
 ) -> Result<Connection<S>, Fail> {
+    execute_all(&mut conn, &["BEGIN"])?;
     match version {
         "1" => make_first(alloc, &mut conn)?,
         "2" => make_second(alloc, &mut conn)?,
         _ => Err("an older version")?,
     }
+    execute_all(&mut conn, &["COMMIT"])?;
     Ok(conn)
 }

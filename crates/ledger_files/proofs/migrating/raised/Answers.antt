@@ -1,4 +1,4 @@
-use Rattle.std.proofs.Common.{◌≡◌, Ok, Err, inl, inr, ap, subst}
+use Rattle.std.proofs.Common.{Ok, Err, inl, inr, ap, subst}
 use Rattle.sqlite.specs.Held.{state}
 use Rattle.ledger_files.specs.Migrating.{IsVersionIn}
 use Rattle.ledger_files.proofs.OpeningFinds.{found_holds, found_is, found_stands_of, still_holds}
