@@ -18,7 +18,7 @@ use ledger::kept_offices_run_whole;
 /// `open_and_work` begins such a round, with any work, and `stop` or `finish` ends it.
 ///
 /// Between the rounds the files may be migrated, as often as one likes: `migrate_from` begins a
-/// migration, and `leave` or `close_connection` ends it. Where the first files are of an earlier
+/// migration, and `leave` or `close_migrated` ends it. Where the first files are of an earlier
 /// version, no work is done before a migration has ended.
 pub fn stops_lose_nothing()
     ensures whole { (first : Image) → (links : List Link) → AreLinks first links

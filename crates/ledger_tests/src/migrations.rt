@@ -107,7 +107,9 @@ fn told_of_one(alloc: Global, made: &str, version: &str) -> Result<String, Fail>
 }
 
 const VERSION: &str = "SELECT version FROM bureau";
+
 const PAGES: &str = "SELECT page FROM pages ORDER BY page";
+
 const LINES: &str = "SELECT count(*) FROM lines";
 
 #[test]
@@ -124,49 +126,43 @@ fn a_job_ends_after_a_migration(rt: HostRuntime) -> Result<(), Fail> {
     Ok(())
 }
 
-/// Stages that make tables which a migration leaves as they are, each after the reply to it: of this
-/// version, of a later one and of none; of two rows and of no row; of no bureau; in a transaction;
-/// and older ones that no bureau wrote.
-const LEFT_ALONE: [(&str, &str); 18] = [
-    ("fault 50", ""),
-    ("fault 50", "execute|CREATE TABLE cards (card TEXT)#"),
-    ("fault 50", "execute|CREATE TABLE bureau (name TEXT)#"),
-    ("version 3", "MAKE"),
-    ("version 3", "MAKE execute|UPDATE bureau SET id = 2#"),
-    ("fault 50", "MAKE execute|UPDATE bureau SET version = 4#"),
-    ("fault 50", "MAKE execute|UPDATE bureau SET version = 0#"),
-    ("fault 50", "MAKE execute|UPDATE bureau SET version = -1#"),
-    ("fault 50", "MAKE execute|INSERT INTO bureau (id, version) VALUES (2, 3)#"),
-    ("fault 50", "FIRST execute|INSERT INTO bureau (id, version) VALUES (2, 1)#"),
-    ("fault 50", "MAKE execute|DELETE FROM bureau#"),
-    ("fault 50", "MAKE execute|DROP TABLE bureau#"),
-    ("fault 2", "MAKE execute|BEGIN#"),
-    ("fault 2", "FIRST execute|BEGIN#"),
-    ("fault 2", "FIRST execute|UPDATE pictures SET storage = x'00'#"),
-    ("fault 2", "FIRST execute|DELETE FROM pictures#"),
-    ("fault 2", "FIRST execute|CREATE TABLE pages (page INTEGER)#"),
-    ("fault 2", "SECOND execute|DROP TABLE pages#"),
-];
+/// Tables that a migration leaves as they are, each after the reply to it: the version of a job's
+/// tables, or none, and more stages. They are of this version, of a later one and of none; of two
+/// rows and of no row; no bureau's; in a transaction; and older ones that no bureau wrote.
+const LEFT_ALONE: &str = "\
+fault 50||
+fault 50||execute|CREATE TABLE cards (card TEXT)#
+fault 50||execute|CREATE TABLE bureau (name TEXT)#
+version 3|3|
+version 3|3|execute|UPDATE bureau SET id = 2#
+fault 50|3|execute|UPDATE bureau SET version = 4#
+fault 50|3|execute|UPDATE bureau SET version = 0#
+fault 50|3|execute|UPDATE bureau SET version = -1#
+fault 50|3|execute|INSERT INTO bureau (id, version) VALUES (2, 3)#
+fault 50|1|execute|INSERT INTO bureau (id, version) VALUES (2, 1)#
+fault 50|3|execute|DELETE FROM bureau#
+fault 50|3|execute|DROP TABLE bureau#
+fault 2|3|execute|BEGIN#
+fault 2|1|execute|BEGIN#
+fault 2|2|execute|BEGIN#
+fault 2|1|execute|UPDATE pictures SET storage = x'00'#
+fault 2|1|execute|DELETE FROM pictures#
+fault 2|1|execute|CREATE TABLE pages (page INTEGER)#
+fault 2|2|execute|DROP TABLE pages#
+";
 
-/// These stages, with the tables of this version for `MAKE`, of version 1 for `FIRST` and of version
-/// 2 for `SECOND`.
+/// The stages of these tables.
 fn stages_of(alloc: Global, line: &str) -> Result<String, Fail> {
-    let Some((word, rest)) = line.split_once(' ') else {
-        return match line {
-            "MAKE" => Ok(format!(in alloc; "make|#sheet|{NEARLY_ENDED}#")?),
-            _ => Ok(String::from_str(alloc, line)?),
-        };
-    };
-    match word {
-        "MAKE" => Ok(format!(in alloc; "make|#sheet|{NEARLY_ENDED}#{rest}")?),
-        "FIRST" => Ok(format!(in alloc; "lay|#sheet|{NEARLY_ENDED}#old|1#{rest}")?),
-        "SECOND" => Ok(format!(in alloc; "make|#sheet|{NEARLY_ENDED}#old|2#{rest}")?),
-        _ => Ok(String::from_str(alloc, line)?),
+    let (version, rest) = line.split_once('|').ok_or("a version")?;
+    match version {
+        "1" => Ok(format!(in alloc; "lay|#sheet|{NEARLY_ENDED}#old|1#{rest}")?),
+        "2" => Ok(format!(in alloc; "make|#sheet|{NEARLY_ENDED}#old|2#{rest}")?),
+        "3" => Ok(format!(in alloc; "make|#sheet|{NEARLY_ENDED}#{rest}")?),
+        _ => Ok(String::from_str(alloc, rest)?),
     }
 }
 
-/// Every row of the tables that stages make, after a migration of them and the reply to it, or
-/// without one.
+/// The reply to a migration of the tables of a line, if there is one, and every row after it.
 fn rows_told(alloc: Global, line: &str, migration: &str) -> Result<String, Fail> {
     let stages = stages_of(alloc, line)?;
     let stages = format!(in alloc; "{}{migration}rows|#", stages.as_str())?;
@@ -177,11 +173,12 @@ fn rows_told(alloc: Global, line: &str, migration: &str) -> Result<String, Fail>
 #[test]
 fn what_is_not_older_stays_as_it_is(rt: HostRuntime) -> Result<(), Fail> {
     let alloc = rt.alloc();
-    for (reply, line) in LEFT_ALONE {
+    for row in LEFT_ALONE.lines() {
+        let (reply, line) = row.split_once('|').ok_or("a reply")?;
         let rows = rows_told(alloc, line, "")?;
         let told = rows_told(alloc, line, "migrate|#")?;
         let wanted = format!(in alloc; "{reply}{}", rows.as_str())?;
-        assert_eq!(rt; told.as_str(), wanted.as_str(), "{line}");
+        assert_eq!(rt; told.as_str(), wanted.as_str(), "{row}");
     }
     Ok(())
 }
@@ -311,36 +308,35 @@ fn stop_each(alloc: Global, trial: &Trial, failing: Failing) -> Result<Stops, Fa
 }
 
 /// The stops of a migration of tables that are made by a stage, from a version.
-fn stops_of(alloc: Global, made: &str, version: &str, failing: Failing) -> Result<String, Fail> {
+fn stops_of(alloc: Global, made: &str, version: &str, failing: Failing) -> Result<Stops, Fail> {
     let trial = trial_from(alloc, made, version)?;
-    let Stops { old, next } = stop_each(alloc, &trial, failing)?;
-    Ok(format!(in alloc; "{old} old, {next} next")?)
+    stop_each(alloc, &trial, failing)
 }
 
 #[test]
 fn the_log_fails_at_version_1(rt: HostRuntime) -> Result<(), Fail> {
-    let stops = stops_of(rt.alloc(), "lay", "1", Failing::Log)?;
-    assert_eq!(rt; stops.as_str(), "");
+    let Stops { old, next } = stops_of(rt.alloc(), "lay", "1", Failing::Log)?;
+    assert!(rt; old >= 50 && next >= 1, "{old} old, {next} next");
     Ok(())
 }
 
 #[test]
 fn the_database_fails_at_version_1(rt: HostRuntime) -> Result<(), Fail> {
-    let stops = stops_of(rt.alloc(), "lay", "1", Failing::Database)?;
-    assert_eq!(rt; stops.as_str(), "");
+    let Stops { old, next } = stops_of(rt.alloc(), "lay", "1", Failing::Database)?;
+    assert!(rt; old >= 30, "{old} old, {next} next");
     Ok(())
 }
 
 #[test]
 fn the_log_fails_at_version_2(rt: HostRuntime) -> Result<(), Fail> {
-    let stops = stops_of(rt.alloc(), "make", "2", Failing::Log)?;
-    assert_eq!(rt; stops.as_str(), "");
+    let Stops { old, next } = stops_of(rt.alloc(), "make", "2", Failing::Log)?;
+    assert!(rt; old >= 20 && next >= 1, "{old} old, {next} next");
     Ok(())
 }
 
 #[test]
 fn the_database_fails_at_version_2(rt: HostRuntime) -> Result<(), Fail> {
-    let stops = stops_of(rt.alloc(), "make", "2", Failing::Database)?;
-    assert_eq!(rt; stops.as_str(), "");
+    let Stops { old, next } = stops_of(rt.alloc(), "make", "2", Failing::Database)?;
+    assert!(rt; old >= 20, "{old} old, {next} next");
     Ok(())
 }

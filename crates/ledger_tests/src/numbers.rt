@@ -50,13 +50,7 @@ fn picture_of(
     row: StateRow,
     pages: &[PageRow],
 ) -> Result<Option<Parts<FlagCore>>, Fail> {
-    Ok(read_picture::<FlagCore>(
-        alloc,
-        positions,
-        row,
-        pages,
-        media(alloc)?,
-    )?)
+    Ok(read_picture::<FlagCore>(alloc, positions, row, pages, media(alloc)?)?)
 }
 
 /// The row of the state of a machine with these parts.
@@ -169,15 +163,18 @@ fn pages_again(alloc: Global, pages: &[PageRow]) -> Result<Option<Vec<PageRow>>,
     }
 }
 
-/// Rows of pages in words: of each its number, how many bytes it has, and the first two and the last
-/// one.
+/// Rows of pages in words: of each its number, how many bytes it has, and the first two and the
+/// last one.
 fn pages_text(alloc: Global, pages: &[PageRow]) -> Result<String, Fail> {
     let mut text = String::new(alloc);
     for row in pages {
         let bytes = row.storage.as_slice();
         let (first, second, last) = (bytes.get(0), bytes.get(1), bytes.get(99));
         let (page, count) = (row.page, bytes.len());
-        write!(&mut text, "{page}: {count}, {first:?} {second:?} {last:?}; ")?;
+        write!(
+            &mut text,
+            "{page}: {count}, {first:?} {second:?} {last:?}; "
+        )?;
     }
     Ok(text)
 }

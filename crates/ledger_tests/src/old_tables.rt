@@ -51,7 +51,7 @@ fn execute_all<S: Alter>(conn: &mut Connection<S>, statements: &[&str]) -> Resul
     Ok(())
 }
 
-/// Creates the tables of version 1, and beside them those that a bureau uses in place of `pictures`.
+/// Creates the tables of version 1, and beside them those that a bureau has in their place now.
 pub(crate) fn lay_first<S: Alter + Drop>(mut conn: Connection<S>) -> Result<Connection<S>, Fail> {
     execute_all(&mut conn, &FIRST_TABLES)?;
     Ok(conn)
@@ -125,11 +125,7 @@ fn insert_picture<S: Alter>(
 }
 
 /// Joins the pages of a job in its row in `pictures`.
-fn join_pages<S: Alter>(
-    alloc: Global,
-    conn: &mut Connection<S>,
-    job: &Stored,
-) -> Result<(), Fail> {
+fn join_pages<S: Alter>(alloc: Global, conn: &mut Connection<S>, job: &Stored) -> Result<(), Fail> {
     let mut storage = Vec::new(alloc);
     for page in 0..job.pages {
         push_page(conn, job, page, &mut storage)?;
@@ -138,11 +134,7 @@ fn join_pages<S: Alter>(
 }
 
 /// Adds the row of a blank page of a job.
-fn insert_blank<S: Alter>(
-    conn: &mut Connection<S>,
-    job: &Stored,
-    page: i64,
-) -> Result<(), Fail> {
+fn insert_blank<S: Alter>(conn: &mut Connection<S>, job: &Stored, page: i64) -> Result<(), Fail> {
     conn.execute(
         "INSERT INTO pages (customer, number, page, storage) VALUES (?1, ?2, ?3, ?4)",
         params![&job.customer, job.number, page, &[0u8; 100][..]],

@@ -4,10 +4,11 @@
 //! tests with the N-th request for memory refused: then a test may end with the error of its own
 //! preparations, but no assertion may fail.
 
-use crate::commands::command_of;
+use crate::commands::{apply, command_of};
 use crate::old_tables::{lay_first, make_old};
 use crate::opened_files::{AFTER, BEFORE, create, told_at};
-use ledger::{Bureau, Fault, OpenFault, migrate};
+use crate::sessions::raise_tables;
+use ledger::{Bureau, Fault, OpenFault};
 use machine::Meter;
 use office::Command;
 use sqlite::{Alter, Connection, MemStore};
@@ -148,10 +149,8 @@ fn first_tables(alloc: Global) -> Result<Connection<MemStore>, Fail> {
         return Err("not adopted")?;
     };
     for line in [SUBMIT, SLICE] {
-        if bureau
-            .apply(&command_of(alloc, line)?, &mut Meter::new())
-            .is_err()
-        {
+        let command = command_of(alloc, line)?;
+        if apply(&mut bureau, &command, &mut Meter::new()).is_err() {
             return Err("not applied")?;
         }
     }
@@ -162,13 +161,15 @@ fn first_tables(alloc: Global) -> Result<Connection<MemStore>, Fail> {
 /// migration.
 fn is_raised_or_not(alloc: Global) -> Result<bool, Fail> {
     let mut conn = first_tables(alloc)?;
-    match migrate(alloc, &mut conn) {
+    match raise_tables(alloc, &mut conn) {
         Ok(found) => Ok(found == 1 && version(&mut conn)? == 3 && contents(&mut conn)? == 113),
-        Err(OpenFault::NoMemory) => Ok(version(&mut conn)? == 11
-            && contents(&mut conn)? == 113
-            && migrate(alloc, &mut conn) == Ok(1)
-            && version(&mut conn)? == 3
-            && contents(&mut conn)? == 113),
+        Err(OpenFault::NoMemory) => Ok(
+            version(&mut conn)? == 11
+                && contents(&mut conn)? == 113
+                && raise_tables(alloc, &mut conn) == Ok(1)
+                && version(&mut conn)? == 3
+                && contents(&mut conn)? == 113,
+        ),
         Err(_) => Ok(false),
     }
 }

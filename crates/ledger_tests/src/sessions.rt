@@ -220,11 +220,7 @@ const TABLES: [&str; 8] = [
 ];
 
 /// The rows of a table, or the fault of looking for them.
-fn rows_of<S: Alter>(
-    alloc: Global,
-    conn: &mut Connection<S>,
-    table: &str,
-) -> Result<String, Fail> {
+fn rows_of<S: Alter>(alloc: Global, conn: &mut Connection<S>, table: &str) -> Result<String, Fail> {
     let sql = format!(in alloc; "SELECT * FROM {table}")?;
     match conn.query_all(sql.as_str(), &[]) {
         Ok(rows) => Ok(format!(in alloc; "{rows:?}\n")?),
@@ -245,13 +241,22 @@ fn shown<S: Alter + Drop>(
     Ok(conn)
 }
 
+/// Raises older tables to this version.
+// It has no clause, so that the proof of a caller does not carry the state of each call.
+pub(crate) fn raise_tables<S: Alter>(
+    alloc: Global,
+    conn: &mut Connection<S>,
+) -> Result<u32, OpenFault> {
+    migrate(alloc, conn)
+}
+
 /// The stage `migrate`.
 fn migrated<S: Alter + Drop>(
     alloc: Global,
     mut conn: Connection<S>,
     told: &mut String,
 ) -> Result<Connection<S>, Fail> {
-    match migrate(alloc, &mut conn) {
+    match raise_tables(alloc, &mut conn) {
         Ok(version) => told.push_str(format!(in alloc; "version {version}")?.as_str())?,
         Err(fault) => {
             let fault = fault_text(alloc, fault)?;
