@@ -1,6 +1,8 @@
 //! Raising the tables of an earlier version to this program's, in one transaction.
 
-ghost use Rattle.std.specs.Prelude.{IfErr, IfOk, IsErrOf};
+ghost use Rattle.std.specs.Prelude.{◌≤◌, IfErr, IfOk, IsErrOf};
+ghost use Rattle.sqlite.specs.Held.{state};
+ghost use Rattle.sqlite.specs.View.{doubt};
 ghost use Rattle.ledger_tables.specs.Steps.{IsStep};
 ghost use Rattle.ledger_tables.specs.Versions.{IsKnown, IsNotOld};
 ghost use Rattle.ledger.specs.Migrating.{AddsPages, AddsNext, AddsPagesOf, AddsAllPages, EndsFirst, RaisesFrom, FindsVersion, RaisesFound, KnowsFault, IsRaised, IsKeptOf, LeavesEitherVersion, LeavesUntouched, IsNoFaultOfVersion, HasVersion};
@@ -158,6 +160,8 @@ pub fn migrate<S: Alter>(alloc: Global, conn: &mut Connection<S>) -> Result<u32,
     ensures known { IfErr result (IsNoFaultOfVersion S.Store conn.old conn.new) }
     ensures version { IfOk result (HasVersion S.Store conn.old conn.new) }
     ensures untouched { LeavesUntouched S.Store conn.old conn.new result }
+    ensures clean { doubt (state S.Store conn.old).is_clean
+        ≤ doubt (state S.Store conn.new).is_clean }
 {
     if !conn.is_autocommit() {
         return Err(OpenFault::Store);
