@@ -238,9 +238,9 @@ example:
 It prints `version 1 to 3`, with the version that FILE had, or `version 3` where there was nothing
 to do. While it runs, no other program can use FILE.
 
-Status 0: FILE is of this version. Status 1: there is not enough memory, and FILE is as before.
-Status 2: the words are not as above. Status 3: the bureau's file failed. `bureau --help` lists
-the faults.
+Status 0: FILE is of this version. Status 1: there is not enough memory, and FILE is as before;
+or that line could not be printed, and FILE is of this version. Status 2: the words are not as
+above. Status 3: the bureau's file failed. `bureau --help` lists the faults.
 ";
 
 /// The text that `serve --help` prints.
