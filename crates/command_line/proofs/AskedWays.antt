@@ -28,6 +28,7 @@ asks_option words (row.Assemble source out) is = absurd is
 asks_option words (row.Init file) is = absurd is
 asks_option words (row.Apply file script) is = absurd is
 asks_option words (row.Export file customer number) is = absurd is
+asks_option words (row.Migrate file) is = absurd is
 asks_option words (row.Serve file port count) is = absurd is
 asks_option words (row.Help page) is = is
 asks_option words row.Version is = is

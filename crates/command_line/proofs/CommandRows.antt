@@ -69,6 +69,7 @@ row_entered name.Assemble = record { stops = refl; clean = refl; faults = λ wor
 row_entered name.Init = record { stops = refl; clean = refl; faults = λ words. refl; found = λ words. refl }
 row_entered name.Apply = record { stops = refl; clean = refl; faults = λ words. refl; found = λ words. refl }
 row_entered name.Export = record { stops = refl; clean = refl; faults = λ words. refl; found = λ words. refl }
+row_entered name.Migrate = record { stops = refl; clean = refl; faults = λ words. refl; found = λ words. refl }
 row_entered name.Serve = record { stops = refl; clean = refl; faults = λ words. refl; found = λ words. refl }
 
 row_walk : (name : Text) (row : Shape) (words : List Text) → IsEntered name row
@@ -99,7 +100,7 @@ IsNoName w = (row : RowName) → bytes_eq (name_of row) w ≡ false
 stray : (w : Text) → IsValue w → IsNoName w
     → turn_fault top.top (names_of top) (at false false 1 nothing_held) w ≡ stray_fault top.top
 stray w v none = rw (none name.Run) (rw (none name.Assemble) (rw (none name.Init) (rw (none name.Apply)
-    (rw (none name.Export) (rw (none name.Serve) (rw v.dashes (rw v.long (rw v.short refl))))))))
+    (rw (none name.Export) (rw (none name.Migrate) (rw (none name.Serve) (rw v.dashes (rw v.long (rw v.short refl)))))))))
 
 pub no_row : (w : Text) (rest : List Text) → IsValue w → IsNoName w → fault_of bureau (w ∷ rest) ≢ []
 unfolding walk_fault

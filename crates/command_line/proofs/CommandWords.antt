@@ -31,6 +31,7 @@ row_taken name.Assemble values e = two_taken _ values e
 row_taken name.Init values e = one_taken _ values e
 row_taken name.Apply values e = two_taken _ values e
 row_taken name.Export values e = three_taken _ values e
+row_taken name.Migrate values e = one_taken _ values e
 row_taken name.Serve values e = three_taken _ values e
 
 row_counted : (r : RowName) (values : List Text) → length values ≡ length (values_of r)
@@ -40,6 +41,7 @@ row_counted name.Assemble values e = two_counted _ values e
 row_counted name.Init values e = one_counted _ values e
 row_counted name.Apply values e = two_counted _ values e
 row_counted name.Export values e = three_counted _ values e
+row_counted name.Migrate values e = one_counted _ values e
 row_counted name.Serve values e = three_counted _ values e
 
 -- a row that is asked for has so many values
@@ -54,6 +56,7 @@ counted (row.Assemble source out) r values e = counted_as _ r values refl e
 counted (row.Init file) r values e = counted_as _ r values refl e
 counted (row.Apply file script) r values e = counted_as _ r values refl e
 counted (row.Export file customer number) r values e = counted_as _ r values refl e
+counted (row.Migrate file) r values e = counted_as _ r values refl e
 counted (row.Serve file port count) r values e = counted_as _ r values refl e
 counted (row.Help page) r values e = cc
 counted row.Version r values e = cc

@@ -17,6 +17,7 @@ named_name name.Assemble = refl
 named_name name.Init = refl
 named_name name.Apply = refl
 named_name name.Export = refl
+named_name name.Migrate = refl
 named_name name.Serve = refl
 
 -- two rows of one name are one

@@ -11,7 +11,7 @@ use Rattle.command_line.specs.declared.row_names.RowName.{RowName}
 use Rattle.command_line.specs.declared.row_names.RowName.TheVariants as name
 use Rattle.command_line.specs.declared.asked.WordsFault.{WordsFault}
 use Rattle.command_line.specs.declared.asked.WordsFault.TheVariants as fault
-use Rattle.command_line.specs.declared.help.TheConstants.{APPLY_HELP, ASSEMBLE_HELP, EXPORT_HELP, HELP, INIT_HELP, RUN_HELP, SERVE_HELP}
+use Rattle.command_line.specs.declared.help.TheConstants.{APPLY_HELP, ASSEMBLE_HELP, EXPORT_HELP, HELP, INIT_HELP, MIGRATE_HELP, RUN_HELP, SERVE_HELP}
 
 -- the words ask for the help of a row, or for the whole help
 abbrev pub IsHelp : Option RowName → List Text → Type 0
@@ -38,6 +38,7 @@ row_of (row.Init file) = Some (name.Init, file.now ∷ [])
 row_of (row.Apply file script) = Some (name.Apply, file.now ∷ script.now ∷ [])
 row_of (row.Export file customer number) =
     Some (name.Export, file.now ∷ customer.now ∷ number.now ∷ [])
+row_of (row.Migrate file) = Some (name.Migrate, file.now ∷ [])
 row_of (row.Serve file port count) = Some (name.Serve, file.now ∷ port.now ∷ count.now ∷ [])
 row_of row.Standard = None
 row_of (row.Help page) = None
@@ -145,6 +146,7 @@ page_of (Some name.Assemble) = ASSEMBLE_HELP.now
 page_of (Some name.Init) = INIT_HELP.now
 page_of (Some name.Apply) = APPLY_HELP.now
 page_of (Some name.Export) = EXPORT_HELP.now
+page_of (Some name.Migrate) = MIGRATE_HELP.now
 page_of (Some name.Serve) = SERVE_HELP.now
 
 -- the text that is printed for a fault of the words

@@ -12,11 +12,13 @@ line_of name.Assemble = (codes "assemble", codes "IN" ∷ codes "OUT" ∷ [])
 line_of name.Init = (codes "init", codes "FILE" ∷ [])
 line_of name.Apply = (codes "apply", codes "FILE" ∷ codes "SCRIPT" ∷ [])
 line_of name.Export = (codes "export", codes "FILE" ∷ codes "CUSTOMER" ∷ codes "NUMBER" ∷ [])
+line_of name.Migrate = (codes "migrate", codes "FILE" ∷ [])
 line_of name.Serve = (codes "serve", codes "FILE" ∷ codes "PORT" ∷ codes "COUNT" ∷ [])
 
 -- all rows
 abbrev pub rows : List RowName
-rows = name.Run ∷ name.Assemble ∷ name.Init ∷ name.Apply ∷ name.Export ∷ name.Serve ∷ []
+rows = name.Run ∷ name.Assemble ∷ name.Init ∷ name.Apply ∷ name.Export ∷ name.Migrate
+    ∷ name.Serve ∷ []
 
 -- the word that is the name of a row
 abbrev pub name_of : RowName → Text

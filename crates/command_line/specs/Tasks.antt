@@ -14,7 +14,7 @@ use Rattle.command_line.specs.declared.tasks.Misuse.{Misuse}
 use Rattle.command_line.specs.declared.tasks.Misuse.TheVariants as misuse
 use Rattle.command_line.specs.declared.tasks.Input.TheVariants.{Standard, File}
 use Rattle.command_line.specs.declared.tasks.Task.{Task}
-use Rattle.command_line.specs.declared.tasks.Task.TheVariants.{Apply, Assemble, Export, Help, Init, Run, Serve, Version}
+use Rattle.command_line.specs.declared.tasks.Task.TheVariants.{Apply, Assemble, Export, Help, Init, Migrate, Run, Serve, Version}
 
 -- the task is to run the deck at this path, with the size and the switches that these texts give
 abbrev pub WantsRun : List ℕ → List ℕ → List ℕ → Task → Type 0
@@ -50,6 +50,7 @@ Wants words (Apply file script) = HasValues name.Apply (file.now ∷ script.now 
 Wants words (Export file customer number) =
     (text : List ℕ) × HasValues name.Export (file.now ∷ customer.now ∷ text ∷ []) words
     × IsNumberOf text number
+Wants words (Migrate file) = HasValues name.Migrate (file.now ∷ []) words
 Wants words (Serve file port count) =
     HasValues name.Serve (file.now ∷ decimal port ∷ decimal count ∷ []) words
     × IsPort port × IsCount count

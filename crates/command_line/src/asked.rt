@@ -50,6 +50,11 @@ pub enum Words<'a> {
         /// The job's number.
         number: &'a str,
     },
+    /// `migrate FILE`: a bureau's file of an earlier version, made one of this version.
+    Migrate {
+        /// The path of the bureau's file.
+        file: &'a str,
+    },
     /// `serve FILE PORT COUNT`: requests over HTTP, answered by a bureau.
     Serve {
         /// The path of the bureau's file.

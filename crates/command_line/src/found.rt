@@ -46,6 +46,7 @@ fn row_with<'a>(row: RowName, matches: &ArgMatches<'a>) -> Words<'a>
             customer: second,
             number: third,
         },
+        RowName::Migrate => Words::Migrate { file: first },
         RowName::Serve => Words::Serve {
             file: first,
             port: second,

@@ -17,6 +17,7 @@ usage:
   bureau apply FILE SCRIPT            carries out the commands in the file SCRIPT, in order
   bureau serve FILE PORT COUNT        answers COUNT requests over HTTP, one after the other
   bureau export FILE CUSTOMER NUMBER  writes what a job punched and printed to two files here
+  bureau migrate FILE                 makes a file of an earlier version one of this version
   bureau ROW --help                   prints the help of a row alone, as run --help (or -h)
   bureau --help                       prints this text (or -h)
   bureau --version                    prints the version, and the toolchain it was built with
@@ -69,7 +70,7 @@ faults and refusals:
                                             for a full disk; what was answered is in the file
   50      the file is no bureau's           is the file the right one? a later version of this
                                             program may have made it
-  51      an earlier version made the file  use the program of that version
+  51      an earlier version made the file  bureau migrate FILE makes it one of this version
   device  another file, the input, an       look at the file's name and its permissions, and
           output or the port could not be   for a full disk; OUT is then as it was before; of
           used                              serve: another program has the port
@@ -222,6 +223,26 @@ not be written. Status 2: the words are not as above. Status 3: the bureau's fil
 `bureau --help` lists the faults and refusals.
 ";
 
+/// The text that `migrate --help` prints.
+pub const MIGRATE_HELP: &str = "\
+bureau migrate FILE: makes FILE, a bureau's file of an earlier version, one of this version.
+
+FILE  the bureau's file. All jobs stay as they are, with what they punched and printed. It is
+      changed at once or not at all, also where the program is stopped: then FILE is the old one
+      or the new one, and migrate may be called again. The program of the earlier version cannot
+      use it any more, so keep a copy for that
+
+example:
+  bureau migrate my.bureau
+
+It prints `version 1 to 3`, with the version that FILE had, or `version 3` where there was nothing
+to do. While it runs, no other program can use FILE.
+
+Status 0: FILE is of this version. Status 1: there is not enough memory, and FILE is as before.
+Status 2: the words are not as above. Status 3: the bureau's file failed. `bureau --help` lists
+the faults.
+";
+
 /// The text that `serve --help` prints.
 pub const SERVE_HELP: &str = "\
 bureau serve FILE PORT COUNT: answers COUNT requests over HTTP, one connection after the other.
@@ -280,6 +301,7 @@ pub fn page(row: Option<RowName>) -> &'static str
         Some(RowName::Init) => INIT_HELP,
         Some(RowName::Apply) => APPLY_HELP,
         Some(RowName::Export) => EXPORT_HELP,
+        Some(RowName::Migrate) => MIGRATE_HELP,
         Some(RowName::Serve) => SERVE_HELP,
     }
 }

@@ -16,17 +16,20 @@ pub enum RowName {
     Apply,
     /// `export`.
     Export,
+    /// `migrate`.
+    Migrate,
     /// `serve`.
     Serve,
 }
 
 /// The rows, in the order of [`RowName`]: each with its name, and with the names of its values.
-pub(crate) const ROWS: [(RowName, &str, &[&str]); 6] = [
+pub(crate) const ROWS: [(RowName, &str, &[&str]); 7] = [
     (RowName::Run, "run", &["DECK", "SIZE", "SWITCHES"]),
     (RowName::Assemble, "assemble", &["IN", "OUT"]),
     (RowName::Init, "init", &["FILE"]),
     (RowName::Apply, "apply", &["FILE", "SCRIPT"]),
     (RowName::Export, "export", &["FILE", "CUSTOMER", "NUMBER"]),
+    (RowName::Migrate, "migrate", &["FILE"]),
     (RowName::Serve, "serve", &["FILE", "PORT", "COUNT"]),
 ];
 

@@ -71,6 +71,11 @@ pub enum Task<'a> {
         /// The job's number, or 0 if its text is not one.
         number: u32,
     },
+    /// Make a bureau's file of an earlier version one of this version.
+    Migrate {
+        /// The path of the bureau's file.
+        file: &'a str,
+    },
     /// Answer requests over HTTP.
     Serve {
         /// The path of the bureau's file.
@@ -229,6 +234,7 @@ pub fn task_of<'a>(alloc: Global, words: &'a [String]) -> Result<Task<'a>, Misus
         ) => run_task(deck, size, switches),
         Ok(Words::Assemble { source, out }) => Ok(Task::Assemble { source, out }),
         Ok(Words::Init { file }) => Ok(Task::Init { file }),
+        Ok(Words::Migrate { file }) => Ok(Task::Migrate { file }),
         Ok(Words::Apply { file, script }) => Ok(Task::Apply { file, script }),
         Ok(
             Words::Export {

@@ -10,3 +10,4 @@ mod PlaneStretches
 mod PlaneWords
 pub mod NearCodes
 pub mod SizeLemmas
+pub mod PageLemmas

@@ -4,3 +4,4 @@ pub mod Checked
 pub mod Operands
 pub mod Planes
 pub mod Doing
+pub mod Pages

@@ -1,9 +1,12 @@
 pub mod SavingChanges
 pub mod BureauTransactions
+pub mod EarlierLemmas
 pub mod SavingFlags
 pub mod SavingJobs
 pub mod ListLemmas
 pub mod Offices
+pub mod StateRows
+pub mod PageMixes
 pub mod OneOfficeLaw
 pub mod ReadingLemmas
 pub mod Replies

@@ -5,10 +5,12 @@ use Rattle.std.specs.Option.{option_map}
 use Rattle.sqlite.specs.State.{State, IsUnchanged}
 use Rattle.ledger_tables.specs.Tables.{NamedJob, job_named}
 use Rattle.office.specs.Jobs.{Job, picture}
-use Rattle.office.specs.Kept.{Kept, kept_of}
+use Rattle.office.specs.Kept.{Kept}
 use Rattle.office.specs.Office.{Entry, Office, is_entry, entry_of, job_of}
 use Rattle.office.specs.declared.stretches.Stretch.{Stretch}
+use Rattle.ledger.specs.Earlier.{kept_alone}
 use Rattle.ledger.specs.Standing.{CanBeKept, Rows, StandsIn, named, job_cells}
+use Rattle.machine.specs.Earlier.{without_outputs}
 use Rattle.machine.specs.Run as run
 use Rattle.ledger_tables.specs.Cells.{JobCells}
 
@@ -83,6 +85,6 @@ row_none customer number office found told is = go (job_of customer number offic
     go None at = at
     go (Some job) at = absurd (let e : None ≡ Some (job_cells job) = sym is ∙ told ∙ row_told customer number office ∙ ap (option_map job_cells) at in cc)
 
-pub kept_is : (stretches : List Stretch) (held collected : Bool) (machine : run.State) (job : Job) → stretches ≡ job.stretches → held ≡ job.held → collected ≡ job.collected → machine ≡ picture job
-    → ◌≡◌ {A = Kept} (record { stretches = stretches; held = held; collected = collected; machine = machine }) (kept_of job)
+pub kept_is : (stretches : List Stretch) (held collected : Bool) (machine : run.State) (job : Job) → stretches ≡ job.stretches → held ≡ job.held → collected ≡ job.collected → machine ≡ without_outputs (picture job)
+    → ◌≡◌ {A = Kept} (record { stretches = stretches; held = held; collected = collected; machine = machine }) (kept_alone job)
 kept_is stretches held collected machine job one two three four = rw (one, two, three, four)

@@ -2,12 +2,15 @@
 use Rattle.std.proofs.Common.{◌≡◌, ◌<◌, ◌-◌, ◌%◌, ℕ, zero, suc, List, [], ◌∷◌, length, get_or, Option, Some, Result, Ok, IfOk, refl, sym, ap, subst, ◌∙◌, arith}
 use Rattle.std.specs.List.{All, AllByRecursion}
 use Rattle.std.proofs.lemmas.List.Elements.{recursion_from_All}
-use Rattle.machine.specs.Run.{State, started, after}
-use Rattle.office.specs.Jobs.{Job, resumed, picture, loaded_deck, HasSwitches}
+use Rattle.machine.specs.Run.{State, first_card, started, after}
+use Rattle.core_store.specs.Storage.{positions_of}
+use Rattle.machine.proofs.Steps.{length-loaded, stems_after, stems_same}
+use Rattle.office.specs.Jobs.{Job, resumed, beginning, picture, loaded_deck, HasSwitches}
 use Rattle.office.specs.declared.stretches.Stretch.{Stretch}
 use Rattle.ledger_rows.proofs.FromCellsRows.{AreTold}
 use Rattle.ledger_tables.specs.declared.rows.StretchRow.{StretchRow}
 use Rattle.units.specs.Switches.{seven, AreSeven}
+use Rattle.units.specs.Units.{nothing_made}
 use Rattle.units.specs.declared.switches.Switches.{Switches}
 use Rattle.ledger.specs.Standing.{stretch_row}
 
@@ -31,6 +34,16 @@ module _ (law : (m : State) (count : ℕ) → (after m count).works.units.hopper
   pub picture_deck : (job : Job) → (picture job).works.units.hopper.deck ≡ loaded_deck job
   picture_deck job = resumed_deck _ job.stretches
 
+-- and its size
+module _ (law : (m : State) (count : ℕ) → length (after m count).works.storage ≡ length m.works.storage) where
+  resumed_size : (m : State) (stretches : List Stretch) → length (resumed m stretches).works.storage ≡ length m.works.storage
+  unfolding resumed
+  resumed_size m [] = refl
+  resumed_size m (s ∷ stretches) = resumed_size (after (started m s.switches) s.granted) stretches ∙ law (started m s.switches) s.granted
+
+  pub picture_size : (job : Job) → length (picture job).works.storage ≡ positions_of job.size
+  picture_size job = resumed_size (beginning job) job.stretches ∙ length-loaded _ job.size (first_card (loaded_deck job)) refl
+
 -- and its switches are those of the last one
 module _ (law : (m : State) (count : ℕ) → (after m count).works.units.switches ≡ m.works.units.switches) where
   resumed_switches : (m : State) (stretches : List Stretch) (n : ℕ) (last : Stretch) → AllByRecursion HasSwitches stretches → suc n ≡ length stretches → last ≡ get_or stretches n last → (resumed m stretches).works.units.switches ≡ last.switches
@@ -43,6 +56,17 @@ module _ (law : (m : State) (count : ℕ) → (after m count).works.units.switch
 
   pub picture_switches : (job : Job) (last : Stretch) → All HasSwitches job.stretches → 0 < length job.stretches → last ≡ get_or job.stretches (length job.stretches - 1) last → (picture job).works.units.switches ≡ last.switches
   picture_switches job last all some is = resumed_switches _ job.stretches (length job.stretches - 1) last (recursion_from_All HasSwitches job.stretches all) (omega (arith, some)) is
+
+-- and it has all that it has made itself
+resumed_before : (m : State) (stretches : List Stretch) → (resumed m stretches).works.units.before ≡ m.works.units.before
+unfolding resumed
+resumed_before m [] = refl
+resumed_before m (s ∷ stretches) =
+    let now = started m s.switches in
+    resumed_before (after now s.granted) stretches ∙ (stems_after now now s.granted (stems_same now)).before
+
+pub picture_before : (job : Job) → (picture job).works.units.before ≡ nothing_made
+picture_before job = resumed_before (beginning job) job.stretches
 
 pub some_is : {X : Type 0} {x y : X} → ◌≡◌ {A = Option X} (Some x) (Some y) → x ≡ y
 some_is e = cc

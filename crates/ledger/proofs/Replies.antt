@@ -16,8 +16,6 @@ use Rattle.office.specs.declared.replies.Reply.{Reply}
 use Rattle.office.specs.declared.replies.Reply.TheVariants.{Taken, Refused}
 use Rattle.sqlite.specs.State.{State}
 use Rattle.ledger_tables.specs.Tables as tables
-use Rattle.ledger_tables.specs.declared.names.JobName.{JobName}
-use Rattle.ledger.specs.Saving.{job_in, IsAfter}
 use Rattle.ledger.specs.Standing.{StandsIn, Served, named}
 use Rattle.ledger.proofs.SavingChanges.{same_job}
 
@@ -120,7 +118,7 @@ pub command_refused : (new : State) (customer : List ℕ) (number : ℕ) (c : Jo
 command_refused new customer number c reason office old is told s =
     let why = refused_so c (kept_of old) reason told in
     let stays : job_after c old ≡ old = ap (job_unless c old) why in
-    let whole : with_job customer number (job_after c old) office ≡ office = ap (λ (j : Job). with_job customer number j office) stays ∙ same_job customer number old office s.tables.distinct is in
+    let whole : with_job customer number (job_after c old) office ≡ office = ap (λ (j : Job). with_job customer number j office) stays ∙ same_job customer number old office s.tables.shared.distinct is in
     record {
       reply_is = told ∙ ap (λ (o : Option Job). (commanded customer number c office o).1) (sym is);
       stands = subst (λ (o : Option Job). StandsIn new (commanded customer number c office o).0) (sym is) (subst (StandsIn new) (sym whole) s);
@@ -141,17 +139,6 @@ ActOnPictures = (c : JobCommand) (job : Job) → 0 < length job.stretches → (t
 
 abbrev pub KeepJobs : Type 0
 KeepJobs = (c : JobCommand) (job : Job) → IsJob job → IsJob (job_after c job)
-
--- what a command that is let through makes of a job
-pub is_after : ActOnPictures → KeepJobs → (name : JobName) (c : JobCommand) (old : Job) (k : Kept) (office : Office) → job_in name office ≡ Some old → IsJob old → k ≡ (take_kept c (kept_of old)).0 → job_refusal c (summary_of (kept_of old)) ≡ None → IsAfter name k c old office
-is_after act keep name c old k office found it is none =
-    let stays : job_after c old ≡ changed_job c old = ap (job_unless c old) none in
-    record {
-      found = found;
-      made = is ∙ ap (λ (o : Option Refusal). (taken_unless c (kept_of old) o).0) none;
-      is = is ∙ act c old it.stretches.begun ∙ ap (λ (j : Job). kept_of j) stays;
-      job = subst IsJob stays (keep c old it);
-    }
 
 pub none_is : {X : Type 0} (o : Option X) → ((x : X) → o ≡ Some x → ⊥) → o ≡ None
 none_is None not = refl

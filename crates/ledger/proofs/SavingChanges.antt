@@ -1,28 +1,32 @@
 -- What a command changes of a job, in the office and in the tables
-use Rattle.std.proofs.Common.{true≢false, inl, inr, ◌≡◌, ℕ, List, [], ◌∷◌, length, take, map, ◌≤◌, Bool, true, false, ◌&&◌, ◌==◌, bytes_eq, if◌then◌else◌, Option, Some, refl, sym, ap, subst, ◌∙◌, arith}
+use Rattle.std.proofs.Common.{true≢false, inl, inr, ◌≡◌, ℕ, List, [], ◌∷◌, ◌++◌, map, Bool, true, false, ◌&&◌, ◌==◌, bytes_eq, if◌then◌else◌, Option, Some, refl, sym, ap, subst, ◌∙◌}
 use Rattle.std.specs.List.{All, AllByRecursion}
 use Rattle.std.proofs.Math.Path.{fun_ext}
 use Rattle.std.proofs.lemmas.Bool.{cases_Bool}
-use Rattle.std.proofs.lemmas.List.{length-take}
+use Rattle.std.proofs.lemmas.List.{append-nil}
+use Rattle.std.proofs.lemmas.List.Elements.{All-append}
 use Rattle.cards.specs.declared.decks.Card.{Card}
 use Rattle.cards.specs.Decks.{IsCard}
-use Rattle.machine.specs.Run.{State, after, lines_of}
+use Rattle.core_store.specs.Storage.{Storage}
+use Rattle.machine.specs.Run.{State, lines_of}
 use Rattle.office.specs.Jobs.{Job, picture, IsJob}
 use Rattle.office.specs.Kept.{Kept, kept_of, changed, changed_job}
 use Rattle.office.specs.Office.{Entry, Office, is_entry, job_of, with_job}
 use Rattle.office.specs.declared.commands.JobCommand.{JobCommand}
 use Rattle.office.specs.declared.commands.JobCommand.TheVariants.{Slice, Start}
-use Rattle.ledger_rows.specs.Columns.{picture_cells, line_cells, HoldsCharacters, IsLine}
+use Rattle.ledger_rows.specs.Columns.{state_row, line_cells, HoldsCharacters, IsLine}
+use Rattle.ledger_rows.specs.Pages.{rows_of}
 use Rattle.sqlite.specs.Effect.{Database}
 use Rattle.sqlite.specs.State as store
-use Rattle.ledger_tables.specs.Tables.{NamedJob, Holds, AreDistinct, is_job, at_job, with_cards, with_lines, with_stretches, with_picture}
+use Rattle.ledger_tables.specs.Tables.{NamedJob, Holds, AreDistinct, is_job, at_job, with_cards, with_lines, with_stretches, with_state, with_pages}
+use Rattle.ledger_tables.specs.declared.rows.StateRow.{StateRow}
 use Rattle.ledger_tables.proofs.InsertLast.{name_is, name_yes}
 use Rattle.units.specs.declared.switches.Switches.{Switches}
-use Rattle.ledger.specs.Saving.{HadMade}
-use Rattle.ledger.specs.Standing.{named, job_cells, stretch_row, stretches_of, picture_of, cards_of, tables_of, CanBeKept, Rows, StandsIn}
+use Rattle.ledger.specs.Earlier.{kept_alone, with_outputs_of, HasCounted}
+use Rattle.ledger.specs.Standing.{named, job_cells, stretch_row, stretches_of, state_of, pages_of, cards_of, tables_of, CanBeKept, Rows, StandsIn}
 use Rattle.ledger.specs.Standing as standing
-use Rattle.ledger.specs.declared.saving.Made.{Made}
 use Rattle.ledger.proofs.Offices.{job_is}
+use Rattle.ledger.proofs.StateRows.{row_behind}
 use Rattle.ledger.proofs.SavingLemmas.{at_job_same, told_of, same_tables, is_other}
 
 -- ---- another job in the place of one
@@ -109,20 +113,21 @@ same_job customer number old (e ∷ office) distinct is = elim (cases_Bool (is_e
 
 module _ (customer : List ℕ) (number : ℕ) (job old : Job) (office : Office) (found : job_of customer number office ≡ Some old) where
   tables_with : AreDistinct (map named office) → job_cells job ≡ job_cells old
-      → tables_of (with_job customer number job office) ≡ with_stretches customer number (map stretch_row job.stretches) (with_picture customer number (picture_cells (picture job)) (with_lines customer number (map line_cells (lines_of (picture job))) (with_cards customer number (map (λ (card : Card). card.0) (picture job).works.units.punch) (tables_of office))))
+      → tables_of (with_job customer number job office) ≡ with_stretches customer number (map stretch_row job.stretches) (with_state customer number (state_row (picture job)) (with_pages customer number (rows_of (picture job).works.storage) (with_lines customer number (map line_cells (lines_of (picture job))) (with_cards customer number (map (λ (card : Card). card.0) (picture job).works.units.punch) (tables_of office)))))
   tables_with distinct cells =
       same_tables _ _ (named_with customer number job old office distinct found cells)
       (told_with stretches_of customer number job old office found)
-      (told_with picture_of customer number job old office found)
+      (told_with state_of customer number job old office found)
+      (told_with pages_of customer number job old office found)
       (told_with cards_of customer number job old office found)
       (told_with standing.lines_of customer number job old office found)
 
   after_saved : (db0 db : Database) (k : Kept) → Rows db0 office → job_cells job ≡ job_cells old → k ≡ kept_of job → CanBeKept job
-      → Holds db (with_stretches customer number (map stretch_row k.stretches) (with_picture customer number (picture_cells k.machine) (with_lines customer number (map line_cells (lines_of k.machine)) (with_cards customer number (map (λ (card : Card). card.0) k.machine.works.units.punch) (tables_of office)))))
+      → Holds db (with_stretches customer number (map stretch_row k.stretches) (with_state customer number (state_row k.machine) (with_pages customer number (rows_of k.machine.works.storage) (with_lines customer number (map line_cells (lines_of k.machine)) (with_cards customer number (map (λ (card : Card). card.0) k.machine.works.units.punch) (tables_of office))))))
       → Rows db (with_job customer number job office)
   after_saved db0 db k stands cells is it holds = record {
-    tables = subst (Holds db) (sym (tables_with stands.tables.distinct cells))
-        (subst (λ (x : Kept). Holds db (with_stretches customer number (map stretch_row x.stretches) (with_picture customer number (picture_cells x.machine) (with_lines customer number (map line_cells (lines_of x.machine)) (with_cards customer number (map (λ (card : Card). card.0) x.machine.works.units.punch) (tables_of office)))))) is holds);
+    tables = subst (Holds db) (sym (tables_with stands.tables.shared.distinct cells))
+        (subst (λ (x : Kept). Holds db (with_stretches customer number (map stretch_row x.stretches) (with_state customer number (state_row x.machine) (with_pages customer number (rows_of x.machine.works.storage) (with_lines customer number (map line_cells (lines_of x.machine)) (with_cards customer number (map (λ (card : Card). card.0) x.machine.works.units.punch) (tables_of office))))))) is holds);
     jobs = all_with customer number job office stands.jobs it;
   }
 
@@ -137,81 +142,47 @@ kept_so job k is it storage cards lines = record {
 
 -- ---- a slice
 
--- what is known of runs
-abbrev pub KeepsCards : Type 0
-KeepsCards = (m : State) (count : ℕ) → take (length m.works.units.punch) (after m count).works.units.punch ≡ m.works.units.punch
-
-abbrev pub KeepsLines : Type 0
-KeepsLines = (m : State) (count : ℕ) → take (length (lines_of m)) (lines_of (after m count)) ≡ lines_of m
-
--- what was made before is the first of what is made now
-pub record GoesOnFrom (old : Job) (m : State) (cards lines : ℕ) : Type 0 where
-  pub cards_are : take cards m.works.units.punch ≡ (picture old).works.units.punch
-  pub cards_fit : cards ≤ length m.works.units.punch
-  pub lines_are : take lines (lines_of m) ≡ lines_of (picture old)
-  pub lines_fit : lines ≤ length (lines_of m)
-
-fits : {X : Type 0} (xs ys : List X) (n : ℕ) → n ≡ length xs → take n ys ≡ xs → n ≤ length ys
-fits xs ys n is at =
-    let long = sym (length-take n ys) ∙ ap length at in
-    omega (arith, is, long)
-
-pub goes_on_from : KeepsCards → KeepsLines → (old : Job) (limit : ℕ) (before : Made) (k : Kept) → k ≡ changed (Slice limit) (kept_of old) → HadMade before old → GoesOnFrom old k.machine before.cards before.lines
-goes_on_from keeps_cards keeps_lines old limit before k is had =
-    let m = picture old in
-    let at : k.machine ≡ after m limit = ap (λ (x : Kept). x.machine) is in
-    let cards_are : take before.cards (after m limit).works.units.punch ≡ m.works.units.punch = ap (λ n. take n (after m limit).works.units.punch) had.cards ∙ keeps_cards m limit in
-    let lines_are : take before.lines (lines_of (after m limit)) ≡ lines_of m = ap (λ n. take n (lines_of (after m limit))) had.lines ∙ keeps_lines m limit in
-    subst (λ (x : State). GoesOnFrom old x before.cards before.lines) (sym at) (record {
-      cards_are = cards_are;
-      cards_fit = fits m.works.units.punch (after m limit).works.units.punch before.cards had.cards cards_are;
-      lines_are = lines_are;
-      lines_fit = fits (lines_of m) (lines_of (after m limit)) before.lines had.lines lines_are;
-    })
-
--- the rows that stand are those of what was made before
-pub cards_stand : (office : Office) (customer : List ℕ) (number : ℕ) (old : Job) (m : State) (cards lines : ℕ) → job_of customer number office ≡ Some old → GoesOnFrom old m cards lines
-    → (tables_of office).cards customer number ≡ map (λ (card : Card). card.0) (take cards m.works.units.punch)
-cards_stand office customer number old m cards lines is on = ap cards_of is ∙ ap (map (λ (card : Card). card.0)) (sym on.cards_are)
-
-pub lines_stand : (office : Office) (customer : List ℕ) (number : ℕ) (old : Job) (m : State) (cards lines : ℕ) → job_of customer number office ≡ Some old → GoesOnFrom old m cards lines
-    → (tables_of office).lines customer number ≡ map line_cells (take lines (lines_of m))
-lines_stand office customer number old m cards lines is on = ap standing.lines_of is ∙ ap (map line_cells) (sym on.lines_are)
-
-pub slice_saved : (db0 db : Database) (office : Office) (customer : List ℕ) (number limit cards lines : ℕ) (old : Job) (k : Kept) → Rows db0 office → job_of customer number office ≡ Some old → k ≡ kept_of (changed_job (Slice limit) old) → IsJob (changed_job (Slice limit) old)
-    → GoesOnFrom old k.machine cards lines → HoldsCharacters k.machine.works.storage
-    → (All IsCard (take cards k.machine.works.units.punch) → All IsCard k.machine.works.units.punch) → (All IsLine (take lines (lines_of k.machine)) → All IsLine (lines_of k.machine))
-    → Holds db (with_stretches customer number (map stretch_row k.stretches) (with_picture customer number (picture_cells k.machine) (with_lines customer number (map line_cells (lines_of k.machine)) (with_cards customer number (map (λ (card : Card). card.0) k.machine.works.units.punch) (tables_of office)))))
+pub slice_saved : (db0 db : Database) (office : Office) (customer : List ℕ) (number limit : ℕ) (old : Job) (k : Kept) → Rows db0 office → job_of customer number office ≡ Some old → HasCounted old k → with_outputs_of old k ≡ kept_of (changed_job (Slice limit) old) → IsJob (changed_job (Slice limit) old)
+    → HoldsCharacters k.machine.works.storage → All IsCard k.machine.works.units.punch → All IsLine (lines_of k.machine)
+    → Holds db (with_stretches customer number (map stretch_row k.stretches) (with_state customer number (state_row k.machine) (with_pages customer number (rows_of k.machine.works.storage) (with_lines customer number (map line_cells (lines_of (picture old) ++ lines_of k.machine)) (with_cards customer number (map (λ (card : Card). card.0) ((picture old).works.units.punch ++ k.machine.works.units.punch)) (tables_of office))))))
     → Rows db (with_job customer number (changed_job (Slice limit) old) office)
-slice_saved db0 db office customer number limit cards lines old k stands found is job on storage all_cards all_lines holds =
+slice_saved db0 db office customer number limit old k stands found counted is job storage cards lines holds =
     let it = job_is customer number office old stands.jobs found in
-    let can = kept_so (changed_job (Slice limit) old) k is job storage (all_cards (subst (All IsCard) (sym on.cards_are) it.cards)) (all_lines (subst (All IsLine) (sym on.lines_are) it.lines)) in
-    after_saved customer number (changed_job (Slice limit) old) old office found db0 db k stands refl is can holds
+    let all = with_outputs_of old k in
+    let can = kept_so (changed_job (Slice limit) old) all is job storage (All-append IsCard (picture old).works.units.punch k.machine.works.units.punch it.cards cards) (All-append IsLine (lines_of (picture old)) (lines_of k.machine) it.lines lines) in
+    let row : state_row all.machine ≡ state_row k.machine = row_behind (picture old).works.units.punch (lines_of (picture old)) k.machine counted in
+    after_saved customer number (changed_job (Slice limit) old) old office found db0 db all stands refl is can
+    (subst (λ (r : StateRow). Holds db (with_stretches customer number (map stretch_row k.stretches) (with_state customer number r (with_pages customer number (rows_of all.machine.works.storage) (with_lines customer number (map line_cells (lines_of all.machine)) (with_cards customer number (map (λ (card : Card). card.0) all.machine.works.units.punch) (tables_of office))))))) (sym row) holds)
 
 -- ---- a start
 
--- the cards and lines that stand are those of the machine
-media_stay : (customer : List ℕ) (number : ℕ) (old : Job) (office : Office) (m : State) → job_of customer number office ≡ Some old → m.works.units.punch ≡ (picture old).works.units.punch → lines_of m ≡ lines_of (picture old)
-    → tables_of office ≡ with_lines customer number (map line_cells (lines_of m)) (with_cards customer number (map (λ (card : Card). card.0) m.works.units.punch) (tables_of office))
-media_stay customer number old office m found cards lines =
+-- the pages, cards and lines that stand are those of the machine
+rest_stays : (customer : List ℕ) (number : ℕ) (old : Job) (office : Office) (m : State) → job_of customer number office ≡ Some old → m.works.storage ≡ (picture old).works.storage → m.works.units.punch ≡ (picture old).works.units.punch → lines_of m ≡ lines_of (picture old)
+    → tables_of office ≡ with_pages customer number (rows_of m.works.storage) (with_lines customer number (map line_cells (lines_of m)) (with_cards customer number (map (λ (card : Card). card.0) m.works.units.punch) (tables_of office)))
+rest_stays customer number old office m found storage cards lines =
     same_tables _ _ refl refl refl
+    (sym (at_job_same customer number (rows_of m.works.storage) (told_of pages_of office) (ap pages_of found ∙ ap (λ (s : Storage). rows_of s) (sym storage))))
     (sym (at_job_same customer number (map (λ (card : Card). card.0) m.works.units.punch) (told_of cards_of office) (ap cards_of found ∙ ap (map (λ (card : Card). card.0)) (sym cards))))
     (sym (at_job_same customer number (map line_cells (lines_of m)) (told_of standing.lines_of office) (ap standing.lines_of found ∙ ap (map line_cells) (sym lines))))
 
-pub start_saved : (db0 db : Database) (office : Office) (customer : List ℕ) (number : ℕ) (switches : Switches) (old : Job) (k : Kept) → Rows db0 office → job_of customer number office ≡ Some old → k ≡ changed (Start switches) (kept_of old) → k ≡ kept_of (changed_job (Start switches) old) → IsJob (changed_job (Start switches) old)
-    → HoldsCharacters k.machine.works.storage
-    → Holds db (with_stretches customer number (map stretch_row k.stretches) (with_picture customer number (picture_cells k.machine) (tables_of office)))
+pub start_saved : (db0 db : Database) (office : Office) (customer : List ℕ) (number : ℕ) (switches : Switches) (old : Job) (k : Kept) → Rows db0 office → job_of customer number office ≡ Some old → k ≡ changed (Start switches) (kept_alone old) → HasCounted old k → with_outputs_of old k ≡ kept_of (changed_job (Start switches) old)
+    → IsJob (changed_job (Start switches) old) → HoldsCharacters k.machine.works.storage
+    → Holds db (with_stretches customer number (map stretch_row k.stretches) (with_state customer number (state_row k.machine) (tables_of office)))
     → Rows db (with_job customer number (changed_job (Start switches) old) office)
-start_saved db0 db office customer number switches old k stands found made is job storage holds =
+start_saved db0 db office customer number switches old k stands found made counted is job storage holds =
     let it = job_is customer number office old stands.jobs found in
-    let cards : k.machine.works.units.punch ≡ (picture old).works.units.punch = ap (λ (x : Kept). x.machine.works.units.punch) made in
-    let lines : lines_of k.machine ≡ lines_of (picture old) = ap (λ (x : Kept). lines_of x.machine) made in
-    let can = kept_so (changed_job (Start switches) old) k is job storage (subst (All IsCard) (sym cards) it.cards) (subst (All IsLine) (sym lines) it.lines) in
-    after_saved customer number (changed_job (Start switches) old) old office found db0 db k stands refl is can
-    (subst (λ t. Holds db (with_stretches customer number (map stretch_row k.stretches) (with_picture customer number (picture_cells k.machine) t))) (media_stay customer number old office k.machine found cards lines) holds)
+    let all = with_outputs_of old k in
+    let cards : all.machine.works.units.punch ≡ (picture old).works.units.punch = ap (λ (x : Kept). (picture old).works.units.punch ++ x.machine.works.units.punch) made ∙ append-nil (picture old).works.units.punch in
+    let lines : lines_of all.machine ≡ lines_of (picture old) = ap (λ (x : Kept). lines_of (picture old) ++ lines_of x.machine) made ∙ append-nil (lines_of (picture old)) in
+    let can = kept_so (changed_job (Start switches) old) all is job storage (subst (All IsCard) (sym cards) it.cards) (subst (All IsLine) (sym lines) it.lines) in
+    let row : state_row all.machine ≡ state_row k.machine = row_behind (picture old).works.units.punch (lines_of (picture old)) k.machine counted in
+    let rows = subst (λ (r : StateRow). Holds db (with_stretches customer number (map stretch_row k.stretches) (with_state customer number r (tables_of office)))) (sym row) holds in
+    let same : all.machine.works.storage ≡ (picture old).works.storage = ap (λ (x : Kept). x.machine.works.storage) made in
+    after_saved customer number (changed_job (Start switches) old) old office found db0 db all stands refl is can
+    (subst (λ t. Holds db (with_stretches customer number (map stretch_row k.stretches) (with_state customer number (state_row all.machine) t))) (rest_stays customer number old office all.machine found same cards lines) rows)
 
 -- ---- a query
 
 pub unchanged_saved : (s : store.State) (customer : List ℕ) (number : ℕ) (c : JobCommand) (old : Job) (office : Office) → changed_job c old ≡ old → job_of customer number office ≡ Some old → StandsIn s office → StandsIn s (with_job customer number (changed_job c old) office)
 unchanged_saved s customer number c old office stays found stands =
-    subst (StandsIn s) (sym (ap (λ (j : Job). with_job customer number j office) stays ∙ same_job customer number old office stands.tables.distinct found)) stands
+    subst (StandsIn s) (sym (ap (λ (j : Job). with_job customer number j office) stays ∙ same_job customer number old office stands.tables.shared.distinct found)) stands

@@ -9,7 +9,7 @@ use Rattle.sqlite.specs.Effect.{Database}
 use Rattle.ledger_tables.specs.Tables.{NamedJob, AreDistinct, Holds, is_job, flagged, with_flags}
 use Rattle.ledger_tables.proofs.InsertLast.{name_is}
 use Rattle.ledger.specs.Saving.{flagged_job}
-use Rattle.ledger.specs.Standing.{named, stretches_of, picture_of, cards_of, lines_of, tables_of, CanBeKept, Rows}
+use Rattle.ledger.specs.Standing.{named, stretches_of, state_of, pages_of, cards_of, lines_of, tables_of, CanBeKept, Rows}
 use Rattle.ledger.proofs.SavingChanges.{all_with}
 use Rattle.ledger.proofs.Offices.{job_is}
 use Rattle.ledger.proofs.SavingLemmas.{same_tables, told_of}
@@ -70,7 +70,7 @@ module _ (customer : List ℕ) (number : ℕ) (old : Job) (held collected : Bool
       → tables_of (with_job customer number (flagged_job held collected old) office) ≡ with_flags customer number (truth held) (truth collected) (tables_of office)
   flags_told office distinct is =
       let all = only_old office distinct is in
-      same_tables _ _ (jobs_flagged office all) (all_still stretches_of refl office all) (all_still picture_of refl office all) (all_still cards_of refl office all) (all_still lines_of refl office all)
+      same_tables _ _ (jobs_flagged office all) (all_still stretches_of refl office all) (all_still state_of refl office all) (all_still pages_of refl office all) (all_still cards_of refl office all) (all_still lines_of refl office all)
 
 pub flags_saved : (db0 db : Database) (office : Office) (customer : List ℕ) (number a b : ℕ) (held collected : Bool) (old : Job) → Rows db0 office → job_of customer number office ≡ Some old → IsJob (flagged_job held collected old) → a ≡ truth held → b ≡ truth collected
     → Holds db (with_flags customer number a b (tables_of office)) → Rows db (with_job customer number (flagged_job held collected old) office)
@@ -79,6 +79,6 @@ flags_saved db0 db office customer number a b held collected old stands found jo
     let can : CanBeKept (flagged_job held collected old) = record { job = job; storage = it.storage; cards = it.cards; lines = it.lines } in
     let here = subst (λ n. Holds db (with_flags customer number n (truth collected) (tables_of office))) is_held (subst (λ n. Holds db (with_flags customer number a n (tables_of office))) is_collected holds) in
     record {
-      tables = subst (Holds db) (sym (flags_told customer number old held collected office stands.tables.distinct found)) here;
+      tables = subst (Holds db) (sym (flags_told customer number old held collected office stands.tables.shared.distinct found)) here;
       jobs = all_with customer number (flagged_job held collected old) office stands.jobs can;
     }

@@ -1,13 +1,14 @@
 -- What is saved of a job, against what the tables held before
-use Rattle.std.proofs.Common.{◌≡◌, ℕ, List, [], ◌∷◌, ◌++◌, length, take, map, get_or, slice_index_or, ◌<◌, ◌≤◌, ◌+◌, ◌-◌, zero, suc, Result, Ok, Err, OnOk, Bool, true, false, ◌&&◌, ◌==◌, bytes_eq, if◌then◌else◌, Option, refl, sym, ap, subst, ◌∙◌, arith, length-append}
+use Rattle.std.proofs.Common.{◌≡◌, ℕ, List, [], ◌∷◌, ◌++◌, length, take, map, get_or, slice_index_or, ◌<◌, ◌≤◌, ◌+◌, ◌-◌, zero, suc, Result, Ok, Err, OnOk, Bool, true, false, ◌&&◌, ◌==◌, bytes_eq, if◌then◌else◌, Option, refl, sym, ap, subst, ◌∙◌, arith, length-append, append_assoc}
 use Rattle.std.proofs.Math.Path.{fun_ext}
 use Rattle.std.proofs.lemmas.List.{map-append, take_more, length-map, length-take-le}
 use Rattle.std.specs.List.{All}
 use Rattle.std.proofs.lemmas.List.Elements.{All-more}
 use Rattle.sqlite.specs.Effect.{Database}
-use Rattle.ledger_tables.specs.Cells.{LineCells, PictureCells}
+use Rattle.ledger_tables.specs.Cells.{LineCells, Pages}
 use Rattle.ledger_tables.specs.Named.{granted_last}
 use Rattle.ledger_tables.specs.Tables.{NamedJob, ByJob, Tables, Holds, at_job, with_cards, with_lines, with_stretches}
+use Rattle.ledger_tables.specs.declared.rows.StateRow.{StateRow}
 use Rattle.ledger_tables.specs.declared.rows.StretchRow.{StretchRow}
 use Rattle.office.specs.Jobs.{Job, granted_more}
 use Rattle.office.specs.Office.{Entry, Office, job_of, is_entry}
@@ -52,15 +53,25 @@ at_job_pushed customer number xs ys x all is =
 -- ---- cards and lines
 
 -- the rows of the things before one, and its own
-pub one_more_row : {X Y : Type 0} (row : X → Y) (xs : List X) (i : ℕ) (x : X) (y : Y) → i < length xs → x ≡ slice_index_or xs i x → y ≡ row x → map row (take (i + 1) xs) ≡ map row (take i xs) ++ y ∷ []
+one_more_row : {X Y : Type 0} (row : X → Y) (xs : List X) (i : ℕ) (x : X) (y : Y) → i < length xs → x ≡ slice_index_or xs i x → y ≡ row x → map row (take (i + 1) xs) ≡ map row (take i xs) ++ y ∷ []
 one_more_row row xs i x y within is row_is =
     ap (map row) (take_more xs i x within) ∙ map-append row (take i xs) (get_or xs i x ∷ []) ∙ ap (λ z. map row (take i xs) ++ row z ∷ []) (sym is) ∙ ap (λ z. map row (take i xs) ++ z ∷ []) (sym row_is)
 
 pub all_more : {X : Type 0} (P : X → Type 0) (xs : List X) (i : ℕ) (x : X) → i < length xs → x ≡ slice_index_or xs i x → All P (take i xs) → P x → All P (take (i + 1) xs)
 all_more P xs i x within is all here = All-more P xs i x within all (subst P is here)
 
-pub rows_before : {X Y : Type 0} (row : X → Y) (xs : List X) (i : ℕ) → i ≤ length xs → length (map row (take i xs)) ≡ i
-rows_before row xs i within = length-map (take i xs) row ∙ length-take-le i xs within
+-- the rows of earlier things and of the things before one, and its own
+pub one_more_behind : {X Y : Type 0} (row : X → Y) (earlier xs : List X) (i : ℕ) (x : X) (y : Y) → i < length xs → x ≡ slice_index_or xs i x → y ≡ row x → map row (earlier ++ take (i + 1) xs) ≡ map row (earlier ++ take i xs) ++ y ∷ []
+one_more_behind row earlier xs i x y within is row_is =
+    map-append row earlier (take (i + 1) xs)
+    ∙ ap (λ ys. map row earlier ++ ys) (one_more_row row xs i x y within is row_is)
+    ∙ sym (append_assoc (map row earlier) (map row (take i xs)) (y ∷ []))
+    ∙ ap (λ ys. ys ++ y ∷ []) (sym (map-append row earlier (take i xs)))
+
+pub rows_behind : {X Y : Type 0} (row : X → Y) (earlier xs : List X) (before i : ℕ) → before ≡ length earlier → i ≤ length xs → length (map row (earlier ++ take i xs)) ≡ before + i
+rows_behind row earlier xs before i count within =
+    let all : length (map row (earlier ++ take i xs)) ≡ length earlier + length (take i xs) = length-map (earlier ++ take i xs) row ∙ length-append earlier (take i xs) in
+    omega (arith, all, count, length-take-le i xs within)
 
 pub cards_still : (db : Database) (t : Tables) (customer : List ℕ) (number : ℕ) (cards : List (List ℕ)) → Holds db t → t.cards customer number ≡ cards → Holds db (with_cards customer number cards t)
 cards_still db t customer number cards holds is = subst (λ all. Holds db (record t { cards = all })) (sym (at_job_same customer number cards t.cards is)) holds
@@ -142,10 +153,11 @@ abbrev pub told_of : {X : Type 0} → (Option Job → X) → Office → ByJob X
 told_of tell office c n = tell (job_of c n office)
 
 -- tables are what they hold
-pub same_tables : (t u : Tables) → t.jobs ≡ u.jobs → t.stretches ≡ u.stretches → t.pictures ≡ u.pictures → t.cards ≡ u.cards → t.lines ≡ u.lines → t ≡ u
-same_tables t u jobs stretches pictures cards lines =
+pub same_tables : (t u : Tables) → t.jobs ≡ u.jobs → t.stretches ≡ u.stretches → t.states ≡ u.states → t.pages ≡ u.pages → t.cards ≡ u.cards → t.lines ≡ u.lines → t ≡ u
+same_tables t u jobs stretches states pages cards lines =
     ap (λ (x : List NamedJob). let y : Tables = record t { jobs = x } in y) jobs
     ∙ ap (λ (x : ByJob (List StretchRow)). let y : Tables = record t { jobs = u.jobs; stretches = x } in y) stretches
-    ∙ ap (λ (x : ByJob (Option PictureCells)). let y : Tables = record t { jobs = u.jobs; stretches = u.stretches; pictures = x } in y) pictures
+    ∙ ap (λ (x : ByJob (Option StateRow)). let y : Tables = record t { jobs = u.jobs; stretches = u.stretches; states = x } in y) states
+    ∙ ap (λ (x : ByJob Pages). let y : Tables = record u { pages = x; cards = t.cards; lines = t.lines } in y) pages
     ∙ ap (λ (x : ByJob (List (List ℕ))). let y : Tables = record u { cards = x; lines = t.lines } in y) cards
     ∙ ap (λ (x : ByJob (List LineCells)). let y : Tables = record u { lines = x } in y) lines

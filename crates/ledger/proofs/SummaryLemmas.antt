@@ -1,11 +1,15 @@
 -- What is shown of a job, and commands that need no more.
-use Rattle.std.proofs.Common.{◌≡◌, ◌≤◌, ◌-◌, ◌^◌, ℕ, min, List, map, Bool, false, Option, None, Some, refl, ap, subst, ◌∙◌, arith}
+use Rattle.std.proofs.Common.{◌≡◌, ◌≤◌, ◌-◌, ◌^◌, ℕ, min, List, map, length, Bool, false, Option, None, Some, refl, ap, subst, ◌∙◌, arith}
+use Rattle.machine.specs.Run.{State, lines_of}
+use Rattle.units.specs.Units.{nothing_made}
+use Rattle.units.specs.declared.units.Counts.{Counts}
 use Rattle.office.specs.Jobs.{Job, granted, picture, IsJob}
 use Rattle.machine.specs.Standings.{standing_of}
 use Rattle.office.specs.Kept.{Kept, kept_of, summary_of, job_refusal, needs_machine, attempts_unless, attempted_on, taken_unless, take_kept, job_unless, job_after}
 use Rattle.office.specs.Limits.{most_granted}
 use Rattle.office.specs.Office.{Office, job_of, with_job, commanded, attempted_of}
 use Rattle.office.specs.declared.commands.JobCommand.{JobCommand}
+use Rattle.office.specs.declared.commands.JobCommand.TheVariants.{Cards, Lines}
 use Rattle.office.specs.declared.refusals.Refusal.{Refusal}
 use Rattle.office.specs.declared.replies.Reply.{Reply}
 use Rattle.office.specs.declared.replies.Reply.TheVariants as reply
@@ -16,16 +20,26 @@ use Rattle.ledger_tables.specs.Tables.{AreDistinct}
 use Rattle.ledger_rows.specs.Progress.{progress_of}
 use Rattle.ledger.specs.Saving.{flagged_job}
 use Rattle.ledger.specs.Standing.{named}
+use Rattle.ledger.proofs.ReadingLemmas.{picture_before}
 use Rattle.ledger.proofs.SavingChanges.{same_job}
 
 -- what was granted is told as it is
 pub granted_fits : (job : Job) (n : ℕ) → granted job.stretches ≤ most_granted → n ≡ min (granted job.stretches) (2 ^ 32 - 1) → n ≡ granted job.stretches
 granted_fits job n fits is = omega (arith, fits, is)
 
+-- the progress of a job's machine counts what it has itself
+made_itself : (m : State) → m.works.units.before ≡ nothing_made → ((progress_of m).cards ≡ length m.works.units.punch) × ((progress_of m).lines ≡ length (lines_of m))
+made_itself m none =
+    let cards : m.works.units.before.cards ≡ 0 = ap (λ (n : Counts). n.cards) none in
+    let lines : m.works.units.before.lines ≡ 0 = ap (λ (n : Counts). n.lines) none in
+    (omega (arith, cards), omega (arith, lines))
+
 pub summary_is : (standing : StandingAt) (held collected : Bool) (granted_to cards lines : ℕ) (job : Job) → standing ≡ standing_of (picture job) → held ≡ job.held → collected ≡ job.collected → granted_to ≡ granted job.stretches
     → cards ≡ (progress_of (picture job)).cards → lines ≡ (progress_of (picture job)).lines
     → ◌≡◌ {A = Summary} (record { standing = standing; held = held; collected = collected; granted = granted_to; cards = cards; lines = lines }) (summary_of (kept_of job))
-summary_is standing held collected granted_to cards lines job one two three four five six = rw (one, two, three, four, five, six)
+summary_is standing held collected granted_to cards lines job one two three four five six =
+    let itself = made_itself (picture job) (picture_before job) in
+    rw (one, two, three, four, five ∙ itself.0, six ∙ itself.1)
 
 -- a job with other flags is a job
 pub flagged_is : (held collected : Bool) (job : Job) → IsJob job → IsJob (flagged_job held collected job)
@@ -52,3 +66,12 @@ none_attempted c k none = go (job_refusal c (summary_of k))
 pub attempts_none : (c : JobCommand) (job : Option Job) → needs_machine c ≡ false → attempted_of c job ≡ 0
 attempts_none c None none = refl
 attempts_none c (Some job) none = none_attempted c (kept_of job) none
+
+-- a query attempts nothing
+pub cards_attempt_none : (job : Option Job) → attempted_of Cards job ≡ 0
+cards_attempt_none None = refl
+cards_attempt_none (Some job) = refl
+
+pub lines_attempt_none : (job : Option Job) → attempted_of Lines job ≡ 0
+lines_attempt_none None = refl
+lines_attempt_none (Some job) = refl

@@ -22,8 +22,8 @@ has_whole_rows db office holds e its runs halted =
       cards = cards_by e.job;
       lines = lines_by e.job;
       rows = record {
-        card_rows = holds.cards.each e.customer e.number ∙ ap (λ j. placed (card_row e.customer e.number) 1 (cards_of j)) its;
-        line_rows = holds.lines.each e.customer e.number ∙ ap (λ j. placed (line_row e.customer e.number) 1 (lines_of j)) its;
+        card_rows = holds.shared.cards.each e.customer e.number ∙ ap (λ j. placed (card_row e.customer e.number) 1 (cards_of j)) its;
+        line_rows = holds.shared.lines.each e.customer e.number ∙ ap (λ j. placed (line_row e.customer e.number) 1 (lines_of j)) its;
       };
       from_deck = run_makes _ e.job whole.0;
       from_source = λ can. run_makes _ e.job (whole.1 can);
@@ -39,4 +39,4 @@ all_halt_between (e ∷ es) jobs = (jobs.0.job.halts, all_halt_between es jobs.1
 
 pub have_whole_rows : ((jobs : List Job) → AllByRecursion HaltsBetween jobs → AllByRecursion RunsWhole jobs) → (db : Database) (office : Office) → Rows db office → HaveWholeRows db office
 have_whole_rows law db office rows =
-    each db office rows.tables office (all_its office rows.tables.distinct) (law (map (λ (e : Entry). e.job) office) (all_halt_between office rows.jobs))
+    each db office rows.tables office (all_its office rows.tables.shared.distinct) (law (map (λ (e : Entry). e.job) office) (all_halt_between office rows.jobs))

@@ -1,20 +1,23 @@
 -- what is read from the tables about a job
-use Rattle.std.specs.Prelude.{◌≡◌, ℕ, All, List, ◌∷◌, map, Option, Some, None}
-use Rattle.cards.specs.Decks.{deck_bytes, IsCard, IsDeck}
-use Rattle.machine.specs.Run.{State}
+use Rattle.std.specs.Prelude.{◌≡◌, ℕ, List, ◌∷◌, Option, Some, None}
+use Rattle.cards.specs.declared.decks.Card.{Card}
+use Rattle.core_store.specs.Storage.{positions_of}
+use Rattle.machine.specs.Earlier.{without_outputs}
+use Rattle.machine.specs.Run.{State, lines_of}
+use Rattle.units.specs.declared.printer.Line.{Line}
 use Rattle.units.specs.declared.switches.Switches.{Switches}
 use Rattle.ledger_rows.specs.declared.parts.Media.{Media}
-use Rattle.office.specs.Jobs.{Job, loaded_deck, picture, granted}
+use Rattle.office.specs.Jobs.{Job, picture, granted}
 use Rattle.machine.specs.Standings.{standing_of}
 use Rattle.office.specs.Kept.{Kept, kept_of, summary_of}
 use Rattle.machine.specs.declared.standings.StandingAt.{StandingAt}
 use Rattle.office.specs.declared.summaries.Summary.{Summary}
 use Rattle.office.specs.declared.stretches.Stretch.{Stretch}
-use Rattle.ledger_rows.specs.Columns.{IsLine}
 use Rattle.ledger_rows.specs.Progress.{progress_of}
 use Rattle.ledger_rows.specs.declared.progress.Progress.{Progress}
 use Rattle.ledger_tables.specs.Cells.{JobCells}
 use Rattle.ledger.specs.declared.reading.Handed.{Handed}
+use Rattle.ledger.specs.Earlier.{kept_alone}
 use Rattle.ledger.specs.Standing.{job_cells}
 
 -- these are the deck, the switches, the cards and the lines of this machine
@@ -24,10 +27,10 @@ pub record IsMediaOf (media : Media) (m : State) : Type 0 where
   pub cards : media.cards.items ≡ m.works.units.punch
   pub lines : media.lines.items ≡ m.works.units.printer.lines
 
--- what was read is this job with its machine, or nothing if there is no job
+-- what was read is this job, its machine without the cards and lines, or nothing if there is no job
 abbrev pub IsFoundAs : Option Kept → Option Job → Type 0
 IsFoundAs None job = job ≡ None
-IsFoundAs (Some kept) job = (it : Job) × (job ≡ Some it) × (kept ≡ kept_of it)
+IsFoundAs (Some kept) job = (it : Job) × (job ≡ Some it) × (kept ≡ kept_alone it)
 
 -- these are the switches of the first stretch
 abbrev pub IsFirst : Switches → List Stretch → Type 0
@@ -52,29 +55,31 @@ HasStretches here found = (job : Job) → here ≡ Some job → found ≡ job.st
 abbrev pub BeganWith : Option Job → Switches → Type 0
 BeganWith here found = (job : Job) → here ≡ Some job → IsFirst found job.stretches
 
--- if there is the job, and these are its loaded deck and its machine's switches, these are its
--- machine's deck, switches, cards and lines
-abbrev pub HasMedia : Option Job → List ℕ → Switches → Media → Type 0
-HasMedia here loaded switches found =
-    (job : Job) → here ≡ Some job → loaded ≡ deck_bytes (loaded_deck job)
-    → switches ≡ (picture job).works.units.switches → IsMediaOf found (picture job)
+-- if there is the job, these are the cards that it has punched
+abbrev pub HasCards : Option Job → List Card → Type 0
+HasCards here found = (job : Job) → here ≡ Some job → found ≡ (picture job).works.units.punch
 
--- if there is the job, and these are its machine's deck, switches, cards and lines, this is the
--- state of its machine
-abbrev pub HasMachineWith : Option Job → Media → State → Type 0
-HasMachineWith here media found =
-    (job : Job) → here ≡ Some job → IsMediaOf media (picture job) → found ≡ picture job
+-- if there is the job, these are the lines that it has printed
+abbrev pub HasLines : Option Job → List Line → Type 0
+HasLines here found = (job : Job) → here ≡ Some job → found ≡ lines_of (picture job)
 
--- if there is the job, and these are its loaded deck and its machine's switches, this is the state
--- of its machine
-abbrev pub HasMachine : Option Job → List ℕ → Switches → State → Type 0
-HasMachine here loaded switches found =
-    (job : Job) → here ≡ Some job → loaded ≡ deck_bytes (loaded_deck job)
-    → switches ≡ (picture job).works.units.switches → found ≡ picture job
+-- if there is the job, and these are its machine's number of positions, deck and switches, without
+-- cards and lines, this is the state of its machine without them
+abbrev pub HasMachineWith : Option Job → ℕ → Media → State → Type 0
+HasMachineWith here size media found =
+    (job : Job) → here ≡ Some job → size ≡ positions_of job.size
+    → IsMediaOf media (without_outputs (picture job)) → found ≡ without_outputs (picture job)
 
--- if there is the job, and this is its row, this is the job with its machine
+-- if there is the job, and these are its row and its machine's switches, this is the state of its
+-- machine without the cards and lines
+abbrev pub HasMachine : Option Job → JobCells → Switches → State → Type 0
+HasMachine here row switches found =
+    (job : Job) → here ≡ Some job → row ≡ job_cells job
+    → switches ≡ (picture job).works.units.switches → found ≡ without_outputs (picture job)
+
+-- if there is the job, and this is its row, this is the job, its machine without the cards and lines
 abbrev pub HasKept : Option Job → JobCells → Kept → Type 0
-HasKept here row found = (job : Job) → here ≡ Some job → row ≡ job_cells job → found ≡ kept_of job
+HasKept here row found = (job : Job) → here ≡ Some job → row ≡ job_cells job → found ≡ kept_alone job
 
 -- if there is the job, this is its machine's standing, I register, and counts of cards and lines
 abbrev pub HasProgress : Option Job → Progress → Type 0
@@ -92,12 +97,3 @@ HasGranted here found = (job : Job) → here ≡ Some job → found ≡ granted 
 abbrev pub HasSummary : Option Job → JobCells → Summary → Type 0
 HasSummary here row found =
     (job : Job) → here ≡ Some job → row ≡ job_cells job → found ≡ summary_of (kept_of job)
-
--- a machine's deck, cards and lines are ones that a row can hold, and these are the bytes of the
--- deck and of the cards
-pub record ShowsMedia (m : State) (loaded : List ℕ) (rows : List (List ℕ)) : Type 0 where
-  pub is_deck : IsDeck m.works.units.hopper.deck
-  pub are_cards : All IsCard m.works.units.punch
-  pub are_lines : All IsLine m.works.units.printer.lines
-  pub deck : loaded ≡ deck_bytes m.works.units.hopper.deck
-  pub cards : rows ≡ map (λ card. card.0) m.works.units.punch

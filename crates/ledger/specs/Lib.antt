@@ -1,3 +1,4 @@
+pub mod Earlier
 pub mod Found
 pub mod Allowed
 pub mod Listed
@@ -11,3 +12,5 @@ pub mod WholeRows
 pub mod Meters
 pub mod Shifting
 pub mod Working
+pub mod Older
+pub mod Migrating

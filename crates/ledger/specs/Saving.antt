@@ -1,8 +1,8 @@
 -- what is written to the tables about a job
-use Rattle.std.specs.Prelude.{◌≡◌, ◌≤◌, ℕ, Bool, false, List, [], ◌∷◌, ◌++◌, map, take, length, Option, Some, None, Ok}
+use Rattle.std.specs.Prelude.{◌≡◌, ℕ, Bool, false, List, [], ◌∷◌, ◌++◌, map, length, Option, Some, None, Ok}
 use Rattle.cards.specs.Decks.{deck_bytes}
 use Rattle.cards.specs.declared.decks.Card.{Card}
-use Rattle.machine.specs.Run.{State, lines_of}
+use Rattle.machine.specs.Run.{State}
 use Rattle.office.specs.Jobs.{Job, granted_more, picture, IsJob}
 use Rattle.office.specs.Kept.{Kept, kept_of, changed, changed_job}
 use Rattle.office.specs.New.{job_or_refusal}
@@ -10,43 +10,46 @@ use Rattle.office.specs.Office.{Office, job_of, with_job, and_job}
 use Rattle.office.specs.declared.commands.Contents.{Contents}
 use Rattle.office.specs.declared.commands.JobCommand.{JobCommand}
 use Rattle.office.specs.declared.stretches.Stretch.{Stretch}
-use Rattle.ledger_rows.specs.Columns.{line_cells, picture_cells, truth}
-use Rattle.ledger_tables.specs.Cells.{JobCells}
-use Rattle.ledger_tables.specs.Named.{of_job, with_picture_of, with_new_job}
-use Rattle.ledger_tables.specs.Tables.{Tables, with_stretches, with_cards, with_lines}
+use Rattle.core_store.specs.Storage.{Storage}
+use Rattle.ledger_rows.specs.Columns.{line_cells, state_row, truth}
+use Rattle.ledger_rows.specs.Pages.{rows_of}
+use Rattle.ledger_tables.specs.Cells.{JobCells, no_pages}
+use Rattle.ledger_tables.specs.Named.{of_job, with_state_of, with_new_job, HasNoState, HasState}
+use Rattle.ledger_tables.specs.Tables.{Tables, with_stretches, with_pages, with_cards, with_lines}
 use Rattle.ledger_tables.specs.declared.names.JobName.{JobName}
 use Rattle.units.specs.declared.printer.Line.{Line}
 use Rattle.units.specs.declared.units.Units.{Units}
-use Rattle.ledger.specs.declared.saving.Made.{Made}
+use Rattle.ledger.specs.Earlier.{kept_alone, with_outputs_of, HasCounted}
 use Rattle.ledger.specs.Standing.{kind_number, stretch_row}
 
--- the job's card rows are the first so many of these cards
-pub record HasFirstCards (name : JobName) (many : ℕ) (all : List Card) (t : Tables) : Type 0 where
-  pub are : of_job name t.cards ≡ map (λ card. card.0) (take many all)
-  pub fit : many ≤ length all
+-- the job's card rows are those of these cards, as many as were made before
+pub record HasCardRows (name : JobName) (before : ℕ) (earlier : List Card) (t : Tables) : Type 0 where
+  pub are : of_job name t.cards ≡ map (λ card. card.0) earlier
+  pub count : before ≡ length earlier
 
 -- the tables with these cards as the job's card rows
 abbrev pub with_all_cards : JobName → List Card → Tables → Tables
 with_all_cards name cards = with_cards name.customer.now name.number (map (λ card. card.0) cards)
 
--- the job's line rows are the first so many of these lines
-pub record HasFirstLines (name : JobName) (many : ℕ) (all : List Line) (t : Tables) : Type 0 where
-  pub are : of_job name t.lines ≡ map line_cells (take many all)
-  pub fit : many ≤ length all
+-- the job's line rows are those of these lines, as many as were made before
+pub record HasLineRows (name : JobName) (before : ℕ) (earlier : List Line) (t : Tables) : Type 0 where
+  pub are : of_job name t.lines ≡ map line_cells earlier
+  pub count : before ≡ length earlier
 
 -- the tables with these lines as the job's line rows
 abbrev pub with_all_lines : JobName → List Line → Tables → Tables
 with_all_lines name lines = with_lines name.customer.now name.number (map line_cells lines)
 
--- the job's card and line rows are the first so many of the cards and lines that these units have
--- made
-pub record HasFirst (name : JobName) (made : Made) (units : Units) (t : Tables) : Type 0 where
-  pub cards : HasFirstCards name made.cards units.punch t
-  pub lines : HasFirstLines name made.lines units.printer.lines t
+-- the job's rows are those of these cards and lines, as many as were made before those of the units
+pub record HasEarlier (name : JobName) (cards : List Card) (lines : List Line) (units : Units)
+    (t : Tables) : Type 0 where
+  pub cards : HasCardRows name units.before.cards cards t
+  pub lines : HasLineRows name units.before.lines lines t
 
--- the tables with all cards and lines that these units have made as the job's rows
-abbrev pub with_made : JobName → Units → Tables → Tables
-with_made name units t = with_all_lines name units.printer.lines (with_all_cards name units.punch t)
+-- the tables with these cards and lines, and then those of the units, as the job's rows
+abbrev pub with_made : JobName → List Card → List Line → Units → Tables → Tables
+with_made name cards lines units t = with_all_lines name (lines ++ units.printer.lines)
+    (with_all_cards name (cards ++ units.punch) t)
 
 -- the tables with these stretches as the job's stretch rows
 abbrev pub with_all_stretches : JobName → List Stretch → Tables → Tables
@@ -60,9 +63,30 @@ HasFewerGranted name stretches t =
     (before : List Stretch) × (limit : ℕ) × (stretches ≡ granted_more limit before)
     × (of_job name t.stretches ≡ map stretch_row before)
 
--- the tables with this machine as the job's picture
+-- the job has no page rows
+abbrev pub HasNoPages : JobName → Tables → Type 0
+HasNoPages name t = of_job name t.pages ≡ no_pages
+
+-- the job's page rows are those of this storage
+abbrev pub HasPages : JobName → Storage → Tables → Type 0
+HasPages name s t = of_job name t.pages ≡ rows_of s
+
+-- the tables with the rows of this storage's pages as the job's
+abbrev pub with_storage : JobName → Storage → Tables → Tables
+with_storage name s = with_pages name.customer.now name.number (rows_of s)
+
+-- the job's page rows are those of this storage, and it has a state
+pub record HasRows (name : JobName) (s : Storage) (t : Tables) : Type 0 where
+  pub pages : HasPages name s t
+  pub state : HasState name t
+
+-- the tables with this machine as the job's, but for its storage
+abbrev pub with_running : JobName → State → Tables → Tables
+with_running name m = with_state_of name (state_row m)
+
+-- the tables with this machine as the job's: its state and its pages
 abbrev pub with_machine : JobName → State → Tables → Tables
-with_machine name m = with_picture_of name (picture_cells m)
+with_machine name m t = with_running name m (with_storage name m.works.storage t)
 
 -- the job's stretch rows are these stretches without the last
 abbrev pub HasOneLess : JobName → List Stretch → Tables → Type 0
@@ -75,15 +99,20 @@ abbrev pub with_progress : JobName → Kept → Tables → Tables
 with_progress name kept t =
     with_all_stretches name kept.stretches (with_machine name kept.machine t)
 
--- the tables with this job's stretches and machine, as a start leaves them
-abbrev pub with_start : JobName → Kept → Tables → Tables
-with_start name kept t =
+-- the tables with the stretches and the machine of a new job
+abbrev pub with_begun : JobName → Kept → Tables → Tables
+with_begun name kept t =
     with_machine name kept.machine (with_all_stretches name kept.stretches t)
 
--- the job's stretch rows are these stretches without the last, and it has no picture
+-- the job has no state and no page rows
+pub record HasNoMachine (name : JobName) (t : Tables) : Type 0 where
+  pub state : HasNoState name t
+  pub pages : HasNoPages name t
+
+-- the job's stretch rows are these stretches without the last, and it has no machine
 pub record HasNotStarted (name : JobName) (kept : Kept) (t : Tables) : Type 0 where
   pub stretches : HasOneLess name kept.stretches t
-  pub picture : of_job name t.pictures ≡ None
+  pub machine : HasNoMachine name t
 
 -- the columns of a new job of these contents, with the deck that its machine loads
 abbrev pub new_cells : Contents → List Card → JobCells
@@ -106,18 +135,21 @@ with_handed name contents loaded = with_new_job name (new_cells contents loaded)
 abbrev pub job_in : JobName → Office → Option Job
 job_in name = job_of name.customer.now name.number
 
--- the job had made this many cards and lines
-pub record HadMade (made : Made) (old : Job) : Type 0 where
-  pub cards : made.cards ≡ length (picture old).works.units.punch
-  pub lines : made.lines ≡ length (lines_of (picture old))
-
--- the office has this job, and the job with its machine is what the command makes of it
+-- the office has this job; the job with its machine is what the command makes of it without its
+-- cards and lines, and with them it is what the command makes of it
 pub record IsAfter (name : JobName) (kept : Kept) (c : JobCommand) (old : Job) (office : Office)
     : Type 0 where
   pub found : job_in name office ≡ Some old
-  pub made : kept ≡ changed c (kept_of old)
-  pub is : kept ≡ kept_of (changed_job c old)
+  pub made : kept ≡ changed c (kept_alone old)
+  pub counted : HasCounted old kept
+  pub is : with_outputs_of old kept ≡ kept_of (changed_job c old)
   pub job : IsJob (changed_job c old)
+
+-- the same, and this was the storage of the job's machine before
+pub record IsAfterStorage (name : JobName) (earlier : Storage) (kept : Kept) (c : JobCommand)
+    (old : Job) (office : Office) : Type 0 where
+  pub after : IsAfter name kept c old office
+  pub storage : earlier ≡ (picture old).works.storage
 
 -- the office with the job as a command that is not refused makes it
 abbrev pub with_after : JobName → JobCommand → Job → Office → Office
@@ -126,13 +158,6 @@ with_after name c old = with_job name.customer.now name.number (changed_job c ol
 -- the job with these flags
 abbrev pub flagged_job : Bool → Bool → Job → Job
 flagged_job held collected job = record job { held = held; collected = collected }
-
--- the office has this job, and the job with its machine is the same with these flags
-pub record IsFlagged (name : JobName) (kept : Kept) (held collected : Bool) (old : Job)
-    (office : Office) : Type 0 where
-  pub found : job_in name office ≡ Some old
-  pub is : kept ≡ kept_of (flagged_job held collected old)
-  pub job : IsJob (flagged_job held collected old)
 
 -- the office with these flags of the job
 abbrev pub with_flagged : JobName → Bool → Bool → Job → Office → Office

@@ -10,13 +10,15 @@ use Rattle.office.specs.declared.commands.Kind.{Kind}
 use Rattle.office.specs.declared.commands.Kind.TheVariants.{Object, Autocoder}
 use Rattle.office.specs.declared.replies.Reply.{Reply}
 use Rattle.office.specs.declared.stretches.Stretch.{Stretch}
-use Rattle.ledger_rows.specs.Columns.{truth, picture_cells, line_cells, HoldsCharacters, IsLine}
+use Rattle.ledger_rows.specs.Columns.{truth, state_row, line_cells, HoldsCharacters, IsLine}
+use Rattle.ledger_rows.specs.Pages.{rows_of}
 use Rattle.sqlite.specs.Effect.{Database}
 use Rattle.sqlite.specs.Tree.{Trees}
 use Rattle.sqlite.specs.State as store
-use Rattle.ledger_tables.specs.Cells.{JobCells, PictureCells, LineCells}
+use Rattle.ledger_tables.specs.Cells.{JobCells, LineCells, Pages, no_pages}
 use Rattle.ledger_tables.specs.Schema.{bureau_schema}
 use Rattle.ledger_tables.specs.Tables.{NamedJob, Tables, Holds}
+use Rattle.ledger_tables.specs.declared.rows.StateRow.{StateRow}
 use Rattle.ledger_tables.specs.declared.rows.StretchRow.{StretchRow}
 
 -- the number of a job's kind in its row: 0 for an object deck, 1 for Autocoder
@@ -48,10 +50,15 @@ abbrev pub stretches_of : Option Job → List StretchRow
 stretches_of None = []
 stretches_of (Some job) = map stretch_row job.stretches
 
--- the picture row of a job's machine, none if there is no job
-abbrev pub picture_of : Option Job → Option PictureCells
-picture_of None = None
-picture_of (Some job) = Some (picture_cells (picture job))
+-- the state row of a job's machine, none if there is no job
+abbrev pub state_of : Option Job → Option StateRow
+state_of None = None
+state_of (Some job) = Some (state_row (picture job))
+
+-- the rows of the pages of a job's storage, none if there is no job
+abbrev pub pages_of : Option Job → Pages
+pages_of None = no_pages
+pages_of (Some job) = rows_of (picture job).works.storage
 
 -- the card rows of a job, each the card's bytes, none if there is no job
 abbrev pub cards_of : Option Job → List (List ℕ)
@@ -68,7 +75,8 @@ abbrev pub tables_of : Office → Tables
 tables_of office = record {
   jobs = map named office;
   stretches = λ customer number. stretches_of (job_of customer number office);
-  pictures = λ customer number. picture_of (job_of customer number office);
+  states = λ customer number. state_of (job_of customer number office);
+  pages = λ customer number. pages_of (job_of customer number office);
   cards = λ customer number. cards_of (job_of customer number office);
   lines = λ customer number. lines_of (job_of customer number office);
 }

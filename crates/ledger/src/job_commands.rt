@@ -1,34 +1,39 @@
 //! Commands on a job.
 
-ghost use Rattle.std.specs.Prelude.{◌≡◌, Some, OnOk, OnErr};
+ghost use Rattle.std.specs.Prelude.{◌≡◌, true, Some, OnOk, OnErr};
 ghost use Rattle.machine.specs.Run.{risen};
 ghost use Rattle.office.specs.Jobs.{Job as KnownJob};
-ghost use Rattle.office.specs.Kept.{kept_of, attempted_on, limit_of};
+ghost use Rattle.office.specs.Kept.{attempted_on, limit_of};
 ghost use Rattle.office.specs.Meters.{RisenAtMost};
 ghost use Rattle.ledger_tables.specs.Steps.{IsStep, IsOpenStep};
+ghost use Rattle.ledger.specs.Earlier.{kept_alone, drives_machine};
 ghost use Rattle.ledger.specs.Saving.{job_in};
 ghost use Rattle.ledger.specs.Serving.{with_commanded, attempted_as};
 ghost use Rattle.ledger.specs.Steps.{Serves, ServesWhere, Ticks, TicksAtMost};
 
 use crate::by_summary::{collect, hold, release, tell_standing};
-use crate::reading::find_whole;
-use crate::saving::{Made, save};
-use core_store::FlagCore;
+use crate::outputs::{tell_cards, tell_lines};
+use crate::page_saving::copy_of;
+use crate::reading::find_to_run;
+use crate::saving::save;
+use core_store::PlaneCore;
 use ledger_tables::{Fault, JobName, OpenTables};
-use machine::Meter;
+use machine::{Meter, runs_only_add};
 use office::{Job, JobCommand, Refusal, Reply, commands_act_on_pictures, commands_keep_jobs};
 use sqlite::Alter;
 
-/// Carries out a command on a job that was found, and saves the result.
+/// Carries out a slice or a start on a job that was found without its cards and lines, and saves the
+/// result.
 fn carry_out<S: Alter>(
     tables: &mut OpenTables<'_, '_, S>,
     name: JobName<'_>,
-    job: &mut Job<FlagCore>,
+    job: &mut Job<PlaneCore>,
     command: JobCommand,
     meter: &mut Meter,
 ) -> Result<Reply, Fault>
+    requires { drives_machine command ≡ true }
     ensures step { IsStep S.Store tables.old tables.new result }
-    ensures done { (old : KnownJob) → job.old ≡ kept_of old
+    ensures done { (old : KnownJob) → job.old ≡ kept_alone old
         → ServesWhere S.Store tables.old tables.new result
         (λ office. job_in name.entry office ≡ Some old) (with_commanded name.entry command) }
     ensures meter { OnOk result (meter.new ≡ risen meter.old (attempted_on command job.old)) }
@@ -39,23 +44,25 @@ fn carry_out<S: Alter>(
     // Laws, for the proof: they do nothing.
     commands_act_on_pictures();
     commands_keep_jobs();
-    let before = Made::by(job);
+    runs_only_add();
+    let earlier = copy_of(tables.alloc, &job.parts().machine.core)?;
     match job.take(tables.alloc, &command, meter)? {
         Reply::Refused(reason) => Ok(Reply::Refused(reason)),
         reply => {
-            save(tables, name, command, job, before)?;
+            save(tables, name, command, &earlier, job)?;
             Ok(reply)
         }
     }
 }
 
-/// Carries out a command on the job of this name, with its machine.
-fn command_wholly<S: Alter>(
+/// Carries out a slice or a start on the job of this name.
+fn drive_machine<S: Alter>(
     tables: &mut OpenTables<'_, '_, S>,
     name: JobName<'_>,
     command: JobCommand,
     meter: &mut Meter,
 ) -> Result<Reply, Fault>
+    requires { drives_machine command ≡ true }
     ensures step { IsOpenStep S.Store tables.old tables.new result }
     ensures done { Serves S.Store tables.old tables.new result
         (with_commanded name.entry command) }
@@ -65,7 +72,7 @@ fn command_wholly<S: Alter>(
         meter.old meter.new (attempted_as name.entry command) }
     ensures most { RisenAtMost (limit_of command) meter.old meter.new }
 {
-    match find_whole(tables, name)? {
+    match find_to_run(tables, name)? {
         Some(mut job) => carry_out(tables, name, &mut job, command, meter),
         None => Ok(Reply::Refused(Refusal::NoJob)),
     }
@@ -92,9 +99,10 @@ pub fn command_job<S: Alter>(
         JobCommand::Release => release(tables, name),
         JobCommand::Collect => collect(tables, name),
         JobCommand::Standing => tell_standing(tables, name),
+        JobCommand::Cards => tell_cards(tables, name),
+        JobCommand::Lines => tell_lines(tables, name),
         JobCommand::Slice { .. } | JobCommand::Start { .. } => {
-            command_wholly(tables, name, command, meter)
+            drive_machine(tables, name, command, meter)
         }
-        JobCommand::Cards | JobCommand::Lines => command_wholly(tables, name, command, meter),
     }
 }

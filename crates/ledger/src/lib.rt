@@ -1,10 +1,11 @@
 //! The bureau: jobs that customers hand in, kept in tables, and commands on them.
 //!
-//! `office` defines jobs and the effect of commands on them. `reading` and `summaries` read a job
-//! from the tables, whole or without its machine, and `saving` writes it, through `ledger_tables`
-//! and `ledger_rows`. `submissions`, `job_commands`, `by_summary` and `lists` connect them to
-//! `office`. `bureau` puts each command into one transaction, whose commit is the last call of the
-//! store. `shifts` applies a list of commands up to the first fault.
+//! `office` defines jobs and the effect of commands on them. `reading` reads a job from the tables,
+//! without its cards and lines, `summaries` without its machine, and `outputs` what it has made;
+//! `saving` and `page_saving` write it; all of them through `ledger_tables` and `ledger_rows`. `submissions`,
+//! `job_commands`, `by_summary` and `lists` connect them to `office`. `bureau` puts each command
+//! into one transaction, whose commit is the last call of the store. `shifts` applies a list of
+//! commands up to the first fault.
 //!
 //! The contract for the layers above: if the tables represent an office, a reply is the one of
 //! `office`, and the tables then represent its next office (`specs/Standing.antt`); and what a
@@ -18,7 +19,10 @@ mod by_summary;
 mod job_commands;
 mod laws;
 mod lists;
+mod migrating;
 mod outcomes;
+mod outputs;
+mod page_saving;
 mod reading;
 mod saving;
 mod serving;
@@ -28,6 +32,7 @@ mod summaries;
 
 pub use bureau::Bureau;
 pub use laws::{kept_offices_run_whole, tables_represent_one_office};
-pub use ledger_tables::Fault;
+pub use ledger_tables::{Fault, OpenFault};
+pub use migrating::migrate;
 pub use outcomes::Shift;
 pub use shifts::shift;

@@ -1,23 +1,26 @@
-//! Reading a job from the tables.
+//! Reading a job from the tables: its machine has none of the cards and lines that the job has made,
+//! and counts them by its picture.
 
-ghost use Rattle.std.specs.Prelude.{◌≡◌, ◌≢◌, List, All, map, Some, None, Ok, IsErr, IsErrOf, IsSome, IfOk, IfSome};
-ghost use Rattle.cards.specs.Decks.{IsCard, IsDeck};
+ghost use Rattle.std.specs.Prelude.{◌≡◌, ◌≢◌, ℕ, List, All, map, Some, None, Ok, IsErr, IsErrOf, IsSome, IfOk, IfSome};
+ghost use Rattle.cards.specs.Decks.{deck_bytes, IsDeck};
+ghost use Rattle.machine.specs.Earlier.{without_outputs};
 ghost use Rattle.machine.specs.Ranges.{IsInRange};
 ghost use Rattle.machine.specs.Run.{State};
 ghost use Rattle.office.specs.Jobs.{HasSwitches};
 ghost use Rattle.office.specs.Kept.{IsJobInRange};
 ghost use Rattle.office.specs.declared.stretches.Stretch.{Stretch};
-ghost use Rattle.ledger_rows.specs.Columns.{line_cells, picture_cells, HoldsCharacters, IsLine};
+ghost use Rattle.ledger_rows.specs.Columns.{HoldsCharacters};
+ghost use Rattle.ledger_rows.specs.Pictures.{IsPictured};
 ghost use Rattle.ledger_tables.specs.Steps.{IsOpenStep};
-ghost use Rattle.ledger.specs.Found.{IsMediaOf, IsFoundAs, IsHandedAs, ShowsMedia, HasStretches, HasMedia, HasMachine, HasMachineWith, HasKept, BeganWith};
+ghost use Rattle.ledger.specs.Found.{IsMediaOf, IsFoundAs, IsHandedAs, HasStretches, HasMachine, HasMachineWith, HasKept, BeganWith};
 ghost use Rattle.ledger.specs.Saving.{job_in};
 ghost use Rattle.ledger.specs.Standing.{stretch_row};
 ghost use Rattle.ledger.specs.Steps.{FindsIn};
 
 use core_store::Core;
-use ledger_rows::{Media, read_deck, read_picture, read_rows, read_switches, read_truth};
-use ledger_tables::{CardRow, Fault, JobName, JobRow, LineRow, OpenTables, PictureRow, StretchRow};
-use machine::{Parts, runs_only_add};
+use ledger_rows::{Media, read_deck, read_picture, read_switches, read_truth};
+use ledger_tables::{Fault, JobName, JobRow, OpenTables, PageRow, StateRow, StretchRow};
+use machine::{Parts, outputs_are_put_back, runs_only_add};
 use office::{Job, JobParts, Stretch, commands_keep_jobs};
 use sqlite::Alter;
 use std::alloc::{AllocError, Global};
@@ -25,7 +28,7 @@ use units::Switches;
 
 /// What was read, if it is there: fault 2 if the rows do not hold it, and fault 1 if there was no
 /// memory.
-fn told<T>(read: Result<Option<T>, AllocError>) -> Result<T, Fault>
+pub fn told<T>(read: Result<Option<T>, AllocError>) -> Result<T, Fault>
     ensures found { IfOk result (λ it. read ≡ Ok (Some it)) }
     ensures store { IsErrOf result Fault.Store → read ≡ Ok None }
     ensures memory { IsErrOf result Fault.NoMemory → IsErr read }
@@ -83,102 +86,80 @@ pub fn find_stretches<S: Alter>(
     told(read_stretches(tables.alloc, rows.as_slice()))
 }
 
-/// The deck, cards and lines of a machine, from a deck and from rows.
-fn read_media(
-    alloc: Global,
-    loaded: &[u8],
-    switches: Switches,
-    cards: &[CardRow],
-    lines: &[LineRow],
-) -> Result<Media, Fault>
-    ensures read { IfOk result (λ media. (m : State)
-        → ShowsMedia m loaded.now cards.now
-        → lines.now ≡ map line_cells m.works.units.printer.lines
-        → switches ≡ m.works.units.switches → IsMediaOf media m) }
-    ensures store { IsErrOf result Fault.Store → (m : State)
-        → ShowsMedia m loaded.now cards.now
-        → lines.now ≢ map line_cells m.works.units.printer.lines }
+/// The deck and the switches of a machine, without its cards and lines.
+fn read_media(alloc: Global, loaded: &[u8], switches: Switches) -> Result<Media, Fault>
+    ensures read { IfOk result (λ media. (m : State) → IsDeck m.works.units.hopper.deck
+        → loaded.now ≡ deck_bytes m.works.units.hopper.deck → switches ≡ m.works.units.switches
+        → IsMediaOf media (without_outputs m)) }
+    ensures store { IsErrOf result Fault.Store → (m : State) → IsDeck m.works.units.hopper.deck
+        → loaded.now ≢ deck_bytes m.works.units.hopper.deck }
 {
     let deck = told(read_deck(alloc, loaded))?;
-    let cards = told(read_rows(alloc, cards))?;
-    let lines = told(read_rows(alloc, lines))?;
     Ok(Media {
         deck,
         switches,
-        cards,
-        lines,
+        cards: Vec::new(alloc),
+        lines: Vec::new(alloc),
     })
 }
 
-/// Finds the deck, cards and lines of a job's machine.
-fn find_media<S: Alter>(
-    tables: &mut OpenTables<'_, '_, S>,
-    name: JobName<'_>,
-    loaded: &[u8],
-    switches: Switches,
-) -> Result<Media, Fault>
-    ensures step { IsOpenStep S.Store tables.old tables.new result }
-    ensures found { FindsIn S.Store tables.old tables.new result
-        (λ office found. HasMedia (job_in name.entry office) loaded.now switches found) }
-{
-    // A law, for the proof: it does nothing.
-    runs_only_add();
-    let cards = tables.find_cards(name)?;
-    let lines = tables.find_lines(name)?;
-    read_media(
-        tables.alloc,
-        loaded,
-        switches,
-        cards.as_slice(),
-        lines.as_slice(),
-    )
-}
-
 /// The machine of a picture.
-fn machine_of<C: Core>(alloc: Global, row: &PictureRow, media: Media) -> Result<Parts<C>, Fault>
+fn machine_of<C: Core>(
+    alloc: Global,
+    size: u32,
+    row: StateRow,
+    pages: &[PageRow],
+    media: Media,
+) -> Result<Parts<C>, Fault>
     ensures machine { IfOk result (λ machine. (m : State) → IsInRange m
-        → HoldsCharacters m.works.storage → row.now ≡ picture_cells m → IsMediaOf media m
+        → HoldsCharacters m.works.storage → IsPictured size row pages.now media m
         → machine ≡ m) }
     ensures store { IsErrOf result Fault.Store → (m : State) → IsInRange m
-        → HoldsCharacters m.works.storage → IsMediaOf media m → row.now ≢ picture_cells m }
+        → HoldsCharacters m.works.storage → ¬ IsPictured size row pages.now media m }
 {
-    told(read_picture(alloc, row, media))
+    told(read_picture(alloc, size, row, pages, media))
 }
 
-/// Finds a job's machine, given its deck, cards and lines.
+/// Finds a job's machine of this size without its cards and lines, given its deck and switches.
 fn find_machine<S: Alter, C: Core>(
     tables: &mut OpenTables<'_, '_, S>,
     name: JobName<'_>,
+    size: u32,
     media: Media,
 ) -> Result<Parts<C>, Fault>
     ensures step { IsOpenStep S.Store tables.old tables.new result }
     ensures found { FindsIn S.Store tables.old tables.new result
-        (λ office found. HasMachineWith (job_in name.entry office) media found) }
+        (λ office found. HasMachineWith (job_in name.entry office) size media found) }
 {
-    // A law, for the proof: it does nothing.
+    // Laws, for the proof: they do nothing.
     commands_keep_jobs();
-    match tables.find_picture(name)? {
-        Some(row) => machine_of(tables.alloc, &row, media),
-        None => Err(Fault::Store),
-    }
+    outputs_are_put_back();
+    runs_only_add();
+    let Some(row) = tables.find_state(name)? else {
+        return Err(Fault::Store);
+    };
+    let pages = tables.find_pages(name)?;
+    machine_of(tables.alloc, size, row, pages.as_slice(), media)
 }
 
-/// Finds a job's machine, with its deck, cards and lines.
+/// Finds a job's machine without its cards and lines, given its row.
 fn find_running<S: Alter, C: Core>(
     tables: &mut OpenTables<'_, '_, S>,
     name: JobName<'_>,
-    loaded: &[u8],
+    row: &JobRow,
     switches: Switches,
 ) -> Result<Parts<C>, Fault>
     ensures step { IsOpenStep S.Store tables.old tables.new result }
     ensures found { FindsIn S.Store tables.old tables.new result
-        (λ office found. HasMachine (job_in name.entry office) loaded.now switches found) }
+        (λ office found. HasMachine (job_in name.entry office) row.now switches found) }
 {
-    let media = find_media(tables, name, loaded, switches)?;
-    find_machine(tables, name, media)
+    // A law, for the proof: it does nothing.
+    runs_only_add();
+    let media = read_media(tables.alloc, &row.loaded, switches)?;
+    find_machine(tables, name, row.size, media)
 }
 
-/// Finds the parts of a job, given its row.
+/// Finds the parts of a job, its machine without its cards and lines, given its row.
 fn find_parts<S: Alter, C: Core>(
     tables: &mut OpenTables<'_, '_, S>,
     name: JobName<'_>,
@@ -197,7 +178,7 @@ fn find_parts<S: Alter, C: Core>(
     let Some(last) = stretches.last() else {
         return Err(Fault::Store);
     };
-    let machine = find_running(tables, name, &row.loaded, last.switches)?;
+    let machine = find_running(tables, name, row, last.switches)?;
     Ok(JobParts {
         stretches,
         held,
@@ -214,7 +195,7 @@ fn job_with<C: Core>(alloc: Global, parts: JobParts<C>) -> Result<Job<C>, Fault>
     told(Job::from_parts(alloc, parts))
 }
 
-/// Finds the job of this row.
+/// Finds the job of this row, its machine without its cards and lines.
 fn find_kept<S: Alter, C: Core>(
     tables: &mut OpenTables<'_, '_, S>,
     name: JobName<'_>,
@@ -228,8 +209,8 @@ fn find_kept<S: Alter, C: Core>(
     job_with(tables.alloc, parts)
 }
 
-/// Finds the job of this name, if there is one.
-pub fn find_whole<S: Alter, C: Core>(
+/// Finds the job of this name, its machine without its cards and lines, if there is such a job.
+pub fn find_to_run<S: Alter, C: Core>(
     tables: &mut OpenTables<'_, '_, S>,
     name: JobName<'_>,
 ) -> Result<Option<Job<C>>, Fault>

@@ -1,22 +1,27 @@
 //! Writing a job to the tables.
 
-ghost use Rattle.std.specs.Prelude.{◌≡◌, ◌≤◌, ℕ, Bool, Some, All, take, length, IfOk, OnOk};
+ghost use Rattle.std.specs.Prelude.{◌≡◌, ◌≤◌, ◌+◌, ◌++◌, ℕ, true, Some, All, List, length, IfOk, OnOk};
+ghost use Rattle.cards.specs.declared.decks.Card.{Card};
 ghost use Rattle.cards.specs.Decks.{IsCard, IsDeck};
 ghost use Rattle.machine.specs.Ranges.{IsInRange};
-ghost use Rattle.machine.specs.Run.{lines_of};
 ghost use Rattle.office.specs.Jobs.{Job as KnownJob};
 ghost use Rattle.office.specs.declared.commands.JobCommand.{JobCommand};
+ghost use Rattle.units.specs.declared.printer.Line.{Line};
 ghost use Rattle.units.specs.declared.switches.Switches.{Switches};
+ghost use Rattle.units.specs.Units.{made_in_all};
+ghost use Rattle.core_store.specs.Pages.{cells_of};
 ghost use Rattle.ledger_rows.specs.Columns.{HoldsCharacters, IsLine};
-ghost use Rattle.ledger_tables.specs.Named.{HasNoJob, HasNoPicture, HasPicture};
+ghost use Rattle.ledger_tables.specs.Named.{HasNoJob, HasState};
 ghost use Rattle.ledger_tables.specs.Steps.{Changes, IsStep};
-ghost use Rattle.ledger.specs.Saving.{job_in, HasFirstCards, with_all_cards, HasFirstLines, with_all_lines, HasFirst, with_made, HasFewerGranted, HasOneLess, with_all_stretches, with_machine, with_progress, with_start, HasNotStarted, new_cells, with_handed, HadMade, IsAfter, with_after, IsFlagged, with_flagged, IsFreeName, IsTakenAs, with_new};
+ghost use Rattle.ledger.specs.Earlier.{drives_machine};
+ghost use Rattle.ledger.specs.Saving.{job_in, HasCardRows, with_all_cards, HasLineRows, with_all_lines, HasEarlier, with_made, HasFewerGranted, HasOneLess, with_all_stretches, with_running, with_machine, with_progress, with_begun, HasRows, HasNoMachine, HasNotStarted, new_cells, with_handed, IsAfter, IsAfterStorage, with_after, with_flagged, IsFreeName, IsTakenAs, with_new};
 ghost use Rattle.ledger.specs.Standing.{kind_number};
 ghost use Rattle.ledger.specs.Steps.{Saves};
 
+use crate::page_saving::{insert_pages, save_pages};
 use cards::{Card, Deck};
-use core_store::Core;
-use ledger_rows::{card_bytes, deck_bytes, line_row, picture_row, switches_number, truth};
+use core_store::PlaneCore;
+use ledger_rows::{card_bytes, deck_bytes, line_row, state_row, switches_number, truth};
 use ledger_tables::{Fault, JobName, JobRow, OpenTables, StretchRow};
 use machine::{Parts, runs_only_add};
 use office::{Contents, Job, JobCommand, Kind, Stretch, commands_keep_jobs};
@@ -24,107 +29,101 @@ use sqlite::Alter;
 use std::alloc::{AllocError, Global};
 use units::{Line, Units};
 
-/// The numbers of cards and lines that a job has made.
-#[derive(Clone, Copy)]
-pub struct Made {
-    pub cards: usize,
-    pub lines: usize,
-}
-
-impl Made {
-    /// The numbers of cards and lines that a job has made so far.
-    pub fn by<C: Core>(job: &Job<C>) -> Made
-        ensures cards { result.cards ≡ length job.now.machine.works.units.punch }
-        ensures lines { result.lines ≡ length (lines_of job.now.machine) }
-    {
-        let machine = job.parts().machine;
-        let units = &machine.units;
-        Made {
-            cards: units.punch.cards.len(),
-            lines: units.printer.lines.len(),
-        }
-    }
-}
-
-/// Inserts the cards after the first `before`, which the tables have already. A job makes at most
-/// 20,000.
+/// Inserts cards after the `before` cards that the tables have already. A job makes at most 20,000.
 fn insert_cards<S: Alter>(
     tables: &mut OpenTables<'_, '_, S>,
     name: JobName<'_>,
+    before: u32,
     cards: &[Card],
-    before: usize,
 ) -> Result<(), Fault>
-    requires { length cards.now ≤ 20000 }
+    requires { before + length cards.now ≤ 20000 }
     ensures step { IsStep S.Store tables.old tables.new result }
-    ensures added { Changes S.Store tables.old tables.new result
-        (HasFirstCards name.entry before cards.now) (with_all_cards name.entry cards.now) }
-    ensures characters { OnOk result (All IsCard (take before cards.now) → All IsCard cards.now) }
+    ensures added { (earlier : List Card) → Changes S.Store tables.old tables.new result
+        (HasCardRows name.entry before earlier)
+        (with_all_cards name.entry (earlier ++ cards.now)) }
+    ensures characters { OnOk result (All IsCard cards.now) }
 {
-    for place in before..cards.len() {
+    for place in 0..cards.len() {
         let bytes = card_bytes(&cards[place]);
-        tables.insert_card(name, place as u32 + 1, &bytes)?;
+        tables.insert_card(name, before + place as u32 + 1, &bytes)?;
     }
     Ok(())
 }
 
-/// Inserts the lines after the first `before`, which the tables have already. A job makes at most
-/// 20,000.
+/// Inserts lines after the `before` lines that the tables have already. A job makes at most 20,000.
 fn insert_lines<S: Alter>(
     tables: &mut OpenTables<'_, '_, S>,
     name: JobName<'_>,
+    before: u32,
     lines: &[Line],
-    before: usize,
 ) -> Result<(), Fault>
-    requires { length lines.now ≤ 20000 }
+    requires { before + length lines.now ≤ 20000 }
     ensures step { IsStep S.Store tables.old tables.new result }
-    ensures added { Changes S.Store tables.old tables.new result
-        (HasFirstLines name.entry before lines.now) (with_all_lines name.entry lines.now) }
-    ensures characters { OnOk result (All IsLine (take before lines.now) → All IsLine lines.now) }
+    ensures added { (earlier : List Line) → Changes S.Store tables.old tables.new result
+        (HasLineRows name.entry before earlier)
+        (with_all_lines name.entry (earlier ++ lines.now)) }
+    ensures characters { OnOk result (All IsLine lines.now) }
 {
-    for place in before..lines.len() {
+    for place in 0..lines.len() {
         let row = line_row(tables.alloc, &lines[place])?;
-        tables.insert_line(name, place as u32 + 1, &row)?;
+        tables.insert_line(name, before + place as u32 + 1, &row)?;
     }
     Ok(())
 }
 
-/// Inserts the cards and lines that a machine has made beyond `before`.
+/// Inserts the cards and lines of a machine, which has made others before.
 fn insert_made<S: Alter>(
     tables: &mut OpenTables<'_, '_, S>,
     name: JobName<'_>,
     units: &Units,
-    before: Made,
 ) -> Result<(), Fault>
-    requires cards { length units.now.punch ≤ 20000 }
-    requires lines { length units.now.printer.lines ≤ 20000 }
+    requires cards { (made_in_all units.now).cards ≤ 20000 }
+    requires lines { (made_in_all units.now).lines ≤ 20000 }
     ensures step { IsStep S.Store tables.old tables.new result }
-    ensures added { Changes S.Store tables.old tables.new result
-        (HasFirst name.entry before units.now) (with_made name.entry units.now) }
-    ensures cards { OnOk result
-        (All IsCard (take before.cards units.now.punch) → All IsCard units.now.punch) }
-    ensures lines { OnOk result (All IsLine (take before.lines units.now.printer.lines)
-        → All IsLine units.now.printer.lines) }
+    ensures added { (cards : List Card) (lines : List Line)
+        → Changes S.Store tables.old tables.new result
+        (HasEarlier name.entry cards lines units.now)
+        (with_made name.entry cards lines units.now) }
+    ensures cards { OnOk result (All IsCard units.now.punch) }
+    ensures lines { OnOk result (All IsLine units.now.printer.lines) }
 {
     let cards = units.punch.cards.as_slice();
     let lines = units.printer.lines.as_slice();
-    insert_cards(tables, name, cards, before.cards)?;
-    insert_lines(tables, name, lines, before.lines)
+    insert_cards(tables, name, units.before.cards, cards)?;
+    insert_lines(tables, name, units.before.lines, lines)
 }
 
-/// Replaces the picture of a job's machine.
-fn set_machine<S: Alter, C: Core>(
+/// Replaces the state of a job's machine.
+fn set_state<S: Alter>(
     tables: &mut OpenTables<'_, '_, S>,
     name: JobName<'_>,
-    machine: &Parts<C>,
+    machine: &Parts<PlaneCore>,
 ) -> Result<(), Fault>
     requires { IsInRange machine.now }
     ensures step { IsStep S.Store tables.old tables.new result }
     ensures set { Changes S.Store tables.old tables.new result
-        (HasPicture name.entry) (with_machine name.entry machine.now) }
+        (HasState name.entry) (with_running name.entry machine.now) }
+    ensures characters { HoldsCharacters machine.now.works.storage }
+{
+    tables.set_state(name, state_row(machine))
+}
+
+/// Replaces the state of a job's machine, and those of its pages that are no longer as they were.
+fn set_machine<S: Alter>(
+    tables: &mut OpenTables<'_, '_, S>,
+    name: JobName<'_>,
+    earlier: &PlaneCore,
+    machine: &Parts<PlaneCore>,
+) -> Result<(), Fault>
+    requires range { IsInRange machine.now }
+    requires size { length (cells_of earlier.now) ≡ length machine.now.works.storage }
+    ensures step { IsStep S.Store tables.old tables.new result }
+    ensures set { Changes S.Store tables.old tables.new result
+        (HasRows name.entry (cells_of earlier.now)) (with_machine name.entry machine.now) }
     ensures characters { OnOk result (HoldsCharacters machine.now.works.storage) }
 {
-    let row = picture_row(tables.alloc, machine)?;
-    tables.set_picture(name, &row)
+    save_pages(tables, name, earlier, &machine.core)?;
+    set_state(tables, name, machine)
 }
 
 /// Saves the number of instructions granted in a job's last stretch.
@@ -147,42 +146,43 @@ fn set_last_granted<S: Alter>(
     tables.set_granted(name, place, last.granted)
 }
 
-/// Saves the picture of a job's machine, and what was granted.
-fn set_progress<S: Alter, C: Core>(
+/// Saves a job's machine, whose storage was the earlier one, and what was granted.
+fn set_progress<S: Alter>(
     tables: &mut OpenTables<'_, '_, S>,
     name: JobName<'_>,
-    job: &Job<C>,
+    earlier: &PlaneCore,
+    job: &Job<PlaneCore>,
 ) -> Result<(), Fault>
+    requires { length (cells_of earlier.now) ≡ length job.now.machine.works.storage }
     ensures step { IsStep S.Store tables.old tables.new result }
     ensures set { Changes S.Store tables.old tables.new result
-        (λ t. HasPicture name.entry t × HasFewerGranted name.entry job.now.stretches t)
+        (λ t. HasRows name.entry (cells_of earlier.now) t
+        × HasFewerGranted name.entry job.now.stretches t)
         (with_progress name.entry job.now) }
     ensures characters { OnOk result (HoldsCharacters job.now.machine.works.storage) }
 {
     let parts = job.parts();
-    set_machine(tables, name, parts.machine)?;
+    set_machine(tables, name, earlier, parts.machine)?;
     set_last_granted(tables, name, parts.stretches)
 }
 
-/// Saves a job after a slice. `before` is what it had made before the slice.
-fn save_slice<S: Alter, C: Core>(
+/// Saves a job after a slice, before which its machine had the earlier storage.
+fn save_slice<S: Alter>(
     tables: &mut OpenTables<'_, '_, S>,
     name: JobName<'_>,
-    job: &Job<C>,
-    before: Made,
+    earlier: &PlaneCore,
+    job: &Job<PlaneCore>,
 ) -> Result<(), Fault>
+    requires { length (cells_of earlier.now) ≡ length job.now.machine.works.storage }
     ensures step { IsStep S.Store tables.old tables.new result }
-    ensures saved { (limit : ℕ) (old : KnownJob) → HadMade before old
-        → Saves S.Store tables.old tables.new result
-        (IsAfter name.entry job.now (JobCommand.Slice limit) old)
+    ensures saved { (limit : ℕ) (old : KnownJob) → Saves S.Store tables.old tables.new result
+        (IsAfterStorage name.entry (cells_of earlier.now) job.now (JobCommand.Slice limit) old)
         (with_after name.entry (JobCommand.Slice limit) old) }
 {
-    // A law, for the proof: it does nothing.
-    runs_only_add();
     let machine = job.parts().machine;
     let units = &machine.units;
-    insert_made(tables, name, units, before)?;
-    set_progress(tables, name, job)
+    insert_made(tables, name, units)?;
+    set_progress(tables, name, earlier, job)
 }
 
 /// Inserts a job's last stretch.
@@ -210,10 +210,10 @@ fn insert_last_stretch<S: Alter>(
 }
 
 /// Saves a job after a start.
-fn save_start<S: Alter, C: Core>(
+fn save_start<S: Alter>(
     tables: &mut OpenTables<'_, '_, S>,
     name: JobName<'_>,
-    job: &Job<C>,
+    job: &Job<PlaneCore>,
 ) -> Result<(), Fault>
     ensures step { IsStep S.Store tables.old tables.new result }
     ensures saved { (switches : Switches) (old : KnownJob)
@@ -222,7 +222,7 @@ fn save_start<S: Alter, C: Core>(
         (with_after name.entry (JobCommand.Start switches) old) }
 {
     let started = job.parts();
-    set_machine(tables, name, started.machine)?;
+    set_state(tables, name, started.machine)?;
     insert_last_stretch(tables, name, started.stretches)
 }
 
@@ -241,45 +241,26 @@ pub fn note_flags<S: Alter>(
     tables.set_flags(name, truth(held), truth(collected))
 }
 
-/// Saves a job's flags.
-fn save_flags<S: Alter, C: Core>(
-    tables: &mut OpenTables<'_, '_, S>,
-    name: JobName<'_>,
-    job: &Job<C>,
-) -> Result<(), Fault>
-    ensures step { IsStep S.Store tables.old tables.new result }
-    ensures saved { (held collected : Bool) (old : KnownJob)
-        → Saves S.Store tables.old tables.new result
-        (IsFlagged name.entry job.now held collected old)
-        (with_flagged name.entry held collected old) }
-{
-    let flagged = job.parts();
-    note_flags(tables, name, flagged.held, flagged.collected)
-}
-
-/// Saves a job after a command that was not refused. `before` is what it had made before the
-/// command.
-pub fn save<S: Alter, C: Core>(
+/// Saves a job after a slice or a start that was not refused, before which its machine had the
+/// earlier storage.
+pub fn save<S: Alter>(
     tables: &mut OpenTables<'_, '_, S>,
     name: JobName<'_>,
     command: JobCommand,
-    job: &Job<C>,
-    before: Made,
+    earlier: &PlaneCore,
+    job: &Job<PlaneCore>,
 ) -> Result<(), Fault>
+    requires drives { drives_machine command ≡ true }
+    requires size { length (cells_of earlier.now) ≡ length job.now.machine.works.storage }
     ensures step { IsStep S.Store tables.old tables.new result }
-    ensures saved { (old : KnownJob) → HadMade before old
-        → Saves S.Store tables.old tables.new result
-        (IsAfter name.entry job.now command old) (with_after name.entry command old) }
+    ensures saved { (old : KnownJob) → Saves S.Store tables.old tables.new result
+        (IsAfterStorage name.entry (cells_of earlier.now) job.now command old)
+        (with_after name.entry command old) }
 {
     match command {
-        JobCommand::Slice { .. } => save_slice(tables, name, job, before),
+        JobCommand::Slice { .. } => save_slice(tables, name, earlier, job),
         JobCommand::Start { .. } => save_start(tables, name, job),
-        JobCommand::Hold => save_flags(tables, name, job),
-        JobCommand::Release => save_flags(tables, name, job),
-        JobCommand::Collect => save_flags(tables, name, job),
-        JobCommand::Standing => Ok(()),
-        JobCommand::Cards => Ok(()),
-        JobCommand::Lines => Ok(()),
+        _ => unreachable!(),
     }
 }
 
@@ -326,31 +307,31 @@ fn insert_handed<S: Alter>(
     tables.insert_job(name, &row)
 }
 
-/// Inserts the picture of a job's machine.
-fn insert_machine<S: Alter, C: Core>(
+/// Inserts the state of a job's machine and the pages of its storage that are not blank.
+fn insert_machine<S: Alter>(
     tables: &mut OpenTables<'_, '_, S>,
     name: JobName<'_>,
-    machine: &Parts<C>,
+    machine: &Parts<PlaneCore>,
 ) -> Result<(), Fault>
     requires { IsInRange machine.now }
     ensures step { IsStep S.Store tables.old tables.new result }
     ensures added { Changes S.Store tables.old tables.new result
-        (HasNoPicture name.entry) (with_machine name.entry machine.now) }
-    ensures characters { OnOk result (HoldsCharacters machine.now.works.storage) }
+        (HasNoMachine name.entry) (with_machine name.entry machine.now) }
+    ensures characters { HoldsCharacters machine.now.works.storage }
 {
-    let row = picture_row(tables.alloc, machine)?;
-    tables.insert_picture(name, &row)
+    insert_pages(tables, name, &machine.core)?;
+    tables.insert_state(name, state_row(machine))
 }
 
-/// Inserts a job's first stretch and the picture of its machine.
-fn insert_start<S: Alter, C: Core>(
+/// Inserts a job's first stretch and its machine.
+fn insert_begun<S: Alter>(
     tables: &mut OpenTables<'_, '_, S>,
     name: JobName<'_>,
-    job: &Job<C>,
+    job: &Job<PlaneCore>,
 ) -> Result<(), Fault>
     ensures step { IsStep S.Store tables.old tables.new result }
     ensures added { Changes S.Store tables.old tables.new result
-        (HasNotStarted name.entry job.now) (with_start name.entry job.now) }
+        (HasNotStarted name.entry job.now) (with_begun name.entry job.now) }
     ensures characters { OnOk result (HoldsCharacters job.now.machine.works.storage) }
 {
     let parts = job.parts();
@@ -359,11 +340,11 @@ fn insert_start<S: Alter, C: Core>(
 }
 
 /// Inserts a job that was handed in.
-pub fn save_new<S: Alter, C: Core>(
+pub fn save_new<S: Alter>(
     tables: &mut OpenTables<'_, '_, S>,
     name: JobName<'_>,
     contents: &Contents,
-    job: &Job<C>,
+    job: &Job<PlaneCore>,
 ) -> Result<(), Fault>
     ensures step { IsStep S.Store tables.old tables.new result }
     ensures saved { (new : KnownJob) → IsTakenAs contents.now job.now new
@@ -376,5 +357,5 @@ pub fn save_new<S: Alter, C: Core>(
     let machine = job.parts().machine;
     let deck = &machine.units.hopper.deck;
     insert_handed(tables, name, contents, deck)?;
-    insert_start(tables, name, job)
+    insert_begun(tables, name, job)
 }

@@ -16,7 +16,7 @@ use crate::reading::{Handed, find_handed};
 use crate::saving::save_new;
 use bitflags::Flags;
 use cards::COLUMNS;
-use core_store::{Core, FlagCore};
+use core_store::{Core, PlaneCore};
 use ledger_rows::deck_bytes;
 use ledger_tables::{Fault, JobName, OpenTables};
 use machine::runs_only_add;
@@ -94,7 +94,7 @@ fn add<S: Alter>(
     tables: &mut OpenTables<'_, '_, S>,
     name: JobName<'_>,
     contents: &Contents,
-    job: &Job<FlagCore>,
+    job: &Job<PlaneCore>,
 ) -> Result<Reply, Fault>
     ensures step { IsOpenStep S.Store tables.old tables.new result }
     ensures done { (new : KnownJob) → IsTakenAs contents.now job.now new

@@ -2,3 +2,5 @@ pub mod DeckBytes
 pub mod StorageCells
 pub mod PartPictures
 pub mod FromCellsRows
+pub mod PageBytes
+pub mod PagesRead

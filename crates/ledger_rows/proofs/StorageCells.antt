@@ -1,62 +1,105 @@
 -- positions of storage and their bytes
-use Rattle.std.proofs.Common.{◌≡◌, ℕ, ◌+◌, ◌<◌, Bool, true, false, if◌then◌else◌, List, [], ◌∷◌, ◌++◌, refl, ◌∙◌, ap, arith, length, take, set, get_or}
-use Rattle.std.proofs.lemmas.List.{length-set, take_more, take_more_set, map_push, length-map, get_or-map}
-use Rattle.std.proofs.lemmas.List.Elements.{All-more, All-push, All-get_or}
-use Rattle.core_store.specs.Storage.{Storage, code_at, is_marked}
-use Rattle.ledger_rows.specs.Columns.{storage_bytes, HoldsCharacters}
-use Rattle.ledger_rows.proofs.FromCellsRows.{same_things}
-
--- the byte of a position
-abbrev pub byte_of : ℕ × Bool → ℕ
-byte_of cell = if cell.1 then 64 + cell.0 else cell.0
-
-abbrev IsCharacter : ℕ × Bool → Type 0
-IsCharacter cell = cell.0 < 64
+use Rattle.std.proofs.Common.{◌≡◌, ℕ, ◌+◌, ◌-◌, ◌<◌, ◌≤◌, Bool, true, false, nat_lt, if◌then◌else◌, List, [], ◌∷◌, ◌++◌, refl, sym, ◌∙◌, ap, arith, length, map, take, drop, set, get_or, All, append-nil, true≢false}
+use Rattle.std.proofs.Math.Seq.{set-append_seam}
+use Rattle.std.proofs.lemmas.Bool.{cases_Bool}
+use Rattle.std.proofs.lemmas.Bool.Decides.{nat_tests}
+use Rattle.std.proofs.lemmas.List.{drop_all, drop_more, length-append, length-drop, length-map, length-take-le, map_push, take_more}
+use Rattle.std.proofs.lemmas.List.Elements.{All-from_recursion, All-more, recursion_from_All}
+use Rattle.std.specs.List.{AllByRecursion}
+use Rattle.core_store.specs.Storage.{Storage, blank_storage, code_at, is_marked}
+use Rattle.ledger_rows.specs.Columns.{byte_of, storage_bytes, HoldsCharacters}
+use Rattle.ledger_rows.specs.Pages.{AreCells, cell_of, with_bytes}
 
 -- the byte of what was read at a position
 pub same_byte : (s : Storage) (p code : ℕ) (marked : Bool) (byte : ℕ) → code ≡ code_at s p → marked ≡ is_marked s p → byte ≡ byte_of (code, marked) →
     byte ≡ byte_of (code_at s p, is_marked s p)
 same_byte s p code marked byte code_is marked_is is = is ∙ ap (λ n. byte_of (n, marked)) code_is ∙ ap (λ m. byte_of (code_at s p, m)) marked_is
 
--- one more position was read
-pub bytes_more : (s : Storage) (p byte : ℕ) (before after : List ℕ) → p < length s → byte ≡ byte_of (code_at s p, is_marked s p) →
-    before ≡ storage_bytes (take p s) → after ≡ before ++ byte ∷ [] → after ≡ storage_bytes (take (p + 1) s)
-bytes_more s p byte before after within is old new =
-    rw (take_more s p (0, false) within, map_push byte_of (take p s) (get_or s p (0, false)), ← is, ← old) new
+-- ---- a byte and its position
 
-pub characters_more : (s : Storage) (p : ℕ) → p < length s → HoldsCharacters (take p s) → code_at s p < 64 → HoldsCharacters (take (p + 1) s)
-characters_more s p within characters below = All-more IsCharacter s p (0, false) within characters below
+pub byte_of_cell : (byte : ℕ) → byte_of (cell_of byte) ≡ byte
+byte_of_cell byte = elim (cases_Bool (nat_lt byte 64)) [
+  | inl low ↦ rw low refl
+  | inr high ↦ let most : 64 ≤ byte = grind (arith, nat_tests) in rw high (let e : 64 + (byte - 64) ≡ byte = omega (arith, most) in e)
+]
 
--- one more position was written
-pub put_bytes_more : (s new : Storage) (bytes : List ℕ) (p : ℕ) (cell : ℕ × Bool) → new ≡ set s p cell → p < length s → p < length bytes →
-    storage_bytes (take p s) ≡ take p bytes → get_or bytes p 0 ≡ byte_of cell → storage_bytes (take (p + 1) new) ≡ take (p + 1) bytes
-put_bytes_more s new bytes p cell put within within_bytes same is =
-    rw (put, take_more_set s p cell within, map_push byte_of (take p s) cell, ← is, same, take_more bytes p 0 within_bytes) refl
+pub cell_of_byte : (cell : ℕ × Bool) → cell.0 < 64 → cell_of (byte_of cell) ≡ cell
+cell_of_byte (n, true) below =
+    let high : nat_lt (64 + n) 64 ≡ false = grind (arith, nat_tests) in
+    let same : 64 + n - 64 ≡ n = omega arith in
+    rw high (ap (λ m. let c : ℕ × Bool = (m, true) in c) same)
+cell_of_byte (n, false) below = let low : nat_lt n 64 ≡ true = grind (arith, nat_tests) in rw low refl
 
-pub put_characters_more : (s new : Storage) (p : ℕ) (cell : ℕ × Bool) → new ≡ set s p cell → p < length s → HoldsCharacters (take p s) →
-    cell.0 < 64 → HoldsCharacters (take (p + 1) new)
-put_characters_more s new p cell put within characters below =
-    rw (put, take_more_set s p cell within) (All-push IsCharacter (take p s) cell characters below)
+pub byte_below : (cell : ℕ × Bool) → cell.0 < 64 → byte_of cell < 128
+byte_below (n, true) below = omega (arith, below)
+byte_below (n, false) below = omega (arith, below)
 
-pub put_keeps_size : (s new : Storage) (p size : ℕ) (cell : ℕ × Bool) → new ≡ set s p cell → length s ≡ size → length new ≡ size
-put_keeps_size s new p size cell put is = ap length put ∙ length-set s p cell ∙ is
+bytes_below : (s : Storage) → AllByRecursion (λ cell. cell.0 < 64) s → AllByRecursion (λ byte. byte < 128) (storage_bytes s)
+bytes_below [] all = tt
+bytes_below (cell ∷ s) all = (byte_below cell all.0, bytes_below s all.1)
 
--- the byte at a place is its position's
-pub byte_at : (s : Storage) (bytes : List ℕ) (p : ℕ) → p < length bytes → bytes ≡ storage_bytes s → HoldsCharacters s →
-    (code_at s p < 64) × (get_or bytes p 0 ≡ byte_of (code_at s p, is_marked s p))
-byte_at s bytes p within same characters =
-    let long : length bytes ≡ length s = omega (arith, ap length same, simp length-map at (ap length same)) in
-    let here : p < length s = omega arith in (
-      All-get_or IsCharacter s p (0, false) here characters,
-      ap (λ xs. get_or xs p 0) same ∙ get_or-map byte_of s p (0, false) 0 here,
-    )
+pub are_cells : (s : Storage) → HoldsCharacters s → AreCells (storage_bytes s)
+are_cells s holds = All-from_recursion (λ byte. byte < 128) (storage_bytes s) (bytes_below s (recursion_from_All (λ cell. cell.0 < 64) s holds))
 
-same_cell : (c d : ℕ × Bool) → c.0 < 64 → d.0 < 64 → byte_of c ≡ byte_of d → c ≡ d
-same_cell (n, true) (m, true) below_c below_d same = let e : n ≡ m = omega arith in ap (λ x. (x, true)) e
-same_cell (n, true) (m, false) below_c below_d same = absurd (omega arith)
-same_cell (n, false) (m, true) below_c below_d same = absurd (omega arith)
-same_cell (n, false) (m, false) below_c below_d same = ap (λ x. (x, false)) same
+cells_back : (s : Storage) → AllByRecursion (λ cell. cell.0 < 64) s → map cell_of (storage_bytes s) ≡ s
+cells_back [] all = refl
+cells_back (cell ∷ s) all = ap (λ c. c ∷ map cell_of (storage_bytes s)) (cell_of_byte cell all.0) ∙ ap (λ cs. cell ∷ cs) (cells_back s all.1)
 
--- bytes are one storage's at most
-pub same_storage : (s t : Storage) → HoldsCharacters s → HoldsCharacters t → storage_bytes s ≡ storage_bytes t → s ≡ t
-same_storage = same_things byte_of IsCharacter same_cell
+pub cells_of_bytes : (s : Storage) → HoldsCharacters s → map cell_of (storage_bytes s) ≡ s
+cells_of_bytes s holds = cells_back s (recursion_from_All (λ cell. cell.0 < 64) s holds)
+
+pub bytes_of_cells : (bytes : List ℕ) → storage_bytes (map cell_of bytes) ≡ bytes
+bytes_of_cells [] = refl
+bytes_of_cells (byte ∷ bytes) = ap (λ b. b ∷ storage_bytes (map cell_of bytes)) (byte_of_cell byte) ∙ ap (λ bs. byte ∷ bs) (bytes_of_cells bytes)
+
+-- ---- bytes that are written one by one
+
+pub none_written : (s : Storage) (first : ℕ) → first ≤ length s → with_bytes s first [] ≡ s
+none_written s first within =
+    let at : first + 0 ≡ first = omega arith in
+    ap (λ n. take first s ++ [] ++ drop n s) at ∙ ap (λ xs. xs ++ drop first s) (append-nil (take first s)) ∙ joined first s
+  where
+    joined : (n : ℕ) (xs : Storage) → take n xs ++ drop n xs ≡ xs
+    joined zero xs = refl
+    joined (suc n) [] = refl
+    joined (suc n) (x ∷ xs) = ap (λ ys. x ∷ ys) (joined n xs)
+
+-- one more byte was written
+pub one_written : (s : Storage) (first place byte : ℕ) (bytes : List ℕ) (cell : ℕ × Bool) → first + length bytes ≤ length s → place < length bytes → byte ≡ get_or bytes place 0 → cell ≡ cell_of byte
+    → set (with_bytes s first (take place bytes)) (first + place) cell ≡ with_bytes s first (take (place + 1) bytes)
+one_written s first place byte bytes cell room within is cell_is =
+    let before = take place bytes in
+    let long : length before ≡ place = length-take-le place bytes (omega (arith, within)) in
+    let front = take first s ++ map cell_of before in
+    let front_long : length front ≡ first + place = length-append (take first s) (map cell_of before) ∙ ap (λ n. n + length (map cell_of before)) (length-take-le first s (omega (arith, room))) ∙ ap (λ n. first + n) (length-map before cell_of ∙ long) in
+    let here : first + place < length s = omega (arith, room, within) in
+    let old : drop (first + length before) s ≡ get_or s (first + place) (0, false) ∷ drop (first + place + 1) s = ap (λ n. drop (first + n) s) long ∙ drop_more s (first + place) (0, false) here in
+    let put : set (front ++ (get_or s (first + place) (0, false) ∷ drop (first + place + 1) s)) (first + place) cell ≡ front ++ (cell ∷ drop (first + place + 1) s) =
+    ap (λ n. set (front ++ (get_or s (first + place) (0, false) ∷ drop (first + place + 1) s)) n cell) (sym front_long) ∙ set-append_seam front (get_or s (first + place) (0, false)) (drop (first + place + 1) s) cell in
+    let more : take (place + 1) bytes ≡ before ++ byte ∷ [] = take_more bytes place 0 within ∙ ap (λ b. before ++ b ∷ []) (sym is) in
+    let after_long : first + length (before ++ byte ∷ []) ≡ first + place + 1 = ap (λ n. first + n) (length-append before (byte ∷ [])) ∙ omega (arith, long) in
+    let after : with_bytes s first (before ++ byte ∷ []) ≡ front ++ (cell ∷ drop (first + place + 1) s) =
+    ap (λ n. take first s ++ map cell_of (before ++ byte ∷ []) ++ drop n s) after_long
+    ∙ ap (λ xs. take first s ++ xs ++ drop (first + place + 1) s) (map_push cell_of before byte)
+    ∙ ap (λ c. take first s ++ (map cell_of before ++ c ∷ []) ++ drop (first + place + 1) s) (sym cell_is)
+    ∙ seam (take first s) (map cell_of before) cell (drop (first + place + 1) s) in
+    ap (λ xs. set (front ++ xs) (first + place) cell) old ∙ put ∙ sym after ∙ ap (with_bytes s first) (sym more)
+  where
+    seam : (xs ys : Storage) (c : ℕ × Bool) (zs : Storage) → xs ++ (ys ++ c ∷ []) ++ zs ≡ xs ++ ys ++ (c ∷ zs)
+    seam [] [] c zs = refl
+    seam [] (y ∷ ys) c zs = ap (λ rest. y ∷ rest) (seam [] ys c zs)
+    seam (x ∷ xs) ys c zs = ap (λ rest. x ∷ rest) (seam xs ys c zs)
+
+pub with_bytes_long : (s : Storage) (first : ℕ) (bytes : List ℕ) → first + length bytes ≤ length s → length (with_bytes s first bytes) ≡ length s
+with_bytes_long s first bytes room =
+    length-append (take first s ++ map cell_of bytes) (drop (first + length bytes) s)
+    ∙ ap (λ n. n + length (drop (first + length bytes) s)) (length-append (take first s) (map cell_of bytes) ∙ ap (λ n. n + length (map cell_of bytes)) (length-take-le first s (omega (arith, room))) ∙ ap (λ n. first + n) (length-map bytes cell_of))
+    ∙ ap (λ n. first + length bytes + n) (length-drop (first + length bytes) s) ∙ omega (arith, room)
+
+-- bytes that fill a storage
+pub all_written : (s : Storage) (bytes : List ℕ) → length bytes ≡ length s → with_bytes s 0 bytes ≡ map cell_of bytes
+all_written s bytes long = ap (λ rest. map cell_of bytes ++ rest) (drop_all (length bytes) s (omega (arith, long))) ∙ append-nil (map cell_of bytes)
+
+-- cells that were looked at so far
+pub cells_more : (bytes : List ℕ) (place byte : ℕ) → place < length bytes → byte ≡ get_or bytes place 0 → byte < 128 → AreCells (take place bytes) → AreCells (take (place + 1) bytes)
+cells_more bytes place byte within is below all = All-more (λ b. b < 128) bytes place 0 within all (rw is at below)

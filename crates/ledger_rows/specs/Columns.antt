@@ -9,20 +9,25 @@ use Rattle.core_store.specs.declared.registers.Compared.{Compared}
 use Rattle.core_store.specs.declared.registers.Compared.TheVariants.{Equal, Low, High}
 use Rattle.machine.specs.declared.standings.Standing.{Standing}
 use Rattle.machine.specs.declared.standings.Standing.TheVariants.{Running, Halted, Checked}
+use Rattle.units.specs.Units.{made_in_all}
 use Rattle.units.specs.declared.printer.Line.{Line}
 use Rattle.units.specs.declared.carriage.Motion.{Motion}
 use Rattle.units.specs.declared.carriage.Motion.TheVariants.{Space, DoubleSpace, TripleSpace, SkipToChannel1}
 use Rattle.machine.specs.Run.{State}
-use Rattle.ledger_tables.specs.Cells.{PictureCells, LineCells}
+use Rattle.ledger_tables.specs.Cells.{LineCells}
+use Rattle.ledger_tables.specs.declared.rows.StateRow.{StateRow}
 
 -- the bytes of a deck, 80 for each card, each the number of a column's character
 abbrev pub deck_bytes : List Card → List ℕ
 deck_bytes = flat_map (λ card. card.0)
 
--- the bytes of storage, one for each position: its character's number, and 64 more if it has a word
--- mark
+-- the byte of a position: its character's number, and 64 more if it has a word mark
+abbrev pub byte_of : ℕ × Bool → ℕ
+byte_of cell = if cell.1 then 64 + cell.0 else cell.0
+
+-- the bytes of storage, one for each position
 abbrev pub storage_bytes : Storage → List ℕ
-storage_bytes = map (λ cell. if cell.1 then 64 + cell.0 else cell.0)
+storage_bytes = map byte_of
 
 -- the number of a flag: 1 if it is set, else 0
 abbrev pub truth : Bool → ℕ
@@ -63,10 +68,9 @@ standing_number (Checked check) = check_number check
 abbrev pub line_cells : Line → LineCells
 line_cells l = record { form = l.form; line = l.line; image = l.codes }
 
--- the columns of a machine's picture row
-abbrev pub picture_cells : State → PictureCells
-picture_cells m = record {
-  storage = storage_bytes m.works.storage;
+-- the columns of a machine's state row, which counts all cards and lines that were made
+abbrev pub state_row : State → StateRow
+state_row m = record {
   i = m.works.registers.i;
   a = m.works.registers.a;
   b = m.works.registers.b;
@@ -77,8 +81,8 @@ picture_cells m = record {
   form = m.works.units.printer.carriage.form;
   line = m.works.units.printer.carriage.line;
   taken = m.works.units.hopper.taken;
-  cards = length m.works.units.punch;
-  lines = length m.works.units.printer.lines;
+  cards = (made_in_all m.works.units).cards;
+  lines = (made_in_all m.works.units).lines;
   standing = standing_number m.standing;
 }
 

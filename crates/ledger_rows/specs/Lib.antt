@@ -1,4 +1,5 @@
 pub mod Columns
+pub mod Pages
 pub mod Pictures
 pub mod Progress
 pub mod Rows

@@ -1,5 +1,5 @@
 -- the progress of a machine: its standing, its I register, and its counts of cards and lines
-use Rattle.std.specs.Prelude.{length}
+use Rattle.units.specs.Units.{made_in_all}
 use Rattle.machine.specs.Run.{State}
 use Rattle.ledger_rows.specs.Columns.{standing_number}
 use Rattle.ledger_rows.specs.declared.progress.Progress.{Progress}
@@ -19,6 +19,6 @@ abbrev pub progress_of : State → Progress
 progress_of m = record {
   standing = m.standing;
   i = m.works.registers.i;
-  cards = length m.works.units.punch;
-  lines = length m.works.units.printer.lines;
+  cards = (made_in_all m.works.units).cards;
+  lines = (made_in_all m.works.units).lines;
 }

@@ -1,8 +1,8 @@
-//! The progress of a machine, from four columns of its picture.
+//! The progress of a machine, from four columns of its state.
 
 ghost use Rattle.std.specs.Prelude.{◌≡◌, ◌<◌, ◌^◌, Some, IfSome};
 ghost use Rattle.machine.specs.Run.{State};
-ghost use Rattle.ledger_rows.specs.Columns.{picture_cells};
+ghost use Rattle.ledger_rows.specs.Columns.{state_row};
 ghost use Rattle.ledger_rows.specs.Progress.{progress_cells, progress_of};
 ghost use Rattle.ledger_tables.specs.Listed.{progress_row};
 
@@ -30,7 +30,7 @@ pub fn read_progress(row: &ProgressRow) -> Option<Progress>
         → result ≡ Some it }
     ensures only { IfSome result (λ it. progress_cells it ≡ row.now) }
     ensures picture { (m : State) → m.works.registers.i < 2 ^ 16
-        → row.now ≡ progress_row (picture_cells m) → result ≡ Some (progress_of m) }
+        → row.now ≡ progress_row (state_row m) → result ≡ Some (progress_of m) }
 {
     let Ok(i) = u16::try_from(row.i) else {
         return None;

@@ -30,25 +30,30 @@ table_made schema sql table is uncounted old new count h made =
     record { is = did.0; empty = all_push (λ t. new.now.trees t.tree ≡ []) schema.tables _ (still_empty schema.tables old.now.trees new.now.trees made.empty did.2) did.1 }
 
 abbrev pub version_params : Row
-version_params = Int (pos 1) ∷ Int (pos 1) ∷ []
+version_params = Int (pos 1) ∷ Int (pos 3) ∷ []
 
 pub version_made : (old new : State) (count : ℕ) → ExecutesInside 0 insert_bureau version_params old new (Ok count) → AreMade old.now bureau_schema → Holds new.now no_rows
 version_made old new count h made =
     let did = adds bureau_schema insert_bureau 0 (record bureau { tree = 0 }) (col 0 0 ∷ lit Null ∷ col 0 1 ∷ []) 3 insert_bureau_is refl old new version_params count made.is h.0 in
     let jobs_none : new.now.trees 1 ≡ [] = did.2.1.0 (apart refl) ∙ made.empty.1.0 in
     let stretches_none : new.now.trees 3 ≡ [] = did.2.1.1.0 (apart refl) ∙ made.empty.1.1.0 in
-    let pictures_none : new.now.trees 5 ≡ [] = did.2.1.1.1.0 (apart refl) ∙ made.empty.1.1.1.0 in
-    let cards_none : new.now.trees 7 ≡ [] = did.2.1.1.1.1.0 (apart refl) ∙ made.empty.1.1.1.1.0 in
-    let lines_none : new.now.trees 9 ≡ [] = did.2.1.1.1.1.1.0 (apart refl) ∙ made.empty.1.1.1.1.1.0 in
+    let cards_none : new.now.trees 7 ≡ [] = did.2.1.1.1.0 (apart refl) ∙ made.empty.1.1.1.0 in
+    let lines_none : new.now.trees 9 ≡ [] = did.2.1.1.1.1.0 (apart refl) ∙ made.empty.1.1.1.1.0 in
+    let states_none : new.now.trees 11 ≡ [] = did.2.1.1.1.1.1.0 (apart refl) ∙ made.empty.1.1.1.1.1.0 in
+    let pages_none : new.now.trees 13 ≡ [] = did.2.1.1.1.1.1.1.0 (apart refl) ∙ made.empty.1.1.1.1.1.1.0 in
     record {
       schema = did.0;
       sound = did.3;
-      version = did.1 ∙ rw (made.empty.0, cast_null, cast_int (pos 1));
-      jobs = rw jobs_none;
-      jobs_rise = rw jobs_none (tt, tt);
-      distinct = tt;
-      stretches = rw stretches_none (record { each = λ c n. refl; named = tt; rise = (tt, tt) });
-      pictures = rw pictures_none (record { each = λ c n. refl; named = tt; rise = (tt, tt) });
-      cards = rw cards_none (record { each = λ c n. refl; named = tt; rise = (tt, tt) });
-      lines = rw lines_none (record { each = λ c n. refl; named = tt; rise = (tt, tt) });
+      version = did.1 ∙ rw (made.empty.0, cast_null, cast_int (pos 1), cast_int (pos 3));
+      shared = record {
+        jobs = rw jobs_none;
+        jobs_rise = rw jobs_none (tt, tt);
+        distinct = tt;
+        stretches = rw stretches_none (record { each = λ c n. refl; named = tt; rise = (tt, tt) });
+        cards = rw cards_none (record { each = λ c n. refl; named = tt; rise = (tt, tt) });
+        lines = rw lines_none (record { each = λ c n. refl; named = tt; rise = (tt, tt) });
+      };
+      states = rw states_none (record { each = λ c n. refl; named = tt; rise = (tt, tt) });
+      pages = rw pages_none (record { each = λ c n k. refl; named = tt; rise = (tt, tt) });
+      beside = tt;
     }

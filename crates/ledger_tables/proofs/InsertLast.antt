@@ -9,13 +9,35 @@ use Rattle.sqlite.specs.declared.types.Value.TheVariants.{Int, Text}
 use Rattle.sqlite.specs.Order.{Row}
 use Rattle.sqlite.specs.Tree.{put_row}
 use Rattle.sqlite.specs.Edit.{next_rowid}
-use Rattle.ledger_tables.specs.Tables.{NamedJob, ByJob, is_job, job_named, AreDistinct, at_job, placed, picture_row, picture_rows, cells, is_row_of, NamesJob, IsOf}
-use Rattle.ledger_tables.specs.Cells.{PictureCells}
+use Rattle.ledger_tables.specs.Tables.{NamedJob, ByJob, is_job, job_named, AreDistinct, at_job, placed, state_row, state_rows, cells, is_row_of, job_row, stretch_row, card_row, line_row, NamesJob, IsOf, IsOfPages, HoldsShared, Tables}
+use Rattle.sqlite.specs.Tree.{Trees}
+use Rattle.sqlite.specs.View.{IsShaped}
+use Rattle.sqlite_trees.specs.declared.store.Shape.TheVariants.{Table as Rising}
+use Rattle.ledger_tables.specs.Cells.{Pages}
+use Rattle.ledger_tables.specs.declared.rows.StateRow.{StateRow}
 use Rattle.ledger_tables.proofs.InsertPlaces.{next_cells, next_shaped}
 
 -- the same rows are of the same jobs
 pub still : {of_job : ByJob (List Row)} {old new : List Row} → new ≡ old → IsOf old of_job → IsOf new of_job
 still {of_job} same is = subst (λ rows. IsOf rows of_job) (sym same) is
+
+pub still_pages : {pages : ByJob Pages} {old new : List Row} → new ≡ old → IsOfPages old pages → IsOfPages new pages
+still_pages {pages} same is = subst (λ rows. IsOfPages rows pages) (sym same) is
+
+-- the tables that every version has stay
+pub still_shared : {t : Tables} {old new : Trees} → HoldsShared old t → new 1 ≡ old 1 → new 3 ≡ old 3 → new 7 ≡ old 7 → new 9 ≡ old 9 → HoldsShared new t
+still_shared h one three seven nine = record {
+  jobs = ap cells one ∙ h.jobs;
+  jobs_rise = subst (IsShaped Rising) (sym one) h.jobs_rise;
+  distinct = h.distinct;
+  stretches = still three h.stretches;
+  cards = still seven h.cards;
+  lines = still nine h.lines;
+}
+
+-- .. and do not depend on states and pages
+pub shared_with : {t : Tables} {db : Trees} (states : ByJob (Option StateRow)) (pages : ByJob Pages) → HoldsShared db t → HoldsShared db (record t { states = states; pages = pages })
+shared_with states pages h = record { jobs = h.jobs; jobs_rise = h.jobs_rise; distinct = h.distinct; stretches = h.stretches; cards = h.cards; lines = h.lines }
 
 -- the name of a job is tested by its customer and number
 pub name_is : (customer c : List ℕ) (number n : ℕ) → bytes_eq customer c && (number == n) ≡ true → (customer ≡ c) × (number ≡ n)
@@ -69,16 +91,16 @@ placed_behind row first customer number place x all at c n = go (bytes_eq custom
         rw (sym name.0, sym name.1, at) (sym (placed_more (row customer number) first (all customer number) x))
     go false other = append-nil (placed (row c n) first (all c n))
 
-pub picture_behind : (customer : List ℕ) (number : ℕ) (picture : PictureCells) (all : ByJob (Option PictureCells)) → all customer number ≡ None
-    → (c : List ℕ) (n : ℕ) → picture_rows c n (all c n) ++ (if bytes_eq customer c && (number == n) then picture_row customer number picture ∷ [] else []) ≡ picture_rows c n (at_job customer number (Some picture) all c n)
-picture_behind customer number picture all none c n = go (bytes_eq customer c && (number == n)) refl
+pub state_behind : (customer : List ℕ) (number : ℕ) (state : StateRow) (all : ByJob (Option StateRow)) → all customer number ≡ None
+    → (c : List ℕ) (n : ℕ) → state_rows c n (all c n) ++ (if bytes_eq customer c && (number == n) then state_row customer number state ∷ [] else []) ≡ state_rows c n (at_job customer number (Some state) all c n)
+state_behind customer number state all none c n = go (bytes_eq customer c && (number == n)) refl
   where
     go : (b : Bool) → bytes_eq customer c && (number == n) ≡ b
-        → picture_rows c n (all c n) ++ (if b then picture_row customer number picture ∷ [] else []) ≡ picture_rows c n (if b then Some picture else all c n)
+        → state_rows c n (all c n) ++ (if b then state_row customer number state ∷ [] else []) ≡ state_rows c n (if b then Some state else all c n)
     go true here =
         let name = name_is customer c number n here in
         rw (sym name.0, sym name.1, none)
-    go false other = append-nil (picture_rows c n (all c n))
+    go false other = append-nil (state_rows c n (all c n))
 
 -- a row of this job goes behind the rows of its table
 pub row_behind : (customer : List ℕ) (number : ℕ) (rest : Row) (rows : List Row) (before after : ByJob (List Row)) → IsOf rows before

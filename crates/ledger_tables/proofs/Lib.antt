@@ -23,3 +23,7 @@ pub mod UpdateStatements
 pub mod CreateTexts
 pub mod CreateNames
 pub mod OpeningAnswers
+pub mod PageTables
+pub mod PageLookups
+pub mod PageClears
+pub mod RaisingTables

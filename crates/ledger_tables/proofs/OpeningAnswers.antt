@@ -20,13 +20,11 @@ use Rattle.sqlite.proofs.Callers.{IsPlain}
 use Rattle.sqlite_resolve.specs.declared.compiled.Compiled.{Compiled}
 use Rattle.sqlite_resolve.specs.Lowering.{Checked, and_then}
 use Rattle.sqlite_schema.specs.declared.command.Returning.{Returning}
-use Rattle.ledger_tables.specs.Schema.{bureau_schema}
 use Rattle.ledger_tables.specs.declared.openings.OpenFault.{OpenFault}
 use Rattle.ledger_tables.specs.declared.openings.OpenFault.TheVariants.{NoMemory, Store, NotABureau, Old}
-use Rattle.ledger_tables.specs.Versions.{select_version, versions_in, opening_fault, HasVersions, ShowsVersions, IsVerdict, IsVerdictOrFault, IsShownAnswer, IsRefusedAs, IsAnswer}
+use Rattle.ledger_tables.specs.Versions.{select_version, versions_in, opening_fault, HasVersions, IsBureaus, ShowsVersions, IsVerdict, IsVerdictOrFault, IsShownAnswer, IsRefusedAs, IsAnswer}
 use Rattle.ledger_tables.proofs.CreateTexts.{Plan, given, with_plan}
-use Rattle.ledger_tables.proofs.OpeningVersion.{is_input, fails_without_input, refused_to_read, one_left, versions_permuted}
-use Rattle.ledger_tables.proofs.ReadTexts.{select_version_is}
+use Rattle.ledger_tables.proofs.OpeningVersion.{is_input, fails_without_input, plain_in, refused_to_read, one_left, versions_permuted}
 
 -- ---- the text is a query, under any schema
 
@@ -87,7 +85,7 @@ moved_verdict (Ok x) shown held same is = one_left _ held (subst (IsPermutation 
 moved_verdict (Err NoMemory) shown held same is = tt
 moved_verdict (Err Store) shown held same is = tt
 moved_verdict (Err NotABureau) shown held same is = λ n one. is n (one_left _ shown (subst (IsPermutation shown) one (IsPermutation-sym held shown same)))
-moved_verdict (Err Old) shown held same is = (is.0, one_left _ held (subst (IsPermutation held) is.1 same), is.2)
+moved_verdict (Err (Old told)) shown held same is = (one_left _ held (subst (IsPermutation held) is.0 same), is.1, is.2)
 
 pub judged_answer : {X : Type 0} (r : Result X OpenFault) (old new : State) (rows : List Row) → Shown select_version [] old new rows → IsVerdict (map (λ (r : Row). column r 0) rows) r → IsAnswer old.now r
 judged_answer r old new rows h is = (inl (_, shows_versions old new rows h, is), λ has. moved_verdict r _ _ (versions_permuted old new rows h has) is)
@@ -116,16 +114,16 @@ fails_input old new e (inl (inl h)) = not_run_input old new e h
 fails_input old new e (inl (inr h)) = inr (shows_no_input old new h.0 _ e (subst (FailsToShow old new select_version h.0 (timed [] h.0.formats h.1.now) e) (understood_query old.now.schema h.0 h.1.is).0 h.2))
 fails_input old new e (inr h) = inr (ap is_input h.4)
 
-bureau_asked : (db : Database) → db.schema ≡ bureau_schema → HasVersions db
-bureau_asked db has = subst (λ s. IsOk (understood s select_version)) (sym has) (plain_ok _ select_version_is.0.1)
+bureau_asked : (db : Database) → IsBureaus db.schema → HasVersions db
+bureau_asked db ours = plain_ok _ (plain_in db.schema ours)
 
 unasked_shown : (X : Type 0) (db : Database) (e : Error) → (HasVersions db → ⊥) ⊎ (is_input e ≡ false) → IsShownAnswer {X = X} db (Err (opening_fault e))
-unasked_shown X db (SqlInputError fault) (inl none) = inr (λ same. none, λ old. absurd (let no = old in cc))
+unasked_shown X db (SqlInputError fault) (inl none) = inr (λ same. none, λ version old. absurd (let no = old in cc))
 unasked_shown X db (SqlInputError fault) (inr h) = absurd (true≢false h)
-unasked_shown X db (SqliteFailure NoRoom) h = inr (λ same. absurd (let no = same in cc), λ old. absurd (let no = old in cc))
-unasked_shown X db _ h = inr (λ same. absurd (let no = same in cc), λ old. absurd (let no = old in cc))
+unasked_shown X db (SqliteFailure NoRoom) h = inr (λ same. absurd (let no = same in cc), λ version old. absurd (let no = old in cc))
+unasked_shown X db _ h = inr (λ same. absurd (let no = same in cc), λ version old. absurd (let no = old in cc))
 
-unasked_held : (X : Type 0) (db : Database) (e : Error) → (HasVersions db → ⊥) ⊎ (is_input e ≡ false) → db.schema ≡ bureau_schema → IsVerdictOrFault {X = X} (versions_in db) (Err (opening_fault e))
+unasked_held : (X : Type 0) (db : Database) (e : Error) → (HasVersions db → ⊥) ⊎ (is_input e ≡ false) → IsBureaus db.schema → IsVerdictOrFault {X = X} (versions_in db) (Err (opening_fault e))
 unasked_held X db (SqlInputError fault) (inl none) has = absurd (none (bureau_asked db has))
 unasked_held X db (SqlInputError fault) (inr h) has = absurd (true≢false h)
 unasked_held X db (SqliteFailure NoRoom) h has = tt

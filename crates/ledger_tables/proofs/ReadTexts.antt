@@ -2,24 +2,29 @@
 use Rattle.std.proofs.Common.{◌≡◌, ℕ, pos, List, [], ◌∷◌, codes, refl, false}
 use Rattle.sqlite.specs.declared.types.Value.TheVariants.{Int}
 use Rattle.sqlite.specs.Query.{Query}
+use Rattle.sqlite.specs.Schema.{Schema}
 use Rattle.sqlite.specs.Term.{Term, col, op2, lit}
 use Rattle.sqlite_sql.specs.declared.ops.BinaryOp.TheVariants.{Compare}
 use Rattle.sqlite_sql.specs.declared.ops.CompareOp.TheVariants.{Eq}
 use Rattle.sqlite.specs.Collation.TheVariants.{Binary}
-use Rattle.sqlite.specs.Command.TheVariants.{Update, Select}
+use Rattle.sqlite.specs.Command.TheVariants.{Update, Delete, Select}
 use Rattle.sqlite_tied.specs.Compute.{everything}
 use Rattle.sqlite.specs.Listing.{understood, reads_listing}
 use Rattle.sqlite_value.specs.Keys.{ascending}
 use Rattle.sqlite_value.specs.declared.keys.Key.{Key}
-use Rattle.ledger_tables.specs.Schema.{bureau_schema}
+use Rattle.ledger_tables.specs.Schema.{bureau_schema, first_schema, raising_schema}
 use Rattle.ledger_tables.specs.Versions.{select_version}
 use Rattle.ledger_tables.proofs.InsertStatement.{Means}
 use Rattle.ledger_tables.proofs.LookupStatement.{plain_query, ordered_query}
 use Rattle.ledger_tables.proofs.LookupOrder.{sorting_query}
 
--- the text means this query, which does not read the listing of tables
+-- the text means this query under a schema, and does not read the listing of tables
+abbrev pub SelectsIn : Schema → List ℕ → Query → List (List ℕ) → Type 0
+SelectsIn schema sql query names = Means schema sql (Select (record { lets = []; body = query }) names) × (reads_listing schema sql ≡ false)
+
+-- .. under that of a bureau
 abbrev pub Selects : List ℕ → Query → List (List ℕ) → Type 0
-Selects sql query names = Means bureau_schema sql (Select (record { lets = []; body = query }) names) × (reads_listing bureau_schema sql ≡ false)
+Selects = SelectsIn bureau_schema
 
 -- the row's customer is the first parameter
 abbrev pub is_customer : List Term
@@ -41,6 +46,10 @@ version_terms = col 1 2 ∷ []
 pub select_version_is : Selects select_version (plain_query 0 [] version_terms) (codes "version" ∷ [])
 unfolding understood everything
 select_version_is = ((refl, (refl, refl)), refl)
+
+pub select_version_first : SelectsIn first_schema select_version (plain_query 0 [] version_terms) (codes "version" ∷ [])
+unfolding understood everything
+select_version_first = ((refl, (refl, refl)), refl)
 
 -- ---- jobs
 
@@ -126,38 +135,62 @@ pub update_granted_is : Means bureau_schema update_granted (Update 2 (record { l
 unfolding understood everything
 update_granted_is = (refl, (refl, refl))
 
--- ---- pictures
+-- ---- states
 
-abbrev pub select_picture : List ℕ
-select_picture = codes "SELECT storage, i, a, b, compare, overflow, channel, waiting, form, line, taken, cards, lines, standing FROM pictures WHERE customer = ?1 AND number = ?2"
+abbrev pub select_state : List ℕ
+select_state = codes "SELECT i, a, b, compare, overflow, channel, waiting, form, line, taken, cards, lines, standing FROM states WHERE customer = ?1 AND number = ?2"
 
-abbrev pub picture_terms : List Term
-picture_terms = col 1 3 ∷ col 1 4 ∷ col 1 5 ∷ col 1 6 ∷ col 1 7 ∷ col 1 8 ∷ col 1 9 ∷ col 1 10 ∷ col 1 11 ∷ col 1 12 ∷ col 1 13 ∷ col 1 14 ∷ col 1 15 ∷ col 1 16 ∷ []
+abbrev pub state_terms : List Term
+state_terms = col 1 3 ∷ col 1 4 ∷ col 1 5 ∷ col 1 6 ∷ col 1 7 ∷ col 1 8 ∷ col 1 9 ∷ col 1 10 ∷ col 1 11 ∷ col 1 12 ∷ col 1 13 ∷ col 1 14 ∷ col 1 15 ∷ []
 
-pub select_picture_is : Selects select_picture (plain_query 5 is_key picture_terms)
-    (codes "storage" ∷ codes "i" ∷ codes "a" ∷ codes "b" ∷ codes "compare" ∷ codes "overflow" ∷ codes "channel" ∷ codes "waiting" ∷ codes "form" ∷ codes "line" ∷ codes "taken" ∷ codes "cards" ∷ codes "lines" ∷ codes "standing" ∷ [])
+pub select_state_is : Selects select_state (plain_query 11 is_key state_terms)
+    (codes "i" ∷ codes "a" ∷ codes "b" ∷ codes "compare" ∷ codes "overflow" ∷ codes "channel" ∷ codes "waiting" ∷ codes "form" ∷ codes "line" ∷ codes "taken" ∷ codes "cards" ∷ codes "lines" ∷ codes "standing" ∷ [])
 unfolding understood everything
-select_picture_is = ((refl, (refl, refl)), refl)
+select_state_is = ((refl, (refl, refl)), refl)
 
 abbrev pub select_progress : List ℕ
-select_progress = codes "SELECT i, cards, lines, standing FROM pictures WHERE customer = ?1 AND number = ?2"
+select_progress = codes "SELECT i, cards, lines, standing FROM states WHERE customer = ?1 AND number = ?2"
 
 abbrev pub progress_terms : List Term
-progress_terms = col 1 4 ∷ col 1 14 ∷ col 1 15 ∷ col 1 16 ∷ []
+progress_terms = col 1 3 ∷ col 1 13 ∷ col 1 14 ∷ col 1 15 ∷ []
 
-pub select_progress_is : Selects select_progress (plain_query 5 is_key progress_terms) (codes "i" ∷ codes "cards" ∷ codes "lines" ∷ codes "standing" ∷ [])
+pub select_progress_is : Selects select_progress (plain_query 11 is_key progress_terms) (codes "i" ∷ codes "cards" ∷ codes "lines" ∷ codes "standing" ∷ [])
 unfolding understood everything
 select_progress_is = ((refl, (refl, refl)), refl)
 
-abbrev pub update_picture : List ℕ
-update_picture = codes "UPDATE pictures SET storage = ?3, i = ?4, a = ?5, b = ?6, compare = ?7, overflow = ?8, channel = ?9, waiting = ?10, form = ?11, line = ?12, taken = ?13, cards = ?14, lines = ?15, standing = ?16 WHERE customer = ?1 AND number = ?2"
+abbrev pub update_state : List ℕ
+update_state = codes "UPDATE states SET i = ?3, a = ?4, b = ?5, compare = ?6, overflow = ?7, channel = ?8, waiting = ?9, form = ?10, line = ?11, taken = ?12, cards = ?13, lines = ?14, standing = ?15 WHERE customer = ?1 AND number = ?2"
 
-abbrev pub new_picture_terms : List Term
-new_picture_terms = col 1 0 ∷ col 1 0 ∷ col 1 1 ∷ col 1 2 ∷ col 0 2 ∷ col 0 3 ∷ col 0 4 ∷ col 0 5 ∷ col 0 6 ∷ col 0 7 ∷ col 0 8 ∷ col 0 9 ∷ col 0 10 ∷ col 0 11 ∷ col 0 12 ∷ col 0 13 ∷ col 0 14 ∷ col 0 15 ∷ []
+abbrev pub new_state_terms : List Term
+new_state_terms = col 1 0 ∷ col 1 0 ∷ col 1 1 ∷ col 1 2 ∷ col 0 2 ∷ col 0 3 ∷ col 0 4 ∷ col 0 5 ∷ col 0 6 ∷ col 0 7 ∷ col 0 8 ∷ col 0 9 ∷ col 0 10 ∷ col 0 11 ∷ col 0 12 ∷ col 0 13 ∷ col 0 14 ∷ []
 
-pub update_picture_is : Means bureau_schema update_picture (Update 3 (record { lets = []; body = plain_query 5 is_key new_picture_terms }))
+pub update_state_is : Means bureau_schema update_state (Update 5 (record { lets = []; body = plain_query 11 is_key new_state_terms }))
 unfolding understood everything
-update_picture_is = (refl, (refl, refl))
+update_state_is = (refl, (refl, refl))
+
+-- ---- pages
+
+abbrev pub select_pages : List ℕ
+select_pages = codes "SELECT page, storage FROM pages WHERE customer = ?1 AND number = ?2"
+
+abbrev pub page_terms : List Term
+page_terms = col 1 3 ∷ col 1 4 ∷ []
+
+pub select_pages_is : Selects select_pages (plain_query 13 is_key page_terms) (codes "page" ∷ codes "storage" ∷ [])
+unfolding understood everything
+select_pages_is = ((refl, (refl, refl)), refl)
+
+abbrev pub delete_pages : List ℕ
+delete_pages = codes "DELETE FROM pages WHERE customer = ?1 AND number = ?2 AND page = ?3"
+
+pub delete_pages_is : Means bureau_schema delete_pages (Delete 6 (record { lets = []; body = plain_query 13 is_place (col 1 0 ∷ []) }))
+unfolding understood everything
+delete_pages_is = (refl, (refl, refl))
+
+-- the same while `pictures` is there
+pub delete_pages_beside : Means raising_schema delete_pages (Delete 7 (record { lets = []; body = plain_query 13 is_place (col 1 0 ∷ []) }))
+unfolding understood everything
+delete_pages_beside = (refl, (refl, refl))
 
 -- ---- cards
 

@@ -6,7 +6,7 @@ use Rattle.sqlite.specs.Source.TheVariants.{Values}
 use Rattle.sqlite.specs.Command.TheVariants.{Insert}
 use Rattle.sqlite_tied.specs.Compute.{everything}
 use Rattle.sqlite.specs.Listing.{understood}
-use Rattle.ledger_tables.specs.Schema.{bureau, jobs, stretches, pictures, cards, lines, no_schema, up_to_bureau, up_to_jobs, up_to_stretches, up_to_pictures, up_to_cards, bureau_schema}
+use Rattle.ledger_tables.specs.Schema.{bureau, jobs, stretches, pictures, cards, lines, states, pages, no_schema, up_to_bureau, up_to_jobs, up_to_stretches, up_to_pictures, up_to_cards, first_schema, up_to_states, raising_schema, bureau_schema}
 use Rattle.ledger_tables.proofs.CreateStatement.{Creates}
 use Rattle.ledger_tables.proofs.InsertStatement.{Means}
 
@@ -52,6 +52,20 @@ pub create_lines_is : Creates up_to_cards create_lines lines
 unfolding understood everything
 create_lines_is = ((refl, (refl, refl)), refl, refl)
 
+abbrev pub create_states : List ℕ
+create_states = codes "CREATE TABLE states (customer TEXT NOT NULL, number INTEGER NOT NULL, i INTEGER NOT NULL, a INTEGER NOT NULL, b INTEGER NOT NULL, compare INTEGER NOT NULL, overflow INTEGER NOT NULL, channel INTEGER NOT NULL, waiting INTEGER NOT NULL, form INTEGER NOT NULL, line INTEGER NOT NULL, taken INTEGER NOT NULL, cards INTEGER NOT NULL, lines INTEGER NOT NULL, standing INTEGER NOT NULL, PRIMARY KEY (customer, number), FOREIGN KEY (customer, number) REFERENCES jobs (customer, number)) STRICT"
+
+pub create_states_is : Creates first_schema create_states states
+unfolding understood everything
+create_states_is = ((refl, (refl, refl)), refl, refl)
+
+abbrev pub create_pages : List ℕ
+create_pages = codes "CREATE TABLE pages (customer TEXT NOT NULL, number INTEGER NOT NULL, page INTEGER NOT NULL, storage BLOB NOT NULL, PRIMARY KEY (customer, number, page), FOREIGN KEY (customer, number) REFERENCES jobs (customer, number)) STRICT"
+
+pub create_pages_is : Creates up_to_states create_pages pages
+unfolding understood everything
+create_pages_is = ((refl, (refl, refl)), refl, refl)
+
 abbrev pub insert_bureau : List ℕ
 insert_bureau = codes "INSERT INTO bureau (id, version) VALUES (?1, ?2)"
 
@@ -73,23 +87,35 @@ pub insert_stretches_is : Means bureau_schema insert_stretches (Insert 2 (Values
 unfolding understood everything
 insert_stretches_is = (refl, (refl, refl))
 
-abbrev pub insert_pictures : List ℕ
-insert_pictures = codes "INSERT INTO pictures (customer, number, storage, i, a, b, compare, overflow, channel, waiting, form, line, taken, cards, lines, standing) VALUES (?1, ?2, ?3, ?4, ?5, ?6, ?7, ?8, ?9, ?10, ?11, ?12, ?13, ?14, ?15, ?16)"
+abbrev pub insert_states : List ℕ
+insert_states = codes "INSERT INTO states (customer, number, i, a, b, compare, overflow, channel, waiting, form, line, taken, cards, lines, standing) VALUES (?1, ?2, ?3, ?4, ?5, ?6, ?7, ?8, ?9, ?10, ?11, ?12, ?13, ?14, ?15)"
 
-pub insert_pictures_is : Means bureau_schema insert_pictures (Insert 3 (Values (lit Null ∷ col 0 0 ∷ col 0 1 ∷ col 0 2 ∷ col 0 3 ∷ col 0 4 ∷ col 0 5 ∷ col 0 6 ∷ col 0 7 ∷ col 0 8 ∷ col 0 9 ∷ col 0 10 ∷ col 0 11 ∷ col 0 12 ∷ col 0 13 ∷ col 0 14 ∷ col 0 15 ∷ []) 17))
+pub insert_states_is : Means bureau_schema insert_states (Insert 5 (Values (lit Null ∷ col 0 0 ∷ col 0 1 ∷ col 0 2 ∷ col 0 3 ∷ col 0 4 ∷ col 0 5 ∷ col 0 6 ∷ col 0 7 ∷ col 0 8 ∷ col 0 9 ∷ col 0 10 ∷ col 0 11 ∷ col 0 12 ∷ col 0 13 ∷ col 0 14 ∷ []) 16))
 unfolding understood everything
-insert_pictures_is = (refl, (refl, refl))
+insert_states_is = (refl, (refl, refl))
+
+abbrev pub insert_pages : List ℕ
+insert_pages = codes "INSERT INTO pages (customer, number, page, storage) VALUES (?1, ?2, ?3, ?4)"
+
+pub insert_pages_is : Means bureau_schema insert_pages (Insert 6 (Values (lit Null ∷ col 0 0 ∷ col 0 1 ∷ col 0 2 ∷ col 0 3 ∷ []) 5))
+unfolding understood everything
+insert_pages_is = (refl, (refl, refl))
+
+-- the same while `pictures` is there
+pub insert_pages_beside : Means raising_schema insert_pages (Insert 7 (Values (lit Null ∷ col 0 0 ∷ col 0 1 ∷ col 0 2 ∷ col 0 3 ∷ []) 5))
+unfolding understood everything
+insert_pages_beside = (refl, (refl, refl))
 
 abbrev pub insert_cards : List ℕ
 insert_cards = codes "INSERT INTO cards (customer, number, place, card) VALUES (?1, ?2, ?3, ?4)"
 
-pub insert_cards_is : Means bureau_schema insert_cards (Insert 4 (Values (lit Null ∷ col 0 0 ∷ col 0 1 ∷ col 0 2 ∷ col 0 3 ∷ []) 5))
+pub insert_cards_is : Means bureau_schema insert_cards (Insert 3 (Values (lit Null ∷ col 0 0 ∷ col 0 1 ∷ col 0 2 ∷ col 0 3 ∷ []) 5))
 unfolding understood everything
 insert_cards_is = (refl, (refl, refl))
 
 abbrev pub insert_lines : List ℕ
 insert_lines = codes "INSERT INTO lines (customer, number, place, form, line, image) VALUES (?1, ?2, ?3, ?4, ?5, ?6)"
 
-pub insert_lines_is : Means bureau_schema insert_lines (Insert 5 (Values (lit Null ∷ col 0 0 ∷ col 0 1 ∷ col 0 2 ∷ col 0 3 ∷ col 0 4 ∷ col 0 5 ∷ []) 7))
+pub insert_lines_is : Means bureau_schema insert_lines (Insert 4 (Values (lit Null ∷ col 0 0 ∷ col 0 1 ∷ col 0 2 ∷ col 0 3 ∷ col 0 4 ∷ col 0 5 ∷ []) 7))
 unfolding understood everything
 insert_lines_is = (refl, (refl, refl))

@@ -16,8 +16,9 @@ use Rattle.sqlite_rules.specs.Calls.{ids_of}
 use Rattle.sqlite_trees.specs.declared.store.Shape.TheVariants.{Table as Rising}
 use Rattle.sqlite_trees.proofs.TreeLemmas.{IsShaped-put_row, IsShaped-filter}
 use Rattle.ledger_tables.specs.Schema.{bureau_schema, jobs}
-use Rattle.ledger_tables.specs.Tables.{NamedJob, AreDistinct, Tables, Holds, flagged, with_flags, IsOf, NamesJob, cells, placed, is_job, job_named, job_row, stretch_row, picture_rows, card_row, line_row}
+use Rattle.ledger_tables.specs.Tables.{NamedJob, AreDistinct, Tables, Holds, flagged, with_flags, NamesJob, cells, is_job, job_named, job_row}
 use Rattle.ledger_tables.proofs.InsertStatement.{cast_int}
+use Rattle.ledger_tables.proofs.InsertLast.{still, still_pages}
 use Rattle.ledger_tables.proofs.LookupStatement.{passes, show, plain_query, plain_answer}
 use Rattle.ledger_tables.proofs.LookupKeys.{key_passes, kept_cells, each_test, jobs_named, rows_of_jobs, found_once, at_most_one}
 use Rattle.ledger_tables.proofs.UpdateRows.{renewed, in_place}
@@ -26,7 +27,7 @@ use Rattle.ledger_tables.proofs.UpdateStatements.{updates, idle_here, on_cells, 
 
 -- ---- the job that passes is the only one
 
-no_other : {X : Type 0} (p : X → Bool) (it : X) (xs : List X) → filter p xs ≡ [] → AllByRecursion (λ x. p x ≡ true → x ≡ it) xs
+pub no_other : {X : Type 0} (p : X → Bool) (it : X) (xs : List X) → filter p xs ≡ [] → AllByRecursion (λ x. p x ≡ true → x ≡ it) xs
 no_other p it [] none = tt
 no_other p it (x ∷ xs) none = go (p x) refl (no_other p it xs)
   where
@@ -34,7 +35,7 @@ no_other p it (x ∷ xs) none = go (p x) refl (no_other p it xs)
     go true this rest = absurd (let e = rw this at none in cc)
     go false this rest = (λ h. absurd (true≢false (sym h ∙ this)), rest (rw this at none))
 
-the_only : {X : Type 0} (p : X → Bool) (it : X) (xs : List X) → filter p xs ≡ it ∷ [] → AllByRecursion (λ x. p x ≡ true → x ≡ it) xs
+pub the_only : {X : Type 0} (p : X → Bool) (it : X) (xs : List X) → filter p xs ≡ it ∷ [] → AllByRecursion (λ x. p x ≡ true → x ≡ it) xs
 the_only p it [] one = tt
 the_only p it (x ∷ xs) one = go (p x) refl (the_only p it xs)
   where
@@ -102,13 +103,17 @@ module _ (customer : List ℕ) (number held collected : ℕ) where
     schema = schema;
     sound = sound;
     version = others.0 (λ e. cc) ∙ holds.version;
-    jobs = are;
-    jobs_rise = rise;
-    distinct = still_distinct t.jobs holds.distinct;
-    stretches = subst (λ rows. IsOf rows (λ c n. placed (stretch_row c n) 0 (t.stretches c n))) (sym (others.1.1.0 (λ e. cc))) holds.stretches;
-    pictures = subst (λ rows. IsOf rows (λ c n. picture_rows c n (t.pictures c n))) (sym (others.1.1.1.0 (λ e. cc))) holds.pictures;
-    cards = subst (λ rows. IsOf rows (λ c n. placed (card_row c n) 1 (t.cards c n))) (sym (others.1.1.1.1.0 (λ e. cc))) holds.cards;
-    lines = subst (λ rows. IsOf rows (λ c n. placed (line_row c n) 1 (t.lines c n))) (sym (others.1.1.1.1.1.0 (λ e. cc))) holds.lines;
+    shared = record {
+      jobs = are;
+      jobs_rise = rise;
+      distinct = still_distinct t.jobs holds.shared.distinct;
+      stretches = still (others.1.1.0 (λ e. cc)) holds.shared.stretches;
+      cards = still (others.1.1.1.0 (λ e. cc)) holds.shared.cards;
+      lines = still (others.1.1.1.1.0 (λ e. cc)) holds.shared.lines;
+    };
+    states = still (others.1.1.1.1.1.0 (λ e. cc)) holds.states;
+    pages = still_pages (others.1.1.1.1.1.1.0 (λ e. cc)) holds.pages;
+    beside = tt;
   }
 
   module _ (old new : State) (count : ℕ) (h : Executes update_flags flag_params old new (Ok count)) (t : Tables) (holds : Holds old.now t) where
@@ -118,27 +123,27 @@ module _ (customer : List ℕ) (number held collected : ℕ) where
     did = updates bureau_schema update_flags 1 (record jobs { tree = 1 }) is_key flag_terms update_flags_is refl (idle_here 1) old new flag_params count holds.schema h
 
     named : AllByRecursion NamesJob (cells (old.now.trees 1))
-    named = subst (AllByRecursion NamesJob) (sym holds.jobs) (jobs_named t.jobs)
+    named = subst (AllByRecursion NamesJob) (sym holds.shared.jobs) (jobs_named t.jobs)
 
     rows_here : filter of_key (cells (old.now.trees 1)) ≡ map job_row (filter (is_job customer number) t.jobs)
-    rows_here = ap (filter of_key) holds.jobs ∙ rows_of_jobs of_key (is_job customer number) job_passes t.jobs
+    rows_here = ap (filter of_key) holds.shared.jobs ∙ rows_of_jobs of_key (is_job customer number) job_passes t.jobs
 
     no_job_set : job_named customer number t.jobs ≡ None → Holds new.now (with_flags customer number held collected t)
     no_job_set was =
         let db = old.now.trees in
-        let none : filter (is_job customer number) t.jobs ≡ [] = found_once customer number t.jobs holds.distinct ∙ ap option_to_list was in
+        let none : filter (is_job customer number) t.jobs ≡ [] = found_once customer number t.jobs holds.shared.distinct ∙ ap option_to_list was in
         let kept : cells (filter (passes is_key flag_params) (db 1)) ≡ [] =
         kept_cells (passes is_key flag_params) of_key (db 1) (each_test NamesJob (passes is_key flag_params) of_key (λ r h. blind_key flag_params r) (db 1) named) ∙ rows_here ∙ ap (map job_row) none in
         let some = plain_answer 1 is_key flag_terms flag_params db did.0 refl did.1.answer in
         let nothing : did.0 ≡ [] = at_most_one job_row None did.0 (subst (λ rs. IsPermutation (map (show flag_terms flag_params) rs) did.0) (no_rows (filter (passes is_key flag_params) (db 1)) kept) some) in
         let same : new.now.trees 1 ≡ db 1 = did.3 ∙ ap (λ rs. edited db (edit_of db (record jobs { tree = 1 }) (ids_of rs) Given 1 rs)) nothing in
-        others_stay old new t holds did.2 did.4 did.5 (ap cells same ∙ holds.jobs ∙ ap (map job_row) (sym (unturned t.jobs none))) (subst (IsShaped Rising) (sym same) holds.jobs_rise)
+        others_stay old new t holds did.2 did.4 did.5 (ap cells same ∙ holds.shared.jobs ∙ ap (map job_row) (sym (unturned t.jobs none))) (subst (IsShaped Rising) (sym same) holds.shared.jobs_rise)
 
     job_set : (job : NamedJob) → job_named customer number t.jobs ≡ Some job → Holds new.now (with_flags customer number held collected t)
     job_set job was =
         let db = old.now.trees in
-        let once : filter (is_job customer number) t.jobs ≡ job ∷ [] = found_once customer number t.jobs holds.distinct ∙ ap option_to_list was in
-        let at = spot is_key flag_params (blind_key flag_params) (db 1) (job_row job) named holds.jobs_rise (rows_here ∙ ap (map job_row) once) in
+        let once : filter (is_job customer number) t.jobs ≡ job ∷ [] = found_once customer number t.jobs holds.shared.distinct ∙ ap option_to_list was in
+        let at = spot is_key flag_params (blind_key flag_params) (db 1) (job_row job) named holds.shared.jobs_rise (rows_here ∙ ap (map job_row) once) in
         let fresh = job_row (flagged held collected job) in
         let shown : Row = Int at.0 ∷ Int at.0 ∷ fresh in
         let some = plain_answer 1 is_key flag_terms flag_params db did.0 refl did.1.answer in
@@ -147,10 +152,10 @@ module _ (customer : List ℕ) (number held collected : ℕ) where
         let edit : edited db (edit_of db (record jobs { tree = 1 }) (ids_of (shown ∷ [])) Given 1 (shown ∷ [])) ≡ put_row new_row (without_rowid at.0 (db 1)) =
         rw (cast_int at.0, cast_int (pos job.number), cast_int (pos job.cells.kind), cast_int (pos job.cells.size), cast_int (pos held), cast_int (pos collected)) in
         let whole : new.now.trees 1 ≡ put_row new_row (without_rowid at.0 (db 1)) = did.3 ∙ ap (λ rs. edited db (edit_of db (record jobs { tree = 1 }) (ids_of rs) Given 1 rs)) one ∙ edit in
-        let are = ap cells whole ∙ in_place (passes is_key flag_params) of_key (blind_key flag_params) fresh at.0 (job_row job) (db 1) holds.jobs_rise at.1 in
+        let are = ap cells whole ∙ in_place (passes is_key flag_params) of_key (blind_key flag_params) fresh at.0 (job_row job) (db 1) holds.shared.jobs_rise at.1 in
         others_stay old new t holds did.2 did.4 did.5
-        (are ∙ ap (renewed of_key fresh) holds.jobs ∙ renewed_jobs of_key job_passes job t.jobs (the_only (is_job customer number) job t.jobs once))
-        (subst (IsShaped Rising) (sym whole) (IsShaped-put_row new_row (without_rowid at.0 (db 1)) refl (IsShaped-filter Rising _ (db 1) holds.jobs_rise)))
+        (are ∙ ap (renewed of_key fresh) holds.shared.jobs ∙ renewed_jobs of_key job_passes job t.jobs (the_only (is_job customer number) job t.jobs once))
+        (subst (IsShaped Rising) (sym whole) (IsShaped-put_row new_row (without_rowid at.0 (db 1)) refl (IsShaped-filter Rising _ (db 1) holds.shared.jobs_rise)))
 
     pub flags_set : Holds new.now (with_flags customer number held collected t)
     flags_set = go (job_named customer number t.jobs) refl

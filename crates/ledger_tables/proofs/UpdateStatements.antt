@@ -25,14 +25,15 @@ use Rattle.sqlite_rules.specs.Action.{deed_for, works}
 use Rattle.sqlite_rules.specs.Calls.{ids_of}
 use Rattle.sqlite_trees.specs.declared.store.Shape.TheVariants.{Table as Rising}
 use Rattle.sqlite_trees.proofs.TreeLemmas.{IsShaped-put_row, IsShaped-filter}
-use Rattle.ledger_tables.specs.Cells.{PictureCells}
 use Rattle.ledger_tables.specs.Named.{granted_last}
-use Rattle.ledger_tables.specs.Schema.{bureau_schema, to_job, stretches, pictures}
-use Rattle.ledger_tables.specs.Tables.{Tables, Holds, IsOf, NamesJob, cells, placed, is_row_of, stretch_row, picture_row, picture_rows, card_row, line_row, with_stretches, with_picture}
+use Rattle.ledger_tables.specs.Schema.{bureau_schema, raising_schema, to_job, stretches, states}
+use Rattle.ledger_tables.specs.Tables.{Tables, Holds, NamesJob, cells, placed, is_row_of, stretch_row, state_row, state_rows, with_stretches, with_state}
+use Rattle.ledger_tables.specs.declared.rows.StateRow.{StateRow}
 use Rattle.ledger_tables.specs.declared.rows.StretchRow.{StretchRow}
+use Rattle.ledger_tables.proofs.InsertLast.{still, still_pages, still_shared, shared_with}
 use Rattle.ledger_tables.proofs.InsertStatement.{Means, apart, went, same_value, cast_int}
 use Rattle.ledger_tables.proofs.LookupStatement.{passes, show, plain_query, plain_answer}
-use Rattle.ledger_tables.proofs.ReadTexts.{is_key, is_place, update_granted, update_granted_is, granted_terms, update_picture, update_picture_is, new_picture_terms}
+use Rattle.ledger_tables.proofs.ReadTexts.{is_key, is_place, update_granted, update_granted_is, granted_terms, update_state, update_state_is, new_state_terms}
 use Rattle.ledger_tables.proofs.LookupKeys.{key_passes, key_test, place_passes, place_needs, kept_cells, each_test}
 use Rattle.ledger_tables.proofs.UpdateRows.{renewed, in_place, only_row, within, all_within, renews, key_yes, by_job, none_placed, last_found, last_renewed}
 
@@ -43,6 +44,9 @@ no_deed false = refl
 
 pub idle_here : (tree : ℕ) (olds news : List Row) → works bureau_schema Enforced 0 tree olds news ≡ []
 idle_here tree olds news = rw (no_deed (length news == 0))
+
+pub idle_beside : (tree : ℕ) (olds news : List Row) → works raising_schema Enforced 0 tree olds news ≡ []
+idle_beside tree olds news = rw (no_deed (length news == 0))
 
 module _ (schema : Schema) (sql : List ℕ) (at : ℕ) (table : Table) (tests terms : List Term) (is : Means schema sql (Update at (record { lets = []; body = plain_query table.tree tests terms })))
     (place : slice_get schema.tables at ≡ Some table) (idle : (olds news : List Row) → works schema Enforced 0 table.tree olds news ≡ []) where
@@ -89,7 +93,7 @@ spot tests params blind rows old named shaped found =
 own_key : (customer : List ℕ) (number : ℕ) → (bytes_eq customer customer && (number == number)) ≡ true
 own_key customer number = key_yes customer number customer number refl refl
 
--- ---- the picture of a job
+-- ---- the state of a job
 
 some_one : {X : Type 0} (o : Option X) → IsSome o → (x : X) × (o ≡ Some x)
 some_one None some = absurd (let e = some in cc)
@@ -99,61 +103,58 @@ pub blind_key : (params r : Row) → passes is_key params r ≡ on_cells is_key 
 blind_key params [] = refl
 blind_key params (x ∷ r) = refl
 
-module _ (customer : List ℕ) (number : ℕ) (p : PictureCells) where
-  abbrev picture_params : Row
-  picture_params = picture_row customer number p
+module _ (customer : List ℕ) (number : ℕ) (p : StateRow) where
+  abbrev state_params : Row
+  state_params = state_row customer number p
 
   abbrev of_key : Row → Bool
-  of_key = on_cells is_key picture_params
+  of_key = on_cells is_key state_params
 
   keyed : (row : Row) → NamesJob row → of_key row ≡ true → is_row_of customer number row ≡ true
-  keyed row named h = sym (key_test customer number (drop 2 picture_params) (Null ∷ row) named) ∙ h
+  keyed row named h = sym (key_test customer number (drop 2 state_params) (Null ∷ row) named) ∙ h
 
-  picture_passes : (c : List ℕ) (n : ℕ) (q : PictureCells) → of_key (picture_row c n q) ≡ (bytes_eq c customer && (n == number))
-  picture_passes c n q = key_passes Null c n (drop 2 (picture_row c n q)) customer number (drop 2 picture_params)
+  state_passes : (c : List ℕ) (n : ℕ) (q : StateRow) → of_key (state_row c n q) ≡ (bytes_eq c customer && (n == number))
+  state_passes c n q = key_passes Null c n (drop 2 (state_row c n q)) customer number (drop 2 state_params)
 
-  other_picture : (c : List ℕ) (n : ℕ) → (bytes_eq c customer && (n == number)) ≡ false → (o : Option PictureCells) → renewed of_key picture_params (picture_rows c n o) ≡ picture_rows c n o
-  other_picture c n other None = refl
-  other_picture c n other (Some q) = let none = picture_passes c n q ∙ other in rw none
+  other_state : (c : List ℕ) (n : ℕ) → (bytes_eq c customer && (n == number)) ≡ false → (o : Option StateRow) → renewed of_key state_params (state_rows c n o) ≡ state_rows c n o
+  other_state c n other None = refl
+  other_state c n other (Some q) = let none = state_passes c n q ∙ other in rw none
 
-  picture_set : (old new : State) (count : ℕ) → Executes update_picture picture_params old new (Ok count) → (t : Tables) → Holds old.now t → (before : PictureCells) → t.pictures customer number ≡ Some before
-      → Holds new.now (with_picture customer number p t)
-  picture_set old new count h t holds before was =
-      let did = updates bureau_schema update_picture 3 (record pictures { tree = 5 }) is_key new_picture_terms update_picture_is refl (idle_here 5) old new picture_params count holds.schema h in
+  state_set : (old new : State) (count : ℕ) → Executes update_state state_params old new (Ok count) → (t : Tables) → Holds old.now t → (before : StateRow) → t.states customer number ≡ Some before
+      → Holds new.now (with_state customer number p t)
+  state_set old new count h t holds before was =
+      let did = updates bureau_schema update_state 5 (record states { tree = 11 }) is_key new_state_terms update_state_is refl (idle_here 11) old new state_params count holds.schema h in
       let db = old.now.trees in
-      let own : of_key (picture_row customer number before) ≡ true = picture_passes customer number before ∙ own_key customer number in
-      let found : filter of_key (cells (db 5)) ≡ picture_row customer number before ∷ [] =
-      within of_key (is_row_of customer number) (cells (db 5)) (all_within customer number (drop 2 picture_params) of_key keyed (cells (db 5)) holds.pictures.named)
-      ∙ ap (filter of_key) (holds.pictures.each customer number ∙ ap (picture_rows customer number) was) ∙ rw own in
-      let at = spot is_key picture_params (blind_key picture_params) (db 5) (picture_row customer number before) holds.pictures.named holds.pictures.rise found in
-      let shown : Row = Int at.0 ∷ Int at.0 ∷ picture_params in
-      let some = plain_answer 5 is_key new_picture_terms picture_params db did.0 refl did.1.answer in
-      let one : did.0 ≡ shown ∷ [] = one_permutation shown did.0 (subst (λ rs. IsPermutation (map (show new_picture_terms picture_params) rs) did.0) at.1 some) in
-      let new_row : Row = Int at.0 ∷ picture_params in
-      let edit : edited db (edit_of db (record pictures { tree = 5 }) (ids_of (shown ∷ [])) Given 1 (shown ∷ [])) ≡ put_row new_row (without_rowid at.0 (db 5)) =
+      let own : of_key (state_row customer number before) ≡ true = state_passes customer number before ∙ own_key customer number in
+      let found : filter of_key (cells (db 11)) ≡ state_row customer number before ∷ [] =
+      within of_key (is_row_of customer number) (cells (db 11)) (all_within customer number (drop 2 state_params) of_key keyed (cells (db 11)) holds.states.named)
+      ∙ ap (filter of_key) (holds.states.each customer number ∙ ap (state_rows customer number) was) ∙ rw own in
+      let at = spot is_key state_params (blind_key state_params) (db 11) (state_row customer number before) holds.states.named holds.states.rise found in
+      let shown : Row = Int at.0 ∷ Int at.0 ∷ state_params in
+      let some = plain_answer 11 is_key new_state_terms state_params db did.0 refl did.1.answer in
+      let one : did.0 ≡ shown ∷ [] = one_permutation shown did.0 (subst (λ rs. IsPermutation (map (show new_state_terms state_params) rs) did.0) at.1 some) in
+      let new_row : Row = Int at.0 ∷ state_params in
+      let edit : edited db (edit_of db (record states { tree = 11 }) (ids_of (shown ∷ [])) Given 1 (shown ∷ [])) ≡ put_row new_row (without_rowid at.0 (db 11)) =
       simp cast_int in
-      let whole : new.now.trees 5 ≡ put_row new_row (without_rowid at.0 (db 5)) = did.3 ∙ ap (λ rs. edited db (edit_of db (record pictures { tree = 5 }) (ids_of rs) Given 1 rs)) one ∙ edit in
-      let are = ap cells whole ∙ in_place (passes is_key picture_params) of_key (blind_key picture_params) picture_params at.0 (picture_row customer number before) (db 5) holds.pictures.rise at.1 in
-      let shaped = subst (IsShaped Rising) (sym whole) (IsShaped-put_row new_row (without_rowid at.0 (db 5)) refl (IsShaped-filter Rising _ (db 5) holds.pictures.rise)) in
-      let here : renewed of_key picture_params (picture_rows customer number (t.pictures customer number)) ≡ picture_params ∷ [] = ap (λ o. renewed of_key picture_params (picture_rows customer number o)) was ∙ rw own in
-      let turned = by_job customer number (Some p) t.pictures (λ c n o. renewed of_key picture_params (picture_rows c n (t.pictures c n)) ≡ picture_rows c n o) here (λ c n other. other_picture c n other (t.pictures c n)) in
+      let whole : new.now.trees 11 ≡ put_row new_row (without_rowid at.0 (db 11)) = did.3 ∙ ap (λ rs. edited db (edit_of db (record states { tree = 11 }) (ids_of rs) Given 1 rs)) one ∙ edit in
+      let are = ap cells whole ∙ in_place (passes is_key state_params) of_key (blind_key state_params) state_params at.0 (state_row customer number before) (db 11) holds.states.rise at.1 in
+      let shaped = subst (IsShaped Rising) (sym whole) (IsShaped-put_row new_row (without_rowid at.0 (db 11)) refl (IsShaped-filter Rising _ (db 11) holds.states.rise)) in
+      let here : renewed of_key state_params (state_rows customer number (t.states customer number)) ≡ state_params ∷ [] = ap (λ o. renewed of_key state_params (state_rows customer number o)) was ∙ rw own in
+      let turned = by_job customer number (Some p) t.states (λ c n o. renewed of_key state_params (state_rows c n (t.states c n)) ≡ state_rows c n o) here (λ c n other. other_state c n other (t.states c n)) in
       let others = did.4 in
       record {
         schema = did.2;
         sound = did.5;
         version = others.0 (apart refl) ∙ holds.version;
-        jobs = ap cells (others.1.0 (apart refl)) ∙ holds.jobs;
-        jobs_rise = subst (IsShaped Rising) (sym (others.1.0 (apart refl))) holds.jobs_rise;
-        distinct = holds.distinct;
-        stretches = subst (λ rows. IsOf rows (λ c n. placed (stretch_row c n) 0 (t.stretches c n))) (sym (others.1.1.0 (apart refl))) holds.stretches;
-        pictures = renews customer number (drop 2 picture_params) of_key keyed (db 5) (new.now.trees 5) (λ c n. picture_rows c n (t.pictures c n)) (λ c n. picture_rows c n ((with_picture customer number p t).pictures c n)) holds.pictures are shaped turned;
-        cards = subst (λ rows. IsOf rows (λ c n. placed (card_row c n) 1 (t.cards c n))) (sym (others.1.1.1.1.0 (apart refl))) holds.cards;
-        lines = subst (λ rows. IsOf rows (λ c n. placed (line_row c n) 1 (t.lines c n))) (sym (others.1.1.1.1.1.0 (apart refl))) holds.lines;
+        shared = shared_with _ _ (still_shared holds.shared (others.1.0 (apart refl)) (others.1.1.0 (apart refl)) (others.1.1.1.0 (apart refl)) (others.1.1.1.1.0 (apart refl)));
+        states = renews customer number (drop 2 state_params) of_key keyed (db 11) (new.now.trees 11) (λ c n. state_rows c n (t.states c n)) (λ c n. state_rows c n ((with_state customer number p t).states c n)) holds.states are shaped turned;
+        pages = still_pages (others.1.1.1.1.1.1.0 (apart refl)) holds.pages;
+        beside = tt;
       }
 
-  pub picture_in_place : (old new : State) (count : ℕ) → Executes update_picture picture_params old new (Ok count) → (t : Tables) → Holds old.now t → IsSome (t.pictures customer number)
-      → Holds new.now (with_picture customer number p t)
-  picture_in_place old new count h t holds some = let it = some_one (t.pictures customer number) some in picture_set old new count h t holds it.0 it.1
+  pub state_in_place : (old new : State) (count : ℕ) → Executes update_state state_params old new (Ok count) → (t : Tables) → Holds old.now t → IsSome (t.states customer number)
+      → Holds new.now (with_state customer number p t)
+  state_in_place old new count h t holds some = let it = some_one (t.states customer number) some in state_set old new count h t holds it.0 it.1
 
 -- ---- what is granted in a stretch
 
@@ -167,7 +168,7 @@ last_of granted (s ∷ t ∷ rest) (suc place) long =
     let more = last_of granted (t ∷ rest) place (omega (arith, long)) in
     (s ∷ more.0, more.1, ap (λ xs. s ∷ xs) more.2, omega (arith, more.3), ap (λ xs. s ∷ xs) more.4)
 
-blind_place : (params r : Row) → passes is_place params r ≡ on_cells is_place params (drop 1 r)
+pub blind_place : (params r : Row) → passes is_place params r ≡ on_cells is_place params (drop 1 r)
 blind_place params [] = refl
 blind_place params (x ∷ r) = refl
 
@@ -206,9 +207,9 @@ module _ (customer : List ℕ) (number place granted : ℕ) where
       let next = record last { granted = granted } in
       let from_zero : place ≡ 0 + length before = omega (arith, at_end) in
       let found : filter of_place (cells (db 3)) ≡ stretch_row customer number place last ∷ [] =
-      within of_place (is_row_of customer number) (cells (db 3)) (all_within customer number (drop 2 stretch_params) of_place keyed_too (cells (db 3)) holds.stretches.named)
-      ∙ ap (filter of_place) (holds.stretches.each customer number ∙ ap (placed (stretch_row customer number) 0) was) ∙ last_found (stretch_row customer number) of_place place own_place 0 before last from_zero in
-      let at = spot is_place stretch_params (blind_place stretch_params) (db 3) (stretch_row customer number place last) holds.stretches.named holds.stretches.rise found in
+      within of_place (is_row_of customer number) (cells (db 3)) (all_within customer number (drop 2 stretch_params) of_place keyed_too (cells (db 3)) holds.shared.stretches.named)
+      ∙ ap (filter of_place) (holds.shared.stretches.each customer number ∙ ap (placed (stretch_row customer number) 0) was) ∙ last_found (stretch_row customer number) of_place place own_place 0 before last from_zero in
+      let at = spot is_place stretch_params (blind_place stretch_params) (db 3) (stretch_row customer number place last) holds.shared.stretches.named holds.shared.stretches.rise found in
       let fresh = stretch_row customer number place next in
       let shown : Row = Int at.0 ∷ Int at.0 ∷ fresh in
       let some = plain_answer 3 is_place granted_terms stretch_params db did.0 refl did.1.answer in
@@ -217,8 +218,8 @@ module _ (customer : List ℕ) (number place granted : ℕ) where
       let edit : edited db (edit_of db (record stretches { tree = 3 }) (ids_of (shown ∷ [])) Given 1 (shown ∷ [])) ≡ put_row new_row (without_rowid at.0 (db 3)) =
       simp cast_int in
       let whole : new.now.trees 3 ≡ put_row new_row (without_rowid at.0 (db 3)) = did.3 ∙ ap (λ rs. edited db (edit_of db (record stretches { tree = 3 }) (ids_of rs) Given 1 rs)) one ∙ edit in
-      let are = ap cells whole ∙ in_place (passes is_place stretch_params) of_place (blind_place stretch_params) fresh at.0 (stretch_row customer number place last) (db 3) holds.stretches.rise at.1 in
-      let shaped = subst (IsShaped Rising) (sym whole) (IsShaped-put_row new_row (without_rowid at.0 (db 3)) refl (IsShaped-filter Rising _ (db 3) holds.stretches.rise)) in
+      let are = ap cells whole ∙ in_place (passes is_place stretch_params) of_place (blind_place stretch_params) fresh at.0 (stretch_row customer number place last) (db 3) holds.shared.stretches.rise at.1 in
+      let shaped = subst (IsShaped Rising) (sym whole) (IsShaped-put_row new_row (without_rowid at.0 (db 3)) refl (IsShaped-filter Rising _ (db 3) holds.shared.stretches.rise)) in
       let here : renewed of_place fresh (placed (stretch_row customer number) 0 (t.stretches customer number)) ≡ placed (stretch_row customer number) 0 (before ++ next ∷ []) =
       ap (λ xs. renewed of_place fresh (placed (stretch_row customer number) 0 xs)) was ∙ last_renewed (stretch_row customer number) of_place place own_place 0 before last next from_zero in
       let turned = by_job customer number (before ++ next ∷ []) t.stretches (λ c n xs. renewed of_place fresh (placed (stretch_row c n) 0 (t.stretches c n)) ≡ placed (stretch_row c n) 0 xs) here
@@ -228,13 +229,17 @@ module _ (customer : List ℕ) (number place granted : ℕ) where
         schema = did.2;
         sound = did.5;
         version = others.0 (apart refl) ∙ holds.version;
-        jobs = ap cells (others.1.0 (apart refl)) ∙ holds.jobs;
-        jobs_rise = subst (IsShaped Rising) (sym (others.1.0 (apart refl))) holds.jobs_rise;
-        distinct = holds.distinct;
-        stretches = renews customer number (drop 2 fresh) of_place keyed_too (db 3) (new.now.trees 3) (λ c n. placed (stretch_row c n) 0 (t.stretches c n)) (λ c n. placed (stretch_row c n) 0 ((with_stretches customer number (before ++ next ∷ []) t).stretches c n)) holds.stretches are shaped turned;
-        pictures = subst (λ rows. IsOf rows (λ c n. picture_rows c n (t.pictures c n))) (sym (others.1.1.1.0 (apart refl))) holds.pictures;
-        cards = subst (λ rows. IsOf rows (λ c n. placed (card_row c n) 1 (t.cards c n))) (sym (others.1.1.1.1.0 (apart refl))) holds.cards;
-        lines = subst (λ rows. IsOf rows (λ c n. placed (line_row c n) 1 (t.lines c n))) (sym (others.1.1.1.1.1.0 (apart refl))) holds.lines;
+        shared = record {
+          jobs = ap cells (others.1.0 (apart refl)) ∙ holds.shared.jobs;
+          jobs_rise = subst (IsShaped Rising) (sym (others.1.0 (apart refl))) holds.shared.jobs_rise;
+          distinct = holds.shared.distinct;
+          stretches = renews customer number (drop 2 fresh) of_place keyed_too (db 3) (new.now.trees 3) (λ c n. placed (stretch_row c n) 0 (t.stretches c n)) (λ c n. placed (stretch_row c n) 0 ((with_stretches customer number (before ++ next ∷ []) t).stretches c n)) holds.shared.stretches are shaped turned;
+          cards = still (others.1.1.1.0 (apart refl)) holds.shared.cards;
+          lines = still (others.1.1.1.1.0 (apart refl)) holds.shared.lines;
+        };
+        states = still (others.1.1.1.1.1.0 (apart refl)) holds.states;
+        pages = still_pages (others.1.1.1.1.1.1.0 (apart refl)) holds.pages;
+        beside = tt;
       }
 
   pub granted_in_last : (old new : State) (count : ℕ) → Executes update_granted stretch_params old new (Ok count) → (t : Tables) → Holds old.now t → length (t.stretches customer number) ≡ place + 1

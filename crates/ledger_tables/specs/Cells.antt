@@ -1,5 +1,5 @@
 -- the columns of a row, without the job that it names and its place
-use Rattle.std.specs.Prelude.{ℕ, List}
+use Rattle.std.specs.Prelude.{ℕ, bytes_eq, if◌then◌else◌, List, replicate, Option, Some, None}
 
 -- the columns of a job's row: kind, size, deck, the deck that its machine loads, and flags
 pub record JobCells : Type 0 where
@@ -10,23 +10,27 @@ pub record JobCells : Type 0 where
   pub held : ℕ
   pub collected : ℕ
 
--- the columns of the picture row of a job's machine: storage, registers, carriage, counts and
--- standing
-pub record PictureCells : Type 0 where
+-- the columns of a page's row: its number, from 0, and its bytes
+pub record PageCells : Type 0 where
+  pub page : ℕ
   pub storage : List ℕ
-  pub i : ℕ
-  pub a : ℕ
-  pub b : ℕ
-  pub compare : ℕ
-  pub overflow : ℕ
-  pub channel : ℕ
-  pub waiting : ℕ
-  pub form : ℕ
-  pub line : ℕ
-  pub taken : ℕ
-  pub cards : ℕ
-  pub lines : ℕ
-  pub standing : ℕ
+
+-- the bytes of the pages of a job's storage that have a row, by number
+abbrev pub Pages : Type 0
+Pages = ℕ → Option (List ℕ)
+
+-- no page has a row
+abbrev pub no_pages : Pages
+no_pages page = None
+
+-- the bytes of a page in which each position is blank and has no mark
+abbrev pub blank_bytes : List ℕ
+blank_bytes = replicate 100 0
+
+-- a page's bytes, or none if they are blank
+abbrev pub unless_blank : Option (List ℕ) → Option (List ℕ)
+unless_blank None = None
+unless_blank (Some storage) = if bytes_eq storage blank_bytes then None else Some storage
 
 -- the columns of a job's row that are its name
 pub record QueuedName : Type 0 where

@@ -1,9 +1,10 @@
 -- what a statement on a job requires of the tables, and the tables after it
-use Rattle.std.specs.Prelude.{◌≡◌, ◌+◌, ◌++◌, ℕ, List, [], ◌∷◌, length, Option, None, IsSome}
+use Rattle.std.specs.Prelude.{◌≡◌, ◌+◌, ◌++◌, ◌<◌, ◌^◌, ℕ, All, Contains, List, [], ◌∷◌, length, Option, Some, None, IsSome}
 use Rattle.std.specs.Option.{option_map}
-use Rattle.ledger_tables.specs.Cells.{JobCells, PictureCells, LineCells}
-use Rattle.ledger_tables.specs.Tables.{ByJob, Tables, job_named, with_job, with_flags, with_stretches, with_picture, with_cards, with_lines}
+use Rattle.ledger_tables.specs.Cells.{JobCells, LineCells, PageCells, Pages}
+use Rattle.ledger_tables.specs.Tables.{ByJob, Tables, job_named, with_job, with_flags, with_stretches, with_state, with_page, with_cards, with_lines}
 use Rattle.ledger_tables.specs.declared.names.JobName.{JobName}
+use Rattle.ledger_tables.specs.declared.rows.StateRow.{StateRow}
 use Rattle.ledger_tables.specs.declared.rows.StretchRow.{StretchRow}
 
 -- what the tables hold for the job of this name
@@ -50,17 +51,35 @@ abbrev pub with_last_granted : JobName → ℕ → Tables → Tables
 with_last_granted name granted t =
     with_stretches name.customer.now name.number (granted_last granted (of_job name t.stretches)) t
 
--- the job has no picture
-abbrev pub HasNoPicture : JobName → Tables → Type 0
-HasNoPicture name t = of_job name t.pictures ≡ None
+-- the job has no state
+abbrev pub HasNoState : JobName → Tables → Type 0
+HasNoState name t = of_job name t.states ≡ None
 
--- the job has a picture
-abbrev pub HasPicture : JobName → Tables → Type 0
-HasPicture name t = IsSome (of_job name t.pictures)
+-- the job has a state
+abbrev pub HasState : JobName → Tables → Type 0
+HasState name t = IsSome (of_job name t.states)
 
--- the tables with this picture of the job's machine
-abbrev pub with_picture_of : JobName → PictureCells → Tables → Tables
-with_picture_of name = with_picture name.customer.now name.number
+-- the tables with this state of the job's machine
+abbrev pub with_state_of : JobName → StateRow → Tables → Tables
+with_state_of name = with_state name.customer.now name.number
+
+-- the page has no row
+abbrev pub HasNoPage : JobName → ℕ → Tables → Type 0
+HasNoPage name page t = of_job name t.pages page ≡ None
+
+-- the tables with this row, or none, for a page of the job's storage
+abbrev pub with_page_of : JobName → ℕ → Option (List ℕ) → Tables → Tables
+with_page_of name = with_page name.customer.now name.number
+
+-- these are the rows of pages, in some order
+pub record ArePages (found : List PageCells) (pages : Pages) : Type 0 where
+  pub only : All (λ it. pages it.page ≡ Some it.storage) found
+  pub all : (page : ℕ) (storage : List ℕ) → pages page ≡ Some storage
+      → Contains found (record { page = page; storage = storage })
+
+-- the numbers of the pages are ones that a row can hold
+abbrev pub HaveNumbers : Pages → Type 0
+HaveNumbers pages = (page : ℕ) (storage : List ℕ) → pages page ≡ Some storage → page < 2 ^ 32
 
 -- the place of the job's next card, counted from 1
 abbrev pub IsNextCard : JobName → ℕ → Tables → Type 0

@@ -4,7 +4,7 @@ use Rattle.std.specs.Prelude.{true, false, [], ◌∷◌, Some, None, codes, Lis
 use Rattle.sqlite.specs.declared.types.Value.TheVariants.{Null}
 use Rattle.sqlite.specs.Table.{Table}
 use Rattle.sqlite.specs.Schema.{Schema}
-use Rattle.sqlite.specs.Change.{created}
+use Rattle.sqlite.specs.Change.{created, without_table}
 use Rattle.sqlite_value.specs.Keys.{plain}
 use Rattle.sqlite_schema.specs.declared.schema.Column.{Column}
 use Rattle.sqlite_schema.specs.declared.schema.Reference.{Reference}
@@ -14,7 +14,7 @@ use Rattle.sqlite.specs.Kind.TheVariants.{Integer, Text, Blob}
 
 -- the version of the tables that this program makes and opens
 abbrev pub own_version : ℕ
-own_version = 1
+own_version = 3
 
 -- a column of this name that always has a value of this kind
 abbrev pub required : List ℕ → Kind → Column
@@ -110,7 +110,7 @@ stretches = record {
 abbrev pub up_to_stretches : Schema
 up_to_stretches = created up_to_jobs stretches
 
--- the table `pictures`, with a row for each job's machine
+-- the table `pictures` of version 1, with a row for each job's machine and its storage
 abbrev pub pictures : Table
 pictures = record {
   name = codes "pictures";
@@ -179,6 +179,60 @@ lines = record {
   is_counted = false;
 }
 
--- the schema of a bureau, with its six tables
+-- the schema of version 1, with its six tables
+abbrev pub first_schema : Schema
+first_schema = created up_to_cards lines
+
+-- the table `states`, with a row for each job's machine, without its storage
+abbrev pub states : Table
+states = record {
+  name = codes "states";
+  tree = 0;
+  columns = required (codes "customer") Text ∷ required (codes "number") Integer
+      ∷ required (codes "i") Integer ∷ required (codes "a") Integer
+      ∷ required (codes "b") Integer ∷ required (codes "compare") Integer
+      ∷ required (codes "overflow") Integer ∷ required (codes "channel") Integer
+      ∷ required (codes "waiting") Integer ∷ required (codes "form") Integer
+      ∷ required (codes "line") Integer ∷ required (codes "taken") Integer
+      ∷ required (codes "cards") Integer ∷ required (codes "lines") Integer
+      ∷ required (codes "standing") Integer ∷ [];
+  key = None;
+  primary = 1 ∷ 2 ∷ [];
+  uniques = (1 ∷ 2 ∷ []) ∷ [];
+  orders = plain ∷ [];
+  checks = [];
+  references = to_job ∷ [];
+  computed = [];
+  stamps = record { places = []; terms = []; formats = [] };
+  is_counted = false;
+}
+
+-- the schema once `states` is created beside the tables of version 1
+abbrev pub up_to_states : Schema
+up_to_states = created first_schema states
+
+-- the table `pages`, with a row for each page of a job's storage that is not blank
+abbrev pub pages : Table
+pages = record {
+  name = codes "pages";
+  tree = 0;
+  columns = required (codes "customer") Text ∷ required (codes "number") Integer
+      ∷ required (codes "page") Integer ∷ required (codes "storage") Blob ∷ [];
+  key = None;
+  primary = 1 ∷ 2 ∷ 3 ∷ [];
+  uniques = (1 ∷ 2 ∷ 3 ∷ []) ∷ [];
+  orders = plain ∷ [];
+  checks = [];
+  references = to_job ∷ [];
+  computed = [];
+  stamps = record { places = []; terms = []; formats = [] };
+  is_counted = false;
+}
+
+-- the schema once `pages` is created too: `pictures` is still there
+abbrev pub raising_schema : Schema
+raising_schema = created up_to_states pages
+
+-- the schema of a bureau, with its seven tables: `pictures` is dropped
 abbrev pub bureau_schema : Schema
-bureau_schema = created up_to_cards lines
+bureau_schema = without_table raising_schema 5

@@ -2,10 +2,11 @@
 use Rattle.std.specs.Prelude.{ℕ, pos, List, [], ◌∷◌}
 use Rattle.sqlite.specs.declared.types.Value.TheVariants.{Int, Text, Blob}
 use Rattle.sqlite.specs.Order.{Row}
-use Rattle.ledger_tables.specs.Cells.{JobCells, PictureCells, LineCells, QueuedName}
-use Rattle.ledger_tables.specs.Tables.{NamedJob}
+use Rattle.ledger_tables.specs.Cells.{JobCells, LineCells, PageCells, QueuedName}
+use Rattle.ledger_tables.specs.Tables.{NamedJob, state_columns}
 use Rattle.ledger_tables.specs.declared.rows.NameRow.{NameRow}
 use Rattle.ledger_tables.specs.declared.rows.ProgressRow.{ProgressRow}
+use Rattle.ledger_tables.specs.declared.rows.StateRow.{StateRow}
 use Rattle.ledger_tables.specs.declared.rows.StretchRow.{StretchRow}
 
 -- the columns read of a job, without its name
@@ -29,14 +30,19 @@ shown_queued job = Text job.customer ∷ Int (pos job.number) ∷ []
 abbrev pub shown_stretch : StretchRow → Row
 shown_stretch s = Int (pos s.switches) ∷ Int (pos s.granted) ∷ []
 
--- the columns read of a picture, without its job
-abbrev pub shown_picture : PictureCells → Row
-shown_picture p = Blob p.storage ∷ Int (pos p.i) ∷ Int (pos p.a) ∷ Int (pos p.b)
-    ∷ Int (pos p.compare) ∷ Int (pos p.overflow) ∷ Int (pos p.channel) ∷ Int (pos p.waiting)
-    ∷ Int (pos p.form) ∷ Int (pos p.line) ∷ Int (pos p.taken) ∷ Int (pos p.cards)
-    ∷ Int (pos p.lines) ∷ Int (pos p.standing) ∷ []
+-- the columns read of a state, without its job
+abbrev pub shown_state : StateRow → Row
+shown_state = state_columns
 
--- the columns read of a picture for the job's progress
+-- the columns read of a page, without its job
+abbrev pub shown_page : PageCells → Row
+shown_page p = Int (pos p.page) ∷ Blob p.storage ∷ []
+
+-- the column read of a picture's storage
+abbrev pub shown_storage : List ℕ → Row
+shown_storage storage = Blob storage ∷ []
+
+-- the columns read of a state for the job's progress
 abbrev pub shown_progress : ProgressRow → Row
 shown_progress p = Int (pos p.i) ∷ Int (pos p.cards) ∷ Int (pos p.lines)
     ∷ Int (pos p.standing) ∷ []

@@ -1,15 +1,17 @@
 -- what the tables of a bureau hold
-use Rattle.std.specs.Prelude.{◌≡◌, ℕ, pos, ◌+◌, false, ◌++◌, Bool, ◌&&◌, ◌==◌, bytes_eq, if◌then◌else◌, List, [], ◌∷◌, map, drop, filter, find, Option, Some, None}
+use Rattle.std.specs.Prelude.{◌≡◌, ℕ, pos, ◌+◌, false, ◌++◌, Bool, ◌&&◌, ◌==◌, bytes_eq, if◌then◌else◌, List, [], ◌∷◌, map, drop, filter, find, Option, Some, None, ⊤}
 use Rattle.std.specs.List.{AllByRecursion}
 use Rattle.sqlite.specs.declared.types.Value.{Value}
 use Rattle.sqlite.specs.declared.types.Value.TheVariants.{Null, Int, Text, Blob}
 use Rattle.sqlite.specs.Order.{Row, column}
-use Rattle.sqlite.specs.Tree.{IsAscending}
+use Rattle.sqlite.specs.Tree.{IsAscending, Trees}
 use Rattle.sqlite.specs.View.{IsShaped}
 use Rattle.sqlite.specs.Effect.{Database, IsDatabase}
 use Rattle.sqlite_trees.specs.declared.store.Shape.TheVariants.{Table}
-use Rattle.ledger_tables.specs.Schema.{bureau_schema, own_version}
-use Rattle.ledger_tables.specs.Cells.{JobCells, PictureCells, LineCells}
+use Rattle.sqlite.specs.Schema.{Schema}
+use Rattle.ledger_tables.specs.Schema.{bureau_schema, first_schema, raising_schema, own_version}
+use Rattle.ledger_tables.specs.Cells.{JobCells, LineCells, Pages}
+use Rattle.ledger_tables.specs.declared.rows.StateRow.{StateRow}
 use Rattle.ledger_tables.specs.declared.rows.StretchRow.{StretchRow}
 
 -- a job's row: its customer, its number and its other columns
@@ -23,11 +25,13 @@ abbrev pub ByJob : Type 0 → Type 0
 ByJob X = List ℕ → ℕ → X
 
 -- what the tables hold: the jobs in the order in which they were taken, and for each its stretches
--- from place 0 on, its picture, and its cards and lines from place 1 on
+-- from place 0 on, the state of its machine, the pages of its storage that are not blank, and its
+-- cards and lines from place 1 on
 pub record Tables : Type 0 where
   pub jobs : List NamedJob
   pub stretches : ByJob (List StretchRow)
-  pub pictures : ByJob (Option PictureCells)
+  pub states : ByJob (Option StateRow)
+  pub pages : ByJob Pages
   pub cards : ByJob (List (List ℕ))
   pub lines : ByJob (List LineCells)
 
@@ -76,10 +80,27 @@ abbrev pub with_stretches : List ℕ → ℕ → List StretchRow → Tables → 
 with_stretches customer number stretches t =
     record t { stretches = at_job customer number stretches t.stretches }
 
--- the tables with this picture of the job's machine
-abbrev pub with_picture : List ℕ → ℕ → PictureCells → Tables → Tables
-with_picture customer number picture t =
-    record t { pictures = at_job customer number (Some picture) t.pictures }
+-- the tables with this state of the job's machine
+abbrev pub with_state : List ℕ → ℕ → StateRow → Tables → Tables
+with_state customer number state t =
+    record t { states = at_job customer number (Some state) t.states }
+
+-- pages, with this for the page of this number
+abbrev pub at_page : ℕ → Option (List ℕ) → Pages → Pages
+at_page page here others k = if page == k then here else others k
+
+-- the tables with these pages of the job's storage
+abbrev pub with_pages : List ℕ → ℕ → Pages → Tables → Tables
+with_pages customer number pages t = record t { pages = at_job customer number pages t.pages }
+
+-- the tables with this row, or none, for a page of the job's storage
+abbrev pub with_page : List ℕ → ℕ → ℕ → Option (List ℕ) → Tables → Tables
+with_page customer number page here t =
+    with_pages customer number (at_page page here (t.pages customer number)) t
+
+-- the tables without a row for a page
+abbrev pub without_pages : Tables → Tables
+without_pages t = record t { pages = λ customer number page. None }
 
 -- the tables with these cards of the job
 abbrev pub with_cards : List ℕ → ℕ → List (List ℕ) → Tables → Tables
@@ -94,7 +115,8 @@ abbrev pub no_rows : Tables
 no_rows = record {
   jobs = [];
   stretches = λ customer number. [];
-  pictures = λ customer number. None;
+  states = λ customer number. None;
+  pages = λ customer number page. None;
   cards = λ customer number. [];
   lines = λ customer number. [];
 }
@@ -112,17 +134,41 @@ abbrev pub stretch_row : List ℕ → ℕ → ℕ → StretchRow → Row
 stretch_row customer number place s = Text customer ∷ Int (pos number) ∷ Int (pos place)
     ∷ Int (pos s.switches) ∷ Int (pos s.granted) ∷ []
 
--- the row of a picture
-abbrev pub picture_row : List ℕ → ℕ → PictureCells → Row
-picture_row customer number p = Text customer ∷ Int (pos number) ∷ Blob p.storage ∷ Int (pos p.i)
-    ∷ Int (pos p.a) ∷ Int (pos p.b) ∷ Int (pos p.compare) ∷ Int (pos p.overflow)
-    ∷ Int (pos p.channel) ∷ Int (pos p.waiting) ∷ Int (pos p.form) ∷ Int (pos p.line)
-    ∷ Int (pos p.taken) ∷ Int (pos p.cards) ∷ Int (pos p.lines) ∷ Int (pos p.standing) ∷ []
+-- the columns of a state after the customer and the number
+abbrev pub state_columns : StateRow → Row
+state_columns s = Int (pos s.i) ∷ Int (pos s.a) ∷ Int (pos s.b) ∷ Int (pos s.compare)
+    ∷ Int (pos s.overflow) ∷ Int (pos s.channel) ∷ Int (pos s.waiting) ∷ Int (pos s.form)
+    ∷ Int (pos s.line) ∷ Int (pos s.taken) ∷ Int (pos s.cards) ∷ Int (pos s.lines)
+    ∷ Int (pos s.standing) ∷ []
 
--- the rows of a job in `pictures`: its picture's, or none if it has no picture
-abbrev pub picture_rows : List ℕ → ℕ → Option PictureCells → List Row
-picture_rows customer number None = []
-picture_rows customer number (Some p) = picture_row customer number p ∷ []
+-- the row of a state
+abbrev pub state_row : List ℕ → ℕ → StateRow → Row
+state_row customer number s = Text customer ∷ Int (pos number) ∷ state_columns s
+
+-- the rows of a job in `states`: its state's, or none if it has no state
+abbrev pub state_rows : List ℕ → ℕ → Option StateRow → List Row
+state_rows customer number None = []
+state_rows customer number (Some s) = state_row customer number s ∷ []
+
+-- the row of a page
+abbrev pub page_row : List ℕ → ℕ → ℕ → List ℕ → Row
+page_row customer number page storage = Text customer ∷ Int (pos number) ∷ Int (pos page)
+    ∷ Blob storage ∷ []
+
+-- the rows of a page: its own, or none
+abbrev pub page_rows : List ℕ → ℕ → ℕ → Option (List ℕ) → List Row
+page_rows customer number page None = []
+page_rows customer number page (Some storage) = page_row customer number page storage ∷ []
+
+-- the row of a picture in version 1: a state with the whole storage before it
+abbrev pub picture_row : List ℕ → ℕ → List ℕ → StateRow → Row
+picture_row customer number storage s =
+    Text customer ∷ Int (pos number) ∷ Blob storage ∷ state_columns s
+
+-- the rows of a job in `pictures`: its picture's, or none if it has no state
+abbrev pub picture_rows : List ℕ → ℕ → List ℕ → Option StateRow → List Row
+picture_rows customer number storage None = []
+picture_rows customer number storage (Some s) = picture_row customer number storage s ∷ []
 
 -- the row of the card at a place
 abbrev pub card_row : List ℕ → ℕ → ℕ → List ℕ → Row
@@ -158,10 +204,20 @@ abbrev pub is_row_of : List ℕ → ℕ → Row → Bool
 is_row_of customer number row =
     has_customer customer (column row 0) && has_number number (column row 1)
 
+-- whether a row is of this page of the job of this name
+abbrev pub is_page_of : List ℕ → ℕ → ℕ → Row → Bool
+is_page_of customer number page row = has_customer customer (column row 0)
+    && (has_number number (column row 1) && has_number page (column row 2))
+
 -- the row begins with the customer and the number of a job
 abbrev pub NamesJob : Row → Type 0
 NamesJob row = (customer : List ℕ) × (number : ℕ) × (column row 0 ≡ Text customer)
     × (column row 1 ≡ Int (pos number))
+
+-- the row is a page's: the customer and the number of a job, the page's number, and its bytes
+abbrev pub NamesPage : Row → Type 0
+NamesPage row = (customer : List ℕ) × (number page : ℕ) × (storage : List ℕ)
+    × (row ≡ page_row customer number page storage)
 
 -- ---- the database
 
@@ -172,19 +228,76 @@ pub record IsOf (rows : List Row) (of_job : ByJob (List Row)) : Type 0 where
   pub named : AllByRecursion NamesJob (cells rows)
   pub rise : IsShaped Table rows
 
--- the database is a bureau's of this program's version, and its tables hold this and nothing else
-pub record Holds (db : Database) (t : Tables) : Type 0 where
-  pub schema : db.schema ≡ bureau_schema
-  pub sound : IsDatabase db
-  pub version : db.trees 0 ≡ (Int (pos 1) ∷ Null ∷ Int (pos own_version) ∷ []) ∷ []
-  pub jobs : cells (db.trees 1) ≡ map job_row t.jobs
-  pub jobs_rise : IsShaped Table (db.trees 1)
+-- the rows of the table of pages are those of each page of each job, and no others
+pub record IsOfPages (rows : List Row) (pages : ByJob Pages) : Type 0 where
+  pub each : (customer : List ℕ) (number page : ℕ)
+      → filter (is_page_of customer number page) (cells rows)
+      ≡ page_rows customer number page (pages customer number page)
+  pub named : AllByRecursion NamesPage (cells rows)
+  pub rise : IsShaped Table rows
+
+-- the rows of the table `bureau`: one, with the version of the tables
+abbrev pub version_rows : ℕ → List Row
+version_rows version = (Int (pos 1) ∷ Null ∷ Int (pos version) ∷ []) ∷ []
+
+-- the tables that every version has hold this
+pub record HoldsShared (db : Trees) (t : Tables) : Type 0 where
+  pub jobs : cells (db 1) ≡ map job_row t.jobs
+  pub jobs_rise : IsShaped Table (db 1)
   pub distinct : AreDistinct t.jobs
-  pub stretches : IsOf (db.trees 3)
+  pub stretches : IsOf (db 3)
       (λ customer number. placed (stretch_row customer number) 0 (t.stretches customer number))
-  pub pictures : IsOf (db.trees 5)
-      (λ customer number. picture_rows customer number (t.pictures customer number))
-  pub cards : IsOf (db.trees 7)
+  pub cards : IsOf (db 7)
       (λ customer number. placed (card_row customer number) 1 (t.cards customer number))
-  pub lines : IsOf (db.trees 9)
+  pub lines : IsOf (db 9)
       (λ customer number. placed (line_row customer number) 1 (t.lines customer number))
+
+-- the bytes of each job's storage in `pictures`, while that table is there beside `states` and
+-- `pages`; none once it is dropped
+abbrev pub Beside : Type 0
+Beside = Option (ByJob (List ℕ))
+
+-- the schema with this beside `states` and `pages`
+abbrev pub schema_beside : Beside → Schema
+schema_beside None = bureau_schema
+schema_beside (Some storages) = raising_schema
+
+-- the rows of `pictures` are those of each job's storage and state, and no others
+abbrev pub HasPictures : Trees → Tables → ByJob (List ℕ) → Type 0
+HasPictures db t storages = IsOf (db 5) (λ customer number.
+    picture_rows customer number (storages customer number) (t.states customer number))
+
+-- if `pictures` is there, its rows are those of each job's storage and state
+abbrev pub HasBeside : Beside → Trees → Tables → Type 0
+HasBeside None db t = ⊤
+HasBeside (Some storages) db t = HasPictures db t storages
+
+-- the database has states and pages, with this beside them, its tables hold this and nothing else,
+-- and they are marked as of this version
+pub record HoldsAs (there : Beside) (number : ℕ) (db : Database) (t : Tables) : Type 0 where
+  pub schema : db.schema ≡ schema_beside there
+  pub sound : IsDatabase db
+  pub version : db.trees 0 ≡ version_rows number
+  pub shared : HoldsShared db.trees t
+  pub states : IsOf (db.trees 11)
+      (λ customer number. state_rows customer number (t.states customer number))
+  pub pages : IsOfPages (db.trees 13) t.pages
+  pub beside : HasBeside there db.trees t
+
+-- the database is a bureau's of this program's version, and its tables hold this and nothing else
+abbrev pub Holds : Database → Tables → Type 0
+Holds = HoldsAs None own_version
+
+-- the database has the tables of version 1 and perhaps later ones, as this schema says, is marked
+-- as of version 1, and its tables of version 1 hold this and nothing else, with these storages
+pub record HoldsFirstIn (schema : Schema) (db : Database) (t : Tables) (storages : ByJob (List ℕ))
+    : Type 0 where
+  pub schema_is : db.schema ≡ schema
+  pub sound : IsDatabase db
+  pub version : db.trees 0 ≡ version_rows 1
+  pub shared : HoldsShared db.trees t
+  pub pictures : HasPictures db.trees t storages
+
+-- the database is a bureau's of version 1
+abbrev pub HoldsFirst : Database → Tables → ByJob (List ℕ) → Type 0
+HoldsFirst = HoldsFirstIn first_schema

@@ -3,11 +3,12 @@
 //! Every table but `bureau` and `jobs` refers to its job by a foreign key. All columns are NOT
 //! NULL, and the tables are STRICT.
 
-ghost use Rattle.std.specs.Prelude.{◌≡◌, true, false, [], ◌∷◌, codes, IfErr, OnOk};
-ghost use Rattle.ledger_tables.specs.Schema.{no_schema, up_to_bureau, up_to_jobs, up_to_stretches, up_to_pictures, up_to_cards, bureau_schema};
-ghost use Rattle.ledger_tables.specs.Making.{AreMade, Makes, AddsNames, IsStopped, is_taken};
+ghost use Rattle.std.specs.Prelude.{◌≡◌, ℕ, true, false, List, [], ◌∷◌, codes, IfErr, IsTrue, None, OnOk, Some};
+ghost use Rattle.ledger_tables.specs.Schema.{no_schema, up_to_bureau, up_to_jobs, up_to_stretches, up_to_pictures, up_to_cards, first_schema, up_to_states, raising_schema, bureau_schema};
+ghost use Rattle.ledger_tables.specs.Making.{AreMade, Makes, AddsNames, IsStopped, is_taken, table_names};
 ghost use Rattle.ledger_tables.specs.Steps.{Inside, IsStep};
-ghost use Rattle.ledger_tables.specs.Tables.{Holds, no_rows};
+ghost use Rattle.ledger_tables.specs.Raising.{HasNewStates, HasNewTables};
+ghost use Rattle.ledger_tables.specs.Tables.{ByJob, Holds, HoldsAs, HoldsFirst, Tables, no_rows};
 
 use crate::faults::Fault;
 use crate::open_tables::OpenTables;
@@ -92,7 +93,7 @@ impl<S: Alter> OpenTables<'_, '_, S> {
 
     fn make_lines(&mut self) -> Result<(), Fault>
         ensures step { IsStep S.Store self.old self.new result }
-        ensures made { Makes S.Store self.old self.new result up_to_cards bureau_schema }
+        ensures made { Makes S.Store self.old self.new result up_to_cards first_schema }
         ensures named { Inside S.Store self.old self.new
             (λ old new. AddsNames (codes "lines" ∷ []) old new result) }
     {
@@ -103,6 +104,57 @@ impl<S: Alter> OpenTables<'_, '_, S> {
              FOREIGN KEY (customer, number) REFERENCES jobs (customer, number)) STRICT",
             &[],
         )
+    }
+
+    /// Creates the table of states.
+    pub(crate) fn make_states(&mut self) -> Result<(), Fault>
+        ensures step { IsStep S.Store self.old self.new result }
+        ensures made { Makes S.Store self.old self.new result first_schema up_to_states }
+        ensures named { Inside S.Store self.old self.new
+            (λ old new. AddsNames (codes "states" ∷ []) old new result) }
+        ensures beside { Inside S.Store self.old self.new (λ old new. OnOk result ((t : Tables)
+            → (storages : ByJob (List ℕ)) → (IsTrue old.is_open → HoldsFirst old.now t storages)
+            → HasNewStates new.now t storages)) }
+    {
+        self.run(
+            "CREATE TABLE states (customer TEXT NOT NULL, number INTEGER NOT NULL, \
+             i INTEGER NOT NULL, a INTEGER NOT NULL, b INTEGER NOT NULL, \
+             compare INTEGER NOT NULL, overflow INTEGER NOT NULL, channel INTEGER NOT NULL, \
+             waiting INTEGER NOT NULL, form INTEGER NOT NULL, line INTEGER NOT NULL, \
+             taken INTEGER NOT NULL, cards INTEGER NOT NULL, lines INTEGER NOT NULL, \
+             standing INTEGER NOT NULL, PRIMARY KEY (customer, number), \
+             FOREIGN KEY (customer, number) REFERENCES jobs (customer, number)) STRICT",
+            &[],
+        )
+    }
+
+    /// Creates the table of pages.
+    pub(crate) fn make_pages(&mut self) -> Result<(), Fault>
+        ensures step { IsStep S.Store self.old self.new result }
+        ensures made { Makes S.Store self.old self.new result up_to_states raising_schema }
+        ensures named { Inside S.Store self.old self.new
+            (λ old new. AddsNames (codes "pages" ∷ []) old new result) }
+        ensures beside { Inside S.Store self.old self.new (λ old new. OnOk result ((t : Tables)
+            → (storages : ByJob (List ℕ)) → HasNewStates old.now t storages
+            → HasNewTables new.now t storages)) }
+    {
+        self.run(
+            "CREATE TABLE pages (customer TEXT NOT NULL, number INTEGER NOT NULL, \
+             page INTEGER NOT NULL, storage BLOB NOT NULL, PRIMARY KEY (customer, number, page), \
+             FOREIGN KEY (customer, number) REFERENCES jobs (customer, number)) STRICT",
+            &[],
+        )
+    }
+
+    /// Drops the table of pictures.
+    pub fn drop_pictures(&mut self) -> Result<(), Fault>
+        ensures step { IsStep S.Store self.old self.new result }
+        ensures made { Makes S.Store self.old self.new result raising_schema bureau_schema }
+        ensures dropped { Inside S.Store self.old self.new (λ old new. OnOk result ((t : Tables)
+            → (storages : ByJob (List ℕ)) → (version : ℕ)
+            → HoldsAs (Some storages) version old.now t → HoldsAs None version new.now t)) }
+    {
+        self.run("DROP TABLE pictures", &[])
     }
 
     /// Inserts the version of the tables.
@@ -129,10 +181,10 @@ impl<S: Alter> OpenTables<'_, '_, S> {
         self.make_stretches()
     }
 
-    /// Creates the tables of what the machine does.
+    /// Creates the tables of what the machine does, as version 1 has them.
     fn make_lower(&mut self) -> Result<(), Fault>
         ensures step { IsStep S.Store self.old self.new result }
-        ensures made { Makes S.Store self.old self.new result up_to_stretches bureau_schema }
+        ensures made { Makes S.Store self.old self.new result up_to_stretches first_schema }
         ensures named { Inside S.Store self.old self.new (λ old new.
             AddsNames (codes "pictures" ∷ codes "cards" ∷ codes "lines" ∷ []) old new result) }
     {
@@ -141,7 +193,31 @@ impl<S: Alter> OpenTables<'_, '_, S> {
         self.make_lines()
     }
 
-    /// Creates the tables of a bureau without jobs, in a database without tables. It fails if one
+    /// Creates the tables of states and of pages beside those of version 1.
+    fn make_later(&mut self) -> Result<(), Fault>
+        ensures step { IsStep S.Store self.old self.new result }
+        ensures made { Makes S.Store self.old self.new result first_schema raising_schema }
+        ensures named { Inside S.Store self.old self.new (λ old new.
+            AddsNames (codes "states" ∷ codes "pages" ∷ []) old new result) }
+    {
+        self.make_states()?;
+        self.make_pages()
+    }
+
+    /// Creates the tables of version 1 and the later ones.
+    fn make_all(&mut self) -> Result<(), Fault>
+        ensures step { IsStep S.Store self.old self.new result }
+        ensures made { Makes S.Store self.old self.new result no_schema raising_schema }
+        ensures named { Inside S.Store self.old self.new
+            (λ old new. AddsNames table_names old new result) }
+    {
+        self.make_upper()?;
+        self.make_lower()?;
+        self.make_later()
+    }
+
+    /// Creates the tables of a bureau without jobs, in a database without tables. They are made as
+    /// those of a file of version 1 are raised, so that each file has one schema. It fails if one
     /// of their names is taken.
     pub fn make(&mut self) -> Result<(), Fault>
         ensures step { IsStep S.Store self.old self.new result }
@@ -152,8 +228,8 @@ impl<S: Alter> OpenTables<'_, '_, S> {
         ensures taken { Inside S.Store self.old self.new (λ old new.
             IfErr result (λ fault. is_taken old.now.schema ≡ true → IsStopped old new fault)) }
     {
-        self.make_upper()?;
-        self.make_lower()?;
+        self.make_all()?;
+        self.drop_pictures()?;
         self.insert_version()
     }
 }

@@ -5,11 +5,12 @@ ghost use Rattle.std.specs.Option.{option_to_list};
 ghost use Rattle.sqlite.specs.Order.{Row as Values};
 ghost use Rattle.sqlite.specs.declared.error.ErrorCode.TheVariants.{OutOfMemory};
 ghost use Rattle.ledger_tables.specs.Reading.{AreReadable, CanRead};
-ghost use Rattle.ledger_tables.specs.Shown.{shown_job, shown_name, shown_queued, shown_stretch, shown_picture, shown_progress, shown_card, shown_line};
+ghost use Rattle.ledger_tables.specs.Shown.{shown_job, shown_name, shown_queued, shown_stretch, shown_state, shown_progress, shown_page, shown_storage, shown_card, shown_line};
 
 use crate::faults::{Fault, fault_of};
 use crate::rows::{
-    CardRow, JobRow, LineRow, NameRow, PictureRow, ProgressRow, QueuedRow, StretchRow,
+    CardRow, JobRow, LineRow, NameRow, PageRow, ProgressRow, QueuedRow, StateRow, StorageRow,
+    StretchRow,
 };
 use sqlite::{Error, Row};
 use std::alloc::Global;
@@ -76,25 +77,24 @@ impl FromRow for StretchRow {
     }
 }
 
-impl FromRow for PictureRow {
-    ghost shown = { shown_picture };
+impl FromRow for StateRow {
+    ghost shown = { shown_state };
 
-    fn from_row(row: &Row) -> Result<PictureRow, Error> {
-        Ok(PictureRow {
-            storage: row.get(0)?,
-            i: row.get(1)?,
-            a: row.get(2)?,
-            b: row.get(3)?,
-            compare: row.get(4)?,
-            overflow: row.get(5)?,
-            channel: row.get(6)?,
-            waiting: row.get(7)?,
-            form: row.get(8)?,
-            line: row.get(9)?,
-            taken: row.get(10)?,
-            cards: row.get(11)?,
-            lines: row.get(12)?,
-            standing: row.get(13)?,
+    fn from_row(row: &Row) -> Result<StateRow, Error> {
+        Ok(StateRow {
+            i: row.get(0)?,
+            a: row.get(1)?,
+            b: row.get(2)?,
+            compare: row.get(3)?,
+            overflow: row.get(4)?,
+            channel: row.get(5)?,
+            waiting: row.get(6)?,
+            form: row.get(7)?,
+            line: row.get(8)?,
+            taken: row.get(9)?,
+            cards: row.get(10)?,
+            lines: row.get(11)?,
+            standing: row.get(12)?,
         })
     }
 }
@@ -108,6 +108,27 @@ impl FromRow for ProgressRow {
             cards: row.get(1)?,
             lines: row.get(2)?,
             standing: row.get(3)?,
+        })
+    }
+}
+
+impl FromRow for PageRow {
+    ghost shown = { shown_page };
+
+    fn from_row(row: &Row) -> Result<PageRow, Error> {
+        Ok(PageRow {
+            page: row.get(0)?,
+            storage: row.get(1)?,
+        })
+    }
+}
+
+impl FromRow for StorageRow {
+    ghost shown = { shown_storage };
+
+    fn from_row(row: &Row) -> Result<StorageRow, Error> {
+        Ok(StorageRow {
+            storage: row.get(0)?,
         })
     }
 }

@@ -5,7 +5,8 @@
 //! its caller begins and ends. Its contract has two parts (`specs/Steps.antt`). First, a step stays
 //! in the transaction, or leaves the commit below it, and adds nothing to what a crash may leave.
 //! Second, the change of `Tables` that it makes, or what it reads of them without a change.
-//! `find_version` checks whether the database is a bureau's at all.
+//! `find_version` checks whether the database is a bureau's at all, and of which version. The tables of
+//! an earlier version are made this one's by the statements of `raising`.
 #![tactic(auto)]
 
 mod creates;
@@ -17,6 +18,8 @@ mod lookups;
 mod names;
 mod open_tables;
 mod openings;
+mod pages;
+mod raising;
 mod rows;
 mod updates;
 
@@ -24,5 +27,8 @@ pub use faults::Fault;
 pub use lists::lists_are_in_order;
 pub use names::JobName;
 pub use open_tables::OpenTables;
-pub use openings::OpenFault;
-pub use rows::{CardRow, JobRow, LineRow, NameRow, PictureRow, ProgressRow, QueuedRow, StretchRow};
+pub use openings::{OpenFault, VERSION};
+pub use rows::{
+    CardRow, JobRow, LineRow, NameRow, PageRow, ProgressRow, QueuedRow, StateRow, StorageRow,
+    StretchRow,
+};

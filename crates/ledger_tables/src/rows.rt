@@ -69,11 +69,9 @@ pub struct StretchRow {
     pub granted: u32,
 }
 
-/// A row of `pictures`.
-#[derive(Debug, Drop)]
-pub struct PictureRow {
-    /// One byte for each position: the number of its character, plus 64 if it is marked.
-    pub storage: Vec<u8>,
+/// A row of `states`.
+#[derive(Clone, Copy, Debug)]
+pub struct StateRow {
     pub i: u32,
     pub a: u32,
     pub b: u32,
@@ -97,30 +95,38 @@ pub struct PictureRow {
     pub standing: u32,
 }
 
-impl Model for PictureRow {
-    ghost use Rattle.ledger_tables.specs.Cells.{PictureCells};
-
-    ghost Value = { PictureCells };
-
-    ghost view = { λ row. record {
-      storage = row.storage.items;
-      i = row.i;
-      a = row.a;
-      b = row.b;
-      compare = row.compare;
-      overflow = row.overflow;
-      channel = row.channel;
-      waiting = row.waiting;
-      form = row.form;
-      line = row.line;
-      taken = row.taken;
-      cards = row.cards;
-      lines = row.lines;
-      standing = row.standing;
-    } };
+/// A row of `pages`.
+#[derive(Drop)]
+pub struct PageRow {
+    /// The number of the page, from 0.
+    pub page: u32,
+    /// 100 bytes, one for each position: the number of its character, plus 64 if it is marked.
+    pub storage: Vec<u8>,
 }
 
-/// The columns of `pictures` for the progress of a job.
+impl Model for PageRow {
+    ghost use Rattle.ledger_tables.specs.Cells.{PageCells};
+
+    ghost Value = { PageCells };
+
+    ghost view = { λ row. record { page = row.page; storage = row.storage.items } };
+}
+
+/// The storage of a row of `pictures`, which version 1 has: one byte for each position.
+#[derive(Drop)]
+pub struct StorageRow {
+    pub storage: Vec<u8>,
+}
+
+impl Model for StorageRow {
+    ghost use Rattle.std.specs.Prelude.{ℕ, List};
+
+    ghost Value = { List ℕ };
+
+    ghost view = { λ row. row.storage.items };
+}
+
+/// The columns of `states` for the progress of a job.
 #[derive(Clone, Copy)]
 pub struct ProgressRow {
     pub i: u32,

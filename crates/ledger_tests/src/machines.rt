@@ -106,37 +106,50 @@ fn a_machine_goes_on_from_its_rows(rt: HostRuntime) -> Result<(), Fail> {
     Ok(())
 }
 
-/// Whether a row is read as a picture if its media have one line less.
-fn is_read_with_a_line_less(
+/// How many lines the picture of a row has made before those of its media, if it is one: the media
+/// have at most `most` lines.
+fn lines_before(
     alloc: Global,
     machine: &Machine<FlagCore>,
     row: &PictureRow,
-) -> Result<bool, Fail> {
+    most: usize,
+) -> Result<Option<u32>, Fail> {
     let mut media = media_of(alloc, machine.parts())?;
-    media.lines.truncate(1);
-    Ok(read_picture::<FlagCore>(alloc, row, media)?.is_some())
+    media.lines.truncate(most);
+    match read_picture::<FlagCore>(alloc, row, media)? {
+        Some(parts) => Ok(Some(parts.units.before.lines)),
+        None => Ok(None),
+    }
 }
 
-/// The row of a machine, and whether it is read with one line less.
+/// The row of a machine, and the lines before those of its media: two, one, none, and two where the
+/// row counts one.
 fn row_told(alloc: Global, machine: &Machine<FlagCore>) -> Result<String, Fail> {
-    let row = row_of(alloc, machine)?;
-    let found = is_read_with_a_line_less(alloc, machine, &row)?;
+    let mut row = row_of(alloc, machine)?;
     let (lines, taken, standing) = (row.lines, row.taken, row.standing);
-    Ok(format!(in alloc; "{lines} lines, {taken} taken, standing {standing}, picture {found}")?)
+    let two = lines_before(alloc, machine, &row, 2)?;
+    let one = lines_before(alloc, machine, &row, 1)?;
+    let none = lines_before(alloc, machine, &row, 0)?;
+    row.lines = 1;
+    let less = lines_before(alloc, machine, &row, 2)?;
+    Ok(format!(in alloc;
+        "{lines} lines, {taken} taken, standing {standing}, \
+        before {two:?} {one:?} {none:?} {less:?}"
+    )?)
 }
 
 /// The same for a machine at its halt.
-fn told_with_a_line_less(alloc: Global) -> Result<String, Fail> {
+fn told_at_the_halt(alloc: Global) -> Result<String, Fail> {
     let machine = machine_after(alloc, 2000)?;
     row_told(alloc, &machine)
 }
 
 #[test]
-fn a_row_without_its_lines_is_no_picture(rt: HostRuntime) -> Result<(), Fail> {
-    let told = told_with_a_line_less(rt.alloc())?;
+fn lines_beyond_those_of_the_media_were_made_before(rt: HostRuntime) -> Result<(), Fail> {
+    let told = told_at_the_halt(rt.alloc())?;
     assert_eq!(rt;
         told.as_str(),
-        "2 lines, 6 taken, standing 1, picture false"
+        "2 lines, 6 taken, standing 1, before Some(0) Some(1) Some(2) None"
     );
     Ok(())
 }

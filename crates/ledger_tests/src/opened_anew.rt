@@ -116,7 +116,7 @@ fn a_thousand_million_instructions_and_no_more(rt: HostRuntime) -> Result<(), Fa
 }
 
 /// Statements, each after the number of the fault that a slice then returns, 0 for none: 2 if a row
-/// is not a bureau's, and if a row is missing.
+/// that it reads is not a bureau's, and if such a row is missing. It reads no cards and lines.
 const ALTERED_ROWS: &str = "\
 0|UPDATE stretches SET switches = 127
 2|UPDATE stretches SET switches = 128
@@ -130,10 +130,12 @@ const ALTERED_ROWS: &str = "\
 2|UPDATE pictures SET waiting = 5
 2|UPDATE pictures SET standing = 9
 2|UPDATE pictures SET line = 67
-2|UPDATE pictures SET cards = 1
+0|UPDATE pictures SET cards = 10000
+2|UPDATE pictures SET cards = 10001
+2|UPDATE pictures SET lines = 20001
 2|DELETE FROM pictures
-2|INSERT INTO cards VALUES ('ACME', 9, 1, x'40')
-2|INSERT INTO lines VALUES ('ACME', 9, 1, 1, 1, x'00')
+0|INSERT INTO cards VALUES ('ACME', 9, 1, x'40')
+0|INSERT INTO lines VALUES ('ACME', 9, 1, 1, 1, x'00')
 ";
 
 /// The first line of a sheet after whose statement a slice of one instruction returns another fault,
@@ -157,5 +159,45 @@ fn misread<'a>(alloc: Global, sheet: &'a str) -> Result<&'a str, Fail> {
 #[test]
 fn rows_that_are_none_of_a_bureau(rt: HostRuntime) -> Result<(), Fail> {
     assert_eq!(rt; misread(rt.alloc(), ALTERED_ROWS)?, "");
+    Ok(())
+}
+
+#[test]
+fn cards_and_lines_that_are_none(rt: HostRuntime) -> Result<(), Fail> {
+    for (told, sql) in [
+        (
+            "fault Store|cards|ACME|9|\n",
+            "INSERT INTO cards VALUES ('ACME', 9, 1, x'40')",
+        ),
+        (
+            "fault Store|lines|ACME|9|\n",
+            "INSERT INTO lines VALUES ('ACME', 9, 1, 1, 1, x'00')",
+        ),
+    ] {
+        let told = told_after(rt.alloc(), LOOP, sql, told, "SELECT count(*) FROM jobs")?;
+        assert_eq!(rt; told.as_str(), "1, 0 ticks");
+    }
+    Ok(())
+}
+
+/// A job that prints two lines has printed the first.
+const ONE_LINE: &str = "\
+taken 6|submit|ACME|9|4000|A|two lines
+ran 30, running|slice|ACME|9|30
+";
+
+/// It prints the second.
+const SECOND_LINE: &str = "ran 5, halted, next 361|slice|ACME|9|2000\n";
+
+#[test]
+fn earlier_lines_are_counted_and_not_read(rt: HostRuntime) -> Result<(), Fail> {
+    let told = told_after(
+        rt.alloc(),
+        ONE_LINE,
+        "DELETE FROM lines",
+        SECOND_LINE,
+        "SELECT place FROM lines",
+    )?;
+    assert_eq!(rt; told.as_str(), "2, 35 ticks");
     Ok(())
 }

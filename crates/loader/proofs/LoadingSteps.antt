@@ -6,6 +6,7 @@ use Rattle.core_store.specs.declared.registers.Compared.TheVariants.{Equal}
 use Rattle.addresses.specs.Addresses.{encoded}
 use Rattle.units.specs.declared.switches.Switches.{Switches}
 use Rattle.units.specs.Switches.{seven}
+use Rattle.units.specs.Units.{nothing_made}
 use Rattle.units.specs.declared.units.Units.{Units}
 use Rattle.machine.specs.declared.named.Decoded.{Decoded}
 use Rattle.machine.specs.declared.named.Operation.TheVariants.{OnFields, ClearStorage, Operate, NoOperation}
@@ -26,6 +27,7 @@ use Rattle.loader.proofs.LoadingEffects.{sets, clears, moves, starts, reads_card
 abbrev pub units_with : List Card → ℕ → Switches → Units
 units_with deck taken switches = record {
   hopper = record { deck = deck; taken = taken };
+  before = nothing_made;
   punch = [];
   printer = record { lines = []; carriage = record { form = 1; line = 1; waiting = None; channel_12 = false } };
   switches = seven switches;

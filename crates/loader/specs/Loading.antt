@@ -9,6 +9,7 @@ use Rattle.machine.specs.Run.{State, after, loaded}
 use Rattle.machine.specs.declared.standings.Standing.TheVariants.{Running}
 use Rattle.units.specs.declared.switches.Switches.{Switches}
 use Rattle.units.specs.Switches.{seven}
+use Rattle.units.specs.Units.{nothing_made}
 use Rattle.autocoder_layout.specs.declared.cells.Cell.{Cell}
 use Rattle.autocoder.specs.Assembly.{Assembly}
 use Rattle.loader.specs.Stretches.{stretches_of}
@@ -35,6 +36,7 @@ at_the_start image start data_cards size switches = record {
         deck = loading_cards image start ++ data_cards;
         taken = length (loading_cards image start);
       };
+      before = nothing_made;
       punch = [];
       printer = record {
         lines = [];

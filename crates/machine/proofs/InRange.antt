@@ -208,12 +208,12 @@ passed_below (ByOrder order) b old h = h
 
 -- ---- the carriage
 
-ordered_printed : (modifier : Modifier) (p : Printed) → HasPrinted p → Each HasPrinted (ordered_by modifier p)
-ordered_printed Plain p h = h
-ordered_printed (OnCondition condition) p h = h
-ordered_printed (OnCharacter code) p h = h
-ordered_printed (OnTest test) p h = h
-ordered_printed (ByOrder order) p h = carriage_printed order p h
+ordered_printed : (modifier : Modifier) (before : ℕ) (p : Printed) → HasPrinted before p → Each (HasPrinted before) (ordered_by modifier p)
+ordered_printed Plain before p h = h
+ordered_printed (OnCondition condition) before p h = h
+ordered_printed (OnCharacter code) before p h = h
+ordered_printed (OnTest test) before p h = h
+ordered_printed (ByOrder order) before p h = carriage_printed order before p h
 
 -- ---- what each attempt leaves
 
@@ -245,7 +245,7 @@ module _ (d : Decoded) (next : ℕ) (w : Works) (at_d : WorksAt d) (at_next : ne
   effect_in_range (Operate devices) =
       each_then (λ done. AreUnits done.1) Leaves _ _ (operated_in_range devices w.storage w.units h.units) (λ done units. record { registers = unit_in_range; units = units })
   effect_in_range MoveCarriage =
-      each_then HasPrinted Leaves _ _ (ordered_printed d.modifier w.units.printer h.units.printer) (λ p printed.
+      each_then (HasPrinted w.units.before.lines) Leaves _ _ (ordered_printed d.modifier w.units.before.lines w.units.printer h.units.printer) (λ p printed.
       record { registers = record { i = at_next; a = h.registers.a; b = h.registers.b }; units = record { reader = h.units.reader; punch = h.units.punch; printer = printed; switches = h.units.switches } })
   effect_in_range StoreA =
       each_then (λ _. Unit {0}) Leaves _ _ (each_any (address_stored w.storage d.a w.registers.a)) (λ s _.

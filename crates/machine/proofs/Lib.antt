@@ -1,5 +1,6 @@
 pub mod Steps
 pub mod InRange
+pub mod EarlierSteps
 pub mod DecodeLaw
 pub mod OperationNames
 pub mod FormTables

@@ -141,7 +141,7 @@ pub each_any : {T : Type 0} (r : Result T Check) → Each (λ _. Unit {0}) r
 each_any (Ok x) = tt
 each_any (Err check) = tt
 
--- the storage keeps its size, the deck and the switches stay, and cards and lines are only added
+-- the storage keeps its size, the deck, the switches and the counts of what was made before stay, and cards and lines are only added
 abbrev pub KeepsAll : Works → Works → Type 0
 KeepsAll w after_it = Keeps w.storage after_it.storage w.units after_it.units
 
@@ -152,12 +152,13 @@ begins_longer : {T : Type 0} (xs ys : List T) → Begins xs ys → length xs ≤
 begins_longer xs ys (more, e) = let long : length ys ≡ length xs + length more = ap length e ∙ length-append xs more in omega arith
 
 pub keeps_same : (s t : Storage) (u : Units) → length t ≡ length s → Keeps s t u u
-keeps_same s t u size = record { size = size; deck = refl; switches = refl; cards = begins_same u.punch; lines = begins_same u.printer.lines }
+keeps_same s t u size = record { size = size; deck = refl; before = refl; switches = refl; cards = begins_same u.punch; lines = begins_same u.printer.lines }
 
 pub keeps_then : (s t r : Storage) (u v x : Units) → Keeps s t u v → Keeps t r v x → Keeps s r u x
 keeps_then s t r u v x one two = record {
   size = two.size ∙ one.size;
   deck = two.deck ∙ one.deck;
+  before = two.before ∙ one.before;
   switches = two.switches ∙ one.switches;
   cards = begins_then u.punch v.punch x.punch one.cards two.cards;
   lines = begins_then u.printer.lines v.printer.lines x.printer.lines one.lines two.lines;
@@ -287,7 +288,7 @@ effect_keeps (Operate devices) d next w =
     each_then (λ done. Keeps w.storage done.0 w.units done.1) (KeepsBoth w) (operated devices w.storage w.units) _ (operated_keeps devices w.storage w.units) (λ done h. h)
 effect_keeps MoveCarriage d next w =
     each_then (λ after_it. after_it.lines ≡ w.units.printer.lines) (KeepsBoth w) (ordered_by d.modifier w.units.printer) _ (ordered_keeps d.modifier w.units.printer) (λ p h.
-    record { size = refl; deck = refl; switches = refl; cards = begins_same w.units.punch; lines = ([], h ∙ sym (append-nil w.units.printer.lines)) })
+    record { size = refl; deck = refl; before = refl; switches = refl; cards = begins_same w.units.punch; lines = ([], h ∙ sym (append-nil w.units.printer.lines)) })
 effect_keeps StoreA d next w =
     each_then (λ t. length t ≡ length w.storage) (KeepsBoth w) (address_stored w.storage d.a w.registers.a) _ (address_stored_keeps w.storage d.a w.registers.a)
     (λ t h. keeps_same w.storage t w.units h)
@@ -400,7 +401,7 @@ restored_is old now s c storage is stems =
     let cards : take c.cards now.works.units.punch ≡ old.works.units.punch =
     ap (λ n. take n now.works.units.punch) is.cards ∙ begins_take old.works.units.punch now.works.units.punch stems.cards in
     let lines : take c.lines (lines_of now) ≡ lines_of old = ap (λ n. take n (lines_of now)) is.lines ∙ begins_take (lines_of old) (lines_of now) stems.lines in
-    rw (storage, is.registers, is.taken, cards, lines, is.carriage, is.standing, stems.deck, stems.switches) refl
+    rw (storage, is.registers, is.taken, cards, lines, is.carriage, is.standing, stems.deck, stems.before, stems.switches) refl
 
 -- ---- the beginning
 

@@ -5,5 +5,6 @@ pub mod Instructions
 pub mod Operations
 pub mod Effect
 pub mod Run
+pub mod Earlier
 pub mod Standings
 pub mod Ranges

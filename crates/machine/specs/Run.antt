@@ -16,7 +16,7 @@ use Rattle.machine.specs.declared.runs.Checkpoint.{Checkpoint}
 use Rattle.units.specs.declared.switches.Switches.{Switches}
 use Rattle.units.specs.declared.units.Units.{Units}
 use Rattle.units.specs.Switches.{seven}
-use Rattle.units.specs.Units.{Makes}
+use Rattle.units.specs.Units.{Makes, nothing_made}
 use Rattle.machine.specs.Effect.{Works, attempt}
 
 -- a machine: its storage, registers and units, and its standing
@@ -62,6 +62,7 @@ first_card (card ∷ cards) = card.0
 abbrev pub first_units : List Card → Switches → Units
 first_units deck switches = record {
   hopper = record { deck = deck; taken = 1 };
+  before = nothing_made;
   punch = [];
   printer = record {
     lines = [];

@@ -6,12 +6,17 @@
 //! is n steps, and the meter rises by the number of instructions attempted. Everything is generic
 //! over `Core`. Memory is taken by `load` and `from_parts`, and by an instruction that punches or
 //! prints.
+//!
+//! A machine does not look at what it has punched and printed; it only counts it. So a run may begin
+//! without the earlier cards and lines ([`outputs_are_put_back`]): it does what it would do with
+//! them ([`earlier_outputs_stay_in_front`]).
 #![tactic(auto)]
 
 mod branches;
 mod characters;
 mod cycle;
 mod decode;
+mod earlier;
 mod forms;
 mod instruction;
 mod meter;
@@ -23,6 +28,7 @@ mod runs;
 mod standings;
 
 pub use decode::instructions_end_at_marks;
+pub use earlier::{earlier_outputs_stay_in_front, outputs_are_put_back};
 pub use meter::Meter;
 pub use parts::Parts;
 pub use runs::{Machine, Ran, runs_add, runs_only_add, stays_in_range};

@@ -18,7 +18,7 @@ use cards::Deck;
 use core_store::{Compared, Core, Registers, Size};
 use std::alloc::{AllocError, Global};
 use std::marker::Model;
-use units::{Carriage, Hopper, Printer, Punch, Switches, Units, put_card};
+use units::{Carriage, Counts, Hopper, Printer, Punch, Switches, Units, put_card};
 
 /// How a run ended.
 #[derive(Clone, Copy, Debug, PartialEq, Eq)]
@@ -91,6 +91,7 @@ fn first_units(alloc: Global, deck: Deck, switches: Switches) -> Units
 {
     Units {
         hopper: Hopper { deck, taken: 1 },
+        before: Counts { cards: 0, lines: 0 },
         punch: Punch {
             cards: Vec::new(alloc),
         },
@@ -275,11 +276,15 @@ pub fn stays_in_range()
         IsInRange (started m switches) }
 {}
 
-/// The law of what was made: a run keeps the deck and the switches, and the cards and lines from
-/// before it are the first of those after it.
+/// The law of what was made: a run keeps the deck, the switches and the counts of what was made
+/// before, and the cards and lines from before it are the first of those after it.
 pub fn runs_only_add()
+    ensures size { (m : State) (count : ℕ) →
+        length (after m count).works.storage ≡ length m.works.storage }
     ensures deck { (m : State) (count : ℕ) →
         (after m count).works.units.hopper.deck ≡ m.works.units.hopper.deck }
+    ensures before { (m : State) (count : ℕ) →
+        (after m count).works.units.before ≡ m.works.units.before }
     ensures switches { (m : State) (count : ℕ) →
         (after m count).works.units.switches ≡ m.works.units.switches }
     ensures cards { (m : State) (count : ℕ) →

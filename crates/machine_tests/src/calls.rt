@@ -115,7 +115,7 @@ fn work_alone<C: Core>(core: &mut C, units: &mut Units) -> bool {
     core.size() >= 81
         && read_card(core, &mut units.hopper).is_ok()
         && core.size() >= 181
-        && punch_card(core, &mut units.punch).is_ok()
+        && punch_card(core, &mut units.punch, 0).is_ok()
 }
 
 /// The cards punched, each with a semicolon, and the listing.

@@ -52,7 +52,7 @@ fn orders_a_space(printer: &mut Printer) -> bool {
 /// Whether a line is refused, and changes nothing.
 fn refuses_a_line(core: &PlaneCore, printer: &mut Printer) -> bool {
     core.size() >= 333
-        && print_line(core, printer) == Err(Fault::Stopped(Check::PrinterFull))
+        && print_line(core, printer, 0) == Err(Fault::Stopped(Check::PrinterFull))
         && is_at_the_end(printer, Some(Motion::Space))
 }
 
@@ -75,9 +75,9 @@ fn spaces_to_the_end(printer: &mut Printer) -> bool {
 /// Whether one line is printed at the line before the last one, and no second one after it.
 fn prints_to_the_end(core: &PlaneCore, printer: &mut Printer) -> bool {
     core.size() >= 333
-        && print_line(core, printer).is_ok()
+        && print_line(core, printer, 0).is_ok()
         && ends(printer, 1, None)
-        && print_line(core, printer) == Err(Fault::Stopped(Check::PrinterFull))
+        && print_line(core, printer, 0) == Err(Fault::Stopped(Check::PrinterFull))
         && ends(printer, 1, None)
 }
 

@@ -12,7 +12,7 @@ use core_store::{Core, FlagCore, PlaneCore, Size};
 use machine::{Machine, Meter, Parts, Standing};
 use std::alloc::{AllocError, Global};
 use std::test::Fail;
-use units::{Switches, Units};
+use units::{Counts, Switches, Units};
 
 /// A machine after the load button.
 fn load<C: Core>(alloc: Global, size: &str, switch: &str, cards: &str) -> Result<Machine<C>, Fail> {
@@ -67,6 +67,9 @@ fn put_wrong<C: Core>(parts: &mut Parts<C>, wrong: &str) {
         "a card past the deck" => parts.units.hopper.taken = 7,
         "eighth switch" => parts.units.switches = Switches::from_bits_retain(128),
         "lines backwards" => parts.units.printer.lines.reverse(),
+        "10001 earlier cards" => parts.units.before.cards = 10_001,
+        "19998 earlier lines" => parts.units.before.lines = 19_998,
+        "19999 earlier lines" => parts.units.before.lines = 19_999,
         _ => {}
     }
 }
@@ -100,7 +103,24 @@ fn copy<C: Core>(alloc: Global, machine: &mut Machine<C>) -> Result<(), Fail> {
     Ok(())
 }
 
-/// Does one order: `start`, `copy`, or the limit of a run.
+/// Replaces a machine by one made from a copy of its picture without its lines, with so many cards
+/// and lines made before.
+fn leave<C: Core>(alloc: Global, machine: &mut Machine<C>, before: Counts) -> Result<(), Fail> {
+    let mut picture = copy_of(alloc, machine.parts())?;
+    picture.units.printer.lines.truncate(0);
+    picture.units.before = before;
+    *machine = Machine::from_parts(alloc, picture)?.ok_or("a picture in range")?;
+    Ok(())
+}
+
+/// The numbers of earlier cards and lines after which two cards and one line may be made.
+const NEARLY_FULL: Counts = Counts {
+    cards: 9_998,
+    lines: 19_999,
+};
+
+/// Does one order: `start`, `copy`, `leave` for a machine without its one line, `fill` for one that
+/// is nearly full, or the limit of a run.
 fn follow<C: Core>(
     alloc: Global,
     machine: &mut Machine<C>,
@@ -110,6 +130,8 @@ fn follow<C: Core>(
     match order {
         "start" => start(machine)?,
         "copy" => copy(alloc, machine)?,
+        "leave" => leave(alloc, machine, Counts { cards: 0, lines: 1 })?,
+        "fill" => leave(alloc, machine, NEARLY_FULL)?,
         limit => return Ok(run(alloc, machine, meter, number(limit))?),
     }
     Ok(String::new(alloc))
@@ -181,7 +203,8 @@ impl Case for Runs {
 }
 
 /// Cards that are printed as lines; a start after the halt; runs that do not halt; orders to the
-/// carriage; cards that are punched; and a machine that continues from its picture.
+/// carriage; cards that are punched; and machines that continue from their picture, without their
+/// earlier line, and after nearly all cards and lines that may be made.
 const RUNS: &str = "\
 4000|A|list;HELLO;WORLD|34 -> 34 Running ticks 34 next 360 line 3 punched | printed |HELLO|WORLD|
 4000|A|list;HELLO;WORLD|34 2000 \
@@ -202,6 +225,12 @@ const RUNS: &str = "\
     -> 8 Halted ticks 8 next 33 line 1 punched |||| printed |
 1400|A|list;HELLO;WORLD|30 copy 2000 \
     -> 30 Running 5 Halted ticks 35 next 361 line 3 punched | printed |HELLO|WORLD|
+1400|A|list;HELLO;WORLD|30 leave 2000 \
+    -> 30 Running 5 Halted ticks 35 next 361 line 3 punched | printed |WORLD|
+1400|A|list;HELLO;WORLD|fill 2000 \
+    -> 32 Checked(PrinterFull) ticks 33 next 350 line 2 punched | printed |HELLO|
+1400||,008015,022029,030031,032033444.|fill 2000 \
+    -> 6 Checked(PunchFull) ticks 7 next 31 line 1 punched ||| printed |
 1400|A|,008015,022029,030031M0361057.-PUNCH;NEXT                         .|2000 \
     -> 6 Halted ticks 6 next 31 line 2 punched |PUNCH| printed ||
 1400||,008015,022029,030031M0361054.-PUNCH|2000 \
@@ -255,6 +284,9 @@ no card read -> false false
 a card past the deck -> false false
 eighth switch -> false false
 lines backwards -> false false
+10001 earlier cards -> false false
+19998 earlier lines -> true true
+19999 earlier lines -> false false
 ";
 
 #[test]

@@ -4,17 +4,18 @@ use crate::decks::three_cards;
 use crate::replies::are_answered;
 use bitflags::Flags;
 use cards::Deck;
-use core_store::{Compared, Core, FlagCore, Registers, Size};
+use core_store::{Compared, Core, PlaneCore, Registers, Size};
 use machine::{Parts, Standing};
 use office::{Job, JobCommand, JobParts, Stretch};
 use std::alloc::Global;
 use std::test::Fail;
-use units::{Carriage, Hopper, Printer, Punch, Switches, Units, put_card};
+use units::{Carriage, Counts, Hopper, Printer, Punch, Switches, Units, put_card};
 
 /// Units that have read the first card of a deck.
 fn units_with(alloc: Global, deck: Deck) -> Units {
     Units {
         hopper: Hopper { deck, taken: 1 },
+        before: Counts { cards: 0, lines: 0 },
         punch: Punch {
             cards: Vec::new(alloc),
         },
@@ -27,8 +28,8 @@ fn units_with(alloc: Global, deck: Deck) -> Units {
 }
 
 /// A machine that has just loaded a deck.
-fn machine_with(alloc: Global, deck: Deck) -> Result<Parts<FlagCore>, Fail> {
-    let mut core = FlagCore::blank(alloc, Size::Positions1400)?;
+fn machine_with(alloc: Global, deck: Deck) -> Result<Parts<PlaneCore>, Fail> {
+    let mut core = PlaneCore::blank(alloc, Size::Positions1400)?;
     core.set_mark(1);
     put_card(&mut core, deck.cards().first().ok_or("a card")?);
     if core.size() != 1400 {
@@ -49,7 +50,7 @@ fn machine_with(alloc: Global, deck: Deck) -> Result<Parts<FlagCore>, Fail> {
 }
 
 /// The parts of a job that punches three cards, with one stretch of these switches and this grant.
-fn parts_with(alloc: Global, switches: u8, granted: u32) -> Result<JobParts<FlagCore>, Fail> {
+fn parts_with(alloc: Global, switches: u8, granted: u32) -> Result<JobParts<PlaneCore>, Fail> {
     let contents = three_cards(alloc)?;
     let mut stretches = Vec::new(alloc);
     stretches.push(Stretch {

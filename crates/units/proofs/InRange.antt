@@ -78,12 +78,12 @@ rising_more : (above : Place) (lines : List Line) (x : Line) (next : Place) → 
 rising_more above [] x next h below = (h.0, (below, tt))
 rising_more above (l ∷ lines) x next h below = (h.0, rising_more (line_place l) lines x next h.1 below)
 
-line_printed_printed : (s : Storage) (p : Printed) → HasPrinted p → Each HasPrinted (line_printed s p)
+line_printed_printed : (before : ℕ) (s : Storage) (p : Printed) → HasPrinted before p → Each (HasPrinted before) (line_printed before s p)
 unfolding line_printed
-line_printed_printed s p h =
-    each_where HasPrinted _ PrinterFull _ (λ e.
-    each_found (GoesBelow p.carriage) HasPrinted (after_line p.carriage) PrinterFull _ (after_line_below p.carriage (last_on_form _ p.lines _ h.places)) (λ carriage below.
-    let room : length p.lines < most_lines = ltb-true (length p.lines) most_lines e in
+line_printed_printed before s p h =
+    each_where (HasPrinted before) _ PrinterFull _ (λ e.
+    each_found (GoesBelow p.carriage) (HasPrinted before) (after_line p.carriage) PrinterFull _ (after_line_below p.carriage (last_on_form _ p.lines _ h.places)) (λ carriage below.
+    let room : before + length p.lines < most_lines = ltb-true (before + length p.lines) most_lines e in
     record { most = omega (arith, length-append {A = Line}); places = rising_more _ p.lines _ (carriage_place carriage) h.places below }))
 
 abbrev IsAfter : Place → Place → Type 0
@@ -102,20 +102,20 @@ rising_moved : (above : Place) (lines : List Line) (at next : Place) → AreRisi
 rising_moved above [] at next h below = ((below.0, further above at next h.0.1 below.1), tt)
 rising_moved above (l ∷ lines) at next h below = (h.0, rising_moved (line_place l) lines at next h.1 below)
 
-pub carriage_printed : (order : CarriageOrder) (p : Printed) → HasPrinted p → Each HasPrinted (carriage_moved order p)
+pub carriage_printed : (order : CarriageOrder) (before : ℕ) (p : Printed) → HasPrinted before p → Each (HasPrinted before) (carriage_moved order p)
 unfolding carriage_moved ordered
-carriage_printed (Now motion) p h =
-    each_found (GoesBelow p.carriage) HasPrinted (moved_by motion p.carriage) PrinterFull _ (moved_by_below motion p.carriage (last_on_form _ p.lines _ h.places))
+carriage_printed (Now motion) before p h =
+    each_found (GoesBelow p.carriage) (HasPrinted before) (moved_by motion p.carriage) PrinterFull _ (moved_by_below motion p.carriage (last_on_form _ p.lines _ h.places))
     (λ carriage below. record { most = h.most; places = rising_moved _ p.lines _ (carriage_place carriage) h.places below })
-carriage_printed (AfterLine motion) p h = record { most = h.most; places = h.places }
+carriage_printed (AfterLine motion) before p h = record { most = h.most; places = h.places }
 
 -- ---- one operation
 
-card_punched_most : (s : Storage) (cards : List Card) → length cards ≤ most_cards → Each (λ after_it. length after_it ≤ most_cards) (card_punched s cards)
+card_punched_most : (before : ℕ) (s : Storage) (cards : List Card) → before + length cards ≤ most_cards → Each (λ after_it. before + length after_it ≤ most_cards) (card_punched before s cards)
 unfolding card_punched
-card_punched_most s cards most =
-    each_where (λ after_it. length after_it ≤ most_cards) _ PunchFull _ (λ e.
-    let room : length cards < most_cards = ltb-true (length cards) most_cards e in omega (arith, length-append {A = Card}))
+card_punched_most before s cards most =
+    each_where (λ after_it. before + length after_it ≤ most_cards) _ PunchFull _ (λ e.
+    let room : before + length cards < most_cards = ltb-true (before + length cards) most_cards e in omega (arith, length-append {A = Card}))
 
 abbrev Leaves : Storage × Units → Type 0
 Leaves (s, u) = AreUnits u
@@ -125,8 +125,8 @@ pub operated_in_range : (devices : Devices) (s : Storage) (u : Units) → AreUni
 unfolding operated reader_works punch_works printer_works
 operated_in_range devices s u h =
     each_then LeavesRead Leaves (reader_works devices s u.hopper) _ (each_if LeavesRead (reads devices) (card_read s u.hopper) (s, u.hopper) (card_read_read s u.hopper h.reader) h.reader) (λ read has_read.
-    each_then (λ cards. length cards ≤ most_cards) Leaves (punch_works devices s u.punch) _ (each_if (λ cards. length cards ≤ most_cards) (punches devices) (card_punched s u.punch) u.punch (card_punched_most s u.punch h.punch) h.punch) (λ cards most.
-    each_then HasPrinted Leaves (printer_works devices s u.printer) _ (each_if HasPrinted (prints devices) (line_printed s u.printer) u.printer (line_printed_printed s u.printer h.printer) h.printer) (λ printed has_printed.
+    each_then (λ cards. u.before.cards + length cards ≤ most_cards) Leaves (punch_works devices u.before.cards s u.punch) _ (each_if (λ cards. u.before.cards + length cards ≤ most_cards) (punches devices) (card_punched u.before.cards s u.punch) u.punch (card_punched_most u.before.cards s u.punch h.punch) h.punch) (λ cards most.
+    each_then (HasPrinted u.before.lines) Leaves (printer_works devices u.before.lines s u.printer) _ (each_if (HasPrinted u.before.lines) (prints devices) (line_printed u.before.lines s u.printer) u.printer (line_printed_printed u.before.lines s u.printer h.printer) h.printer) (λ printed has_printed.
     record { reader = has_read; punch = most; printer = has_printed; switches = h.switches })))
 
 -- ---- what an operation keeps
@@ -150,15 +150,15 @@ card_read_keeps s h =
     each_find (KeepsDeck s h) (slice_get h.deck h.taken) ReaderEmpty (λ (card : Card). Ok (put_codes s 1 card.0, record h { taken = h.taken + 1 }))
     (λ card. (length-put_codes s 1 card.0, refl))
 
-card_punched_keeps : (s : Storage) (cards : List Card) → Each (Begins cards) (card_punched s cards)
+card_punched_keeps : (before : ℕ) (s : Storage) (cards : List Card) → Each (Begins cards) (card_punched before s cards)
 unfolding card_punched
-card_punched_keeps s cards =
+card_punched_keeps before s cards =
     let card : Card = record { 0 = codes_from s 101 80 } in
-    each_require (Begins cards) (ltb (length cards) most_cards) PunchFull (Ok (cards ++ card ∷ [])) (card ∷ [], refl)
+    each_require (Begins cards) (ltb (before + length cards) most_cards) PunchFull (Ok (cards ++ card ∷ [])) (card ∷ [], refl)
 
-line_printed_keeps : (s : Storage) (p : Printed) → Each (λ after_it. Begins p.lines after_it.lines) (line_printed s p)
+line_printed_keeps : (before : ℕ) (s : Storage) (p : Printed) → Each (λ after_it. Begins p.lines after_it.lines) (line_printed before s p)
 unfolding line_printed
-line_printed_keeps s p =
+line_printed_keeps before s p =
     each_require (λ after_it. Begins p.lines after_it.lines) _ PrinterFull _
     (each_find (λ after_it. Begins p.lines after_it.lines) (after_line p.carriage) PrinterFull _ (λ carriage.
     (record { form = p.carriage.form; line = p.carriage.line; codes = codes_from s 201 132 } ∷ [], refl)))
@@ -167,6 +167,7 @@ line_printed_keeps s p =
 pub record Keeps (s t : Storage) (u after_it : Units) : Type 0 where
   pub size : length t ≡ length s
   pub deck : after_it.hopper.deck ≡ u.hopper.deck
+  pub before : after_it.before ≡ u.before
   pub switches : after_it.switches ≡ u.switches
   pub cards : Begins u.punch after_it.punch
   pub lines : Begins u.printer.lines after_it.printer.lines
@@ -175,10 +176,10 @@ pub operated_keeps : (devices : Devices) (s : Storage) (u : Units) → Each (λ 
 unfolding operated reader_works punch_works printer_works
 operated_keeps devices s u =
     each_then (KeepsDeck s u.hopper) (λ done. Keeps s done.0 u done.1) (reader_works devices s u.hopper) _ (each_if (KeepsDeck s u.hopper) (reads devices) (card_read s u.hopper) (s, u.hopper) (card_read_keeps s u.hopper) (refl, refl)) (λ read kept.
-    each_then (Begins u.punch) (λ done. Keeps s done.0 u done.1) (punch_works devices s u.punch) _ (each_if (Begins u.punch) (punches devices) (card_punched s u.punch) u.punch (card_punched_keeps s u.punch) (begins_same u.punch)) (λ cards more.
-    each_then (λ after_it. Begins u.printer.lines after_it.lines) (λ done. Keeps s done.0 u done.1) (printer_works devices s u.printer) _
-    (each_if (λ after_it. Begins u.printer.lines after_it.lines) (prints devices) (line_printed s u.printer) u.printer (line_printed_keeps s u.printer) (begins_same u.printer.lines)) (λ printed longer.
-    record { size = kept.0; deck = kept.1; switches = refl; cards = more; lines = longer })))
+    each_then (Begins u.punch) (λ done. Keeps s done.0 u done.1) (punch_works devices u.before.cards s u.punch) _ (each_if (Begins u.punch) (punches devices) (card_punched u.before.cards s u.punch) u.punch (card_punched_keeps u.before.cards s u.punch) (begins_same u.punch)) (λ cards more.
+    each_then (λ after_it. Begins u.printer.lines after_it.lines) (λ done. Keeps s done.0 u done.1) (printer_works devices u.before.lines s u.printer) _
+    (each_if (λ after_it. Begins u.printer.lines after_it.lines) (prints devices) (line_printed u.before.lines s u.printer) u.printer (line_printed_keeps u.before.lines s u.printer) (begins_same u.printer.lines)) (λ printed longer.
+    record { size = kept.0; deck = kept.1; before = refl; switches = refl; cards = more; lines = longer })))
 
 pub carriage_keeps : (order : CarriageOrder) (p : Printed) → Each (λ after_it. after_it.lines ≡ p.lines) (carriage_moved order p)
 unfolding carriage_moved
@@ -189,8 +190,8 @@ carriage_keeps order p = each_find (λ after_it. after_it.lines ≡ p.lines) (or
 pub in_range_after : (devices : Devices) (s t : Storage) (u after_it : Units) → AreUnits u → operated devices s u ≡ Ok (t, after_it) → AreUnits after_it
 in_range_after devices s t u after_it h e = of_ok (λ done. AreUnits done.1) _ (t, after_it) e (operated_in_range devices s u h)
 
-pub carriage_in_range : (order : CarriageOrder) (p after_it : Printed) → HasPrinted p → carriage_moved order p ≡ Ok after_it → HasPrinted after_it
-carriage_in_range order p after_it h e = of_ok HasPrinted _ after_it e (carriage_printed order p h)
+pub carriage_in_range : (order : CarriageOrder) (before : ℕ) (p after_it : Printed) → HasPrinted before p → carriage_moved order p ≡ Ok after_it → HasPrinted before after_it
+carriage_in_range order before p after_it h e = of_ok (HasPrinted before) _ after_it e (carriage_printed order before p h)
 
 pub keeps_after : (devices : Devices) (s t : Storage) (u after_it : Units) → operated devices s u ≡ Ok (t, after_it) → Keeps s t u after_it
 keeps_after devices s t u after_it e = of_ok (λ done. Keeps s done.0 u done.1) _ (t, after_it) e (operated_keeps devices s u)
@@ -198,7 +199,7 @@ keeps_after devices s t u after_it e = of_ok (λ done. Keeps s done.0 u done.1) 
 pub only_adds : (devices : Devices) (s t : Storage) (u after_it : Units) → operated devices s u ≡ Ok (t, after_it) → OnlyAdds u after_it
 only_adds devices s t u after_it e =
     let kept = keeps_after devices s t u after_it e in
-    record { deck = kept.deck; switches = kept.switches; cards = begins_take _ _ kept.cards; lines = begins_take _ _ kept.lines }
+    record { deck = kept.deck; before = kept.before; switches = kept.switches; cards = begins_take _ _ kept.cards; lines = begins_take _ _ kept.lines }
 
 pub keeps_lines : (order : CarriageOrder) (p after_it : Printed) → carriage_moved order p ≡ Ok after_it → after_it.lines ≡ p.lines
 keeps_lines order p after_it e = of_ok (λ x. x.lines ≡ p.lines) _ after_it e (carriage_keeps order p)
@@ -226,5 +227,5 @@ lines_behind above carriage [] h = record { on_forms = λ k d lt. absurd (omega 
 lines_behind above carriage (l ∷ []) h = lines_one above l h.0
 lines_behind above carriage (l ∷ m ∷ lines) h = lines_more above l m lines h.0 h.1.0 (lines_behind (line_place l) carriage (m ∷ lines) h.1)
 
-pub lines_rise : (p : Printed) → HasPrinted p → IsRising p.lines
-lines_rise p h = lines_behind the_top (carriage_place p.carriage) p.lines h.places
+pub lines_rise : (before : ℕ) (p : Printed) → HasPrinted before p → IsRising p.lines
+lines_rise before p h = lines_behind the_top (carriage_place p.carriage) p.lines h.places

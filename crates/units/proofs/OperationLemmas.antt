@@ -1,5 +1,5 @@
 -- one operation of the units
-use Rattle.std.proofs.Common.{◌≡◌, ◌<◌, ◌≤◌, Bool, true, false, List, [], ◌∷◌, ◌++◌, take, length, Result, Ok, Err, Option, Some, None, IsOk, is_ok, refl, sym, ap, subst, ◌∙◌, ◌⊎◌, inl, inr, if◌then◌else◌}
+use Rattle.std.proofs.Common.{ℕ, ◌≡◌, ◌<◌, ◌≤◌, Bool, true, false, List, [], ◌∷◌, ◌++◌, take, length, Result, Ok, Err, Option, Some, None, IsOk, is_ok, refl, sym, ap, subst, ◌∙◌, ◌⊎◌, inl, inr, if◌then◌else◌}
 use Rattle.std.specs.Prelude.{slice_get}
 use Rattle.std.proofs.Math.Seq.{take-append_seam, take-length}
 use Rattle.std.proofs.lemmas.Option.{slice_get_past, slice_get_within, slice_get-get_or}
@@ -94,10 +94,10 @@ module _ (devices : Devices) (s : Storage) (u : Units) where
   the_reader = reader_works devices s u.hopper
 
   abbrev the_punch : Result (List Card) Check
-  the_punch = punch_works devices s u.punch
+  the_punch = punch_works devices u.before.cards s u.punch
 
   abbrev the_printer : Result Printed Check
-  the_printer = printer_works devices s u.printer
+  the_printer = printer_works devices u.before.lines s u.printer
 
   pub operation_ready : IsOk the_reader → IsOk the_punch → IsOk the_printer → IsOk (operated devices s u)
   unfolding operated
@@ -156,7 +156,7 @@ work_if : (test : Bool) (cards after_it : List Card) (worked : Result (List Card
 work_if true cards after_it worked h e = h e
 work_if false cards after_it worked h e = ap (take (length cards)) (sym (same_value e)) ∙ take-length cards
 
-pub taken_back : (devices : Devices) (s : Storage) (cards after_it : List Card) → punch_works devices s cards ≡ Ok after_it → take (length cards) after_it ≡ cards
+pub taken_back : (devices : Devices) (before : ℕ) (s : Storage) (cards after_it : List Card) → punch_works devices before s cards ≡ Ok after_it → take (length cards) after_it ≡ cards
 unfolding punch_works card_punched
-taken_back devices s cards after_it e =
+taken_back devices before s cards after_it e =
     work_if _ cards after_it _ (card_if _ cards (record { 0 = codes_from s 101 80 } ∷ []) after_it) e

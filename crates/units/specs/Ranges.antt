@@ -1,5 +1,5 @@
 -- what is in range for the units, and what an operation keeps of them
-use Rattle.std.specs.Prelude.{◌<◌, ◌≤◌, ◌≡◌, ◌⊎◌, List, [], ◌∷◌, ◌++◌, length, map, take}
+use Rattle.std.specs.Prelude.{ℕ, ◌+◌, ◌<◌, ◌≤◌, ◌≡◌, ◌⊎◌, List, [], ◌∷◌, ◌++◌, length, map, take}
 use Rattle.units.specs.declared.carriage.Carriage.{Carriage}
 use Rattle.units.specs.Carriages.{lines_of_form, last_form}
 use Rattle.units.specs.declared.printer.Line.{Line}
@@ -41,10 +41,10 @@ places_then carriage lines = map line_place lines ++ carriage ∷ []
 abbrev pub the_top : Place
 the_top = record { form = 0; line = 0 }
 
--- the printer's lines and carriage are in range: not too many, each line below the one before, the
--- carriage below all
-pub record HasPrinted (p : Printed) : Type 0 where
-  pub most : length p.lines ≤ most_lines
+-- the printer's lines and carriage are in range: not too many lines, with so many made before them,
+-- each below the one before, the carriage below all
+pub record HasPrinted (before : ℕ) (p : Printed) : Type 0 where
+  pub most : before + length p.lines ≤ most_lines
   pub places : AreRising the_top (places_then (carriage_place p.carriage) p.lines)
 
 -- the reader's count of cards is in range: at least the one that the load button reads, at most the
@@ -53,17 +53,18 @@ pub record HasRead (h : Hopper) : Type 0 where
   pub some : 1 ≤ h.taken
   pub most : h.taken ≤ length h.deck
 
--- all units and the switches are in range
+-- all units and the switches are in range: not too many cards, with those made before them
 pub record AreUnits (u : Units) : Type 0 where
   pub reader : HasRead u.hopper
-  pub punch : length u.punch ≤ most_cards
-  pub printer : HasPrinted u.printer
+  pub punch : u.before.cards + length u.punch ≤ most_cards
+  pub printer : HasPrinted u.before.lines u.printer
   pub switches : AreSeven u.switches
 
--- an operation keeps the deck and the switches, and the cards and lines there were as the first of
--- those after it
+-- an operation keeps the deck, the switches and the counts of what was made before, and the cards
+-- and lines there were as the first of those after it
 pub record OnlyAdds (u after : Units) : Type 0 where
   pub deck : after.hopper.deck ≡ u.hopper.deck
+  pub before : after.before ≡ u.before
   pub switches : after.switches ≡ u.switches
   pub cards : take (length u.punch) after.punch ≡ u.punch
   pub lines : take (length u.printer.lines) after.printer.lines ≡ u.printer.lines

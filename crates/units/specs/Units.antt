@@ -12,6 +12,7 @@ use Rattle.units.specs.declared.fault.Fault.{Fault}
 use Rattle.units.specs.declared.fault.Fault.TheVariants.{Stopped, NoMemory}
 use Rattle.units.specs.declared.reader.Hopper.{Hopper}
 use Rattle.units.specs.declared.switches.Switches.{Switches}
+use Rattle.units.specs.declared.units.Counts.{Counts}
 use Rattle.units.specs.declared.units.Units.{Units}
 use Rattle.units.specs.Carriages.{after_line}
 use Rattle.units.specs.Printed.{Printed}
@@ -62,17 +63,18 @@ card_read s h =
 abbrev pub is_last_card : Switches → Hopper → Bool
 is_last_card switches h = bit_and switches.0 1 == 1 && h.taken == length h.deck
 
--- the punched cards with one more, of the characters in the punch area, 101 to 180
-unfoldable pub card_punched : Storage → List Card → Result (List Card) Check
-card_punched s cards =
-    require (nat_lt (length cards) most_cards) PunchFull
+-- the punched cards, with so many made before them, and one more, of the characters in the punch
+-- area, 101 to 180
+unfoldable pub card_punched : ℕ → Storage → List Card → Result (List Card) Check
+card_punched before s cards =
+    require (nat_lt (before + length cards) most_cards) PunchFull
     (Ok (cards ++ (record { 0 = codes_from s punch_area card_columns }) ∷ []))
 
--- the printer with one more line, of the characters in the print area, 201 to 332, at the
--- carriage's place
-unfoldable pub line_printed : Storage → Printed → Result Printed Check
-line_printed s p =
-    require (nat_lt (length p.lines) most_lines) PrinterFull
+-- the printer, with so many lines made before its own, and one line more, of the characters in the
+-- print area, 201 to 332, at the carriage's place
+unfoldable pub line_printed : ℕ → Storage → Printed → Result Printed Check
+line_printed before s p =
+    require (nat_lt (before + length p.lines) most_lines) PrinterFull
     (find_or (after_line p.carriage) PrinterFull (λ carriage.
     Ok (record {
       lines = p.lines ++ (record {
@@ -114,12 +116,13 @@ unfoldable pub reader_works : Devices → Storage → Hopper → Result (Storage
 reader_works devices s h = if reads devices then card_read s h else Ok (s, h)
 
 -- the punched cards after an operation, one more if the punch takes part
-unfoldable pub punch_works : Devices → Storage → List Card → Result (List Card) Check
-punch_works devices s cards = if punches devices then card_punched s cards else Ok cards
+unfoldable pub punch_works : Devices → ℕ → Storage → List Card → Result (List Card) Check
+punch_works devices before s cards =
+    if punches devices then card_punched before s cards else Ok cards
 
 -- the printer after an operation, which prints a line if the printer takes part
-unfoldable pub printer_works : Devices → Storage → Printed → Result Printed Check
-printer_works devices s p = if prints devices then line_printed s p else Ok p
+unfoldable pub printer_works : Devices → ℕ → Storage → Printed → Result Printed Check
+printer_works devices before s p = if prints devices then line_printed before s p else Ok p
 
 -- storage and units after the reader, the punch and the printer, or the first check in this order
 abbrev pub together : Units → Result (Storage × Hopper) Check → Result (List Card) Check →
@@ -133,7 +136,19 @@ together u reader punch printer =
 -- storage and units after an operation of the units, each of which works from storage as it was
 unfoldable pub operated : Devices → Storage → Units → Result (Storage × Units) Check
 operated devices s u = together u (reader_works devices s u.hopper)
-    (punch_works devices s u.punch) (printer_works devices s u.printer)
+    (punch_works devices u.before.cards s u.punch)
+    (printer_works devices u.before.lines s u.printer)
+
+-- no cards and no lines
+abbrev pub nothing_made : Counts
+nothing_made = record { cards = 0; lines = 0 }
+
+-- how many cards and lines were made in all: those before, and the units' own
+abbrev pub made_in_all : Units → Counts
+made_in_all u = record {
+  cards = u.before.cards + length u.punch;
+  lines = u.before.lines + length u.printer.lines;
+}
 
 -- an operation has made one more card or line
 abbrev pub Makes : Units → Units → Type 0

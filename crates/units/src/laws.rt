@@ -1,6 +1,6 @@
 //! Laws of all operations of the units.
 
-ghost use Rattle.std.specs.Prelude.{◌≡◌, length, Ok};
+ghost use Rattle.std.specs.Prelude.{◌≡◌, ℕ, length, Ok};
 ghost use Rattle.core_store.specs.Storage.{Storage};
 ghost use Rattle.units.specs.declared.carriage.CarriageOrder.{CarriageOrder};
 ghost use Rattle.units.specs.declared.devices.Devices.{Devices};
@@ -16,13 +16,13 @@ ghost use Rattle.units.specs.Units.{operated};
 pub fn operating_stays_in_range()
     ensures operation { (devices : Devices) (s t : Storage) (u after : Units) → AreUnits u →
         operated devices s u ≡ Ok (t, after) → AreUnits after }
-    ensures carriage { (order : CarriageOrder) (p after : Printed) → HasPrinted p →
-        carriage_moved order p ≡ Ok after → HasPrinted after }
+    ensures carriage { (order : CarriageOrder) (before : ℕ) (p after : Printed) →
+        HasPrinted before p → carriage_moved order p ≡ Ok after → HasPrinted before after }
 {}
 
-/// The law of what was made: an operation keeps the deck, the switches and the size of the storage.
-/// The cards and lines that it found are the first of those that it leaves. An order to the
-/// carriage keeps all lines.
+/// The law of what was made: an operation keeps the deck, the switches, the counts of what was made
+/// before, and the size of the storage. The cards and lines that it found are the first of those
+/// that it leaves. An order to the carriage keeps all lines.
 pub fn operating_only_adds()
     ensures operation { (devices : Devices) (s t : Storage) (u after : Units) →
         operated devices s u ≡ Ok (t, after) → OnlyAdds u after }
@@ -35,5 +35,5 @@ pub fn operating_only_adds()
 /// The law of the lines: the lines of a printer in range rise by form and line, so `render` returns
 /// their listing.
 pub fn lines_in_range_rise()
-    ensures { (p : Printed) → HasPrinted p → IsRising p.lines }
+    ensures { (before : ℕ) (p : Printed) → HasPrinted before p → IsRising p.lines }
 {}

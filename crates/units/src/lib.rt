@@ -6,11 +6,12 @@
 //! `specs/Carriages.antt`), or the first check that applies, and then nothing is changed. `operate`
 //! does the work of several units in one operation. Memory is taken for a punched card, for a
 //! printed line and by `render`; if there is none, nothing is changed. Units in range stay in range
-//! (`specs/Ranges.antt`).
+//! (`specs/Ranges.antt`). Cards and lines that were made before and are kept elsewhere are only
+//! counted.
 //!
-//! Laws over the definitions: an operation keeps the deck and the switches, and the cards and lines
-//! made before it are the first of those made after it ([`operating_only_adds`]); printed lines in
-//! range rise by form and line ([`lines_in_range_rise`]).
+//! Laws over the definitions: an operation keeps the deck, the switches and those counts, and the
+//! cards and lines that it found are the first of those that it leaves ([`operating_only_adds`]);
+//! printed lines in range rise by form and line ([`lines_in_range_rise`]).
 #![tactic(auto)]
 
 mod areas;
@@ -39,4 +40,4 @@ pub use printer::{LINE_LENGTH, Line, MOST_LINES, Printer, print_line};
 pub use punch::{MOST_CARDS, Punch, punch_card};
 pub use reader::{Hopper, put_card, read_card};
 pub use switches::Switches;
-pub use units::Units;
+pub use units::{Counts, Units};

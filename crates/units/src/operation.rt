@@ -10,7 +10,7 @@ use crate::fault::Fault;
 use crate::printer::{Printer, print_line};
 use crate::punch::{Punch, punch_card};
 use crate::reader::{Hopper, take_card};
-use crate::units::Units;
+use crate::units::{Counts, Units};
 use bitflags::Flags;
 use core_store::{Check, Core};
 
@@ -30,22 +30,22 @@ impl Units {
     #[tactic(auto, unfolding(crate::specs::Units::punch_works))]
     fn punch_stops(&self, devices: Devices) -> bool
         ensures check { result ≡ true → (s : Storage) →
-            punch_works devices s self.now.punch ≡ Err PunchFull }
+            punch_works devices self.now.before.cards s self.now.punch ≡ Err PunchFull }
         ensures ready { result ≡ false → (s : Storage) →
-            IsOk (punch_works devices s self.now.punch) }
+            IsOk (punch_works devices self.now.before.cards s self.now.punch) }
     {
-        devices.contains(Devices::PUNCH) && self.punch.is_full()
+        devices.contains(Devices::PUNCH) && self.punch.is_full(self.before.cards)
     }
 
     /// Whether the printer has no room for the line of an operation.
     #[tactic(auto, unfolding(crate::specs::Units::printer_works))]
     fn printer_stops(&self, devices: Devices) -> bool
         ensures check { result ≡ true → (s : Storage) →
-            printer_works devices s self.now.printer ≡ Err PrinterFull }
+            printer_works devices self.now.before.lines s self.now.printer ≡ Err PrinterFull }
         ensures ready { result ≡ false → (s : Storage) →
-            IsOk (printer_works devices s self.now.printer) }
+            IsOk (printer_works devices self.now.before.lines s self.now.printer) }
     {
-        devices.contains(Devices::PRINTER) && self.printer.is_full()
+        devices.contains(Devices::PRINTER) && self.printer.is_full(self.before.lines)
     }
 
     /// Returns the first check of an operation, if one applies.
@@ -70,33 +70,45 @@ impl Units {
 
 /// Does the punch's part of an operation.
 #[tactic(auto, unfolding(crate::specs::Units::punch_works))]
-fn work_punch<C: Core>(core: &C, punch: &mut Punch, devices: Devices) -> Result<(), Fault>
+fn work_punch<C: Core>(
+    core: &C,
+    punch: &mut Punch,
+    before: u32,
+    devices: Devices,
+) -> Result<(), Fault>
     requires { punch_area_end ≤ length (C.cells core.now) }
-    ensures done { OnOk result (punch_works devices (C.cells core.now) punch.old ≡ Ok punch.new) }
+    ensures done { OnOk result (punch_works devices before (C.cells core.now) punch.old
+        ≡ Ok punch.new) }
     ensures refused { IfErr result (λ fault.
-        PunchFails fault punch.old (punch_works devices (C.cells core.now) punch.old)) }
+        PunchFails fault punch.old (punch_works devices before (C.cells core.now) punch.old)) }
     ensures unchanged { OnErr result (punch.new ≡ punch.old) }
 {
     if !devices.contains(Devices::PUNCH) {
         return Ok(());
     }
-    punch_card(core, punch)
+    punch_card(core, punch, before)
 }
 
 /// Does the printer's part of an operation.
 #[tactic(auto, unfolding(crate::specs::Units::printer_works))]
-fn work_printer<C: Core>(core: &C, printer: &mut Printer, devices: Devices) -> Result<(), Fault>
+fn work_printer<C: Core>(
+    core: &C,
+    printer: &mut Printer,
+    before: u32,
+    devices: Devices,
+) -> Result<(), Fault>
     requires { areas_end ≤ length (C.cells core.now) }
-    ensures done { OnOk result (printer_works devices (C.cells core.now) printer.old
+    ensures done { OnOk result (printer_works devices before (C.cells core.now) printer.old
         ≡ Ok printer.new) }
     ensures refused { IfErr result (λ fault.
-        PrintFails fault printer.old (printer_works devices (C.cells core.now) printer.old)) }
+        PrintFails fault printer.old
+        (printer_works devices before (C.cells core.now) printer.old)) }
     ensures unchanged { OnErr result (printer.new ≡ printer.old) }
 {
     if !devices.contains(Devices::PRINTER) {
         return Ok(());
     }
-    print_line(core, printer)
+    print_line(core, printer, before)
 }
 
 /// Does the reader's part of an operation. The reader must have a card for it.
@@ -119,23 +131,26 @@ fn work_makers<C: Core>(
     core: &C,
     punch: &mut Punch,
     printer: &mut Printer,
+    before: Counts,
     devices: Devices,
 ) -> Result<(), Fault>
     requires { areas_end ≤ length (C.cells core.now) }
-    ensures punched { OnOk result (punch_works devices (C.cells core.now) punch.old
+    ensures punched { OnOk result (punch_works devices before.cards (C.cells core.now) punch.old
         ≡ Ok punch.new) }
-    ensures printed { OnOk result (printer_works devices (C.cells core.now) printer.old
-        ≡ Ok printer.new) }
+    ensures printed { OnOk result
+        (printer_works devices before.lines (C.cells core.now) printer.old ≡ Ok printer.new) }
     ensures refused { IfErr result (λ fault.
-        PunchFails fault punch.old (punch_works devices (C.cells core.now) punch.old)
-        ⊎ PrintFails fault printer.old (printer_works devices (C.cells core.now) printer.old)) }
+        PunchFails fault punch.old
+        (punch_works devices before.cards (C.cells core.now) punch.old)
+        ⊎ PrintFails fault printer.old
+        (printer_works devices before.lines (C.cells core.now) printer.old)) }
     ensures unchanged { OnErr result ((punch.new ≡ punch.old) × (printer.new ≡ printer.old)) }
 {
     let cards = punch.count();
-    if let Err(fault) = work_punch(core, punch, devices) {
+    if let Err(fault) = work_punch(core, punch, before.cards, devices) {
         return Err(fault);
     }
-    if let Err(fault) = work_printer(core, printer, devices) {
+    if let Err(fault) = work_printer(core, printer, before.lines, devices) {
         punch.take_back(cards);
         return Err(fault);
     }
@@ -158,7 +173,8 @@ pub fn operate<C: Core>(core: &mut C, units: &mut Units, devices: Devices) -> Re
     if let Err(check) = units.look_for_checks(devices) {
         return Err(Fault::Stopped(check));
     }
-    if let Err(fault) = work_makers(core, &mut units.punch, &mut units.printer, devices) {
+    let before = units.before;
+    if let Err(fault) = work_makers(core, &mut units.punch, &mut units.printer, before, devices) {
         return Err(fault);
     }
     work_reader(core, &mut units.hopper, devices);

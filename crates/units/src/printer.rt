@@ -29,7 +29,7 @@ pub struct Line {
     pub codes: [Code; LINE_LENGTH],
 }
 
-/// The printer: the lines printed so far, and the carriage.
+/// The printer: the lines printed after those that are kept elsewhere, and the carriage.
 #[derive(Drop)]
 pub struct Printer {
     /// The lines in the order of printing.
@@ -47,27 +47,31 @@ impl Model for Printer {
 
 impl Printer {
     #[tactic(auto, unfolding(crate::specs::Units::line_printed))]
-    /// Whether the printer has made its greatest number of lines, or the carriage would pass the
-    /// last form after one more.
-    pub(crate) fn is_full(&self) -> bool
-        ensures check { result ≡ true → (s : Storage) → line_printed s self.now ≡ Err PrinterFull }
-        ensures ready { result ≡ false → (s : Storage) → IsOk (line_printed s self.now) }
+    /// Whether the printer has made its greatest number of lines, `before` earlier ones and these,
+    /// or the carriage would pass the last form after one more.
+    pub(crate) fn is_full(&self, before: u32) -> bool
+        ensures check { result ≡ true → (s : Storage) →
+            line_printed before s self.now ≡ Err PrinterFull }
+        ensures ready { result ≡ false → (s : Storage) → IsOk (line_printed before s self.now) }
     {
-        self.lines.len() >= MOST_LINES || self.carriage.after_line().is_none()
+        self.lines.len() >= MOST_LINES.saturating_sub(before as usize)
+            || self.carriage.after_line().is_none()
     }
 }
 
 /// Prints the print area, 201 to 332, and moves the carriage. PRINTER FULL if the printer has made
-/// its greatest number of lines, or if the carriage would pass the last form.
+/// its greatest number of lines, `before` earlier ones and these, or if the carriage would pass the
+/// last form.
 #[tactic(auto, unfolding(crate::specs::Units::line_printed))]
-pub fn print_line<C: Core>(core: &C, printer: &mut Printer) -> Result<(), Fault>
+pub fn print_line<C: Core>(core: &C, printer: &mut Printer, before: u32) -> Result<(), Fault>
     requires { areas_end ≤ length (C.cells core.now) }
-    ensures done { OnOk result (line_printed (C.cells core.now) printer.old ≡ Ok printer.new) }
+    ensures done { OnOk result (line_printed before (C.cells core.now) printer.old
+        ≡ Ok printer.new) }
     ensures refused { IfErr result (λ fault.
-        PrintFails fault printer.old (line_printed (C.cells core.now) printer.old)) }
+        PrintFails fault printer.old (line_printed before (C.cells core.now) printer.old)) }
     ensures unchanged { OnErr result (printer.new ≡ printer.old) }
 {
-    if printer.lines.len() >= MOST_LINES {
+    if printer.lines.len() >= MOST_LINES.saturating_sub(before as usize) {
         return Err(Fault::Stopped(Check::PrinterFull));
     }
     let Some(carriage) = printer.carriage.after_line() else {

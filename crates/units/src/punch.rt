@@ -14,7 +14,7 @@ use std::marker::Model;
 /// The greatest number of cards that the punch makes.
 pub const MOST_CARDS: usize = 10_000;
 
-/// The card punch: the cards punched so far, in order.
+/// The card punch: the cards punched after those that are kept elsewhere, in order.
 #[derive(Drop)]
 pub struct Punch {
     pub cards: Vec<Card>,
@@ -30,13 +30,14 @@ impl Model for Punch {
 }
 
 impl Punch {
-    /// Whether the punch has made its greatest number of cards.
+    /// Whether the punch has made its greatest number of cards: `before` earlier ones, and these.
     #[tactic(auto, unfolding(crate::specs::Units::card_punched))]
-    pub(crate) fn is_full(&self) -> bool
-        ensures check { result ≡ true → (s : Storage) → card_punched s self.now ≡ Err PunchFull }
-        ensures ready { result ≡ false → (s : Storage) → IsOk (card_punched s self.now) }
+    pub(crate) fn is_full(&self, before: u32) -> bool
+        ensures check { result ≡ true → (s : Storage) →
+            card_punched before s self.now ≡ Err PunchFull }
+        ensures ready { result ≡ false → (s : Storage) → IsOk (card_punched before s self.now) }
     {
-        self.cards.len() >= MOST_CARDS
+        self.cards.len() >= MOST_CARDS.saturating_sub(before as usize)
     }
 
     /// The number of cards punched.
@@ -55,16 +56,16 @@ impl Punch {
 }
 
 /// Punches the punch area, 101 to 180, into one more card. PUNCH FULL if the punch has made its
-/// greatest number of cards.
+/// greatest number of cards: `before` earlier ones, and these.
 #[tactic(auto, unfolding(crate::specs::Units::card_punched))]
-pub fn punch_card<C: Core>(core: &C, punch: &mut Punch) -> Result<(), Fault>
+pub fn punch_card<C: Core>(core: &C, punch: &mut Punch, before: u32) -> Result<(), Fault>
     requires { punch_area_end ≤ length (C.cells core.now) }
-    ensures done { OnOk result (card_punched (C.cells core.now) punch.old ≡ Ok punch.new) }
+    ensures done { OnOk result (card_punched before (C.cells core.now) punch.old ≡ Ok punch.new) }
     ensures refused { IfErr result (λ fault.
-        PunchFails fault punch.old (card_punched (C.cells core.now) punch.old)) }
+        PunchFails fault punch.old (card_punched before (C.cells core.now) punch.old)) }
     ensures unchanged { OnErr result (punch.new ≡ punch.old) }
 {
-    if punch.is_full() {
+    if punch.is_full(before) {
         return Err(Fault::Stopped(Check::PunchFull));
     }
     let codes = codes_at(core, PUNCH_AREA);

@@ -1,6 +1,6 @@
 //! The ranges of the units, and the tests of them.
 
-ghost use Rattle.std.specs.Prelude.{◌≡◌, ◌↔◌, IsTrue};
+ghost use Rattle.std.specs.Prelude.{◌≡◌, ◌↔◌, ◌+◌, ◌≤◌, IsTrue};
 ghost use Rattle.units.specs.Ranges.{AreUnits, IsOnForm, IsBelow, HasPrinted, HasRead, line_place, carriage_place};
 
 use crate::carriage::{Carriage, LAST_FORM, LINES_OF_FORM};
@@ -57,13 +57,21 @@ impl Carriage {
     }
 }
 
+/// Whether `before` and then `count` are at most `most` together.
+fn fits(before: u32, count: usize, most: usize) -> bool
+    ensures { IsTrue result ↔ before + count ≤ most }
+{
+    before as usize <= most && count <= most - before as usize
+}
+
 impl Printer {
-    /// Whether the printer has at most its greatest number of lines, each further down than the one
-    /// before, and the carriage is further down than all of them.
-    fn is_in_range(&self) -> bool
-        ensures { IsTrue result ↔ HasPrinted self.now }
+    /// Whether the printer has at most its greatest number of lines, `before` earlier ones and
+    /// these, each of these is further down than the one before, and the carriage is further down
+    /// than all of them.
+    fn is_in_range(&self, before: u32) -> bool
+        ensures { IsTrue result ↔ HasPrinted before self.now }
     {
-        if self.lines.len() > MOST_LINES {
+        if !fits(before, self.lines.len(), MOST_LINES) {
             return false;
         }
         let mut above = Place { form: 0, line: 0 };
@@ -93,8 +101,8 @@ impl Units {
         ensures { IsTrue result ↔ AreUnits self.now }
     {
         self.hopper.is_in_range()
-            && self.punch.cards.len() <= MOST_CARDS
-            && self.printer.is_in_range()
+            && fits(self.before.cards, self.punch.cards.len(), MOST_CARDS)
+            && self.printer.is_in_range(self.before.lines)
             && self.switches.are_seven()
     }
 }

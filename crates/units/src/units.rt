@@ -9,10 +9,20 @@ use crate::reader::Hopper;
 use crate::switches::Switches;
 use bitflags::Flags;
 
+/// How many cards and how many lines.
+#[derive(Clone, Copy)]
+pub struct Counts {
+    pub cards: u32,
+    pub lines: u32,
+}
+
 /// The units of a machine: reader, punch, printer and sense switches.
 #[derive(Drop)]
 pub struct Units {
     pub hopper: Hopper,
+    /// How many cards and lines were made before those of the punch and the printer. They are kept
+    /// elsewhere; the greatest numbers count them too.
+    pub before: Counts,
     pub punch: Punch,
     pub printer: Printer,
     /// The sense switches as the operator set them at the last start.

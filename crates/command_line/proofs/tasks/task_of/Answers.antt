@@ -26,6 +26,7 @@ asks words (task.Run (File path) s w) wants =
     (row.Run path (record path { now = decimal (positions_of s) }) (record path { now = text_of w }), wants.0)
 asks words (task.Assemble source out) wants = (row.Assemble source out, wants)
 asks words (task.Init file) wants = (row.Init file, wants)
+asks words (task.Migrate file) wants = (row.Migrate file, wants)
 asks words (task.Apply file script) wants = (row.Apply file script, wants)
 asks words (task.Export file customer number) wants = (row.Export file customer (record file { now = wants.0 }), wants.1)
 asks words (task.Serve file port count) wants =
@@ -45,6 +46,7 @@ run_wanted words deck size switches (task.Run (File path) s w) spelt wants =
     (cc, cc, wants.1, cc)
 run_wanted words deck size switches (task.Assemble source out) spelt wants = absurd (other_row name.Run name.Assemble _ _ words (λ e. cc) spelt wants)
 run_wanted words deck size switches (task.Init file) spelt wants = absurd (other_row name.Run name.Init _ _ words (λ e. cc) spelt wants)
+run_wanted words deck size switches (task.Migrate file) spelt wants = absurd (other_row name.Run name.Migrate _ _ words (λ e. cc) spelt wants)
 run_wanted words deck size switches (task.Apply file script) spelt wants = absurd (other_row name.Run name.Apply _ _ words (λ e. cc) spelt wants)
 run_wanted words deck size switches (task.Export file customer number) spelt wants = absurd (other_row name.Run name.Export _ _ words (λ e. cc) spelt wants.1)
 run_wanted words deck size switches (task.Serve file port count) spelt wants = absurd (other_row name.Run name.Serve _ _ words (λ e. cc) spelt wants.0)
@@ -58,6 +60,7 @@ serve_wanted words file port count (task.Run Standard s w) spelt wants = absurd 
 serve_wanted words file port count (task.Run (File path) s w) spelt wants = absurd (other_row name.Serve name.Run _ _ words (λ e. cc) spelt wants.0)
 serve_wanted words file port count (task.Assemble source out) spelt wants = absurd (other_row name.Serve name.Assemble _ _ words (λ e. cc) spelt wants)
 serve_wanted words file port count (task.Init f) spelt wants = absurd (other_row name.Serve name.Init _ _ words (λ e. cc) spelt wants)
+serve_wanted words file port count (task.Migrate f) spelt wants = absurd (other_row name.Serve name.Migrate _ _ words (λ e. cc) spelt wants)
 serve_wanted words file port count (task.Apply f script) spelt wants = absurd (other_row name.Serve name.Apply _ _ words (λ e. cc) spelt wants)
 serve_wanted words file port count (task.Export f customer number) spelt wants = absurd (other_row name.Serve name.Export _ _ words (λ e. cc) spelt wants.1)
 serve_wanted words file port count (task.Serve f p c) spelt wants =

@@ -16,7 +16,7 @@ returns-in-Some-refusal-clause-found g c clean inside office s =
     let on = c.in_ok-row.ensures.step.frame early inside in
     let it = row_found c.args.name.customer.now c.args.name.number office c.in_ok-row.field-0 c.in-Some.row found.1 c.in-Some.is in
     let shown = c.in_ok-job-in-Some.ensures.found clean on.inside office (still old first office found.0 s) in
-    (shown.0, refused_as c.args.name.customer.now c.args.name.number c.args.command c.in-Some-refusal.reason _ office it.0 s.tables.distinct it.1 (shown.1 it.0 it.1 it.2) (sym c.refusal.ensures ∙ c.in-Some-refusal.is))
+    (shown.0, refused_as c.args.name.customer.now c.args.name.number c.args.command c.in-Some-refusal.reason _ office it.0 s.tables.shared.distinct it.1 (shown.1 it.0 it.1 it.2) (sym c.refusal.ensures ∙ c.in-Some-refusal.is))
 
 pub returns-in-Some-clause-found : goal.returns-in-Some-clause-found
 returns-in-Some-clause-found g c clean inside office s =

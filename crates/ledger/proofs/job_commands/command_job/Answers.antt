@@ -4,7 +4,7 @@ use Rattle.office.specs.Office.{attempted_of}
 use Rattle.office.specs.declared.commands.JobCommand.TheVariants.{Hold, Release, Collect, Standing}
 use Rattle.ledger_tables.proofs.Stepping.{on_any}
 use Rattle.ledger.specs.Saving.{job_in}
-use Rattle.ledger.proofs.SummaryLemmas.{attempts_none}
+use Rattle.ledger.proofs.SummaryLemmas.{attempts_none, cards_attempt_none, lines_attempt_none}
 use Rattle.ledger.proofs.job_commands.command_job.Goals as goal
 
 pub returns-in-Hold-clause-meter : goal.returns-in-Hold-clause-meter
@@ -34,3 +34,17 @@ returns-in-Standing-clause-meter g c clean inside =
     on_any c.tell_standing.result _ (λ office s.
     let job = job_in c.args.name office in
     sym (ap (λ q. risen c.args.meter.now (attempted_of q job)) c.in-Standing.is ∙ ap (risen c.args.meter.now) (attempts_none Standing job refl) ∙ still))
+
+pub returns-in-Cards-clause-meter : goal.returns-in-Cards-clause-meter
+returns-in-Cards-clause-meter g c clean inside =
+    let still : risen c.args.meter.now 0 ≡ c.args.meter.now = search rules in
+    on_any c.tell_cards.result _ (λ office s.
+    let job = job_in c.args.name office in
+    sym (ap (λ q. risen c.args.meter.now (attempted_of q job)) c.in-Cards.is ∙ ap (risen c.args.meter.now) (cards_attempt_none job) ∙ still))
+
+pub returns-in-Lines-clause-meter : goal.returns-in-Lines-clause-meter
+returns-in-Lines-clause-meter g c clean inside =
+    let still : risen c.args.meter.now 0 ≡ c.args.meter.now = search rules in
+    on_any c.tell_lines.result _ (λ office s.
+    let job = job_in c.args.name office in
+    sym (ap (λ q. risen c.args.meter.now (attempted_of q job)) c.in-Lines.is ∙ ap (risen c.args.meter.now) (lines_attempt_none job) ∙ still))

@@ -18,5 +18,5 @@ returns-clause-done g c clean inside office s =
     let found = c.in_ok-rows.ensures.found early inside (tables_of office) s.tables in
     let on = c.in_ok-rows.ensures.step.frame early inside in
     let lines = c.in_ok-lines.ensures.found clean on.inside office (still old mid office found.0 s) in
-    let told = lines.1 (in_order by_number (own customer office)) (c.as_slice.ensures.value ∙ found.1 ∙ names_told customer office) (all_his customer office s.tables.distinct) in
+    let told = lines.1 (in_order by_number (own customer office)) (c.as_slice.ensures.value ∙ found.1 ∙ names_told customer office) (all_his customer office s.tables.shared.distinct) in
     record { reply_is = ap Jobs told; stands = lines.0 }

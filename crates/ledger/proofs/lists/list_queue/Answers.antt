@@ -17,5 +17,5 @@ returns-clause-done g c clean inside office s =
     let found = c.in_ok-rows.ensures.found early inside (tables_of office) s.tables in
     let on = c.in_ok-rows.ensures.step.frame early inside in
     let queue = c.in_ok-queue.ensures.found clean on.inside office (still old mid office found.0 s) in
-    let told = queue.1 (in_order by_name (free_jobs office)) (c.as_slice.ensures.value ∙ found.1 ∙ free_told office) (all_free office s.tables.distinct) in
+    let told = queue.1 (in_order by_name (free_jobs office)) (c.as_slice.ensures.value ∙ found.1 ∙ free_told office) (all_free office s.tables.shared.distinct) in
     record { reply_is = ap Queue told; stands = queue.0 }

@@ -22,5 +22,5 @@ returns-clause-found g c clean inside office s =
           let held = some_is (sym c.in-Some-Some.is-0 ∙ c.read_truth.ensures.all job.held (ap (λ (r : JobCells). r.held) cells)) in
           let collected = some_is (sym c.in-Some-Some.is-1 ∙ c.read_truth-2.ensures.all job.collected (ap (λ (r : JobCells). r.collected) cells)) in
           let switches = picture_switches c.runs_only_add.ensures.switches job c.in-Some.last.now kept.job.stretches.switches kept.job.stretches.begun (subst (λ xs. c.in-Some.last.now ≡ get_or xs (length xs - 1) c.in-Some.last.now) (c.deref.ensures.value ∙ stretches) c.in-Some.ensures.item.1) in
-          kept_is _ _ _ _ job stretches held collected (rest.1 job is (c.deref-2.ensures.value ∙ ap (λ (r : JobCells). r.loaded) cells) (sym switches)),
+          kept_is _ _ _ _ job stretches held collected (rest.1 job is row (sym switches)),
     )

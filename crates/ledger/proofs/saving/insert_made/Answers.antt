@@ -1,4 +1,4 @@
-use Rattle.std.proofs.Common.{◌≡◌, arith, rules}
+use Rattle.std.proofs.Common.{◌≡◌, ◌++◌, arith, rules}
 use Rattle.sqlite.specs.State.{HasCleanDisk}
 use Rattle.ledger_tables.specs.Steps.{seen}
 use Rattle.ledger_tables.proofs.Frames.{on_ok_then}
@@ -7,14 +7,14 @@ use Rattle.ledger.specs.Saving.{with_all_cards}
 use Rattle.ledger.proofs.saving.insert_made.Goals as goal
 
 pub returns-clause-added : goal.returns-clause-added
-returns-clause-added g c clean inside =
+returns-clause-added g c cards lines clean inside =
     let early : HasCleanDisk (seen g.S.Store c.insert_cards.new.tables) = omega (arith, c.insert_lines.ensures.step.survives.clean) in
     let on = c.in_ok-insert_cards.ensures.step.frame early inside in
     let punch : c.as_slice-cards.result.now ≡ c.args.units.now.punch = search rules in
     let printed : c.as_slice-lines.result.now ≡ c.args.units.now.printer.lines = search rules in
-    let did = rw punch at (c.in_ok-insert_cards.ensures.added early inside) in
-    on_ok_then c.insert_lines.result _ _ (λ more t holds has. more (with_all_cards c.args.name c.args.units.now.punch t) (did t holds has.cards) (record { are = has.lines.are; fit = has.lines.fit }))
-    (rw printed at (c.insert_lines.ensures.added clean on.inside))
+    let did = rw punch at (c.in_ok-insert_cards.ensures.added cards early inside) in
+    on_ok_then c.insert_lines.result _ _ (λ more t holds has. more (with_all_cards c.args.name (cards ++ c.args.units.now.punch) t) (did t holds has.cards) (record { are = has.lines.are; count = has.lines.count }))
+    (rw printed at (c.insert_lines.ensures.added lines clean on.inside))
 
 pub returns-clause-cards : goal.returns-clause-cards
 returns-clause-cards g c =

@@ -1,10 +1,10 @@
 use Rattle.std.proofs.Common.{◌≡◌, ◌<◌, ◌^◌, sym, ap, ◌∙◌, arith}
 use Rattle.std.specs.Option.{option_map}
 use Rattle.office.specs.Jobs.{picture}
-use Rattle.ledger_rows.specs.Columns.{picture_cells}
+use Rattle.ledger_rows.specs.Columns.{state_row}
 use Rattle.ledger_tables.specs.Listed.{progress_row}
 use Rattle.ledger_tables.specs.Steps.{seen}
-use Rattle.ledger.specs.Standing.{tables_of, picture_of}
+use Rattle.ledger.specs.Standing.{tables_of, state_of}
 use Rattle.ledger.proofs.Offices.{still, job_is}
 use Rattle.ledger.proofs.ReadingLemmas.{some_is}
 use Rattle.ledger.proofs.summaries.find_progress.Goals as goal
@@ -19,6 +19,6 @@ returns-in-Some-read_progress-clause-found g c clean inside office s =
           let kept = job_is c.args.name.customer.now c.args.name.number office job s.jobs is in
           let range = (c.commands_keep_jobs.ensures.in_range job kept.job).machine in
           let below : (picture job).works.registers.i < 2 ^ 16 = omega (arith, range.registers.i) in
-          let row : c.in-Some.row ≡ progress_row (picture_cells (picture job)) = some_is (sym c.in-Some.is ∙ found.1 ∙ ap (λ o. option_map progress_row (picture_of o)) is) in
+          let row : c.in-Some.row ≡ progress_row (state_row (picture job)) = some_is (sym c.in-Some.is ∙ found.1 ∙ ap (λ o. option_map progress_row (state_of o)) is) in
           some_is (sym c.in-Some-read_progress.is ∙ c.read_progress.ensures.picture (picture job) below row),
     )

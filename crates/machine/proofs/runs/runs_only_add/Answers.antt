@@ -5,7 +5,9 @@ use Rattle.machine.proofs.runs.runs_only_add.Goals as goal
 
 pub returns : goal.returns
 returns c = record {
+  size = λ m count. (stems_after m m count (stems_same m)).size;
   deck = λ m count. (stems_after m m count (stems_same m)).deck;
+  before = λ m count. (stems_after m m count (stems_same m)).before;
   switches = λ m count. (stems_after m m count (stems_same m)).switches;
   cards = λ m count. begins_take m.works.units.punch (after m count).works.units.punch (stems_after m m count (stems_same m)).cards;
   lines = λ m count. begins_take (lines_of m) (lines_of (after m count)) (stems_after m m count (stems_same m)).lines;

@@ -1,0 +1,24 @@
+use Rattle.std.proofs.Common.{arith}
+use Rattle.sqlite.specs.State.{HasCleanDisk}
+use Rattle.ledger_tables.specs.Steps.{seen}
+use Rattle.ledger.specs.Standing.{tables_of}
+use Rattle.ledger.proofs.Offices.{still, row_found, row_none}
+use Rattle.ledger.proofs.reading.find_to_run.Goals as goal
+
+pub returns-in_ok-job-in-Some-clause-found : goal.returns-in_ok-job-in-Some-clause-found
+returns-in_ok-job-in-Some-clause-found g c clean inside office s =
+    let old = seen g.S.Store c.args.tables.now in
+    let mid = seen g.S.Store c.find_job.new.self in
+    let early : HasCleanDisk mid = omega (arith, c.find_kept.ensures.step.survives.clean) in
+    let found = c.in_ok-row.ensures.found early inside (tables_of office) s.tables in
+    let on = c.in_ok-row.ensures.step.frame early inside in
+    let it = row_found c.args.name.customer.now c.args.name.number office c.in_ok-row.field-0 c.in-Some.row found.1 c.in-Some.is in
+    let rest = c.in_ok-job-in-Some.ensures.found clean on.inside office (still old mid office found.0 s) in
+    (rest.0, (it.0, it.1, rest.1 it.0 it.1 it.2))
+
+pub returns-in-None-clause-found : goal.returns-in-None-clause-found
+returns-in-None-clause-found g c clean inside office s =
+    let old = seen g.S.Store c.args.tables.now in
+    let new = seen g.S.Store c.find_job.new.self in
+    let found = c.in_ok-row.ensures.found clean inside (tables_of office) s.tables in
+    (still old new office found.0 s, row_none c.args.name.customer.now c.args.name.number office c.in_ok-row.field-0 found.1 c.in-None.is)

@@ -1,0 +1,30 @@
+-- jobs whose cards and lines are only in the tables
+use Rattle.std.specs.Prelude.{Bool, true, false}
+use Rattle.machine.specs.Earlier.{with_earlier, without_outputs, IsBehind}
+use Rattle.machine.specs.Run.{lines_of}
+use Rattle.office.specs.Jobs.{Job, picture}
+use Rattle.office.specs.Kept.{Kept, kept_of}
+use Rattle.office.specs.declared.commands.JobCommand.{JobCommand}
+use Rattle.office.specs.declared.commands.JobCommand.TheVariants.{Slice, Start}
+
+-- whether a command drives the machine of a job: a slice or a start
+abbrev pub drives_machine : JobCommand → Bool
+drives_machine (Slice limit) = true
+drives_machine (Start switches) = true
+drives_machine other = false
+
+-- a job with its machine, which has none of the cards and lines that the job has made
+abbrev pub kept_alone : Job → Kept
+kept_alone job = record (kept_of job) { machine = without_outputs (picture job) }
+
+-- such a job later on, with the cards and lines that it had made earlier
+abbrev pub with_outputs_of : Job → Kept → Kept
+with_outputs_of earlier kept = record kept {
+  machine =
+      with_earlier (picture earlier).works.units.punch (lines_of (picture earlier)) kept.machine;
+}
+
+-- such a job later on: its machine counts the cards and lines that it had made earlier
+abbrev pub HasCounted : Job → Kept → Type 0
+HasCounted earlier kept =
+    IsBehind (picture earlier).works.units.punch (lines_of (picture earlier)) kept.machine

@@ -1,0 +1,86 @@
+-- the contracts of a migration and of its steps
+use Rattle.std.specs.Prelude.{◌≡◌, ◌≢◌, ◌⊎◌, ◌∷◌, [], pos, ℕ, List, length, Some, IsTrue, Result, OnOk}
+use Rattle.std.specs.List.{AllByRecursion}
+use Rattle.core_store.specs.Storage.{Storage}
+use Rattle.machine.specs.Ranges.{HasSize}
+use Rattle.office.specs.Office.{Office}
+use Rattle.ledger_rows.specs.Columns.{HoldsCharacters}
+use Rattle.sqlite.specs.Effect.{Database}
+use Rattle.sqlite.specs.Held.{Held, state}
+use Rattle.sqlite.specs.State.{State, HasCleanDisk}
+use Rattle.sqlite.specs.Tree.{Trees}
+use Rattle.sqlite_trees.specs.declared.store.Store.{Ghosts}
+use Rattle.ledger_tables.specs.Steps.{Inside}
+use Rattle.ledger_tables.specs.Tables.{ByJob, Tables, HoldsAs}
+use Rattle.ledger_tables.specs.Versions.{HasVersions, versions_in, IsBureaus}
+use Rattle.sqlite.specs.declared.types.Value.TheVariants.{Int}
+use Rattle.ledger_tables.specs.declared.faults.Fault.{Fault}
+use Rattle.ledger_tables.specs.declared.names.JobName.{JobName}
+use Rattle.ledger_tables.specs.declared.open_tables.OpenTables.{OpenTables}
+use Rattle.ledger_tables.specs.declared.openings.OpenFault.{OpenFault}
+use Rattle.ledger_tables.specs.declared.openings.OpenFault.TheVariants.{NotABureau, Old}
+use Rattle.ledger.specs.Older.{storages_of, with_first_pages, HasWhole, LeftOf, StandsOf}
+use Rattle.ledger.specs.Saving.{with_storage}
+use Rattle.ledger.specs.Standing.{CanBeKept, LeftAs, Rows, Stands}
+
+module _ {S : Type 0} (g : Ghosts S) where
+  -- on Ok, if the job had its whole storage and no pages of it, it now has its pages too
+  abbrev pub AddsPages : {X : Type 0} → OpenTables S → OpenTables S → Result X Fault → JobName
+      → Type 0
+  AddsPages old new result name =
+      Inside g old new (λ before after. OnOk result ((storages : ByJob (List ℕ)) (version : ℕ)
+      (t : Tables) (s : Storage) → HoldsAs (Some storages) version before.now t → HasSize s
+      → HoldsCharacters s → HasWhole name s storages t
+      → HoldsAs (Some storages) version after.now (with_storage name s t)))
+
+  -- on Ok, if the jobs of an office had their whole storages and no pages, they now have their
+  -- pages too
+  abbrev pub AddsAllPages : {X : Type 0} → OpenTables S → OpenTables S → Result X Fault → Type 0
+  AddsAllPages old new result =
+      Inside g old new (λ before after. OnOk result ((office : Office)
+      → AllByRecursion (λ e. CanBeKept e.job) office
+      → HoldsAs (Some (storages_of office)) 1 before.now (with_first_pages 0 office)
+      → HoldsAs (Some (storages_of office)) 1 after.now
+      (with_first_pages (length office) office)))
+
+  -- on Ok, if the tables represented an office by this rule, they now represent it in this
+  -- program's version
+  abbrev pub RaisesFrom : {X : Type 0} → (Database → Office → Type 0) → OpenTables S
+      → OpenTables S → Result X Fault → Type 0
+  RaisesFrom RowsBefore old new result =
+      Inside g old new (λ before after. OnOk result ((office : Office)
+      → (IsTrue before.is_open → RowsBefore before.now office) → Rows after.now office))
+
+module _ {S : Type 0} (g : Ghosts S) (old new : Held S) where
+  -- if the tables of any version represented an office, that is the version that was found, and
+  -- they represent the same office in this program's version
+  abbrev pub IsRaised : ℕ → Type 0
+  IsRaised found = HasCleanDisk (state g new) → (version : ℕ) (office : Office)
+      → StandsOf version (state g old) office
+      → (found ≡ version) × Stands (state g new) office
+
+  -- if the tables of any version represented an office, they represent it still, in that version
+  abbrev pub IsKeptOf : Type 0
+  IsKeptOf = HasCleanDisk (state g new) → (version : ℕ) (office : Office)
+      → StandsOf version (state g old) office → StandsOf version (state g new) office
+
+  -- if the tables of any version represented an office, a crash leaves that office in that version
+  -- or in this program's
+  abbrev pub LeavesEitherVersion : Type 0
+  LeavesEitherVersion = HasCleanDisk (state g new) → (version : ℕ) (office : Office)
+      → StandsOf version (state g old) office → (db : Trees) → (state g new).may_leave db
+      → LeftOf version db office ⊎ LeftAs db office
+
+  -- the tables can be asked for their version; and if their schema is a bureau's, they hold this
+  -- one alone
+  abbrev pub HasVersion : ℕ → Type 0
+  HasVersion found = HasCleanDisk (state g new) → HasVersions (state g old).now
+      × (IsBureaus (state g old).now.schema
+      → versions_in (state g old).now ≡ Int (pos found) ∷ [])
+
+  -- the fault is not that the tables are of an earlier version; and if the tables of any version
+  -- represented an office, it is not that they are no bureau's
+  abbrev pub IsNoFaultOfVersion : OpenFault → Type 0
+  IsNoFaultOfVersion fault = ((version : ℕ) → fault ≢ Old version)
+      × (HasCleanDisk (state g new) → (version : ℕ) (office : Office)
+      → StandsOf version (state g old) office → fault ≢ NotABureau)
