@@ -4,6 +4,8 @@ use Rattle.cards.specs.declared.decks.Card.{Card}
 use Rattle.core_store.specs.Storage.{positions_of}
 use Rattle.machine.specs.Earlier.{without_outputs}
 use Rattle.machine.specs.Run.{State, lines_of}
+use Rattle.units.specs.Printed.{Printed}
+use Rattle.units.specs.declared.carriage.Carriage.{Carriage}
 use Rattle.units.specs.declared.printer.Line.{Line}
 use Rattle.units.specs.declared.switches.Switches.{Switches}
 use Rattle.ledger_rows.specs.declared.parts.Media.{Media}
@@ -62,6 +64,15 @@ HasCards here found = (job : Job) → here ≡ Some job → found ≡ (picture j
 -- if there is the job, these are the lines that it has printed
 abbrev pub HasLines : Option Job → List Line → Type 0
 HasLines here found = (job : Job) → here ≡ Some job → found ≡ lines_of (picture job)
+
+-- if there is the job, its machine's carriage is this one
+abbrev pub HasCarriageAt : Option Job → Carriage → Type 0
+HasCarriageAt here found =
+    (job : Job) → here ≡ Some job → found ≡ (picture job).works.units.printer.carriage
+
+-- a printer with this carriage that has printed these lines
+abbrev pub printed_with : Carriage → List Line → Printed
+printed_with carriage lines = record { lines = lines; carriage = carriage }
 
 -- if there is the job, and these are its machine's number of positions, deck and switches, without
 -- cards and lines, this is the state of its machine without them

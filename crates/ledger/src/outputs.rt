@@ -1,22 +1,44 @@
 //! What a job has made, read from its rows without its machine.
 
-ghost use Rattle.std.specs.Prelude.{◌≡◌};
+ghost use Rattle.std.specs.Prelude.{◌≡◌, ◌≢◌, List, All, map, length, IfOk, IsErrOf};
+ghost use Rattle.cards.specs.Decks.{IsCard};
+ghost use Rattle.cards.specs.declared.decks.Card.{Card};
 ghost use Rattle.office.specs.declared.commands.JobCommand.{JobCommand};
+ghost use Rattle.units.specs.Ranges.{HasPrinted};
+ghost use Rattle.units.specs.declared.printer.Line.{Line};
+ghost use Rattle.ledger_rows.specs.Columns.{line_cells, IsLine};
 ghost use Rattle.ledger_tables.specs.Steps.{IsOpenStep};
-ghost use Rattle.ledger.specs.Found.{HasCards, HasLines};
+ghost use Rattle.ledger.specs.Found.{HasCards, HasCarriageAt, HasLines, printed_with};
 ghost use Rattle.ledger.specs.Saving.{job_in};
 ghost use Rattle.ledger.specs.Serving.{with_commanded};
 ghost use Rattle.ledger.specs.Steps.{FindsIn, Serves};
 
 use crate::reading::told;
+use crate::summaries::find_progress;
 use cards::Card;
-use ledger_rows::read_rows;
-use ledger_tables::{Fault, JobName, OpenTables};
-use office::{JobCommand, Listing, PunchedCards, Refusal, Reply};
+use ledger_rows::{read_carriage, read_rows};
+use ledger_tables::{CardRow, Fault, JobName, LineRow, OpenTables};
+use office::{JobCommand, Listing, PunchedCards, Refusal, Reply, commands_keep_jobs};
 use sqlite::Alter;
-use units::Line;
+use std::alloc::Global;
+use units::{Carriage, Line, Printer};
 
-/// Finds the cards that the job of this name has punched.
+/// The cards of these rows, if there are so many.
+fn read_cards(alloc: Global, rows: &[CardRow], count: u32) -> Result<Vec<Card>, Fault>
+    ensures cards { IfOk result (λ found. (cards : List Card) → All IsCard cards
+        → rows.now ≡ map (λ card. card.0) cards → found.items ≡ cards) }
+    ensures counted { IfOk result (λ found. length found.items ≡ count) }
+    ensures store { IsErrOf result Fault.Store → (cards : List Card) → All IsCard cards
+        → rows.now ≡ map (λ card. card.0) cards → length cards ≢ count }
+{
+    let cards: Vec<Card> = told(read_rows(alloc, rows))?;
+    if cards.len() != count as usize {
+        return Err(Fault::Store);
+    }
+    Ok(cards)
+}
+
+/// Finds the cards that the job of this name has punched, as many as its state counts.
 fn find_cards<S: Alter>(
     tables: &mut OpenTables<'_, '_, S>,
     name: JobName<'_>,
@@ -25,11 +47,59 @@ fn find_cards<S: Alter>(
     ensures found { FindsIn S.Store tables.old tables.new result
         (λ office found. HasCards (job_in name.entry office) found.items) }
 {
+    let progress = find_progress(tables, name)?;
     let rows = tables.find_cards(name)?;
-    told(read_rows(tables.alloc, rows.as_slice()))
+    read_cards(tables.alloc, rows.as_slice(), progress.cards)
 }
 
-/// Finds the lines that the job of this name has printed.
+/// Finds the carriage of the machine of the job of this name.
+fn find_carriage<S: Alter>(
+    tables: &mut OpenTables<'_, '_, S>,
+    name: JobName<'_>,
+) -> Result<Carriage, Fault>
+    ensures step { IsOpenStep S.Store tables.old tables.new result }
+    ensures found { FindsIn S.Store tables.old tables.new result
+        (λ office found. HasCarriageAt (job_in name.entry office) found) }
+{
+    // A law, for the proof: it does nothing.
+    commands_keep_jobs();
+    let Some(row) = tables.find_state(name)? else {
+        return Err(Fault::Store);
+    };
+    match read_carriage(row) {
+        Some(carriage) => Ok(carriage),
+        None => Err(Fault::Store),
+    }
+}
+
+/// The lines of these rows, if there are so many, each is further down than the one before, and the
+/// carriage is further down than all of them.
+fn read_lines(
+    alloc: Global,
+    rows: &[LineRow],
+    count: u32,
+    carriage: Carriage,
+) -> Result<Vec<Line>, Fault>
+    ensures lines { IfOk result (λ found. (lines : List Line) → All IsLine lines
+        → rows.now ≡ map line_cells lines → found.items ≡ lines) }
+    ensures counted { IfOk result (λ found. length found.items ≡ count) }
+    ensures places { IfOk result (λ found. HasPrinted 0 (printed_with carriage found.items)) }
+    ensures store { IsErrOf result Fault.Store → (lines : List Line) → All IsLine lines
+        → rows.now ≡ map line_cells lines → HasPrinted 0 (printed_with carriage lines)
+        → length lines ≢ count }
+{
+    let lines: Vec<Line> = told(read_rows(alloc, rows))?;
+    let printer = Printer { lines, carriage };
+    if printer.lines.len() != count as usize {
+        return Err(Fault::Store);
+    }
+    if !printer.is_in_range(0) {
+        return Err(Fault::Store);
+    }
+    Ok(printer.lines)
+}
+
+/// Finds the lines that the job of this name has printed, as many as its state counts.
 fn find_lines<S: Alter>(
     tables: &mut OpenTables<'_, '_, S>,
     name: JobName<'_>,
@@ -38,8 +108,10 @@ fn find_lines<S: Alter>(
     ensures found { FindsIn S.Store tables.old tables.new result
         (λ office found. HasLines (job_in name.entry office) found.items) }
 {
+    let progress = find_progress(tables, name)?;
+    let carriage = find_carriage(tables, name)?;
     let rows = tables.find_lines(name)?;
-    told(read_rows(tables.alloc, rows.as_slice()))
+    read_lines(tables.alloc, rows.as_slice(), progress.lines, carriage)
 }
 
 /// Replies the cards of the job of this name.

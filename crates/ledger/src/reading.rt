@@ -6,7 +6,7 @@ ghost use Rattle.cards.specs.Decks.{deck_bytes, IsDeck};
 ghost use Rattle.machine.specs.Earlier.{without_outputs};
 ghost use Rattle.machine.specs.Ranges.{IsInRange};
 ghost use Rattle.machine.specs.Run.{State};
-ghost use Rattle.office.specs.Jobs.{HasSwitches};
+ghost use Rattle.office.specs.Jobs.{Job as KnownJob, HasSwitches};
 ghost use Rattle.office.specs.Kept.{IsJobInRange};
 ghost use Rattle.office.specs.declared.stretches.Stretch.{Stretch};
 ghost use Rattle.ledger_rows.specs.Columns.{HoldsCharacters};
@@ -14,10 +14,10 @@ ghost use Rattle.ledger_rows.specs.Pictures.{IsPictured};
 ghost use Rattle.ledger_tables.specs.Steps.{IsOpenStep};
 ghost use Rattle.ledger.specs.Found.{IsMediaOf, IsFoundAs, IsHandedAs, HasStretches, HasMachine, HasMachineWith, HasKept, BeganWith};
 ghost use Rattle.ledger.specs.Saving.{job_in};
-ghost use Rattle.ledger.specs.Standing.{stretch_row};
+ghost use Rattle.ledger.specs.Standing.{job_cells, stretch_row, CanBeKept};
 ghost use Rattle.ledger.specs.Steps.{FindsIn};
 
-use core_store::Core;
+use core_store::{Core, Size};
 use ledger_rows::{Media, read_deck, read_picture, read_switches, read_truth};
 use ledger_tables::{Fault, JobName, JobRow, OpenTables, PageRow, StateRow, StretchRow};
 use machine::{Parts, outputs_are_put_back, runs_only_add};
@@ -251,6 +251,19 @@ fn first_switches<S: Alter>(
     }
 }
 
+/// That this row can be a job's: fault 2 if its kind, its size, or a deck of it is none.
+fn check_handed(alloc: Global, row: &JobRow) -> Result<(), Fault>
+    ensures store { IsErrOf result Fault.Store → (job : KnownJob) → CanBeKept job
+        → row.now ≢ job_cells job }
+{
+    if row.kind > 1 || Size::of_positions(row.size).is_none() {
+        return Err(Fault::Store);
+    }
+    told(read_deck(alloc, &row.deck))?;
+    told(read_deck(alloc, &row.loaded))?;
+    Ok(())
+}
+
 /// What the job of this name was handed in with, if there is such a job.
 pub fn find_handed<S: Alter>(
     tables: &mut OpenTables<'_, '_, S>,
@@ -262,6 +275,7 @@ pub fn find_handed<S: Alter>(
 {
     match tables.find_job(name)? {
         Some(row) => {
+            check_handed(tables.alloc, &row)?;
             let switches = first_switches(tables, name)?;
             Ok(Some(Handed { row, switches }))
         }

@@ -16,7 +16,7 @@ use office::{Stretch, Summary, commands_keep_jobs};
 use sqlite::Alter;
 
 /// Finds the progress of the job of this name.
-fn find_progress<S: Alter>(
+pub fn find_progress<S: Alter>(
     tables: &mut OpenTables<'_, '_, S>,
     name: JobName<'_>,
 ) -> Result<Progress, Fault>
@@ -69,6 +69,9 @@ fn find_granted<S: Alter>(
         (λ office found. HasGranted (job_in name.entry office) found) }
 {
     let stretches = find_stretches(tables, name)?;
+    if stretches.is_empty() {
+        return Err(Fault::Store);
+    }
     Ok(granted_in(&stretches))
 }
 

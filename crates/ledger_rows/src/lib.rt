@@ -21,6 +21,6 @@ pub use from_cells::{FromCells, read_rows};
 pub use lines::line_row;
 pub use numbers::{read_switches, read_truth, switches_number, truth};
 pub use pages::{is_blank_page, page_bytes};
-pub use parts::{Media, read_picture, state_row};
+pub use parts::{Media, read_carriage, read_picture, state_row};
 pub use progress::{Progress, read_progress};
 pub use storage::read_storage;

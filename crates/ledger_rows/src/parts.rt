@@ -92,8 +92,8 @@ fn read_registers(row: StateRow) -> Option<Registers>
     })
 }
 
-/// The carriage of a row, if it is valid.
-fn read_carriage(row: StateRow) -> Option<Carriage>
+/// Returns the carriage of a row, or `None` if it is not valid. The result may be out of range.
+pub fn read_carriage(row: StateRow) -> Option<Carriage>
     ensures all { (c : Carriage) → c.line ≤ lines_of_form → HasCarriage row c
         → result ≡ Some c }
     ensures only { IfSome result (λ c. HasCarriage row c) }

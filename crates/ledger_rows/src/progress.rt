@@ -1,14 +1,18 @@
 //! The progress of a machine, from four columns of its state.
 
-ghost use Rattle.std.specs.Prelude.{◌≡◌, ◌<◌, ◌^◌, Some, IfSome};
+ghost use Rattle.std.specs.Prelude.{◌≡◌, ◌≤◌, Some, ◌↔◌, IfSome, IsTrue};
+ghost use Rattle.units.specs.Units.{most_cards, most_lines};
+ghost use Rattle.machine.specs.Ranges.{IsInRange};
 ghost use Rattle.machine.specs.Run.{State};
 ghost use Rattle.ledger_rows.specs.Columns.{state_row};
-ghost use Rattle.ledger_rows.specs.Progress.{progress_cells, progress_of};
+ghost use Rattle.ledger_rows.specs.Progress.{progress_cells, progress_of, IsReached};
 ghost use Rattle.ledger_tables.specs.Listed.{progress_row};
 
 use crate::numbers::read_standing;
+use core_store::LARGEST_SIZE;
 use ledger_tables::ProgressRow;
 use machine::Standing;
+use units::{MOST_CARDS, MOST_LINES};
 
 /// The progress of a machine: register I, its counts and its standing.
 #[derive(Clone, Copy)]
@@ -23,13 +27,19 @@ pub struct Progress {
     pub lines: u32,
 }
 
-/// The progress in this row, if it is valid: the same that `read_picture` would find in the whole
-/// picture.
+/// Whether a machine can have made as many cards and lines as this row says.
+fn can_be_made(row: &ProgressRow) -> bool
+    ensures { IsTrue result ↔ (row.now.cards ≤ most_cards) × (row.now.lines ≤ most_lines) }
+{
+    row.cards as usize <= MOST_CARDS && row.lines as usize <= MOST_LINES
+}
+
+/// The progress in this row, if a machine may be at it.
 pub fn read_progress(row: &ProgressRow) -> Option<Progress>
-    ensures all { (it : Progress) → it.i < 2 ^ 16 → row.now ≡ progress_cells it
+    ensures all { (it : Progress) → IsReached it → row.now ≡ progress_cells it
         → result ≡ Some it }
-    ensures only { IfSome result (λ it. progress_cells it ≡ row.now) }
-    ensures picture { (m : State) → m.works.registers.i < 2 ^ 16
+    ensures only { IfSome result (λ it. (progress_cells it ≡ row.now) × IsReached it) }
+    ensures picture { (m : State) → IsInRange m
         → row.now ≡ progress_row (state_row m) → result ≡ Some (progress_of m) }
 {
     let Ok(i) = u16::try_from(row.i) else {
@@ -38,6 +48,9 @@ pub fn read_progress(row: &ProgressRow) -> Option<Progress>
     let Some(standing) = read_standing(row.standing) else {
         return None;
     };
+    if i >= LARGEST_SIZE || !can_be_made(row) {
+        return None;
+    }
     Some(Progress {
         standing,
         i,

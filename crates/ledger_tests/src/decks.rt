@@ -15,6 +15,18 @@ B342.                                  L006361,360361N000000N0000001040
 /// A program that punches its own card three times.
 const PUNCHES_THREE: &str = ",008015,022029,030031,032033444.\n";
 
+/// A program that prints a line, punches a card and halts; started again, it does so again.
+const PRINTS_AND_PUNCHES: &str = ",008015,022029,030031,03203624.B029\n";
+
+/// The source of a program that copies a card.
+const COPIES_A_CARD: &str = "               SW   001
+               R
+               MCW  080,180
+               P
+               H
+               END
+";
+
 /// The program and the data of the deck with this name.
 fn cards_named(name: &str) -> Option<(&'static str, &'static str)> {
     match name {
@@ -23,6 +35,11 @@ fn cards_named(name: &str) -> Option<(&'static str, &'static str)> {
         "loop" => Some((",008012B008\n", "")),
         "outside" => Some((",008015L000200\n", "")),
         "three cards" => Some((PUNCHES_THREE, "")),
+        "a line and a card" => Some((PRINTS_AND_PUNCHES, "")),
+        "many cards" => Some((",008015,0150194015\n", "")),
+        "many lines" => Some((",008015,0150192015\n", "")),
+        "source" => Some((COPIES_A_CARD, "HELLO\n")),
+        "source without END" => Some(("               H\n", "")),
         _ => None,
     }
 }

@@ -39,13 +39,17 @@ pub(crate) fn told_on(
     Ok((told, ticks, files))
 }
 
-/// The disks of a bureau without jobs.
-pub(crate) fn new_disks(alloc: Global) -> Result<Files<Memory>, Fail> {
-    let empty = Files {
+/// Disks without a bureau.
+pub(crate) fn empty_disks(alloc: Global) -> Files<Memory> {
+    Files {
         log: Memory::new(alloc),
         db: Memory::new(alloc),
-    };
-    let (_, _, disks) = told_on(alloc, &empty, "make|#")?;
+    }
+}
+
+/// The disks of a bureau without jobs.
+pub(crate) fn new_disks(alloc: Global) -> Result<Files<Memory>, Fail> {
+    let (_, _, disks) = told_on(alloc, &empty_disks(alloc), "make|#")?;
     Ok(disks)
 }
 

@@ -115,89 +115,126 @@ fn a_thousand_million_instructions_and_no_more(rt: HostRuntime) -> Result<(), Fa
     Ok(())
 }
 
-/// Statements, each after the number of the fault that a slice then returns, 0 for none: 2 if a row
-/// that it reads is not a bureau's, and if such a row is missing. It reads no cards and lines.
-const ALTERED_ROWS: &str = "\
-0|UPDATE stretches SET switches = 127
-2|UPDATE stretches SET switches = 128
-2|UPDATE stretches SET switches = 256
-2|DELETE FROM stretches
-2|UPDATE jobs SET held = 2
-2|UPDATE jobs SET collected = 2
-2|UPDATE jobs SET loaded = x'40'
-2|UPDATE pictures SET storage = x'00'
-2|UPDATE pictures SET compare = 3
-2|UPDATE pictures SET waiting = 5
-2|UPDATE pictures SET standing = 9
-2|UPDATE pictures SET line = 67
-0|UPDATE pictures SET cards = 10000
-2|UPDATE pictures SET cards = 10001
-2|UPDATE pictures SET lines = 20001
-2|DELETE FROM pictures
-0|INSERT INTO cards VALUES ('ACME', 9, 1, x'40')
-0|INSERT INTO lines VALUES ('ACME', 9, 1, 1, 1, x'00')
+/// A job that has printed two lines and punched two cards, of three stretches, and is running; and
+/// another customer's.
+const TWO_CUSTOMERS: &str = "\
+taken 1|submit|ACME|9|1400|-|a line and a card
+ran 7, halted, next 32|slice|ACME|9|2000
+started|start|ACME|9|-
+ran 4, halted, next 32|slice|ACME|9|2000
+started|start|ACME|9|-
+taken 1|submit|ZETA|1|1400|-|loop
 ";
 
-/// The first line of a sheet after whose statement a slice of one instruction returns another fault,
-/// or ticks though it fails; empty if there is none.
-fn misread<'a>(alloc: Global, sheet: &'a str) -> Result<&'a str, Fail> {
+/// The commands that a line of `ALTERED_ROWS` has a mark for.
+const COMMANDS: [&str; 11] = [
+    "submit|ACME|9|1400|-|a line and a card",
+    "slice|ACME|9|2000",
+    "start|ACME|9|-",
+    "cards|ACME|9|",
+    "lines|ACME|9|",
+    "hold|ACME|9|",
+    "release|ACME|9|",
+    "collect|ACME|9|",
+    "standing|ACME|9|",
+    "jobs|ACME|",
+    "queue|",
+];
+
+/// Statements, each after a mark for each command: `2` if it is then answered by fault 2, because
+/// it reads a row that is none of a bureau's, or misses one; `.` if it is answered as before; and
+/// `-` if it is not tried, since it does not see that. The last line makes a table whose numbers
+/// may be texts.
+const ALTERED_ROWS: &str = "\
+...........|UPDATE stretches SET switches = 127 WHERE number = 9 AND place > 0
+222..2222..|UPDATE stretches SET switches = 128 WHERE number = 9 AND place = 1
+222..2222..|UPDATE stretches SET switches = 256 WHERE number = 9 AND place = 1
+222..2222..|DELETE FROM stretches WHERE number = 9
+...........|DELETE FROM stretches WHERE number = 9 AND place = 0
+.2222222222|DELETE FROM pictures WHERE number = 9
+.22..22222-|UPDATE jobs SET held = 2 WHERE number = 9
+.22..22222.|UPDATE jobs SET collected = 2 WHERE number = 9
+2..........|UPDATE jobs SET kind = 2 WHERE number = 9
+2..........|UPDATE jobs SET size = 1401 WHERE number = 9
+2..........|UPDATE jobs SET deck = x'40' WHERE number = 9
+222........|UPDATE jobs SET loaded = x'40' WHERE number = 9
+.22........|UPDATE jobs SET loaded = x'\
+    40000000000000000000000000000000000000000000000000000000000000000000000000000000\
+    00000000000000000000000000000000000000000000000000000000000000000000000000000000\
+    ' WHERE number = 9
+.2222222222|UPDATE pictures SET standing = 9 WHERE number = 9
+.2222222222|UPDATE pictures SET i = 65536 WHERE number = 9
+.2222222222|UPDATE pictures SET i = 16000 WHERE number = 9
+.2222222222|UPDATE pictures SET cards = 10001 WHERE number = 9
+.2222222222|UPDATE pictures SET lines = 20001 WHERE number = 9
+.22........|UPDATE pictures SET storage = x'00' WHERE number = 9
+.22........|UPDATE pictures SET a = 16000 WHERE number = 9
+.22........|UPDATE pictures SET b = 16000 WHERE number = 9
+.22........|UPDATE pictures SET compare = 3 WHERE number = 9
+.22........|UPDATE pictures SET overflow = 2 WHERE number = 9
+.22.2......|UPDATE pictures SET channel = 2 WHERE number = 9
+.22.2......|UPDATE pictures SET waiting = 5 WHERE number = 9
+.22.2......|UPDATE pictures SET form = 0 WHERE number = 9
+.22.2......|UPDATE pictures SET form = 2000000001 WHERE number = 9
+.22.2......|UPDATE pictures SET line = 67 WHERE number = 9
+.22........|UPDATE pictures SET taken = 0 WHERE number = 9
+.22........|UPDATE pictures SET taken = 2 WHERE number = 9
+.2.2....-..|UPDATE pictures SET cards = 1 WHERE number = 9
+...2.......|INSERT INTO cards SELECT customer, number, 0, card FROM cards WHERE place = 1
+...2.......|DELETE FROM cards WHERE place = 1
+...........|UPDATE cards SET place = 0 WHERE place = 1
+...2.......|UPDATE cards SET card = x'40' WHERE place = 2
+....2......|DELETE FROM lines WHERE place = 2
+....2......|UPDATE lines SET image = x'00' WHERE place = 1
+....2......|UPDATE lines SET line = 1 WHERE place = 2
+....2......|UPDATE lines SET line = 3 WHERE place = 2
+....2......|UPDATE lines SET form = 2 WHERE place = 2
+.2222222222|CREATE TABLE kept (customer, number, storage, i, a, b, compare, overflow, channel, \
+    waiting, form, line, taken, cards, lines, standing)\
+    #execute|INSERT INTO kept SELECT * FROM pictures\
+    #execute|DROP TABLE pictures\
+    #execute|CREATE TABLE pictures (customer, number, storage, i, a, b, compare, overflow, \
+    channel, waiting, form, line, taken, cards, lines, standing)\
+    #execute|INSERT INTO pictures SELECT * FROM kept\
+    #execute|UPDATE pictures SET standing = '0' WHERE number = 9
+";
+
+/// What a command is answered after a statement on the tables, and the ticks; another customer's
+/// job is run for one instruction just before it.
+fn answer_after(alloc: Global, sql: &str, command: &str) -> Result<String, Fail> {
+    let stages = format!(in alloc;
+        "make|#sheet|{TWO_CUSTOMERS}#execute|{sql}#commands|slice|ZETA|1|1\n{command}#"
+    )?;
+    let (told, ticks) = told_in_memory(alloc, stages.as_str())?;
+    Ok(format!(in alloc; "{told}, {ticks} ticks")?)
+}
+
+/// Whether a command is answered after a statement as this mark says.
+fn is_answered(alloc: Global, mark: u8, sql: &str, command: &str) -> Result<bool, Fail> {
+    let told = answer_after(alloc, sql, command)?;
+    match mark {
+        b'2' => Ok(told.as_str() == "ran 1, running; fault Store, 12 ticks"),
+        b'.' => Ok(told == answer_after(alloc, "UPDATE bureau SET version = 1", command)?),
+        _ => Ok(mark == b'-'),
+    }
+}
+
+/// The first line of a sheet after whose statement a command is answered otherwise than the line
+/// says, and the command; empty if there is none.
+fn misread(alloc: Global, sheet: &str) -> Result<String, Fail> {
     for line in sheet.lines() {
-        let (wanted, sql) = line.split_once('|').ok_or("a fault")?;
-        let (slice, wanted) = if wanted == "0" {
-            ("ran 1, running|slice|ACME|9|1\n", "1, 1 ticks")
-        } else {
-            ("fault Store|slice|ACME|9|1\n", "1, 0 ticks")
-        };
-        let told = told_after(alloc, LOOP, sql, slice, "SELECT count(*) FROM jobs")?;
-        if told.as_str() != wanted {
-            return Ok(line);
+        let (marks, sql) = line.split_once('|').ok_or("marks")?;
+        for (mark, command) in marks.bytes().zip(COMMANDS) {
+            if !is_answered(alloc, mark, sql, command)? {
+                return Ok(format!(in alloc; "{command} after {sql}")?);
+            }
         }
     }
-    Ok("")
+    Ok(String::new(alloc))
 }
 
 #[test]
 fn rows_that_are_none_of_a_bureau(rt: HostRuntime) -> Result<(), Fail> {
-    assert_eq!(rt; misread(rt.alloc(), ALTERED_ROWS)?, "");
-    Ok(())
-}
-
-#[test]
-fn cards_and_lines_that_are_none(rt: HostRuntime) -> Result<(), Fail> {
-    for (told, sql) in [
-        (
-            "fault Store|cards|ACME|9|\n",
-            "INSERT INTO cards VALUES ('ACME', 9, 1, x'40')",
-        ),
-        (
-            "fault Store|lines|ACME|9|\n",
-            "INSERT INTO lines VALUES ('ACME', 9, 1, 1, 1, x'00')",
-        ),
-    ] {
-        let told = told_after(rt.alloc(), LOOP, sql, told, "SELECT count(*) FROM jobs")?;
-        assert_eq!(rt; told.as_str(), "1, 0 ticks");
-    }
-    Ok(())
-}
-
-/// A job that prints two lines has printed the first.
-const ONE_LINE: &str = "\
-taken 6|submit|ACME|9|4000|A|two lines
-ran 30, running|slice|ACME|9|30
-";
-
-/// It prints the second.
-const SECOND_LINE: &str = "ran 5, halted, next 361|slice|ACME|9|2000\n";
-
-#[test]
-fn earlier_lines_are_counted_and_not_read(rt: HostRuntime) -> Result<(), Fail> {
-    let told = told_after(
-        rt.alloc(),
-        ONE_LINE,
-        "DELETE FROM lines",
-        SECOND_LINE,
-        "SELECT place FROM lines",
-    )?;
-    assert_eq!(rt; told.as_str(), "2, 35 ticks");
+    assert_eq!(rt; misread(rt.alloc(), ALTERED_ROWS)?.as_str(), "");
     Ok(())
 }

@@ -36,6 +36,35 @@ refused 23|slice|ACME|9|1
 refused 23|slice|ACME|9|2000
 ";
 
+/// A job that punches a card with each instruction.
+const TO_10000_CARDS: &str = "\
+taken 1|submit|ACME|9|1400|-|many cards
+ran 2000, running|slice|ACME|9|2000
+ran 2000, running|slice|ACME|9|2000
+ran 2000, running|slice|ACME|9|2000
+ran 2000, running|slice|ACME|9|2000
+ran 2000, running|slice|ACME|9|2000
+ran 2, PunchFull at 15|slice|ACME|9|2000
+PunchFull at 15, false false 12000 10000 0|standing|ACME|9|
+";
+
+/// A job that prints a line with each instruction.
+const TO_20000_LINES: &str = "\
+taken 1|submit|ACME|9|1400|-|many lines
+ran 2000, running|slice|ACME|9|2000
+ran 2000, running|slice|ACME|9|2000
+ran 2000, running|slice|ACME|9|2000
+ran 2000, running|slice|ACME|9|2000
+ran 2000, running|slice|ACME|9|2000
+ran 2000, running|slice|ACME|9|2000
+ran 2000, running|slice|ACME|9|2000
+ran 2000, running|slice|ACME|9|2000
+ran 2000, running|slice|ACME|9|2000
+ran 2000, running|slice|ACME|9|2000
+ran 2, PrinterFull at 15|slice|ACME|9|2000
+PrinterFull at 15, false false 22000 0 20000|standing|ACME|9|
+";
+
 #[test]
 fn slices_of_jobs(rt: HostRuntime) -> Result<(), Fail> {
     for (sheet, wanted) in [
@@ -43,6 +72,8 @@ fn slices_of_jobs(rt: HostRuntime) -> Result<(), Fail> {
         (WITHOUT_DATA, "26 ticks, 1 jobs, 0 lines"),
         (WITHOUT_END, "4001 ticks, 1 jobs, 0 lines"),
         (OUTSIDE, "2 ticks, 1 jobs, 0 lines"),
+        (TO_10000_CARDS, "10003 ticks, 1 jobs, 0 lines"),
+        (TO_20000_LINES, "20003 ticks, 1 jobs, 20000 lines"),
     ] {
         assert_eq!(rt; outcome(rt.alloc(), sheet)?.as_str(), wanted);
     }

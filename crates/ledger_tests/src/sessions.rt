@@ -3,6 +3,7 @@
 //! A session is a text. Each stage ends with `#`; it has a word, `|` and the rest:
 //!
 //! - `make` creates the tables.
+//! - `create` and `adopt` create the bureau and open it: each tells `done`, or the fault.
 //! - `sheet` opens the bureau and applies the commands of a sheet: it tells the first line that gets
 //!   another reply, if there is one.
 //! - `commands` opens the bureau and applies commands, one in each line: it tells the replies, or
@@ -12,6 +13,7 @@
 //!   version of the tables; each is 0 if there is none.
 //! - `number` tells the number that a query returns, and the text before the query and `|`.
 //! - `rows` tells every row of every table.
+//! - `office` tells the number of the fault of opening the bureau, and if it is 0 every row too.
 
 use crate::commands::{misanswered, reply_to};
 use crate::connections::{Work, over_memory};
@@ -117,6 +119,28 @@ fn adoption<S: Alter + Drop>(alloc: Global, conn: Connection<S>) -> (u8, Connect
     }
 }
 
+/// The number of the fault of creating the bureau, 0 for none, and the connection.
+fn creation<S: Alter + Drop>(alloc: Global, conn: Connection<S>) -> (u8, Connection<S>) {
+    match Bureau::create(alloc, conn) {
+        Ok(bureau) => (0, bureau.into_connection()),
+        Err((fault, conn)) => (fault.number(), conn),
+    }
+}
+
+/// The stages `create` and `adopt`, of which this is the fault.
+fn ended<S: Alter + Drop>(
+    (fault, conn): (u8, Connection<S>),
+    told: &mut String,
+) -> Result<Connection<S>, Fail> {
+    told.push_str(match fault {
+        0 => "done",
+        1 => "fault NoMemory",
+        2 => "fault Store",
+        _ => "another fault",
+    })?;
+    Ok(conn)
+}
+
 /// The stage `faults`.
 fn faulted<S: Alter + Drop>(
     alloc: Global,
@@ -162,6 +186,20 @@ fn shown<S: Alter + Drop>(
     Ok(conn)
 }
 
+/// The stage `office`.
+fn told_office<S: Alter + Drop>(
+    alloc: Global,
+    conn: Connection<S>,
+    told: &mut String,
+) -> Result<Connection<S>, Fail> {
+    let (fault, conn) = adoption(alloc, conn);
+    told.push_str(format!(in alloc; "{fault}\n")?.as_str())?;
+    if fault != 0 {
+        return Ok(conn);
+    }
+    shown(alloc, conn, told)
+}
+
 /// The connection after a stage.
 fn after<S: Alter + Drop>(
     alloc: Global,
@@ -173,12 +211,15 @@ fn after<S: Alter + Drop>(
     let (word, rest) = stage.split_once('|').ok_or("a stage")?;
     match word {
         "make" => made(alloc, conn),
+        "create" => ended(creation(alloc, conn), told),
+        "adopt" => ended(adoption(alloc, conn), told),
         "sheet" => answered(alloc, conn, rest, meter, told),
         "commands" => replied(alloc, conn, rest, meter, told),
         "execute" => executed(conn, rest),
         "faults" => faulted(alloc, conn, told),
         "number" => numbered(alloc, conn, rest, told),
         "rows" => shown(alloc, conn, told),
+        "office" => told_office(alloc, conn, told),
         _ => Err("a word")?,
     }
 }

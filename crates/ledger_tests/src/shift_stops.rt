@@ -3,7 +3,7 @@
 
 use crate::commands::command_of;
 use crate::connections::Work;
-use crate::disks::{Calls, Failing, new_disks, over_failing, told_on};
+use crate::disks::{ALL, Calls, Failing, new_disks, over_failing, told_on};
 use ledger::{Bureau, shift};
 use machine::Meter;
 use office::Command;
@@ -216,5 +216,18 @@ fn the_log_fails_in_a_shift(rt: HostRuntime) -> Result<(), Fail> {
 fn the_database_fails_in_a_shift(rt: HostRuntime) -> Result<(), Fail> {
     let stops = stops_of_both(rt.alloc(), Failing::Database)?;
     assert_eq!(rt; stops.as_str(), "36 lost, 0 kept; 30 lost, 0 kept");
+    Ok(())
+}
+
+#[test]
+fn a_shift_of_many_commands(rt: HostRuntime) -> Result<(), Fail> {
+    let alloc = rt.alloc();
+    let commands = commands_of(alloc, &["queue|"; 300])?;
+    let mut shifting = Shifting {
+        commands: commands.as_slice(),
+        acknowledged: 0,
+    };
+    over_failing(alloc, &new_disks(alloc)?, ALL, &mut shifting)?;
+    assert_eq!(rt; shifting.acknowledged, 300);
     Ok(())
 }

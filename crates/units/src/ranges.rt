@@ -68,7 +68,7 @@ impl Printer {
     /// Whether the printer has at most its greatest number of lines, `before` earlier ones and
     /// these, each of these is further down than the one before, and the carriage is further down
     /// than all of them.
-    fn is_in_range(&self, before: u32) -> bool
+    pub fn is_in_range(&self, before: u32) -> bool
         ensures { IsTrue result ↔ HasPrinted before self.now }
     {
         if !fits(before, self.lines.len(), MOST_LINES) {

@@ -1,4 +1,4 @@
-use Rattle.std.proofs.Common.{◌≡◌, ◌<◌, ◌^◌, sym, ap, ◌∙◌, arith}
+use Rattle.std.proofs.Common.{◌≡◌, sym, ap, ◌∙◌}
 use Rattle.std.specs.Option.{option_map}
 use Rattle.office.specs.Jobs.{picture}
 use Rattle.ledger_rows.specs.Columns.{state_row}
@@ -18,7 +18,6 @@ returns-in-Some-read_progress-clause-found g c clean inside office s =
       λ job is.
           let kept = job_is c.args.name.customer.now c.args.name.number office job s.jobs is in
           let range = (c.commands_keep_jobs.ensures.in_range job kept.job).machine in
-          let below : (picture job).works.registers.i < 2 ^ 16 = omega (arith, range.registers.i) in
           let row : c.in-Some.row ≡ progress_row (state_row (picture job)) = some_is (sym c.in-Some.is ∙ found.1 ∙ ap (λ o. option_map progress_row (state_of o)) is) in
-          some_is (sym c.in-Some-read_progress.is ∙ c.read_progress.ensures.picture (picture job) below row),
+          some_is (sym c.in-Some-read_progress.is ∙ c.read_progress.ensures.picture (picture job) range row),
     )
