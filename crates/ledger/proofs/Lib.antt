@@ -1,9 +1,11 @@
 pub mod SavingChanges
 pub mod BureauTransactions
+pub mod BureauVersions
 pub mod EarlierLemmas
 pub mod SavingFlags
 pub mod SavingJobs
 pub mod ListLemmas
+pub mod MigratingPages
 pub mod Offices
 pub mod StateRows
 pub mod PageMixes

@@ -61,7 +61,7 @@ job_behind e (first ∷ office) none c n = elim (cases_Bool (is_entry e.customer
     go other false this d that rest = rw this rest
 
 -- what is told of each job, after one more
-told_behind : {X : Type 0} (tell : Option Job → X) (e : Entry) (office : Office) → job_of e.customer e.number office ≡ None
+pub told_behind : {X : Type 0} (tell : Option Job → X) (e : Entry) (office : Office) → job_of e.customer e.number office ≡ None
     → told_of tell (office ++ e ∷ []) ≡ at_job e.customer e.number (tell (Some e.job)) (told_of tell office)
 told_behind tell e office none = fun_ext (λ c. fun_ext (λ n. ap tell (job_behind e office none c n) ∙ go c n (is_entry c n e)))
   where

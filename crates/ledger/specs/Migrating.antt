@@ -1,27 +1,30 @@
 -- the contracts of a migration and of its steps
-use Rattle.std.specs.Prelude.{◌≡◌, ◌≢◌, ◌⊎◌, ◌∷◌, [], pos, ℕ, List, length, Some, IsTrue, Result, OnOk}
+use Rattle.std.specs.Prelude.{◌≡◌, ◌≢◌, ◌⊎◌, ◌+◌, ◌++◌, ◌∷◌, [], pos, ℕ, List, length, map, take, Some, IsTrue, Result, IfErr, IfOk, OnOk}
 use Rattle.std.specs.List.{AllByRecursion}
 use Rattle.core_store.specs.Storage.{Storage}
 use Rattle.machine.specs.Ranges.{HasSize}
-use Rattle.office.specs.Office.{Office}
+use Rattle.office.specs.Office.{Entry, Office}
 use Rattle.ledger_rows.specs.Columns.{HoldsCharacters}
 use Rattle.sqlite.specs.Effect.{Database}
 use Rattle.sqlite.specs.Held.{Held, state}
-use Rattle.sqlite.specs.State.{State, HasCleanDisk}
+use Rattle.sqlite.specs.State.{State, HasCleanDisk, IsUnchanged}
 use Rattle.sqlite.specs.Tree.{Trees}
-use Rattle.sqlite_trees.specs.declared.store.Store.{Ghosts}
-use Rattle.ledger_tables.specs.Steps.{Inside}
-use Rattle.ledger_tables.specs.Tables.{ByJob, Tables, HoldsAs}
-use Rattle.ledger_tables.specs.Versions.{HasVersions, versions_in, IsBureaus}
 use Rattle.sqlite.specs.declared.types.Value.TheVariants.{Int}
+use Rattle.sqlite_trees.specs.declared.store.Store.{Ghosts}
+use Rattle.ledger_tables.specs.Cells.{QueuedName}
+use Rattle.ledger_tables.specs.Listed.{queued_name}
+use Rattle.ledger_tables.specs.Steps.{Inside}
+use Rattle.ledger_tables.specs.Tables.{ByJob, Tables, Holds, HoldsAs}
+use Rattle.ledger_tables.specs.Versions.{HasVersions, versions_in, IsBureaus}
 use Rattle.ledger_tables.specs.declared.faults.Fault.{Fault}
 use Rattle.ledger_tables.specs.declared.names.JobName.{JobName}
 use Rattle.ledger_tables.specs.declared.open_tables.OpenTables.{OpenTables}
 use Rattle.ledger_tables.specs.declared.openings.OpenFault.{OpenFault}
 use Rattle.ledger_tables.specs.declared.openings.OpenFault.TheVariants.{NotABureau, Old}
-use Rattle.ledger.specs.Older.{storages_of, with_first_pages, HasWhole, LeftOf, StandsOf}
+use Rattle.ledger.specs.Listed.{IsIts}
+use Rattle.ledger.specs.Older.{storages_of, with_first_pages, HasWhole, LeftOf, RowsOf, StandsOf}
 use Rattle.ledger.specs.Saving.{with_storage}
-use Rattle.ledger.specs.Standing.{CanBeKept, LeftAs, Rows, Stands}
+use Rattle.ledger.specs.Standing.{CanBeKept, LeftAs, Rows, Stands, named}
 
 module _ {S : Type 0} (g : Ghosts S) where
   -- on Ok, if the job had its whole storage and no pages of it, it now has its pages too
@@ -33,6 +36,30 @@ module _ {S : Type 0} (g : Ghosts S) where
       → HoldsCharacters s → HasWhole name s storages t
       → HoldsAs (Some storages) version after.now (with_storage name s t)))
 
+  -- on Ok, if the jobs of an office had their whole storages, and so many first ones their pages,
+  -- and the row names the next one, that one has its pages too
+  abbrev pub AddsNext : {X : Type 0} → OpenTables S → OpenTables S → Result X Fault → QueuedName
+      → Type 0
+  AddsNext old new result row =
+      Inside g old new (λ before after. OnOk result ((office : Office) (count : ℕ) (next : Entry)
+      → AllByRecursion (λ e. CanBeKept e.job) office
+      → take (count + 1) office ≡ take count office ++ next ∷ [] → IsIts office next
+      → row ≡ queued_name (named next)
+      → HoldsAs (Some (storages_of office)) 1 before.now (with_first_pages count office)
+      → HoldsAs (Some (storages_of office)) 1 after.now (with_first_pages (count + 1) office)))
+
+  -- on Ok, if the jobs of an office had their whole storages and no pages, and the rows name them,
+  -- they now have their pages too
+  abbrev pub AddsPagesOf : {X : Type 0} → OpenTables S → OpenTables S → Result X Fault
+      → List QueuedName → Type 0
+  AddsPagesOf old new result rows =
+      Inside g old new (λ before after. OnOk result ((office : Office)
+      → AllByRecursion (λ e. CanBeKept e.job) office
+      → rows ≡ map (λ e. queued_name (named e)) office
+      → HoldsAs (Some (storages_of office)) 1 before.now (with_first_pages 0 office)
+      → HoldsAs (Some (storages_of office)) 1 after.now
+      (with_first_pages (length office) office)))
+
   -- on Ok, if the jobs of an office had their whole storages and no pages, they now have their
   -- pages too
   abbrev pub AddsAllPages : {X : Type 0} → OpenTables S → OpenTables S → Result X Fault → Type 0
@@ -43,13 +70,54 @@ module _ {S : Type 0} (g : Ghosts S) where
       → HoldsAs (Some (storages_of office)) 1 after.now
       (with_first_pages (length office) office)))
 
+  -- on Ok, the tables hold what they held, without the whole storages, in this program's version
+  abbrev pub EndsFirst : {X : Type 0} → OpenTables S → OpenTables S → Result X Fault → Type 0
+  EndsFirst old new result =
+      Inside g old new (λ before after. OnOk result ((storages : ByJob (List ℕ)) (version : ℕ)
+      (t : Tables) → HoldsAs (Some storages) version before.now t → Holds after.now t))
+
   -- on Ok, if the tables represented an office by this rule, they now represent it in this
   -- program's version
   abbrev pub RaisesFrom : {X : Type 0} → (Database → Office → Type 0) → OpenTables S
       → OpenTables S → Result X Fault → Type 0
   RaisesFrom RowsBefore old new result =
       Inside g old new (λ before after. OnOk result ((office : Office)
-      → (IsTrue before.is_open → RowsBefore before.now office) → Rows after.now office))
+      → RowsBefore before.now office → Rows after.now office))
+
+  -- the connection was open and its tables can be asked for their version; and if their schema is a
+  -- bureau's, they hold this one alone, and were only read
+  pub record IsVersionOf (before after : State) (found : ℕ) : Type 0 where
+    pub opened : IsTrue before.is_open
+    pub asked : HasVersions before.now
+    pub only : IsBureaus before.now.schema → versions_in before.now ≡ Int (pos found) ∷ []
+    pub unchanged : IsBureaus before.now.schema → IsUnchanged before after
+
+  -- on Ok this version was found
+  abbrev pub FindsVersion : OpenTables S → OpenTables S → Result ℕ OpenFault → Type 0
+  FindsVersion old new result =
+      Inside g old new (λ before after. IfOk result (IsVersionOf before after))
+
+  -- the connection was open and its tables can be asked for their version; if their schema is a
+  -- bureau's, they held this one alone; and if they represented an office in any version, that is
+  -- this one, and they now represent the office in this program's version
+  pub record IsRaisedFrom (before after : State) (found : ℕ) : Type 0 where
+    pub opened : IsTrue before.is_open
+    pub asked : HasVersions before.now
+    pub only : IsBureaus before.now.schema → versions_in before.now ≡ Int (pos found) ∷ []
+    pub raised : (version : ℕ) (office : Office) → RowsOf version before.now office
+        → (found ≡ version) × Rows after.now office
+
+  -- on Ok the tables were raised from this version
+  abbrev pub RaisesFound : OpenTables S → OpenTables S → Result ℕ OpenFault → Type 0
+  RaisesFound old new result =
+      Inside g old new (λ before after. IfOk result (IsRaisedFrom before after))
+
+  -- a fault is not that the tables are no bureau's, if they represented an office in any version
+  abbrev pub KnowsFault : {X : Type 0} → OpenTables S → OpenTables S → Result X OpenFault
+      → Type 0
+  KnowsFault old new result =
+      Inside g old new (λ before after. IfErr result (λ fault. (version : ℕ) (office : Office)
+      → (IsTrue before.is_open → RowsOf version before.now office) → fault ≢ NotABureau))
 
 module _ {S : Type 0} (g : Ghosts S) (old new : Held S) where
   -- if the tables of any version represented an office, that is the version that was found, and

@@ -1,11 +1,9 @@
 //! Raising the tables of an earlier version to this program's, in one transaction.
 
-ghost use Rattle.std.specs.Prelude.{◌≡◌, ◌<◌, ◌≤◌, ℕ, IfErr, IfOk, IsErrOf, OnOk};
-ghost use Rattle.sqlite.specs.Held.{state};
-ghost use Rattle.sqlite.specs.State.{HasCleanDisk};
-ghost use Rattle.ledger_tables.specs.Schema.{own_version};
+ghost use Rattle.std.specs.Prelude.{IfErr, IfOk, IsErrOf};
 ghost use Rattle.ledger_tables.specs.Steps.{IsStep};
-ghost use Rattle.ledger.specs.Migrating.{AddsPages, AddsAllPages, RaisesFrom, IsRaised, IsKeptOf, LeavesEitherVersion, IsNoFaultOfVersion, HasVersion};
+ghost use Rattle.ledger_tables.specs.Versions.{IsKnown, IsNotOld};
+ghost use Rattle.ledger.specs.Migrating.{AddsPages, AddsNext, AddsPagesOf, AddsAllPages, EndsFirst, RaisesFrom, FindsVersion, RaisesFound, KnowsFault, IsRaised, IsKeptOf, LeavesEitherVersion, IsNoFaultOfVersion, HasVersion};
 ghost use Rattle.ledger.specs.Older.{FirstRows, RowsOf, SecondRows};
 
 use crate::page_saving::insert_pages;
@@ -32,28 +30,50 @@ fn raise_storage<S: Alter>(
     insert_pages(tables, name, &core)
 }
 
+/// Makes the pages of the storage of the job of this row.
+fn raise_row<S: Alter>(
+    tables: &mut OpenTables<'_, '_, S>,
+    row: &QueuedRow,
+) -> Result<(), Fault>
+    ensures step { IsStep S.Store tables.old tables.new result }
+    ensures raised { AddsNext S.Store tables.old tables.new result row.now }
+{
+    // A law, for the proof: it does nothing.
+    commands_keep_jobs();
+    let name = JobName {
+        customer: row.customer.as_str(),
+        number: row.number,
+    };
+    raise_storage(tables, name)
+}
+
+/// Makes the pages of the storages of the jobs of these rows.
+fn raise_rows<S: Alter>(
+    tables: &mut OpenTables<'_, '_, S>,
+    rows: &[QueuedRow],
+) -> Result<(), Fault>
+    ensures step { IsStep S.Store tables.old tables.new result }
+    ensures raised { AddsPagesOf S.Store tables.old tables.new result rows.now }
+{
+    for row in rows {
+        raise_row(tables, row)?;
+    }
+    Ok(())
+}
+
 /// Makes the pages of all jobs' storages.
 fn raise_storages<S: Alter>(tables: &mut OpenTables<'_, '_, S>) -> Result<(), Fault>
     ensures step { IsStep S.Store tables.old tables.new result }
     ensures raised { AddsAllPages S.Store tables.old tables.new result }
 {
-    // A law, for the proof: it does nothing.
-    commands_keep_jobs();
-    let names: Vec<QueuedRow> = tables.names_pictured()?;
-    for place in 0..names.len() {
-        let row = &names[place];
-        let name = JobName {
-            customer: &row.customer,
-            number: row.number,
-        };
-        raise_storage(tables, name)?;
-    }
-    Ok(())
+    let rows = tables.names_pictured()?;
+    raise_rows(tables, rows.as_slice())
 }
 
 /// Ends a migration from version 1, after all pages were made.
 fn end_first<S: Alter>(tables: &mut OpenTables<'_, '_, S>) -> Result<(), Fault>
     ensures step { IsStep S.Store tables.old tables.new result }
+    ensures ended { EndsFirst S.Store tables.old tables.new result }
 {
     tables.drop_pictures()?;
     tables.set_version()
@@ -80,29 +100,54 @@ fn raise_second<S: Alter>(tables: &mut OpenTables<'_, '_, S>) -> Result<(), Faul
 
 /// Raises the tables from an earlier version.
 fn raise<S: Alter>(tables: &mut OpenTables<'_, '_, S>, version: u32) -> Result<(), Fault>
-    requires least { 1 ≤ version }
-    requires earlier { version < own_version }
     ensures step { IsStep S.Store tables.old tables.new result }
     ensures raised { RaisesFrom S.Store (RowsOf version) tables.old tables.new result }
 {
     match version {
         1 => raise_first(tables),
-        _ => raise_second(tables),
+        2 => raise_second(tables),
+        _ => Err(Fault::Store),
+    }
+}
+
+/// The version of the tables: this program's or an earlier one.
+fn version_of<S: Alter>(tables: &mut OpenTables<'_, '_, S>) -> Result<u32, OpenFault>
+    ensures step { IsStep S.Store tables.old tables.new result }
+    ensures found { FindsVersion S.Store tables.old tables.new result }
+    ensures known { KnowsFault S.Store tables.old tables.new result }
+    ensures told { IfErr result IsNotOld }
+{
+    match tables.find_version() {
+        Ok(()) => Ok(VERSION),
+        Err(OpenFault::Old(version)) => Ok(version),
+        Err(fault) => Err(fault),
+    }
+}
+
+/// The same fault when a file is opened.
+fn as_open_fault(fault: Fault) -> OpenFault
+    ensures { IsKnown result }
+{
+    match fault {
+        Fault::NoMemory => OpenFault::NoMemory,
+        Fault::Store => OpenFault::Store,
     }
 }
 
 /// Raises the tables from the version that they have, and returns that version.
 fn raise_found<S: Alter>(tables: &mut OpenTables<'_, '_, S>) -> Result<u32, OpenFault>
     ensures step { IsStep S.Store tables.old tables.new result }
+    ensures found { RaisesFound S.Store tables.old tables.new result }
+    ensures known { KnowsFault S.Store tables.old tables.new result }
+    ensures told { IfErr result IsNotOld }
 {
-    match tables.find_version() {
-        Ok(()) => Ok(VERSION),
-        Err(OpenFault::Old(version)) => match raise(tables, version) {
-            Ok(()) => Ok(version),
-            Err(Fault::NoMemory) => Err(OpenFault::NoMemory),
-            Err(Fault::Store) => Err(OpenFault::Store),
-        },
-        Err(fault) => Err(fault),
+    let version = version_of(tables)?;
+    if version == VERSION {
+        return Ok(version);
+    }
+    match raise(tables, version) {
+        Ok(()) => Ok(version),
+        Err(fault) => Err(as_open_fault(fault)),
     }
 }
 
@@ -123,13 +168,19 @@ pub fn migrate<S: Alter>(alloc: Global, conn: &mut Connection<S>) -> Result<u32,
     let mut tx = conn.transaction();
     let found = raise_found(&mut OpenTables { tx: &mut tx, alloc });
     match found {
-        Ok(version) if version < VERSION => match tx.commit() {
-            Ok(()) => Ok(version),
-            Err(_) => Err(OpenFault::Store),
-        },
-        found => {
+        Ok(version) => {
+            if version == VERSION {
+                tx.rollback();
+                return Ok(version);
+            }
+            match tx.commit() {
+                Ok(()) => Ok(version),
+                Err(_) => Err(OpenFault::Store),
+            }
+        }
+        Err(fault) => {
             tx.rollback();
-            found
+            Err(fault)
         }
     }
 }

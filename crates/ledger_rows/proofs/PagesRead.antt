@@ -5,6 +5,7 @@ use Rattle.std.proofs.lemmas.Bool.{cases_Bool, cases_lt}
 use Rattle.std.proofs.lemmas.Bool.Decides.{nat_tests}
 use Rattle.std.proofs.lemmas.List.{ext_get_or, get_or-append_right, get_or_append_left, get_or-drop, get_or-map, get_or-replicate, get_or-take, length-append, length-map, length-replicate, length-take-le}
 use Rattle.std.proofs.lemmas.List.Elements.{All-get_or, recursion_from_All}
+use Rattle.std.proofs.lemmas.List.Sums.{fold_more}
 use Rattle.std.proofs.lemmas.Slice.Eq.{bytes_eq-Decides}
 use Rattle.core_store.specs.Pages.{page_at, page_count}
 use Rattle.core_store.specs.Storage.{Storage, blank_storage, positions_of}
@@ -13,9 +14,9 @@ use Rattle.core_store.specs.declared.sizes.Size.TheVariants.{Positions1400, Posi
 use Rattle.ledger_tables.specs.Cells.{PageCells, blank_bytes, unless_blank}
 use Rattle.ledger_tables.specs.Named.{ArePages}
 use Rattle.ledger_rows.specs.Columns.{byte_of, storage_bytes, HoldsCharacters}
-use Rattle.ledger_rows.specs.Pages.{AreCells, IsPageOf, cell_of, page_bytes, all_rows_of, rows_of, with_bytes, with_page, with_pages}
+use Rattle.ledger_rows.specs.Pages.{AreCells, HasStorage, IsPageOf, cell_of, page_bytes, all_rows_of, rows_of, with_bytes, with_page, with_pages}
 use Rattle.ledger_rows.proofs.PageBytes.{page_length, place_in_page}
-use Rattle.ledger_rows.proofs.StorageCells.{are_cells, cell_of_byte, with_bytes_long}
+use Rattle.ledger_rows.proofs.StorageCells.{are_cells, cell_of_byte, with_bytes_holds, with_bytes_long}
 
 abbrev none : ℕ × Bool
 none = (0, false)
@@ -88,6 +89,41 @@ byte_in_page s k i less within =
     let fits = page_fits k (length s) less in
     get_or-map byte_of (page_at s k) i none 0 (omega (arith, within, page_length s k fits)) ∙ ap byte_of (place_in_page s k fits i within)
 
+-- ---- rows that are those of pages
+
+pub page_room : (u : Storage) (row : PageCells) → IsPageOf (page_count u) row → row.page * 100 + length row.storage ≤ length u
+page_room u row is = let fits = page_fits row.page (length u) is.page in omega (arith, fits, is.size)
+
+pub with_page_long : (u : Storage) (row : PageCells) → IsPageOf (page_count u) row → length (with_page u row) ≡ length u
+with_page_long u row is = with_bytes_long u (row.page * 100) row.storage (page_room u row is)
+
+pub one_page_more : (s u : Storage) (rows : List PageCells) (i : ℕ) (row d : PageCells) → i < length rows → row ≡ get_or rows i d → u ≡ with_pages s (take i rows) → with_page u row ≡ with_pages s (take (i + 1) rows)
+one_page_more s u rows i row d within row_is is =
+    ap (λ x. with_page x row) is ∙ ap (with_page (with_pages s (take i rows))) row_is ∙ sym (fold_more with_page s rows i d within)
+
+with_pages_hold : (count : ℕ) (rows : List PageCells) (u : Storage) → HoldsCharacters u → AllByRecursion (IsPageOf count) rows → HoldsCharacters (with_pages u rows)
+with_pages_hold count [] u holds all = holds
+with_pages_hold count (row ∷ rows) u holds all =
+    with_pages_hold count rows (with_page u row) (with_bytes_holds u (row.page * 100) row.storage holds all.0.cells) all.1
+
+blank_holds : (n : ℕ) → HoldsCharacters (blank_storage n)
+blank_holds n k d less = let within : k < n = omega (arith, less, length-replicate n none) in subst (λ (c : ℕ × Bool). c.0 < 64) (sym (get_or-replicate n k none d within)) (omega arith)
+
+-- what was read from valid rows
+pub has_storage : (positions : ℕ) (size : Size) (rows : List PageCells) (blank s : Storage) → positions_of size ≡ positions → blank ≡ blank_storage (positions_of size) → All (IsPageOf (page_count blank)) rows → s ≡ with_pages blank rows → HasStorage positions rows s
+has_storage positions size rows blank s size_is blank_is are is =
+    let empty : blank ≡ blank_storage positions = blank_is ∙ ap (λ n. blank_storage n) size_is in
+    let long : length blank ≡ positions = ap (λ (u : Storage). length u) empty ∙ length-replicate positions none in
+    let each : All (IsPageOf (positions / 100)) rows = subst (λ n. All (IsPageOf (n / 100)) rows) long are in
+    let whole : s ≡ with_pages (blank_storage positions) rows = is ∙ ap (λ u. with_pages u rows) empty in
+    record {
+      size = size;
+      size_is = sym size_is;
+      rows = each;
+      storage = whole;
+      characters = subst HoldsCharacters (sym whole) (with_pages_hold (positions / 100) rows (blank_storage positions) (blank_holds positions) (recursion_from_All (IsPageOf (positions / 100)) rows each));
+    }
+
 -- ---- all rows
 
 module _ (s : Storage) (holds : HoldsCharacters s) where
@@ -127,6 +163,10 @@ module _ (s : Storage) (holds : HoldsCharacters s) where
       any_default [] i d less = absurd (omega (arith, less))
       any_default (x ∷ xs) zero d less = refl
       any_default (x ∷ xs) (suc i) d less = any_default xs i d (omega (arith, less))
+
+  -- the rows are those of pages
+  pub all_pages : (rows : List PageCells) (u : Storage) → length u ≡ length s → ArePages rows (rows_of s) → All (IsPageOf (page_count u)) rows
+  all_pages rows u long are = subst (λ n. All (IsPageOf (n / 100)) rows) (sym long) (λ k d less. is_page (get_or rows k d) (are.only k d less))
 
   long_after : (u : Storage) (row : PageCells) → length u ≡ length s → IsRow row → length (with_page u row) ≡ length s
   long_after u row long is = with_bytes_long u (row.page * 100) row.storage (room_for u row long is) ∙ long

@@ -4,7 +4,7 @@ use Rattle.std.proofs.Math.Seq.{set-append_seam}
 use Rattle.std.proofs.lemmas.Bool.{cases_Bool}
 use Rattle.std.proofs.lemmas.Bool.Decides.{nat_tests}
 use Rattle.std.proofs.lemmas.List.{drop_all, drop_more, length-append, length-drop, length-map, length-take-le, map_push, take_more}
-use Rattle.std.proofs.lemmas.List.Elements.{All-from_recursion, All-more, recursion_from_All}
+use Rattle.std.proofs.lemmas.List.Elements.{All-append, All-drop, All-from_recursion, All-more, All-take, recursion_from_All}
 use Rattle.std.specs.List.{AllByRecursion}
 use Rattle.core_store.specs.Storage.{Storage, blank_storage, code_at, is_marked}
 use Rattle.ledger_rows.specs.Columns.{byte_of, storage_bytes, HoldsCharacters}
@@ -103,3 +103,24 @@ all_written s bytes long = ap (λ rest. map cell_of bytes ++ rest) (drop_all (le
 -- cells that were looked at so far
 pub cells_more : (bytes : List ℕ) (place byte : ℕ) → place < length bytes → byte ≡ get_or bytes place 0 → byte < 128 → AreCells (take place bytes) → AreCells (take (place + 1) bytes)
 cells_more bytes place byte within is below all = All-more (λ b. b < 128) bytes place 0 within all (rw is at below)
+
+-- ---- characters
+
+cell_below : (byte : ℕ) → byte < 128 → (cell_of byte).0 < 64
+cell_below byte below = elim (cases_Bool (nat_lt byte 64)) [
+  | inl low ↦ rw low (let less : byte < 64 = grind (arith, nat_tests) in less)
+  | inr high ↦ rw high (omega (arith, below))
+]
+
+cells_below : (bytes : List ℕ) → AllByRecursion (λ byte. byte < 128) bytes → AllByRecursion (λ cell. cell.0 < 64) (map cell_of bytes)
+cells_below [] all = tt
+cells_below (byte ∷ bytes) all = (cell_below byte all.0, cells_below bytes all.1)
+
+pub are_characters : (bytes : List ℕ) → AreCells bytes → HoldsCharacters (map cell_of bytes)
+are_characters bytes are = All-from_recursion (λ (cell : ℕ × Bool). cell.0 < 64) (map cell_of bytes) (cells_below bytes (recursion_from_All (λ byte. byte < 128) bytes are))
+
+pub with_bytes_holds : (s : Storage) (first : ℕ) (bytes : List ℕ) → HoldsCharacters s → AreCells bytes → HoldsCharacters (with_bytes s first bytes)
+with_bytes_holds s first bytes holds are =
+    All-append (λ (cell : ℕ × Bool). cell.0 < 64) (take first s ++ map cell_of bytes) (drop (first + length bytes) s)
+    (All-append (λ (cell : ℕ × Bool). cell.0 < 64) (take first s) (map cell_of bytes) (All-take (λ (cell : ℕ × Bool). cell.0 < 64) first s holds) (are_characters bytes are))
+    (All-drop (λ (cell : ℕ × Bool). cell.0 < 64) (first + length bytes) s holds)

@@ -1,10 +1,10 @@
 -- the rows of a storage's pages
-use Rattle.std.specs.Prelude.{◌≡◌, ◌+◌, ◌-◌, ◌*◌, ◌<◌, nat_lt, ℕ, Bool, true, false, All, List, ◌++◌, length, map, take, drop, fold, if◌then◌else◌, Option, Some, None}
+use Rattle.std.specs.Prelude.{◌≡◌, ◌+◌, ◌-◌, ◌*◌, ◌/◌, ◌<◌, nat_lt, ℕ, Bool, true, false, All, List, ◌++◌, length, map, take, drop, fold, if◌then◌else◌, Option, Some, None}
 use Rattle.core_store.specs.Pages.{page_at, page_count, page_size}
 use Rattle.core_store.specs.Storage.{Storage, blank_storage, positions_of}
 use Rattle.core_store.specs.declared.sizes.Size.{Size}
 use Rattle.ledger_tables.specs.Cells.{PageCells, Pages, unless_blank}
-use Rattle.ledger_rows.specs.Columns.{storage_bytes}
+use Rattle.ledger_rows.specs.Columns.{storage_bytes, HoldsCharacters}
 
 -- the bytes of a page
 abbrev pub page_bytes : Storage → ℕ → List ℕ
@@ -47,8 +47,11 @@ pub record IsPageOf (count : ℕ) (row : PageCells) : Type 0 where
   pub size : length row.storage ≡ page_size
   pub cells : AreCells row.storage
 
--- the storage has so many positions, and is blank but for the pages of these rows
+-- the storage has so many positions, and is blank but for the pages of these rows, each of which is
+-- that of a page; each position holds a character
 pub record HasStorage (positions : ℕ) (pages : List PageCells) (s : Storage) : Type 0 where
   pub size : Size
   pub size_is : positions ≡ positions_of size
+  pub rows : All (IsPageOf (positions / page_size)) pages
   pub storage : s ≡ with_pages (blank_storage positions) pages
+  pub characters : HoldsCharacters s

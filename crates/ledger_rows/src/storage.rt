@@ -90,7 +90,8 @@ pub fn read_storage<C: Core>(alloc: Global, bytes: &[u8]) -> Result<Option<C>, A
     ensures all { IfOk result (λ read. (s : Storage) → HasSize s → HoldsCharacters s
         → bytes.now ≡ storage_bytes s → IfSome read (λ core. C.cells core ≡ s) × IsSome read) }
     ensures only { IfOk result (λ read. IfSome read
-        (λ core. (storage_bytes (C.cells core) ≡ bytes.now) × HasSize (C.cells core))) }
+        (λ core. (storage_bytes (C.cells core) ≡ bytes.now) × HasSize (C.cells core)
+        × HoldsCharacters (C.cells core))) }
 {
     let Some(size) = size_of(bytes) else {
         return Ok(None);

@@ -1,10 +1,11 @@
-use Rattle.std.proofs.Common.{◌≡◌, inr, false, IsTrue, sym, ap, subst, rules}
+use Rattle.std.proofs.Common.{◌≡◌, inl, inr, false, IsTrue, sym, ap, subst, rules}
 use Rattle.sqlite.specs.State.{HasCleanDisk, IsRolledBack, Survives}
 use Rattle.sqlite.specs.Held.{state}
 use Rattle.ledger_tables.specs.Versions.{IsFoundVersion}
-use Rattle.ledger.specs.Standing.{tables_of}
+use Rattle.ledger_tables.specs.Schema.{own_version}
 use Rattle.ledger.specs.Adopting.{IsTold}
 use Rattle.ledger.proofs.BureauTransactions.{kept_by, rolled_untouched}
+use Rattle.ledger.proofs.BureauVersions.{own_is_known, own_version_is}
 use Rattle.ledger.proofs.BureauResults.{err_under, ok_under}
 use Rattle.ledger.proofs.bureau.look.Goals as goal
 
@@ -18,7 +19,7 @@ returns-clause-known g c =
     (λ clean. let late : HasCleanDisk (state g.S.Store end) = search rules in
     let early : HasCleanDisk (state g.S.Store mid) = search (rules, c.rollback.ensures.survives.clean) in
     c.find_version-found.ensures.known early inside)
-    (λ fault clean known office s. known (tables_of office) (λ opened. rw begun (s.now (rw begun at opened)).tables))
+    (λ fault clean known office s. own_is_known fault (known own_version (λ opened. own_version_is _ office (rw begun (s.now (rw begun at opened))))))
 
 pub returns-clause-version : goal.returns-clause-version
 returns-clause-version g c =
@@ -30,7 +31,7 @@ returns-clause-version g c =
     (λ clean. let late : HasCleanDisk (state g.S.Store end) = search rules in
     let early : HasCleanDisk (state g.S.Store mid) = search (rules, c.rollback.ensures.survives.clean) in
     c.find_version-found.ensures.version early inside)
-    (λ clean version. rw begun at version)
+    (λ clean version. let here = rw begun at version in (here.0, λ ours. here.1 (inl ours)))
 
 pub returns-clause-told : goal.returns-clause-told
 returns-clause-told g c clean =

@@ -1,4 +1,4 @@
-use Rattle.std.proofs.Common.{◌∙◌, ap, arith, length, set, sym}
+use Rattle.std.proofs.Common.{◌∙◌, ◌+◌, ◌×◌, ℕ, Bool, ap, arith, length, set, sym, refl}
 use Rattle.std.proofs.lemmas.List.{length-set, take_all}
 use Rattle.ledger_rows.specs.Pages.{AreCells, with_bytes}
 use Rattle.ledger_rows.proofs.StorageCells.{cells_more, none_written, one_written}
