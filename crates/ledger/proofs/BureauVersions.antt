@@ -17,7 +17,7 @@ use Rattle.ledger_tables.specs.declared.openings.OpenFault.TheVariants.{NoMemory
 use Rattle.ledger_tables.specs.Steps.{GoesOn}
 use Rattle.ledger_tables.proofs.Frames.{shown_goes_on, shown_opened, shown_same}
 use Rattle.ledger_tables.proofs.OpeningVersion.{plain_in, shown_understood, versions_shown}
-use Rattle.ledger.specs.Migrating.{IsVersionOf}
+use Rattle.ledger.specs.Migrating.{IsRaisedFrom, IsVersionOf}
 use Rattle.ledger.specs.Older.{FirstRows, LeftOf, RowsOf, SecondRows, StandsOf}
 use Rattle.ledger.specs.Standing.{LeftAs, Rows, Stands}
 use Rattle.ledger.proofs.BureauTransactions.{left_as}
@@ -87,6 +87,32 @@ of_first version db office is rows = first_rows db office (subst (λ n. RowsOf n
 
 pub of_second : (version : ℕ) (db : Database) (office : Office) → version ≡ 2 → RowsOf version db office → SecondRows db office
 of_second version db office is rows = second_rows db office (subst (λ n. RowsOf n db office) is rows)
+
+-- tables of this program's version were only read
+pub raised_own : (before after : State) (found : ℕ) → IsVersionOf before after found → found ≡ own_version → IsRaisedFrom before after found
+raised_own before after found it own = record {
+  opened = it.opened;
+  asked = it.asked;
+  only = it.only;
+  raised = λ version office rows.
+      let of = rows_version version before.now office rows in
+      let same = same_version before.now found version (it.only of.0) of.1 in
+      let here = subst (λ n. RowsOf n before.now office) (sym same ∙ own) rows in
+      (same, subst (λ db. Rows db office) (sym (it.unchanged of.0).0.now_is) (own_rows before.now office here));
+}
+
+-- tables of an earlier version were read and raised
+pub raised_earlier : (before mid after : State) (found : ℕ) → IsVersionOf before mid found → ((office : Office) → RowsOf found mid.now office → Rows after.now office) → IsRaisedFrom before after found
+raised_earlier before mid after found it did = record {
+  opened = it.opened;
+  asked = it.asked;
+  only = it.only;
+  raised = λ version office rows.
+      let of = rows_version version before.now office rows in
+      let same = same_version before.now found version (it.only of.0) of.1 in
+      let here : RowsOf found mid.now office = subst (λ db. RowsOf found db office) (sym (it.unchanged of.0).0.now_is) (subst (λ n. RowsOf n before.now office) (sym same) rows) in
+      (same, did office here);
+}
 
 -- a fault over tables of some version
 pub is_no_fault : (version : ℕ) (db : Database) (office : Office) (fault : OpenFault) → RowsOf version db office → IsFaultOf version fault → fault ≢ NotABureau

@@ -56,6 +56,7 @@ fn carry_out<S: Alter>(
 }
 
 /// Carries out a slice or a start on the job of this name.
+#[tactic(auto, using(crate::proofs::EarlierLemmas::same_attempts))]
 fn drive_machine<S: Alter>(
     tables: &mut OpenTables<'_, '_, S>,
     name: JobName<'_>,

@@ -1,7 +1,7 @@
 //! Pages of storage as rows.
 
 ghost use Rattle.std.specs.Prelude.{◌≡◌, ◌<◌, ◌≤◌, ◌↔◌, All, bytes_eq, length, IsTrue};
-ghost use Rattle.core_store.specs.Pages.{page_count};
+ghost use Rattle.core_store.specs.Pages.{page_count, page_size};
 ghost use Rattle.core_store.specs.Storage.{largest_size};
 ghost use Rattle.ledger_tables.specs.Cells.{blank_bytes};
 ghost use Rattle.ledger_rows.specs.Pages.{IsPageOf, page_bytes, with_page, with_pages};
@@ -35,6 +35,13 @@ pub fn is_blank_page(bytes: &[u8; 100]) -> bool
     *bytes == [0; 100]
 }
 
+/// Whether a row has the number and the size of a page, of which there are so many.
+fn names_page(row: &PageRow, count: u16) -> bool
+    ensures { IsTrue result ↔ (row.now.page < count) × (length row.now.storage ≡ page_size) }
+{
+    row.page < u32::from(count) && row.storage.len() == PAGE_SIZE as usize
+}
+
 /// Writes the page of a row. Returns whether the row is that of a page.
 fn put_page<C: Core>(core: &mut C, row: &PageRow) -> bool
     requires { length (C.cells core.old) ≤ largest_size }
@@ -42,8 +49,7 @@ fn put_page<C: Core>(core: &mut C, row: &PageRow) -> bool
     ensures is { IsTrue result ↔ IsPageOf (page_count (C.cells core.old)) row.now }
     ensures put { IsTrue result → C.cells core.new ≡ with_page (C.cells core.old) row.now }
 {
-    let pages = core.size() / PAGE_SIZE;
-    if row.page >= u32::from(pages) || row.storage.len() != PAGE_SIZE as usize {
+    if !names_page(row, core.size() / PAGE_SIZE) {
         return false;
     }
     put_cells(core, row.page as u16 * PAGE_SIZE, &row.storage)
