@@ -41,10 +41,10 @@ abbrev pub with_all_lines : JobName → List Line → Tables → Tables
 with_all_lines name lines = with_lines name.customer.now name.number (map line_cells lines)
 
 -- the job's rows are those of these cards and lines, as many as were made before those of the units
-pub record HasEarlier (name : JobName) (cards : List Card) (lines : List Line) (units : Units)
+pub record HasEarlier (name : JobName) (punched : List Card) (printed : List Line) (units : Units)
     (t : Tables) : Type 0 where
-  pub cards : HasCardRows name units.before.cards cards t
-  pub lines : HasLineRows name units.before.lines lines t
+  pub cards : HasCardRows name units.before.cards punched t
+  pub lines : HasLineRows name units.before.lines printed t
 
 -- the tables with these cards and lines, and then those of the units, as the job's rows
 abbrev pub with_made : JobName → List Card → List Line → Units → Tables → Tables
