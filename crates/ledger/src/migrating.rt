@@ -31,10 +31,7 @@ fn raise_storage<S: Alter>(
 }
 
 /// Makes the pages of the storage of the job of this row.
-fn raise_row<S: Alter>(
-    tables: &mut OpenTables<'_, '_, S>,
-    row: &QueuedRow,
-) -> Result<(), Fault>
+fn raise_row<S: Alter>(tables: &mut OpenTables<'_, '_, S>, row: &QueuedRow) -> Result<(), Fault>
     ensures step { IsStep S.Store tables.old tables.new result }
     ensures raised { AddsNext S.Store tables.old tables.new result row.now }
 {
@@ -48,10 +45,7 @@ fn raise_row<S: Alter>(
 }
 
 /// Makes the pages of the storages of the jobs of these rows.
-fn raise_rows<S: Alter>(
-    tables: &mut OpenTables<'_, '_, S>,
-    rows: &[QueuedRow],
-) -> Result<(), Fault>
+fn raise_rows<S: Alter>(tables: &mut OpenTables<'_, '_, S>, rows: &[QueuedRow]) -> Result<(), Fault>
     ensures step { IsStep S.Store tables.old tables.new result }
     ensures raised { AddsPagesOf S.Store tables.old tables.new result rows.now }
 {

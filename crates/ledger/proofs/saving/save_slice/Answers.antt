@@ -33,6 +33,8 @@ returns-clause-saved g c limit old clean inside =
       lines = record { are = ap standing.lines_of is.after.found; count = ap (λ (n : Counts). n.lines) is.after.counted };
     }) in
     slice_saved (seen g.S.Store c.args.tables.now).now (seen g.S.Store c.set_progress.new.tables).now office c.args.name.customer.now c.args.name.number limit old c.args.job.now stands is.after.found is.after.counted is.after.is is.after.job all.0 all_cards all_lines
-    (all.1 mid made (record { pages = ap pages_of is.after.found ∙ ap (λ (s : Storage). rows_of s) (sym is.storage); state = ap is_some (ap state_of is.after.found) },
-    (old.stretches, limit, ap (λ (k : Kept). k.stretches) is.after.made, ap stretches_of is.after.found))))
+    (all.1 mid made (
+      record { pages = ap pages_of is.after.found ∙ ap (λ (s : Storage). rows_of s) (sym is.storage); state = ap is_some (ap state_of is.after.found) },
+      (old.stretches, limit, ap (λ (k : Kept). k.stretches) is.after.made, ap stretches_of is.after.found),
+    )))
     (on_ok_both c.set_progress.result _ _ c.set_progress.ensures.characters (c.set_progress.ensures.set clean on.inside))
