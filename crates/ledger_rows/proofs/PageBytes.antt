@@ -1,5 +1,5 @@
 -- the bytes of a page
-use Rattle.std.proofs.Common.{◌≡◌, ◌+◌, ◌-◌, ◌*◌, ◌<◌, ◌≤◌, ◌∙◌, ℕ, false, List, [], ◌∷◌, ◌++◌, length, take, drop, map, set, get_or, ap, sym, refl, arith}
+use Rattle.std.proofs.Common.{◌≡◌, ◌+◌, ◌-◌, ◌*◌, ◌<◌, ◌≤◌, ◌∙◌, ℕ, false, List, [], ◌∷◌, ◌++◌, length, take, drop, map, set, get_or, ap, sym, arith}
 use Rattle.std.proofs.lemmas.List.{take_more, take_more_set, map_push, take_all, length-take-le, length-drop, get_or-take, get_or-drop}
 use Rattle.core_store.specs.Pages.{page_at}
 use Rattle.core_store.specs.Storage.{Storage, code_at, is_marked}

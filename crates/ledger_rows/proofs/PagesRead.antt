@@ -1,5 +1,5 @@
 -- a storage that is read from the rows of its pages
-use Rattle.std.proofs.Common.{◌≡◌, ◌≢◌, ◌⊎◌, inl, inr, ℕ, zero, suc, ◌+◌, ◌-◌, ◌*◌, ◌/◌, ◌<◌, ◌≤◌, ◌==◌, Bool, true, false, nat_lt, bytes_eq, if◌then◌else◌, List, [], ◌∷◌, ◌++◌, length, map, take, drop, replicate, fold, get_or, All, Contains, Option, Some, None, refl, sym, ◌∙◌, ap, subst, arith, true≢false}
+use Rattle.std.proofs.Common.{◌≡◌, ◌≢◌, ◌⊎◌, inl, inr, ℕ, zero, suc, ◌+◌, ◌-◌, ◌*◌, ◌/◌, ◌<◌, ◌≤◌, ◌==◌, Bool, true, false, nat_lt, bytes_eq, if◌then◌else◌, List, [], ◌∷◌, ◌++◌, length, map, take, drop, get_or, All, Contains, Option, Some, None, refl, sym, ◌∙◌, ap, subst, arith}
 use Rattle.std.specs.List.{AllByRecursion}
 use Rattle.std.proofs.lemmas.Bool.{cases_Bool, cases_lt}
 use Rattle.std.proofs.lemmas.Bool.Decides.{nat_tests}
@@ -13,8 +13,8 @@ use Rattle.core_store.specs.declared.sizes.Size.{Size}
 use Rattle.core_store.specs.declared.sizes.Size.TheVariants.{Positions1400, Positions2000, Positions4000}
 use Rattle.ledger_tables.specs.Cells.{PageCells, blank_bytes, unless_blank}
 use Rattle.ledger_tables.specs.Named.{ArePages}
-use Rattle.ledger_rows.specs.Columns.{byte_of, storage_bytes, HoldsCharacters}
-use Rattle.ledger_rows.specs.Pages.{AreCells, HasStorage, IsPageOf, cell_of, page_bytes, all_rows_of, rows_of, with_bytes, with_page, with_pages}
+use Rattle.ledger_rows.specs.Columns.{byte_of, HoldsCharacters}
+use Rattle.ledger_rows.specs.Pages.{AreCells, HasStorage, IsPageOf, cell_of, page_bytes, rows_of, with_bytes, with_page, with_pages}
 use Rattle.ledger_rows.proofs.PageBytes.{page_length, place_in_page}
 use Rattle.ledger_rows.proofs.StorageCells.{are_cells, cell_of_byte, with_bytes_holds, with_bytes_long}
 
@@ -40,16 +40,16 @@ module _ (s : Storage) (first : ℕ) (bytes : List ℕ) (room : first + length b
 
   inside_it : (i : ℕ) → i < length bytes → get_or (with_bytes s first bytes) (first + i) none ≡ cell_of (get_or bytes i 0)
   inside_it i less =
-      let back : first + i - length (take first s) ≡ i = omega (arith, first_long) in
+      let back : first + i - first ≡ i = omega arith in
       get_or_append_left front (drop (first + length bytes) s) none (first + i) (omega (arith, front_long, less))
-      ∙ get_or-append_right (take first s) (map cell_of bytes) (first + i) none (omega (arith, first_long))
+      ∙ get_or-append_right (take first s) (map cell_of bytes) first (first + i) none first_long (omega arith)
       ∙ ap (λ n. get_or (map cell_of bytes) n none) back ∙ get_or-map cell_of bytes i 0 none less
 
   after_it : (p : ℕ) → first + length bytes ≤ p → get_or (with_bytes s first bytes) p none ≡ get_or s p none
   after_it p past =
-      let on : first + length bytes + (p - length front) ≡ p = omega (arith, front_long, past) in
-      get_or-append_right front (drop (first + length bytes) s) p none (omega (arith, front_long, past))
-      ∙ get_or-drop (first + length bytes) s (p - length front) none ∙ ap (λ n. get_or s n none) on
+      let on : first + length bytes + (p - (first + length bytes)) ≡ p = omega (arith, past) in
+      get_or-append_right front (drop (first + length bytes) s) (first + length bytes) p none front_long past
+      ∙ get_or-drop (first + length bytes) s (p - (first + length bytes)) none ∙ ap (λ n. get_or s n none) on
 
 -- ---- rows of a storage's pages
 
@@ -110,8 +110,8 @@ blank_holds : (n : ℕ) → HoldsCharacters (blank_storage n)
 blank_holds n k d less = let within : k < n = omega (arith, less, length-replicate n none) in subst (λ (c : ℕ × Bool). c.0 < 64) (sym (get_or-replicate n k none d within)) (omega arith)
 
 -- what was read from valid rows
-pub has_storage : (positions : ℕ) (size : Size) (rows : List PageCells) (blank s : Storage) → positions_of size ≡ positions → blank ≡ blank_storage (positions_of size) → All (IsPageOf (page_count blank)) rows → s ≡ with_pages blank rows → HasStorage positions rows s
-has_storage positions size rows blank s size_is blank_is are is =
+pub has_storage : (positions : ℕ) (size : Size) (rows : List PageCells) (blank s : Storage) → positions_of size ≡ positions → blank ≡ blank_storage (positions_of size) → length s ≡ length blank → All (IsPageOf (page_count blank)) rows → s ≡ with_pages blank rows → HasStorage positions rows s
+has_storage positions size rows blank s size_is blank_is stays are is =
     let empty : blank ≡ blank_storage positions = blank_is ∙ ap (λ n. blank_storage n) size_is in
     let long : length blank ≡ positions = ap (λ (u : Storage). length u) empty ∙ length-replicate positions none in
     let each : All (IsPageOf (positions / 100)) rows = subst (λ n. All (IsPageOf (n / 100)) rows) long are in
@@ -119,6 +119,7 @@ has_storage positions size rows blank s size_is blank_is are is =
     record {
       size = size;
       size_is = sym size_is;
+      length_is = stays ∙ long;
       rows = each;
       storage = whole;
       characters = subst HoldsCharacters (sym whole) (with_pages_hold (positions / 100) rows (blank_storage positions) (blank_holds positions) (recursion_from_All (IsPageOf (positions / 100)) rows each));
@@ -151,6 +152,11 @@ module _ (s : Storage) (holds : HoldsCharacters s) where
         cells = subst AreCells (sym it.1) (are_cells (page_at s row.page) (page_holds row.page it.0));
       }
     where
+      any_default : (xs : Storage) (i : ℕ) (d : ℕ × Bool) → i < length xs → get_or xs i d ≡ get_or xs i none
+      any_default [] i d less = absurd (omega (arith, less))
+      any_default (x ∷ xs) zero d less = refl
+      any_default (x ∷ xs) (suc i) d less = any_default xs i d (omega (arith, less))
+
       page_holds : (k : ℕ) → k < page_count s → HoldsCharacters (page_at s k)
       page_holds k less i d within =
           let fits = page_fits k (length s) less in
@@ -158,11 +164,6 @@ module _ (s : Storage) (holds : HoldsCharacters s) where
           let here : k * 100 + i < length s = omega (arith, fits, inside) in
           let at_none : get_or (page_at s k) i none ≡ get_or s (k * 100 + i) none = place_in_page s k fits i inside in
           subst (λ (c : ℕ × Bool). c.0 < 64) (sym (any_default (page_at s k) i d within ∙ at_none)) (All-get_or (λ (c : ℕ × Bool). c.0 < 64) s (k * 100 + i) none here holds)
-
-      any_default : (xs : Storage) (i : ℕ) (d : ℕ × Bool) → i < length xs → get_or xs i d ≡ get_or xs i none
-      any_default [] i d less = absurd (omega (arith, less))
-      any_default (x ∷ xs) zero d less = refl
-      any_default (x ∷ xs) (suc i) d less = any_default xs i d (omega (arith, less))
 
   -- the rows are those of pages
   pub all_pages : (rows : List PageCells) (u : Storage) → length u ≡ length s → ArePages rows (rows_of s) → All (IsPageOf (page_count u)) rows

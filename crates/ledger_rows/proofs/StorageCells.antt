@@ -1,9 +1,9 @@
 -- positions of storage and their bytes
-use Rattle.std.proofs.Common.{◌≡◌, ℕ, ◌+◌, ◌-◌, ◌<◌, ◌≤◌, Bool, true, false, nat_lt, if◌then◌else◌, List, [], ◌∷◌, ◌++◌, refl, sym, ◌∙◌, ap, arith, length, map, take, drop, set, get_or, All, append-nil, true≢false}
+use Rattle.std.proofs.Common.{◌≡◌, inl, inr, ℕ, zero, suc, ◌+◌, ◌-◌, ◌<◌, ◌≤◌, Bool, true, false, nat_lt, List, [], ◌∷◌, ◌++◌, refl, sym, ◌∙◌, ap, arith, length, map, take, drop, set, get_or, append-nil}
 use Rattle.std.proofs.Math.Seq.{set-append_seam}
 use Rattle.std.proofs.lemmas.Bool.{cases_Bool}
 use Rattle.std.proofs.lemmas.Bool.Decides.{nat_tests}
-use Rattle.std.proofs.lemmas.List.{drop_all, drop_more, length-append, length-drop, length-map, length-take-le, map_push, take_more}
+use Rattle.std.proofs.lemmas.List.{drop_all, drop_more, length-append, length-drop, length-map, length-replicate, length-take-le, map_push, take_more}
 use Rattle.std.proofs.lemmas.List.Elements.{All-append, All-drop, All-from_recursion, All-more, All-take, recursion_from_All}
 use Rattle.std.specs.List.{AllByRecursion}
 use Rattle.core_store.specs.Storage.{Storage, blank_storage, code_at, is_marked}
@@ -98,7 +98,12 @@ with_bytes_long s first bytes room =
 
 -- bytes that fill a storage
 pub all_written : (s : Storage) (bytes : List ℕ) → length bytes ≡ length s → with_bytes s 0 bytes ≡ map cell_of bytes
-all_written s bytes long = ap (λ rest. map cell_of bytes ++ rest) (drop_all (length bytes) s (omega (arith, long))) ∙ append-nil (map cell_of bytes)
+all_written s bytes long =
+    let none : 0 + length bytes ≡ length bytes = omega arith in
+    ap (λ n. map cell_of bytes ++ drop n s) none ∙ ap (λ rest. map cell_of bytes ++ rest) (drop_all (length bytes) s (omega (arith, long))) ∙ append-nil (map cell_of bytes)
+
+pub filled_with : (u : Storage) (n : ℕ) (bytes : List ℕ) → u ≡ blank_storage n → n ≡ length bytes → with_bytes u 0 bytes ≡ map cell_of bytes
+filled_with u n bytes blank many = all_written u bytes (sym many ∙ sym (ap (λ (x : Storage). length x) blank ∙ length-replicate n (0, false)))
 
 -- cells that were looked at so far
 pub cells_more : (bytes : List ℕ) (place byte : ℕ) → place < length bytes → byte ≡ get_or bytes place 0 → byte < 128 → AreCells (take place bytes) → AreCells (take (place + 1) bytes)

@@ -1,5 +1,5 @@
 -- the rows of a storage's pages
-use Rattle.std.specs.Prelude.{◌≡◌, ◌+◌, ◌-◌, ◌*◌, ◌/◌, ◌<◌, nat_lt, ℕ, Bool, true, false, All, List, ◌++◌, length, map, take, drop, fold, if◌then◌else◌, Option, Some, None}
+use Rattle.std.specs.Prelude.{◌≡◌, ◌+◌, ◌-◌, ◌*◌, ◌/◌, ◌<◌, nat_lt, ℕ, Bool, true, false, All, List, ◌++◌, length, map, take, drop, fold, if◌then◌else◌, Some, None}
 use Rattle.core_store.specs.Pages.{page_at, page_count, page_size}
 use Rattle.core_store.specs.Storage.{Storage, blank_storage, positions_of}
 use Rattle.core_store.specs.declared.sizes.Size.{Size}
@@ -52,6 +52,7 @@ pub record IsPageOf (count : ℕ) (row : PageCells) : Type 0 where
 pub record HasStorage (positions : ℕ) (pages : List PageCells) (s : Storage) : Type 0 where
   pub size : Size
   pub size_is : positions ≡ positions_of size
+  pub length_is : length s ≡ positions
   pub rows : All (IsPageOf (positions / page_size)) pages
   pub storage : s ≡ with_pages (blank_storage positions) pages
   pub characters : HoldsCharacters s

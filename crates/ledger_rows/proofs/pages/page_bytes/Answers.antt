@@ -1,6 +1,5 @@
-use Rattle.std.proofs.Common.{◌+◌, ◌*◌, ◌≤◌, ◌∙◌, ap, arith, length, refl}
+use Rattle.std.proofs.Common.{◌+◌, ◌*◌, ◌≤◌, ◌∙◌, arith, length, refl}
 use Rattle.std.proofs.lemmas.List.{length-set}
-use Rattle.core_store.specs.Storage.{code_at, is_marked}
 use Rattle.ledger_rows.proofs.PageBytes.{bytes_more, bytes_all}
 use Rattle.ledger_rows.proofs.StorageCells.{same_byte}
 use Rattle.ledger_rows.proofs.pages.page_bytes.Goals as goal
