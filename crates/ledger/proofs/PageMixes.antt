@@ -2,8 +2,9 @@
 use Rattle.std.proofs.Common.{◌≡◌, ◌<◌, ◌≤◌, ◌+◌, ◌-◌, ◌*◌, ◌/◌, ◌∙◌, ℕ, zero, suc, Bool, true, false, ◌||◌, ◌==◌, nat_lt, bytes_eq, if◌then◌else◌, List, [], ◌∷◌, ◌++◌, length, map, take, drop, replicate, get_or, Contains, Option, Some, None, ap, sym, subst, refl, arith, true≢false}
 use Rattle.std.specs.List.{list_any}
 use Rattle.std.proofs.Math.Path.{fun_ext}
-use Rattle.std.proofs.lemmas.Bool.Decides.{nat_tests, bytes_eq-Decides}
+use Rattle.std.proofs.lemmas.Bool.Decides.{nat_tests}
 use Rattle.std.proofs.lemmas.List.{length-replicate, take-replicate, drop-replicate}
+use Rattle.std.proofs.lemmas.Slice.Eq.{bytes_eq-Decides}
 use Rattle.sqlite.specs.Effect.{Database}
 use Rattle.core_store.specs.Pages.{cells_of, page_at, page_count, AreChanged}
 use Rattle.core_store.specs.Planes.{joined_planes}
@@ -136,7 +137,7 @@ blank_rows n = fun_ext (λ k. go k (nat_lt k (page_count (blank_storage n))) ref
     go k false out = refl
     go k true less =
         let within : k < length (blank_storage n) / 100 = grind (arith, nat_tests) in
-        let fits : k * 100 + 100 ≤ n = omega (arith, within, length-replicate n (0, false)) in
+        let fits : k * 100 + 100 ≤ n = omega (arith, within, length-replicate {A = ℕ × Bool} n (0, false)) in
         let most : k * 100 + 100 - k * 100 ≡ 100 = omega arith in
         let page : page_at (blank_storage n) k ≡ replicate 100 (0, false) =
         ap (λ m. take m (drop (k * 100) (blank_storage n))) most ∙ ap (take 100) (drop-replicate (k * 100) n (0, false)) ∙ take-replicate 100 (n - k * 100) (0, false) (omega (arith, fits)) in
@@ -144,6 +145,11 @@ blank_rows n = fun_ext (λ k. go k (nat_lt k (page_count (blank_storage n))) ref
         sym (blank_row (page_bytes (blank_storage n) k) ((bytes_eq-Decides (page_bytes (blank_storage n) k) blank_bytes).1 bytes))
 
 -- ---- what planes hold
+
+pub joined_length : (codes marks : List ℕ) → length codes ≡ length marks → length (joined_planes codes marks) ≡ length codes
+joined_length [] marks even = refl
+joined_length (code ∷ codes) [] even = absurd (omega (arith, even))
+joined_length (code ∷ codes) (mark ∷ marks) even = ap (λ n. suc n) (joined_length codes marks (omega (arith, even)))
 
 joined_are : (codes marks : List ℕ) → length codes ≡ length marks → ((k d : ℕ) → k < length codes → get_or codes k d < 64) → (k : ℕ) (d : ℕ × Bool) → k < length (joined_planes codes marks) → (get_or (joined_planes codes marks) k d).0 < 64
 joined_are [] marks even all k d less = absurd (omega (arith, less))

@@ -18,7 +18,7 @@ ghost use Rattle.ledger.specs.Saving.{job_in, HasCardRows, with_all_cards, HasLi
 ghost use Rattle.ledger.specs.Standing.{kind_number};
 ghost use Rattle.ledger.specs.Steps.{Saves};
 
-use crate::page_saving::{insert_pages, save_pages};
+use crate::page_saving::{insert_pages, save_pages, storage_holds_characters};
 use cards::{Card, Deck};
 use core_store::PlaneCore;
 use ledger_rows::{card_bytes, deck_bytes, line_row, state_row, switches_number, truth};
@@ -105,6 +105,8 @@ fn set_state<S: Alter>(
         (HasState name.entry) (with_running name.entry machine.now) }
     ensures characters { HoldsCharacters machine.now.works.storage }
 {
+    // A law, for the proof: it does nothing.
+    storage_holds_characters(&machine.core);
     tables.set_state(name, state_row(machine))
 }
 
@@ -319,6 +321,8 @@ fn insert_machine<S: Alter>(
         (HasNoMachine name.entry) (with_machine name.entry machine.now) }
     ensures characters { HoldsCharacters machine.now.works.storage }
 {
+    // A law, for the proof: it does nothing.
+    storage_holds_characters(&machine.core);
     insert_pages(tables, name, &machine.core)?;
     tables.insert_state(name, state_row(machine))
 }

@@ -6,7 +6,7 @@ use Rattle.ledger_tables.specs.Cells.{Pages}
 use Rattle.ledger_tables.specs.Steps.{seen}
 use Rattle.ledger_tables.specs.Tables.{HoldsAs, with_pages}
 use Rattle.ledger_tables.proofs.Stepping.{step_still, step_then, step_ends}
-use Rattle.ledger.proofs.PageMixes.{mixed, pages_still, page_put, all_put}
+use Rattle.ledger.proofs.PageMixes.{joined_length, mixed, pages_still, page_put, all_put}
 use Rattle.ledger.proofs.page_saving.save_pages.Goals as goal
 
 pub loop-place-preserved : goal.loop-place-preserved
@@ -49,3 +49,8 @@ loop-place-init g c = record {
   step = step_still g.S.Store c.args.tables.now 0;
   saved = λ clean inside there version t holds has. pages_still there version _ t c.args.name.customer.now c.args.name.number _ holds has;
 }
+
+pub page_bytes-bytes-requires-clause-limit : goal.page_bytes-bytes-requires-clause-limit
+page_bytes-bytes-requires-clause-limit g c =
+    let core = c.args.core.now in
+    omega (arith, joined_length core.codes.items core.marks.items core.even, core.limit)

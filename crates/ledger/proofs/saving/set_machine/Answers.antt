@@ -12,7 +12,7 @@ pub returns-clause-set : goal.returns-clause-set
 returns-clause-set g c clean inside =
     let early : HasCleanDisk (seen g.S.Store c.save_pages.new.tables) = omega (arith, c.set_state.ensures.step.survives.clean) in
     let on = c.in_ok-save_pages.ensures.step.frame early inside in
-    let storage : cells_of c.args.machine.inside.core ≡ c.args.machine.now.works.storage = search rules in
+    let storage : cells_of c.machine.inside.core ≡ c.args.machine.now.works.storage = search rules in
     let did = rw storage at (c.in_ok-save_pages.ensures.saved early inside) in
     on_ok_then c.set_state.result _ _
     (λ more t holds has. more (with_storage c.args.name c.args.machine.now.works.storage t) (did None own_version t holds has.pages) has.state)
