@@ -88,9 +88,11 @@ HasMachine here row switches found =
     (job : Job) → here ≡ Some job → row ≡ job_cells job
     → switches ≡ (picture job).works.units.switches → found ≡ without_outputs (picture job)
 
--- if there is the job, and this is its row, this is the job, its machine without the cards and lines
+-- if there is the job, and this is its row, this is the job, its machine without the cards and
+-- lines
 abbrev pub HasKept : Option Job → JobCells → Kept → Type 0
-HasKept here row found = (job : Job) → here ≡ Some job → row ≡ job_cells job → found ≡ kept_alone job
+HasKept here row found =
+    (job : Job) → here ≡ Some job → row ≡ job_cells job → found ≡ kept_alone job
 
 -- if there is the job, this is its machine's standing, I register, and counts of cards and lines
 abbrev pub HasProgress : Option Job → Progress → Type 0

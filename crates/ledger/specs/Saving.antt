@@ -23,7 +23,8 @@ use Rattle.ledger.specs.Earlier.{kept_alone, with_outputs_of, HasCounted}
 use Rattle.ledger.specs.Standing.{kind_number, stretch_row}
 
 -- the job's card rows are those of these cards, as many as were made before
-pub record HasCardRows (name : JobName) (before : ℕ) (earlier : List Card) (t : Tables) : Type 0 where
+pub record HasCardRows (name : JobName) (before : ℕ) (earlier : List Card) (t : Tables)
+    : Type 0 where
   pub are : of_job name t.cards ≡ map (λ card. card.0) earlier
   pub count : before ≡ length earlier
 
@@ -32,7 +33,8 @@ abbrev pub with_all_cards : JobName → List Card → Tables → Tables
 with_all_cards name cards = with_cards name.customer.now name.number (map (λ card. card.0) cards)
 
 -- the job's line rows are those of these lines, as many as were made before
-pub record HasLineRows (name : JobName) (before : ℕ) (earlier : List Line) (t : Tables) : Type 0 where
+pub record HasLineRows (name : JobName) (before : ℕ) (earlier : List Line) (t : Tables)
+    : Type 0 where
   pub are : of_job name t.lines ≡ map line_cells earlier
   pub count : before ≡ length earlier
 

@@ -22,8 +22,8 @@ use machine::{Meter, runs_only_add};
 use office::{Job, JobCommand, Refusal, Reply, commands_act_on_pictures, commands_keep_jobs};
 use sqlite::Alter;
 
-/// Carries out a slice or a start on a job that was found without its cards and lines, and saves the
-/// result.
+/// Carries out a slice or a start on a job that was found without its cards and lines, and saves
+/// the result.
 fn carry_out<S: Alter>(
     tables: &mut OpenTables<'_, '_, S>,
     name: JobName<'_>,
@@ -45,7 +45,8 @@ fn carry_out<S: Alter>(
     commands_act_on_pictures();
     commands_keep_jobs();
     runs_only_add();
-    let earlier = copy_of(tables.alloc, &job.parts().machine.core)?;
+    let machine = job.parts().machine;
+    let earlier = copy_of(tables.alloc, &machine.core)?;
     match job.take(tables.alloc, &command, meter)? {
         Reply::Refused(reason) => Ok(Reply::Refused(reason)),
         reply => {

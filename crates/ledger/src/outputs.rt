@@ -123,13 +123,11 @@ pub fn tell_cards<S: Alter>(
     ensures done { Serves S.Store tables.old tables.new result
         (with_commanded name.entry JobCommand.Cards) }
 {
-    match tables.find_job(name)? {
-        Some(_) => {
-            let cards = find_cards(tables, name)?;
-            Ok(Reply::Cards(PunchedCards(cards)))
-        }
-        None => Ok(Reply::Refused(Refusal::NoJob)),
-    }
+    let Some(_row) = tables.find_job(name)? else {
+        return Ok(Reply::Refused(Refusal::NoJob));
+    };
+    let cards = find_cards(tables, name)?;
+    Ok(Reply::Cards(PunchedCards(cards)))
 }
 
 /// Replies the lines of the job of this name.
@@ -141,11 +139,9 @@ pub fn tell_lines<S: Alter>(
     ensures done { Serves S.Store tables.old tables.new result
         (with_commanded name.entry JobCommand.Lines) }
 {
-    match tables.find_job(name)? {
-        Some(_) => {
-            let lines = find_lines(tables, name)?;
-            Ok(Reply::Lines(Listing(lines)))
-        }
-        None => Ok(Reply::Refused(Refusal::NoJob)),
-    }
+    let Some(_row) = tables.find_job(name)? else {
+        return Ok(Reply::Refused(Refusal::NoJob));
+    };
+    let lines = find_lines(tables, name)?;
+    Ok(Reply::Lines(Listing(lines)))
 }

@@ -1,5 +1,5 @@
-//! Reading a job from the tables: its machine has none of the cards and lines that the job has made,
-//! and counts them by its picture.
+//! Reading a job from the tables: its machine has none of the cards and lines that the job has
+//! made, and counts them by its state.
 
 ghost use Rattle.std.specs.Prelude.{◌≡◌, ◌≢◌, ℕ, List, All, map, Some, None, Ok, IsErr, IsErrOf, IsSome, IfOk, IfSome};
 ghost use Rattle.cards.specs.Decks.{deck_bytes, IsDeck};

@@ -3,14 +3,14 @@
 use crate::decks::three_cards;
 use crate::replies::are_answered;
 use bitflags::Flags;
-use core_store::FlagCore;
+use core_store::PlaneCore;
 use office::{Job, JobCommand, new_job};
 use std::alloc::Global;
 use std::test::Fail;
 use units::Switches;
 
 /// A job that punches three cards.
-fn job_of(alloc: Global) -> Result<Job<FlagCore>, Fail> {
+fn job_of(alloc: Global) -> Result<Job<PlaneCore>, Fail> {
     match new_job(alloc, &three_cards(alloc)?) {
         Ok(job) => Ok(job),
         Err(_) => Err("a job")?,

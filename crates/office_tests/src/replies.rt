@@ -1,6 +1,6 @@
 //! Replies to commands on a job, in words.
 
-use core_store::FlagCore;
+use core_store::PlaneCore;
 use machine::Meter;
 use office::{Job, JobCommand, Refusal, Reply};
 use std::alloc::{AllocError, Global};
@@ -8,7 +8,7 @@ use std::alloc::{AllocError, Global};
 /// The reply to a command, in a word.
 pub(crate) fn reply_to(
     alloc: Global,
-    job: &mut Job<FlagCore>,
+    job: &mut Job<PlaneCore>,
     meter: &mut Meter,
     command: &JobCommand,
 ) -> Result<&'static str, AllocError> {
@@ -27,7 +27,7 @@ pub(crate) fn reply_to(
 /// attempted.
 pub(crate) fn are_answered(
     alloc: Global,
-    job: &mut Job<FlagCore>,
+    job: &mut Job<PlaneCore>,
     commands: &[(JobCommand, &str)],
     ticks: u64,
 ) -> Result<bool, AllocError> {

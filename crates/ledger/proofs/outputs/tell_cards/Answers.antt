@@ -5,29 +5,29 @@ use Rattle.office.specs.declared.commands.JobCommand.TheVariants.{Cards}
 use Rattle.office.specs.declared.replies.Reply.TheVariants as reply
 use Rattle.ledger.specs.Standing.{tables_of}
 use Rattle.ledger.proofs.Offices.{still, row_found, row_none}
-use Rattle.ledger.proofs.Replies.{command_done, no_job}
+use Rattle.ledger.proofs.Replies.{command_done, no_job, none_is}
 use Rattle.ledger.proofs.SavingChanges.{unchanged_saved}
 use Rattle.ledger.proofs.outputs.tell_cards.Goals as goal
 
-pub returns-in_ok-cards-in-Some-clause-done : goal.returns-in_ok-cards-in-Some-clause-done
-returns-in_ok-cards-in-Some-clause-done g c clean inside office s =
+pub returns-clause-done : goal.returns-clause-done
+returns-clause-done g c clean inside office s =
     let old = seen g.S.Store c.args.tables.now in
     let mid = seen g.S.Store c.find_job.new.self in
     let new = seen g.S.Store c.find_cards.new.tables in
     let early : HasCleanDisk mid = omega (arith, c.find_cards.ensures.step.survives.clean) in
-    let found = c.in_ok-row.ensures.found early inside (tables_of office) s.tables in
-    let on = c.in_ok-row.ensures.step.frame early inside in
+    let found = c.in_ok-_row.ensures.found early inside (tables_of office) s.tables in
+    let on = c.in_ok-_row.ensures.step.frame early inside in
     let customer = c.args.name.customer.now in
     let number = c.args.name.number in
-    let it = row_found customer number office c.in_ok-row.field-0 c.in-Some.row found.1 c.in-Some.is in
-    let rest = c.in_ok-cards-in-Some.ensures.found clean on.inside office (still old mid office found.0 s) in
+    let it = row_found customer number office c.in_ok-_row.field-0 c.in-Some._row found.1 c.in-Some.is in
+    let rest = c.in_ok-cards.ensures.found clean on.inside office (still old mid office found.0 s) in
     let told = ap reply.Cards (rest.1 it.0 it.1) in
     let stands = unchanged_saved new customer number Cards it.0 office refl it.1 rest.0 in
     command_done new customer number Cards _ office it.0 it.1 told refl stands
 
-pub returns-in-None-clause-done : goal.returns-in-None-clause-done
-returns-in-None-clause-done g c clean inside office s =
+pub returns-in_default-clause-done : goal.returns-in_default-clause-done
+returns-in_default-clause-done g c clean inside office s =
     let old = seen g.S.Store c.args.tables.now in
     let new = seen g.S.Store c.find_job.new.self in
-    let found = c.in_ok-row.ensures.found clean inside (tables_of office) s.tables in
-    no_job new c.args.name.customer.now c.args.name.number Cards office (row_none c.args.name.customer.now c.args.name.number office c.in_ok-row.field-0 found.1 c.in-None.is) (still old new office found.0 s)
+    let found = c.in_ok-_row.ensures.found clean inside (tables_of office) s.tables in
+    no_job new c.args.name.customer.now c.args.name.number Cards office (row_none c.args.name.customer.now c.args.name.number office c.in_ok-_row.field-0 found.1 (none_is c.in_ok-_row.field-0 c.in_default.not-Some)) (still old new office found.0 s)

@@ -1,9 +1,9 @@
-use Rattle.std.proofs.Common.{◌≡◌, ◌∙◌, ◌++◌, ap, arith, rules}
+use Rattle.std.proofs.Common.{◌≡◌, ◌++◌, ap, ◌∙◌, arith, rules}
 use Rattle.sqlite.specs.State.{HasCleanDisk}
 use Rattle.ledger_tables.specs.Steps.{seen}
 use Rattle.ledger_tables.proofs.Frames.{on_ok_then}
 use Rattle.ledger_tables.proofs.Stepping.{on_any}
-use Rattle.units.specs.declared.units.Counts.{Counts}
+use Rattle.units.specs.declared.units.Units.{Units}
 use Rattle.ledger.specs.Saving.{with_all_cards}
 use Rattle.ledger.proofs.saving.insert_made.Goals as goal
 
@@ -13,9 +13,10 @@ returns-clause-added g c cards lines clean inside =
     let on = c.in_ok-insert_cards.ensures.step.frame early inside in
     let punch : c.as_slice-cards.result.now ≡ c.args.units.now.punch = search rules in
     let printed : c.as_slice-lines.result.now ≡ c.args.units.now.printer.lines = search rules in
-    let before : c.units.inside.0.1.0 ≡ c.args.units.now.before = search rules in
     let did = rw punch at (c.in_ok-insert_cards.ensures.added cards early inside) in
-    on_ok_then c.insert_lines.result _ _ (λ more t holds has. more (with_all_cards c.args.name (cards ++ c.args.units.now.punch) t) (did t holds (record { are = has.cards.are; count = ap (λ (n : Counts). n.cards) before ∙ has.cards.count })) (record { are = has.lines.are; count = ap (λ (n : Counts). n.lines) before ∙ has.lines.count }))
+    let cards_before = ap (λ (u : Units). u.before.cards) c.units.view_is in
+    let lines_before = ap (λ (u : Units). u.before.lines) c.units.view_is in
+    on_ok_then c.insert_lines.result _ _ (λ more t holds has. more (with_all_cards c.args.name (cards ++ c.args.units.now.punch) t) (did t holds (record { are = has.cards.are; count = cards_before ∙ has.cards.count })) (record { are = has.lines.are; count = lines_before ∙ has.lines.count }))
     (rw printed at (c.insert_lines.ensures.added lines clean on.inside))
 
 pub returns-clause-cards : goal.returns-clause-cards
