@@ -136,7 +136,7 @@ own_is_known NoMemory of = (λ is. cc, λ version is. cc)
 own_is_known Store of = (λ is. cc, λ version is. cc)
 own_is_known NotABureau (inl none) = absurd (omega (arith, none))
 own_is_known NotABureau (inr later) = absurd (omega (arith, later))
-own_is_known (Old told) of = absurd (omega (arith, of.1.1))
+own_is_known (Old told) of = absurd (omega (arith, of.2))
 
 -- ---- transactions
 

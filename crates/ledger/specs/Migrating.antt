@@ -26,6 +26,24 @@ use Rattle.ledger.specs.Older.{storages_of, with_first_pages, HasWhole, LeftOf, 
 use Rattle.ledger.specs.Saving.{with_storage}
 use Rattle.ledger.specs.Standing.{CanBeKept, LeftAs, Rows, Stands, named}
 
+-- the connection was open and its tables can be asked for their version; and if their schema is a
+-- bureau's, they hold this one alone, and were only read
+pub record IsVersionOf (before after : State) (found : ℕ) : Type 0 where
+  pub opened : IsTrue before.is_open
+  pub asked : HasVersions before.now
+  pub only : IsBureaus before.now.schema → versions_in before.now ≡ Int (pos found) ∷ []
+  pub unchanged : IsBureaus before.now.schema → IsUnchanged before after
+
+-- the connection was open and its tables can be asked for their version; if their schema is a
+-- bureau's, they held this one alone; and if they represented an office in any version, that is
+-- this one, and they now represent the office in this program's version
+pub record IsRaisedFrom (before after : State) (found : ℕ) : Type 0 where
+  pub opened : IsTrue before.is_open
+  pub asked : HasVersions before.now
+  pub only : IsBureaus before.now.schema → versions_in before.now ≡ Int (pos found) ∷ []
+  pub raised : (version : ℕ) (office : Office) → RowsOf version before.now office
+      → (found ≡ version) × Rows after.now office
+
 module _ {S : Type 0} (g : Ghosts S) where
   -- on Ok, if the job had its whole storage and no pages of it, it now has its pages too
   abbrev pub AddsPages : {X : Type 0} → OpenTables S → OpenTables S → Result X Fault → JobName
@@ -84,28 +102,10 @@ module _ {S : Type 0} (g : Ghosts S) where
       Inside g old new (λ before after. OnOk result ((office : Office)
       → RowsBefore before.now office → Rows after.now office))
 
-  -- the connection was open and its tables can be asked for their version; and if their schema is a
-  -- bureau's, they hold this one alone, and were only read
-  pub record IsVersionOf (before after : State) (found : ℕ) : Type 0 where
-    pub opened : IsTrue before.is_open
-    pub asked : HasVersions before.now
-    pub only : IsBureaus before.now.schema → versions_in before.now ≡ Int (pos found) ∷ []
-    pub unchanged : IsBureaus before.now.schema → IsUnchanged before after
-
   -- on Ok this version was found
   abbrev pub FindsVersion : OpenTables S → OpenTables S → Result ℕ OpenFault → Type 0
   FindsVersion old new result =
       Inside g old new (λ before after. IfOk result (IsVersionOf before after))
-
-  -- the connection was open and its tables can be asked for their version; if their schema is a
-  -- bureau's, they held this one alone; and if they represented an office in any version, that is
-  -- this one, and they now represent the office in this program's version
-  pub record IsRaisedFrom (before after : State) (found : ℕ) : Type 0 where
-    pub opened : IsTrue before.is_open
-    pub asked : HasVersions before.now
-    pub only : IsBureaus before.now.schema → versions_in before.now ≡ Int (pos found) ∷ []
-    pub raised : (version : ℕ) (office : Office) → RowsOf version before.now office
-        → (found ≡ version) × Rows after.now office
 
   -- on Ok the tables were raised from this version
   abbrev pub RaisesFound : OpenTables S → OpenTables S → Result ℕ OpenFault → Type 0

@@ -1,6 +1,7 @@
 //! Commands on a job.
 
 ghost use Rattle.std.specs.Prelude.{◌≡◌, true, Some, OnOk, OnErr};
+ghost use Rattle.core_store.specs.Pages.{cells_of};
 ghost use Rattle.machine.specs.Run.{risen};
 ghost use Rattle.office.specs.Jobs.{Job as KnownJob};
 ghost use Rattle.office.specs.Kept.{attempted_on, limit_of};
@@ -22,6 +23,40 @@ use machine::{Meter, runs_only_add};
 use office::{Job, JobCommand, Refusal, Reply, commands_act_on_pictures, commands_keep_jobs};
 use sqlite::Alter;
 
+/// Carries out a slice or a start on a job that was found without its cards and lines, and whose
+/// machine has this storage, and saves the result.
+fn take_and_save<S: Alter>(
+    tables: &mut OpenTables<'_, '_, S>,
+    name: JobName<'_>,
+    earlier: &PlaneCore,
+    job: &mut Job<PlaneCore>,
+    command: JobCommand,
+    meter: &mut Meter,
+) -> Result<Reply, Fault>
+    requires drives { drives_machine command ≡ true }
+    requires storage { cells_of earlier.now ≡ job.old.machine.works.storage }
+    ensures step { IsStep S.Store tables.old tables.new result }
+    ensures done { (old : KnownJob) → job.old ≡ kept_alone old
+        → ServesWhere S.Store tables.old tables.new result
+        (λ office. job_in name.entry office ≡ Some old) (with_commanded name.entry command) }
+    ensures meter { OnOk result (meter.new ≡ risen meter.old (attempted_on command job.old)) }
+    ensures given_up { OnErr result
+        (RisenAtMost (attempted_on command job.old) meter.old meter.new) }
+    ensures most { RisenAtMost (limit_of command) meter.old meter.new }
+{
+    // Laws, for the proof: they do nothing.
+    commands_act_on_pictures();
+    commands_keep_jobs();
+    runs_only_add();
+    match job.take(tables.alloc, &command, meter)? {
+        Reply::Refused(reason) => Ok(Reply::Refused(reason)),
+        reply => {
+            save(tables, name, command, earlier, job)?;
+            Ok(reply)
+        }
+    }
+}
+
 /// Carries out a slice or a start on a job that was found without its cards and lines, and saves
 /// the result.
 fn carry_out<S: Alter>(
@@ -41,19 +76,9 @@ fn carry_out<S: Alter>(
         (RisenAtMost (attempted_on command job.old) meter.old meter.new) }
     ensures most { RisenAtMost (limit_of command) meter.old meter.new }
 {
-    // Laws, for the proof: they do nothing.
-    commands_act_on_pictures();
-    commands_keep_jobs();
-    runs_only_add();
     let machine = job.parts().machine;
     let earlier = copy_of(tables.alloc, &machine.core)?;
-    match job.take(tables.alloc, &command, meter)? {
-        Reply::Refused(reason) => Ok(Reply::Refused(reason)),
-        reply => {
-            save(tables, name, command, &earlier, job)?;
-            Ok(reply)
-        }
-    }
+    take_and_save(tables, name, &earlier, job, command, meter)
 }
 
 /// Carries out a slice or a start on the job of this name.

@@ -19,7 +19,7 @@ returns-clause-known g c =
     (λ clean. let late : HasCleanDisk (state g.S.Store end) = search rules in
     let early : HasCleanDisk (state g.S.Store mid) = search (rules, c.rollback.ensures.survives.clean) in
     c.find_version-found.ensures.known early inside)
-    (λ fault clean known office s. own_is_known fault (known own_version (λ opened. own_version_is _ office (rw begun (s.now (rw begun at opened))))))
+    (λ fault clean known office s. own_is_known fault (known own_version (λ opened. own_version_is (state g.S.Store c.transaction-tx.result.conn.now).now office (rw begun (s.now (rw begun at opened))))))
 
 pub returns-clause-version : goal.returns-clause-version
 returns-clause-version g c =
