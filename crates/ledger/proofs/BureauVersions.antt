@@ -1,5 +1,5 @@
 -- The version that tables have, and transactions that raise them.
-use Rattle.std.proofs.Common.{◌≡◌, ◌≢◌, ◌⊎◌, inl, inr, ◌<◌, ◌≤◌, ℕ, pos, List, [], ◌∷◌, map, Bool, false, IsTrue, Result, Ok, Err, refl, sym, ap, subst, ◌∙◌, arith}
+use Rattle.std.proofs.Common.{◌≡◌, ◌≢◌, ◌⊎◌, inl, inr, ◌<◌, ℕ, pos, List, [], ◌∷◌, map, Bool, true, false, true≢false, IsTrue, Ok, Err, refl, sym, ap, subst, ◌∙◌, arith}
 use Rattle.sqlite.specs.declared.error.Error.{Error}
 use Rattle.sqlite.specs.declared.error.Error.TheVariants.{SqliteFailure, SqlInputError}
 use Rattle.sqlite.specs.declared.error.ErrorCode.TheVariants.{OutOfMemory as NoRoom}
@@ -7,11 +7,11 @@ use Rattle.sqlite.specs.declared.types.Value.{Value}
 use Rattle.sqlite.specs.declared.types.Value.TheVariants.{Int}
 use Rattle.sqlite.specs.Effect.{Database}
 use Rattle.sqlite.specs.Order.{Row, column}
-use Rattle.sqlite.specs.State.{State, HasCleanDisk, IsRolledBack, IsUnchanged, KeepsCommit, Shown, Survives}
+use Rattle.sqlite.specs.State.{State, HasCleanDisk, IsRolledBack, KeepsCommit, Shown, Survives}
 use Rattle.sqlite.specs.Tree.{Trees}
 use Rattle.office.specs.Office.{Office}
 use Rattle.ledger_tables.specs.Schema.{own_version}
-use Rattle.ledger_tables.specs.Versions.{select_version, opening_fault, versions_in, HasVersions, IsBureaus, IsFaultOf, IsFoundVersion, IsKnown, IsOfVersion}
+use Rattle.ledger_tables.specs.Versions.{select_version, opening_fault, versions_in, IsFaultOf, IsFoundVersion, IsKnown, IsOfVersion}
 use Rattle.ledger_tables.specs.declared.openings.OpenFault.{OpenFault}
 use Rattle.ledger_tables.specs.declared.openings.OpenFault.TheVariants.{NoMemory, Store, NotABureau, Old}
 use Rattle.ledger_tables.specs.Steps.{GoesOn}
@@ -37,9 +37,12 @@ pub shown_own : (old new : State) (x : Unit {0}) → IsFoundVersion old new (Ok 
 shown_own old new x (inl shown) = shown
 shown_own old new x (inr none) = absurd none
 
-pub shown_old : (old new : State) (version : ℕ) → IsFoundVersion {X = Unit {0}} old new (Err (Old version)) → ShowsOne old new version
-shown_old old new version (inl shown) = (shown.0, shown.1, shown.2.0)
-shown_old old new version (inr refused) = absurd (not_old refused.0 version refused.2)
+pub shown_old : (old new : State) (version : ℕ) (fault : OpenFault) → fault ≡ Old version → IsFoundVersion {X = Unit {0}} old new (Err fault) → ShowsOne old new version
+shown_old old new version fault is found = go (subst (λ (e : OpenFault). IsFoundVersion {X = Unit {0}} old new (Err e)) is found)
+  where
+    go : IsFoundVersion {X = Unit {0}} old new (Err (Old version)) → ShowsOne old new version
+    go (inl shown) = (shown.0, shown.1, shown.2.0)
+    go (inr refused) = absurd (not_old refused.0 version refused.2)
 
 pub version_found : (old new : State) (version : ℕ) → ShowsOne old new version → IsVersionOf old new version
 version_found old new version (rows, shown, is) = record {
@@ -125,6 +128,18 @@ is_no_fault version db office fault rows of is = go (subst (IsFaultOf version) i
     go (inr later) (inl (is, rows)) = omega (arith, later, is)
     go (inr later) (inr (inl (is, rows))) = omega (arith, later, is)
     go (inr later) (inr (inr (is, rows))) = omega (arith, later, is)
+
+-- .. that perhaps are not seen
+pub is_no_fault_of : (s : State) (version : ℕ) (office : Office) (fault : OpenFault) → ((v : ℕ) → (IsTrue s.is_open → IsOfVersion v s.now) → IsFaultOf v fault) → (IsTrue s.is_open → RowsOf version s.now office) → fault ≢ NotABureau
+is_no_fault_of s version office fault known rows is = go s.is_open refl
+  where
+    closed_off : (version : ℕ) → version ≡ 1 → IsFaultOf version NotABureau → ⊥
+    closed_off version one (inl none) = omega (arith, one, none)
+    closed_off version one (inr later) = omega (arith, one, later)
+
+    go : (b : Bool) → s.is_open ≡ b → ⊥
+    go true opened = is_no_fault version s.now office fault (rows opened) (known version (λ o. rows_version version s.now office (rows o))) is
+    go false closed = closed_off 1 refl (subst (IsFaultOf 1) is (known 1 (λ o. absurd (true≢false (sym o ∙ closed)))))
 
 -- a bureau's tables of this version
 pub own_version_is : (db : Database) (office : Office) → Rows db office → IsOfVersion own_version db

@@ -1,5 +1,5 @@
 -- Rows of states, which count all cards and lines that were made.
-use Rattle.std.proofs.Common.{◌≡◌, ℕ, ◌+◌, List, length, length-append, refl, ap, arith}
+use Rattle.std.proofs.Common.{◌≡◌, ℕ, List, length, length-append, refl, ap, arith}
 use Rattle.cards.specs.declared.decks.Card.{Card}
 use Rattle.machine.specs.Earlier.{units_with, units_alone, with_earlier, without_outputs, IsBehind}
 use Rattle.machine.specs.Run.{State}

@@ -1,7 +1,7 @@
 -- Work after work.
-use Rattle.std.proofs.Common.{◌≡◌, ◌⊎◌, inl, inr, ℕ, zero, suc, ◌+◌, ◌≤◌, ◌<◌, Bool, true, false, List, [], ◌∷◌, ◌++◌, length, take, Option, None, Some, refl, sym, ap, subst, ◌∙◌, arith, length-append}
+use Rattle.std.proofs.Common.{◌≡◌, ◌⊎◌, inl, inr, ℕ, zero, suc, ◌+◌, ◌≤◌, ◌<◌, Bool, false, List, [], ◌∷◌, ◌++◌, length, take, Option, None, Some, refl, sym, ap, subst, ◌∙◌, arith, length-append}
 use Rattle.std.proofs.lemmas.List.{take_all, take-take, length-take-le}
-use Rattle.std.specs.Prelude.{◌≢◌, IsTrue}
+use Rattle.std.specs.Prelude.{IsTrue}
 use Rattle.office.specs.Office as office
 use Rattle.office.specs.Office.{Office, fold}
 use Rattle.office.specs.declared.commands.Command.{Command}
@@ -15,8 +15,8 @@ use Rattle.sqlite_trees.specs.declared.store.Store.{Ghosts}
 use Rattle.ledger_tables.specs.declared.faults.Fault.{Fault}
 use Rattle.ledger_tables.specs.declared.faults.Fault.TheVariants.{NoMemory, Store}
 use Rattle.ledger.specs.Standing.{Rows, Stands, LeftAs}
-use Rattle.ledger.specs.Shifting.{LeavesWhole, StandsAfter, LeavesBeginning, given}
-use Rattle.ledger.specs.Working.{AreRepliesTo, Continues, HasWorked, IsEndOf, Leads, Works, carried_out}
+use Rattle.ledger.specs.Shifting.{LeavesWhole, StandsAfter, LeavesBeginning}
+use Rattle.ledger.specs.Working.{AreRepliesTo, Continues, HasWorked, IsEndOf, Works, carried_out}
 use Rattle.ledger.specs.WholeRows.{HaveWholeRows}
 use Rattle.ledger.proofs.ShiftLemmas.{leaves_after}
 

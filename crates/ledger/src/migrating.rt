@@ -114,7 +114,9 @@ fn version_of<S: Alter>(tables: &mut OpenTables<'_, '_, S>) -> Result<u32, OpenF
     match tables.find_version() {
         Ok(()) => Ok(VERSION),
         Err(OpenFault::Old(version)) => Ok(version),
-        Err(fault) => Err(fault),
+        Err(OpenFault::NoMemory) => Err(OpenFault::NoMemory),
+        Err(OpenFault::Store) => Err(OpenFault::Store),
+        Err(OpenFault::NotABureau) => Err(OpenFault::NotABureau),
     }
 }
 

@@ -1,4 +1,4 @@
-use Rattle.std.proofs.Common.{◌≡◌, ◌∙◌, ap, sym, arith, length}
+use Rattle.std.proofs.Common.{◌≡◌, ◌∙◌, ap, sym}
 use Rattle.core_store.specs.Storage.{Storage}
 use Rattle.ledger_rows.specs.Pages.{rows_of}
 use Rattle.ledger_tables.proofs.Frames.{on_ok_then}

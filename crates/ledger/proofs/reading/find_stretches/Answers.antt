@@ -1,4 +1,4 @@
-use Rattle.std.proofs.Common.{ap, subst, ◌∙◌, IfOk, IfSome, IsSome}
+use Rattle.std.proofs.Common.{ap, ◌∙◌}
 use Rattle.ledger_tables.specs.Steps.{seen}
 use Rattle.ledger.specs.Standing.{tables_of, stretches_of}
 use Rattle.ledger.proofs.Offices.{still, if_ok_then, job_is}

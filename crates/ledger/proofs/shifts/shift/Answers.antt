@@ -1,12 +1,11 @@
 use Rattle.std.proofs.Common.{◌≡◌, ◌+◌, ◌<◌, [], ◌∷◌, ◌++◌, length, get_or, take, inl, inr, Err, IsTrue, refl, sym, ap, subst, ◌∙◌, arith, length-append}
-use Rattle.std.proofs.lemmas.List.{take_all}
 use Rattle.std.proofs.lemmas.Grind.{common_steps}
 use Rattle.machine.specs.Run.{risen}
 use Rattle.sqlite.specs.State.{HasCleanDisk}
 use Rattle.sqlite.specs.Held.{state}
 use Rattle.office.specs.Meters.{RisenAtMost}
 use Rattle.office.specs.Office.{fold}
-use Rattle.ledger.specs.Standing.{Stands, LeftAs}
+use Rattle.ledger.specs.Standing.{Stands}
 use Rattle.ledger.specs.Meters.{RisenWithin, attempted_by_all}
 use Rattle.ledger.specs.Shifting.{LeavesWhole, limit_of_all}
 use Rattle.ledger.proofs.ShiftLemmas.{office_more, replies_more, attempted_more, limit_more, risen_more, risen_in_all, risen_on_fault, risen_just, not_risen, leaves_after, leaves_either, only_memory}

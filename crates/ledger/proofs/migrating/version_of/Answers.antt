@@ -1,0 +1,23 @@
+use Rattle.ledger_tables.specs.Steps.{seen}
+use Rattle.ledger.proofs.BureauVersions.{is_no_fault_of, shown_old, shown_own, version_found, version_goes_on}
+use Rattle.ledger.proofs.migrating.version_of.Goals as goal
+
+pub returns-in-Ok-clause-found : goal.returns-in-Ok-clause-found
+returns-in-Ok-clause-found g c clean inside = version_found _ _ 3 (shown_own _ _ _ (c.in-Ok.ensures.found clean inside))
+
+pub returns-in-Err-Old-clause-found : goal.returns-in-Err-Old-clause-found
+returns-in-Err-Old-clause-found g c clean inside = version_found _ _ c.in-Err-Old.version (shown_old _ _ _ _ c.in-Err-Old.field-0-is (c.in-Err-Old.ensures.found clean inside))
+
+pub returns-in-Err-Old-clause-step : goal.returns-in-Err-Old-clause-step
+returns-in-Err-Old-clause-step g c =
+    let step = c.find_version.ensures.step in
+    record {
+      same_transaction = step.same_transaction;
+      same_reference = step.same_reference;
+      frame = λ clean inside. version_goes_on _ _ c.in-Err-Old.version inside (shown_old _ _ _ _ c.in-Err-Old.field-0-is (c.in-Err-Old.ensures.found clean inside));
+      survives = step.survives;
+    }
+
+pub returns-in-Err-NotABureau-clause-known : goal.returns-in-Err-NotABureau-clause-known
+returns-in-Err-NotABureau-clause-known g c clean inside version office rows _ =
+    is_no_fault_of (seen g.S.Store c.args.tables.now) version office c.in-Err-NotABureau.field-0 (c.in-Err-NotABureau.ensures.known clean inside) rows c.in-Err-NotABureau.field-0-is
