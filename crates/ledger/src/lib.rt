@@ -2,10 +2,10 @@
 //!
 //! `office` defines jobs and the effect of commands on them. `reading` reads a job from the tables,
 //! without its cards and lines, `summaries` without its machine, and `outputs` what it has made;
-//! `saving` and `page_saving` write it; all of them through `ledger_tables` and `ledger_rows`. `submissions`,
-//! `job_commands`, `by_summary` and `lists` connect them to `office`. `bureau` puts each command
-//! into one transaction, whose commit is the last call of the store. `shifts` applies a list of
-//! commands up to the first fault.
+//! `saving` and `page_saving` write it; all of them through `ledger_tables` and `ledger_rows`.
+//! `submissions`, `job_commands`, `by_summary` and `lists` connect them to `office`. `bureau` puts
+//! each command into one transaction, whose commit is the last call of the store. `shifts` applies
+//! a list of commands up to the first fault. `migrating` raises the tables of an earlier version.
 //!
 //! The contract for the layers above: if the tables represent an office, a reply is the one of
 //! `office`, and the tables then represent its next office (`specs/Standing.antt`); and what a
