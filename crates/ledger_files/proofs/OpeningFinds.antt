@@ -50,4 +50,4 @@ pub known_answer : (X : Type 0) (db : Database) (fault : OpenFault) → IsKnown 
 known_answer X db NoMemory known = (inr (λ same. absurd (known.0 same), known.1), λ has. tt)
 known_answer X db Store known = (inr (λ same. absurd (known.0 same), known.1), λ has. tt)
 known_answer X db NotABureau known = absurd (known.0 refl)
-known_answer X db Old known = absurd (known.1 refl)
+known_answer X db (Old version) known = absurd (known.1 version refl)

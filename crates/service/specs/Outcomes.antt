@@ -19,7 +19,7 @@ status_of (outcome.Refused number) = status.NotDone
 status_of (outcome.Fault opening.NoMemory) = status.NotDone
 status_of (outcome.Fault opening.Store) = status.Unusable
 status_of (outcome.Fault opening.NotABureau) = status.Unusable
-status_of (outcome.Fault opening.Old) = status.Unusable
+status_of (outcome.Fault (opening.Old version)) = status.Unusable
 status_of outcome.Device = status.NotDone
 
 -- the outcome where the bureau's file could not be opened, or closed at the end: this fault, unless
@@ -40,7 +40,7 @@ abbrev pub number_of : OpenFault → ℕ
 number_of opening.NoMemory = 1
 number_of opening.Store = 2
 number_of opening.NotABureau = 50
-number_of opening.Old = 51
+number_of (opening.Old version) = 51
 
 -- this line was printed, with a line feed
 abbrev pub IsLine : List ℕ → Option (List ℕ) → Option (List ℕ) → Type 0
