@@ -18,6 +18,12 @@ pockets =
     ∷ (codes "8", Eight)
     ∷ []
 
+-- the number of a pocket: 0 the normal one, 4 and 8
+abbrev pub pocket_number : Pocket → ℕ
+pocket_number Normal = 0
+pocket_number Four = 4
+pocket_number Eight = 8
+
 -- the pocket that a character names, if it names one
 unfoldable pub pocket_of : ℕ → Option Pocket
 pocket_of code = meant_among pockets code

@@ -1,7 +1,7 @@
 //! The pockets of the punch.
 
 ghost use Rattle.std.specs.Prelude.{◌≡◌};
-ghost use Rattle.units.specs.Pockets.{pocket_of, chosen_after};
+ghost use Rattle.units.specs.Pockets.{pocket_of, pocket_number, chosen_after};
 
 use bcd::Code;
 
@@ -29,6 +29,17 @@ impl Pocket {
             b'4' => Some(Pocket::Four),
             b'8' => Some(Pocket::Eight),
             _ => None,
+        }
+    }
+
+    /// The pocket's number: 0 the normal one, 4 and 8.
+    pub fn number(self) -> u32
+        ensures { result ≡ pocket_number self }
+    {
+        match self {
+            Pocket::Normal => 0,
+            Pocket::Four => 4,
+            Pocket::Eight => 8,
         }
     }
 
