@@ -118,8 +118,8 @@ carriage_printed (AfterLine motion) before p h = record { most = h.most; places 
 
 -- ---- one operation
 
--- the punch's cards are not too many
-abbrev HasPunched : ℕ → Stacked → Type 0
+-- the punch's cards are not too many, with so many made before them
+abbrev pub HasPunched : ℕ → Stacked → Type 0
 HasPunched before p = before + length p.cards ≤ most_cards
 
 card_punched_most : (before : ℕ) (s : Storage) (p : Stacked) → HasPunched before p → Each (HasPunched before) (card_punched before s p)
@@ -127,6 +127,11 @@ unfolding card_punched
 card_punched_most before s p most =
     each_where (HasPunched before) _ PunchFull _ (λ e.
     let room : before + length p.cards < most_cards = ltb-true (before + length p.cards) most_cards e in omega (arith, length-append {A = Punched}))
+
+-- a selection of a pocket makes no card
+pub pocket_chosen_most : (pocket : Pocket) (before : ℕ) (p : Stacked) → HasPunched before p → Each (HasPunched before) (pocket_chosen pocket p)
+unfolding pocket_chosen
+pocket_chosen_most pocket before p most = each_require (HasPunched before) (is_selecting p.profile) Instruction _ most
 
 abbrev Leaves : Storage × Units → Type 0
 Leaves (s, u) = AreUnits u
