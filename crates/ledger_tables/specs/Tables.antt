@@ -191,8 +191,7 @@ state_row customer number s = Text customer ∷ Int (pos number) ∷ state_colum
 
 -- the rows of a job in `states`: its state's, or none if it has no state
 abbrev pub state_rows : List ℕ → ℕ → Option StateRow → List Row
-state_rows customer number None = []
-state_rows customer number (Some s) = state_row customer number s ∷ []
+state_rows customer number state = map (state_row customer number) (option_to_list state)
 
 -- the row of a page
 abbrev pub page_row : List ℕ → ℕ → ℕ → List ℕ → Row
@@ -223,6 +222,11 @@ line_row customer number place l = Text customer ∷ Int (pos number) ∷ Int (p
 abbrev pub profile_row : List ℕ → ℕ → ProfileRow → Row
 profile_row customer number p =
     Text customer ∷ Int (pos number) ∷ Int (pos p.profile) ∷ Int (pos p.chosen) ∷ []
+
+-- the rows of a job in `profiles`: its profile's, or none if it has no profile
+abbrev pub profile_rows : List ℕ → ℕ → Option ProfileRow → List Row
+profile_rows customer number profile =
+    map (profile_row customer number) (option_to_list profile)
 
 -- the row of the pocket of the card at a place
 abbrev pub pocket_row : List ℕ → ℕ → ℕ → ℕ → Row
@@ -330,10 +334,11 @@ HasPictures db t storages = IsOf (db 5) (λ customer number.
 
 -- the rows of `profiles` are those of each job's profile, and no others, and those of `pockets` of
 -- each card that is not in the normal pocket
-pub record HasProfiles (db : Trees) (t : Tables) : Type 0 where
-  pub profiles : IsOf (db 15) (λ customer number.
-      map (profile_row customer number) (option_to_list (t.profiles customer number)))
-  pub pockets : IsOfEach pocket_row (db 17) t.pockets
+pub record HasProfiles (db : Trees) (profiles : ByJob (Option ProfileRow)) (pockets : ByJob Pockets)
+    : Type 0 where
+  pub profiles_are : IsOf (db 15)
+      (λ customer number. profile_rows customer number (profiles customer number))
+  pub pockets_are : IsOfEach pocket_row (db 17) pockets
 
 -- the tables beside `states` and `pages` hold this and nothing else; what is told of a table that is
 -- not there says nothing
@@ -341,7 +346,7 @@ abbrev pub HasBeside : Beside → Trees → Tables → Type 0
 HasBeside (pictured storages) db t = HasPictures db t storages
 HasBeside paged db t = ⊤
 HasBeside profiled db t = db 15 ≡ []
-HasBeside complete db t = HasProfiles db t
+HasBeside complete db t = HasProfiles db t.profiles t.pockets
 
 -- the database has states and pages, with these tables beside them, its tables hold this and
 -- nothing else, and they are marked as of this version
