@@ -1,9 +1,9 @@
 -- whole runs that begin at the start of a program
 use Rattle.std.proofs.Common.{◌≡◌, ℕ, ◌+◌, ◌-◌, ◌≤◌, true, false, List, [], ◌∷◌, sym, ap, ◌∙◌}
 use Rattle.std.proofs.Math.Logic.{◌↔◌}
-use Rattle.cards.specs.declared.decks.Card.{Card}
 use Rattle.machine.specs.Run.{State, after, is_running}
 use Rattle.units.specs.declared.printer.Line.{Line}
+use Rattle.units.specs.declared.punch.Punched.{Punched}
 use Rattle.units.specs.declared.switches.Switches.{Switches}
 use Rattle.office.specs.Whole.{RunsToHalt, RunsThrough, Whole}
 use Rattle.office.proofs.HaltLemmas.{Adds, stands}
@@ -34,15 +34,15 @@ module _ (adds : Adds) (passes : Passes) (begin later : State) (count : ℕ) (ar
 -- whole runs
 module _ (adds : Adds) (passes : Passes) (begin later : Switches → State) (count : ℕ) (arrives : (switches : Switches) → after (begin switches) count ≡ later switches)
     (running : (switches : Switches) → is_running (later switches).standing ≡ true) where
-  whole_forth : (starts : List Switches) (cards : List Card) (lines : List Line) → Whole begin starts cards lines → Whole later starts cards lines
+  whole_forth : (starts : List Switches) (cards : List Punched) (lines : List Line) → Whole begin starts cards lines → Whole later starts cards lines
   whole_forth [] cards lines whole = whole
   whole_forth (switches ∷ starts) cards lines whole =
       (whole.0, through_forth adds passes (begin switches) (later switches) count (arrives switches) (running switches) starts whole.0 whole.1, whole.2, whole.3)
 
-  whole_back : (starts : List Switches) (cards : List Card) (lines : List Line) → Whole later starts cards lines → Whole begin starts cards lines
+  whole_back : (starts : List Switches) (cards : List Punched) (lines : List Line) → Whole later starts cards lines → Whole begin starts cards lines
   whole_back [] cards lines whole = whole
   whole_back (switches ∷ starts) cards lines whole =
       (whole.0, through_back adds passes (begin switches) (later switches) count (arrives switches) (running switches) starts whole.0 whole.1, whole.2, whole.3)
 
-  pub whole_alike : (starts : List Switches) (cards : List Card) (lines : List Line) → Whole begin starts cards lines ↔ Whole later starts cards lines
+  pub whole_alike : (starts : List Switches) (cards : List Punched) (lines : List Line) → Whole begin starts cards lines ↔ Whole later starts cards lines
   whole_alike starts cards lines = (whole_forth starts cards lines, whole_back starts cards lines)

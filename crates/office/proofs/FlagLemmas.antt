@@ -6,6 +6,7 @@ use Rattle.office.specs.Kept.{Kept, kept_of, summary_of, changed, answered, need
 use Rattle.office.specs.declared.commands.JobCommand.{JobCommand}
 use Rattle.office.specs.declared.commands.JobCommand.TheVariants.{Slice, Start, Cards, Lines}
 use Rattle.office.specs.declared.flags.NewFlags.{NewFlags}
+use Rattle.office.specs.declared.stackers.Stacker.{Stacker}
 use Rattle.office.specs.declared.summaries.Summary.{Summary}
 
 -- the flags after the command and the reply are those of the job with its machine, nothing else changes, and nothing is attempted
@@ -19,15 +20,15 @@ pub record IsOnFlags (c : JobCommand) : Type 0 where
 pub without_machine : (c : JobCommand) → needs_machine c ≡ false → IsOnFlags c
 without_machine (Slice limit) none = absurd (let e = none in cc)
 without_machine (Start switches) none = absurd (let e = none in cc)
-without_machine Cards none = absurd (let e = none in cc)
+without_machine (Cards from) none = absurd (let e = none in cc)
 without_machine Lines none = absurd (let e = none in cc)
 without_machine other none = record { some = λ job is. (let e = is in cc); told = λ k. refl; kept = λ k. refl; job = λ job. refl; attempts = λ k. refl }
 
 -- the commands that need the machine are these four
-pub others_need_none : (c : JobCommand) → ((limit : ℕ) → c ≡ Slice limit → ⊥) → ((switches : Switches) → c ≡ Start switches → ⊥) → (c ≡ Cards → ⊥) → (c ≡ Lines → ⊥) → needs_machine c ≡ false
+pub others_need_none : (c : JobCommand) → ((limit : ℕ) → c ≡ Slice limit → ⊥) → ((switches : Switches) → c ≡ Start switches → ⊥) → ((from : Stacker) → c ≡ Cards from → ⊥) → (c ≡ Lines → ⊥) → needs_machine c ≡ false
 others_need_none (Slice limit) slice start cards lines = absurd (slice limit refl)
 others_need_none (Start switches) slice start cards lines = absurd (start switches refl)
-others_need_none Cards slice start cards lines = absurd (cards refl)
+others_need_none (Cards from) slice start cards lines = absurd (cards from refl)
 others_need_none Lines slice start cards lines = absurd (lines refl)
 others_need_none other slice start cards lines = refl
 

@@ -2,15 +2,14 @@
 use Rattle.std.proofs.Common.{◌≡◌, ℕ, zero, suc, ◌+◌, ◌<◌, List, [], ◌∷◌, ◌++◌, length, length-append, map, take, take_all, refl, sym, ap, subst, ◌∙◌, arith}
 use Rattle.std.proofs.lemmas.List.{take-append-le}
 use Rattle.std.proofs.Math.Decide.{dec_lt}
-use Rattle.cards.specs.declared.decks.Card.{Card}
-use Rattle.core_store.specs.declared.sizes.Size.{Size}
-use Rattle.machine.specs.Run.{State, loaded, after, started, is_running, lines_of}
+use Rattle.machine.specs.Run.{State, after, started, is_running, lines_of}
 use Rattle.machine.specs.declared.standings.Standing.TheVariants.{Halted}
 use Rattle.units.specs.declared.printer.Line.{Line}
+use Rattle.units.specs.declared.punch.Punched.{Punched}
 use Rattle.units.specs.declared.switches.Switches.{Switches}
 use Rattle.office.specs.declared.stretches.Stretch.{Stretch}
 use Rattle.office.specs.Whole.{RunsToHalt, RunsThrough, Whole}
-use Rattle.office.specs.Jobs.{Job, loaded_deck, resumed, all_off, beginning, IsAtHalt, HaltsBetween, granted_more, one_more, sliced_job, started_job, HasRunWhole}
+use Rattle.office.specs.Jobs.{Job, deck_begun, resumed, all_off, beginning, IsAtHalt, HaltsBetween, granted_more, one_more, sliced_job, started_job, HasRunWhole}
 use Rattle.office.proofs.HaltLemmas.{Adds}
 
 -- ---- what is kept
@@ -82,27 +81,27 @@ runs_through m s (t ∷ stretches) between halted =
 abbrev pub EndAlike : Type 0
 EndAlike = (m : State) (starts : List Switches) (first second : State) → RunsThrough m starts first → RunsThrough m starts second → first ≡ second
 
-module _ (deck : List Card) (size : Size) where
-  -- where a machine is that has loaded this deck
+module _ (job : Job) where
+  -- where the job's machine is after these stretches
   abbrev at : List Stretch → State
-  at stretches = resumed (loaded deck size all_off) stretches
+  at stretches = resumed (beginning job) stretches
 
-  holds : (stretches : List Stretch) → Halting (loaded deck size all_off) stretches → (at stretches).standing ≡ Halted →
-      Whole (loaded deck size) (map (λ s. s.switches) stretches) (at stretches).works.units.punch (lines_of (at stretches))
+  holds : (stretches : List Stretch) → Halting (beginning job) stretches → (at stretches).standing ≡ Halted →
+      Whole (deck_begun job) (map (λ s. s.switches) stretches) (at stretches).works.units.punch.cards (lines_of (at stretches))
   unfolding resumed
   holds [] between halted = let e = ap is_running halted in absurd (cc)
-  holds (s ∷ stretches) between halted = (at (s ∷ stretches), runs_through (loaded deck size all_off) s stretches between halted, refl, refl)
+  holds (s ∷ stretches) between halted = (at (s ∷ stretches), runs_through (beginning job) s stretches between halted, refl, refl)
 
-  only : EndAlike → (stretches : List Stretch) (cards : List Card) (lines : List Line) → Halting (loaded deck size all_off) stretches → (at stretches).standing ≡ Halted →
-      Whole (loaded deck size) (map (λ s. s.switches) stretches) cards lines → (cards ≡ (at stretches).works.units.punch) × (lines ≡ lines_of (at stretches))
+  only : EndAlike → (stretches : List Stretch) (cards : List Punched) (lines : List Line) → Halting (beginning job) stretches → (at stretches).standing ≡ Halted →
+      Whole (deck_begun job) (map (λ s. s.switches) stretches) cards lines → (cards ≡ (at stretches).works.units.punch.cards) × (lines ≡ lines_of (at stretches))
   only alike [] cards lines between halted whole = absurd whole
   only alike (s ∷ stretches) cards lines between halted whole =
       let one : whole.0 ≡ at (s ∷ stretches) =
-      alike (loaded deck size s.switches) (map (λ t. t.switches) stretches) whole.0 (at (s ∷ stretches)) whole.1 (runs_through (loaded deck size all_off) s stretches between halted) in
-      (whole.2 ∙ ap (λ (t : State). t.works.units.punch) one, whole.3 ∙ ap lines_of one)
+      alike (deck_begun job s.switches) (map (λ t. t.switches) stretches) whole.0 (at (s ∷ stretches)) whole.1 (runs_through (beginning job) s stretches between halted) in
+      (whole.2 ∙ ap (λ (t : State). t.works.units.punch.cards) one, whole.3 ∙ ap lines_of one)
 
-pub has_run_whole : EndAlike → (job : Job) → HaltsBetween job → IsAtHalt job → HasRunWhole (loaded (loaded_deck job) job.size) job
+pub has_run_whole : EndAlike → (job : Job) → HaltsBetween job → IsAtHalt job → HasRunWhole (deck_begun job) job
 has_run_whole alike job between halted = record {
-  holds = holds (loaded_deck job) job.size job.stretches between halted;
-  only = λ cards lines. only (loaded_deck job) job.size alike job.stretches cards lines between halted;
+  holds = holds job job.stretches between halted;
+  only = λ cards lines. only job alike job.stretches cards lines between halted;
 }

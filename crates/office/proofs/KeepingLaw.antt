@@ -9,6 +9,7 @@ use Rattle.loader.specs.Decks.{runnable_deck}
 use Rattle.machine.specs.Ranges.{IsInRange}
 use Rattle.machine.specs.Run.{State, after, started, loaded}
 use Rattle.units.specs.Switches.{seven}
+use Rattle.units.specs.declared.profiles.Profile.{Profile}
 use Rattle.units.specs.declared.switches.Switches.{Switches}
 use Rattle.office.specs.Jobs.{Job, loaded_of, loaded_deck, resumed, all_off, beginning, IsJob}
 use Rattle.office.specs.Kept.{kept_of, loaded_kept, summary_of, job_refusal, changed_job, job_unless, job_after, IsJobInRange}
@@ -109,7 +110,7 @@ abbrev pub StartsInRange : Type 0
 StartsInRange = (m : State) (switches : Switches) → IsInRange m → IsInRange (started m switches)
 
 abbrev pub LoadsInRange : Type 0
-LoadsInRange = (deck : List Card) (size : Size) (switches : Switches) → 0 < length deck → IsInRange (loaded deck size switches)
+LoadsInRange = (deck : List Card) (size : Size) (switches : Switches) (profile : Profile) → 0 < length deck → IsInRange (loaded deck size switches profile)
 
 pub some_loaded : (kind : Kind) (deck : List Card) → 0 < length deck → 0 < length (loaded_of kind deck)
 unfolding runnable_deck loading_cards
@@ -125,5 +126,5 @@ resumed_in_range runs starts m (s ∷ stretches) it =
 pub jobs_in_range : LoadsInRange → StaysInRange → StartsInRange → (job : Job) → IsJob job → IsJobInRange (kept_of job)
 jobs_in_range loads runs starts job it = record {
   stretches = it.stretches;
-  machine = resumed_in_range runs starts (beginning job) job.stretches (loads (loaded_deck job) job.size all_off (some_loaded job.kind job.deck it.card));
+  machine = resumed_in_range runs starts (beginning job) job.stretches (loads (loaded_deck job) job.size all_off job.profile (some_loaded job.kind job.deck it.card));
 }

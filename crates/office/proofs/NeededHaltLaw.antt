@@ -14,10 +14,11 @@ use Rattle.machine.specs.Word.{word_length, word, operands_of, decoded_of}
 use Rattle.machine.specs.Effect.{worked, effect, attempt}
 use Rattle.machine.specs.Run.{State, loaded, step, after, started, is_running, is_halted}
 use Rattle.machine.proofs.Steps.{after-after}
+use Rattle.units.specs.declared.profiles.Profile.TheVariants.{Selecting}
 use Rattle.units.specs.declared.switches.Switches.{Switches}
 use Rattle.office.specs.declared.commands.Kind.TheVariants.{Object}
 use Rattle.office.specs.Whole.{RunsToHalt, RunsThrough}
-use Rattle.office.specs.Jobs.{Job, resumed, all_off, IsAtHalt, HasRunWhole, loaded_deck}
+use Rattle.office.specs.Jobs.{Job, resumed, all_off, IsAtHalt, HasRunWhole, deck_begun}
 use Rattle.office.proofs.HaltLemmas.{stands, one_end, halted_by_test}
 
 -- where a machine halts and is in a check after its next start, no whole run has two starts
@@ -37,7 +38,7 @@ card = card_of (text (codes ",008009."))
 
 m0 : State
 unfolding card
-m0 = loaded (card ∷ []) Positions1400 all_off
+m0 = loaded (card ∷ []) Positions1400 all_off Selecting
 
 halts : is_halted (after m0 2).standing ≡ true
 unfolding m0 card code_of after step attempt word word_length least_mark codes_from put_codes row_of operations operands_of decoded_of weighed base tagged digit_under base_ending with_index operand marks_put worked effect glyph_of zone_of digit_of
@@ -61,6 +62,7 @@ job = record {
   kind = Object;
   size = Positions1400;
   deck = card ∷ [];
+  profile = Selecting;
   stretches = (record { switches = all_off; granted = 0 }) ∷ (record { switches = all_off; granted = 2 }) ∷ [];
   held = false;
   collected = false;
@@ -70,9 +72,9 @@ at_halt : IsAtHalt job
 unfolding job m0 resumed after
 at_halt = halted_by_test _ halts
 
-not_whole : HasRunWhole (loaded (loaded_deck job) job.size) job → ⊥
+not_whole : HasRunWhole (deck_begun job) job → ⊥
 unfolding job m0
 not_whole run = no_two m0 run.holds.0 all_off 2 halts stops next_stops next_is run.holds.1
 
-pub halts_are_needed : ((job : Job) → IsAtHalt job → HasRunWhole (loaded (loaded_deck job) job.size) job) → ⊥
+pub halts_are_needed : ((job : Job) → IsAtHalt job → HasRunWhole (deck_begun job) job) → ⊥
 halts_are_needed law = not_whole (law job at_halt)

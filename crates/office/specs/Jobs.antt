@@ -13,6 +13,8 @@ use Rattle.machine.specs.Run.{State, loaded, started, after, lines_of}
 use Rattle.machine.specs.declared.standings.Standing.TheVariants.{Halted}
 use Rattle.units.specs.Switches.{AreSeven}
 use Rattle.units.specs.declared.printer.Line.{Line}
+use Rattle.units.specs.declared.profiles.Profile.{Profile}
+use Rattle.units.specs.declared.punch.Punched.{Punched}
 use Rattle.units.specs.declared.switches.Switches.{Switches}
 use Rattle.office.specs.Limits.{most_granted}
 use Rattle.office.specs.Whole.{Whole}
@@ -26,6 +28,8 @@ pub record Job : Type 0 where
   pub size : Size
   -- as it was handed in
   pub deck : List Card
+  -- whether its machine selects stackers
+  pub profile : Profile
   -- the operator's starts, the first of them at the submission
   pub stretches : List Stretch
   pub held : Bool
@@ -57,7 +61,7 @@ all_off = record { 0 = 0 }
 
 -- a job's machine after the load button, before its first start
 abbrev pub beginning : Job → State
-beginning job = loaded (loaded_deck job) job.size all_off
+beginning job = loaded (loaded_deck job) job.size all_off job.profile
 
 -- the state of a job's machine, which follows from the job's contents and stretches alone
 abbrev pub picture : Job → State
@@ -127,9 +131,9 @@ started_job switches job = record job { stretches = one_more switches job.stretc
 abbrev pub switches_of : Job → List Switches
 switches_of job = map (λ s. s.switches) job.stretches
 
--- the cards that a job has punched
-abbrev pub cards_by : Job → List Card
-cards_by job = (picture job).works.units.punch
+-- the cards that a job has punched, each with its pocket
+abbrev pub cards_by : Job → List Punched
+cards_by job = (picture job).works.units.punch.cards
 
 -- the lines that a job has printed
 abbrev pub lines_by : Job → List Line
@@ -139,7 +143,7 @@ lines_by job = lines_of (picture job)
 -- and that run makes no others
 pub record HasRunWhole (begin : Switches → State) (job : Job) : Type 0 where
   pub holds : Whole begin (switches_of job) (cards_by job) (lines_by job)
-  pub only : (cards : List Card) (lines : List Line) → Whole begin (switches_of job) cards lines →
+  pub only : (cards : List Punched) (lines : List Line) → Whole begin (switches_of job) cards lines →
       (cards ≡ cards_by job) × (lines ≡ lines_by job)
 
 -- a job's source has no faults, and its machine is as large as the source says, or larger
@@ -149,18 +153,22 @@ pub record CanRunItsSource (job : Job) : Type 0 where
   pub large : size_for (source_of job.deck) ≤ positions_of job.size
 
 -- the machine at the start of the program of a deck's source, with the data after the source unread
-abbrev pub program_begun : List Card → Size → Switches → State
-program_begun deck size switches =
+abbrev pub program_begun : List Card → Size → Profile → Switches → State
+program_begun deck size profile switches =
     let source : List Card = source_of deck in
-    at_the_start (image_for source) (start_for source) (data_of deck) size switches
+    at_the_start (image_for source) (start_for source) (data_of deck) size switches profile
+
+-- the machine of a job, started with these switches by the load button
+abbrev pub deck_begun : Job → Switches → State
+deck_begun job switches = loaded (loaded_deck job) job.size switches job.profile
 
 -- a job has made what the whole run of its deck makes, begun by the load button
 abbrev pub HasRunFromItsDeck : Job → Type 0
-HasRunFromItsDeck job = HasRunWhole (loaded (loaded_deck job) job.size) job
+HasRunFromItsDeck job = HasRunWhole (deck_begun job) job
 
 -- a job has made what the whole run of its source makes, begun at the program's start
 abbrev pub HasRunFromItsSource : Job → Type 0
-HasRunFromItsSource job = HasRunWhole (program_begun job.deck job.size) job
+HasRunFromItsSource job = HasRunWhole (program_begun job.deck job.size job.profile) job
 
 -- what holds of each job of an office: at a halt it has run whole from the load button, and from
 -- the start of its program if it can run its source

@@ -7,9 +7,11 @@ use Rattle.machine.specs.Run.{State, loaded, after, attempts, executed, lines_of
 use Rattle.machine.specs.Standings.{standing_of, goes_on, is_at_halt}
 use Rattle.units.specs.Switches.{seven}
 use Rattle.units.specs.Units.{Makes}
+use Rattle.units.specs.declared.profiles.Profile.TheVariants.{Selecting}
 use Rattle.units.specs.declared.switches.Switches.{Switches}
 use Rattle.office.specs.Limits.{most_granted}
 use Rattle.office.specs.Jobs.{Job, picture, granted, granted_more, one_more, sliced_job, started_job, AreStretches}
+use Rattle.office.specs.Stackers.{cards_from}
 use Rattle.office.specs.declared.commands.JobCommand.{JobCommand}
 use Rattle.office.specs.declared.commands.JobCommand.TheVariants.{Slice, Start, Hold, Release, Collect, Standing as Tell, Cards, Lines}
 use Rattle.office.specs.declared.flags.NewFlags.{NewFlags}
@@ -42,7 +44,7 @@ loaded_kept deck size switches = record {
   stretches = one_more (seven switches) [];
   held = false;
   collected = false;
-  machine = loaded deck size (seven switches);
+  machine = loaded deck size (seven switches) Selecting;
 }
 
 -- the stretches are ones that a job may have, and the machine's state is in range
@@ -60,7 +62,7 @@ summary_of k = record {
   held = k.held;
   collected = k.collected;
   granted = granted k.stretches;
-  cards = length k.machine.works.units.punch;
+  cards = length k.machine.works.units.punch.cards;
   lines = length (lines_of k.machine);
 }
 
@@ -69,7 +71,7 @@ summary_of k = record {
 -- whether a command only asks for something of a job: `Standing`, `Cards` and `Lines`
 abbrev pub is_query : JobCommand → Bool
 is_query Tell = true
-is_query Cards = true
+is_query (Cards from) = true
 is_query Lines = true
 is_query other = false
 
@@ -100,7 +102,7 @@ last_refusal Hold job = refused_if job.held refusal.AlreadyHeld
 last_refusal Release job = refused_if (not job.held) refusal.NotHeld
 last_refusal Collect job = refused_if (goes_on job.standing) refusal.NotAtHalt
 last_refusal Tell job = None
-last_refusal Cards job = None
+last_refusal (Cards from) job = None
 last_refusal Lines job = None
 
 -- why a command on a job is refused, by the first test that fails; a query is never refused
@@ -127,7 +129,7 @@ changed Hold k = record k { held = true }
 changed Release k = record k { held = false }
 changed Collect k = record k { collected = true }
 changed Tell k = k
-changed Cards k = k
+changed (Cards from) k = k
 changed Lines k = k
 
 -- the reply to a command that is not refused
@@ -139,14 +141,14 @@ answered Hold k = reply.Held
 answered Release k = reply.Released
 answered Collect k = reply.Collected (summary_of k).cards (summary_of k).lines
 answered Tell k = reply.Standing (summary_of k)
-answered Cards k = reply.Cards k.machine.works.units.punch
+answered (Cards from) k = reply.Cards (cards_from from k.machine.works.units.punch.cards)
 answered Lines k = reply.Lines (lines_of k.machine)
 
 -- whether a command needs the machine of its job, and not its summary alone
 abbrev pub needs_machine : JobCommand → Bool
 needs_machine (Slice limit) = true
 needs_machine (Start switches) = true
-needs_machine Cards = true
+needs_machine (Cards from) = true
 needs_machine Lines = true
 needs_machine other = false
 
@@ -182,7 +184,7 @@ changed_job Hold job = record job { held = true }
 changed_job Release job = record job { held = false }
 changed_job Collect job = record job { collected = true }
 changed_job Tell job = job
-changed_job Cards job = job
+changed_job (Cards from) job = job
 changed_job Lines job = job
 
 -- a job after a command: a refusal changes nothing
@@ -222,7 +224,7 @@ limit_of other = 0
 abbrev pub MakesOn : JobCommand → Kept → Type 0
 MakesOn (Slice limit) k = Makes k.machine.works.units (after k.machine limit).works.units
 MakesOn (Start switches) k = Unit {0}
-MakesOn Cards k = Unit {0}
+MakesOn (Cards from) k = Unit {0}
 MakesOn Lines k = Unit {0}
 MakesOn other k = ⊥
 

@@ -2,6 +2,7 @@ pub mod Limits
 pub mod Names
 pub mod Numbers
 pub mod Whole
+pub mod Stackers
 pub mod Jobs
 pub mod Queued
 pub mod Kept

@@ -8,6 +8,7 @@ use Rattle.autocoder.specs.Programs.{layout_for}
 use Rattle.autocoder_layout.specs.CardFaults.{faults_of}
 use Rattle.autocoder_layout.specs.declared.card_faults.CardFault.{CardFault}
 use Rattle.units.specs.Switches.{seven}
+use Rattle.units.specs.declared.profiles.Profile.TheVariants.{Selecting}
 use Rattle.office.specs.Limits.{most_loaded}
 use Rattle.office.specs.Jobs.{Job, loaded_of, one_more}
 use Rattle.office.specs.Kept.{Kept, kept_of}
@@ -53,6 +54,7 @@ new_job size contents = record {
   kind = contents.kind;
   size = size;
   deck = contents.deck;
+  profile = Selecting;
   stretches = one_more (seven contents.switches) [];
   held = false;
   collected = false;

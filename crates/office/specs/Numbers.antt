@@ -1,9 +1,9 @@
 -- the numbers of the refusals
 use Rattle.std.specs.Prelude.{ℕ}
 use Rattle.office.specs.declared.refusals.Refusal.{Refusal}
-use Rattle.office.specs.declared.refusals.Refusal.TheVariants.{Customer, Number, Size, Deck, OtherContents, TooManyJobs, Assembly, NoJob, Limit, Held, NotRunning, NotAtHalt, AlreadyHeld, NotHeld, Collected, TooMuch}
+use Rattle.office.specs.declared.refusals.Refusal.TheVariants.{Customer, Number, Size, Deck, OtherContents, TooManyJobs, Assembly, NoJob, Limit, Held, NotRunning, NotAtHalt, AlreadyHeld, NotHeld, Collected, TooMuch, NoSuchPocket}
 
--- the number that a refusal is printed with, 10 to 28; no two refusals have the same
+-- the number that a refusal is printed with, 10 to 29; no two refusals have the same
 abbrev pub refusal_number : Refusal → ℕ
 refusal_number Customer = 10
 refusal_number Number = 11
@@ -21,3 +21,4 @@ refusal_number AlreadyHeld = 25
 refusal_number NotHeld = 26
 refusal_number Collected = 27
 refusal_number TooMuch = 28
+refusal_number NoSuchPocket = 29

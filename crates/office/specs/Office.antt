@@ -20,7 +20,7 @@ use Rattle.office.specs.declared.commands.Command.{Command}
 use Rattle.office.specs.declared.commands.Command.TheVariants.{Submit, Job as OnJob, Jobs, Queue}
 use Rattle.office.specs.declared.commands.Contents.{Contents}
 use Rattle.office.specs.declared.commands.JobCommand.{JobCommand}
-use Rattle.office.specs.declared.commands.JobCommand.TheVariants.{Slice}
+use Rattle.office.specs.declared.commands.JobCommand.TheVariants.{Slice, Cards}
 use Rattle.office.specs.declared.commands.Kind.{Kind}
 use Rattle.office.specs.declared.commands.Kind.TheVariants.{Object, Autocoder}
 use Rattle.office.specs.declared.lists.JobLine.{JobLine}
@@ -29,6 +29,7 @@ use Rattle.office.specs.declared.refusals.Refusal.{Refusal}
 use Rattle.office.specs.declared.refusals.Refusal.TheVariants as refusal
 use Rattle.office.specs.declared.replies.Reply.{Reply}
 use Rattle.office.specs.declared.replies.Reply.TheVariants as reply
+use Rattle.office.specs.declared.stackers.Stacker.TheVariants.{Unknown}
 use Rattle.office.specs.declared.stretches.Stretch.{Stretch}
 
 -- a job with its name: a customer and a number
@@ -185,11 +186,13 @@ name_refusal customer number =
     if not (is_number number) then Some refusal.Number else
     None
 
--- why a command is refused for its name, or else for a slice's limit out of range
-abbrev pub limit_refusal : JobCommand → Option Refusal → Option Refusal
-limit_refusal c (Some reason) = Some reason
-limit_refusal (Slice limit) None = if is_limit limit then None else Some refusal.Limit
-limit_refusal c None = None
+-- why a command is refused for its name, or else for its value: a slice's limit out of range, or a
+-- pocket that is none
+abbrev pub value_refusal : JobCommand → Option Refusal → Option Refusal
+value_refusal c (Some reason) = Some reason
+value_refusal (Slice limit) None = if is_limit limit then None else Some refusal.Limit
+value_refusal (Cards Unknown) None = Some refusal.NoSuchPocket
+value_refusal c None = None
 
 -- why no customer can have this name
 abbrev pub customer_refusal : List ℕ → Option Refusal
@@ -199,7 +202,7 @@ customer_refusal customer = if is_customer customer then None else Some refusal.
 abbrev pub early_refusal : Command → Option Refusal
 early_refusal (Submit customer number contents) = name_refusal (string_bytes customer) number
 early_refusal (OnJob customer number c) =
-    limit_refusal c (name_refusal (string_bytes customer) number)
+    value_refusal c (name_refusal (string_bytes customer) number)
 early_refusal (Jobs customer) = customer_refusal (string_bytes customer)
 early_refusal Queue = None
 

@@ -7,6 +7,8 @@ ghost use Rattle.core_store.specs.declared.sizes.Size.{Size};
 ghost use Rattle.autocoder.specs.Loadable.{IsLoadable};
 ghost use Rattle.machine.specs.Run.{loaded};
 ghost use Rattle.units.specs.declared.printer.Line.{Line};
+ghost use Rattle.units.specs.declared.profiles.Profile.{Profile};
+ghost use Rattle.units.specs.declared.punch.Punched.{Punched};
 ghost use Rattle.units.specs.declared.switches.Switches.{Switches};
 ghost use Rattle.autocoder_layout.specs.declared.cells.Cell.{Cell};
 ghost use Rattle.loader.specs.Cards.{loading_cards};
@@ -21,10 +23,12 @@ use machine::runs_add;
 /// begins at the program's start.
 pub fn programs_run_from_their_start()
     ensures { (size : Size) (image : List Cell) (start : ℕ) (data_cards : List Card)
-        (starts : List Switches) (cards : List Card) (lines : List Line) →
+        (profile : Profile) (starts : List Switches) (cards : List Punched) (lines : List Line) →
         IsLoadable (positions_of size) image start →
-        Whole (loaded (loading_cards image start ++ data_cards) size) starts cards lines
-        ↔ Whole (at_the_start image start data_cards size) starts cards lines }
+        Whole (λ switches. loaded (loading_cards image start ++ data_cards) size switches profile)
+        starts cards lines
+        ↔ Whole (λ switches. at_the_start image start data_cards size switches profile)
+        starts cards lines }
 {
     runs_add();
     stopped_machines_stay();

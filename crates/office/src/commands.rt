@@ -6,6 +6,7 @@ ghost use Rattle.office.specs.Kept.{is_query, is_for_free, refused_if, slice_ref
 use crate::flags::NewFlags;
 use crate::refusals::Refusal;
 use crate::replies::Reply;
+use crate::stackers::Stacker;
 use crate::stretches::MOST_GRANTED;
 use crate::summaries::Summary;
 use cards::Deck;
@@ -32,7 +33,7 @@ pub struct Contents {
 }
 
 /// A command on one job. The last three are queries, which change nothing.
-#[derive(Clone, Copy, Debug, PartialEq, Eq)]
+#[derive(Clone, Copy)]
 pub enum JobCommand {
     /// Runs the job for at most `limit` instructions.
     Slice { limit: u32 },
@@ -47,8 +48,8 @@ pub enum JobCommand {
     Collect,
     /// The standing of the job.
     Standing,
-    /// The cards that the job has punched.
-    Cards,
+    /// The cards that the job has punched, all or those of one pocket.
+    Cards { from: Stacker },
     /// The lines that the job has printed.
     Lines,
 }
@@ -101,7 +102,7 @@ impl JobCommand {
     {
         matches!(
             self,
-            JobCommand::Standing | JobCommand::Cards | JobCommand::Lines
+            JobCommand::Standing | JobCommand::Cards { .. } | JobCommand::Lines
         )
     }
 
@@ -126,7 +127,7 @@ impl JobCommand {
             JobCommand::Release => refused_if(!job.held, Refusal::NotHeld),
             JobCommand::Collect => refused_if(job.standing.goes_on(), Refusal::NotAtHalt),
             JobCommand::Standing => None,
-            JobCommand::Cards => None,
+            JobCommand::Cards { .. } => None,
             JobCommand::Lines => None,
         }
     }
@@ -155,7 +156,7 @@ impl JobCommand {
             self,
             JobCommand::Slice { .. }
                 | JobCommand::Start { .. }
-                | JobCommand::Cards
+                | JobCommand::Cards { .. }
                 | JobCommand::Lines
         )
     }

@@ -6,16 +6,17 @@ ghost use Rattle.office.specs.Kept.{IsJobInRange, loaded_kept, summary_of, job_r
 ghost use Rattle.office.specs.Meters.{RisenAtMost};
 
 use crate::commands::JobCommand;
-use crate::lists::{Listing, PunchedCards};
+use crate::lists::Listing;
 use crate::replies::Reply;
+use crate::stackers::{Stacker, cards_from};
 use crate::stretches::{Stretch, Stretches};
 use crate::summaries::Summary;
-use cards::{Card, Deck};
+use cards::Deck;
 use core_store::{Core, Size};
 use machine::{Machine, Meter, Parts};
 use std::alloc::{AllocError, Global};
 use std::marker::Model;
-use units::{Line, Switches};
+use units::{Line, Profile, Switches};
 
 /// A job on which commands work: its stretches, its flags and its machine.
 #[derive(Drop)]
@@ -72,15 +73,6 @@ pub struct ShownJob<'a, C: Core> {
     pub machine: &'a Parts<C>,
 }
 
-/// A copy of the cards.
-fn copy_of_cards(alloc: Global, cards: &[Card]) -> Result<PunchedCards, AllocError>
-    ensures { IfOk result (λ copy. copy ≡ cards.now) }
-{
-    let mut copy = Vec::new(alloc);
-    copy.extend_from_slice(cards)?;
-    Ok(PunchedCards(copy))
-}
-
 /// A copy of the lines.
 fn copy_of_lines(alloc: Global, lines: &[Line]) -> Result<Listing, AllocError>
     ensures { IfOk result (λ copy. copy ≡ lines.now) }
@@ -91,8 +83,8 @@ fn copy_of_lines(alloc: Global, lines: &[Line]) -> Result<Listing, AllocError>
 }
 
 impl<C: Core> Job<C> {
-    /// Returns a job whose machine has loaded a deck, with nothing granted yet. Fails only if there
-    /// is no memory.
+    /// Returns a job whose machine has loaded a deck and selects stackers, with nothing granted yet.
+    /// Fails only if there is no memory.
     pub(crate) fn load(
         alloc: Global,
         deck: Deck,
@@ -106,7 +98,7 @@ impl<C: Core> Job<C> {
             stretches: Stretches::of_one(alloc, switches)?,
             held: false,
             collected: false,
-            machine: Machine::load(alloc, deck, size, switches.seven())?,
+            machine: Machine::load(alloc, deck, size, switches.seven(), Profile::Selecting)?,
         })
     }
 
@@ -203,12 +195,12 @@ impl<C: Core> Job<C> {
         Ok(Reply::Started)
     }
 
-    /// The cards that were punched.
-    fn cards(&self, alloc: Global) -> Result<Reply, AllocError>
-        ensures { IfOk result (λ reply. reply ≡ answered JobCommand.Cards self.now) }
+    /// The punched cards that are asked for.
+    fn cards(&self, alloc: Global, from: Stacker) -> Result<Reply, AllocError>
+        ensures { IfOk result (λ reply. reply ≡ answered (JobCommand.Cards from) self.now) }
     {
-        let cards = &self.machine.parts().units.punch.cards;
-        Ok(Reply::Cards(copy_of_cards(alloc, cards)?))
+        let punched = &self.machine.parts().units.punch.cards;
+        Ok(Reply::Cards(cards_from(alloc, from, punched)?))
     }
 
     /// The lines that were printed.
@@ -238,7 +230,7 @@ impl<C: Core> Job<C> {
         match command {
             JobCommand::Slice { limit } => self.slice(limit, meter),
             JobCommand::Start { switches } => self.start(switches),
-            JobCommand::Cards => self.cards(alloc),
+            JobCommand::Cards { from } => self.cards(alloc, from),
             JobCommand::Lines => self.lines(alloc),
             _ => match command.on_flags(&self.summary()) {
                 Some(new) => {

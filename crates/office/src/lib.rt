@@ -27,6 +27,7 @@ mod names;
 mod offices;
 mod refusals;
 mod replies;
+mod stackers;
 mod stretches;
 mod summaries;
 
@@ -45,5 +46,6 @@ pub use names::{is_customer, is_limit, is_number};
 pub use offices::{lists_are_in_order, names_stay_apart, submissions_repeat};
 pub use refusals::Refusal;
 pub use replies::Reply;
+pub use stackers::{Stacker, cards_from};
 pub use stretches::Stretch;
 pub use summaries::Summary;

@@ -6,7 +6,7 @@ use machine::StandingAt;
 use std::marker::Model;
 use units::Line;
 
-/// The cards that a job has punched, in order.
+/// Cards that a job has punched, in order.
 #[derive(Drop)]
 pub struct PunchedCards(pub Vec<Card>);
 

@@ -40,6 +40,8 @@ pub enum Refusal {
     Collected,
     /// With this grant the job would have been granted more than 1,000,000,000 instructions.
     TooMuch,
+    /// The pocket is not 0, 4 or 8.
+    NoSuchPocket,
 }
 
 impl Refusal {
@@ -64,6 +66,7 @@ impl Refusal {
             Refusal::NotHeld => 26,
             Refusal::Collected => 27,
             Refusal::TooMuch => 28,
+            Refusal::NoSuchPocket => 29,
         }
     }
 }

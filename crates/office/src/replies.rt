@@ -22,7 +22,7 @@ pub enum Reply {
     Collected { cards: u32, lines: u32 },
     /// The standing of the job, with its counts and flags.
     Standing(Summary),
-    /// The cards that the job has punched.
+    /// The cards that the job has punched, all or those of one pocket.
     Cards(PunchedCards),
     /// The lines that the job has printed.
     Lines(Listing),
