@@ -24,20 +24,20 @@ module _ (old : Job) where
   abbrev m : State
   m = picture old
 
-  counted : IsBehind m.works.units.punch (lines_of m) (without_outputs m)
+  counted : IsBehind m.works.units.punch.cards (lines_of m) (without_outputs m)
   counted = left_behind m (picture_before old)
 
-  whole : with_earlier m.works.units.punch (lines_of m) (without_outputs m) ≡ m
+  whole : with_earlier m.works.units.punch.cards (lines_of m) (without_outputs m) ≡ m
   whole = put_back m (picture_before old)
 
-  whole_run : (limit : ℕ) → with_earlier m.works.units.punch (lines_of m) (after (without_outputs m) limit) ≡ after m limit
-  whole_run limit = sym (after_along m.works.units.punch (lines_of m) (without_outputs m) limit counted) ∙ ap (λ (t : State). after t limit) whole
+  whole_run : (limit : ℕ) → with_earlier m.works.units.punch.cards (lines_of m) (after (without_outputs m) limit) ≡ after m limit
+  whole_run limit = sym (after_along m.works.units.punch.cards (lines_of m) (without_outputs m) limit counted) ∙ ap (λ (t : State). after t limit) whole
 
   same_attempts_in : (limit : ℕ) → attempts (without_outputs m) limit ≡ attempts m limit
-  same_attempts_in limit = sym (attempts_along m.works.units.punch (lines_of m) (without_outputs m) limit counted) ∙ ap (λ (t : State). attempts t limit) whole
+  same_attempts_in limit = sym (attempts_along m.works.units.punch.cards (lines_of m) (without_outputs m) limit counted) ∙ ap (λ (t : State). attempts t limit) whole
 
   same_executed_in : (limit : ℕ) → executed (without_outputs m) limit ≡ executed m limit
-  same_executed_in limit = sym (executed_along m.works.units.punch (lines_of m) (without_outputs m) limit counted) ∙ ap (λ (t : State). executed t limit) whole
+  same_executed_in limit = sym (executed_along m.works.units.punch.cards (lines_of m) (without_outputs m) limit counted) ∙ ap (λ (t : State). executed t limit) whole
 
   -- with the cards and lines in front it is what the command makes of the whole job
   changed_whole : (c : JobCommand) → drives_machine c ≡ true → with_outputs_of old (changed c (kept_alone old)) ≡ changed c (kept_of old)
@@ -47,7 +47,7 @@ module _ (old : Job) where
 
   -- the cards and lines are still counted
   still_counted : (c : JobCommand) → drives_machine c ≡ true → HasCounted old (changed c (kept_alone old))
-  still_counted (Slice limit) drives = behind_after m.works.units.punch (lines_of m) (without_outputs m) limit counted
+  still_counted (Slice limit) drives = behind_after m.works.units.punch.cards (lines_of m) (without_outputs m) limit counted
   still_counted (Start switches) drives = counted
   still_counted other drives = absurd (let e = drives in cc)
 

@@ -13,6 +13,7 @@ pub mod OneOfficeLaw
 pub mod ReadingLemmas
 pub mod Replies
 pub mod SavingLemmas
+pub mod SavingPockets
 pub mod BureauResults
 pub mod SummaryLemmas
 pub mod WholeJobsLaw

@@ -100,9 +100,9 @@ found_whole name s storages t whole =
 
 -- the next job's pages were made
 pub next_raised : (office : Office) (count : ℕ) (e : Entry) → take (count + 1) office ≡ take count office ++ e ∷ [] → IsIts office e
-    → (name : JobName) → name.customer.now ≡ e.customer → name.number ≡ e.number → (before after : Database) → HoldsAs (Some (storages_of office)) 1 before (with_first_pages count office)
-    → (HasWhole name (picture e.job).works.storage (storages_of office) (with_first_pages count office) → HoldsAs (Some (storages_of office)) 1 after (with_storage name (picture e.job).works.storage (with_first_pages count office)))
-    → HoldsAs (Some (storages_of office)) 1 after (with_first_pages (count + 1) office)
+    → (name : JobName) → name.customer.now ≡ e.customer → name.number ≡ e.number → (before after : Database) → HoldsAs (pictured (storages_of office)) 1 before (with_first_pages count office)
+    → (HasWhole name (picture e.job).works.storage (storages_of office) (with_first_pages count office) → HoldsAs (pictured (storages_of office)) 1 after (with_storage name (picture e.job).works.storage (with_first_pages count office)))
+    → HoldsAs (pictured (storages_of office)) 1 after (with_first_pages (count + 1) office)
 next_raised office count e more its name who which before after holds raised =
     let distinct = holds.shared.distinct in
     let here : job_of name.customer.now name.number office ≡ Some e.job = ap (λ c. job_of c name.number office) who ∙ ap (λ n. job_of e.customer n office) which ∙ its in
@@ -115,4 +115,4 @@ next_raised office count e more its name who which before after holds raised =
     let pages = rows_of (picture e.job).works.storage in
     let put : with_pages name.customer.now name.number pages (with_first_pages count office) ≡ with_first_pages (count + 1) office =
     ap (λ c. with_pages c name.number pages (with_first_pages count office)) who ∙ ap (λ n. with_pages e.customer n pages (with_first_pages count office)) which ∙ next_pages office count e distinct more in
-    subst (HoldsAs (Some (storages_of office)) 1 after) put (raised whole)
+    subst (HoldsAs (pictured (storages_of office)) 1 after) put (raised whole)

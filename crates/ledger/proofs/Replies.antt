@@ -87,7 +87,7 @@ answers Hold k reason told = let e = told in cc
 answers Release k reason told = let e = told in cc
 answers Collect k reason told = let e = told in cc
 answers Tell k reason told = let e = told in cc
-answers Cards k reason told = let e = told in cc
+answers (Cards from) k reason told = let e = told in cc
 answers Lines k reason told = let e = told in cc
 
 -- what is replied as a refusal is refused so

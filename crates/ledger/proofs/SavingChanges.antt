@@ -1,12 +1,11 @@
 -- What a command changes of a job, in the office and in the tables
 use Rattle.std.proofs.Common.{true≢false, inl, inr, ◌≡◌, ℕ, List, [], ◌∷◌, ◌++◌, map, Bool, true, false, ◌&&◌, ◌==◌, bytes_eq, if◌then◌else◌, Option, Some, refl, sym, ap, subst, ◌∙◌}
 use Rattle.std.specs.List.{All, AllByRecursion}
+use Rattle.std.specs.Option.{option_map}
 use Rattle.std.proofs.Math.Path.{fun_ext}
 use Rattle.std.proofs.lemmas.Bool.{cases_Bool}
 use Rattle.std.proofs.lemmas.List.{append-nil}
 use Rattle.std.proofs.lemmas.List.Elements.{All-append}
-use Rattle.cards.specs.declared.decks.Card.{Card}
-use Rattle.cards.specs.Decks.{IsCard}
 use Rattle.core_store.specs.Storage.{Storage}
 use Rattle.machine.specs.Run.{State, lines_of}
 use Rattle.office.specs.Jobs.{Job, picture, IsJob}
@@ -14,16 +13,23 @@ use Rattle.office.specs.Kept.{Kept, kept_of, changed, changed_job}
 use Rattle.office.specs.Office.{Entry, Office, is_entry, job_of, with_job}
 use Rattle.office.specs.declared.commands.JobCommand.{JobCommand}
 use Rattle.office.specs.declared.commands.JobCommand.TheVariants.{Slice, Start}
-use Rattle.ledger_rows.specs.Columns.{state_row, line_cells, HoldsCharacters, IsLine}
+use Rattle.ledger_rows.specs.Columns.{state_row, profile_number, profile_row, line_cells, HoldsCharacters, IsLine}
 use Rattle.ledger_rows.specs.Pages.{rows_of}
+use Rattle.ledger_rows.specs.Pockets.{pocket_rows_of, punched_bytes, IsPunched}
 use Rattle.sqlite.specs.Effect.{Database}
 use Rattle.sqlite.specs.State as store
-use Rattle.ledger_tables.specs.Tables.{NamedJob, Holds, AreDistinct, is_job, at_job, with_cards, with_lines, with_stretches, with_state, with_pages}
+use Rattle.ledger_tables.specs.Tables.{ByJob, NamedJob, Tables, Holds, AreDistinct, is_job, at_job, with_cards, with_lines, with_stretches, with_state, with_pages, with_profile, with_chosen, with_pockets}
+use Rattle.ledger_tables.specs.declared.rows.ProfileRow.{ProfileRow}
 use Rattle.ledger_tables.specs.declared.rows.StateRow.{StateRow}
 use Rattle.ledger_tables.proofs.InsertLast.{name_is, name_yes}
+use Rattle.units.specs.Pockets.{pocket_number}
+use Rattle.units.specs.Stacked.{Stacked}
+use Rattle.units.specs.declared.printer.Line.{Line}
+use Rattle.units.specs.declared.profiles.Profile.{Profile}
+use Rattle.units.specs.declared.punch.Punched.{Punched}
 use Rattle.units.specs.declared.switches.Switches.{Switches}
 use Rattle.ledger.specs.Earlier.{kept_alone, with_outputs_of, HasCounted}
-use Rattle.ledger.specs.Standing.{named, job_cells, stretch_row, stretches_of, state_of, pages_of, cards_of, tables_of, CanBeKept, Rows, StandsIn}
+use Rattle.ledger.specs.Standing.{named, job_cells, stretch_row, stretches_of, state_of, pages_of, cards_of, profile_of, pockets_of, tables_of, CanBeKept, Rows, StandsIn}
 use Rattle.ledger.specs.Standing as standing
 use Rattle.ledger.proofs.Offices.{job_is}
 use Rattle.ledger.proofs.StateRows.{row_behind}
@@ -111,9 +117,15 @@ same_job customer number old (e ∷ office) distinct is = elim (cases_Bool (is_e
 
 -- ---- the tables of the changed office
 
+-- the tables with this machine's state, pages, lines, cards, pockets and profile as the job's
+abbrev with_all : List ℕ → ℕ → State → Tables → Tables
+with_all customer number m t =
+    with_profile customer number (profile_row m.works.units.punch) (with_state customer number (state_row m) (with_pages customer number (rows_of m.works.storage) (with_lines customer number (map line_cells (lines_of m))
+    (with_pockets customer number (pocket_rows_of m.works.units.punch.cards) (with_cards customer number (map punched_bytes m.works.units.punch.cards) t)))))
+
 module _ (customer : List ℕ) (number : ℕ) (job old : Job) (office : Office) (found : job_of customer number office ≡ Some old) where
   tables_with : AreDistinct (map named office) → job_cells job ≡ job_cells old
-      → tables_of (with_job customer number job office) ≡ with_stretches customer number (map stretch_row job.stretches) (with_state customer number (state_row (picture job)) (with_pages customer number (rows_of (picture job).works.storage) (with_lines customer number (map line_cells (lines_of (picture job))) (with_cards customer number (map (λ (card : Card). card.0) (picture job).works.units.punch) (tables_of office)))))
+      → tables_of (with_job customer number job office) ≡ with_stretches customer number (map stretch_row job.stretches) (with_all customer number (picture job) (tables_of office))
   tables_with distinct cells =
       same_tables _ _ (named_with customer number job old office distinct found cells)
       (told_with stretches_of customer number job old office found)
@@ -121,49 +133,67 @@ module _ (customer : List ℕ) (number : ℕ) (job old : Job) (office : Office) 
       (told_with pages_of customer number job old office found)
       (told_with cards_of customer number job old office found)
       (told_with standing.lines_of customer number job old office found)
+      (told_with profile_of customer number job old office found)
+      (told_with pockets_of customer number job old office found)
 
   after_saved : (db0 db : Database) (k : Kept) → Rows db0 office → job_cells job ≡ job_cells old → k ≡ kept_of job → CanBeKept job
-      → Holds db (with_stretches customer number (map stretch_row k.stretches) (with_state customer number (state_row k.machine) (with_pages customer number (rows_of k.machine.works.storage) (with_lines customer number (map line_cells (lines_of k.machine)) (with_cards customer number (map (λ (card : Card). card.0) k.machine.works.units.punch) (tables_of office))))))
+      → Holds db (with_stretches customer number (map stretch_row k.stretches) (with_all customer number k.machine (tables_of office)))
       → Rows db (with_job customer number job office)
   after_saved db0 db k stands cells is it holds = record {
     tables = subst (Holds db) (sym (tables_with stands.tables.shared.distinct cells))
-        (subst (λ (x : Kept). Holds db (with_stretches customer number (map stretch_row x.stretches) (with_state customer number (state_row x.machine) (with_pages customer number (rows_of x.machine.works.storage) (with_lines customer number (map line_cells (lines_of x.machine)) (with_cards customer number (map (λ (card : Card). card.0) x.machine.works.units.punch) (tables_of office))))))) is holds);
+        (subst (λ (x : Kept). Holds db (with_stretches customer number (map stretch_row x.stretches) (with_all customer number x.machine (tables_of office)))) is holds);
     jobs = all_with customer number job office stands.jobs it;
   }
 
 -- what was kept of a job is that job, and the tables can hold it
-kept_so : (job : Job) (k : Kept) → k ≡ kept_of job → IsJob job → HoldsCharacters k.machine.works.storage → All IsCard k.machine.works.units.punch → All IsLine (lines_of k.machine) → CanBeKept job
+kept_so : (job : Job) (k : Kept) → k ≡ kept_of job → IsJob job → HoldsCharacters k.machine.works.storage → All IsPunched k.machine.works.units.punch.cards → All IsLine (lines_of k.machine) → CanBeKept job
 kept_so job k is it storage cards lines = record {
   job = it;
   storage = subst (λ (x : Kept). HoldsCharacters x.machine.works.storage) is storage;
-  cards = subst (λ (x : Kept). All IsCard x.machine.works.units.punch) is cards;
+  cards = subst (λ (x : Kept). All IsPunched x.machine.works.units.punch.cards) is cards;
   lines = subst (λ (x : Kept). All IsLine (lines_of x.machine)) is lines;
 }
 
 -- ---- a slice
 
+-- the profile row of a job, with another choice, is that of its machine later on, whose profile is the same
+choice_told : (customer : List ℕ) (number : ℕ) (old : Job) (office : Office) (p : Stacked) → job_of customer number office ≡ Some old → p.profile ≡ (picture old).works.units.punch.profile
+    → with_chosen customer number (pocket_number p.chosen) (tables_of office) ≡ with_profile customer number (profile_row p) (tables_of office)
+choice_told customer number old office p found same =
+    ap (λ (o : Option ProfileRow). let t : Tables = record (tables_of office) { profiles = at_job customer number o (told_of profile_of office) } in t)
+    (ap (λ (o : Option Job). option_map (λ (r : ProfileRow). let x : ProfileRow = record r { chosen = pocket_number p.chosen } in x) (profile_of o)) found
+    ∙ ap (λ (q : Profile). let x : Option ProfileRow = Some (record { profile = profile_number q; chosen = pocket_number p.chosen }) in x) (sym same))
+
 pub slice_saved : (db0 db : Database) (office : Office) (customer : List ℕ) (number limit : ℕ) (old : Job) (k : Kept) → Rows db0 office → job_of customer number office ≡ Some old → HasCounted old k → with_outputs_of old k ≡ kept_of (changed_job (Slice limit) old) → IsJob (changed_job (Slice limit) old)
-    → HoldsCharacters k.machine.works.storage → All IsCard k.machine.works.units.punch → All IsLine (lines_of k.machine)
-    → Holds db (with_stretches customer number (map stretch_row k.stretches) (with_state customer number (state_row k.machine) (with_pages customer number (rows_of k.machine.works.storage) (with_lines customer number (map line_cells (lines_of (picture old) ++ lines_of k.machine)) (with_cards customer number (map (λ (card : Card). card.0) ((picture old).works.units.punch ++ k.machine.works.units.punch)) (tables_of office))))))
+    → k.machine.works.units.punch.profile ≡ (picture old).works.units.punch.profile
+    → HoldsCharacters k.machine.works.storage → All IsPunched k.machine.works.units.punch.cards → All IsLine (lines_of k.machine)
+    → Holds db (with_stretches customer number (map stretch_row k.stretches) (with_chosen customer number (pocket_number k.machine.works.units.punch.chosen) (with_state customer number (state_row k.machine) (with_pages customer number (rows_of k.machine.works.storage) (with_lines customer number (map line_cells (lines_of (picture old) ++ lines_of k.machine))
+    (with_pockets customer number (pocket_rows_of ((picture old).works.units.punch.cards ++ k.machine.works.units.punch.cards)) (with_cards customer number (map punched_bytes ((picture old).works.units.punch.cards ++ k.machine.works.units.punch.cards)) (tables_of office))))))))
     → Rows db (with_job customer number (changed_job (Slice limit) old) office)
-slice_saved db0 db office customer number limit old k stands found counted is job storage cards lines holds =
+slice_saved db0 db office customer number limit old k stands found counted is job same storage cards lines holds =
     let it = job_is customer number office old stands.jobs found in
     let all = with_outputs_of old k in
-    let can = kept_so (changed_job (Slice limit) old) all is job storage (All-append IsCard (picture old).works.units.punch k.machine.works.units.punch it.cards cards) (All-append IsLine (lines_of (picture old)) (lines_of k.machine) it.lines lines) in
-    let row : state_row all.machine ≡ state_row k.machine = row_behind (picture old).works.units.punch (lines_of (picture old)) k.machine counted in
+    let can = kept_so (changed_job (Slice limit) old) all is job storage (All-append IsPunched (picture old).works.units.punch.cards k.machine.works.units.punch.cards it.cards cards) (All-append IsLine (lines_of (picture old)) (lines_of k.machine) it.lines lines) in
+    let row : state_row all.machine ≡ state_row k.machine = row_behind (picture old).works.units.punch.cards (lines_of (picture old)) k.machine counted in
+    let told : (with_chosen customer number (pocket_number k.machine.works.units.punch.chosen) (tables_of office)).profiles ≡ (with_profile customer number (profile_row k.machine.works.units.punch) (tables_of office)).profiles =
+    ap (λ (t : Tables). t.profiles) (choice_told customer number old office k.machine.works.units.punch found same) in
+    let whole = subst (λ (r : StateRow). Holds db (with_stretches customer number (map stretch_row k.stretches) (with_chosen customer number (pocket_number k.machine.works.units.punch.chosen) (with_state customer number r (with_pages customer number (rows_of all.machine.works.storage) (with_lines customer number (map line_cells (lines_of all.machine))
+    (with_pockets customer number (pocket_rows_of all.machine.works.units.punch.cards) (with_cards customer number (map punched_bytes all.machine.works.units.punch.cards) (tables_of office))))))))) (sym row) holds in
     after_saved customer number (changed_job (Slice limit) old) old office found db0 db all stands refl is can
-    (subst (λ (r : StateRow). Holds db (with_stretches customer number (map stretch_row k.stretches) (with_state customer number r (with_pages customer number (rows_of all.machine.works.storage) (with_lines customer number (map line_cells (lines_of all.machine)) (with_cards customer number (map (λ (card : Card). card.0) all.machine.works.units.punch) (tables_of office))))))) (sym row) holds)
+    (subst (λ (profiles : ByJob (Option ProfileRow)). Holds db (record (with_stretches customer number (map stretch_row k.stretches) (with_all customer number all.machine (tables_of office))) { profiles = profiles })) told whole)
 
 -- ---- a start
 
--- the pages, cards and lines that stand are those of the machine
+-- the pages, cards, pockets, lines and the profile that stand are those of the machine
 rest_stays : (customer : List ℕ) (number : ℕ) (old : Job) (office : Office) (m : State) → job_of customer number office ≡ Some old → m.works.storage ≡ (picture old).works.storage → m.works.units.punch ≡ (picture old).works.units.punch → lines_of m ≡ lines_of (picture old)
-    → tables_of office ≡ with_pages customer number (rows_of m.works.storage) (with_lines customer number (map line_cells (lines_of m)) (with_cards customer number (map (λ (card : Card). card.0) m.works.units.punch) (tables_of office)))
-rest_stays customer number old office m found storage cards lines =
+    → with_state customer number (state_row m) (tables_of office) ≡ with_all customer number m (tables_of office)
+rest_stays customer number old office m found storage punch lines =
     same_tables _ _ refl refl refl
     (sym (at_job_same customer number (rows_of m.works.storage) (told_of pages_of office) (ap pages_of found ∙ ap (λ (s : Storage). rows_of s) (sym storage))))
-    (sym (at_job_same customer number (map (λ (card : Card). card.0) m.works.units.punch) (told_of cards_of office) (ap cards_of found ∙ ap (map (λ (card : Card). card.0)) (sym cards))))
+    (sym (at_job_same customer number (map punched_bytes m.works.units.punch.cards) (told_of cards_of office) (ap cards_of found ∙ ap (λ (p : Stacked). map punched_bytes p.cards) (sym punch))))
     (sym (at_job_same customer number (map line_cells (lines_of m)) (told_of standing.lines_of office) (ap standing.lines_of found ∙ ap (map line_cells) (sym lines))))
+    (sym (at_job_same customer number (Some (profile_row m.works.units.punch)) (told_of profile_of office) (ap profile_of found ∙ ap (λ (p : Stacked). Some (profile_row p)) (sym punch))))
+    (sym (at_job_same customer number (pocket_rows_of m.works.units.punch.cards) (told_of pockets_of office) (ap pockets_of found ∙ ap (λ (p : Stacked). pocket_rows_of p.cards) (sym punch))))
 
 pub start_saved : (db0 db : Database) (office : Office) (customer : List ℕ) (number : ℕ) (switches : Switches) (old : Job) (k : Kept) → Rows db0 office → job_of customer number office ≡ Some old → k ≡ changed (Start switches) (kept_alone old) → HasCounted old k → with_outputs_of old k ≡ kept_of (changed_job (Start switches) old)
     → IsJob (changed_job (Start switches) old) → HoldsCharacters k.machine.works.storage
@@ -172,14 +202,17 @@ pub start_saved : (db0 db : Database) (office : Office) (customer : List ℕ) (n
 start_saved db0 db office customer number switches old k stands found made counted is job storage holds =
     let it = job_is customer number office old stands.jobs found in
     let all = with_outputs_of old k in
-    let cards : all.machine.works.units.punch ≡ (picture old).works.units.punch = ap (λ (x : Kept). (picture old).works.units.punch ++ x.machine.works.units.punch) made ∙ append-nil (picture old).works.units.punch in
+    let p = (picture old).works.units.punch in
+    let punch : all.machine.works.units.punch ≡ p =
+    ap (λ (x : Kept). let q : Stacked = record x.machine.works.units.punch { cards = p.cards ++ x.machine.works.units.punch.cards } in q) made
+    ∙ ap (λ (cards : List Punched). let q : Stacked = record p { cards = cards } in q) (append-nil p.cards) in
     let lines : lines_of all.machine ≡ lines_of (picture old) = ap (λ (x : Kept). lines_of (picture old) ++ lines_of x.machine) made ∙ append-nil (lines_of (picture old)) in
-    let can = kept_so (changed_job (Start switches) old) all is job storage (subst (All IsCard) (sym cards) it.cards) (subst (All IsLine) (sym lines) it.lines) in
-    let row : state_row all.machine ≡ state_row k.machine = row_behind (picture old).works.units.punch (lines_of (picture old)) k.machine counted in
+    let can = kept_so (changed_job (Start switches) old) all is job storage (subst (λ (q : Stacked). All IsPunched q.cards) (sym punch) it.cards) (subst (All IsLine) (sym lines) it.lines) in
+    let row : state_row all.machine ≡ state_row k.machine = row_behind p.cards (lines_of (picture old)) k.machine counted in
     let rows = subst (λ (r : StateRow). Holds db (with_stretches customer number (map stretch_row k.stretches) (with_state customer number r (tables_of office)))) (sym row) holds in
     let same : all.machine.works.storage ≡ (picture old).works.storage = ap (λ (x : Kept). x.machine.works.storage) made in
     after_saved customer number (changed_job (Start switches) old) old office found db0 db all stands refl is can
-    (subst (λ t. Holds db (with_stretches customer number (map stretch_row k.stretches) (with_state customer number (state_row all.machine) t))) (rest_stays customer number old office all.machine found same cards lines) rows)
+    (subst (λ t. Holds db (with_stretches customer number (map stretch_row k.stretches) t)) (rest_stays customer number old office all.machine found same punch lines) rows)
 
 -- ---- a query
 

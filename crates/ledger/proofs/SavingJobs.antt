@@ -6,10 +6,10 @@ use Rattle.std.proofs.lemmas.List.{map-append}
 use Rattle.std.specs.List.{All, AllByRecursion}
 use Rattle.sqlite.specs.Effect.{Database}
 use Rattle.ledger_tables.specs.Cells.{JobCells}
-use Rattle.ledger_tables.specs.Tables.{Holds, job_named, at_job, with_stretches, with_state, with_pages}
+use Rattle.ledger_tables.specs.Tables.{Holds, job_named, at_job, with_stretches, with_state, with_pages, with_profile}
 use Rattle.ledger_tables.specs.Tables as tables
 use Rattle.cards.specs.declared.decks.Card.{Card}
-use Rattle.cards.specs.Decks.{deck_bytes, IsCard, IsDeck}
+use Rattle.cards.specs.Decks.{deck_bytes, IsDeck}
 use Rattle.core_store.specs.Storage.{positions_of}
 use Rattle.core_store.specs.declared.sizes.Size.{Size}
 use Rattle.core_store.proofs.SizeLemmas.{numbered}
@@ -21,10 +21,11 @@ use Rattle.office.specs.New.{deck_refusal, new_job, job_unless_refused, job_of_s
 use Rattle.office.specs.Office.{Entry, Office, is_entry, job_of, and_job}
 use Rattle.office.specs.declared.commands.Contents.{Contents}
 use Rattle.office.specs.declared.refusals.Refusal.{Refusal}
-use Rattle.ledger_rows.specs.Columns.{state_row, line_cells, truth, HoldsCharacters, IsLine}
+use Rattle.ledger_rows.specs.Columns.{state_row, profile_row, line_cells, truth, HoldsCharacters, IsLine}
 use Rattle.ledger_rows.specs.Pages.{rows_of}
+use Rattle.ledger_rows.specs.Pockets.{pocket_rows_of, punched_bytes, IsPunched}
 use Rattle.ledger.specs.Saving.{new_cells}
-use Rattle.ledger.specs.Standing.{named, job_cells, kind_number, stretch_row, stretches_of, state_of, pages_of, cards_of, tables_of, CanBeKept, Rows}
+use Rattle.ledger.specs.Standing.{named, job_cells, kind_number, stretch_row, stretches_of, state_of, pages_of, cards_of, profile_of, pockets_of, tables_of, CanBeKept, Rows}
 use Rattle.ledger.specs.Standing as standing
 use Rattle.units.specs.Switches.{seven}
 use Rattle.ledger_tables.proofs.InsertLast.{name_is, name_yes, all_push}
@@ -76,15 +77,17 @@ told_still tell e office none same =
     told_behind tell e office none ∙ at_job_same e.customer e.number (tell (Some e.job)) (told_of tell office) (ap tell none ∙ sym same)
 
 -- what the tables hold with a job that has made nothing
-tables_behind : (e : Entry) (office : Office) → job_of e.customer e.number office ≡ None → (picture e.job).works.units.punch ≡ [] → lines_of (picture e.job) ≡ []
-    → tables_of (office ++ e ∷ []) ≡ with_state e.customer e.number (state_row (picture e.job)) (with_pages e.customer e.number (rows_of (picture e.job).works.storage) (with_stretches e.customer e.number (map stretch_row e.job.stretches) (tables.with_job e.customer e.number (job_cells e.job) (tables_of office))))
+tables_behind : (e : Entry) (office : Office) → job_of e.customer e.number office ≡ None → (picture e.job).works.units.punch.cards ≡ [] → lines_of (picture e.job) ≡ []
+    → tables_of (office ++ e ∷ []) ≡ with_profile e.customer e.number (profile_row (picture e.job).works.units.punch) (with_state e.customer e.number (state_row (picture e.job)) (with_pages e.customer e.number (rows_of (picture e.job).works.storage) (with_stretches e.customer e.number (map stretch_row e.job.stretches) (tables.with_job e.customer e.number (job_cells e.job) (tables_of office)))))
 tables_behind e office none cards lines =
     same_tables _ _ (map-append named office (e ∷ []))
     (told_behind stretches_of e office none)
     (told_behind state_of e office none)
     (told_behind pages_of e office none)
-    (told_still cards_of e office none (ap (map (λ (card : Card). card.0)) cards))
+    (told_still cards_of e office none (ap (map punched_bytes) cards))
     (told_still standing.lines_of e office none (ap (map line_cells) lines))
+    (told_behind profile_of e office none)
+    (told_still pockets_of e office none (ap pocket_rows_of cards))
 
 -- ---- the job of what is handed in
 
@@ -111,14 +114,14 @@ new_row contents job loaded taken is =
     subst (λ (j : Job). loaded ≡ loaded_deck j → new_cells contents loaded ≡ job_cells j) (sym it.2) (row_of_new contents it.0 loaded it.1) is
 
 -- a job that was handed in has made nothing
-new_has_made : (size : Size) (contents : Contents) → ((picture (new_job size contents)).works.units.punch ≡ []) × (lines_of (picture (new_job size contents)) ≡ [])
+new_has_made : (size : Size) (contents : Contents) → ((picture (new_job size contents)).works.units.punch.cards ≡ []) × (lines_of (picture (new_job size contents)) ≡ [])
 unfolding resumed after
 new_has_made size contents = (refl, refl)
 
-has_made_nothing : (contents : Contents) (job : Job) → job_or_refusal contents ≡ Ok job → ((picture job).works.units.punch ≡ []) × (lines_of (picture job) ≡ [])
+has_made_nothing : (contents : Contents) (job : Job) → job_or_refusal contents ≡ Ok job → ((picture job).works.units.punch.cards ≡ []) × (lines_of (picture job) ≡ [])
 has_made_nothing contents job taken =
     let it = new_of contents job taken in
-    subst (λ (j : Job). ((picture j).works.units.punch ≡ []) × (lines_of (picture j) ≡ [])) (sym it.2) (new_has_made it.0 contents)
+    subst (λ (j : Job). ((picture j).works.units.punch.cards ≡ []) × (lines_of (picture j) ≡ [])) (sym it.2) (new_has_made it.0 contents)
 
 -- .. and has one stretch
 pub one_stretch : (contents : Contents) (job : Job) → job_or_refusal contents ≡ Ok job → job.stretches ≡ [] ++ (record { switches = seven contents.switches; granted = 0 }) ∷ []
@@ -130,7 +133,7 @@ new_can_be_kept contents job k taken is it storage =
     record {
       job = it;
       storage = subst (λ (x : Kept). HoldsCharacters x.machine.works.storage) is storage;
-      cards = subst (All IsCard) (sym none.0) (λ k d less. absurd (omega (arith, less)));
+      cards = subst (All IsPunched) (sym none.0) (λ k d less. absurd (omega (arith, less)));
       lines = subst (All IsLine) (sym none.1) (λ k d less. absurd (omega (arith, less)));
     }
 
@@ -143,7 +146,7 @@ KeepsDeck = (m : State) (count : ℕ) → (after m count).works.units.hopper.dec
 
 pub new_saved : KeepsDeck → NewAreJobs → (db : Database) (office : Office) (customer : List ℕ) (number : ℕ) (contents : Contents) (job : Job) (k : Kept) → AllByRecursion (λ (e : Entry). CanBeKept e.job) office
     → job_of customer number office ≡ None → job_or_refusal contents ≡ Ok job → k ≡ kept_of job → IsDeck contents.deck → IsDeck k.machine.works.units.hopper.deck → HoldsCharacters k.machine.works.storage
-    → Holds db (with_state customer number (state_row k.machine) (with_pages customer number (rows_of k.machine.works.storage) (with_stretches customer number (map stretch_row k.stretches) (tables.with_job customer number (new_cells contents k.machine.works.units.hopper.deck) (tables_of office)))))
+    → Holds db (with_profile customer number (profile_row k.machine.works.units.punch) (with_state customer number (state_row k.machine) (with_pages customer number (rows_of k.machine.works.storage) (with_stretches customer number (map stretch_row k.stretches) (tables.with_job customer number (new_cells contents k.machine.works.units.hopper.deck) (tables_of office))))))
     → Rows db (and_job customer number job office)
 new_saved keeps new_are db office customer number contents job k jobs none taken is deck loaded storage holds =
     let e : Entry = record { customer = customer; number = number; job = job } in
@@ -151,8 +154,8 @@ new_saved keeps new_are db office customer number contents job k jobs none taken
     let loads : k.machine.works.units.hopper.deck ≡ loaded_deck job = ap (λ (x : Kept). x.machine.works.units.hopper.deck) is ∙ picture_deck keeps job in
     let cells : new_cells contents k.machine.works.units.hopper.deck ≡ job_cells job = new_row contents job k.machine.works.units.hopper.deck taken loads in
     let it : IsJob job = new_are contents job taken deck (subst IsDeck loads loaded) in
-    let row = subst (λ (row : JobCells). Holds db (with_state customer number (state_row k.machine) (with_pages customer number (rows_of k.machine.works.storage) (with_stretches customer number (map stretch_row k.stretches) (tables.with_job customer number row (tables_of office)))))) cells holds in
-    let all = subst (λ (x : Kept). Holds db (with_state customer number (state_row x.machine) (with_pages customer number (rows_of x.machine.works.storage) (with_stretches customer number (map stretch_row x.stretches) (tables.with_job customer number (job_cells job) (tables_of office)))))) is row in
+    let row = subst (λ (row : JobCells). Holds db (with_profile customer number (profile_row k.machine.works.units.punch) (with_state customer number (state_row k.machine) (with_pages customer number (rows_of k.machine.works.storage) (with_stretches customer number (map stretch_row k.stretches) (tables.with_job customer number row (tables_of office))))))) cells holds in
+    let all = subst (λ (x : Kept). Holds db (with_profile customer number (profile_row x.machine.works.units.punch) (with_state customer number (state_row x.machine) (with_pages customer number (rows_of x.machine.works.storage) (with_stretches customer number (map stretch_row x.stretches) (tables.with_job customer number (job_cells job) (tables_of office))))))) is row in
     record {
       tables = subst (Holds db) (sym (tables_behind e office none nothing.0 nothing.1)) all;
       jobs = all_push (λ (e : Entry). CanBeKept e.job) office e jobs (new_can_be_kept contents job k taken is it storage);

@@ -5,9 +5,10 @@ use Rattle.std.proofs.lemmas.List.{map-append, take_more, length-map, length-tak
 use Rattle.std.specs.List.{All}
 use Rattle.std.proofs.lemmas.List.Elements.{All-more}
 use Rattle.sqlite.specs.Effect.{Database}
-use Rattle.ledger_tables.specs.Cells.{LineCells, Pages}
+use Rattle.ledger_tables.specs.Cells.{LineCells, Pages, Pockets}
 use Rattle.ledger_tables.specs.Named.{granted_last}
 use Rattle.ledger_tables.specs.Tables.{NamedJob, ByJob, Tables, Holds, at_job, with_cards, with_lines, with_stretches}
+use Rattle.ledger_tables.specs.declared.rows.ProfileRow.{ProfileRow}
 use Rattle.ledger_tables.specs.declared.rows.StateRow.{StateRow}
 use Rattle.ledger_tables.specs.declared.rows.StretchRow.{StretchRow}
 use Rattle.office.specs.Jobs.{Job, granted_more}
@@ -153,11 +154,13 @@ abbrev pub told_of : {X : Type 0} → (Option Job → X) → Office → ByJob X
 told_of tell office c n = tell (job_of c n office)
 
 -- tables are what they hold
-pub same_tables : (t u : Tables) → t.jobs ≡ u.jobs → t.stretches ≡ u.stretches → t.states ≡ u.states → t.pages ≡ u.pages → t.cards ≡ u.cards → t.lines ≡ u.lines → t ≡ u
-same_tables t u jobs stretches states pages cards lines =
+pub same_tables : (t u : Tables) → t.jobs ≡ u.jobs → t.stretches ≡ u.stretches → t.states ≡ u.states → t.pages ≡ u.pages → t.cards ≡ u.cards → t.lines ≡ u.lines → t.profiles ≡ u.profiles → t.pockets ≡ u.pockets → t ≡ u
+same_tables t u jobs stretches states pages cards lines profiles pockets =
     ap (λ (x : List NamedJob). let y : Tables = record t { jobs = x } in y) jobs
     ∙ ap (λ (x : ByJob (List StretchRow)). let y : Tables = record t { jobs = u.jobs; stretches = x } in y) stretches
     ∙ ap (λ (x : ByJob (Option StateRow)). let y : Tables = record t { jobs = u.jobs; stretches = u.stretches; states = x } in y) states
-    ∙ ap (λ (x : ByJob Pages). let y : Tables = record u { pages = x; cards = t.cards; lines = t.lines } in y) pages
-    ∙ ap (λ (x : ByJob (List (List ℕ))). let y : Tables = record u { cards = x; lines = t.lines } in y) cards
-    ∙ ap (λ (x : ByJob (List LineCells)). let y : Tables = record u { lines = x } in y) lines
+    ∙ ap (λ (x : ByJob Pages). let y : Tables = record u { pages = x; cards = t.cards; lines = t.lines; profiles = t.profiles; pockets = t.pockets } in y) pages
+    ∙ ap (λ (x : ByJob (List (List ℕ))). let y : Tables = record u { cards = x; lines = t.lines; profiles = t.profiles; pockets = t.pockets } in y) cards
+    ∙ ap (λ (x : ByJob (List LineCells)). let y : Tables = record u { lines = x; profiles = t.profiles; pockets = t.pockets } in y) lines
+    ∙ ap (λ (x : ByJob (Option ProfileRow)). let y : Tables = record u { profiles = x; pockets = t.pockets } in y) profiles
+    ∙ ap (λ (x : ByJob Pockets). let y : Tables = record u { pockets = x } in y) pockets

@@ -1,12 +1,12 @@
 -- Rows of states, which count all cards and lines that were made.
 use Rattle.std.proofs.Common.{◌≡◌, ℕ, List, length, length-append, refl, ap, arith}
-use Rattle.cards.specs.declared.decks.Card.{Card}
 use Rattle.machine.specs.Earlier.{units_with, units_alone, with_earlier, without_outputs, IsBehind}
 use Rattle.machine.specs.Run.{State}
 use Rattle.ledger_rows.specs.Columns.{state_row}
 use Rattle.ledger_tables.specs.declared.rows.StateRow.{StateRow}
 use Rattle.units.specs.Units.{made_in_all}
 use Rattle.units.specs.declared.printer.Line.{Line}
+use Rattle.units.specs.declared.punch.Punched.{Punched}
 use Rattle.units.specs.declared.units.Counts.{Counts}
 
 -- a row that counts what was made in all is the picture's
@@ -22,12 +22,12 @@ row_alone m =
     counted_so m (made_in_all u).cards (made_in_all u).lines cards lines
 
 -- the row is the same with the earlier cards and lines in front
-pub row_behind : (cards : List Card) (lines : List Line) (m : State) → IsBehind cards lines m → state_row (with_earlier cards lines m) ≡ state_row m
+pub row_behind : (cards : List Punched) (lines : List Line) (m : State) → IsBehind cards lines m → state_row (with_earlier cards lines m) ≡ state_row m
 row_behind cards lines m behind =
     let u = m.works.units in
     let before_cards : u.before.cards ≡ length cards = ap (λ (n : Counts). n.cards) behind in
     let before_lines : u.before.lines ≡ length lines = ap (λ (n : Counts). n.lines) behind in
     let all = made_in_all (units_with cards lines u) in
-    let one : all.cards ≡ (made_in_all u).cards = omega (arith, before_cards, length-append cards u.punch) in
+    let one : all.cards ≡ (made_in_all u).cards = omega (arith, before_cards, length-append cards u.punch.cards) in
     let two : all.lines ≡ (made_in_all u).lines = omega (arith, before_lines, length-append lines u.printer.lines) in
     counted_so m all.cards all.lines one two

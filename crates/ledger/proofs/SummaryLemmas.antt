@@ -10,6 +10,7 @@ use Rattle.office.specs.Limits.{most_granted}
 use Rattle.office.specs.Office.{Office, job_of, with_job, commanded, attempted_of}
 use Rattle.office.specs.declared.commands.JobCommand.{JobCommand}
 use Rattle.office.specs.declared.commands.JobCommand.TheVariants.{Cards, Lines}
+use Rattle.office.specs.declared.stackers.Stacker.{Stacker}
 use Rattle.office.specs.declared.refusals.Refusal.{Refusal}
 use Rattle.office.specs.declared.replies.Reply.{Reply}
 use Rattle.office.specs.declared.replies.Reply.TheVariants as reply
@@ -28,7 +29,7 @@ pub granted_fits : (job : Job) (n : ℕ) → granted job.stretches ≤ most_gran
 granted_fits job n fits is = omega (arith, fits, is)
 
 -- the progress of a job's machine counts what it has itself
-made_itself : (m : State) → m.works.units.before ≡ nothing_made → ((progress_of m).cards ≡ length m.works.units.punch) × ((progress_of m).lines ≡ length (lines_of m))
+made_itself : (m : State) → m.works.units.before ≡ nothing_made → ((progress_of m).cards ≡ length m.works.units.punch.cards) × ((progress_of m).lines ≡ length (lines_of m))
 made_itself m none =
     let cards : m.works.units.before.cards ≡ 0 = ap (λ (n : Counts). n.cards) none in
     let lines : m.works.units.before.lines ≡ 0 = ap (λ (n : Counts). n.lines) none in
@@ -68,9 +69,9 @@ attempts_none c None none = refl
 attempts_none c (Some job) none = none_attempted c (kept_of job) none
 
 -- a query attempts nothing
-pub cards_attempt_none : (job : Option Job) → attempted_of Cards job ≡ 0
-cards_attempt_none None = refl
-cards_attempt_none (Some job) = refl
+pub cards_attempt_none : (from : Stacker) (job : Option Job) → attempted_of (Cards from) job ≡ 0
+cards_attempt_none from None = refl
+cards_attempt_none from (Some job) = refl
 
 pub lines_attempt_none : (job : Option Job) → attempted_of Lines job ≡ 0
 lines_attempt_none None = refl

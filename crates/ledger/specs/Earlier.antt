@@ -21,10 +21,10 @@ kept_alone job = record (kept_of job) { machine = without_outputs (picture job) 
 abbrev pub with_outputs_of : Job → Kept → Kept
 with_outputs_of earlier kept = record kept {
   machine =
-      with_earlier (picture earlier).works.units.punch (lines_of (picture earlier)) kept.machine;
+      with_earlier (picture earlier).works.units.punch.cards (lines_of (picture earlier)) kept.machine;
 }
 
 -- such a job later on: its machine counts the cards and lines that it had made earlier
 abbrev pub HasCounted : Job → Kept → Type 0
 HasCounted earlier kept =
-    IsBehind (picture earlier).works.units.punch (lines_of (picture earlier)) kept.machine
+    IsBehind (picture earlier).works.units.punch.cards (lines_of (picture earlier)) kept.machine

@@ -7,7 +7,9 @@ use Rattle.machine.specs.Earlier.{without_outputs}
 use Rattle.machine.specs.Run.{State, lines_of}
 use Rattle.units.specs.Printed.{Printed}
 use Rattle.units.specs.declared.carriage.Carriage.{Carriage}
+use Rattle.units.specs.Stacked.{Stacked}
 use Rattle.units.specs.declared.printer.Line.{Line}
+use Rattle.units.specs.declared.punch.Punched.{Punched}
 use Rattle.units.specs.declared.switches.Switches.{Switches}
 use Rattle.ledger_rows.specs.declared.parts.Media.{Media}
 use Rattle.office.specs.Jobs.{Job, picture, granted}
@@ -24,11 +26,11 @@ use Rattle.ledger.specs.declared.reading.Handed.{Handed}
 use Rattle.ledger.specs.Earlier.{kept_alone}
 use Rattle.ledger.specs.Standing.{job_cells}
 
--- these are the deck, the switches, the cards and the lines of this machine
+-- these are the deck, the switches, the punch and the lines of this machine
 pub record IsMediaOf (media : Media) (m : State) : Type 0 where
   pub deck : media.deck ≡ m.works.units.hopper.deck
   pub switches : media.switches ≡ m.works.units.switches
-  pub cards : media.cards.items ≡ m.works.units.punch
+  pub punch : media.punch ≡ m.works.units.punch
   pub lines : media.lines.items ≡ m.works.units.printer.lines
 
 -- what was read is this job, its machine without the cards and lines, or nothing if there is no job
@@ -70,9 +72,15 @@ HasStretches here found = (job : Job) → here ≡ Some job → found ≡ job.st
 abbrev pub BeganWith : Option Job → Switches → Type 0
 BeganWith here found = (job : Job) → here ≡ Some job → IsFirst found job.stretches
 
--- if there is the job, these are the cards that it has punched
-abbrev pub HasCards : Option Job → List Card → Type 0
-HasCards here found = (job : Job) → here ≡ Some job → found ≡ (picture job).works.units.punch
+-- if there is the job, these are the cards that it has punched, each with its pocket
+abbrev pub HasCards : Option Job → List Punched → Type 0
+HasCards here found =
+    (job : Job) → here ≡ Some job → found ≡ (picture job).works.units.punch.cards
+
+-- if there is the job, this is its machine's punch without the cards
+abbrev pub HasPunch : Option Job → Stacked → Type 0
+HasPunch here found =
+    (job : Job) → here ≡ Some job → found ≡ (without_outputs (picture job)).works.units.punch
 
 -- if there is the job, these are the lines that it has printed
 abbrev pub HasLines : Option Job → List Line → Type 0

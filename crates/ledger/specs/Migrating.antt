@@ -1,5 +1,5 @@
 -- the contracts of a migration and of its steps
-use Rattle.std.specs.Prelude.{◌≡◌, ◌≢◌, ◌⊎◌, ◌+◌, ◌++◌, ◌∷◌, [], pos, ℕ, List, length, map, take, Some, IsTrue, Result, Ok, Err, IfErr, IfOk, OnOk}
+use Rattle.std.specs.Prelude.{◌≡◌, ◌≢◌, ◌⊎◌, ◌+◌, ◌++◌, ◌∷◌, [], pos, ℕ, List, length, map, take, IsTrue, Result, Ok, Err, IfErr, IfOk, OnOk}
 use Rattle.std.specs.List.{AllByRecursion}
 use Rattle.core_store.specs.Storage.{Storage}
 use Rattle.machine.specs.Ranges.{HasSize}
@@ -15,7 +15,8 @@ use Rattle.ledger_tables.specs.Cells.{QueuedName}
 use Rattle.ledger_tables.specs.Listed.{queued_name}
 use Rattle.ledger_tables.specs.Schema.{own_version}
 use Rattle.ledger_tables.specs.Steps.{Inside}
-use Rattle.ledger_tables.specs.Tables.{ByJob, Tables, Holds, HoldsAs}
+use Rattle.ledger_tables.specs.Raising.{with_plain_profiles}
+use Rattle.ledger_tables.specs.Tables.{ByJob, Tables, Holds, HoldsAs, pictured, paged}
 use Rattle.ledger_tables.specs.Versions.{HasVersions, versions_in, IsBureaus}
 use Rattle.ledger_tables.specs.declared.faults.Fault.{Fault}
 use Rattle.ledger_tables.specs.declared.names.JobName.{JobName}
@@ -52,9 +53,9 @@ module _ {S : Type 0} (g : Ghosts S) where
       → Type 0
   AddsPages old new result name =
       Inside g old new (λ before after. OnOk result ((storages : ByJob (List ℕ)) (version : ℕ)
-      (t : Tables) (s : Storage) → HoldsAs (Some storages) version before.now t → HasSize s
+      (t : Tables) (s : Storage) → HoldsAs (pictured storages) version before.now t → HasSize s
       → HoldsCharacters s → HasWhole name s storages t
-      → HoldsAs (Some storages) version after.now (with_storage name s t)))
+      → HoldsAs (pictured storages) version after.now (with_storage name s t)))
 
   -- on Ok, if the jobs of an office had their whole storages, and so many first ones their pages,
   -- and the row names the next one, that one has its pages too
@@ -65,8 +66,8 @@ module _ {S : Type 0} (g : Ghosts S) where
       → AllByRecursion (λ e. CanBeKept e.job) office
       → take (count + 1) office ≡ take count office ++ next ∷ [] → IsIts office next
       → row ≡ queued_name (named next)
-      → HoldsAs (Some (storages_of office)) 1 before.now (with_first_pages count office)
-      → HoldsAs (Some (storages_of office)) 1 after.now (with_first_pages (count + 1) office)))
+      → HoldsAs (pictured (storages_of office)) 1 before.now (with_first_pages count office)
+      → HoldsAs (pictured (storages_of office)) 1 after.now (with_first_pages (count + 1) office)))
 
   -- on Ok, if the jobs of an office had their whole storages and no pages, and the rows name them,
   -- they now have their pages too
@@ -76,8 +77,8 @@ module _ {S : Type 0} (g : Ghosts S) where
       Inside g old new (λ before after. OnOk result ((office : Office)
       → AllByRecursion (λ e. CanBeKept e.job) office
       → rows ≡ map (λ e. queued_name (named e)) office
-      → HoldsAs (Some (storages_of office)) 1 before.now (with_first_pages 0 office)
-      → HoldsAs (Some (storages_of office)) 1 after.now
+      → HoldsAs (pictured (storages_of office)) 1 before.now (with_first_pages 0 office)
+      → HoldsAs (pictured (storages_of office)) 1 after.now
       (with_first_pages (length office) office)))
 
   -- on Ok, if the jobs of an office had their whole storages and no pages, they now have their
@@ -86,15 +87,25 @@ module _ {S : Type 0} (g : Ghosts S) where
   AddsAllPages old new result =
       Inside g old new (λ before after. OnOk result ((office : Office)
       → AllByRecursion (λ e. CanBeKept e.job) office
-      → HoldsAs (Some (storages_of office)) 1 before.now (with_first_pages 0 office)
-      → HoldsAs (Some (storages_of office)) 1 after.now
+      → HoldsAs (pictured (storages_of office)) 1 before.now (with_first_pages 0 office)
+      → HoldsAs (pictured (storages_of office)) 1 after.now
       (with_first_pages (length office) office)))
 
-  -- on Ok, the tables hold what they held, without the whole storages, in this program's version
+  -- on Ok, the tables of version 3 hold what they held in this program's version, and each job has
+  -- the profile of one from before version 4
+  abbrev pub EndsThird : {X : Type 0} → OpenTables S → OpenTables S → Result X Fault → Type 0
+  EndsThird old new result =
+      Inside g old new (λ before after. OnOk result ((version : ℕ) (t : Tables)
+      → (IsTrue before.is_open → HoldsAs paged version before.now t)
+      → Holds after.now (with_plain_profiles t)))
+
+  -- on Ok, the tables hold what they held, without the whole storages, in this program's version,
+  -- and each job has the profile of one from before version 4
   abbrev pub EndsFirst : {X : Type 0} → OpenTables S → OpenTables S → Result X Fault → Type 0
   EndsFirst old new result =
       Inside g old new (λ before after. OnOk result ((storages : ByJob (List ℕ)) (version : ℕ)
-      (t : Tables) → HoldsAs (Some storages) version before.now t → Holds after.now t))
+      (t : Tables) → HoldsAs (pictured storages) version before.now t
+      → Holds after.now (with_plain_profiles t)))
 
   -- on Ok, if the tables represented an office by this rule, they now represent it in this
   -- program's version

@@ -12,11 +12,23 @@ use Rattle.sqlite.specs.State as store
 use Rattle.sqlite.specs.Tree.{Trees}
 use Rattle.ledger_tables.specs.Cells.{Pages, no_pages}
 use Rattle.ledger_tables.specs.Named.{of_job, HasState}
-use Rattle.ledger_tables.specs.Schema.{bureau_schema, first_schema, own_version}
+use Rattle.ledger_tables.specs.Schema.{bureau_schema, first_schema, paged_schema, own_version}
 use Rattle.ledger_tables.specs.Tables.{ByJob, Tables, HoldsAs, HoldsFirst}
+use Rattle.ledger_tables.specs.Tables.{paged}
+use Rattle.units.specs.declared.profiles.Profile.TheVariants.{Plain}
 use Rattle.ledger_tables.specs.declared.names.JobName.{JobName}
 use Rattle.ledger.specs.Saving.{HasNoPages}
 use Rattle.ledger.specs.Standing.{CanBeKept, Rows, tables_of, pages_of}
+
+-- the job's machine has no stacker selection, as before version 4
+abbrev pub IsPlainJob : Job → Type 0
+IsPlainJob job = job.profile ≡ Plain
+
+-- the jobs of an office from before version 4: each can be kept, and its machine has no stacker
+-- selection
+pub record AreEarlierJobs (office : Office) : Type 0 where
+  pub kept : AllByRecursion (λ e. CanBeKept e.job) office
+  pub plain : AllByRecursion (λ e. IsPlainJob e.job) office
 
 -- ---- version 1: a job's row in `pictures` has its whole storage
 
@@ -32,7 +44,7 @@ storages_of office customer number = storage_of (job_of customer number office)
 -- the rows of the tables of version 1 are those of the office, and no others
 pub record FirstRows (db : Database) (office : Office) : Type 0 where
   pub tables : HoldsFirst db (tables_of office) (storages_of office)
-  pub jobs : AllByRecursion (λ e. CanBeKept e.job) office
+  pub jobs : AreEarlierJobs office
 
 -- ---- version 2: each page of a job's storage has a row
 
@@ -49,8 +61,15 @@ second_tables_of office = record (tables_of office) {
 
 -- the rows of the tables of version 2 are those of the office, and no others
 pub record SecondRows (db : Database) (office : Office) : Type 0 where
-  pub tables : HoldsAs None 2 db (second_tables_of office)
-  pub jobs : AllByRecursion (λ e. CanBeKept e.job) office
+  pub tables : HoldsAs paged 2 db (second_tables_of office)
+  pub jobs : AreEarlierJobs office
+
+-- ---- version 3: a blank page has no row
+
+-- the rows of the tables of version 3 are those of the office, and no others
+pub record ThirdRows (db : Database) (office : Office) : Type 0 where
+  pub tables : HoldsAs paged 3 db (tables_of office)
+  pub jobs : AreEarlierJobs office
 
 -- ---- any version
 
@@ -58,11 +77,14 @@ pub record SecondRows (db : Database) (office : Office) : Type 0 where
 abbrev pub RowsOf : ℕ → Database → Office → Type 0
 RowsOf version db office = ((version ≡ 1) × FirstRows db office)
     ⊎ (((version ≡ 2) × SecondRows db office)
-    ⊎ ((version ≡ own_version) × Rows db office))
+    ⊎ (((version ≡ 3) × ThirdRows db office)
+    ⊎ ((version ≡ own_version) × Rows db office)))
 
 -- the schema of this version
 abbrev pub schema_of : ℕ → Schema
-schema_of version = if version == 1 then first_schema else bureau_schema
+schema_of version =
+    if version == 1 then first_schema else if version == own_version then bureau_schema else
+    paged_schema
 
 -- a bureau's tables of this version with these trees, as a crash may leave them, represent this
 -- office

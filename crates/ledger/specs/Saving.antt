@@ -11,26 +11,46 @@ use Rattle.office.specs.declared.commands.Contents.{Contents}
 use Rattle.office.specs.declared.commands.JobCommand.{JobCommand}
 use Rattle.office.specs.declared.stretches.Stretch.{Stretch}
 use Rattle.core_store.specs.Storage.{Storage}
-use Rattle.ledger_rows.specs.Columns.{line_cells, state_row, truth}
+use Rattle.ledger_rows.specs.Columns.{line_cells, profile_row, state_row, truth}
 use Rattle.ledger_rows.specs.Pages.{rows_of}
+use Rattle.ledger_rows.specs.Pockets.{pocket_cell, pocket_rows_of, punched_bytes}
 use Rattle.ledger_tables.specs.Cells.{JobCells, no_pages}
-use Rattle.ledger_tables.specs.Named.{of_job, with_state_of, with_new_job, HasNoState, HasState}
-use Rattle.ledger_tables.specs.Tables.{Tables, with_stretches, with_pages, with_cards, with_lines}
+use Rattle.ledger_tables.specs.Named.{of_job, with_chosen_of, with_new_job, with_profile_of, with_state_of, HasNoProfile, HasNoState, HasState}
+use Rattle.ledger_tables.specs.Tables.{Tables, with_stretches, with_pages, with_cards, with_lines, with_pocket, with_pockets}
 use Rattle.ledger_tables.specs.declared.names.JobName.{JobName}
+use Rattle.units.specs.Pockets.{pocket_number}
 use Rattle.units.specs.declared.printer.Line.{Line}
+use Rattle.units.specs.declared.pockets.Pocket.{Pocket}
+use Rattle.units.specs.declared.punch.Punched.{Punched}
 use Rattle.units.specs.declared.units.Units.{Units}
 use Rattle.ledger.specs.Earlier.{kept_alone, with_outputs_of, HasCounted}
 use Rattle.ledger.specs.Standing.{kind_number, stretch_row}
 
 -- the job's card rows are those of these cards, as many as were made before
-pub record HasCardRows (name : JobName) (before : ℕ) (earlier : List Card) (t : Tables)
+pub record HasCardRows (name : JobName) (before : ℕ) (earlier : List Punched) (t : Tables)
     : Type 0 where
-  pub are : of_job name t.cards ≡ map (λ card. card.0) earlier
+  pub are : of_job name t.cards ≡ map punched_bytes earlier
   pub count : before ≡ length earlier
 
 -- the tables with these cards as the job's card rows
-abbrev pub with_all_cards : JobName → List Card → Tables → Tables
-with_all_cards name cards = with_cards name.customer.now name.number (map (λ card. card.0) cards)
+abbrev pub with_all_cards : JobName → List Punched → Tables → Tables
+with_all_cards name cards = with_cards name.customer.now name.number (map punched_bytes cards)
+
+-- the job's pocket rows are those of these cards, as many as were made before
+pub record HasPocketRows (name : JobName) (before : ℕ) (earlier : List Punched) (t : Tables)
+    : Type 0 where
+  pub are : of_job name t.pockets ≡ pocket_rows_of earlier
+  pub count : before ≡ length earlier
+
+-- the tables with the row, or none, of the pocket of the job's card at a place
+abbrev pub with_card_pocket : JobName → ℕ → Pocket → Tables → Tables
+with_card_pocket name place pocket =
+    with_pocket name.customer.now name.number place (pocket_cell pocket)
+
+-- the tables with the pocket rows of these cards as the job's
+abbrev pub with_all_pockets : JobName → List Punched → Tables → Tables
+with_all_pockets name cards =
+    with_pockets name.customer.now name.number (pocket_rows_of cards)
 
 -- the job's line rows are those of these lines, as many as were made before
 pub record HasLineRows (name : JobName) (before : ℕ) (earlier : List Line) (t : Tables)
@@ -43,15 +63,17 @@ abbrev pub with_all_lines : JobName → List Line → Tables → Tables
 with_all_lines name lines = with_lines name.customer.now name.number (map line_cells lines)
 
 -- the job's rows are those of these cards and lines, as many as were made before those of the units
-pub record HasEarlier (name : JobName) (punched : List Card) (printed : List Line) (units : Units)
-    (t : Tables) : Type 0 where
+pub record HasEarlier (name : JobName) (punched : List Punched) (printed : List Line)
+    (units : Units) (t : Tables) : Type 0 where
   pub cards : HasCardRows name units.before.cards punched t
+  pub pockets : HasPocketRows name units.before.cards punched t
   pub lines : HasLineRows name units.before.lines printed t
 
 -- the tables with these cards and lines, and then those of the units, as the job's rows
-abbrev pub with_made : JobName → List Card → List Line → Units → Tables → Tables
+abbrev pub with_made : JobName → List Punched → List Line → Units → Tables → Tables
 with_made name cards lines units t = with_all_lines name (lines ++ units.printer.lines)
-    (with_all_cards name (cards ++ units.punch) t)
+    (with_all_pockets name (cards ++ units.punch.cards)
+    (with_all_cards name (cards ++ units.punch.cards) t))
 
 -- the tables with these stretches as the job's stretch rows
 abbrev pub with_all_stretches : JobName → List Stretch → Tables → Tables
@@ -96,20 +118,29 @@ HasOneLess name stretches t =
     (before : List Stretch) × (last : Stretch) × (stretches ≡ before ++ last ∷ [])
     × (of_job name t.stretches ≡ map stretch_row before)
 
+-- the tables with the pocket that this machine has chosen for its next card as the job's
+abbrev pub with_choice : JobName → State → Tables → Tables
+with_choice name m = with_chosen_of name (pocket_number m.works.units.punch.chosen)
+
 -- the tables with this job's machine and stretches, as a slice leaves them
 abbrev pub with_progress : JobName → Kept → Tables → Tables
-with_progress name kept t =
-    with_all_stretches name kept.stretches (with_machine name kept.machine t)
+with_progress name kept t = with_all_stretches name kept.stretches
+    (with_choice name kept.machine (with_machine name kept.machine t))
+
+-- the tables with this machine's profile as the job's
+abbrev pub with_selection : JobName → State → Tables → Tables
+with_selection name m = with_profile_of name (profile_row m.works.units.punch)
 
 -- the tables with the stretches and the machine of a new job
 abbrev pub with_begun : JobName → Kept → Tables → Tables
-with_begun name kept t =
-    with_machine name kept.machine (with_all_stretches name kept.stretches t)
+with_begun name kept t = with_selection name kept.machine
+    (with_machine name kept.machine (with_all_stretches name kept.stretches t))
 
--- the job has no state and no page rows
+-- the job has no state, no page rows and no profile row
 pub record HasNoMachine (name : JobName) (t : Tables) : Type 0 where
   pub state : HasNoState name t
   pub pages : HasNoPages name t
+  pub profile : HasNoProfile name t
 
 -- the job's stretch rows are these stretches without the last, and it has no machine
 pub record HasNotStarted (name : JobName) (kept : Kept) (t : Tables) : Type 0 where

@@ -1,7 +1,7 @@
 -- the tables represent an office
 use Rattle.std.specs.Prelude.{◌≡◌, ℕ, false, List, [], map, All, Option, Some, None, IsTrue}
 use Rattle.std.specs.List.{AllByRecursion}
-use Rattle.cards.specs.Decks.{deck_bytes, IsCard}
+use Rattle.cards.specs.Decks.{deck_bytes}
 use Rattle.core_store.specs.Storage.{positions_of}
 use Rattle.machine.specs.Run.{lines_of as printed_by}
 use Rattle.office.specs.Jobs.{Job, loaded_deck, picture, IsJob}
@@ -10,14 +10,16 @@ use Rattle.office.specs.declared.commands.Kind.{Kind}
 use Rattle.office.specs.declared.commands.Kind.TheVariants.{Object, Autocoder}
 use Rattle.office.specs.declared.replies.Reply.{Reply}
 use Rattle.office.specs.declared.stretches.Stretch.{Stretch}
-use Rattle.ledger_rows.specs.Columns.{truth, state_row, line_cells, HoldsCharacters, IsLine}
+use Rattle.ledger_rows.specs.Columns.{truth, state_row, profile_row, line_cells, HoldsCharacters, IsLine}
 use Rattle.ledger_rows.specs.Pages.{rows_of}
+use Rattle.ledger_rows.specs.Pockets.{pocket_rows_of, punched_bytes, IsPunched}
 use Rattle.sqlite.specs.Effect.{Database}
 use Rattle.sqlite.specs.Tree.{Trees}
 use Rattle.sqlite.specs.State as store
-use Rattle.ledger_tables.specs.Cells.{JobCells, LineCells, Pages, no_pages}
+use Rattle.ledger_tables.specs.Cells.{JobCells, LineCells, Pages, Pockets, no_pages, no_pockets}
 use Rattle.ledger_tables.specs.Schema.{bureau_schema}
 use Rattle.ledger_tables.specs.Tables.{NamedJob, Tables, Holds}
+use Rattle.ledger_tables.specs.declared.rows.ProfileRow.{ProfileRow}
 use Rattle.ledger_tables.specs.declared.rows.StateRow.{StateRow}
 use Rattle.ledger_tables.specs.declared.rows.StretchRow.{StretchRow}
 
@@ -63,7 +65,17 @@ pages_of (Some job) = rows_of (picture job).works.storage
 -- the card rows of a job, each the card's bytes, none if there is no job
 abbrev pub cards_of : Option Job → List (List ℕ)
 cards_of None = []
-cards_of (Some job) = map (λ card. card.0) (picture job).works.units.punch
+cards_of (Some job) = map punched_bytes (picture job).works.units.punch.cards
+
+-- the profile row of a job's machine, none if there is no job
+abbrev pub profile_of : Option Job → Option ProfileRow
+profile_of None = None
+profile_of (Some job) = Some (profile_row (picture job).works.units.punch)
+
+-- the rows of the pockets of a job's cards, none if there is no job
+abbrev pub pockets_of : Option Job → Pockets
+pockets_of None = no_pockets
+pockets_of (Some job) = pocket_rows_of (picture job).works.units.punch.cards
 
 -- the line rows of a job, none if there is no job
 abbrev pub lines_of : Option Job → List LineCells
@@ -79,6 +91,8 @@ tables_of office = record {
   pages = λ customer number. pages_of (job_of customer number office);
   cards = λ customer number. cards_of (job_of customer number office);
   lines = λ customer number. lines_of (job_of customer number office);
+  profiles = λ customer number. profile_of (job_of customer number office);
+  pockets = λ customer number. pockets_of (job_of customer number office);
 }
 
 -- a job that the tables can hold: what is in its machine's storage, on its cards and in its lines
@@ -86,7 +100,7 @@ tables_of office = record {
 pub record CanBeKept (it : Job) : Type 0 where
   pub job : IsJob it
   pub storage : HoldsCharacters (picture it).works.storage
-  pub cards : All IsCard (picture it).works.units.punch
+  pub cards : All IsPunched (picture it).works.units.punch.cards
   pub lines : All IsLine (printed_by (picture it))
 
 -- the rows of the tables are those of the office, and no others

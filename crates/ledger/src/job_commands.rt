@@ -126,7 +126,7 @@ pub fn command_job<S: Alter>(
         JobCommand::Release => release(tables, name),
         JobCommand::Collect => collect(tables, name),
         JobCommand::Standing => tell_standing(tables, name),
-        JobCommand::Cards => tell_cards(tables, name),
+        JobCommand::Cards { from } => tell_cards(tables, name, from),
         JobCommand::Lines => tell_lines(tables, name),
         JobCommand::Slice { .. } | JobCommand::Start { .. } => {
             drive_machine(tables, name, command, meter)

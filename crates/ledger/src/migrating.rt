@@ -5,8 +5,8 @@ ghost use Rattle.sqlite.specs.Held.{state};
 ghost use Rattle.sqlite.specs.View.{doubt};
 ghost use Rattle.ledger_tables.specs.Steps.{IsStep};
 ghost use Rattle.ledger_tables.specs.Versions.{IsKnown, IsNotOld};
-ghost use Rattle.ledger.specs.Migrating.{AddsPages, AddsNext, AddsPagesOf, AddsAllPages, EndsFirst, RaisesFrom, FindsVersion, RaisesFound, KnowsFault, IsRaised, IsKeptOf, LeavesEitherVersion, LeavesUntouched, IsNoFaultOfVersion, HasVersion};
-ghost use Rattle.ledger.specs.Older.{FirstRows, RowsOf, SecondRows};
+ghost use Rattle.ledger.specs.Migrating.{AddsPages, AddsNext, AddsPagesOf, AddsAllPages, EndsFirst, EndsThird, RaisesFrom, FindsVersion, RaisesFound, KnowsFault, IsRaised, IsKeptOf, LeavesEitherVersion, LeavesUntouched, IsNoFaultOfVersion, HasVersion};
+ghost use Rattle.ledger.specs.Older.{FirstRows, RowsOf, SecondRows, ThirdRows};
 
 use crate::page_saving::insert_pages;
 use crate::reading::told;
@@ -66,13 +66,22 @@ fn raise_storages<S: Alter>(tables: &mut OpenTables<'_, '_, S>) -> Result<(), Fa
     raise_rows(tables, rows.as_slice())
 }
 
+/// Ends a migration from version 3, or from an earlier one whose tables are then those of version 3.
+fn end_third<S: Alter>(tables: &mut OpenTables<'_, '_, S>) -> Result<(), Fault>
+    ensures step { IsStep S.Store tables.old tables.new result }
+    ensures ended { EndsThird S.Store tables.old tables.new result }
+{
+    tables.add_profiles()?;
+    tables.set_version()
+}
+
 /// Ends a migration from version 1, after all pages were made.
 fn end_first<S: Alter>(tables: &mut OpenTables<'_, '_, S>) -> Result<(), Fault>
     ensures step { IsStep S.Store tables.old tables.new result }
     ensures ended { EndsFirst S.Store tables.old tables.new result }
 {
     tables.drop_pictures()?;
-    tables.set_version()
+    end_third(tables)
 }
 
 /// Raises the tables from version 1.
@@ -91,7 +100,15 @@ fn raise_second<S: Alter>(tables: &mut OpenTables<'_, '_, S>) -> Result<(), Faul
     ensures raised { RaisesFrom S.Store SecondRows tables.old tables.new result }
 {
     tables.clear_blank_pages()?;
-    tables.set_version()
+    end_third(tables)
+}
+
+/// Raises the tables from version 3.
+fn raise_third<S: Alter>(tables: &mut OpenTables<'_, '_, S>) -> Result<(), Fault>
+    ensures step { IsStep S.Store tables.old tables.new result }
+    ensures raised { RaisesFrom S.Store ThirdRows tables.old tables.new result }
+{
+    end_third(tables)
 }
 
 /// Raises the tables from an earlier version.
@@ -102,6 +119,7 @@ fn raise<S: Alter>(tables: &mut OpenTables<'_, '_, S>, version: u32) -> Result<(
     match version {
         1 => raise_first(tables),
         2 => raise_second(tables),
+        3 => raise_third(tables),
         _ => Err(Fault::Store),
     }
 }

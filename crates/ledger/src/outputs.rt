@@ -1,12 +1,13 @@
 //! What a job has made, read from its rows without its machine.
 
 ghost use Rattle.std.specs.Prelude.{◌≡◌, ◌≢◌, List, All, map, length, IfOk, IsErrOf};
-ghost use Rattle.cards.specs.Decks.{IsCard};
-ghost use Rattle.cards.specs.declared.decks.Card.{Card};
 ghost use Rattle.office.specs.declared.commands.JobCommand.{JobCommand};
 ghost use Rattle.units.specs.Ranges.{HasPrinted};
 ghost use Rattle.units.specs.declared.printer.Line.{Line};
+ghost use Rattle.units.specs.declared.punch.Punched.{Punched};
 ghost use Rattle.ledger_rows.specs.Columns.{line_cells, IsLine};
+ghost use Rattle.ledger_rows.specs.Pockets.{pocket_rows_of, punched_bytes, IsPunched};
+ghost use Rattle.ledger_tables.specs.Named.{ArePockets};
 ghost use Rattle.ledger_tables.specs.Steps.{IsOpenStep};
 ghost use Rattle.ledger.specs.Found.{HasCards, HasCarriageAt, HasLines, printed_with};
 ghost use Rattle.ledger.specs.Saving.{job_in};
@@ -15,41 +16,49 @@ ghost use Rattle.ledger.specs.Steps.{FindsIn, Serves};
 
 use crate::reading::told;
 use crate::summaries::find_progress;
-use cards::Card;
-use ledger_rows::{read_carriage, read_rows};
-use ledger_tables::{CardRow, Fault, JobName, LineRow, OpenTables};
-use office::{JobCommand, Listing, PunchedCards, Refusal, Reply, commands_keep_jobs};
+use ledger_rows::{read_carriage, read_punched, read_rows};
+use ledger_tables::{CardRow, Fault, JobName, LineRow, OpenTables, PocketRow};
+use office::{JobCommand, Listing, Refusal, Reply, Stacker, cards_from, commands_keep_jobs};
 use sqlite::Alter;
 use std::alloc::Global;
-use units::{Carriage, Line, Printer};
+use units::{Carriage, Line, Printer, Punched};
 
-/// The cards of these rows, if there are so many.
-fn read_cards(alloc: Global, rows: &[CardRow], count: u32) -> Result<Vec<Card>, Fault>
-    ensures cards { IfOk result (λ found. (cards : List Card) → All IsCard cards
-        → rows.now ≡ map (λ card. card.0) cards → found.items ≡ cards) }
+/// The cards of these rows in their pockets, if there are so many.
+fn read_cards(
+    alloc: Global,
+    rows: &[CardRow],
+    pockets: &[PocketRow],
+    count: u32,
+) -> Result<Vec<Punched>, Fault>
+    ensures cards { IfOk result (λ found. (cards : List Punched) → All IsPunched cards
+        → rows.now ≡ map punched_bytes cards → ArePockets pockets.now (pocket_rows_of cards)
+        → found.items ≡ cards) }
     ensures counted { IfOk result (λ found. length found.items ≡ count) }
-    ensures store { IsErrOf result Fault.Store → (cards : List Card) → All IsCard cards
-        → rows.now ≡ map (λ card. card.0) cards → length cards ≢ count }
+    ensures store { IsErrOf result Fault.Store → (cards : List Punched) → All IsPunched cards
+        → rows.now ≡ map punched_bytes cards → ArePockets pockets.now (pocket_rows_of cards)
+        → length cards ≢ count }
 {
-    let cards: Vec<Card> = told(read_rows(alloc, rows))?;
+    let cards = told(read_punched(alloc, rows, pockets))?;
     if cards.len() != count as usize {
         return Err(Fault::Store);
     }
     Ok(cards)
 }
 
-/// Finds the cards that the job of this name has punched, as many as its state counts.
+/// Finds the cards that the job of this name has punched, as many as its state counts, each with
+/// its pocket.
 fn find_cards<S: Alter>(
     tables: &mut OpenTables<'_, '_, S>,
     name: JobName<'_>,
-) -> Result<Vec<Card>, Fault>
+) -> Result<Vec<Punched>, Fault>
     ensures step { IsOpenStep S.Store tables.old tables.new result }
     ensures found { FindsIn S.Store tables.old tables.new result
         (λ office found. HasCards (job_in name.entry office) found.items) }
 {
     let progress = find_progress(tables, name)?;
     let rows = tables.find_cards(name)?;
-    read_cards(tables.alloc, rows.as_slice(), progress.cards)
+    let pockets = tables.find_pockets(name)?;
+    read_cards(tables.alloc, rows.as_slice(), pockets.as_slice(), progress.cards)
 }
 
 /// Finds the carriage of the machine of the job of this name.
@@ -114,20 +123,22 @@ fn find_lines<S: Alter>(
     read_lines(tables.alloc, rows.as_slice(), progress.lines, carriage)
 }
 
-/// Replies the cards of the job of this name.
+/// Replies the cards of the job of this name that are asked for.
 pub fn tell_cards<S: Alter>(
     tables: &mut OpenTables<'_, '_, S>,
     name: JobName<'_>,
+    from: Stacker,
 ) -> Result<Reply, Fault>
     ensures step { IsOpenStep S.Store tables.old tables.new result }
     ensures done { Serves S.Store tables.old tables.new result
-        (with_commanded name.entry JobCommand.Cards) }
+        (with_commanded name.entry (JobCommand.Cards from)) }
 {
     let Some(_row) = tables.find_loaded(name)? else {
         return Ok(Reply::Refused(Refusal::NoJob));
     };
-    let cards = find_cards(tables, name)?;
-    Ok(Reply::Cards(PunchedCards(cards)))
+    let punched = find_cards(tables, name)?;
+    let cards = cards_from(tables.alloc, from, &punched)?;
+    Ok(Reply::Cards(cards))
 }
 
 /// Replies the lines of the job of this name.

@@ -13,19 +13,19 @@ ghost use Rattle.ledger_rows.specs.Columns.{HoldsCharacters};
 ghost use Rattle.ledger_rows.specs.Pictures.{IsPictured};
 ghost use Rattle.ledger_tables.specs.Named.{of_job};
 ghost use Rattle.ledger_tables.specs.Steps.{Finds, IsOpenStep};
-ghost use Rattle.ledger.specs.Found.{IsMediaOf, IsFoundAs, IsHandedAs, CanBeOfJob, HasStretches, HasMachine, HasMachineWith, HasKept, BeganWith};
+ghost use Rattle.ledger.specs.Found.{IsMediaOf, IsFoundAs, IsHandedAs, CanBeOfJob, HasStretches, HasMachine, HasMachineWith, HasKept, HasPunch, BeganWith};
 ghost use Rattle.ledger.specs.Saving.{job_in};
 ghost use Rattle.ledger.specs.Standing.{job_cells, stretch_row, CanBeKept};
 ghost use Rattle.ledger.specs.Steps.{FindsIn};
 
 use core_store::{Core, Size};
-use ledger_rows::{Media, read_deck, read_picture, read_switches, read_truth};
+use ledger_rows::{Media, read_deck, read_picture, read_punch, read_switches, read_truth};
 use ledger_tables::{Fault, JobName, JobRow, LoadedRow, OpenTables, PageRow, StateRow, StretchRow};
 use machine::{Parts, outputs_are_put_back, runs_only_add};
 use office::{Job, JobParts, Stretch, commands_keep_jobs};
 use sqlite::Alter;
 use std::alloc::{AllocError, Global};
-use units::Switches;
+use units::{Punch, Switches};
 
 /// What was read, if it is there: fault 2 if the rows do not hold it, and fault 1 if there was no
 /// memory.
@@ -89,10 +89,34 @@ pub fn find_stretches<S: Alter>(
     told(read_stretches(tables.alloc, rows.as_slice()))
 }
 
-/// The deck and the switches of a machine, without its cards and lines.
-fn read_media(alloc: Global, loaded: &[u8], switches: Switches) -> Result<Media, Fault>
+/// Finds the punch of a job's machine, without its cards.
+fn find_punch<S: Alter>(
+    tables: &mut OpenTables<'_, '_, S>,
+    name: JobName<'_>,
+) -> Result<Punch, Fault>
+    ensures step { IsOpenStep S.Store tables.old tables.new result }
+    ensures found { FindsIn S.Store tables.old tables.new result
+        (λ office found. HasPunch (job_in name.entry office) found) }
+{
+    let Some(row) = tables.find_profile(name)? else {
+        return Err(Fault::Store);
+    };
+    match read_punch(tables.alloc, row) {
+        Some(punch) => Ok(punch),
+        None => Err(Fault::Store),
+    }
+}
+
+/// The deck and the switches of a machine, and its punch, without its cards and lines.
+fn read_media(
+    alloc: Global,
+    loaded: &[u8],
+    switches: Switches,
+    punch: Punch,
+) -> Result<Media, Fault>
     ensures read { IfOk result (λ media. (m : State) → IsDeck m.works.units.hopper.deck
         → loaded.now ≡ deck_bytes m.works.units.hopper.deck → switches ≡ m.works.units.switches
+        → punch ≡ (without_outputs m).works.units.punch
         → IsMediaOf media (without_outputs m)) }
     ensures store { IsErrOf result Fault.Store → (m : State) → IsDeck m.works.units.hopper.deck
         → loaded.now ≢ deck_bytes m.works.units.hopper.deck }
@@ -101,7 +125,7 @@ fn read_media(alloc: Global, loaded: &[u8], switches: Switches) -> Result<Media,
     Ok(Media {
         deck,
         switches,
-        cards: Vec::new(alloc),
+        punch,
         lines: Vec::new(alloc),
     })
 }
@@ -158,7 +182,8 @@ fn find_running<S: Alter, C: Core>(
 {
     // A law, for the proof: it does nothing.
     runs_only_add();
-    let media = read_media(tables.alloc, &row.loaded, switches)?;
+    let punch = find_punch(tables, name)?;
+    let media = read_media(tables.alloc, &row.loaded, switches, punch)?;
     find_machine(tables, name, row.size, media)
 }
 

@@ -1,53 +1,112 @@
 //! Writing a job to the tables.
 
 ghost use Rattle.std.specs.Prelude.{◌≡◌, ◌≤◌, ◌+◌, ◌++◌, ℕ, true, Some, All, List, length, IfOk, OnOk};
-ghost use Rattle.cards.specs.declared.decks.Card.{Card};
-ghost use Rattle.cards.specs.Decks.{IsCard, IsDeck};
+ghost use Rattle.cards.specs.Decks.{IsDeck};
 ghost use Rattle.machine.specs.Ranges.{IsInRange};
 ghost use Rattle.office.specs.Jobs.{Job as KnownJob};
 ghost use Rattle.office.specs.declared.commands.JobCommand.{JobCommand};
 ghost use Rattle.units.specs.declared.printer.Line.{Line};
+ghost use Rattle.units.specs.declared.punch.Punched.{Punched};
 ghost use Rattle.units.specs.declared.switches.Switches.{Switches};
 ghost use Rattle.units.specs.Units.{made_in_all};
 ghost use Rattle.core_store.specs.Pages.{cells_of};
 ghost use Rattle.ledger_rows.specs.Columns.{HoldsCharacters, IsLine};
-ghost use Rattle.ledger_tables.specs.Named.{HasNoJob, HasState};
+ghost use Rattle.ledger_rows.specs.Pockets.{IsPunched};
+ghost use Rattle.ledger_tables.specs.Named.{HasNoJob, HasNoPocket, HasNoProfile, HasNoState, HasState};
 ghost use Rattle.ledger_tables.specs.Steps.{Changes, IsStep};
 ghost use Rattle.ledger.specs.Earlier.{drives_machine};
-ghost use Rattle.ledger.specs.Saving.{job_in, HasCardRows, with_all_cards, HasLineRows, with_all_lines, HasEarlier, with_made, HasFewerGranted, HasOneLess, with_all_stretches, with_running, with_machine, with_progress, with_begun, HasRows, HasNoMachine, HasNotStarted, new_cells, with_handed, IsAfter, IsAfterStorage, with_after, with_flagged, IsFreeName, IsTakenAs, with_new};
+ghost use Rattle.ledger.specs.Saving.{job_in, HasCardRows, with_all_cards, HasPocketRows, with_card_pocket, with_all_pockets, with_choice, HasLineRows, with_all_lines, HasEarlier, with_made, HasFewerGranted, HasOneLess, with_all_stretches, with_running, with_machine, with_selection, with_progress, with_begun, HasRows, HasNoMachine, HasNotStarted, new_cells, with_handed, IsAfter, IsAfterStorage, with_after, with_flagged, IsFreeName, IsTakenAs, with_new};
 ghost use Rattle.ledger.specs.Standing.{kind_number};
 ghost use Rattle.ledger.specs.Steps.{Saves};
 
 use crate::page_saving::{insert_pages, save_pages, storage_holds_characters};
-use cards::{Card, Deck};
+use cards::Deck;
 use core_store::PlaneCore;
-use ledger_rows::{card_bytes, deck_bytes, line_row, state_row, switches_number, truth};
+use ledger_rows::{
+    card_bytes, deck_bytes, line_row, pocket_cell, profile_row, state_row, switches_number, truth,
+};
 use ledger_tables::{Fault, JobName, JobRow, OpenTables, StretchRow};
 use machine::{Parts, runs_only_add};
 use office::{Contents, Job, JobCommand, Kind, Stretch, commands_keep_jobs};
 use sqlite::Alter;
 use std::alloc::{AllocError, Global};
-use units::{Line, Units};
+use units::{Line, Pocket, Punched, Units};
 
 /// Inserts cards after the `before` cards that the tables have already. A job makes at most 20,000.
 fn insert_cards<S: Alter>(
     tables: &mut OpenTables<'_, '_, S>,
     name: JobName<'_>,
     before: u32,
-    cards: &[Card],
+    cards: &[Punched],
 ) -> Result<(), Fault>
     requires { before + length cards.now ≤ 20000 }
     ensures step { IsStep S.Store tables.old tables.new result }
-    ensures added { (earlier : List Card) → Changes S.Store tables.old tables.new result
+    ensures added { (earlier : List Punched) → Changes S.Store tables.old tables.new result
         (HasCardRows name.entry before earlier)
         (with_all_cards name.entry (earlier ++ cards.now)) }
-    ensures characters { OnOk result (All IsCard cards.now) }
+    ensures characters { OnOk result (All IsPunched cards.now) }
 {
     for place in 0..cards.len() {
-        let bytes = card_bytes(&cards[place]);
+        let bytes = card_bytes(&cards[place].card);
         tables.insert_card(name, before + place as u32 + 1, &bytes)?;
     }
     Ok(())
+}
+
+/// Inserts the pocket of the card at a place, unless that is the normal one.
+fn insert_pocket<S: Alter>(
+    tables: &mut OpenTables<'_, '_, S>,
+    name: JobName<'_>,
+    place: u32,
+    pocket: Pocket,
+) -> Result<(), Fault>
+    ensures step { IsStep S.Store tables.old tables.new result }
+    ensures added { Changes S.Store tables.old tables.new result
+        (HasNoPocket name.entry place) (with_card_pocket name.entry place pocket) }
+{
+    match pocket_cell(pocket) {
+        Some(number) => tables.insert_pocket(name, place, number),
+        None => Ok(()),
+    }
+}
+
+/// Inserts the pockets of cards that come after the `before` cards of the tables. A job makes at
+/// most 20,000.
+fn insert_pockets<S: Alter>(
+    tables: &mut OpenTables<'_, '_, S>,
+    name: JobName<'_>,
+    before: u32,
+    cards: &[Punched],
+) -> Result<(), Fault>
+    requires { before + length cards.now ≤ 20000 }
+    ensures step { IsStep S.Store tables.old tables.new result }
+    ensures added { (earlier : List Punched) → Changes S.Store tables.old tables.new result
+        (HasPocketRows name.entry before earlier)
+        (with_all_pockets name.entry (earlier ++ cards.now)) }
+{
+    for place in 0..cards.len() {
+        insert_pocket(tables, name, before + place as u32 + 1, cards[place].pocket)?;
+    }
+    Ok(())
+}
+
+/// Inserts cards, each with its pocket, after the `before` cards that the tables have already.
+fn insert_punched<S: Alter>(
+    tables: &mut OpenTables<'_, '_, S>,
+    name: JobName<'_>,
+    before: u32,
+    cards: &[Punched],
+) -> Result<(), Fault>
+    requires { before + length cards.now ≤ 20000 }
+    ensures step { IsStep S.Store tables.old tables.new result }
+    ensures added { (earlier : List Punched) → Changes S.Store tables.old tables.new result
+        (λ t. HasCardRows name.entry before earlier t × HasPocketRows name.entry before earlier t)
+        (λ t. with_all_pockets name.entry (earlier ++ cards.now)
+        (with_all_cards name.entry (earlier ++ cards.now) t)) }
+    ensures characters { OnOk result (All IsPunched cards.now) }
+{
+    insert_cards(tables, name, before, cards)?;
+    insert_pockets(tables, name, before, cards)
 }
 
 /// Inserts lines after the `before` lines that the tables have already. A job makes at most 20,000.
@@ -80,16 +139,16 @@ fn insert_made<S: Alter>(
     requires cards { (made_in_all units.now).cards ≤ 20000 }
     requires lines { (made_in_all units.now).lines ≤ 20000 }
     ensures step { IsStep S.Store tables.old tables.new result }
-    ensures added { (cards : List Card) (lines : List Line)
+    ensures added { (cards : List Punched) (lines : List Line)
         → Changes S.Store tables.old tables.new result
         (HasEarlier name.entry cards lines units.now)
         (with_made name.entry cards lines units.now) }
-    ensures cards { OnOk result (All IsCard units.now.punch) }
+    ensures cards { OnOk result (All IsPunched units.now.punch.cards) }
     ensures lines { OnOk result (All IsLine units.now.printer.lines) }
 {
     let cards = units.punch.cards.as_slice();
     let lines = units.printer.lines.as_slice();
-    insert_cards(tables, name, units.before.cards, cards)?;
+    insert_punched(tables, name, units.before.cards, cards)?;
     insert_lines(tables, name, units.before.lines, lines)
 }
 
@@ -128,6 +187,26 @@ fn set_machine<S: Alter>(
     set_state(tables, name, machine)
 }
 
+/// Replaces the state of a job's machine, those of its pages that are no longer as they were, and
+/// the pocket that is chosen for its next card.
+fn set_running<S: Alter>(
+    tables: &mut OpenTables<'_, '_, S>,
+    name: JobName<'_>,
+    earlier: &PlaneCore,
+    machine: &Parts<PlaneCore>,
+) -> Result<(), Fault>
+    requires range { IsInRange machine.now }
+    requires size { length (cells_of earlier.now) ≡ length machine.now.works.storage }
+    ensures step { IsStep S.Store tables.old tables.new result }
+    ensures set { Changes S.Store tables.old tables.new result
+        (HasRows name.entry (cells_of earlier.now))
+        (λ t. with_choice name.entry machine.now (with_machine name.entry machine.now t)) }
+    ensures characters { OnOk result (HoldsCharacters machine.now.works.storage) }
+{
+    set_machine(tables, name, earlier, machine)?;
+    tables.set_chosen(name, machine.units.punch.chosen.number())
+}
+
 /// Saves the number of instructions granted in a job's last stretch.
 fn set_last_granted<S: Alter>(
     tables: &mut OpenTables<'_, '_, S>,
@@ -164,7 +243,7 @@ fn set_progress<S: Alter>(
     ensures characters { OnOk result (HoldsCharacters job.now.machine.works.storage) }
 {
     let parts = job.parts();
-    set_machine(tables, name, earlier, parts.machine)?;
+    set_running(tables, name, earlier, parts.machine)?;
     set_last_granted(tables, name, parts.stretches)
 }
 
@@ -181,6 +260,8 @@ fn save_slice<S: Alter>(
         (IsAfterStorage name.entry (cells_of earlier.now) job.now (JobCommand.Slice limit) old)
         (with_after name.entry (JobCommand.Slice limit) old) }
 {
+    // A law, for the proof: it does nothing.
+    runs_only_add();
     let machine = job.parts().machine;
     let units = &machine.units;
     insert_made(tables, name, units)?;
@@ -309,7 +390,24 @@ fn insert_handed<S: Alter>(
     tables.insert_job(name, &row)
 }
 
-/// Inserts the state of a job's machine and the pages of its storage that are not blank.
+/// Inserts the state of a job's machine, and its profile.
+fn insert_state<S: Alter>(
+    tables: &mut OpenTables<'_, '_, S>,
+    name: JobName<'_>,
+    machine: &Parts<PlaneCore>,
+) -> Result<(), Fault>
+    requires { IsInRange machine.now }
+    ensures step { IsStep S.Store tables.old tables.new result }
+    ensures added { Changes S.Store tables.old tables.new result
+        (λ t. HasNoState name.entry t × HasNoProfile name.entry t)
+        (λ t. with_selection name.entry machine.now (with_running name.entry machine.now t)) }
+{
+    tables.insert_state(name, state_row(machine))?;
+    tables.insert_profile(name, profile_row(&machine.units.punch))
+}
+
+/// Inserts the state of a job's machine, the pages of its storage that are not blank, and its
+/// profile.
 fn insert_machine<S: Alter>(
     tables: &mut OpenTables<'_, '_, S>,
     name: JobName<'_>,
@@ -318,13 +416,14 @@ fn insert_machine<S: Alter>(
     requires { IsInRange machine.now }
     ensures step { IsStep S.Store tables.old tables.new result }
     ensures added { Changes S.Store tables.old tables.new result
-        (HasNoMachine name.entry) (with_machine name.entry machine.now) }
+        (HasNoMachine name.entry)
+        (λ t. with_selection name.entry machine.now (with_machine name.entry machine.now t)) }
     ensures characters { HoldsCharacters machine.now.works.storage }
 {
     // A law, for the proof: it does nothing.
     storage_holds_characters(&machine.core);
     insert_pages(tables, name, &machine.core)?;
-    tables.insert_state(name, state_row(machine))
+    insert_state(tables, name, machine)
 }
 
 /// Inserts a job's first stretch and its machine.

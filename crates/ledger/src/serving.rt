@@ -2,7 +2,7 @@
 
 ghost use Rattle.std.specs.Prelude.{◌≡◌, None};
 ghost use Rattle.office.specs.Meters.{RisenAtMost};
-ghost use Rattle.office.specs.Office.{name_refusal, limit_refusal, customer_refusal, early_refusal, served, attempted_by, limit_of};
+ghost use Rattle.office.specs.Office.{name_refusal, value_refusal, customer_refusal, early_refusal, served, attempted_by, limit_of};
 ghost use Rattle.ledger_tables.specs.Steps.{IsOpenStep};
 ghost use Rattle.ledger.specs.Steps.{Serves, Ticks, TicksAtMost};
 
@@ -11,7 +11,7 @@ use crate::lists::{list_jobs, list_queue};
 use crate::submissions::submit;
 use ledger_tables::{Fault, JobName, OpenTables};
 use machine::Meter;
-use office::{Command, JobCommand, Refusal, Reply, is_customer, is_limit, is_number};
+use office::{Command, JobCommand, Refusal, Reply, Stacker, is_customer, is_limit, is_number};
 use sqlite::Alter;
 
 /// Why a job may not have this name, if it may not.
@@ -27,31 +27,47 @@ fn name_refusal(customer: &str, number: u32) -> Option<Refusal>
     None
 }
 
-/// Why a command on a job is refused for its limit, if it is.
-fn limit_refusal(command: JobCommand) -> Option<Refusal>
-    ensures { result ≡ limit_refusal command None }
+/// Why a slice is refused for its limit, if it is.
+fn limit_refusal(limit: u32) -> Option<Refusal>
+    ensures { result ≡ value_refusal (JobCommand.Slice limit) None }
+{
+    if is_limit(limit) {
+        None
+    } else {
+        Some(Refusal::Limit)
+    }
+}
+
+/// Why cards are not shown, for the pocket that was named, if they are not.
+fn pocket_refusal(from: Stacker) -> Option<Refusal>
+    ensures { result ≡ value_refusal (JobCommand.Cards from) None }
+{
+    match from {
+        Stacker::All | Stacker::Of(_) => None,
+        Stacker::Unknown => Some(Refusal::NoSuchPocket),
+    }
+}
+
+/// Why a command on a job is refused for its value, if it is: a limit, or a pocket.
+fn value_refusal(command: JobCommand) -> Option<Refusal>
+    ensures { result ≡ value_refusal command None }
 {
     match command {
-        JobCommand::Slice { limit } => {
-            if is_limit(limit) {
-                None
-            } else {
-                Some(Refusal::Limit)
-            }
-        }
+        JobCommand::Slice { limit } => limit_refusal(limit),
+        JobCommand::Cards { from } => pocket_refusal(from),
         JobCommand::Start { .. } => None,
         JobCommand::Hold | JobCommand::Release | JobCommand::Collect => None,
-        JobCommand::Standing | JobCommand::Cards | JobCommand::Lines => None,
+        JobCommand::Standing | JobCommand::Lines => None,
     }
 }
 
 /// Why a command on the job of this name is refused before the job is looked at, if it is.
 fn job_refusal(customer: &str, number: u32, command: JobCommand) -> Option<Refusal>
-    ensures { result ≡ limit_refusal command (name_refusal customer.now number) }
+    ensures { result ≡ value_refusal command (name_refusal customer.now number) }
 {
     match name_refusal(customer, number) {
         Some(reason) => Some(reason),
-        None => limit_refusal(command),
+        None => value_refusal(command),
     }
 }
 

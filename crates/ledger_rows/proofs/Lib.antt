@@ -4,3 +4,4 @@ pub mod PartPictures
 pub mod FromCellsRows
 pub mod PageBytes
 pub mod PagesRead
+pub mod PocketsRead

@@ -13,8 +13,13 @@ use Rattle.units.specs.Units.{made_in_all}
 use Rattle.units.specs.declared.printer.Line.{Line}
 use Rattle.units.specs.declared.carriage.Motion.{Motion}
 use Rattle.units.specs.declared.carriage.Motion.TheVariants.{Space, DoubleSpace, TripleSpace, SkipToChannel1}
+use Rattle.units.specs.Pockets.{pocket_number}
+use Rattle.units.specs.Stacked.{Stacked}
+use Rattle.units.specs.declared.profiles.Profile.{Profile}
+use Rattle.units.specs.declared.profiles.Profile.TheVariants.{Plain, Selecting}
 use Rattle.machine.specs.Run.{State}
 use Rattle.ledger_tables.specs.Cells.{LineCells}
+use Rattle.ledger_tables.specs.declared.rows.ProfileRow.{ProfileRow}
 use Rattle.ledger_tables.specs.declared.rows.StateRow.{StateRow}
 
 -- the bytes of a deck, 80 for each card, each the number of a column's character
@@ -63,6 +68,18 @@ abbrev pub standing_number : Standing → ℕ
 standing_number Running = 0
 standing_number Halted = 1
 standing_number (Checked check) = check_number check
+
+-- the number of a profile: 1 without stacker selection, 2 with it
+abbrev pub profile_number : Profile → ℕ
+profile_number Plain = 1
+profile_number Selecting = 2
+
+-- the columns of a machine's profile row: its profile, and the pocket chosen for its next card
+abbrev pub profile_row : Stacked → ProfileRow
+profile_row p = record {
+  profile = profile_number p.profile;
+  chosen = pocket_number p.chosen;
+}
 
 -- the columns of a printed line's row
 abbrev pub line_cells : Line → LineCells

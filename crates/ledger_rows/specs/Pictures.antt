@@ -8,12 +8,12 @@ use Rattle.ledger_tables.specs.Cells.{PageCells}
 use Rattle.ledger_tables.specs.Named.{ArePages}
 use Rattle.ledger_tables.specs.declared.rows.StateRow.{StateRow}
 
--- the state row and the media are this machine's: its deck, switches, cards and lines
+-- the state row and the media are this machine's: its deck, switches, punch and lines
 pub record HasState (row : StateRow) (media : Media) (m : State) : Type 0 where
   pub row_is : row ≡ state_row m
   pub deck : media.deck ≡ m.works.units.hopper.deck
   pub switches : media.switches ≡ m.works.units.switches
-  pub cards : media.cards.items ≡ m.works.units.punch
+  pub punch : media.punch ≡ m.works.units.punch
   pub lines : media.lines.items ≡ m.works.units.printer.lines
 
 -- the number of positions, the state row, the rows of pages and the media are this machine's

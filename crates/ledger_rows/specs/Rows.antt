@@ -28,7 +28,7 @@ pub record HasUnits (row : StateRow) (media : Media) (u : Units) : Type 0 where
   pub deck : media.deck ≡ u.hopper.deck
   pub taken : row.taken ≡ u.hopper.taken
   pub switches : media.switches ≡ u.switches
-  pub punched : media.cards.items ≡ u.punch
+  pub punch : media.punch ≡ u.punch
   pub cards : row.cards ≡ (made_in_all u).cards
   pub printed : media.lines.items ≡ u.printer.lines
   pub lines : row.lines ≡ (made_in_all u).lines

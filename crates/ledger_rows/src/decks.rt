@@ -6,10 +6,8 @@ ghost use Rattle.cards.specs.Decks.{IsCard, IsDeck};
 ghost use Rattle.ledger_rows.specs.Columns.{deck_bytes};
 
 use crate::codes::{read_codes, write_numbers};
-use crate::from_cells::FromCells;
 use bcd::Code;
 use cards::{COLUMNS, Card, Deck, DeckFault};
-use ledger_tables::CardRow;
 use std::alloc::{AllocError, Global};
 
 /// The bytes of a card, one a column.
@@ -23,7 +21,7 @@ pub fn card_bytes(card: &Card) -> [u8; COLUMNS]
 }
 
 /// The card of these bytes, if they are a card's.
-fn read_card(bytes: &[u8]) -> Option<Card>
+pub(crate) fn read_card(bytes: &[u8]) -> Option<Card>
     ensures all { (card : Card) → IsCard card → bytes.now ≡ card.0 → result ≡ Some card }
     ensures only { IfSome result (λ card. (card.0 ≡ bytes.now) × IsCard card) }
 {
@@ -88,14 +86,4 @@ pub fn read_deck(alloc: Global, bytes: &[u8]) -> Result<Option<Deck>, AllocError
         rest = behind;
     }
     Ok(Some(deck))
-}
-
-impl FromCells<CardRow> for Card {
-    ghost cells = { λ card. card.0 };
-
-    ghost IsHeld = { IsCard };
-
-    fn from_cells(row: &CardRow) -> Option<Card> {
-        read_card(&row.card)
-    }
 }

@@ -13,6 +13,7 @@ mod lines;
 mod numbers;
 mod pages;
 mod parts;
+mod pockets;
 mod progress;
 mod storage;
 
@@ -22,5 +23,6 @@ pub use lines::line_row;
 pub use numbers::{read_switches, read_truth, switches_number, truth};
 pub use pages::{is_blank_page, page_bytes};
 pub use parts::{Media, read_carriage, read_picture, state_row};
+pub use pockets::{pocket_cell, profile_row, read_punch, read_punched};
 pub use progress::{Progress, read_progress};
 pub use storage::read_storage;

@@ -1,17 +1,20 @@
-//! Indicators, orders, standings and switches as numbers.
+//! Indicators, orders, standings, switches, profiles and pockets as numbers.
 
 ghost use Rattle.std.specs.Prelude.{◌≡◌, ◌<◌, Bool, Option, Some, IfSome};
 ghost use Rattle.core_store.specs.declared.registers.Compared.{Compared};
 ghost use Rattle.machine.specs.declared.standings.Standing.{Standing};
+ghost use Rattle.units.specs.Pockets.{pocket_number};
 ghost use Rattle.units.specs.declared.carriage.Motion.{Motion};
+ghost use Rattle.units.specs.declared.pockets.Pocket.{Pocket};
+ghost use Rattle.units.specs.declared.profiles.Profile.{Profile};
 ghost use Rattle.units.specs.declared.switches.Switches.{Switches};
 ghost use Rattle.units.specs.Switches.{AreSeven};
-ghost use Rattle.ledger_rows.specs.Columns.{truth, compare_number, waiting_number, check_number, standing_number};
+ghost use Rattle.ledger_rows.specs.Columns.{truth, compare_number, waiting_number, check_number, standing_number, profile_number};
 
 use bitflags::Flags;
 use core_store::{Check, Compared};
 use machine::Standing;
-use units::{Motion, Switches};
+use units::{Motion, Pocket, Profile, Switches};
 
 /// The switches as a number, A the lowest bit and G the seventh.
 pub fn switches_number(switches: Switches) -> u32
@@ -151,6 +154,41 @@ pub fn read_standing(number: u32) -> Option<Standing>
         6 => Some(Standing::Checked(Check::ReaderEmpty)),
         7 => Some(Standing::Checked(Check::PunchFull)),
         8 => Some(Standing::Checked(Check::PrinterFull)),
+        _ => None,
+    }
+}
+
+/// The number of a profile: 1 without stacker selection, 2 with it.
+pub(crate) fn profile_number(profile: Profile) -> u32
+    ensures { result ≡ profile_number profile }
+{
+    match profile {
+        Profile::Plain => 1,
+        Profile::Selecting => 2,
+    }
+}
+
+/// The profile with this number, if there is one.
+pub(crate) fn read_profile(number: u32) -> Option<Profile>
+    ensures all { (profile : Profile) → number ≡ profile_number profile → result ≡ Some profile }
+    ensures only { IfSome result (λ profile. profile_number profile ≡ number) }
+{
+    match number {
+        1 => Some(Profile::Plain),
+        2 => Some(Profile::Selecting),
+        _ => None,
+    }
+}
+
+/// The pocket with this number, if there is one.
+pub(crate) fn read_pocket(number: u32) -> Option<Pocket>
+    ensures all { (pocket : Pocket) → number ≡ pocket_number pocket → result ≡ Some pocket }
+    ensures only { IfSome result (λ pocket. pocket_number pocket ≡ number) }
+{
+    match number {
+        0 => Some(Pocket::Normal),
+        4 => Some(Pocket::Four),
+        8 => Some(Pocket::Eight),
         _ => None,
     }
 }

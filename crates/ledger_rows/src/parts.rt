@@ -21,21 +21,21 @@ use crate::numbers::{
     waiting_number,
 };
 use crate::pages::put_pages;
-use cards::{Card, Deck};
+use cards::Deck;
 use core_store::{Core, Registers, Size};
 use ledger_tables::{PageRow, StateRow};
 use machine::Parts;
 use std::alloc::{AllocError, Global};
 use units::{Carriage, Counts, Hopper, Line, Printer, Punch, Switches, Units};
 
-/// The deck, switches, cards and lines of a machine, which are in other tables than its picture.
+/// The deck, switches, punch and lines of a machine, which are in other tables than its picture.
 #[derive(Drop)]
 pub struct Media {
     /// The deck in the card reader. It includes the cards already read.
     pub deck: Deck,
     pub switches: Switches,
-    /// The cards punched: all of them, or some last ones.
-    pub cards: Vec<Card>,
+    /// The punch, with all the cards that it has punched or some last ones.
+    pub punch: Punch,
     /// The lines printed: all of them, or some last ones.
     pub lines: Vec<Line>,
 }
@@ -134,7 +134,7 @@ fn read_units(row: StateRow, media: Media) -> Option<Units>
         → HasUnits row media u → result ≡ Some u }
     ensures only { IfSome result (λ u. HasUnits row media u) }
 {
-    let Some(cards_before) = count_before(row.cards, media.cards.len()) else {
+    let Some(cards_before) = count_before(row.cards, media.punch.cards.len()) else {
         return None;
     };
     let Some(lines_before) = count_before(row.lines, media.lines.len()) else {
@@ -149,7 +149,7 @@ fn read_units(row: StateRow, media: Media) -> Option<Units>
     let Media {
         deck,
         switches,
-        cards,
+        punch,
         lines,
     } = media;
     Some(Units {
@@ -158,7 +158,7 @@ fn read_units(row: StateRow, media: Media) -> Option<Units>
             cards: cards_before,
             lines: lines_before,
         },
-        punch: Punch { cards },
+        punch,
         printer: Printer { lines, carriage },
         switches,
     })

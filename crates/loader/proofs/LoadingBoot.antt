@@ -6,6 +6,7 @@ use Rattle.core_store.specs.Storage.{Storage, code_at, is_marked, least_mark, wi
 use Rattle.addresses.specs.Addresses.{encoded, written}
 use Rattle.addresses.specs.Digits.{code_of, digit_under}
 use Rattle.bcd.specs.Table.{glyph_of}
+use Rattle.units.specs.declared.profiles.Profile.{Profile}
 use Rattle.units.specs.declared.switches.Switches.{Switches}
 use Rattle.core_store.specs.declared.sizes.Size.{Size}
 use Rattle.core_store.proofs.SizeLemmas.{within}
@@ -47,10 +48,10 @@ unfolding word_length
 first_ends s marked none comma inside = rw (marked, none, comma, le-leb 8 (length s) inside) refl
 
 -- an instruction of the boot card, at a stop and up to the next one
-module _ (deck : List Card) (switches : Switches) (size : ℕ) (small : size ≤ 16000) (rest : Storage) where
+module _ (deck : List Card) (switches : Switches) (profile : Profile) (size : ℕ) (small : size ≤ 16000) (rest : Storage) where
   -- the machine is at an instruction of the boot card, with marks at these stops
   abbrev pub Here : State → ℕ → List ℕ → Type 0
-  Here m i stops = At deck switches size m i 1 stops boot_card.0 rest
+  Here m i stops = At deck switches profile size m i 1 stops boot_card.0 rest
 
   module _ (m : State) (i count : ℕ) (stops : List ℕ) (here : Here m i stops) (within : (1 ≤ i) × (i ≤ 72)) (short : count ≤ 7)
       (ends : Some count ≡ word_length m.works.storage i) where
@@ -63,23 +64,23 @@ module _ (deck : List Card) (switches : Switches) (size : ℕ) (small : size ≤
     pub boot_set : (x y : ℕ) → (1 ≤ x) × (x ≤ 80) → (1 ≤ y) × (y ≤ 80) → count ≡ 7 → take count (drop (i - 1) boot_card.0) ≡ instruction (codes ",") x y →
         Here (step m) (i + count) (put_stop true y (put_stop true x stops))
     boot_set x y x_in y_in seven says =
-        by_set deck switches size small m i 1 stops boot_card.0 rest here within.0 within.1 count short ends
+        by_set deck switches profile size small m i 1 stops boot_card.0 rest here within.0 within.1 count short ends
         x y (omega (arith, x_in.1, here.storage.large)) (omega (arith, y_in.1, here.storage.large)) seven says _ rest (two true x y x_in y_in)
 
     pub boot_clear : (x y : ℕ) → (1 ≤ x) × (x ≤ 80) → (1 ≤ y) × (y ≤ 80) → count ≡ 7 → take count (drop (i - 1) boot_card.0) ≡ instruction (codes ")") x y →
         Here (step m) (i + count) (put_stop false y (put_stop false x stops))
     boot_clear x y x_in y_in seven says =
-        by_clear deck switches size small m i 1 stops boot_card.0 rest here within.0 within.1 count short ends
+        by_clear deck switches profile size small m i 1 stops boot_card.0 rest here within.0 within.1 count short ends
         x y (omega (arith, x_in.1, here.storage.large)) (omega (arith, y_in.1, here.storage.large)) seven says _ rest (two false x y x_in y_in)
 
     pub boot_set_one : (x : ℕ) → (1 ≤ x) × (x ≤ 80) → count ≡ 4 → take count (drop (i - 1) boot_card.0) ≡ text (codes ",") ++ encoded x →
         Here (step m) (i + count) (put_stop true x (put_stop true x stops))
     boot_set_one x x_in four says =
-        by_set_one deck switches size small m i 1 stops boot_card.0 rest here within.0 within.1 count short ends
+        by_set_one deck switches profile size small m i 1 stops boot_card.0 rest here within.0 within.1 count short ends
         x (omega (arith, x_in.1, here.storage.large)) four says _ rest (two true x x x_in x_in)
 
     pub boot_nothing : count ≡ 7 → take count (drop (i - 1) boot_card.0) ≡ unused → Here (step m) (i + count) stops
-    boot_nothing seven says = by_nothing deck switches size small m i 1 stops boot_card.0 rest here within.0 within.1 count short ends seven says
+    boot_nothing seven says = by_nothing deck switches profile size small m i 1 stops boot_card.0 rest here within.0 within.1 count short ends seven says
 
 -- where the boot card is read
 begun_storage : (size : ℕ) → 81 ≤ size → Holds (with_mark (put_codes (blank_storage size) 1 boot_card.0) 1 true) size (1 ∷ []) boot_card.0 (blank_storage size)
@@ -92,7 +93,7 @@ unfolding boot_card code_of glyph_of
 comma_first = refl
 
 -- after the eleven instructions the next card stands in 001 to 080, and register I is at its move
-module _ (switches : Switches) (size : Size) (behind : List Card) (next_card : Card) (long : length next_card.0 ≡ 80) where
+module _ (switches : Switches) (profile : Profile) (size : Size) (behind : List Card) (next_card : Card) (long : length next_card.0 ≡ 80) where
   abbrev deck : List Card
   deck = boot_card ∷ (next_card ∷ behind)
 
@@ -107,11 +108,11 @@ module _ (switches : Switches) (size : Size) (behind : List Card) (next_card : C
 
   -- the machine that has carried out so many of them
   abbrev m : ℕ → State
-  m zero = loaded deck size switches
+  m zero = loaded deck size switches profile
   m (suc k) = step (m k)
 
   abbrev Now : ℕ → ℕ → List ℕ → Type 0
-  Now k i stops = Here deck switches (positions_of size) small blanks (m k) i stops
+  Now k i stops = Here deck switches profile (positions_of size) small blanks (m k) i stops
 
   ends : (k i count : ℕ) (stops : List ℕ) → Now k i stops → (1 ≤ i) × (i ≤ 72) → count ≤ 7 → is_stop stops i ≡ true → least_stop stops (i + 1) 8 ≡ Some (i + count) →
       Some count ≡ word_length (m k).works.storage i
@@ -131,47 +132,47 @@ module _ (switches : Switches) (size : Size) (behind : List Card) (next_card : C
 
   now_1 : Now 1 8 (1 ∷ 8 ∷ 15 ∷ [])
   unfolding boot_card written code_of digit_under
-  now_1 = boot_set deck switches (positions_of size) small blanks (m 0) 1 7 (1 ∷ []) now_0 (omega arith, omega arith) (omega arith) first_found 8 15 (omega arith, omega arith) (omega arith, omega arith) refl refl
+  now_1 = boot_set deck switches profile (positions_of size) small blanks (m 0) 1 7 (1 ∷ []) now_0 (omega arith, omega arith) (omega arith) first_found 8 15 (omega arith, omega arith) (omega arith, omega arith) refl refl
 
   now_2 : Now 2 15 (1 ∷ 8 ∷ 15 ∷ 22 ∷ 29 ∷ [])
   unfolding boot_card written code_of digit_under
-  now_2 = boot_set deck switches (positions_of size) small blanks (m 1) 8 7 (1 ∷ 8 ∷ 15 ∷ []) now_1 (omega arith, omega arith) (omega arith) (ends 1 8 7 (1 ∷ 8 ∷ 15 ∷ []) now_1 (omega arith, omega arith) (omega arith) refl refl) 22 29 (omega arith, omega arith) (omega arith, omega arith) refl refl
+  now_2 = boot_set deck switches profile (positions_of size) small blanks (m 1) 8 7 (1 ∷ 8 ∷ 15 ∷ []) now_1 (omega arith, omega arith) (omega arith) (ends 1 8 7 (1 ∷ 8 ∷ 15 ∷ []) now_1 (omega arith, omega arith) (omega arith) refl refl) 22 29 (omega arith, omega arith) (omega arith, omega arith) refl refl
 
   now_3 : Now 3 22 (1 ∷ 8 ∷ 15 ∷ 22 ∷ 29 ∷ 36 ∷ 40 ∷ [])
   unfolding boot_card written code_of digit_under
-  now_3 = boot_set deck switches (positions_of size) small blanks (m 2) 15 7 (1 ∷ 8 ∷ 15 ∷ 22 ∷ 29 ∷ []) now_2 (omega arith, omega arith) (omega arith) (ends 2 15 7 (1 ∷ 8 ∷ 15 ∷ 22 ∷ 29 ∷ []) now_2 (omega arith, omega arith) (omega arith) refl refl) 36 40 (omega arith, omega arith) (omega arith, omega arith) refl refl
+  now_3 = boot_set deck switches profile (positions_of size) small blanks (m 2) 15 7 (1 ∷ 8 ∷ 15 ∷ 22 ∷ 29 ∷ []) now_2 (omega arith, omega arith) (omega arith) (ends 2 15 7 (1 ∷ 8 ∷ 15 ∷ 22 ∷ 29 ∷ []) now_2 (omega arith, omega arith) (omega arith) refl refl) 36 40 (omega arith, omega arith) (omega arith, omega arith) refl refl
 
   now_4 : Now 4 29 (1 ∷ 8 ∷ 15 ∷ 22 ∷ 29 ∷ 36 ∷ 40 ∷ 47 ∷ 54 ∷ [])
   unfolding boot_card written code_of digit_under
-  now_4 = boot_set deck switches (positions_of size) small blanks (m 3) 22 7 (1 ∷ 8 ∷ 15 ∷ 22 ∷ 29 ∷ 36 ∷ 40 ∷ []) now_3 (omega arith, omega arith) (omega arith) (ends 3 22 7 (1 ∷ 8 ∷ 15 ∷ 22 ∷ 29 ∷ 36 ∷ 40 ∷ []) now_3 (omega arith, omega arith) (omega arith) refl refl) 47 54 (omega arith, omega arith) (omega arith, omega arith) refl refl
+  now_4 = boot_set deck switches profile (positions_of size) small blanks (m 3) 22 7 (1 ∷ 8 ∷ 15 ∷ 22 ∷ 29 ∷ 36 ∷ 40 ∷ []) now_3 (omega arith, omega arith) (omega arith) (ends 3 22 7 (1 ∷ 8 ∷ 15 ∷ 22 ∷ 29 ∷ 36 ∷ 40 ∷ []) now_3 (omega arith, omega arith) (omega arith) refl refl) 47 54 (omega arith, omega arith) (omega arith, omega arith) refl refl
 
   now_5 : Now 5 36 (1 ∷ 8 ∷ 15 ∷ 22 ∷ 29 ∷ 36 ∷ 40 ∷ 47 ∷ 54 ∷ 61 ∷ 68 ∷ [])
   unfolding boot_card written code_of digit_under
-  now_5 = boot_set deck switches (positions_of size) small blanks (m 4) 29 7 (1 ∷ 8 ∷ 15 ∷ 22 ∷ 29 ∷ 36 ∷ 40 ∷ 47 ∷ 54 ∷ []) now_4 (omega arith, omega arith) (omega arith) (ends 4 29 7 (1 ∷ 8 ∷ 15 ∷ 22 ∷ 29 ∷ 36 ∷ 40 ∷ 47 ∷ 54 ∷ []) now_4 (omega arith, omega arith) (omega arith) refl refl) 61 68 (omega arith, omega arith) (omega arith, omega arith) refl refl
+  now_5 = boot_set deck switches profile (positions_of size) small blanks (m 4) 29 7 (1 ∷ 8 ∷ 15 ∷ 22 ∷ 29 ∷ 36 ∷ 40 ∷ 47 ∷ 54 ∷ []) now_4 (omega arith, omega arith) (omega arith) (ends 4 29 7 (1 ∷ 8 ∷ 15 ∷ 22 ∷ 29 ∷ 36 ∷ 40 ∷ 47 ∷ 54 ∷ []) now_4 (omega arith, omega arith) (omega arith) refl refl) 61 68 (omega arith, omega arith) (omega arith, omega arith) refl refl
 
   now_6 : Now 6 40 (1 ∷ 8 ∷ 15 ∷ 22 ∷ 29 ∷ 36 ∷ 40 ∷ 47 ∷ 54 ∷ 61 ∷ 68 ∷ 72 ∷ [])
   unfolding boot_card written code_of digit_under
-  now_6 = boot_set_one deck switches (positions_of size) small blanks (m 5) 36 4 (1 ∷ 8 ∷ 15 ∷ 22 ∷ 29 ∷ 36 ∷ 40 ∷ 47 ∷ 54 ∷ 61 ∷ 68 ∷ []) now_5 (omega arith, omega arith) (omega arith) (ends 5 36 4 (1 ∷ 8 ∷ 15 ∷ 22 ∷ 29 ∷ 36 ∷ 40 ∷ 47 ∷ 54 ∷ 61 ∷ 68 ∷ []) now_5 (omega arith, omega arith) (omega arith) refl refl) 72 (omega arith, omega arith) refl refl
+  now_6 = boot_set_one deck switches profile (positions_of size) small blanks (m 5) 36 4 (1 ∷ 8 ∷ 15 ∷ 22 ∷ 29 ∷ 36 ∷ 40 ∷ 47 ∷ 54 ∷ 61 ∷ 68 ∷ []) now_5 (omega arith, omega arith) (omega arith) (ends 5 36 4 (1 ∷ 8 ∷ 15 ∷ 22 ∷ 29 ∷ 36 ∷ 40 ∷ 47 ∷ 54 ∷ 61 ∷ 68 ∷ []) now_5 (omega arith, omega arith) (omega arith) refl refl) 72 (omega arith, omega arith) refl refl
 
   now_7 : Now 7 47 (1 ∷ 22 ∷ 29 ∷ 36 ∷ 40 ∷ 47 ∷ 54 ∷ 61 ∷ 68 ∷ 72 ∷ [])
   unfolding boot_card written code_of digit_under
-  now_7 = boot_clear deck switches (positions_of size) small blanks (m 6) 40 7 (1 ∷ 8 ∷ 15 ∷ 22 ∷ 29 ∷ 36 ∷ 40 ∷ 47 ∷ 54 ∷ 61 ∷ 68 ∷ 72 ∷ []) now_6 (omega arith, omega arith) (omega arith) (ends 6 40 7 (1 ∷ 8 ∷ 15 ∷ 22 ∷ 29 ∷ 36 ∷ 40 ∷ 47 ∷ 54 ∷ 61 ∷ 68 ∷ 72 ∷ []) now_6 (omega arith, omega arith) (omega arith) refl refl) 8 15 (omega arith, omega arith) (omega arith, omega arith) refl refl
+  now_7 = boot_clear deck switches profile (positions_of size) small blanks (m 6) 40 7 (1 ∷ 8 ∷ 15 ∷ 22 ∷ 29 ∷ 36 ∷ 40 ∷ 47 ∷ 54 ∷ 61 ∷ 68 ∷ 72 ∷ []) now_6 (omega arith, omega arith) (omega arith) (ends 6 40 7 (1 ∷ 8 ∷ 15 ∷ 22 ∷ 29 ∷ 36 ∷ 40 ∷ 47 ∷ 54 ∷ 61 ∷ 68 ∷ 72 ∷ []) now_6 (omega arith, omega arith) (omega arith) refl refl) 8 15 (omega arith, omega arith) (omega arith, omega arith) refl refl
 
   now_8 : Now 8 54 (1 ∷ 36 ∷ 40 ∷ 47 ∷ 54 ∷ 61 ∷ 68 ∷ 72 ∷ [])
   unfolding boot_card written code_of digit_under
-  now_8 = boot_clear deck switches (positions_of size) small blanks (m 7) 47 7 (1 ∷ 22 ∷ 29 ∷ 36 ∷ 40 ∷ 47 ∷ 54 ∷ 61 ∷ 68 ∷ 72 ∷ []) now_7 (omega arith, omega arith) (omega arith) (ends 7 47 7 (1 ∷ 22 ∷ 29 ∷ 36 ∷ 40 ∷ 47 ∷ 54 ∷ 61 ∷ 68 ∷ 72 ∷ []) now_7 (omega arith, omega arith) (omega arith) refl refl) 22 29 (omega arith, omega arith) (omega arith, omega arith) refl refl
+  now_8 = boot_clear deck switches profile (positions_of size) small blanks (m 7) 47 7 (1 ∷ 22 ∷ 29 ∷ 36 ∷ 40 ∷ 47 ∷ 54 ∷ 61 ∷ 68 ∷ 72 ∷ []) now_7 (omega arith, omega arith) (omega arith) (ends 7 47 7 (1 ∷ 22 ∷ 29 ∷ 36 ∷ 40 ∷ 47 ∷ 54 ∷ 61 ∷ 68 ∷ 72 ∷ []) now_7 (omega arith, omega arith) (omega arith) refl refl) 22 29 (omega arith, omega arith) (omega arith, omega arith) refl refl
 
   now_9 : Now 9 61 (1 ∷ 40 ∷ 47 ∷ 54 ∷ 61 ∷ 68 ∷ 72 ∷ [])
   unfolding boot_card written code_of digit_under
-  now_9 = boot_clear deck switches (positions_of size) small blanks (m 8) 54 7 (1 ∷ 36 ∷ 40 ∷ 47 ∷ 54 ∷ 61 ∷ 68 ∷ 72 ∷ []) now_8 (omega arith, omega arith) (omega arith) (ends 8 54 7 (1 ∷ 36 ∷ 40 ∷ 47 ∷ 54 ∷ 61 ∷ 68 ∷ 72 ∷ []) now_8 (omega arith, omega arith) (omega arith) refl refl) 36 36 (omega arith, omega arith) (omega arith, omega arith) refl refl
+  now_9 = boot_clear deck switches profile (positions_of size) small blanks (m 8) 54 7 (1 ∷ 36 ∷ 40 ∷ 47 ∷ 54 ∷ 61 ∷ 68 ∷ 72 ∷ []) now_8 (omega arith, omega arith) (omega arith) (ends 8 54 7 (1 ∷ 36 ∷ 40 ∷ 47 ∷ 54 ∷ 61 ∷ 68 ∷ 72 ∷ []) now_8 (omega arith, omega arith) (omega arith) refl refl) 36 36 (omega arith, omega arith) (omega arith, omega arith) refl refl
 
   now_10 : Now 10 68 (1 ∷ 40 ∷ 47 ∷ 54 ∷ 61 ∷ 68 ∷ 72 ∷ [])
   unfolding boot_card written code_of digit_under
-  now_10 = boot_nothing deck switches (positions_of size) small blanks (m 9) 61 7 (1 ∷ 40 ∷ 47 ∷ 54 ∷ 61 ∷ 68 ∷ 72 ∷ []) now_9 (omega arith, omega arith) (omega arith) (ends 9 61 7 (1 ∷ 40 ∷ 47 ∷ 54 ∷ 61 ∷ 68 ∷ 72 ∷ []) now_9 (omega arith, omega arith) (omega arith) refl refl) refl refl
+  now_10 = boot_nothing deck switches profile (positions_of size) small blanks (m 9) 61 7 (1 ∷ 40 ∷ 47 ∷ 54 ∷ 61 ∷ 68 ∷ 72 ∷ []) now_9 (omega arith, omega arith) (omega arith) (ends 9 61 7 (1 ∷ 40 ∷ 47 ∷ 54 ∷ 61 ∷ 68 ∷ 72 ∷ []) now_9 (omega arith, omega arith) (omega arith) refl refl) refl refl
 
   -- what the boot card does
-  pub booted : At deck switches (positions_of size) (after (m 0) 11) 40 2 loading_marks next_card.0 blanks
+  pub booted : At deck switches profile (positions_of size) (after (m 0) 11) 40 2 loading_marks next_card.0 blanks
   unfolding after boot_card written code_of digit_under
   booted =
-      by_reading deck switches (positions_of size) small (m 10) 68 1 (1 ∷ 40 ∷ 47 ∷ 54 ∷ 61 ∷ 68 ∷ 72 ∷ []) boot_card.0 blanks now_10 (omega arith) (omega arith) 4 (omega arith) (ends 10 68 4 (1 ∷ 40 ∷ 47 ∷ 54 ∷ 61 ∷ 68 ∷ 72 ∷ []) now_10 (omega arith, omega arith) (omega arith) refl refl)
+      by_reading deck switches profile (positions_of size) small (m 10) 68 1 (1 ∷ 40 ∷ 47 ∷ 54 ∷ 61 ∷ 68 ∷ 72 ∷ []) boot_card.0 blanks now_10 (omega arith) (omega arith) 4 (omega arith) (ends 10 68 4 (1 ∷ 40 ∷ 47 ∷ 54 ∷ 61 ∷ 68 ∷ 72 ∷ []) now_10 (omega arith, omega arith) (omega arith) refl refl)
       refl refl next_card refl long

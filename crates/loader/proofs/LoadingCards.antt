@@ -1,13 +1,13 @@
 -- a load card's five instructions
-use Rattle.std.proofs.Common.{◌≡◌, ◌≢◌, ℕ, zero, suc, ◌+◌, ◌-◌, ◌<◌, ◌≤◌, Bool, true, false, List, [], ◌∷◌, ◌++◌, Option, Some, None, refl, sym, ◌∙◌, ap, ap₂, subst, arith, length, get_or, map, take, drop, codes, slice_get, slice_index, ext_get_or, if◌then◌else◌, ne_eqb, cond, filter}
+use Rattle.std.proofs.Common.{◌≡◌, ℕ, zero, suc, ◌+◌, ◌-◌, ◌<◌, ◌≤◌, Bool, true, false, List, [], ◌∷◌, ◌++◌, Some, None, refl, sym, ◌∙◌, ap, ap₂, subst, arith, length, get_or, map, take, drop, slice_get, slice_index, ext_get_or, if◌then◌else◌, ne_eqb, cond, filter}
 use Rattle.std.proofs.lemmas.List.{length-map}
 use Rattle.cards.specs.declared.decks.Card.{Card}
-use Rattle.core_store.specs.Storage.{Storage, code_at, is_marked, with_mark, field_length, greatest_mark, cells_ending, put_cells}
+use Rattle.core_store.specs.Storage.{Storage, is_marked, with_mark, field_length, greatest_mark, cells_ending, put_cells}
 use Rattle.core_store.proofs.Marks.{greatest_is}
 use Rattle.core_store.proofs.Fields.{length-cells_ending, nth-cells_ending}
+use Rattle.units.specs.declared.profiles.Profile.{Profile}
 use Rattle.units.specs.declared.switches.Switches.{Switches}
 use Rattle.autocoder_layout.specs.declared.cells.Cell.{Cell}
-use Rattle.machine.specs.Word.{word_length}
 use Rattle.machine.specs.Run.{State, step, after}
 use Rattle.loader.specs.Cards.{load_card, last_position}
 use Rattle.loader.specs.Stretches.{is_lawful, marks_of}
@@ -15,7 +15,7 @@ use Rattle.loader.specs.Loading.{loading_marks, filled_with}
 use Rattle.loader.proofs.LoadingFronts.{Holds, is_stop, least_stop, holds_high, holds_cells}
 use Rattle.loader.proofs.PlaceEffects.{Runs, runs, bare}
 use Rattle.loader.proofs.PieceBounds.{lawful_contiguous, lawful_length, lawful_marks}
-use Rattle.loader.proofs.PlaceOrders.{Order, words_of, clearing_orders, marking_orders, carried, carried_all, IsHigh, AreHigh, orders_of, few_orders, orders_lay, Three, three_of}
+use Rattle.loader.proofs.PlaceOrders.{Order, words_of, clearing_orders, marking_orders, carried, IsHigh, AreHigh, orders_of, few_orders, orders_lay, Three, three_of}
 use Rattle.loader.proofs.LoadingSteps.{At, ends_at, by_set, by_clear, by_load, by_nothing, by_reading}
 use Rattle.loader.proofs.PieceTexts.{says_move, says_first, says_second, says_third, says_reading, says_code}
 
@@ -126,22 +126,22 @@ orders_high size first others runs low high =
 
 -- ---- a place
 
-module _ (deck : List Card) (switches : Switches) (size : ℕ) (small : size ≤ 16000) (card : List ℕ) (taken : ℕ) where
+module _ (deck : List Card) (switches : Switches) (profile : Profile) (size : ℕ) (small : size ≤ 16000) (card : List ℕ) (taken : ℕ) where
   -- the instruction of a place
-  place_step : (m : State) (i : ℕ) (rest : Storage) → At deck switches size m i taken loading_marks card rest → 1 ≤ i → i ≤ 72 →
+  place_step : (m : State) (i : ℕ) (rest : Storage) → At deck switches profile size m i taken loading_marks card rest → 1 ≤ i → i ≤ 72 →
       is_stop loading_marks i ≡ true → least_stop loading_marks (i + 1) 8 ≡ Some (i + 7) → (o : Order) → IsHigh size o → take 7 (drop (i - 1) card) ≡ words_of o →
-      At deck switches size (step m) (i + 7) taken loading_marks card (carried o rest)
+      At deck switches profile size (step m) (i + 7) taken loading_marks card (carried o rest)
   place_step m i rest here low high stopped next None is_high says =
-      by_nothing deck switches size small m i taken loading_marks card rest here low high 7 (omega arith)
+      by_nothing deck switches profile size small m i taken loading_marks card rest here low high 7 (omega arith)
       (ends_at m.works.storage size loading_marks card rest here.storage i 7 low high (omega arith) stopped next) refl says
   place_step m i rest here low high stopped next (Some (true, (x, y))) is_high says =
-      by_set deck switches size small m i taken loading_marks card rest here low high 7 (omega arith)
+      by_set deck switches profile size small m i taken loading_marks card rest here low high 7 (omega arith)
       (ends_at m.works.storage size loading_marks card rest here.storage i 7 low high (omega arith) stopped next)
       x y is_high.0.1 is_high.1.1 refl says loading_marks (carried (Some (true, (x, y))) rest)
       (holds_high (with_mark m.works.storage x true) size loading_marks card (with_mark rest x true)
       (holds_high m.works.storage size loading_marks card rest here.storage true x is_high.0.0 is_high.0.1) true y is_high.1.0 is_high.1.1)
   place_step m i rest here low high stopped next (Some (false, (x, y))) is_high says =
-      by_clear deck switches size small m i taken loading_marks card rest here low high 7 (omega arith)
+      by_clear deck switches profile size small m i taken loading_marks card rest here low high 7 (omega arith)
       (ends_at m.works.storage size loading_marks card rest here.storage i 7 low high (omega arith) stopped next)
       x y is_high.0.1 is_high.1.1 refl says loading_marks (carried (Some (false, (x, y))) rest)
       (holds_high (with_mark m.works.storage x false) size loading_marks card (with_mark rest x false)
@@ -149,9 +149,9 @@ module _ (deck : List Card) (switches : Switches) (size : ℕ) (small : size ≤
 
 -- ---- the five
 
-module _ (deck : List Card) (switches : Switches) (size : ℕ) (small : size ≤ 16000) (first : Cell) (others : List Cell) (lawful : is_lawful (first ∷ others) ≡ true)
+module _ (deck : List Card) (switches : Switches) (profile : Profile) (size : ℕ) (small : size ≤ 16000) (first : Cell) (others : List Cell) (lawful : is_lawful (first ∷ others) ≡ true)
     (low : 80 < first.position) (high : first.position + length (first ∷ others) ≤ size) (m : State) (taken : ℕ) (rest : Storage)
-    (here : At deck switches size m 40 taken loading_marks (load_card (first ∷ others)).0 rest)
+    (here : At deck switches profile size m 40 taken loading_marks (load_card (first ∷ others)).0 rest)
     (next_card : Card) (there : slice_get deck taken ≡ Some next_card) (long : length next_card.0 ≡ 80) where
   abbrev stretch : List Cell
   stretch = first ∷ others
@@ -171,7 +171,7 @@ module _ (deck : List Card) (switches : Switches) (size : ℕ) (small : size ≤
   abbrev laid : Storage
   laid = put_cells rest first.position ((first.code, true) ∷ map bare others)
 
-  moved : At deck switches size (step m) 47 taken loading_marks card laid
+  moved : At deck switches profile size (step m) 47 taken loading_marks card laid
   moved =
       let s : Storage = m.works.storage in
       let n : ℕ = length stretch in
@@ -183,7 +183,7 @@ module _ (deck : List Card) (switches : Switches) (size : ℕ) (small : size ≤
       let put : put_cells s (last_position stretch + 1 - n) (cells_ending s n n) ≡ put_cells s first.position ((first.code, true) ∷ map bare others) =
       ap₂ (put_cells s) from cells in
       let count : length ((first.code, true) ∷ map bare others) ≡ n = omega (arith, length-map others bare) in
-      by_load deck switches size small m 40 taken loading_marks card rest here (omega arith) (omega arith) 7 (omega arith)
+      by_load deck switches profile size small m 40 taken loading_marks card rest here (omega arith) (omega arith) 7 (omega arith)
       (ends_at s size loading_marks card rest holds 40 7 (omega arith) (omega arith) (omega arith) refl refl)
       n (last_position stretch) (omega (arith, few, holds.large)) (omega (arith, last)) refl (says_move size stretch few places)
       (front_length s size card rest holds n (omega arith) (omega (arith, few))) (omega (arith, last, few))
@@ -191,23 +191,23 @@ module _ (deck : List Card) (switches : Switches) (size : ℕ) (small : size ≤
       (subst (λ t. Holds t size loading_marks card laid) (sym put)
       (holds_cells s size loading_marks card rest holds first.position ((first.code, true) ∷ map bare others) low (omega (arith, count))))
 
-  first_placed : At deck switches size (step (step m)) 54 taken loading_marks card (carried places.first laid)
-  first_placed = place_step deck switches size small card taken (step m) 47 laid moved (omega arith) (omega arith) refl refl places.first places.highs.0.0 (says_first size stretch few places)
+  first_placed : At deck switches profile size (step (step m)) 54 taken loading_marks card (carried places.first laid)
+  first_placed = place_step deck switches profile size small card taken (step m) 47 laid moved (omega arith) (omega arith) refl refl places.first places.highs.0.0 (says_first size stretch few places)
 
-  second_placed : At deck switches size (step (step (step m))) 61 taken loading_marks card (carried places.second (carried places.first laid))
-  second_placed = place_step deck switches size small card taken (step (step m)) 54 _ first_placed (omega arith) (omega arith) refl refl places.second places.highs.0.1 (says_second size stretch few places)
+  second_placed : At deck switches profile size (step (step (step m))) 61 taken loading_marks card (carried places.second (carried places.first laid))
+  second_placed = place_step deck switches profile size small card taken (step (step m)) 54 _ first_placed (omega arith) (omega arith) refl refl places.second places.highs.0.1 (says_second size stretch few places)
 
-  third_placed : At deck switches size (step (step (step (step m)))) 68 taken loading_marks card (carried places.third (carried places.second (carried places.first laid)))
-  third_placed = place_step deck switches size small card taken (step (step (step m))) 61 _ second_placed (omega arith) (omega arith) refl refl places.third places.highs.1 (says_third size stretch few places)
+  third_placed : At deck switches profile size (step (step (step (step m)))) 68 taken loading_marks card (carried places.third (carried places.second (carried places.first laid)))
+  third_placed = place_step deck switches profile size small card taken (step (step (step m))) 61 _ second_placed (omega arith) (omega arith) refl refl places.third places.highs.1 (says_third size stretch few places)
 
   filled : carried places.third (carried places.second (carried places.first laid)) ≡ filled_with rest stretch
   filled = sym (places.done laid) ∙ orders_lay rest first others first.position contiguous (omega (arith, here.storage.rest_size))
 
   -- a load card fills the positions of its stretch, and no others
-  pub carries : At deck switches size (after m 5) 40 (taken + 1) loading_marks next_card.0 (filled_with rest stretch)
+  pub carries : At deck switches profile size (after m 5) 40 (taken + 1) loading_marks next_card.0 (filled_with rest stretch)
   unfolding after
   carries =
-      subst (λ t. At deck switches size (step (step (step (step (step m))))) 40 (taken + 1) loading_marks next_card.0 t) filled
-      (by_reading deck switches size small (step (step (step (step m)))) 68 taken loading_marks card _ third_placed (omega arith) (omega arith) 4 (omega arith)
+      subst (λ t. At deck switches profile size (step (step (step (step (step m))))) 40 (taken + 1) loading_marks next_card.0 t) filled
+      (by_reading deck switches profile size small (step (step (step (step m)))) 68 taken loading_marks card _ third_placed (omega arith) (omega arith) 4 (omega arith)
       (ends_at (step (step (step (step m)))).works.storage size loading_marks card _ third_placed.storage 68 4 (omega arith) (omega arith) (omega arith) refl refl)
       refl (says_reading size stretch few places) next_card there long)

@@ -1,5 +1,5 @@
 -- a storage whose positions 000 to 080 are known: a card stands in 001 to 080, and marks stand at these stops
-use Rattle.std.proofs.Common.{◌≡◌, ◌≢◌, ℕ, zero, suc, ◌+◌, ◌-◌, ◌<◌, ◌≤◌, Bool, true, false, List, [], ◌∷◌, Option, Some, None, refl, sym, ◌∙◌, ap, arith, if◌then◌else◌, length, get_or, set, take, drop, length-set, length-drop, get_or-set_same, get_or-set_other, get_or-take, get_or-drop, length-take-le, ext_get_or, nat_eq, ◌==◌, ◌||◌, ◌++◌, slice_index, eq-eqb, ne_eqb, eqb-true, ◌⊎◌, inl, inr}
+use Rattle.std.proofs.Common.{◌≡◌, ◌≢◌, ℕ, zero, suc, ◌+◌, ◌-◌, ◌<◌, ◌≤◌, Bool, true, false, List, [], ◌∷◌, Option, Some, None, refl, sym, ◌∙◌, ap, arith, if◌then◌else◌, length, get_or, take, drop, length-set, length-drop, get_or-set_same, get_or-set_other, get_or-take, get_or-drop, length-take-le, ext_get_or, nat_eq, ◌==◌, ◌||◌, ◌++◌, slice_index, eq-eqb, ne_eqb, eqb-true, ◌⊎◌, inl, inr}
 use Rattle.std.specs.List.{list_any}
 use Rattle.std.proofs.Math.Decide.{dec_lt}
 use Rattle.core_store.specs.Storage.{Storage, code_at, is_marked, with_mark, least_mark, codes_from, put_codes, put_cells}

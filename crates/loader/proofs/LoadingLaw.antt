@@ -10,6 +10,7 @@ use Rattle.core_store.proofs.SizeLemmas.{within}
 use Rattle.core_store.specs.declared.registers.Compared.TheVariants.{Equal}
 use Rattle.core_store.proofs.Fields.{length-put_cells, cell-put_cells, cell-put_cells_above}
 use Rattle.addresses.specs.Addresses.{written}
+use Rattle.units.specs.declared.profiles.Profile.{Profile}
 use Rattle.units.specs.declared.switches.Switches.{Switches}
 use Rattle.units.specs.declared.units.Units.{Units}
 use Rattle.autocoder_layout.specs.declared.cells.Cell.{Cell}
@@ -158,14 +159,14 @@ before_size size ((first ∷ others) ∷ stretches) start good = card_long size 
 
 -- ---- every load card
 
-module _ (deck : List Card) (switches : Switches) (size : ℕ) (small : size ≤ 16000) (start : ℕ) (data_cards : List Card) where
+module _ (deck : List Card) (switches : Switches) (profile : Profile) (size : ℕ) (small : size ≤ 16000) (start : ℕ) (data_cards : List Card) where
   load_some : (stretches : List (List Cell)) → AllGood size stretches → (k : ℕ) → k ≤ length stretches → (m : State) (taken : ℕ) (rest : Storage) →
-      At deck switches size m 40 taken loading_marks (card_before stretches start).0 rest → drop taken deck ≡ cards_behind stretches start data_cards →
-      At deck switches size (after m (5 * k)) 40 (taken + k) loading_marks (card_before (drop k stretches) start).0 (filled_with rest (flat (take k stretches)))
+      At deck switches profile size m 40 taken loading_marks (card_before stretches start).0 rest → drop taken deck ≡ cards_behind stretches start data_cards →
+      At deck switches profile size (after m (5 * k)) 40 (taken + k) loading_marks (card_before (drop k stretches) start).0 (filled_with rest (flat (take k stretches)))
   unfolding after filled_with
   load_some stretches good zero fits m taken rest here unread =
       let none : taken ≡ taken + 0 = omega arith in
-      subst (λ n. At deck switches size m 40 n loading_marks (card_before stretches start).0 rest) none here
+      subst (λ n. At deck switches profile size m 40 n loading_marks (card_before stretches start).0 rest) none here
   load_some [] good (suc k) fits m taken rest here unread = absurd (omega arith)
   load_some ([] ∷ stretches) good (suc k) fits m taken rest here unread = absurd good.0
   load_some ((first ∷ others) ∷ stretches) good (suc k) fits m taken rest here unread =
@@ -173,27 +174,27 @@ module _ (deck : List Card) (switches : Switches) (size : ℕ) (small : size ≤
       let next : Card = card_before stretches start in
       let there : slice_get deck taken ≡ Some next = get_drop deck taken ∙ ap (λ cards. slice_get cards 0) unread in
       let left : drop (taken + 1) deck ≡ cards_behind stretches start data_cards = sym (drop-drop 1 taken deck) ∙ ap (drop 1) unread in
-      let loaded_one : At deck switches size (after m 5) 40 (taken + 1) loading_marks next.0 (filled_with rest stretch) =
-      carries deck switches size small first others good.0.0 good.0.1.0.0 (ends_inside size first others good.0) m taken rest here next there (before_size size stretches start good.1) in
+      let loaded_one : At deck switches profile size (after m 5) 40 (taken + 1) loading_marks next.0 (filled_with rest stretch) =
+      carries deck switches profile size small first others good.0.0 good.0.1.0.0 (ends_inside size first others good.0) m taken rest here next there (before_size size stretches start good.1) in
       let others_loaded = load_some stretches good.1 k (omega arith) (after m 5) (taken + 1) (filled_with rest stretch) loaded_one left in
       let sum : 5 + 5 * k ≡ 5 * suc k = omega arith in
       let steps : after (after m 5) (5 * k) ≡ after m (5 * suc k) = after-after m 5 (5 * k) ∙ ap (after m) sum in
       let count : taken + 1 + k ≡ taken + suc k = omega arith in
       let program : List Cell = flat (take k stretches) in
-      subst (λ n. At deck switches size (after m (5 * suc k)) 40 n loading_marks (card_before (drop k stretches) start).0 (filled_with rest (stretch ++ program))) count
-      (subst (λ s. At deck switches size s 40 (taken + 1 + k) loading_marks (card_before (drop k stretches) start).0 (filled_with rest (stretch ++ program))) steps
-      (subst (λ t. At deck switches size (after (after m 5) (5 * k)) 40 (taken + 1 + k) loading_marks (card_before (drop k stretches) start).0 t) (sym (filled_append stretch program rest))
+      subst (λ n. At deck switches profile size (after m (5 * suc k)) 40 n loading_marks (card_before (drop k stretches) start).0 (filled_with rest (stretch ++ program))) count
+      (subst (λ s. At deck switches profile size s 40 (taken + 1 + k) loading_marks (card_before (drop k stretches) start).0 (filled_with rest (stretch ++ program))) steps
+      (subst (λ t. At deck switches profile size (after (after m 5) (5 * k)) 40 (taken + 1 + k) loading_marks (card_before (drop k stretches) start).0 t) (sym (filled_append stretch program rest))
       others_loaded))
 
 -- ---- the whole deck
 
 -- the machine that the last card leaves
-abbrev left_by : List Card → ℕ → List Cell → ℕ → Size → Switches → State
-left_by deck taken image start size switches = record {
+abbrev left_by : List Card → ℕ → List Cell → ℕ → Size → Switches → Profile → State
+left_by deck taken image start size switches profile = record {
   works = record {
     storage = filled_with (blank_storage (positions_of size)) image;
     registers = record { i = start; a = start; b = 47; compare = Equal; overflow = false };
-    units = units_with deck taken switches;
+    units = units_with deck taken switches profile;
   };
   standing = Running;
 }
@@ -202,7 +203,7 @@ start_says : (start : ℕ) → take 7 (drop 39 (start_card start).0) ≡ instruc
 unfolding start_card written
 start_says start = refl
 
-module _ (size : Size) (image : List Cell) (start : ℕ) (data_cards : List Card) (switches : Switches) (loadable : IsLoadable (positions_of size) image start) where
+module _ (size : Size) (image : List Cell) (start : ℕ) (data_cards : List Card) (switches : Switches) (profile : Profile) (loadable : IsLoadable (positions_of size) image start) where
   abbrev stretches : List (List Cell)
   stretches = stretches_of image
 
@@ -223,32 +224,32 @@ module _ (size : Size) (image : List Cell) (start : ℕ) (data_cards : List Card
 
   -- the machine that has carried out the boot card and so many load cards
   abbrev now_at : ℕ → State
-  now_at k = after (after (loaded deck_read size switches) 11) (5 * k)
+  now_at k = after (after (loaded deck_read size switches profile) 11) (5 * k)
 
   at_card : (k : ℕ) → k ≤ length stretches →
-      At deck_read switches (positions_of size) (now_at k) 40 (2 + k) loading_marks (card_before (drop k stretches) start).0 (filled_with (blank_storage (positions_of size)) (flat (take k stretches)))
+      At deck_read switches profile (positions_of size) (now_at k) 40 (2 + k) loading_marks (card_before (drop k stretches) start).0 (filled_with (blank_storage (positions_of size)) (flat (take k stretches)))
   at_card k fits =
-      load_some deck_read switches (positions_of size) small start data_cards stretches good k fits (after (loaded deck_read size switches) 11) 2 (blank_storage (positions_of size))
-      (booted switches size (cards_behind stretches start data_cards) (card_before stretches start) (before_size (positions_of size) stretches start good)) refl
+      load_some deck_read switches profile (positions_of size) small start data_cards stretches good k fits (after (loaded deck_read size switches profile) 11) 2 (blank_storage (positions_of size))
+      (booted switches profile size (cards_behind stretches start data_cards) (card_before stretches start) (before_size (positions_of size) stretches start good)) refl
 
   abbrev now : State
   now = now_at (length stretches)
 
-  at_last : At deck_read switches (positions_of size) now 40 (2 + length stretches) loading_marks (start_card start).0 (filled_with (blank_storage (positions_of size)) image)
+  at_last : At deck_read switches profile (positions_of size) now 40 (2 + length stretches) loading_marks (start_card start).0 (filled_with (blank_storage (positions_of size)) image)
   at_last =
-      subst (λ cells. At deck_read switches (positions_of size) now 40 (2 + length stretches) loading_marks (start_card start).0 (filled_with (blank_storage (positions_of size)) cells)) ((is_split image).all)
-      (subst (λ all. At deck_read switches (positions_of size) now 40 (2 + length stretches) loading_marks (start_card start).0 (filled_with (blank_storage (positions_of size)) (flat all)))
+      subst (λ cells. At deck_read switches profile (positions_of size) now 40 (2 + length stretches) loading_marks (start_card start).0 (filled_with (blank_storage (positions_of size)) cells)) ((is_split image).all)
+      (subst (λ all. At deck_read switches profile (positions_of size) now 40 (2 + length stretches) loading_marks (start_card start).0 (filled_with (blank_storage (positions_of size)) (flat all)))
       (take_all (length stretches) stretches (omega arith))
-      (subst (λ left. At deck_read switches (positions_of size) now 40 (2 + length stretches) loading_marks (card_before left start).0 (filled_with (blank_storage (positions_of size)) (flat (take (length stretches) stretches))))
+      (subst (λ left. At deck_read switches profile (positions_of size) now 40 (2 + length stretches) loading_marks (card_before left start).0 (filled_with (blank_storage (positions_of size)) (flat (take (length stretches) stretches))))
       (drop_of_length-le stretches (all_of stretches)) (at_card (length stretches) (omega arith))))
 
-  begun : step now ≡ left_by deck_read (2 + length stretches) image start size switches
+  begun : step now ≡ left_by deck_read (2 + length stretches) image start size switches profile
   begun =
-      by_start deck_read switches (positions_of size) small now 40 (2 + length stretches) loading_marks (start_card start).0 (filled_with (blank_storage (positions_of size)) image)
+      by_start deck_read switches profile (positions_of size) small now 40 (2 + length stretches) loading_marks (start_card start).0 (filled_with (blank_storage (positions_of size)) image)
       at_last (omega arith) (omega arith) 7 (omega arith)
       (ends_at now.works.storage (positions_of size) loading_marks (start_card start).0 (filled_with (blank_storage (positions_of size)) image) at_last.storage 40 7 (omega arith) (omega arith) (omega arith) refl refl)
       start 80 loadable.start (omega (arith, at_last.storage.large)) refl (start_says start) refl
-      ∙ ap (λ t. record (left_by deck_read (2 + length stretches) image start size switches) { works = record (left_by deck_read (2 + length stretches) image start size switches).works { storage = t } })
+      ∙ ap (λ t. record (left_by deck_read (2 + length stretches) image start size switches profile) { works = record (left_by deck_read (2 + length stretches) image start size switches profile).works { storage = t } })
       (cleared now.works.storage (positions_of size) (start_card start).0 image ranged at_last.storage)
 
   deck_is : loading_cards image start ++ data_cards ≡ deck_read
@@ -259,27 +260,27 @@ module _ (size : Size) (image : List Cell) (start : ℕ) (data_cards : List Card
   unfolding loading_cards
   taken_is = omega (arith, length-append (map load_card stretches) (start_card start ∷ []), length-map stretches load_card)
 
-  pub brought : after (loaded (loading_cards image start ++ data_cards) size switches) (instructions_to_load image) ≡ at_the_start image start data_cards size switches
+  pub brought : after (loaded (loading_cards image start ++ data_cards) size switches profile) (instructions_to_load image) ≡ at_the_start image start data_cards size switches profile
   unfolding after
   brought =
-      ap (λ deck. after (loaded deck size switches) (instructions_to_load image)) deck_is
-      ∙ sym (after-after (loaded deck_read size switches) (11 + 5 * length stretches) 1)
-      ∙ ap step (sym (after-after (loaded deck_read size switches) 11 (5 * length stretches)))
+      ap (λ deck. after (loaded deck size switches profile) (instructions_to_load image)) deck_is
+      ∙ sym (after-after (loaded deck_read size switches profile) (11 + 5 * length stretches) 1)
+      ∙ ap step (sym (after-after (loaded deck_read size switches profile) 11 (5 * length stretches)))
       ∙ begun
-      ∙ ap₂ (λ deck taken. left_by deck taken image start size switches) (sym deck_is) taken_is
+      ∙ ap₂ (λ deck taken. left_by deck taken image start size switches profile) (sym deck_is) taken_is
 
-  at_marks : (m : State) (taken : ℕ) (card : List ℕ) (rest : Storage) → At deck_read switches (positions_of size) m 40 taken loading_marks card rest →
+  at_marks : (m : State) (taken : ℕ) (card : List ℕ) (rest : Storage) → At deck_read switches profile (positions_of size) m 40 taken loading_marks card rest →
       (p : ℕ) → p ≤ 80 → is_marked m.works.storage p ≡ list_any (λ q. q == p) loading_marks
   at_marks m taken card rest here zero low = ap (λ (c : ℕ × Bool). c.1) here.storage.zero_is
   at_marks m taken card rest here (suc p) low = here.storage.mark_is (suc p) (omega arith) low
 
   -- between two cards
   pub by_cards : (k : ℕ) → k ≤ length stretches →
-      IsBetweenCards (flat_map (λ stretch. stretch) (take k stretches)) (2 + k) size (after (loaded (loading_cards image start ++ data_cards) size switches) (11 + 5 * k))
+      IsBetweenCards (flat_map (λ stretch. stretch) (take k stretches)) (2 + k) size (after (loaded (loading_cards image start ++ data_cards) size switches profile) (11 + 5 * k))
   by_cards k fits =
       let here = at_card k fits in
-      let same : after (loaded (loading_cards image start ++ data_cards) size switches) (11 + 5 * k) ≡ now_at k =
-      ap (λ deck. after (loaded deck size switches) (11 + 5 * k)) deck_is ∙ sym (after-after (loaded deck_read size switches) 11 (5 * k)) in
+      let same : after (loaded (loading_cards image start ++ data_cards) size switches profile) (11 + 5 * k) ≡ now_at k =
+      ap (λ deck. after (loaded deck size switches profile) (11 + 5 * k)) deck_is ∙ sym (after-after (loaded deck_read size switches profile) 11 (5 * k)) in
       subst (IsBetweenCards (flat (take k stretches)) (2 + k) size) (sym same)
       (record {
         running = here.running;
@@ -287,7 +288,7 @@ module _ (size : Size) (image : List Cell) (start : ℕ) (data_cards : List Card
         marks = at_marks (now_at k) (2 + k) (card_before (drop k stretches) start).0 (filled_with (blank_storage (positions_of size)) (flat (take k stretches))) here;
         program = here.storage.above;
         cards_read = ap (λ (u : Units). u.hopper.taken) here.units;
-        no_card = ap (λ (u : Units). u.punch) here.units;
+        no_card = ap (λ (u : Units). u.punch.cards) here.units;
         no_line = ap (λ (u : Units). u.printer.lines) here.units;
       })
 
@@ -298,6 +299,6 @@ wider size larger image start fits loadable =
 
 -- the deck of a program loads it
 pub deck_loads : (program : Assembly) (deck : List Card) → CanBeLoaded program → deck ≡ loading_cards program.image program.start → Loads program deck
-deck_loads program deck loadable is size data_cards switches fits =
-    ap (λ cards. after (loaded (cards ++ data_cards) size switches) (instructions_to_load program.image)) is
-    ∙ brought size program.image program.start data_cards switches (wider (positions_of program.size) (positions_of size) program.image program.start fits loadable)
+deck_loads program deck loadable is size data_cards switches profile fits =
+    ap (λ cards. after (loaded (cards ++ data_cards) size switches profile) (instructions_to_load program.image)) is
+    ∙ brought size program.image program.start data_cards switches profile (wider (positions_of program.size) (positions_of size) program.image program.start fits loadable)

@@ -4,6 +4,8 @@ use Rattle.cards.specs.declared.decks.Card.{Card}
 use Rattle.core_store.specs.Storage.{Storage, least_mark, field_length, cells_ending, put_cells, with_mark, blank_cell, codes_from}
 use Rattle.core_store.specs.declared.registers.Compared.TheVariants.{Equal}
 use Rattle.addresses.specs.Addresses.{encoded}
+use Rattle.units.specs.declared.pockets.Pocket.TheVariants.{Normal}
+use Rattle.units.specs.declared.profiles.Profile.{Profile}
 use Rattle.units.specs.declared.switches.Switches.{Switches}
 use Rattle.units.specs.Switches.{seven}
 use Rattle.units.specs.Units.{nothing_made}
@@ -24,22 +26,22 @@ use Rattle.loader.proofs.LoadingInstructions.{plain, word_is, set_is_read, clear
 use Rattle.loader.proofs.LoadingEffects.{sets, clears, moves, starts, reads_card, does_nothing}
 
 -- units that have read so many cards and made nothing
-abbrev pub units_with : List Card → ℕ → Switches → Units
-units_with deck taken switches = record {
+abbrev pub units_with : List Card → ℕ → Switches → Profile → Units
+units_with deck taken switches profile = record {
   hopper = record { deck = deck; taken = taken };
   before = nothing_made;
-  punch = [];
+  punch = record { cards = []; chosen = Normal; profile = profile };
   printer = record { lines = []; carriage = record { form = 1; line = 1; waiting = None; channel_12 = false } };
   switches = seven switches;
 }
 
 -- a running machine at an instruction, its storage as it is known
-pub record At (deck : List Card) (switches : Switches) (size : ℕ) (m : State) (i taken : ℕ) (stops card : List ℕ) (rest : Storage) : Type 0 where
+pub record At (deck : List Card) (switches : Switches) (profile : Profile) (size : ℕ) (m : State) (i taken : ℕ) (stops card : List ℕ) (rest : Storage) : Type 0 where
   pub running : m.standing ≡ Running
   pub at : m.works.registers.i ≡ i
   pub equal : m.works.registers.compare ≡ Equal
   pub clear : m.works.registers.overflow ≡ false
-  pub units : m.works.units ≡ units_with deck taken switches
+  pub units : m.works.units ≡ units_with deck taken switches profile
   pub storage : Holds m.works.storage size stops card rest
 
 pub went_on : (m : State) (w : Works) → m.standing ≡ Running → attempt m.works ≡ Ok (w, GoesOn) → step m ≡ record { works = w; standing = Running }
@@ -54,8 +56,8 @@ ends_at s size stops card rest holds i count low high short stopped next =
     word_is s i count (holds.mark_is i low (omega arith) ∙ stopped) least short (omega (arith, holds.size_is, holds.large))
 
 -- an instruction
-module _ (deck : List Card) (switches : Switches) (size : ℕ) (small : size ≤ 16000) (m : State) (i taken : ℕ) (stops card : List ℕ) (rest : Storage)
-    (here : At deck switches size m i taken stops card rest) (low : 1 ≤ i) (high : i ≤ 72)
+module _ (deck : List Card) (switches : Switches) (profile : Profile) (size : ℕ) (small : size ≤ 16000) (m : State) (i taken : ℕ) (stops card : List ℕ) (rest : Storage)
+    (here : At deck switches profile size m i taken stops card rest) (low : 1 ≤ i) (high : i ≤ 72)
     (count : ℕ) (short : count ≤ 7) (ends : Some count ≡ word_length m.works.storage i) where
   -- what stands there is attempted
   pub attempted_as : (d : Decoded) (characters : List ℕ) → take count (drop (i - 1) card) ≡ characters → Ok d ≡ decoded_of m.works.storage count m.works.registers characters →
@@ -77,10 +79,10 @@ module _ (deck : List Card) (switches : Switches) (size : ℕ) (small : size ≤
 
   -- where an attempt leads that goes on
   pub arrives : (w : Works) (to read : ℕ) (stops' card' : List ℕ) (rest' : Storage) → attempt m.works ≡ Ok (w, GoesOn) → w.registers.i ≡ to →
-      w.registers.compare ≡ Equal → w.registers.overflow ≡ false → w.units ≡ units_with deck read switches → Holds w.storage size stops' card' rest' →
-      At deck switches size (step m) to read stops' card' rest'
+      w.registers.compare ≡ Equal → w.registers.overflow ≡ false → w.units ≡ units_with deck read switches profile → Holds w.storage size stops' card' rest' →
+      At deck switches profile size (step m) to read stops' card' rest'
   arrives w to read stops' card' rest' done at equal clear units storage =
-      subst (λ n. At deck switches size n to read stops' card' rest') (sym (went_on m w here.running done))
+      subst (λ n. At deck switches profile size n to read stops' card' rest') (sym (went_on m w here.running done))
       (record { running = refl; at = at; equal = equal; clear = clear; units = units; storage = storage })
 
   module _ (x y : ℕ) (x_in : x < size) (y_in : y < size) (seven : count ≡ 7) where
@@ -91,7 +93,7 @@ module _ (deck : List Card) (switches : Switches) (size : ℕ) (small : size ≤
     y_inside = omega (arith, here.storage.size_is)
 
     pub by_set : take count (drop (i - 1) card) ≡ instruction (codes ",") x y → (stops' : List ℕ) (rest' : Storage) →
-        Holds (with_mark (with_mark m.works.storage x true) y true) size stops' card rest' → At deck switches size (step m) (i + count) taken stops' card rest'
+        Holds (with_mark (with_mark m.works.storage x true) y true) size stops' card rest' → At deck switches profile size (step m) (i + count) taken stops' card rest'
     by_set says stops' rest' after =
         arrives _ (i + count) taken stops' card rest'
         (attempted_as (plain (OnFields SetMark) count x y) (instruction (codes ",") x y) says
@@ -100,7 +102,7 @@ module _ (deck : List Card) (switches : Switches) (size : ℕ) (small : size ≤
         refl here.equal here.clear here.units after
 
     pub by_clear : take count (drop (i - 1) card) ≡ instruction (codes ")") x y → (stops' : List ℕ) (rest' : Storage) →
-        Holds (with_mark (with_mark m.works.storage x false) y false) size stops' card rest' → At deck switches size (step m) (i + count) taken stops' card rest'
+        Holds (with_mark (with_mark m.works.storage x false) y false) size stops' card rest' → At deck switches profile size (step m) (i + count) taken stops' card rest'
     by_clear says stops' rest' after =
         arrives _ (i + count) taken stops' card rest'
         (attempted_as (plain (OnFields ClearMark) count x y) (instruction (codes ")") x y) says
@@ -109,7 +111,7 @@ module _ (deck : List Card) (switches : Switches) (size : ℕ) (small : size ≤
         refl here.equal here.clear here.units after
 
     pub by_load : take count (drop (i - 1) card) ≡ instruction (codes "L") x y → field_length m.works.storage x ≡ Some x → x < y → (stops' : List ℕ) (rest' : Storage) →
-        Holds (put_cells m.works.storage (y + 1 - x) (cells_ending m.works.storage x x)) size stops' card rest' → At deck switches size (step m) (i + count) taken stops' card rest'
+        Holds (put_cells m.works.storage (y + 1 - x) (cells_ending m.works.storage x x)) size stops' card rest' → At deck switches profile size (step m) (i + count) taken stops' card rest'
     by_load says long above stops' rest' after =
         arrives _ (i + count) taken stops' card rest'
         (attempted_as (plain (OnFields Load) count x y) (instruction (codes "L") x y) says
@@ -123,7 +125,7 @@ module _ (deck : List Card) (switches : Switches) (size : ℕ) (small : size ≤
           works = record {
             storage = put_cells m.works.storage 0 (replicate 81 blank_cell);
             registers = record { i = x; a = x; b = i + count; compare = Equal; overflow = false };
-            units = units_with deck taken switches;
+            units = units_with deck taken switches profile;
           };
           standing = Running;
         }
@@ -134,7 +136,7 @@ module _ (deck : List Card) (switches : Switches) (size : ℕ) (small : size ≤
         went_on m _ here.running done ∙ rw (here.equal, here.clear, here.units) refl
 
   pub by_set_one : (x : ℕ) → x < size → count ≡ 4 → take count (drop (i - 1) card) ≡ text (codes ",") ++ encoded x → (stops' : List ℕ) (rest' : Storage) →
-      Holds (with_mark (with_mark m.works.storage x true) x true) size stops' card rest' → At deck switches size (step m) (i + count) taken stops' card rest'
+      Holds (with_mark (with_mark m.works.storage x true) x true) size stops' card rest' → At deck switches profile size (step m) (i + count) taken stops' card rest'
   by_set_one x x_in four says stops' rest' after =
       let inside : x < length m.works.storage = omega (arith, here.storage.size_is) in
       arrives _ (i + count) taken stops' card rest'
@@ -143,7 +145,7 @@ module _ (deck : List Card) (switches : Switches) (size : ℕ) (small : size ≤
       ∙ sets m.works count x x (i + count) inside inside)
       refl here.equal here.clear here.units after
 
-  pub by_nothing : count ≡ 7 → take count (drop (i - 1) card) ≡ unused → At deck switches size (step m) (i + count) taken stops card rest
+  pub by_nothing : count ≡ 7 → take count (drop (i - 1) card) ≡ unused → At deck switches profile size (step m) (i + count) taken stops card rest
   by_nothing seven says =
       arrives _ (i + count) taken stops card rest
       (attempted_as (plain NoOperation 7 m.works.registers.a m.works.registers.b) unused says
@@ -152,7 +154,7 @@ module _ (deck : List Card) (switches : Switches) (size : ℕ) (small : size ≤
       refl here.equal here.clear here.units here.storage
 
   pub by_reading : count ≡ 4 → take count (drop (i - 1) card) ≡ reading → (next_card : Card) → slice_get deck taken ≡ Some next_card → length next_card.0 ≡ 80 →
-      At deck switches size (step m) 40 (taken + 1) stops next_card.0 rest
+      At deck switches profile size (step m) 40 (taken + 1) stops next_card.0 rest
   by_reading four says next_card there long =
       let inside : 40 < length m.works.storage = omega (arith, here.storage.size_is, here.storage.large) in
       let found : slice_get m.works.units.hopper.deck m.works.units.hopper.taken ≡ Some next_card = rw here.units there in

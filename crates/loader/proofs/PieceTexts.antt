@@ -1,11 +1,11 @@
 -- where the instructions stand on a load card
-use Rattle.std.proofs.Common.{◌≡◌, ◌≢◌, ℕ, zero, suc, ◌+◌, ◌-◌, ◌<◌, ◌≤◌, Bool, true, false, List, [], ◌∷◌, ◌++◌, Option, Some, None, refl, sym, ◌∙◌, ap, arith, length, get_or, map, take, drop, replicate, codes, slice_index, length-append, append-nil, append_assoc, drop-drop}
+use Rattle.std.proofs.Common.{◌≡◌, ℕ, ◌+◌, ◌-◌, ◌<◌, ◌≤◌, true, false, List, [], ◌++◌, Some, None, refl, sym, ◌∙◌, ap, arith, length, get_or, map, take, drop, replicate, slice_index, length-append, append-nil, append_assoc, drop-drop}
 use Rattle.std.proofs.lemmas.List.{length-replicate, length-map, get_or_append_left}
 use Rattle.std.proofs.Math.Seq.{drop-append_seam, take-append_seam}
 use Rattle.core_store.specs.Storage.{blank_cell}
-use Rattle.addresses.specs.Addresses.{encoded, written}
+use Rattle.addresses.specs.Addresses.{written}
 use Rattle.autocoder_layout.specs.declared.cells.Cell.{Cell}
-use Rattle.loader.specs.Cards.{text, padded, instruction, unused, reading, moving, three, filled_places, load_card, start_card}
+use Rattle.loader.specs.Cards.{padded, reading, moving, three, filled_places, load_card}
 use Rattle.loader.proofs.PlaceOrders.{Order, words_of, orders_of, order_words, Three}
 
 -- a word that stands at a column

@@ -1,14 +1,10 @@
 -- how the places of a card lay a stretch down
-use Rattle.std.proofs.Common.{◌≡◌, ◌≢◌, ℕ, zero, suc, ◌+◌, ◌-◌, ◌<◌, ◌≤◌, Bool, true, false, ◌&&◌, if◌then◌else◌, List, [], ◌∷◌, ◌++◌, Option, Some, None, refl, sym, ◌∙◌, ap, arith, length, get_or, set, map, filter, take, drop, replicate, codes, length-set, get_or-set_same, get_or-set_other, set-set, eqb-true, nat_eq, nat_le, leb-true, cond}
-use Rattle.std.proofs.lemmas.Bool.{false≢true}
-use Rattle.std.proofs.lemmas.List.{set_comm, set_past}
-use Rattle.std.proofs.Math.Decide.{dec_lt}
-use Rattle.std.specs.List.{concat}
+use Rattle.std.proofs.Common.{◌≡◌, ◌≢◌, ℕ, ◌+◌, ◌<◌, ◌≤◌, Bool, true, false, List, [], ◌∷◌, refl, sym, ◌∙◌, ap, arith, length, set, map, filter, get_or-set_same, get_or-set_other, set-set, eqb-true, nat_eq, cond}
+use Rattle.std.proofs.lemmas.List.{set_comm}
 use Rattle.core_store.specs.Storage.{Storage, code_at, with_mark, put_cells}
 use Rattle.core_store.proofs.Fields.{length-put_cells}
 use Rattle.autocoder_layout.specs.declared.cells.Cell.{Cell}
-use Rattle.loader.specs.Stretches.{is_contiguous, is_lawful, marks_of, mark_limit}
-use Rattle.loader.specs.Cards.{instruction, unused, clearing, marking, filled_places}
+use Rattle.loader.specs.Stretches.{is_contiguous, marks_of}
 use Rattle.loader.specs.Loading.{filled_with}
 use Rattle.loader.proofs.PieceBounds.{both}
 

@@ -1,12 +1,11 @@
 -- the three places of a card, as orders about marks
-use Rattle.std.proofs.Common.{◌≡◌, ◌≢◌, ℕ, zero, suc, ◌+◌, ◌-◌, ◌*◌, ◌<◌, ◌≤◌, Bool, true, false, if◌then◌else◌, List, [], ◌∷◌, ◌++◌, Option, Some, None, refl, sym, ◌∙◌, ap, arith, length, get_or, set, map, filter, take, drop, replicate, codes, length-append}
+use Rattle.std.proofs.Common.{◌≡◌, ℕ, ◌+◌, ◌*◌, ◌<◌, ◌≤◌, Bool, true, false, if◌then◌else◌, List, [], ◌∷◌, ◌++◌, Option, Some, None, refl, sym, ◌∙◌, ap, arith, length, set, map, drop, codes}
 use Rattle.std.proofs.lemmas.List.{set_past, map-append}
 use Rattle.std.proofs.Math.Decide.{dec_lt}
-use Rattle.std.specs.List.{concat}
 use Rattle.core_store.specs.Storage.{Storage, code_at, with_mark, put_cells}
 use Rattle.core_store.proofs.Fields.{length-put_cells}
 use Rattle.autocoder_layout.specs.declared.cells.Cell.{Cell}
-use Rattle.loader.specs.Stretches.{is_lawful, marks_of, mark_limit}
+use Rattle.loader.specs.Stretches.{marks_of, mark_limit}
 use Rattle.loader.specs.Cards.{instruction, unused, clearing, marking, filled_places, three}
 use Rattle.loader.specs.Loading.{filled_with}
 use Rattle.loader.proofs.PlaceEffects.{Runs, runs, bare, full, marked_all, AllAbove, mark_set_same, marked_set, marks_above, marks_laid, filled_is_put}

@@ -7,6 +7,8 @@ use Rattle.core_store.specs.declared.sizes.Size.{Size}
 use Rattle.core_store.specs.declared.registers.Compared.TheVariants.{Equal}
 use Rattle.machine.specs.Run.{State, after, loaded}
 use Rattle.machine.specs.declared.standings.Standing.TheVariants.{Running}
+use Rattle.units.specs.declared.pockets.Pocket.TheVariants.{Normal}
+use Rattle.units.specs.declared.profiles.Profile.{Profile}
 use Rattle.units.specs.declared.switches.Switches.{Switches}
 use Rattle.units.specs.Switches.{seven}
 use Rattle.units.specs.Units.{nothing_made}
@@ -25,9 +27,9 @@ filled_with s [] = s
 filled_with s (c ∷ cells) = filled_with (slice_set s c.position (c.code, c.marked)) cells
 
 -- a machine at the start of a program: the image in a storage that is else blank and unmarked, the
--- loading cards read, the data cards not, nothing punched or printed
-abbrev pub at_the_start : List Cell → ℕ → List Card → Size → Switches → State
-at_the_start image start data_cards size switches = record {
+-- loading cards read, the data cards not, nothing punched or printed, no pocket chosen
+abbrev pub at_the_start : List Cell → ℕ → List Card → Size → Switches → Profile → State
+at_the_start image start data_cards size switches profile = record {
   works = record {
     storage = filled_with (blank_storage (positions_of size)) image;
     registers = record { i = start; a = start; b = 47; compare = Equal; overflow = false };
@@ -37,7 +39,7 @@ at_the_start image start data_cards size switches = record {
         taken = length (loading_cards image start);
       };
       before = nothing_made;
-      punch = [];
+      punch = record { cards = []; chosen = Normal; profile = profile };
       printer = record {
         lines = [];
         carriage = record { form = 1; line = 1; waiting = None; channel_12 = false };
@@ -61,12 +63,14 @@ pub record IsBetweenCards (placed : List Cell) (read : ℕ) (size : Size) (m : S
   pub program : (p : ℕ) → 80 < p →
       cell_at m.works.storage p ≡ cell_at (filled_with (blank_storage (positions_of size)) placed) p
   pub cards_read : m.works.units.hopper.taken ≡ read
-  pub no_card : m.works.units.punch ≡ []
+  pub no_card : m.works.units.punch.cards ≡ []
   pub no_line : m.works.units.printer.lines ≡ []
 
--- the deck loads the program into any machine that is large enough, whatever data cards follow
+-- the deck loads the program into any machine of either profile that is large enough, whatever data
+-- cards follow
 abbrev pub Loads : Assembly → List Card → Type 0
-Loads program deck = (size : Size) (data_cards : List Card) (switches : Switches) →
+Loads program deck =
+    (size : Size) (data_cards : List Card) (switches : Switches) (profile : Profile) →
     positions_of program.size ≤ positions_of size →
-    after (loaded (deck ++ data_cards) size switches) (instructions_to_load program.image)
-    ≡ at_the_start program.image program.start data_cards size switches
+    after (loaded (deck ++ data_cards) size switches profile) (instructions_to_load program.image)
+    ≡ at_the_start program.image program.start data_cards size switches profile

@@ -3,7 +3,9 @@ use Rattle.std.proofs.Common.{◌≡◌, ℕ, ◌-◌, ◌<◌, true, false, Lis
 use Rattle.std.specs.Option.{option_map, option_and_then}
 use Rattle.core_store.specs.Storage.{Storage}
 use Rattle.units.specs.Carriages.{order_of}
+use Rattle.units.specs.Pockets.{pocket_of}
 use Rattle.units.specs.declared.carriage.CarriageOrder.{CarriageOrder}
+use Rattle.units.specs.declared.pockets.Pocket.{Pocket}
 use Rattle.machine.specs.declared.branches.Condition.{Condition}
 use Rattle.machine.specs.declared.branches.PositionTest.{PositionTest}
 use Rattle.core_store.specs.Checked.{find_or, and_then}
@@ -11,10 +13,10 @@ use Rattle.core_store.specs.declared.checks.Check.{Check}
 use Rattle.core_store.specs.declared.checks.Check.TheVariants.{Instruction}
 use Rattle.core_store.specs.declared.registers.Registers.{Registers}
 use Rattle.machine.specs.declared.named.Modifier.{Modifier}
-use Rattle.machine.specs.declared.named.Modifier.TheVariants.{Plain, OnCondition, OnCharacter, OnTest, ByOrder}
+use Rattle.machine.specs.declared.named.Modifier.TheVariants.{Plain, OnCondition, OnCharacter, OnTest, ByOrder, ToPocket}
 use Rattle.machine.specs.Branches.{condition_of, test_of}
 use Rattle.machine.specs.Instructions.{operation_by, modifier_by, addresses_by, is_form, is_last, form_or_first}
-use Rattle.machine.specs.Operations.{Last, says_nothing, names_condition, is_compared, names_test, names_order, Form, Row, row_of, form_among, meant, modifier_at}
+use Rattle.machine.specs.Operations.{Last, says_nothing, names_condition, is_compared, names_test, names_order, names_pocket, Form, Row, row_of, form_among, meant, modifier_at}
 use Rattle.machine.specs.Word.{decoded_of, operands_of, LooksInside, WantsTwo}
 use Rattle.machine.proofs.FormTables.{IsFormed, formed, form_is, looks, looks_at}
 
@@ -132,12 +134,17 @@ order_two : (found : Option CarriageOrder) (count : ℕ) → WantsTwo (unwrap_or
 order_two (Some order) count = tt
 order_two None count = tt
 
+pocket_two : (found : Option Pocket) (count : ℕ) → WantsTwo (unwrap_or (option_map (λ pocket. ToPocket pocket) found) Plain) count
+pocket_two (Some pocket) count = tt
+pocket_two None count = tt
+
 two_of : (says : Last) (last count : ℕ) → (looks says ≡ true → 1 < count) → WantsTwo (unwrap_or (meant says last) Plain) count
 two_of says_nothing last count h = tt
 two_of names_condition last count h = condition_two (condition_of last) count
 two_of is_compared last count h = h refl
 two_of names_test last count h = test_two (test_of last) count (h refl)
 two_of names_order last count h = order_two (order_of last) count
+two_of names_pocket last count h = pocket_two (pocket_of last) count
 
 inside : (modifier : Modifier) (count b size : ℕ) → WantsTwo modifier count → (1 < count → b < size) → LooksInside modifier b size
 inside Plain count b size two h = tt
@@ -145,6 +152,7 @@ inside (OnCondition condition) count b size two h = tt
 inside (OnCharacter code) count b size two h = h two
 inside (OnTest test) count b size two h = h two
 inside (ByOrder order) count b size two h = tt
+inside (ToPocket pocket) count b size two h = tt
 
 pub looks_inside : (first count last b size : ℕ) → is_form first count ≡ true → (1 < addresses_by first count → b < size) → LooksInside (modifier_by first count last) b size
 looks_inside first count last b size form h =

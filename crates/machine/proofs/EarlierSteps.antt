@@ -1,7 +1,6 @@
 -- steps and runs of machines with cards and lines made earlier
-use Rattle.std.proofs.Common.{ℕ, zero, suc, ◌+◌, ◌-◌, ◌<◌, ◌≤◌, ◌≡◌, ◌⊎◌, inl, inr, Bool, true, false, List, [], ◌∷◌, ◌++◌, length, length-append, append_assoc, map, Option, Some, None, Result, Ok, Err, ltb, refl, sym, ap, ◌∙◌, arith, if◌then◌else◌, ◌&&◌}
+use Rattle.std.proofs.Common.{ℕ, zero, suc, ◌+◌, ◌-◌, ◌≡◌, inl, inr, Bool, true, false, List, [], ◌∷◌, ◌++◌, length, length-append, append_assoc, Option, Some, None, Result, Ok, Err, ltb, refl, sym, ap, ◌∙◌, arith, if◌then◌else◌, ◌&&◌}
 use Rattle.std.proofs.lemmas.List.{append-nil}
-use Rattle.cards.specs.declared.decks.Card.{Card}
 use Rattle.core_store.specs.Storage.{Storage, codes_from}
 use Rattle.core_store.specs.Checked.{require, find_or, and_then}
 use Rattle.core_store.specs.declared.checks.Check.{Check}
@@ -10,32 +9,36 @@ use Rattle.core_store.specs.declared.registers.Registers.{Registers}
 use Rattle.addresses.specs.Stored.{address_stored}
 use Rattle.moves.specs.Marks.{storage_cleared}
 use Rattle.units.specs.declared.devices.Devices.{Devices}
+use Rattle.units.specs.declared.pockets.Pocket.{Pocket}
+use Rattle.units.specs.declared.pockets.Pocket.TheVariants.{Normal}
 use Rattle.units.specs.declared.printer.Line.{Line}
+use Rattle.units.specs.declared.punch.Punched.{Punched}
 use Rattle.units.specs.declared.reader.Hopper.{Hopper}
-use Rattle.units.specs.declared.switches.Switches.{Switches}
 use Rattle.units.specs.declared.units.Counts.{Counts}
 use Rattle.units.specs.declared.units.Units.{Units}
 use Rattle.units.specs.declared.carriage.Carriage.{Carriage}
 use Rattle.units.specs.declared.carriage.CarriageOrder.{CarriageOrder}
 use Rattle.units.specs.Carriages.{after_line, ordered, carriage_moved}
+use Rattle.units.specs.Pockets.{pocket_chosen}
 use Rattle.units.specs.Printed.{Printed}
-use Rattle.units.specs.Ranges.{AreRising, AreUnits, HasPrinted, IsBelow, IsOnForm, carriage_place, line_place, places_then, the_top}
-use Rattle.units.specs.Units.{most_cards, most_lines, card_punched, line_printed, punch_works, printer_works, reader_works, punches, prints, together, operated, nothing_made, Makes}
+use Rattle.units.specs.Stacked.{Stacked, is_selecting}
+use Rattle.units.specs.Ranges.{AreRising, IsOnForm, carriage_place, line_place, places_then, the_top}
+use Rattle.units.specs.Units.{most_cards, most_lines, area_card, card_punched, line_printed, punch_works, printer_works, reader_works, punches, prints, together, operated, nothing_made, Makes}
 use Rattle.machine.specs.declared.branches.Condition.{Condition}
 use Rattle.machine.specs.declared.branches.Condition.TheVariants.{Always, IsUnequal, IsEqual, IsLow, IsHigh, Overflow, LastCard, SwitchOn, Channel12}
 use Rattle.machine.specs.declared.named.Operation.{Operation}
-use Rattle.machine.specs.declared.named.Operation.TheVariants.{OnFields, ClearStorage, Branch, BranchOnMarkOrZone, Operate, MoveCarriage, StoreA, StoreB, Halt, NoOperation}
+use Rattle.machine.specs.declared.named.Operation.TheVariants.{OnFields, ClearStorage, Branch, BranchOnMarkOrZone, Operate, MoveCarriage, ChoosePocket, StoreA, StoreB, Halt, NoOperation}
 use Rattle.machine.specs.declared.named.Modifier.{Modifier}
-use Rattle.machine.specs.declared.named.Modifier.TheVariants.{Plain, OnCondition, OnCharacter, OnTest, ByOrder}
+use Rattle.machine.specs.declared.named.Modifier.TheVariants.{Plain, OnCondition, OnCharacter, OnTest, ByOrder, ToPocket}
 use Rattle.machine.specs.declared.named.Decoded.{Decoded}
 use Rattle.machine.specs.declared.operations.Course.{Course}
 use Rattle.machine.specs.Branches.{is_met}
 use Rattle.machine.specs.Word.{word, decoded}
-use Rattle.machine.specs.Effect.{Works, attempt, effect, filled, next_of, ordered_by, worked, is_taken, after_branch}
+use Rattle.machine.specs.Effect.{Works, attempt, effect, filled, next_of, ordered_by, pocket_by, worked, is_taken, after_branch}
 use Rattle.machine.specs.Ranges.{IsInRange}
 use Rattle.machine.specs.Run.{State, step, after, attempts, executed, attempted, is_running, is_checked, lines_of}
 use Rattle.machine.proofs.Steps.{step_keeps, stems_after, stems_same, step_running, step_stopped}
-use Rattle.machine.specs.Earlier.{printer_with, units_with, works_with, with_earlier, without_outputs, AreBehind, IsBehind}
+use Rattle.machine.specs.Earlier.{punch_with, printer_with, units_with, works_with, with_earlier, without_outputs, AreBehind, IsBehind}
 
 -- ---- an outcome with each value changed
 
@@ -65,21 +68,26 @@ along_both f g first (Err check) p q e h = ap (λ r. and_then r p) e
 
 -- ---- the punch and the printer
 
-more_cards : (cards : List Card) (s : Storage) (made : List Card) → card_punched 0 s (cards ++ made) ≡ along (λ xs. cards ++ xs) (card_punched (length cards) s made)
+more_cards : (cards : List Punched) (s : Storage) (p : Stacked) → card_punched 0 s (punch_with cards p) ≡ along (punch_with cards) (card_punched (length cards) s p)
 unfolding card_punched
-more_cards cards s made =
-    let one : Card = record { 0 = codes_from s 101 80 } in
-    let all : 0 + length (cards ++ made) ≡ length cards + length made = omega (arith, length-append cards made) in
-    ap (λ n. require (ltb n most_cards) PunchFull (Ok ((cards ++ made) ++ one ∷ []))) all
-    ∙ along_require (λ xs. cards ++ xs) (ltb (length cards + length made) most_cards) PunchFull _ _ (ap Ok (append_assoc cards made (one ∷ [])))
+more_cards cards s p =
+    let one : Punched = record { card = area_card s; pocket = p.chosen } in
+    let all : 0 + length (cards ++ p.cards) ≡ length cards + length p.cards = omega (arith, length-append cards p.cards) in
+    rw all
+    (along_require (punch_with cards) (ltb (length cards + length p.cards) most_cards) PunchFull _ _
+    (ap (λ (xs : List Punched). let q : Stacked = record p { cards = xs; chosen = Normal } in Ok q) (append_assoc cards p.cards (one ∷ []))))
 
-more_punched : (cards : List Card) (devices : Devices) (s : Storage) (made : List Card) →
-    punch_works devices 0 s (cards ++ made) ≡ along (λ xs. cards ++ xs) (punch_works devices (length cards) s made)
+more_punched : (cards : List Punched) (devices : Devices) (s : Storage) (p : Stacked) →
+    punch_works devices 0 s (punch_with cards p) ≡ along (punch_with cards) (punch_works devices (length cards) s p)
 unfolding punch_works
-more_punched cards devices s made = by_test (punches devices) where
-  by_test : (test : Bool) → (if test then card_punched 0 s (cards ++ made) else Ok (cards ++ made)) ≡ along (λ xs. cards ++ xs) (if test then card_punched (length cards) s made else Ok made)
-  by_test true = more_cards cards s made
+more_punched cards devices s p = by_test (punches devices) where
+  by_test : (test : Bool) → (if test then card_punched 0 s (punch_with cards p) else Ok (punch_with cards p)) ≡ along (punch_with cards) (if test then card_punched (length cards) s p else Ok p)
+  by_test true = more_cards cards s p
   by_test false = refl
+
+pocket_along : (cards : List Punched) (pocket : Pocket) (p : Stacked) → pocket_chosen pocket (punch_with cards p) ≡ along (punch_with cards) (pocket_chosen pocket p)
+unfolding pocket_chosen
+pocket_along cards pocket p = along_require (punch_with cards) (is_selecting p.profile) Instruction _ _ refl
 
 more_lines : (lines : List Line) (s : Storage) (p : Printed) → line_printed 0 s (printer_with lines p) ≡ along (printer_with lines) (line_printed (length lines) s p)
 unfolding line_printed
@@ -109,15 +117,16 @@ ordered_along lines (OnCondition condition) p = refl
 ordered_along lines (OnCharacter code) p = refl
 ordered_along lines (OnTest test) p = refl
 ordered_along lines (ByOrder order) p = carriage_along lines order p
+ordered_along lines (ToPocket pocket) p = refl
 
 -- ---- one operation of the units
 
-module _ (cards : List Card) (lines : List Line) where
+module _ (cards : List Punched) (lines : List Line) where
   abbrev made_along : Storage × Units → Storage × Units
   made_along done = (done.0, units_with cards lines done.1)
 
-  together_along : (u : Units) (reader : Result (Storage × Hopper) Check) (punch : Result (List Card) Check) (printer : Result Printed Check) →
-      together (units_with cards lines u) reader (along (λ xs. cards ++ xs) punch) (along (printer_with lines) printer) ≡ along made_along (together u reader punch printer)
+  together_along : (u : Units) (reader : Result (Storage × Hopper) Check) (punch : Result Stacked Check) (printer : Result Printed Check) →
+      together (units_with cards lines u) reader (along (punch_with cards) punch) (along (printer_with lines) printer) ≡ along made_along (together u reader punch printer)
   together_along u (Ok read) (Ok made) (Ok printed) = refl
   together_along u (Ok read) (Ok made) (Err check) = refl
   together_along u (Ok read) (Err check) printer = refl
@@ -126,12 +135,12 @@ module _ (cards : List Card) (lines : List Line) where
   operated_along : (devices : Devices) (s : Storage) (u : Units) → AreBehind cards lines u → operated devices s (units_with cards lines u) ≡ along made_along (operated devices s u)
   unfolding operated
   operated_along devices s u behind =
-      let punched : punch_works devices 0 s (cards ++ u.punch) ≡ along (λ xs. cards ++ xs) (punch_works devices u.before.cards s u.punch) =
-      more_punched cards devices s u.punch ∙ ap (λ (n : Counts). along (λ xs. cards ++ xs) (punch_works devices n.cards s u.punch)) (sym behind) in
+      let punched : punch_works devices 0 s (punch_with cards u.punch) ≡ along (punch_with cards) (punch_works devices u.before.cards s u.punch) =
+      more_punched cards devices s u.punch ∙ ap (λ (n : Counts). along (punch_with cards) (punch_works devices n.cards s u.punch)) (sym behind) in
       let printed : printer_works devices 0 s (printer_with lines u.printer) ≡ along (printer_with lines) (printer_works devices u.before.lines s u.printer) =
       more_printed lines devices s u.printer ∙ ap (λ (n : Counts). along (printer_with lines) (printer_works devices n.lines s u.printer)) (sym behind) in
       ap (λ c. together (units_with cards lines u) (reader_works devices s u.hopper) c (printer_works devices 0 s (printer_with lines u.printer))) punched
-      ∙ ap (together (units_with cards lines u) (reader_works devices s u.hopper) (along (λ xs. cards ++ xs) (punch_works devices u.before.cards s u.punch))) printed
+      ∙ ap (together (units_with cards lines u) (reader_works devices s u.hopper) (along (punch_with cards) (punch_works devices u.before.cards s u.punch))) printed
       ∙ together_along u (reader_works devices s u.hopper) (punch_works devices u.before.cards s u.punch) (printer_works devices u.before.lines s u.printer)
 
   -- ---- one instruction
@@ -154,6 +163,7 @@ module _ (cards : List Card) (lines : List Line) where
   taken_same (OnCharacter code) b w = refl
   taken_same (OnTest test) b w = refl
   taken_same (ByOrder order) b w = refl
+  taken_same (ToPocket pocket) b w = refl
 
   branch_same : (d : Decoded) (next : ℕ) (w : Works) → after_branch d next (works_with cards lines w) ≡ after_branch d next w
   branch_same d next w = rw (taken_same d.modifier d.b w) refl
@@ -173,6 +183,7 @@ module _ (cards : List Card) (lines : List Line) where
   effect_along BranchOnMarkOrZone d next w behind = branch_along d next w _ _ _ (branch_same d next w)
   effect_along (Operate devices) d next w behind = along_both done_along made_along _ (operated devices w.storage w.units) _ _ (operated_along devices w.storage w.units behind) (λ done. refl)
   effect_along MoveCarriage d next w behind = along_both done_along (printer_with lines) _ (ordered_by d.modifier w.units.printer) _ _ (ordered_along lines d.modifier w.units.printer) (λ p. refl)
+  effect_along ChoosePocket d next w behind = along_both done_along (punch_with cards) _ (pocket_chosen (pocket_by d.modifier) w.units.punch) _ _ (pocket_along cards (pocket_by d.modifier) w.units.punch) (λ stacked. refl)
   effect_along StoreA d next w behind = along_then done_along (address_stored w.storage d.a w.registers.a) _ _ (λ s. refl)
   effect_along StoreB d next w behind = along_then done_along (address_stored w.storage d.a w.registers.b) _ _ (λ s. refl)
   effect_along Halt d next w behind = refl
@@ -226,7 +237,7 @@ module _ (cards : List Card) (lines : List Line) where
       ∙ ap (λ (t : State). attempts m count - (if is_running m.standing && is_checked t.standing then 1 else 0)) (after_along m count behind)
 
   pub makes_along : (m next : State) → Makes m.works.units next.works.units → Makes (with_earlier cards lines m).works.units (with_earlier cards lines next).works.units
-  makes_along m next (inl more) = inl (omega (arith, more, length-append cards m.works.units.punch, length-append cards next.works.units.punch))
+  makes_along m next (inl more) = inl (omega (arith, more, length-append cards m.works.units.punch.cards, length-append cards next.works.units.punch.cards))
   makes_along m next (inr more) = inr (omega (arith, more, length-append lines (lines_of m), length-append lines (lines_of next)))
 
 -- ---- a machine without its cards and lines
@@ -241,14 +252,14 @@ last_on_form carriage (l ∷ lines) h = last_behind l lines h.1 where
   last_behind l [] h = h.0.0
   last_behind l (x ∷ lines) h = last_behind x lines h.1
 
-pub put_back : (m : State) → m.works.units.before ≡ nothing_made → with_earlier m.works.units.punch (lines_of m) (without_outputs m) ≡ m
-put_back m none = rw (append-nil m.works.units.punch, append-nil (lines_of m), ← none) refl
+pub put_back : (m : State) → m.works.units.before ≡ nothing_made → with_earlier m.works.units.punch.cards (lines_of m) (without_outputs m) ≡ m
+put_back m none = rw (append-nil m.works.units.punch.cards, append-nil (lines_of m), ← none) refl
 
-pub left_behind : (m : State) → m.works.units.before ≡ nothing_made → IsBehind m.works.units.punch (lines_of m) (without_outputs m)
+pub left_behind : (m : State) → m.works.units.before ≡ nothing_made → IsBehind m.works.units.punch.cards (lines_of m) (without_outputs m)
 left_behind m none =
     let no_cards : m.works.units.before.cards ≡ 0 = ap (λ (n : Counts). n.cards) none in
     let no_lines : m.works.units.before.lines ≡ 0 = ap (λ (n : Counts). n.lines) none in
-    let cards : m.works.units.before.cards + length m.works.units.punch ≡ length m.works.units.punch = omega (arith, no_cards) in
+    let cards : m.works.units.before.cards + length m.works.units.punch.cards ≡ length m.works.units.punch.cards = omega (arith, no_cards) in
     let lines : m.works.units.before.lines + length (lines_of m) ≡ length (lines_of m) = omega (arith, no_lines) in
     rw (cards, lines) refl
 

@@ -6,11 +6,12 @@ use Rattle.bcd.specs.Table.{glyph_of}
 use Rattle.std.proofs.Math.Decide.{dec_lt}
 use Rattle.bcd.proofs.Tables.{at_each}
 use Rattle.units.specs.Carriages.{order_of}
-use Rattle.machine.specs.declared.forms.TheConstants.{FORMS, CONDITIONS, TESTS, ORDERS}
-use Rattle.machine.specs.declared.named.Modifier.TheVariants.{OnCondition, OnTest, ByOrder}
+use Rattle.units.specs.Pockets.{pocket_of}
+use Rattle.machine.specs.declared.forms.TheConstants.{FORMS, CONDITIONS, TESTS, ORDERS, POCKETS}
+use Rattle.machine.specs.declared.named.Modifier.TheVariants.{OnCondition, OnTest, ByOrder, ToPocket}
 use Rattle.machine.specs.Branches.{condition_of, test_of}
 use Rattle.machine.specs.Instructions.{addresses_by, is_form, is_last}
-use Rattle.machine.specs.Operations.{Last, says_nothing, names_condition, is_compared, names_test, names_order, Form, Row, operations, row_among, row_of, form_among, form_of, meant}
+use Rattle.machine.specs.Operations.{Last, says_nothing, names_condition, is_compared, names_test, names_order, names_pocket, Form, Row, operations, row_among, row_of, form_among, form_of, meant}
 
 -- ---- two truths are the same
 
@@ -37,6 +38,7 @@ looks names_condition = false
 looks is_compared = true
 looks names_test = true
 looks names_order = false
+looks names_pocket = false
 
 -- a form has at most eight characters, and a second address where one is looked at
 abbrev is_sound : Form → Bool
@@ -132,13 +134,14 @@ number_of names_condition = 1
 number_of is_compared = 2
 number_of names_test = 3
 number_of names_order = 4
+number_of names_pocket = 5
 
 -- what the code takes a last character to say
 abbrev sort_of : ℕ → ℕ → ℕ
 sort_of first count =
     if first == 37 then 0
     else (if bit 146 count then 0
-    else (if count == 5 then 1 else (if count == 2 then 4 else (if first == 21 then 3 else 2))))
+    else (if count == 5 then 1 else (if count == 2 then (if first == 34 then 5 else 4) else (if first == 21 then 3 else 2))))
 
 -- how many addresses the code reads
 abbrev read_by : ℕ → ℕ → ℕ
@@ -181,7 +184,7 @@ some_map f None = refl
 -- what is allowed as the last character, by what it says
 abbrev allowed : ℕ → ℕ → Bool
 allowed sort last =
-    if sort == 1 then is_some (condition_of last) else (if sort == 3 then is_some (test_of last) else (if sort == 4 then is_some (order_of last) else true))
+    if sort == 1 then is_some (condition_of last) else (if sort == 3 then is_some (test_of last) else (if sort == 4 then is_some (order_of last) else (if sort == 5 then is_some (pocket_of last) else true)))
 
 is_allowed : (says : Last) (last : ℕ) → is_some (meant says last) ≡ allowed (number_of says) last
 is_allowed says_nothing last = refl
@@ -189,6 +192,7 @@ is_allowed names_condition last = some_map (λ condition. OnCondition condition)
 is_allowed is_compared last = refl
 is_allowed names_test last = some_map (λ test. OnTest test) (test_of last)
 is_allowed names_order last = some_map (λ order. ByOrder order) (order_of last)
+is_allowed names_pocket last = some_map (λ pocket. ToPocket pocket) (pocket_of last)
 
 module _ (first count last : ℕ) (low : first < 64) (short : count ≤ 8) (form : is_form first count ≡ true) where
   last_at : is_last first count last ≡ allowed (sort_of first count) last
@@ -208,9 +212,13 @@ module _ (first count last : ℕ) (low : first < 64) (short : count ≤ 8) (form
   pub condition_last : first ≢ 37 → 146 / 2 ^ count % 2 ≢ 1 → count ≡ 5 → is_some (condition_of last) ≡ is_last first count last
   condition_last some bound five = sym (last_at ∙ rw (ne_eqb first 37 some, ne_eqb (146 / 2 ^ count % 2) 1 bound, eq-eqb count 5 five) refl)
 
-  pub order_last : first ≢ 37 → 146 / 2 ^ count % 2 ≢ 1 → count ≢ 5 → count ≡ 2 → is_some (order_of last) ≡ is_last first count last
-  order_last some bound not_five pair =
-      sym (last_at ∙ rw (ne_eqb first 37 some, ne_eqb (146 / 2 ^ count % 2) 1 bound, ne_eqb count 5 not_five, eq-eqb count 2 pair) refl)
+  pub pocket_last : first ≢ 37 → 146 / 2 ^ count % 2 ≢ 1 → count ≢ 5 → count ≡ 2 → first ≡ 34 → is_some (pocket_of last) ≡ is_last first count last
+  pocket_last some bound not_five pair on_pocket =
+      sym (last_at ∙ rw (ne_eqb first 37 some, ne_eqb (146 / 2 ^ count % 2) 1 bound, ne_eqb count 5 not_five, eq-eqb count 2 pair, eq-eqb first 34 on_pocket) refl)
+
+  pub order_last : first ≢ 37 → 146 / 2 ^ count % 2 ≢ 1 → count ≢ 5 → count ≡ 2 → first ≢ 34 → is_some (order_of last) ≡ is_last first count last
+  order_last some bound not_five pair no_pocket =
+      sym (last_at ∙ rw (ne_eqb first 37 some, ne_eqb (146 / 2 ^ count % 2) 1 bound, ne_eqb count 5 not_five, eq-eqb count 2 pair, ne_eqb first 34 no_pocket) refl)
 
   pub test_last : first ≢ 37 → 146 / 2 ^ count % 2 ≢ 1 → count ≢ 5 → count ≢ 2 → first ≡ 21 → is_some (test_of last) ≡ is_last first count last
   test_last some bound not_five not_two on_test =
@@ -255,3 +263,7 @@ test_at last low = same_is _ _ (at_each (λ n. same (bit TESTS n) (is_some (test
 pub order_at : (last : ℕ) → last < 64 → bit ORDERS last ≡ is_some (order_of last)
 unfolding order_of glyph_of
 order_at last low = same_is _ _ (at_each (λ n. same (bit ORDERS n) (is_some (order_of n))) 64 refl last low)
+
+pub pocket_at : (last : ℕ) → last < 64 → bit POCKETS last ≡ is_some (pocket_of last)
+unfolding pocket_of glyph_of
+pocket_at last low = same_is _ _ (at_each (λ n. same (bit POCKETS n) (is_some (pocket_of n))) 64 refl last low)

@@ -23,25 +23,26 @@ use Rattle.moves.specs.Loaded.{field_loaded}
 use Rattle.moves.specs.Parts.{digit_moved, zone_moved}
 use Rattle.moves.specs.Suppressed.{zeros_suppressed}
 use Rattle.moves.specs.Edited.{field_edited}
+use Rattle.units.specs.declared.profiles.Profile.{Profile}
 use Rattle.units.specs.declared.switches.Switches.{Switches}
 use Rattle.units.specs.Printed.{Printed}
 use Rattle.units.specs.Ranges.{AreUnits, HasPrinted}
 use Rattle.units.proofs.OperationOutcomes.{Each, each_require, each_where, each_find, each_then}
-use Rattle.units.proofs.InRange.{operated_in_range, carriage_printed}
+use Rattle.units.proofs.InRange.{operated_in_range, carriage_printed, HasPunched, pocket_chosen_most}
 use Rattle.machine.specs.declared.branches.Condition.{Condition}
 use Rattle.machine.specs.declared.branches.Condition.TheVariants.{Always, IsUnequal, IsEqual, IsLow, IsHigh, Overflow, LastCard, SwitchOn, Channel12}
 use Rattle.machine.specs.declared.named.Operation.{Operation}
-use Rattle.machine.specs.declared.named.Operation.TheVariants.{OnFields, ClearStorage, Branch, BranchOnMarkOrZone, Operate, MoveCarriage, StoreA, StoreB, Halt, NoOperation}
+use Rattle.machine.specs.declared.named.Operation.TheVariants.{OnFields, ClearStorage, Branch, BranchOnMarkOrZone, Operate, MoveCarriage, ChoosePocket, StoreA, StoreB, Halt, NoOperation}
 use Rattle.machine.specs.declared.operations.FieldOperation.{FieldOperation}
 use Rattle.machine.specs.declared.operations.FieldOperation.TheVariants.{Add, Subtract, ZeroAdd, ZeroSubtract, Compare, ModifyAddress, Move, Load, MoveDigit, MoveZone, Suppress, Edit, SetMark, ClearMark}
 use Rattle.machine.specs.declared.named.Modifier.{Modifier}
-use Rattle.machine.specs.declared.named.Modifier.TheVariants.{Plain, OnCondition, OnCharacter, OnTest, ByOrder}
+use Rattle.machine.specs.declared.named.Modifier.TheVariants.{Plain, OnCondition, OnCharacter, OnTest, ByOrder, ToPocket}
 use Rattle.machine.specs.declared.named.Decoded.{Decoded}
 use Rattle.machine.specs.declared.operations.Course.{Course}
 use Rattle.machine.specs.Branches.{once_tested}
 use Rattle.machine.specs.Operations.{row_of, form_among, meant}
 use Rattle.machine.specs.Word.{word, decoded_of, decoded, operands_of, operand_at}
-use Rattle.machine.specs.Effect.{Works, attempt, effect, filled, next_of, after_unit, after_branch, looked_at, passed, ordered_by, worked}
+use Rattle.machine.specs.Effect.{Works, attempt, effect, filled, next_of, after_unit, after_branch, looked_at, passed, ordered_by, pocket_by, worked}
 use Rattle.machine.specs.Run.{State, step, after, attempted, started, loaded, is_running}
 use Rattle.machine.specs.Ranges.{AreAddresses, IsInRange}
 use Rattle.machine.proofs.Steps.{each_any, length-loaded, step_keeps, step_running, step_stopped}
@@ -198,6 +199,7 @@ looked_at_below (OnCondition condition) r h = once_tested_below condition r h
 looked_at_below (OnCharacter code) r h = h
 looked_at_below (OnTest test) r h = h
 looked_at_below (ByOrder order) r h = h
+looked_at_below (ToPocket pocket) r h = h
 
 passed_below : (modifier : Modifier) (b old : ℕ) → old < largest_size → passed modifier b old < largest_size
 passed_below Plain b old h = h
@@ -205,6 +207,7 @@ passed_below (OnCondition condition) b old h = h
 passed_below (OnCharacter code) b old h = omega arith
 passed_below (OnTest test) b old h = omega arith
 passed_below (ByOrder order) b old h = h
+passed_below (ToPocket pocket) b old h = h
 
 -- ---- the carriage
 
@@ -214,6 +217,7 @@ ordered_printed (OnCondition condition) before p h = h
 ordered_printed (OnCharacter code) before p h = h
 ordered_printed (OnTest test) before p h = h
 ordered_printed (ByOrder order) before p h = carriage_printed order before p h
+ordered_printed (ToPocket pocket) before p h = h
 
 -- ---- what each attempt leaves
 
@@ -247,6 +251,9 @@ module _ (d : Decoded) (next : ℕ) (w : Works) (at_d : WorksAt d) (at_next : ne
   effect_in_range MoveCarriage =
       each_then (HasPrinted w.units.before.lines) Leaves _ _ (ordered_printed d.modifier w.units.before.lines w.units.printer h.units.printer) (λ p printed.
       record { registers = record { i = at_next; a = h.registers.a; b = h.registers.b }; units = record { reader = h.units.reader; punch = h.units.punch; printer = printed; switches = h.units.switches } })
+  effect_in_range ChoosePocket =
+      each_then (HasPunched w.units.before.cards) Leaves _ _ (pocket_chosen_most (pocket_by d.modifier) w.units.before.cards w.units.punch h.units.punch) (λ stacked most.
+      record { registers = record { i = at_next; a = h.registers.a; b = h.registers.b }; units = record { reader = h.units.reader; punch = most; printer = h.units.printer; switches = h.units.switches } })
   effect_in_range StoreA =
       each_then (λ _. Unit {0}) Leaves _ _ (each_any (address_stored w.storage d.a w.registers.a)) (λ s _.
       record { registers = record { i = at_next; a = h.registers.a; b = (lowered_below d.a d.a 3 3).0 }; units = h.units })
@@ -296,8 +303,8 @@ after_in_range m (suc count) h = after_in_range (step m) count (step_in_range m 
 pub started_in_range : (m : State) (switches : Switches) → IsInRange m → IsInRange (started m switches)
 started_in_range m switches h = record { size = h.size; registers = h.registers; units = record { reader = h.units.reader; punch = h.units.punch; printer = h.units.printer; switches = omega arith } }
 
-pub loaded_in_range : (deck : List Card) (size : Size) (switches : Switches) → 0 < length deck → IsInRange (loaded deck size switches)
-loaded_in_range deck size switches some =
+pub loaded_in_range : (deck : List Card) (size : Size) (switches : Switches) (profile : Profile) → 0 < length deck → IsInRange (loaded deck size switches profile)
+loaded_in_range deck size switches profile some =
     record {
       size = (size, length-loaded _ size _ refl);
       registers = record { i = omega arith; a = omega arith; b = omega arith };

@@ -10,21 +10,25 @@ use Rattle.core_store.specs.Storage.{code_at}
 use Rattle.core_store.specs.Operands.{lowered}
 use Rattle.core_store.specs.declared.checks.Check.{Check}
 use Rattle.units.specs.Carriages.{order_of, carriage_moved}
+use Rattle.units.specs.Pockets.{pocket_of, pocket_chosen}
 use Rattle.units.specs.Printed.{Printed}
+use Rattle.units.specs.Stacked.{Stacked}
 use Rattle.units.specs.declared.carriage.CarriageOrder.{CarriageOrder}
+use Rattle.units.specs.declared.pockets.Pocket.{Pocket}
+use Rattle.units.specs.declared.pockets.Pocket.TheVariants.{Normal}
 use Rattle.machine.specs.declared.operations.Course.TheVariants.{GoesOn}
 use Rattle.machine.specs.declared.branches.Condition.{Condition}
 use Rattle.machine.specs.declared.branches.Condition.TheVariants.{Always}
 use Rattle.machine.specs.declared.branches.PositionTest.{PositionTest}
-use Rattle.machine.specs.declared.named.Operation.TheVariants.{Operate, MoveCarriage, NoOperation}
+use Rattle.machine.specs.declared.named.Operation.TheVariants.{Operate, MoveCarriage, ChoosePocket, NoOperation}
 use Rattle.machine.specs.declared.named.Modifier.{Modifier}
-use Rattle.machine.specs.declared.named.Modifier.TheVariants.{Plain, OnCondition, OnCharacter, OnTest, ByOrder}
+use Rattle.machine.specs.declared.named.Modifier.TheVariants.{Plain, OnCondition, OnCharacter, OnTest, ByOrder, ToPocket}
 use Rattle.machine.specs.declared.named.Decoded.{Decoded}
 use Rattle.machine.specs.Branches.{condition_of, test_of, is_met, once_tested, passes}
-use Rattle.machine.specs.Effect.{Works, after_branch, branched, effect, at}
+use Rattle.machine.specs.Effect.{Works, after_branch, branched, effect, at, pocket_by}
 use Rattle.machine.specs.Instructions.{operation_by, modifier_by}
 use Rattle.machine.specs.Glyphs.{is_glyph}
-use Rattle.machine.specs.Operations.{Form, Row, names_test, names_order, free, saying, devices, operations, row_of}
+use Rattle.machine.specs.Operations.{Form, Row, names_test, names_order, names_pocket, free, saying, devices, operations, row_of}
 use Rattle.machine.specs.Word.{LooksInside}
 
 -- ---- what the last character of each form means
@@ -69,6 +73,15 @@ pub meant_by_no_order : (first count last : ℕ) → is_glyph first (codes "F") 
 unfolding modifier_by row_of operations
 meant_by_no_order first count last named none =
     rw (letter first (codes "F") named, either_way (count == 2) (saying 2 0 names_order), none) refl
+
+pocket_named : (found : Option Pocket) → pocket_by (unwrap_or (option_map (λ pocket. ToPocket pocket) found) Plain) ≡ unwrap_or found Normal
+pocket_named (Some pocket) = refl
+pocket_named None = refl
+
+pub pocket_meant : (first count last : ℕ) → is_glyph first (codes "K") ≡ true → pocket_by (modifier_by first count last) ≡ unwrap_or (pocket_of last) Normal
+unfolding modifier_by row_of operations
+pocket_meant first count last named =
+    rw (letter first (codes "K") named, either_way (count == 2) (saying 2 0 names_pocket)) (pocket_named (pocket_of last))
 
 -- ---- branches
 
@@ -115,6 +128,18 @@ pub not_ordered : (d : Decoded) (next : ℕ) (w : Works) → d.modifier ≡ Plai
 unfolding effect
 not_ordered d next w e = rw e refl
 
+-- ---- selections of a pocket
+
+pub selected : (d : Decoded) (next : ℕ) (w : Works) (pocket : Pocket) (stacked : Stacked) → pocket ≡ pocket_by d.modifier → pocket_chosen pocket w.units.punch ≡ Ok stacked →
+    effect ChoosePocket d next w ≡ Ok (record w { registers = at next w.registers; units = record w.units { punch = stacked } }, GoesOn)
+unfolding effect
+selected d next w pocket stacked e chosen = rw (← e, chosen) refl
+
+pub selection_refused : (d : Decoded) (next : ℕ) (w : Works) (pocket : Pocket) (check : Check) → pocket ≡ pocket_by d.modifier → pocket_chosen pocket w.units.punch ≡ Err check →
+    effect ChoosePocket d next w ≡ Err check
+unfolding effect
+selection_refused d next w pocket check e failed = rw (← e, failed) refl
+
 -- ---- the operation of each character
 
 -- it holds of each number from 1 to n
@@ -138,7 +163,7 @@ not_low n high = le-ltb n 8 high
 
 -- whether a character names another operation
 abbrev is_listed : ℕ → Bool
-is_listed k = k == 49 || (k == 18 || (k == 51 || (k == 36 || (k == 35 || (k == 50 || (k == 58 || (k == 42 || (k == 11 || (k == 52 || (k == 24 || (k == 25 || (k == 53 || (k == 27 || (k == 60 || (k == 17 || (k == 21 || (k == 54 || (k == 40 || (k == 56 || (k == 59 || ltb k 8))))))))))))))))))))
+is_listed k = k == 49 || (k == 18 || (k == 51 || (k == 36 || (k == 35 || (k == 50 || (k == 58 || (k == 42 || (k == 11 || (k == 52 || (k == 24 || (k == 25 || (k == 53 || (k == 27 || (k == 60 || (k == 17 || (k == 21 || (k == 54 || (k == 34 || (k == 40 || (k == 56 || (k == 59 || ltb k 8)))))))))))))))))))))
 
 not_true : (b : Bool) → not b ≡ true → b ≡ false
 not_true true h = absurd (cc)
@@ -157,11 +182,11 @@ by_letter n true e h = ap operation_by (eqb-true n 37 e)
 by_letter n false e h = without_row n (row_of n) refl (not_true _ h)
 
 -- a character that is none of these names no operation, or the one that does nothing
-pub names_none : (n : ℕ) → n < 64 → 8 ≤ n → n ≢ 49 → n ≢ 18 → n ≢ 51 → n ≢ 36 → n ≢ 35 → n ≢ 50 → n ≢ 58 → n ≢ 42 → n ≢ 11 → n ≢ 52 → n ≢ 24 → n ≢ 25 → n ≢ 53 → n ≢ 27 → n ≢ 60 → n ≢ 17 → n ≢ 21 → n ≢ 54 → n ≢ 40 → n ≢ 56 → n ≢ 59 → operation_by n ≡ NoOperation
+pub names_none : (n : ℕ) → n < 64 → 8 ≤ n → n ≢ 49 → n ≢ 18 → n ≢ 51 → n ≢ 36 → n ≢ 35 → n ≢ 50 → n ≢ 58 → n ≢ 42 → n ≢ 11 → n ≢ 52 → n ≢ 24 → n ≢ 25 → n ≢ 53 → n ≢ 27 → n ≢ 60 → n ≢ 17 → n ≢ 21 → n ≢ 54 → n ≢ 34 → n ≢ 40 → n ≢ 56 → n ≢ 59 → operation_by n ≡ NoOperation
 unfolding row_of operations glyph_of
-names_none n low high h49 h18 h51 h36 h35 h50 h58 h42 h11 h52 h24 h25 h53 h27 h60 h17 h21 h54 h40 h56 h59 =
+names_none n low high h49 h18 h51 h36 h35 h50 h58 h42 h11 h52 h24 h25 h53 h27 h60 h17 h21 h54 h34 h40 h56 h59 =
     let there : (is_listed n || (n == 37 || not (is_some (row_of n)))) ≡ true = at_each (λ k. is_listed k || (k == 37 || not (is_some (row_of k)))) 64 refl n low in
-    by_letter n (n == 37) refl (rw (ne_eqb n 49 h49, ne_eqb n 18 h18, ne_eqb n 51 h51, ne_eqb n 36 h36, ne_eqb n 35 h35, ne_eqb n 50 h50, ne_eqb n 58 h58, ne_eqb n 42 h42, ne_eqb n 11 h11, ne_eqb n 52 h52, ne_eqb n 24 h24, ne_eqb n 25 h25, ne_eqb n 53 h53, ne_eqb n 27 h27, ne_eqb n 60 h60, ne_eqb n 17 h17, ne_eqb n 21 h21, ne_eqb n 54 h54, ne_eqb n 40 h40, ne_eqb n 56 h56, ne_eqb n 59 h59, not_low n high) at there)
+    by_letter n (n == 37) refl (rw (ne_eqb n 49 h49, ne_eqb n 18 h18, ne_eqb n 51 h51, ne_eqb n 36 h36, ne_eqb n 35 h35, ne_eqb n 50 h50, ne_eqb n 58 h58, ne_eqb n 42 h42, ne_eqb n 11 h11, ne_eqb n 52 h52, ne_eqb n 24 h24, ne_eqb n 25 h25, ne_eqb n 53 h53, ne_eqb n 27 h27, ne_eqb n 60 h60, ne_eqb n 17 h17, ne_eqb n 21 h21, ne_eqb n 54 h54, ne_eqb n 34 h34, ne_eqb n 40 h40, ne_eqb n 56 h56, ne_eqb n 59 h59, not_low n high) at there)
 
 pub names_blank : (n : ℕ) → n ≡ 0 → operation_by n ≡ NoOperation
 unfolding operation_by row_of operations glyph_of

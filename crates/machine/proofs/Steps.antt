@@ -25,22 +25,24 @@ use Rattle.moves.specs.Suppressed.{zeros_suppressed, unmarked}
 use Rattle.moves.specs.Edited.{field_edited}
 use Rattle.units.specs.declared.units.Units.{Units}
 use Rattle.units.specs.Printed.{Printed}
+use Rattle.units.specs.Stacked.{Stacked}
+use Rattle.units.specs.Pockets.{pocket_chosen}
 use Rattle.units.specs.Units.{operated, Makes}
 use Rattle.units.proofs.OperationOutcomes.{Each, each_require, each_find, each_then}
-use Rattle.units.proofs.InRange.{Begins, begins_same, begins_take, Keeps, operated_keeps, carriage_keeps}
+use Rattle.units.proofs.InRange.{Begins, begins_same, begins_take, Keeps, KeepsPunch, keeps_punch, operated_keeps, carriage_keeps, pocket_chosen_keeps}
 use Rattle.machine.specs.declared.named.Operation.{Operation}
-use Rattle.machine.specs.declared.named.Operation.TheVariants.{OnFields, ClearStorage, Branch, BranchOnMarkOrZone, Operate, MoveCarriage, StoreA, StoreB, Halt, NoOperation}
+use Rattle.machine.specs.declared.named.Operation.TheVariants.{OnFields, ClearStorage, Branch, BranchOnMarkOrZone, Operate, MoveCarriage, ChoosePocket, StoreA, StoreB, Halt, NoOperation}
 use Rattle.machine.specs.declared.operations.FieldOperation.{FieldOperation}
 use Rattle.machine.specs.declared.operations.FieldOperation.TheVariants.{Add, Subtract, ZeroAdd, ZeroSubtract, Compare, ModifyAddress, Move, Load, MoveDigit, MoveZone, Suppress, Edit, SetMark, ClearMark}
 use Rattle.machine.specs.declared.named.Modifier.{Modifier}
-use Rattle.machine.specs.declared.named.Modifier.TheVariants.{Plain, OnCondition, OnCharacter, OnTest, ByOrder}
+use Rattle.machine.specs.declared.named.Modifier.TheVariants.{Plain, OnCondition, OnCharacter, OnTest, ByOrder, ToPocket}
 use Rattle.machine.specs.declared.named.Decoded.{Decoded}
 use Rattle.machine.specs.declared.operations.Course.{Course}
 use Rattle.machine.specs.declared.standings.Standing.{Standing}
 use Rattle.machine.specs.declared.standings.Standing.TheVariants.{Running, Halted, Checked}
 use Rattle.machine.specs.declared.runs.Checkpoint.{Checkpoint}
 use Rattle.machine.specs.Word.{word, word_length, decoded, decoded_of}
-use Rattle.machine.specs.Effect.{Works, attempt, effect, filled, next_of, ordered_by, worked}
+use Rattle.machine.specs.Effect.{Works, attempt, effect, filled, next_of, ordered_by, pocket_by, worked}
 use Rattle.machine.specs.Run.{State, IsGivenUp, step, after, attempts, executed, attempted, is_running, is_checked, risen, standing_after, lines_of, restored, first_card}
 
 -- what an attempt does once the instruction is read
@@ -141,7 +143,7 @@ pub each_any : {T : Type 0} (r : Result T Check) → Each (λ _. Unit {0}) r
 each_any (Ok x) = tt
 each_any (Err check) = tt
 
--- the storage keeps its size, the deck, the switches and the counts of what was made before stay, and cards and lines are only added
+-- the storage keeps its size, the deck, the switches, the profile and the counts of what was made before stay, and cards and lines are only added
 abbrev pub KeepsAll : Works → Works → Type 0
 KeepsAll w after_it = Keeps w.storage after_it.storage w.units after_it.units
 
@@ -152,7 +154,14 @@ begins_longer : {T : Type 0} (xs ys : List T) → Begins xs ys → length xs ≤
 begins_longer xs ys (more, e) = let long : length ys ≡ length xs + length more = ap length e ∙ length-append xs more in omega arith
 
 pub keeps_same : (s t : Storage) (u : Units) → length t ≡ length s → Keeps s t u u
-keeps_same s t u size = record { size = size; deck = refl; before = refl; switches = refl; cards = begins_same u.punch; lines = begins_same u.printer.lines }
+keeps_same s t u size = record { size = size; deck = refl; before = refl; switches = refl; punch = keeps_punch u.punch; lines = begins_same u.printer.lines }
+
+punch_then : (p q r : Stacked) → KeepsPunch p q → KeepsPunch q r → KeepsPunch p r
+punch_then p q r one two = record {
+  profile = two.profile ∙ one.profile;
+  cards = begins_then p.cards q.cards r.cards one.cards two.cards;
+  plain = λ h. two.plain (one.plain h);
+}
 
 pub keeps_then : (s t r : Storage) (u v x : Units) → Keeps s t u v → Keeps t r v x → Keeps s r u x
 keeps_then s t r u v x one two = record {
@@ -160,7 +169,7 @@ keeps_then s t r u v x one two = record {
   deck = two.deck ∙ one.deck;
   before = two.before ∙ one.before;
   switches = two.switches ∙ one.switches;
-  cards = begins_then u.punch v.punch x.punch one.cards two.cards;
+  punch = punch_then u.punch v.punch x.punch one.punch two.punch;
   lines = begins_then u.printer.lines v.printer.lines x.printer.lines one.lines two.lines;
 }
 
@@ -270,6 +279,7 @@ ordered_keeps (OnCondition condition) p = refl
 ordered_keeps (OnCharacter code) p = refl
 ordered_keeps (OnTest test) p = refl
 ordered_keeps (ByOrder order) p = carriage_keeps order p
+ordered_keeps (ToPocket pocket) p = refl
 
 abbrev KeepsBoth : Works → Works × Course → Type 0
 KeepsBoth w (after_it, course) = KeepsAll w after_it
@@ -288,7 +298,10 @@ effect_keeps (Operate devices) d next w =
     each_then (λ done. Keeps w.storage done.0 w.units done.1) (KeepsBoth w) (operated devices w.storage w.units) _ (operated_keeps devices w.storage w.units) (λ done h. h)
 effect_keeps MoveCarriage d next w =
     each_then (λ after_it. after_it.lines ≡ w.units.printer.lines) (KeepsBoth w) (ordered_by d.modifier w.units.printer) _ (ordered_keeps d.modifier w.units.printer) (λ p h.
-    record { size = refl; deck = refl; before = refl; switches = refl; cards = begins_same w.units.punch; lines = ([], h ∙ sym (append-nil w.units.printer.lines)) })
+    record { size = refl; deck = refl; before = refl; switches = refl; punch = keeps_punch w.units.punch; lines = ([], h ∙ sym (append-nil w.units.printer.lines)) })
+effect_keeps ChoosePocket d next w =
+    each_then (KeepsPunch w.units.punch) (KeepsBoth w) (pocket_chosen (pocket_by d.modifier) w.units.punch) _ (pocket_chosen_keeps (pocket_by d.modifier) w.units.punch) (λ stacked keeps.
+    record { size = refl; deck = refl; before = refl; switches = refl; punch = keeps; lines = begins_same w.units.printer.lines })
 effect_keeps StoreA d next w =
     each_then (λ t. length t ≡ length w.storage) (KeepsBoth w) (address_stored w.storage d.a w.registers.a) _ (address_stored_keeps w.storage d.a w.registers.a)
     (λ t h. keeps_same w.storage t w.units h)
@@ -346,8 +359,8 @@ stems_after old now (suc count) stems = stems_after old (step now) count (stems_
 -- where a step in the middle makes a card or a line, the whole does
 pub makes_through : (old now next end : State) → Stems old now → Makes now.works.units next.works.units → Stems next end → Makes old.works.units end.works.units
 makes_through old now next end before (inl cards) behind =
-    let first = begins_longer old.works.units.punch now.works.units.punch before.cards in
-    let last = begins_longer next.works.units.punch end.works.units.punch behind.cards in
+    let first = begins_longer old.works.units.punch.cards now.works.units.punch.cards before.punch.cards in
+    let last = begins_longer next.works.units.punch.cards end.works.units.punch.cards behind.punch.cards in
     inl (omega arith)
 makes_through old now next end before (inr lines) behind =
     let first = begins_longer (lines_of old) (lines_of now) before.lines in
@@ -391,17 +404,18 @@ executed_is old end limit attempted began all same final =
 pub record IsCheckpointOf (c : Checkpoint) (m : State) : Type 0 where
   pub registers : c.registers ≡ m.works.registers
   pub taken : c.taken ≡ m.works.units.hopper.taken
-  pub cards : c.cards ≡ length m.works.units.punch
+  pub cards : c.cards ≡ length m.works.units.punch.cards
+  pub chosen : c.chosen ≡ m.works.units.punch.chosen
   pub lines : c.lines ≡ length (lines_of m)
   pub carriage : c.carriage ≡ m.works.units.printer.carriage
   pub standing : c.standing ≡ m.standing
 
 pub restored_is : (old now : State) (s : Storage) (c : Checkpoint) → s ≡ old.works.storage → IsCheckpointOf c old → Stems old now → restored now s c ≡ old
 restored_is old now s c storage is stems =
-    let cards : take c.cards now.works.units.punch ≡ old.works.units.punch =
-    ap (λ n. take n now.works.units.punch) is.cards ∙ begins_take old.works.units.punch now.works.units.punch stems.cards in
+    let cards : take c.cards now.works.units.punch.cards ≡ old.works.units.punch.cards =
+    ap (λ n. take n now.works.units.punch.cards) is.cards ∙ begins_take old.works.units.punch.cards now.works.units.punch.cards stems.punch.cards in
     let lines : take c.lines (lines_of now) ≡ lines_of old = ap (λ n. take n (lines_of now)) is.lines ∙ begins_take (lines_of old) (lines_of now) stems.lines in
-    rw (storage, is.registers, is.taken, cards, lines, is.carriage, is.standing, stems.deck, stems.before, stems.switches) refl
+    rw (storage, is.registers, is.taken, cards, is.chosen, stems.punch.profile, lines, is.carriage, is.standing, stems.deck, stems.before, stems.switches) refl
 
 -- ---- the beginning
 

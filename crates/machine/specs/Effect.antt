@@ -17,16 +17,19 @@ use Rattle.moves.specs.Parts.{digit_moved, zone_moved}
 use Rattle.moves.specs.Suppressed.{zeros_suppressed}
 use Rattle.moves.specs.Edited.{field_edited}
 use Rattle.units.specs.declared.fault.Fault.{Fault}
+use Rattle.units.specs.declared.pockets.Pocket.{Pocket}
+use Rattle.units.specs.declared.pockets.Pocket.TheVariants.{Normal}
 use Rattle.units.specs.declared.units.Units.{Units}
 use Rattle.units.specs.Printed.{Printed}
 use Rattle.units.specs.Carriages.{carriage_moved}
+use Rattle.units.specs.Pockets.{pocket_chosen}
 use Rattle.units.specs.Units.{operated, GivesUp, Makes}
 use Rattle.machine.specs.declared.named.Operation.{Operation}
-use Rattle.machine.specs.declared.named.Operation.TheVariants.{OnFields, ClearStorage, Branch, BranchOnMarkOrZone, Operate, MoveCarriage, StoreA, StoreB, Halt, NoOperation}
+use Rattle.machine.specs.declared.named.Operation.TheVariants.{OnFields, ClearStorage, Branch, BranchOnMarkOrZone, Operate, MoveCarriage, ChoosePocket, StoreA, StoreB, Halt, NoOperation}
 use Rattle.machine.specs.declared.operations.FieldOperation.{FieldOperation}
 use Rattle.machine.specs.declared.operations.FieldOperation.TheVariants.{Add, Subtract, ZeroAdd, ZeroSubtract, Compare, ModifyAddress, Move, Load, MoveDigit, MoveZone, Suppress, Edit, SetMark, ClearMark}
 use Rattle.machine.specs.declared.named.Modifier.{Modifier}
-use Rattle.machine.specs.declared.named.Modifier.TheVariants.{Plain, OnCondition, OnCharacter, OnTest, ByOrder}
+use Rattle.machine.specs.declared.named.Modifier.TheVariants.{Plain, OnCondition, OnCharacter, OnTest, ByOrder, ToPocket}
 use Rattle.machine.specs.declared.named.Decoded.{Decoded}
 use Rattle.machine.specs.declared.operations.Course.{Course}
 use Rattle.machine.specs.declared.operations.Course.TheVariants.{GoesOn, Halts}
@@ -75,6 +78,7 @@ is_taken (OnCondition condition) b w = is_met condition w.registers w.units
 is_taken (OnCharacter code) b w = code_at w.storage b == code
 is_taken (OnTest test) b w = passes test w.storage b
 is_taken (ByOrder order) b w = true
+is_taken (ToPocket pocket) b w = true
 
 -- the registers after a branch has tested its condition
 abbrev pub looked_at : Modifier → Registers → Registers
@@ -83,6 +87,7 @@ looked_at (OnCondition condition) r = once_tested condition r
 looked_at (OnCharacter code) r = r
 looked_at (OnTest test) r = r
 looked_at (ByOrder order) r = r
+looked_at (ToPocket pocket) r = r
 
 -- the B register after a branch that is not taken: one below the position that was tested, or
 -- unchanged if none was
@@ -92,6 +97,7 @@ passed (OnCondition condition) b old = old
 passed (OnCharacter code) b old = lowered b 1
 passed (OnTest test) b old = lowered b 1
 passed (ByOrder order) b old = old
+passed (ToPocket pocket) b old = old
 
 -- the registers after a branch that is not taken
 abbrev pub passed_by : Decoded → ℕ → Registers → Registers
@@ -138,6 +144,16 @@ ordered_by (OnCondition condition) p = Ok p
 ordered_by (OnCharacter code) p = Ok p
 ordered_by (OnTest test) p = Ok p
 ordered_by (ByOrder order) p = carriage_moved order p
+ordered_by (ToPocket pocket) p = Ok p
+
+-- the pocket that an instruction selects, the normal one if it names none
+abbrev pub pocket_by : Modifier → Pocket
+pocket_by Plain = Normal
+pocket_by (OnCondition condition) = Normal
+pocket_by (OnCharacter code) = Normal
+pocket_by (OnTest test) = Normal
+pocket_by (ByOrder order) = Normal
+pocket_by (ToPocket pocket) = pocket
 
 -- what an operation leaves and whether it halts, or the check that stops it, where `next` is the
 -- position after the instruction
@@ -160,6 +176,12 @@ effect MoveCarriage d next w =
     and_then (ordered_by d.modifier w.units.printer) (λ printed.
     Ok (
       record w { registers = at next w.registers; units = record w.units { printer = printed } },
+      GoesOn,
+    ))
+effect ChoosePocket d next w =
+    and_then (pocket_chosen (pocket_by d.modifier) w.units.punch) (λ stacked.
+    Ok (
+      record w { registers = at next w.registers; units = record w.units { punch = stacked } },
       GoesOn,
     ))
 effect StoreA d next w =

@@ -2,23 +2,25 @@
 use Rattle.std.specs.Prelude.{ℕ, ◌==◌, List, [], ◌∷◌, if◌then◌else◌, Option, Some, None, codes}
 use Rattle.std.specs.Option.{option_map, option_and_then}
 use Rattle.machine.specs.declared.named.Operation.{Operation}
-use Rattle.machine.specs.declared.named.Operation.TheVariants.{OnFields, ClearStorage, Branch, BranchOnMarkOrZone, Operate, MoveCarriage, StoreA, StoreB, Halt, NoOperation}
+use Rattle.machine.specs.declared.named.Operation.TheVariants.{OnFields, ClearStorage, Branch, BranchOnMarkOrZone, Operate, MoveCarriage, ChoosePocket, StoreA, StoreB, Halt, NoOperation}
 use Rattle.machine.specs.declared.operations.FieldOperation.TheVariants.{Add, Subtract, ZeroAdd, ZeroSubtract, Compare, ModifyAddress, Move, Load, MoveDigit, MoveZone, Suppress, Edit, SetMark, ClearMark}
 use Rattle.machine.specs.declared.named.Modifier.{Modifier}
-use Rattle.machine.specs.declared.named.Modifier.TheVariants.{Plain, OnCondition, OnCharacter, OnTest, ByOrder}
+use Rattle.machine.specs.declared.named.Modifier.TheVariants.{Plain, OnCondition, OnCharacter, OnTest, ByOrder, ToPocket}
 use Rattle.units.specs.Carriages.{order_of}
+use Rattle.units.specs.Pockets.{pocket_of}
 use Rattle.machine.specs.Branches.{condition_of, test_of}
 use Rattle.machine.specs.Glyphs.{is_glyph}
 use Rattle.units.specs.declared.devices.Devices.{Devices}
 
 -- what the last character of a form says: nothing of its own, the condition of a branch, the
--- character that it compares, its test of a position, or an order to the carriage
+-- character that it compares, its test of a position, an order to the carriage, or a pocket
 pub data Last : Type 0 where
   says_nothing : Last
   names_condition : Last
   is_compared : Last
   names_test : Last
   names_order : Last
+  names_pocket : Last
 
 -- a form of an operation: its number of characters, the number of addresses that are read, and what
 -- the last character says
@@ -82,6 +84,7 @@ operations =
     ∷ units_row (codes "6") 6
     ∷ units_row (codes "7") 7
     ∷ row (codes "F") MoveCarriage (saying 2 0 names_order ∷ [])
+    ∷ row (codes "K") ChoosePocket (saying 2 0 names_pocket ∷ [])
     ∷ row (codes ".") Halt (free 1 0 ∷ free 4 1 ∷ [])
     ∷ row (codes "H") StoreB (free 4 1 ∷ [])
     ∷ row (codes "Q") StoreA (free 4 1 ∷ [])
@@ -112,6 +115,7 @@ meant names_condition last = option_map (λ condition. OnCondition condition) (c
 meant is_compared last = Some (OnCharacter last)
 meant names_test last = option_map (λ test. OnTest test) (test_of last)
 meant names_order last = option_map (λ order. ByOrder order) (order_of last)
+meant names_pocket last = option_map (λ pocket. ToPocket pocket) (pocket_of last)
 
 -- the form of so many characters that the operation of a character has, if there is one
 abbrev pub form_of : ℕ → ℕ → Option Form

@@ -11,7 +11,9 @@ use Rattle.machine.specs.declared.standings.Standing.{Standing}
 use Rattle.machine.specs.declared.standings.Standing.TheVariants.{Running, Halted, Checked}
 use Rattle.machine.specs.declared.standings.Event.{Event}
 use Rattle.machine.specs.declared.standings.Event.TheVariants.{Next, Halt, Stop}
+use Rattle.units.specs.declared.pockets.Pocket.TheVariants.{Normal}
 use Rattle.units.specs.declared.printer.Line.{Line}
+use Rattle.units.specs.declared.profiles.Profile.{Profile}
 use Rattle.machine.specs.declared.runs.Checkpoint.{Checkpoint}
 use Rattle.units.specs.declared.switches.Switches.{Switches}
 use Rattle.units.specs.declared.units.Units.{Units}
@@ -58,12 +60,13 @@ abbrev pub first_card : List Card → List ℕ
 first_card [] = []
 first_card (card ∷ cards) = card.0
 
--- the units after the load button: the first card was read, and nothing punched or printed
-abbrev pub first_units : List Card → Switches → Units
-first_units deck switches = record {
+-- the units after the load button: the first card was read, and nothing punched or printed, no
+-- pocket chosen
+abbrev pub first_units : List Card → Switches → Profile → Units
+first_units deck switches profile = record {
   hopper = record { deck = deck; taken = 1 };
   before = nothing_made;
-  punch = [];
+  punch = record { cards = []; chosen = Normal; profile = profile };
   printer = record {
     lines = [];
     carriage = record { form = 1; line = 1; waiting = None; channel_12 = false };
@@ -73,12 +76,12 @@ first_units deck switches = record {
 
 -- a machine after the load button: the first card is in the read area with a word mark at 001,
 -- where the machine begins
-abbrev pub loaded : List Card → Size → Switches → State
-loaded deck size switches = record {
+abbrev pub loaded : List Card → Size → Switches → Profile → State
+loaded deck size switches profile = record {
   works = record {
     storage = with_mark (put_codes (blank_storage (positions_of size)) 1 (first_card deck)) 1 true;
     registers = record { i = 1; a = 0; b = 0; compare = Equal; overflow = false };
-    units = first_units deck switches;
+    units = first_units deck switches profile;
   };
   standing = Running;
 }
@@ -98,7 +101,10 @@ restored m storage c = record {
     registers = c.registers;
     units = record m.works.units {
       hopper = record m.works.units.hopper { taken = c.taken };
-      punch = take c.cards m.works.units.punch;
+      punch = record m.works.units.punch {
+        cards = take c.cards m.works.units.punch.cards;
+        chosen = c.chosen;
+      };
       printer = record { lines = take c.lines m.works.units.printer.lines; carriage = c.carriage };
     };
   };

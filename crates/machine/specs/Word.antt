@@ -7,7 +7,7 @@ use Rattle.core_store.specs.declared.checks.Check.{Check}
 use Rattle.core_store.specs.declared.checks.Check.TheVariants.{Instruction}
 use Rattle.core_store.specs.declared.registers.Registers.{Registers}
 use Rattle.machine.specs.declared.named.Modifier.{Modifier}
-use Rattle.machine.specs.declared.named.Modifier.TheVariants.{Plain, OnCondition, OnCharacter, OnTest, ByOrder}
+use Rattle.machine.specs.declared.named.Modifier.TheVariants.{Plain, OnCondition, OnCharacter, OnTest, ByOrder, ToPocket}
 use Rattle.machine.specs.declared.named.Decoded.{Decoded}
 use Rattle.addresses.specs.Effective.{operand}
 use Rattle.machine.specs.Glyphs.{is_glyph}
@@ -87,6 +87,7 @@ WantsTwo (OnCondition condition) count = Unit {0}
 WantsTwo (OnCharacter code) count = 1 < count
 WantsTwo (OnTest test) count = 1 < count
 WantsTwo (ByOrder order) count = Unit {0}
+WantsTwo (ToPocket pocket) count = Unit {0}
 
 -- a modifier that tests the position B does so within a storage of this size
 abbrev pub LooksInside : Modifier → ℕ → ℕ → Type 0
@@ -95,3 +96,4 @@ LooksInside (OnCondition condition) b size = Unit {0}
 LooksInside (OnCharacter code) b size = b < size
 LooksInside (OnTest test) b size = b < size
 LooksInside (ByOrder order) b size = Unit {0}
+LooksInside (ToPocket pocket) b size = Unit {0}

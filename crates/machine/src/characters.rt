@@ -40,6 +40,8 @@ pub const FIRST_OF_UNITS: u8 = 1;
 pub const LAST_OF_UNITS: u8 = 7;
 /// `F`.
 pub const MOVE_CARRIAGE: u8 = 54;
+/// `K`.
+pub const CHOOSE_POCKET: u8 = 34;
 /// `Q`.
 pub const STORE_A: u8 = 40;
 /// `H`.

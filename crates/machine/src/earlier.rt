@@ -1,9 +1,9 @@
 //! Laws of machines whose earlier cards and lines are kept elsewhere.
 
 ghost use Rattle.std.specs.Prelude.{◌≡◌, ℕ, List};
-ghost use Rattle.cards.specs.declared.decks.Card.{Card};
 ghost use Rattle.units.specs.Units.{nothing_made, Makes};
 ghost use Rattle.units.specs.declared.printer.Line.{Line};
+ghost use Rattle.units.specs.declared.punch.Punched.{Punched};
 ghost use Rattle.units.specs.declared.switches.Switches.{Switches};
 ghost use Rattle.machine.specs.Earlier.{with_earlier, without_outputs, IsBehind};
 ghost use Rattle.machine.specs.Ranges.{IsInRange};
@@ -13,25 +13,25 @@ ghost use Rattle.machine.specs.Standings.{standing_of};
 /// The law of earlier cards and lines: a machine whose earlier ones are kept elsewhere runs and
 /// starts as the one that has them itself, and makes the same behind them.
 pub fn earlier_outputs_stay_in_front()
-    ensures machine { (cards : List Card) (lines : List Line) (m : State) (count : ℕ) →
+    ensures machine { (cards : List Punched) (lines : List Line) (m : State) (count : ℕ) →
         IsBehind cards lines m →
         after (with_earlier cards lines m) count ≡ with_earlier cards lines (after m count) }
-    ensures behind { (cards : List Card) (lines : List Line) (m : State) (count : ℕ) →
+    ensures behind { (cards : List Punched) (lines : List Line) (m : State) (count : ℕ) →
         IsBehind cards lines m → IsBehind cards lines (after m count) }
-    ensures attempts { (cards : List Card) (lines : List Line) (m : State) (count : ℕ) →
+    ensures attempts { (cards : List Punched) (lines : List Line) (m : State) (count : ℕ) →
         IsBehind cards lines m →
         attempts (with_earlier cards lines m) count ≡ attempts m count }
-    ensures executed { (cards : List Card) (lines : List Line) (m : State) (count : ℕ) →
+    ensures executed { (cards : List Punched) (lines : List Line) (m : State) (count : ℕ) →
         IsBehind cards lines m →
         executed (with_earlier cards lines m) count ≡ executed m count }
-    ensures makes { (cards : List Card) (lines : List Line) (m next : State) →
+    ensures makes { (cards : List Punched) (lines : List Line) (m next : State) →
         Makes m.works.units next.works.units →
         Makes (with_earlier cards lines m).works.units
         (with_earlier cards lines next).works.units }
-    ensures started { (cards : List Card) (lines : List Line) (m : State) (switches : Switches) →
+    ensures started { (cards : List Punched) (lines : List Line) (m : State) (switches : Switches) →
         started (with_earlier cards lines m) switches
         ≡ with_earlier cards lines (started m switches) }
-    ensures standing { (cards : List Card) (lines : List Line) (m : State) →
+    ensures standing { (cards : List Punched) (lines : List Line) (m : State) →
         standing_of (with_earlier cards lines m) ≡ standing_of m }
 {}
 
@@ -39,8 +39,8 @@ pub fn earlier_outputs_stay_in_front()
 /// made before its own; with these in front again it is the machine that it was.
 pub fn outputs_are_put_back()
     ensures same { (m : State) → m.works.units.before ≡ nothing_made →
-        with_earlier m.works.units.punch (lines_of m) (without_outputs m) ≡ m }
+        with_earlier m.works.units.punch.cards (lines_of m) (without_outputs m) ≡ m }
     ensures behind { (m : State) → m.works.units.before ≡ nothing_made →
-        IsBehind m.works.units.punch (lines_of m) (without_outputs m) }
+        IsBehind m.works.units.punch.cards (lines_of m) (without_outputs m) }
     ensures in_range { (m : State) → IsInRange m → IsInRange (without_outputs m) }
 {}

@@ -3,7 +3,7 @@
 ghost use Rattle.std.specs.Prelude.{◌≡◌, ◌≤◌, ◌<◌, ◌==◌, ◌/◌, ◌%◌, ◌^◌, true};
 ghost use Rattle.machine.specs.Instructions.{is_form, is_last, addresses_by};
 
-use crate::characters::{BRANCH_ON_MARK_OR_ZONE, NO_OPERATION};
+use crate::characters::{BRANCH_ON_MARK_OR_ZONE, CHOOSE_POCKET, NO_OPERATION};
 use bcd::Code;
 
 /// The form of one character, as a bit of a set of forms.
@@ -42,7 +42,8 @@ const FORMS: [u16; 64] = [
     L1 | L7,                     // 25 "Z" move and suppress zeros
     0,                           // 26
     L4 | L7,                     // 27 "," set word mark
-    0, 0, 0, 0, 0, 0, 0,         // 28 to 34
+    0, 0, 0, 0, 0, 0,            // 28 to 33
+    L2,                          // 34 "K" choose pocket
     L1 | L7,                     // 35 "L" load
     L1 | L7,                     // 36 "M" move
     L1 | L2 | L4 | L5 | L7 | L8, // 37 "N" no operation
@@ -112,6 +113,14 @@ const ORDERS: u64 =
     | 1 << 35  // "L" space three now
     | 1 << 49; // "A" skip to channel 1 after the line
 
+/// The characters that name a pocket.
+#[rattlefmt::skip]
+const POCKETS: u64 =
+      1 << 1  // "1" the choice stays
+    | 1 << 2  // "2" the choice stays
+    | 1 << 4  // "4" pocket 4
+    | 1 << 8; // "8" pocket 8
+
 /// Whether the operation that a character names has a form of `count` characters.
 #[inline(always)]
 pub fn has_form(first: Code, count: u16) -> bool
@@ -147,6 +156,9 @@ pub fn allows(first: Code, count: u16, last: Code) -> bool
         return is_among(CONDITIONS, last);
     }
     if count == 2 {
+        if first.number() == CHOOSE_POCKET {
+            return is_among(POCKETS, last);
+        }
         return is_among(ORDERS, last);
     }
     if first.number() == BRANCH_ON_MARK_OR_ZONE {

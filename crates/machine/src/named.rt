@@ -7,7 +7,7 @@
 use crate::branches::{Condition, PositionTest};
 use crate::operations::FieldOperation;
 use bcd::Code;
-use units::{CarriageOrder, Devices};
+use units::{CarriageOrder, Devices, Pocket};
 
 /// An operation, named by its first character.
 #[derive(Clone, Copy)]
@@ -24,6 +24,8 @@ pub enum Operation {
     Operate(Devices),
     /// `F`: control carriage.
     MoveCarriage,
+    /// `K`: choose the pocket of the next card punched.
+    ChoosePocket,
     /// `Q`: store the A register.
     StoreA,
     /// `H`: store the B register.
@@ -47,6 +49,8 @@ pub enum Modifier {
     OnTest(PositionTest),
     /// The order to the carriage.
     ByOrder(CarriageOrder),
+    /// The pocket of the next card punched.
+    ToPocket(Pocket),
 }
 
 /// A decoded instruction. Without an address in the instruction, the registers are used as they

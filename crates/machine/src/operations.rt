@@ -6,7 +6,7 @@ ghost use Rattle.core_store.specs.Storage.{Storage, largest_size, code_at};
 ghost use Rattle.core_store.specs.Operands.{lowered};
 ghost use Rattle.units.specs.declared.units.Units.{Units};
 ghost use Rattle.units.specs.Units.{areas_end};
-ghost use Rattle.machine.specs.declared.named.Operation.TheVariants.{OnFields, ClearStorage, StoreA, StoreB, Operate, MoveCarriage};
+ghost use Rattle.machine.specs.declared.named.Operation.TheVariants.{OnFields, ClearStorage, StoreA, StoreB, Operate, MoveCarriage, ChoosePocket};
 ghost use Rattle.machine.specs.Branches.{is_met, once_tested, test_of};
 ghost use Rattle.machine.specs.Effect.{effect, worked, Ends, works_of, branched, after_branch, after_halt};
 ghost use Rattle.machine.specs.Instructions.{decoded_by, condition_by};
@@ -27,7 +27,7 @@ use core_store::{Check, Core, Registers, lower};
 use moves::{
     clear_mark, clear_storage, digit, edit, load_field, move_field, set_mark, suppress, zone,
 };
-use units::{CarriageOrder, Devices, Fault, Units, move_carriage, operate};
+use units::{CarriageOrder, Devices, Fault, Pocket, Units, choose_pocket, move_carriage, operate};
 
 /// An operation on the fields at the two addresses, named by its first character.
 #[derive(Clone, Copy)]
@@ -384,6 +384,28 @@ fn give_order(
     Ok(Course::GoesOn)
 }
 
+/// Chooses the pocket that the last character names.
+#[inline(never)]
+#[tactic(auto, unfolding(crate::specs::Effect::effect))]
+fn select_pocket(
+    registers: &mut Registers,
+    units: &mut Units,
+    instruction: Instruction,
+    next: u16,
+) -> Result<Course, Fault>
+    requires { is_glyph instruction.first (codes "K") ≡ true }
+    ensures { (s : Storage) → Ends result (works_of s registers.old units.old)
+        (works_of s registers.new units.new)
+        (effect ChoosePocket (decoded_by instruction) next) }
+{
+    let pocket = Pocket::of_code(instruction.last).unwrap_or(Pocket::Normal);
+    if let Err(check) = choose_pocket(&mut units.punch, pocket) {
+        return Err(Fault::Stopped(check));
+    }
+    registers.i = next;
+    Ok(Course::GoesOn)
+}
+
 /// Sets the registers after a halt, which goes on at its own address if it has one.
 fn halt(registers: &mut Registers, instruction: Instruction, next: u16)
     ensures { registers.new ≡ after_halt (decoded_by instruction) next registers.old }
@@ -439,6 +461,7 @@ pub fn execute<C: Core>(
         }
         FIRST_OF_UNITS..=LAST_OF_UNITS => operate_units(core, registers, units, instruction, next),
         MOVE_CARRIAGE => give_order(registers, units, instruction, next),
+        CHOOSE_POCKET => select_pocket(registers, units, instruction, next),
         STORE_A => store_a(core, registers, instruction, next),
         STORE_B => store_b(core, registers, instruction, next),
         HALT => {

@@ -3,9 +3,11 @@
 ghost use Rattle.std.specs.Prelude.{◌≡◌, ◌+◌, ◌-◌, ◌<◌, ◌≤◌, ◌&&◌, ℕ, List, [], length, true, false, IfOk, IfSome, MatchOption, OnErr, OnOk, if◌then◌else◌, take};
 ghost use Rattle.cards.specs.declared.decks.Card.{Card};
 ghost use Rattle.core_store.specs.declared.sizes.Size.{Size};
+ghost use Rattle.units.specs.declared.profiles.Profile.{Profile};
 ghost use Rattle.units.specs.declared.switches.Switches.{Switches};
 ghost use Rattle.core_store.specs.Storage.{blank_storage, put_codes, with_mark, positions_of};
 ghost use Rattle.units.specs.Listing.{IsRising};
+ghost use Rattle.units.specs.Stacked.{IsPlain};
 ghost use Rattle.units.specs.Units.{Makes};
 ghost use Rattle.machine.specs.Run.{first_card, first_units, State, step, after, attempts, executed, lines_of, risen, is_running, is_checked, is_halted, event_of, loaded, started, restored, IsGivenUp};
 ghost use Rattle.machine.specs.Effect.{works_of};
@@ -18,7 +20,7 @@ use cards::Deck;
 use core_store::{Compared, Core, Registers, Size};
 use std::alloc::{AllocError, Global};
 use std::marker::Model;
-use units::{Carriage, Counts, Hopper, Printer, Punch, Switches, Units, put_card};
+use units::{Carriage, Counts, Hopper, Pocket, Printer, Profile, Punch, Switches, Units, put_card};
 
 /// How a run ended.
 #[derive(Clone, Copy, Debug, PartialEq, Eq)]
@@ -34,6 +36,7 @@ struct Checkpoint {
     registers: Registers,
     taken: u16,
     cards: usize,
+    chosen: Pocket,
     lines: usize,
     carriage: Carriage,
     standing: Standing,
@@ -85,15 +88,17 @@ fn loaded_core<C: Core>(alloc: Global, deck: &Deck, size: Size) -> Result<C, All
 }
 
 /// Units that have read the first card of a deck and made nothing.
-fn first_units(alloc: Global, deck: Deck, switches: Switches) -> Units
+fn first_units(alloc: Global, deck: Deck, switches: Switches, profile: Profile) -> Units
     requires { 0 < length deck }
-    ensures { result ≡ first_units deck switches }
+    ensures { result ≡ first_units deck switches profile }
 {
     Units {
         hopper: Hopper { deck, taken: 1 },
         before: Counts { cards: 0, lines: 0 },
         punch: Punch {
             cards: Vec::new(alloc),
+            chosen: Pocket::Normal,
+            profile,
         },
         printer: Printer {
             lines: Vec::new(alloc),
@@ -104,23 +109,24 @@ fn first_units(alloc: Global, deck: Deck, switches: Switches) -> Units
 }
 
 impl<C: Core> Machine<C> {
-    /// Returns the machine after the load button is pressed, with a deck in its reader and the
-    /// switches set. Memory is taken for its two storages; fails only if there is none.
+    /// Returns the machine of a profile after the load button is pressed, with a deck in its reader
+    /// and the switches set. Memory is taken for its two storages; fails only if there is none.
     pub fn load(
         alloc: Global,
         deck: Deck,
         size: Size,
         switches: Switches,
+        profile: Profile,
     ) -> Result<Machine<C>, AllocError>
         requires { 0 < length deck }
-        ensures { IfOk result (λ machine. machine ≡ loaded deck size switches) }
+        ensures { IfOk result (λ machine. machine ≡ loaded deck size switches profile) }
     {
         let core = loaded_core(alloc, &deck, size)?;
         let spare = C::blank(alloc, size)?;
         let parts = Parts {
             core,
             registers: first_registers(),
-            units: first_units(alloc, deck, switches),
+            units: first_units(alloc, deck, switches, profile),
             standing: Standing::Running,
         };
         Ok(Machine { parts, spare })
@@ -218,7 +224,8 @@ impl<C: Core> Parts<C> {
         ensures storage { C.cells spare.new ≡ self.now.works.storage }
         ensures registers { result.registers ≡ self.now.works.registers }
         ensures taken { result.taken ≡ self.now.works.units.hopper.taken }
-        ensures cards { result.cards ≡ length self.now.works.units.punch }
+        ensures cards { result.cards ≡ length self.now.works.units.punch.cards }
+        ensures chosen { result.chosen ≡ self.now.works.units.punch.chosen }
         ensures lines { result.lines ≡ length (lines_of self.now) }
         ensures carriage { result.carriage ≡ self.now.works.units.printer.carriage }
         ensures standing { result.standing ≡ self.now.standing }
@@ -228,6 +235,7 @@ impl<C: Core> Parts<C> {
             registers: self.registers,
             taken: self.units.hopper.taken,
             cards: self.units.punch.cards.len(),
+            chosen: self.units.punch.chosen,
             lines: self.units.printer.lines.len(),
             carriage: self.units.printer.carriage,
             standing: self.standing,
@@ -243,6 +251,7 @@ impl<C: Core> Parts<C> {
         self.registers = checkpoint.registers;
         self.units.hopper.taken = checkpoint.taken;
         self.units.punch.cards.truncate(checkpoint.cards);
+        self.units.punch.chosen = checkpoint.chosen;
         self.units.printer.lines.truncate(checkpoint.lines);
         self.units.printer.carriage = checkpoint.carriage;
         self.standing = checkpoint.standing;
@@ -269,15 +278,16 @@ impl<C: Core> Parts<C> {
 /// The law of the ranges: the picture of a loaded deck is in range, and it stays in range after
 /// every run and every start.
 pub fn stays_in_range()
-    ensures loaded { (deck : List Card) (size : Size) (switches : Switches) → 0 < length deck →
-        IsInRange (loaded deck size switches) }
+    ensures loaded { (deck : List Card) (size : Size) (switches : Switches) (profile : Profile) →
+        0 < length deck → IsInRange (loaded deck size switches profile) }
     ensures after { (m : State) (count : ℕ) → IsInRange m → IsInRange (after m count) }
     ensures started { (m : State) (switches : Switches) → IsInRange m →
         IsInRange (started m switches) }
 {}
 
-/// The law of what was made: a run keeps the deck, the switches and the counts of what was made
-/// before, and the cards and lines from before it are the first of those after it.
+/// The law of what was made: a run keeps the deck, the switches, the profile and the counts of what
+/// was made before, and the cards and lines from before it are the first of those after it. In the
+/// plain profile no pocket is ever chosen, and all cards are in the normal one.
 pub fn runs_only_add()
     ensures size { (m : State) (count : ℕ) →
         length (after m count).works.storage ≡ length m.works.storage }
@@ -288,7 +298,12 @@ pub fn runs_only_add()
     ensures switches { (m : State) (count : ℕ) →
         (after m count).works.units.switches ≡ m.works.units.switches }
     ensures cards { (m : State) (count : ℕ) →
-        take (length m.works.units.punch) (after m count).works.units.punch ≡ m.works.units.punch }
+        take (length m.works.units.punch.cards) (after m count).works.units.punch.cards
+        ≡ m.works.units.punch.cards }
+    ensures profile { (m : State) (count : ℕ) →
+        (after m count).works.units.punch.profile ≡ m.works.units.punch.profile }
+    ensures plain { (m : State) (count : ℕ) → IsPlain m.works.units.punch →
+        IsPlain (after m count).works.units.punch }
     ensures lines { (m : State) (count : ℕ) →
         take (length (lines_of m)) (lines_of (after m count)) ≡ lines_of m }
 {}

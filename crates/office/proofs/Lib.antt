@@ -11,3 +11,4 @@ pub mod OfficeOrder
 pub mod OfficeRepeats
 pub mod OfficeNames
 pub mod FlagLemmas
+pub mod StackerLemmas

@@ -1,6 +1,6 @@
 //! The cards that a query asks for.
 
-ghost use Rattle.std.specs.Prelude.{◌≡◌, IfOk};
+ghost use Rattle.std.specs.Prelude.{◌≡◌, ◌++◌, ◌∷◌, [], IfOk, OnOk};
 ghost use Rattle.office.specs.Stackers.{is_asked, cards_from};
 
 use crate::lists::PunchedCards;
@@ -32,6 +32,18 @@ impl Stacker {
     }
 }
 
+/// Adds a copy of a card, if it is asked for.
+#[tactic(auto, unfolding(crate::specs::Stackers::cards_from))]
+fn push_asked(cards: &mut Vec<Card>, from: Stacker, one: &Punched) -> Result<(), AllocError>
+    ensures { OnOk result
+        (cards.new.items ≡ cards.old.items ++ cards_from from (one.now ∷ [])) }
+{
+    if from.has(one.pocket) {
+        cards.push(Card(one.card.0))?;
+    }
+    Ok(())
+}
+
 /// Copies of the cards that are asked for, in the order in which they were punched. Fails only if
 /// there is no memory.
 pub fn cards_from(
@@ -43,9 +55,7 @@ pub fn cards_from(
 {
     let mut cards = Vec::new(alloc);
     for one in punched {
-        if from.has(one.pocket) {
-            cards.push(Card(one.card.0))?;
-        }
+        push_asked(&mut cards, from, one)?;
     }
     Ok(PunchedCards(cards))
 }

@@ -1,13 +1,14 @@
 -- units in range, and what they keep
-use Rattle.std.proofs.Common.{get_or, ℕ, zero, suc, ◌+◌, ◌-◌, ◌<◌, ◌≤◌, ◌≡◌, ◌⊎◌, false, List, [], ◌∷◌, ◌++◌, take, length, length-append, ltb, leb, Option, Some, None, IfSome, Ok, unwrap_or, refl, sym, ap, ◌∙◌, inl, inr, arith}
+use Rattle.std.proofs.Common.{get_or, ℕ, zero, suc, ◌+◌, ◌-◌, ◌<◌, ◌≤◌, ◌≡◌, ◌⊎◌, true, false, List, [], ◌∷◌, ◌++◌, take, length, length-append, ltb, leb, Option, Some, None, IfSome, Ok, unwrap_or, refl, sym, ap, ◌∙◌, inl, inr, arith}
 use Rattle.std.specs.Prelude.{slice_get}
 use Rattle.std.proofs.lemmas.Bool.{ltb-true, leb-true, leb-false}
 use Rattle.std.proofs.lemmas.List.{append-nil}
+use Rattle.std.proofs.lemmas.List.Elements.{All-push}
 use Rattle.std.proofs.lemmas.Option.{slice_get_within}
 use Rattle.std.proofs.Math.Seq.{take-append_seam}
 use Rattle.cards.specs.declared.decks.Card.{Card}
 use Rattle.core_store.specs.Storage.{Storage, codes_from, put_codes}
-use Rattle.core_store.specs.declared.checks.Check.TheVariants.{ReaderEmpty, PunchFull, PrinterFull}
+use Rattle.core_store.specs.declared.checks.Check.TheVariants.{Instruction, ReaderEmpty, PunchFull, PrinterFull}
 use Rattle.core_store.proofs.Fields.{length-put_codes}
 use Rattle.units.specs.declared.carriage.Carriage.{Carriage}
 use Rattle.units.specs.declared.carriage.CarriageOrder.{CarriageOrder}
@@ -15,15 +16,21 @@ use Rattle.units.specs.declared.carriage.CarriageOrder.TheVariants.{Now, AfterLi
 use Rattle.units.specs.declared.carriage.Motion.{Motion}
 use Rattle.units.specs.declared.carriage.Motion.TheVariants.{Space, DoubleSpace, TripleSpace, SkipToChannel1}
 use Rattle.units.specs.declared.devices.Devices.{Devices}
+use Rattle.units.specs.declared.pockets.Pocket.{Pocket}
 use Rattle.units.specs.declared.printer.Line.{Line}
+use Rattle.units.specs.declared.profiles.Profile.{Profile}
+use Rattle.units.specs.declared.profiles.Profile.TheVariants.{Plain, Selecting}
+use Rattle.units.specs.declared.punch.Punched.{Punched}
 use Rattle.units.specs.declared.ranges.Place.{Place}
 use Rattle.units.specs.declared.reader.Hopper.{Hopper}
 use Rattle.units.specs.declared.units.Units.{Units}
 use Rattle.units.specs.Carriages.{after_line, moved_by, spaced, sensed, on_next_form, ordered, carriage_moved, lines_of_form, last_form}
 use Rattle.units.specs.Listing.{IsRising, IsAbove}
+use Rattle.units.specs.Pockets.{pocket_chosen}
 use Rattle.units.specs.Printed.{Printed}
+use Rattle.units.specs.Stacked.{Stacked, IsNormal, IsPlain, is_selecting}
 use Rattle.units.specs.Ranges.{AreRising, AreUnits, HasPrinted, HasRead, IsBelow, IsOnForm, OnlyAdds, carriage_place, line_place, places_then, the_top}
-use Rattle.units.specs.Units.{most_cards, most_lines, card_read, card_punched, line_printed, reads, punches, prints, reader_works, punch_works, printer_works, operated}
+use Rattle.units.specs.Units.{most_cards, most_lines, area_card, card_read, card_punched, line_printed, reads, punches, prints, reader_works, punch_works, printer_works, operated}
 use Rattle.units.proofs.OperationOutcomes.{Each, each_require, each_where, each_find, each_found, each_then, each_if, some_where, some_choice, of_ok}
 
 -- ---- the reader
@@ -111,11 +118,20 @@ carriage_printed (AfterLine motion) before p h = record { most = h.most; places 
 
 -- ---- one operation
 
-card_punched_most : (before : ℕ) (s : Storage) (cards : List Card) → before + length cards ≤ most_cards → Each (λ after_it. before + length after_it ≤ most_cards) (card_punched before s cards)
+-- the punch's cards are not too many, with so many made before them
+abbrev pub HasPunched : ℕ → Stacked → Type 0
+HasPunched before p = before + length p.cards ≤ most_cards
+
+card_punched_most : (before : ℕ) (s : Storage) (p : Stacked) → HasPunched before p → Each (HasPunched before) (card_punched before s p)
 unfolding card_punched
-card_punched_most before s cards most =
-    each_where (λ after_it. before + length after_it ≤ most_cards) _ PunchFull _ (λ e.
-    let room : before + length cards < most_cards = ltb-true (before + length cards) most_cards e in omega (arith, length-append {A = Card}))
+card_punched_most before s p most =
+    each_where (HasPunched before) _ PunchFull _ (λ e.
+    let room : before + length p.cards < most_cards = ltb-true (before + length p.cards) most_cards e in omega (arith, length-append {A = Punched}))
+
+-- a selection of a pocket makes no card
+pub pocket_chosen_most : (pocket : Pocket) (before : ℕ) (p : Stacked) → HasPunched before p → Each (HasPunched before) (pocket_chosen pocket p)
+unfolding pocket_chosen
+pocket_chosen_most pocket before p most = each_require (HasPunched before) (is_selecting p.profile) Instruction _ most
 
 abbrev Leaves : Storage × Units → Type 0
 Leaves (s, u) = AreUnits u
@@ -125,7 +141,7 @@ pub operated_in_range : (devices : Devices) (s : Storage) (u : Units) → AreUni
 unfolding operated reader_works punch_works printer_works
 operated_in_range devices s u h =
     each_then LeavesRead Leaves (reader_works devices s u.hopper) _ (each_if LeavesRead (reads devices) (card_read s u.hopper) (s, u.hopper) (card_read_read s u.hopper h.reader) h.reader) (λ read has_read.
-    each_then (λ cards. u.before.cards + length cards ≤ most_cards) Leaves (punch_works devices u.before.cards s u.punch) _ (each_if (λ cards. u.before.cards + length cards ≤ most_cards) (punches devices) (card_punched u.before.cards s u.punch) u.punch (card_punched_most u.before.cards s u.punch h.punch) h.punch) (λ cards most.
+    each_then (HasPunched u.before.cards) Leaves (punch_works devices u.before.cards s u.punch) _ (each_if (HasPunched u.before.cards) (punches devices) (card_punched u.before.cards s u.punch) u.punch (card_punched_most u.before.cards s u.punch h.punch) h.punch) (λ punch most.
     each_then (HasPrinted u.before.lines) Leaves (printer_works devices u.before.lines s u.printer) _ (each_if (HasPrinted u.before.lines) (prints devices) (line_printed u.before.lines s u.printer) u.printer (line_printed_printed u.before.lines s u.printer h.printer) h.printer) (λ printed has_printed.
     record { reader = has_read; punch = most; printer = has_printed; switches = h.switches })))
 
@@ -150,11 +166,40 @@ card_read_keeps s h =
     each_find (KeepsDeck s h) (slice_get h.deck h.taken) ReaderEmpty (λ (card : Card). Ok (put_codes s 1 card.0, record h { taken = h.taken + 1 }))
     (λ card. (length-put_codes s 1 card.0, refl))
 
-card_punched_keeps : (before : ℕ) (s : Storage) (cards : List Card) → Each (Begins cards) (card_punched before s cards)
+-- what the punch keeps: its profile, the cards that it had, and that it never had stacker selection
+pub record KeepsPunch (p after_it : Stacked) : Type 0 where
+  pub profile : after_it.profile ≡ p.profile
+  pub cards : Begins p.cards after_it.cards
+  pub plain : IsPlain p → IsPlain after_it
+
+pub keeps_punch : (p : Stacked) → KeepsPunch p p
+keeps_punch p = record { profile = refl; cards = begins_same p.cards; plain = λ h. h }
+
+card_punched_keeps : (before : ℕ) (s : Storage) (p : Stacked) → Each (KeepsPunch p) (card_punched before s p)
 unfolding card_punched
-card_punched_keeps before s cards =
-    let card : Card = record { 0 = codes_from s 101 80 } in
-    each_require (Begins cards) (ltb (before + length cards) most_cards) PunchFull (Ok (cards ++ card ∷ [])) (card ∷ [], refl)
+card_punched_keeps before s p =
+    let one : Punched = record { card = area_card s; pocket = p.chosen } in
+    each_require (KeepsPunch p) (ltb (before + length p.cards) most_cards) PunchFull _ (record {
+      profile = refl;
+      cards = (one ∷ [], refl);
+      plain = λ h. record { profile = h.profile; chosen = refl; cards = All-push IsNormal p.cards one h.cards h.chosen };
+    })
+
+plain_selects_none : (profile : Profile) → is_selecting profile ≡ true → profile ≡ Plain → ⊥
+plain_selects_none Selecting e same = absurd (cc)
+plain_selects_none Plain e same = absurd (cc)
+
+-- a selection keeps the cards; and in the plain profile there is none
+pub pocket_chosen_keeps : (pocket : Pocket) (p : Stacked) → Each (KeepsPunch p) (pocket_chosen pocket p)
+unfolding pocket_chosen
+pocket_chosen_keeps pocket p =
+    each_where (KeepsPunch p) (is_selecting p.profile) Instruction _ (λ e.
+    record { profile = refl; cards = begins_same p.cards; plain = λ h. absurd (plain_selects_none p.profile e h.profile) })
+
+pub pocket_chosen_cards : (pocket : Pocket) (p : Stacked) → Each (λ after_it. (after_it.cards ≡ p.cards) × (after_it.profile ≡ p.profile)) (pocket_chosen pocket p)
+unfolding pocket_chosen
+pocket_chosen_cards pocket p =
+    each_require (λ after_it. (after_it.cards ≡ p.cards) × (after_it.profile ≡ p.profile)) (is_selecting p.profile) Instruction _ (refl, refl)
 
 line_printed_keeps : (before : ℕ) (s : Storage) (p : Printed) → Each (λ after_it. Begins p.lines after_it.lines) (line_printed before s p)
 unfolding line_printed
@@ -169,17 +214,17 @@ pub record Keeps (s t : Storage) (u after_it : Units) : Type 0 where
   pub deck : after_it.hopper.deck ≡ u.hopper.deck
   pub before : after_it.before ≡ u.before
   pub switches : after_it.switches ≡ u.switches
-  pub cards : Begins u.punch after_it.punch
+  pub punch : KeepsPunch u.punch after_it.punch
   pub lines : Begins u.printer.lines after_it.printer.lines
 
 pub operated_keeps : (devices : Devices) (s : Storage) (u : Units) → Each (λ done. Keeps s done.0 u done.1) (operated devices s u)
 unfolding operated reader_works punch_works printer_works
 operated_keeps devices s u =
     each_then (KeepsDeck s u.hopper) (λ done. Keeps s done.0 u done.1) (reader_works devices s u.hopper) _ (each_if (KeepsDeck s u.hopper) (reads devices) (card_read s u.hopper) (s, u.hopper) (card_read_keeps s u.hopper) (refl, refl)) (λ read kept.
-    each_then (Begins u.punch) (λ done. Keeps s done.0 u done.1) (punch_works devices u.before.cards s u.punch) _ (each_if (Begins u.punch) (punches devices) (card_punched u.before.cards s u.punch) u.punch (card_punched_keeps u.before.cards s u.punch) (begins_same u.punch)) (λ cards more.
+    each_then (KeepsPunch u.punch) (λ done. Keeps s done.0 u done.1) (punch_works devices u.before.cards s u.punch) _ (each_if (KeepsPunch u.punch) (punches devices) (card_punched u.before.cards s u.punch) u.punch (card_punched_keeps u.before.cards s u.punch) (keeps_punch u.punch)) (λ punch keeps.
     each_then (λ after_it. Begins u.printer.lines after_it.lines) (λ done. Keeps s done.0 u done.1) (printer_works devices u.before.lines s u.printer) _
     (each_if (λ after_it. Begins u.printer.lines after_it.lines) (prints devices) (line_printed u.before.lines s u.printer) u.printer (line_printed_keeps u.before.lines s u.printer) (begins_same u.printer.lines)) (λ printed longer.
-    record { size = kept.0; deck = kept.1; before = refl; switches = refl; cards = more; lines = longer })))
+    record { size = kept.0; deck = kept.1; before = refl; switches = refl; punch = keeps; lines = longer })))
 
 pub carriage_keeps : (order : CarriageOrder) (p : Printed) → Each (λ after_it. after_it.lines ≡ p.lines) (carriage_moved order p)
 unfolding carriage_moved
@@ -199,10 +244,13 @@ keeps_after devices s t u after_it e = of_ok (λ done. Keeps s done.0 u done.1) 
 pub only_adds : (devices : Devices) (s t : Storage) (u after_it : Units) → operated devices s u ≡ Ok (t, after_it) → OnlyAdds u after_it
 only_adds devices s t u after_it e =
     let kept = keeps_after devices s t u after_it e in
-    record { deck = kept.deck; before = kept.before; switches = kept.switches; cards = begins_take _ _ kept.cards; lines = begins_take _ _ kept.lines }
+    record { deck = kept.deck; before = kept.before; switches = kept.switches; profile = kept.punch.profile; cards = begins_take _ _ kept.punch.cards; lines = begins_take _ _ kept.lines }
 
 pub keeps_lines : (order : CarriageOrder) (p after_it : Printed) → carriage_moved order p ≡ Ok after_it → after_it.lines ≡ p.lines
 keeps_lines order p after_it e = of_ok (λ x. x.lines ≡ p.lines) _ after_it e (carriage_keeps order p)
+
+pub keeps_cards : (pocket : Pocket) (p after_it : Stacked) → pocket_chosen pocket p ≡ Ok after_it → (after_it.cards ≡ p.cards) × (after_it.profile ≡ p.profile)
+keeps_cards pocket p after_it e = of_ok (λ x. (x.cards ≡ p.cards) × (x.profile ≡ p.profile)) _ after_it e (pocket_chosen_cards pocket p)
 
 -- ---- the lines of a printer in range rise
 

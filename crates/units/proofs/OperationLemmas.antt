@@ -4,17 +4,20 @@ use Rattle.std.specs.Prelude.{slice_get}
 use Rattle.std.proofs.Math.Seq.{take-append_seam, take-length}
 use Rattle.std.proofs.lemmas.Option.{slice_get_past, slice_get_within, slice_get-get_or}
 use Rattle.cards.specs.declared.decks.Card.{Card}
-use Rattle.core_store.specs.Storage.{Storage, codes_from}
+use Rattle.core_store.specs.Storage.{Storage}
 use Rattle.core_store.specs.Checked.{require, find_or}
 use Rattle.core_store.specs.declared.checks.Check.{Check}
 use Rattle.core_store.specs.declared.checks.Check.TheVariants.{ReaderEmpty, PunchFull}
 use Rattle.units.specs.declared.devices.Devices.{Devices}
 use Rattle.units.specs.declared.fault.Fault.{Fault}
 use Rattle.units.specs.declared.fault.Fault.TheVariants.{Stopped, NoMemory}
+use Rattle.units.specs.declared.pockets.Pocket.TheVariants.{Normal}
+use Rattle.units.specs.declared.punch.Punched.{Punched}
 use Rattle.units.specs.declared.reader.Hopper.{Hopper}
 use Rattle.units.specs.declared.units.Units.{Units}
 use Rattle.units.specs.Printed.{Printed}
-use Rattle.units.specs.Units.{card_read, card_punched, reader_works, punch_works, printer_works, together, operated, reads, PunchFails, PrintFails, OperationFails}
+use Rattle.units.specs.Stacked.{Stacked}
+use Rattle.units.specs.Units.{area_card, card_read, card_punched, reader_works, punch_works, printer_works, together, operated, reads, PunchFails, PrintFails, OperationFails}
 
 abbrev IsNot : Bool → Type 0
 IsNot true = ⊥
@@ -48,7 +51,7 @@ reader_has devices s h e ok = card_left s h (rw e at ok)
 
 -- ---- the three by what each comes to
 
-all_ok : (u : Units) (reader : Result (Storage × Hopper) Check) (punch : Result (List Card) Check) (printer : Result Printed Check) →
+all_ok : (u : Units) (reader : Result (Storage × Hopper) Check) (punch : Result Stacked Check) (printer : Result Printed Check) →
     IsOk reader → IsOk punch → IsOk printer → IsOk (together u reader punch printer)
 all_ok u (Ok read) (Ok cards) (Ok printed) r p l = refl
 all_ok u (Ok read) (Ok cards) (Err check) r p l = absurd (contra l)
@@ -60,18 +63,18 @@ second_check : (u : Units) (reader : Result (Storage × Hopper) Check) (printer 
 second_check u (Ok read) printer check r = refl
 second_check u (Err other) printer check r = absurd (contra r)
 
-third_check : (u : Units) (reader : Result (Storage × Hopper) Check) (punch : Result (List Card) Check) (check : Check) → IsOk reader → IsOk punch →
+third_check : (u : Units) (reader : Result (Storage × Hopper) Check) (punch : Result Stacked Check) (check : Check) → IsOk reader → IsOk punch →
     together u reader punch (Err check) ≡ Err check
 third_check u (Ok read) (Ok cards) check r p = refl
 third_check u (Ok read) (Err other) check r p = absurd (contra p)
 third_check u (Err other) punch check r p = absurd (contra r)
 
-ok_reader : (u : Units) (reader : Result (Storage × Hopper) Check) (punch : Result (List Card) Check) (printer : Result Printed Check) →
+ok_reader : (u : Units) (reader : Result (Storage × Hopper) Check) (punch : Result Stacked Check) (printer : Result Printed Check) →
     IsOk (together u reader punch printer) → IsOk reader
 ok_reader u (Ok read) punch printer ok = refl
 ok_reader u (Err check) punch printer ok = absurd (contra ok)
 
-no_memory_punch : (u : Units) (reader : Result (Storage × Hopper) Check) (punch : Result (List Card) Check) (printer : Result Printed Check) (fault : Fault) →
+no_memory_punch : (u : Units) (reader : Result (Storage × Hopper) Check) (punch : Result Stacked Check) (printer : Result Printed Check) (fault : Fault) →
     IsOk (together u reader punch printer) → PunchFails fault u.punch punch → OperationFails fault u (together u reader punch printer)
 no_memory_punch u (Ok read) (Ok cards) (Ok printed) NoMemory ok longer = inl longer
 no_memory_punch u (Ok read) (Ok cards) (Ok printed) (Stopped check) ok stops = absurd (contra (ap is_ok (sym stops)))
@@ -79,7 +82,7 @@ no_memory_punch u (Ok read) (Ok cards) (Err check) fault ok fails = absurd (cont
 no_memory_punch u (Ok read) (Err check) printer fault ok fails = absurd (contra ok)
 no_memory_punch u (Err check) punch printer fault ok fails = absurd (contra ok)
 
-no_memory_printer : (u : Units) (reader : Result (Storage × Hopper) Check) (punch : Result (List Card) Check) (printer : Result Printed Check) (fault : Fault) →
+no_memory_printer : (u : Units) (reader : Result (Storage × Hopper) Check) (punch : Result Stacked Check) (printer : Result Printed Check) (fault : Fault) →
     IsOk (together u reader punch printer) → PrintFails fault u.printer printer → OperationFails fault u (together u reader punch printer)
 no_memory_printer u (Ok read) (Ok cards) (Ok printed) NoMemory ok longer = inr longer
 no_memory_printer u (Ok read) (Ok cards) (Ok printed) (Stopped check) ok stops = absurd (contra (ap is_ok (sym stops)))
@@ -93,7 +96,7 @@ module _ (devices : Devices) (s : Storage) (u : Units) where
   abbrev the_reader : Result (Storage × Hopper) Check
   the_reader = reader_works devices s u.hopper
 
-  abbrev the_punch : Result (List Card) Check
+  abbrev the_punch : Result Stacked Check
   the_punch = punch_works devices u.before.cards s u.punch
 
   abbrev the_printer : Result Printed Check
@@ -133,30 +136,37 @@ module _ (devices : Devices) (s : Storage) (u : Units) where
     | inr printer ↦ printer_fails fault ok printer
   ]
 
-  pub operation_is : (t : Storage) (h : Hopper) (cards : List Card) (p : Printed) → the_reader ≡ Ok (t, h) → the_punch ≡ Ok cards → the_printer ≡ Ok p →
-      operated devices s u ≡ Ok (t, record u { hopper = h; punch = cards; printer = p })
+  pub operation_is : (t : Storage) (h : Hopper) (stacked : Stacked) (p : Printed) → the_reader ≡ Ok (t, h) → the_punch ≡ Ok stacked → the_printer ≡ Ok p →
+      operated devices s u ≡ Ok (t, record u { hopper = h; punch = stacked; printer = p })
   unfolding operated
-  operation_is t h cards p read punched printed =
-      ap (λ r. together u r the_punch the_printer) read ∙ ap (λ c. together u (Ok (t, h)) c the_printer) punched ∙ ap (together u (Ok (t, h)) (Ok cards)) printed
+  operation_is t h stacked p read punched printed =
+      ap (λ r. together u r the_punch the_printer) read ∙ ap (λ c. together u (Ok (t, h)) c the_printer) punched ∙ ap (together u (Ok (t, h)) (Ok stacked)) printed
 
 -- ---- a card taken back
 
 same_value : {T : Type 0} {a b : T} → ◌≡◌ {A = Result T Check} (Ok a) (Ok b) → a ≡ b
 same_value e = cc
 
-begins : (cards more after_it : List Card) → cards ++ more ≡ after_it → take (length cards) after_it ≡ cards
-begins cards more after_it e = ap (take (length cards)) (sym e) ∙ take-append_seam cards more
+-- a punch with the cards and the choice that it had
+abbrev back : Stacked → Stacked → Stacked
+back p after_it = record after_it { cards = take (length p.cards) after_it.cards; chosen = p.chosen }
 
-card_if : (test : Bool) (cards more after_it : List Card) → require test PunchFull (Ok (cards ++ more)) ≡ Ok after_it → take (length cards) after_it ≡ cards
-card_if true cards more after_it e = begins cards more after_it (same_value e)
-card_if false cards more after_it e = absurd (contra (ap is_ok e))
+back_is : (p : Stacked) (cards : List Punched) → take (length p.cards) cards ≡ p.cards → record p { cards = take (length p.cards) cards } ≡ p
+back_is p cards e = ap (λ xs. record p { cards = xs }) e
 
-work_if : (test : Bool) (cards after_it : List Card) (worked : Result (List Card) Check) → (worked ≡ Ok after_it → take (length cards) after_it ≡ cards) →
-    (if test then worked else Ok cards) ≡ Ok after_it → take (length cards) after_it ≡ cards
-work_if true cards after_it worked h e = h e
-work_if false cards after_it worked h e = ap (take (length cards)) (sym (same_value e)) ∙ take-length cards
+begins : (p after_it : Stacked) (more : List Punched) → record p { cards = p.cards ++ more; chosen = Normal } ≡ after_it → back p after_it ≡ p
+begins p after_it more e = ap (back p) (sym e) ∙ back_is p (p.cards ++ more) (take-append_seam p.cards more)
 
-pub taken_back : (devices : Devices) (before : ℕ) (s : Storage) (cards after_it : List Card) → punch_works devices before s cards ≡ Ok after_it → take (length cards) after_it ≡ cards
+card_if : (test : Bool) (p after_it : Stacked) (more : List Punched) → require test PunchFull (Ok (record p { cards = p.cards ++ more; chosen = Normal })) ≡ Ok after_it → back p after_it ≡ p
+card_if true p after_it more e = begins p after_it more (same_value e)
+card_if false p after_it more e = absurd (contra (ap is_ok e))
+
+work_if : (test : Bool) (p after_it : Stacked) (worked : Result Stacked Check) → (worked ≡ Ok after_it → back p after_it ≡ p) →
+    (if test then worked else Ok p) ≡ Ok after_it → back p after_it ≡ p
+work_if true p after_it worked h e = h e
+work_if false p after_it worked h e = ap (back p) (sym (same_value e)) ∙ back_is p p.cards (take-length p.cards)
+
+pub taken_back : (devices : Devices) (before : ℕ) (s : Storage) (p after_it : Stacked) → punch_works devices before s p ≡ Ok after_it → back p after_it ≡ p
 unfolding punch_works card_punched
-taken_back devices before s cards after_it e =
-    work_if _ cards after_it _ (card_if _ cards (record { 0 = codes_from s 101 80 } ∷ []) after_it) e
+taken_back devices before s p after_it e =
+    work_if _ p after_it _ (card_if _ p after_it ((record { card = area_card s; pocket = p.chosen }) ∷ [])) e

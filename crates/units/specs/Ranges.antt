@@ -56,15 +56,16 @@ pub record HasRead (h : Hopper) : Type 0 where
 -- all units and the switches are in range: not too many cards, with those made before them
 pub record AreUnits (u : Units) : Type 0 where
   pub reader : HasRead u.hopper
-  pub punch : u.before.cards + length u.punch ≤ most_cards
+  pub punch : u.before.cards + length u.punch.cards ≤ most_cards
   pub printer : HasPrinted u.before.lines u.printer
   pub switches : AreSeven u.switches
 
--- an operation keeps the deck, the switches and the counts of what was made before, and the cards
--- and lines there were as the first of those after it
+-- an operation keeps the deck, the switches, the profile and the counts of what was made before, and
+-- the cards and lines there were as the first of those after it
 pub record OnlyAdds (u after : Units) : Type 0 where
   pub deck : after.hopper.deck ≡ u.hopper.deck
   pub before : after.before ≡ u.before
   pub switches : after.switches ≡ u.switches
-  pub cards : take (length u.punch) after.punch ≡ u.punch
+  pub profile : after.punch.profile ≡ u.punch.profile
+  pub cards : take (length u.punch.cards) after.punch.cards ≡ u.punch.cards
   pub lines : take (length u.printer.lines) after.printer.lines ≡ u.printer.lines

@@ -1,5 +1,5 @@
 -- the operations of the reader, the punch and the printer
-use Rattle.std.specs.Prelude.{ℕ, ◌+◌, ◌<◌, ◌≡◌, nat_lt, ◌&&◌, ◌==◌, ◌⊎◌, if◌then◌else◌, ◌++◌, List, [], ◌∷◌, length, Bool, Result, Ok, Err, slice_get}
+use Rattle.std.specs.Prelude.{ℕ, ◌+◌, ◌<◌, ◌≡◌, nat_lt, ◌&&◌, ◌==◌, ◌⊎◌, if◌then◌else◌, ◌++◌, [], ◌∷◌, length, Bool, Result, Ok, Err, slice_get}
 use Rattle.std.specs.Int.RustNames.{bit_and}
 use Rattle.cards.specs.declared.decks.Card.{Card}
 use Rattle.cards.specs.Decks.{card_columns}
@@ -14,8 +14,10 @@ use Rattle.units.specs.declared.reader.Hopper.{Hopper}
 use Rattle.units.specs.declared.switches.Switches.{Switches}
 use Rattle.units.specs.declared.units.Counts.{Counts}
 use Rattle.units.specs.declared.units.Units.{Units}
+use Rattle.units.specs.declared.pockets.Pocket.TheVariants.{Normal}
 use Rattle.units.specs.Carriages.{after_line}
 use Rattle.units.specs.Printed.{Printed}
+use Rattle.units.specs.Stacked.{Stacked}
 
 -- the most lines that the printer prints for a job
 abbrev pub most_lines : ℕ
@@ -63,12 +65,19 @@ card_read s h =
 abbrev pub is_last_card : Switches → Hopper → Bool
 is_last_card switches h = bit_and switches.0 1 == 1 && h.taken == length h.deck
 
--- the punched cards, with so many made before them, and one more, of the characters in the punch
--- area, 101 to 180
-unfoldable pub card_punched : ℕ → Storage → List Card → Result (List Card) Check
-card_punched before s cards =
-    require (nat_lt (before + length cards) most_cards) PunchFull
-    (Ok (cards ++ (record { 0 = codes_from s punch_area card_columns }) ∷ []))
+-- the card of the characters in the punch area, 101 to 180
+abbrev pub area_card : Storage → Card
+area_card s = record { 0 = codes_from s punch_area card_columns }
+
+-- the punch, with so many cards made before its own, and one card more, of the characters in the
+-- punch area, in the pocket that was chosen; then none is chosen
+unfoldable pub card_punched : ℕ → Storage → Stacked → Result Stacked Check
+card_punched before s p =
+    require (nat_lt (before + length p.cards) most_cards) PunchFull
+    (Ok (record p {
+      cards = p.cards ++ (record { card = area_card s; pocket = p.chosen }) ∷ [];
+      chosen = Normal;
+    }))
 
 -- the printer, with so many lines made before its own, and one line more, of the characters in the
 -- print area, 201 to 332, at the carriage's place
@@ -92,8 +101,8 @@ GivesUp Made NoMemory (Ok after) = Made after
 GivesUp Made NoMemory (Err check) = ⊥
 
 -- why no card was punched: a check, or no memory for the card
-abbrev pub PunchFails : Fault → List Card → Result (List Card) Check → Type 0
-PunchFails fault cards outcome = GivesUp (λ after. length cards < length after) fault outcome
+abbrev pub PunchFails : Fault → Stacked → Result Stacked Check → Type 0
+PunchFails fault p outcome = GivesUp (λ after. length p.cards < length after.cards) fault outcome
 
 -- why no line was printed: a check, or no memory for the line
 abbrev pub PrintFails : Fault → Printed → Result Printed Check → Type 0
@@ -115,23 +124,22 @@ punches devices = bit_and devices.0 4 == 4
 unfoldable pub reader_works : Devices → Storage → Hopper → Result (Storage × Hopper) Check
 reader_works devices s h = if reads devices then card_read s h else Ok (s, h)
 
--- the punched cards after an operation, one more if the punch takes part
-unfoldable pub punch_works : Devices → ℕ → Storage → List Card → Result (List Card) Check
-punch_works devices before s cards =
-    if punches devices then card_punched before s cards else Ok cards
+-- the punch after an operation, which punches a card if the punch takes part
+unfoldable pub punch_works : Devices → ℕ → Storage → Stacked → Result Stacked Check
+punch_works devices before s p = if punches devices then card_punched before s p else Ok p
 
 -- the printer after an operation, which prints a line if the printer takes part
 unfoldable pub printer_works : Devices → ℕ → Storage → Printed → Result Printed Check
 printer_works devices before s p = if prints devices then line_printed before s p else Ok p
 
 -- storage and units after the reader, the punch and the printer, or the first check in this order
-abbrev pub together : Units → Result (Storage × Hopper) Check → Result (List Card) Check →
+abbrev pub together : Units → Result (Storage × Hopper) Check → Result Stacked Check →
     Result Printed Check → Result (Storage × Units) Check
 together u reader punch printer =
     and_then reader (λ read.
-    and_then punch (λ cards.
+    and_then punch (λ stacked.
     and_then printer (λ printed.
-    Ok (read.0, record u { hopper = read.1; punch = cards; printer = printed }))))
+    Ok (read.0, record u { hopper = read.1; punch = stacked; printer = printed }))))
 
 -- storage and units after an operation of the units, each of which works from storage as it was
 unfoldable pub operated : Devices → Storage → Units → Result (Storage × Units) Check
@@ -146,13 +154,13 @@ nothing_made = record { cards = 0; lines = 0 }
 -- how many cards and lines were made in all: those before, and the units' own
 abbrev pub made_in_all : Units → Counts
 made_in_all u = record {
-  cards = u.before.cards + length u.punch;
+  cards = u.before.cards + length u.punch.cards;
   lines = u.before.lines + length u.printer.lines;
 }
 
 -- an operation has made one more card or line
 abbrev pub Makes : Units → Units → Type 0
-Makes u after = (length u.punch < length after.punch)
+Makes u after = (length u.punch.cards < length after.punch.cards)
     ⊎ (length u.printer.lines < length after.printer.lines)
 
 -- why an operation of the units was given up: a check, or no memory for a card or a line

@@ -4,11 +4,14 @@ ghost use Rattle.std.specs.Prelude.{◌≡◌, ℕ, length, Ok};
 ghost use Rattle.core_store.specs.Storage.{Storage};
 ghost use Rattle.units.specs.declared.carriage.CarriageOrder.{CarriageOrder};
 ghost use Rattle.units.specs.declared.devices.Devices.{Devices};
+ghost use Rattle.units.specs.declared.pockets.Pocket.{Pocket};
 ghost use Rattle.units.specs.declared.units.Units.{Units};
 ghost use Rattle.units.specs.Carriages.{carriage_moved};
 ghost use Rattle.units.specs.Listing.{IsRising};
+ghost use Rattle.units.specs.Pockets.{pocket_chosen};
 ghost use Rattle.units.specs.Printed.{Printed};
 ghost use Rattle.units.specs.Ranges.{AreUnits, HasPrinted, OnlyAdds};
+ghost use Rattle.units.specs.Stacked.{Stacked};
 ghost use Rattle.units.specs.Units.{operated};
 
 /// The law of the ranges: units in range stay in range after every operation and every order to the
@@ -20,9 +23,10 @@ pub fn operating_stays_in_range()
         HasPrinted before p → carriage_moved order p ≡ Ok after → HasPrinted before after }
 {}
 
-/// The law of what was made: an operation keeps the deck, the switches, the counts of what was made
-/// before, and the size of the storage. The cards and lines that it found are the first of those
-/// that it leaves. An order to the carriage keeps all lines.
+/// The law of what was made: an operation keeps the deck, the switches, the profile, the counts of
+/// what was made before, and the size of the storage. The cards and lines that it found are the
+/// first of those that it leaves. An order to the carriage keeps all lines, a selection of a pocket
+/// all cards and the profile.
 pub fn operating_only_adds()
     ensures operation { (devices : Devices) (s t : Storage) (u after : Units) →
         operated devices s u ≡ Ok (t, after) → OnlyAdds u after }
@@ -30,6 +34,8 @@ pub fn operating_only_adds()
         operated devices s u ≡ Ok (t, after) → length t ≡ length s }
     ensures carriage { (order : CarriageOrder) (p after : Printed) →
         carriage_moved order p ≡ Ok after → after.lines ≡ p.lines }
+    ensures pocket { (pocket : Pocket) (p after : Stacked) → pocket_chosen pocket p ≡ Ok after →
+        (after.cards ≡ p.cards) × (after.profile ≡ p.profile) }
 {}
 
 /// The law of the lines: the lines of a printer in range rise by form and line, so `render` returns

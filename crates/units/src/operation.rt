@@ -147,11 +147,12 @@ fn work_makers<C: Core>(
     ensures unchanged { OnErr result ((punch.new ≡ punch.old) × (printer.new ≡ printer.old)) }
 {
     let cards = punch.count();
+    let chosen = punch.chosen;
     if let Err(fault) = work_punch(core, punch, before.cards, devices) {
         return Err(fault);
     }
     if let Err(fault) = work_printer(core, printer, before.lines, devices) {
-        punch.take_back(cards);
+        punch.take_back(cards, chosen);
         return Err(fault);
     }
     Ok(())

@@ -3,10 +3,13 @@
 ghost use Rattle.std.specs.Prelude.{◌≡◌, ◌≤◌, true, false, length, take, Ok, Err, IsOk, OnOk, OnErr, IfErr};
 ghost use Rattle.core_store.specs.Storage.{Storage};
 ghost use Rattle.core_store.specs.declared.checks.Check.TheVariants.{PunchFull};
+ghost use Rattle.units.specs.Pockets.{pocket_chosen};
 ghost use Rattle.units.specs.Units.{punch_area_end, card_punched, PunchFails};
 
 use crate::areas::{PUNCH_AREA, codes_at};
 use crate::fault::Fault;
+use crate::pockets::Pocket;
+use crate::profiles::Profile;
 use cards::Card;
 use core_store::{Check, Core};
 use std::marker::Model;
@@ -14,19 +17,31 @@ use std::marker::Model;
 /// The greatest number of cards that the punch makes.
 pub const MOST_CARDS: usize = 10_000;
 
-/// The card punch: the cards punched after those that are kept elsewhere, in order.
+/// A punched card, and its pocket.
+#[derive(Clone, Copy)]
+pub struct Punched {
+    pub card: Card,
+    pub pocket: Pocket,
+}
+
+/// The card punch: the cards punched after those that are kept elsewhere, in order, and the choice
+/// of a pocket.
 #[derive(Drop)]
 pub struct Punch {
-    pub cards: Vec<Card>,
+    /// The cards in the order of punching.
+    pub cards: Vec<Punched>,
+    /// The pocket chosen for the next card.
+    pub chosen: Pocket,
+    /// The machine's profile, by which a pocket may be chosen or not.
+    pub profile: Profile,
 }
 
 impl Model for Punch {
-    ghost use Rattle.std.specs.Prelude.{List};
-    ghost use Rattle.cards.specs.declared.decks.Card.{Card};
+    ghost use Rattle.units.specs.Stacked.{Stacked};
 
-    ghost Value = { List Card };
+    ghost Value = { Stacked };
 
-    ghost view = { λ p. p.cards.items };
+    ghost view = { λ p. record { cards = p.cards.items; chosen = p.chosen; profile = p.profile } };
 }
 
 impl Punch {
@@ -42,21 +57,41 @@ impl Punch {
 
     /// The number of cards punched.
     pub(crate) fn count(&self) -> usize
-        ensures { result ≡ length self.now }
+        ensures { result ≡ length self.now.cards }
     {
         self.cards.len()
     }
 
-    /// Removes all cards after the first `count`.
-    pub(crate) fn take_back(&mut self, count: usize)
-        ensures { self.new ≡ take count self.old }
+    /// Removes all cards after the first `count`, and chooses this pocket again.
+    pub(crate) fn take_back(&mut self, count: usize, chosen: Pocket)
+        ensures { self.new ≡ record self.old {
+          cards = take count self.old.cards;
+          chosen = chosen;
+        } }
     {
         self.cards.truncate(count);
+        self.chosen = chosen;
     }
 }
 
-/// Punches the punch area, 101 to 180, into one more card. PUNCH FULL if the punch has made its
-/// greatest number of cards: `before` earlier ones, and these.
+/// Chooses the pocket of the next card, in place of any chosen before; the normal pocket leaves the
+/// choice as it is. INSTRUCTION if the profile has no stacker selection.
+#[tactic(auto, unfolding(crate::specs::Pockets::pocket_chosen))]
+pub fn choose_pocket(punch: &mut Punch, pocket: Pocket) -> Result<(), Check>
+    ensures done { OnOk result (pocket_chosen pocket punch.old ≡ Ok punch.new) }
+    ensures check { IfErr result (λ check. pocket_chosen pocket punch.old ≡ Err check) }
+    ensures unchanged { OnErr result (punch.new ≡ punch.old) }
+{
+    if !punch.profile.is_selecting() {
+        return Err(Check::Instruction);
+    }
+    punch.chosen = pocket.chosen_after(punch.chosen);
+    Ok(())
+}
+
+/// Punches the punch area, 101 to 180, into one more card, in the pocket that was chosen; then none
+/// is chosen. PUNCH FULL if the punch has made its greatest number of cards: `before` earlier ones,
+/// and these.
 #[tactic(auto, unfolding(crate::specs::Units::card_punched))]
 pub fn punch_card<C: Core>(core: &C, punch: &mut Punch, before: u32) -> Result<(), Fault>
     requires { punch_area_end ≤ length (C.cells core.now) }
@@ -68,9 +103,13 @@ pub fn punch_card<C: Core>(core: &C, punch: &mut Punch, before: u32) -> Result<(
     if punch.is_full(before) {
         return Err(Fault::Stopped(Check::PunchFull));
     }
-    let codes = codes_at(core, PUNCH_AREA);
-    if punch.cards.push(Card(codes)).is_err() {
+    let punched = Punched {
+        card: Card(codes_at(core, PUNCH_AREA)),
+        pocket: punch.chosen,
+    };
+    if punch.cards.push(punched).is_err() {
         return Err(Fault::NoMemory);
     }
+    punch.chosen = Pocket::Normal;
     Ok(())
 }

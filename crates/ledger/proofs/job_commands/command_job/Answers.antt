@@ -40,7 +40,7 @@ returns-in-Cards-clause-meter g c clean inside =
     let still : risen c.args.meter.now 0 ≡ c.args.meter.now = search rules in
     on_any c.tell_cards.result _ (λ office s.
     let job = job_in c.args.name office in
-    sym (ap (λ q. risen c.args.meter.now (attempted_of q job)) c.in-Cards.is ∙ ap (risen c.args.meter.now) (cards_attempt_none job) ∙ still))
+    sym (ap (λ q. risen c.args.meter.now (attempted_of q job)) c.in-Cards.is ∙ ap (risen c.args.meter.now) (cards_attempt_none c.in-Cards.from job) ∙ still))
 
 pub returns-in-Lines-clause-meter : goal.returns-in-Lines-clause-meter
 returns-in-Lines-clause-meter g c clean inside =

@@ -38,5 +38,5 @@ loop-row-preserved g c =
 pub returns-clause-raised : goal.returns-clause-raised
 returns-clause-raised g c clean inside office all is holds =
     let many : length office ≤ c.loop-row.row-index = omega (arith, c.loop-row-test.false, ap length is, length-map office (λ (e : Entry). queued_name (named e))) in
-    subst (HoldsAs (Some (storages_of office)) 1 (seen g.S.Store c.loop-row.tables).now) (as_many_pages office c.loop-row.row-index (length office) (take_all c.loop-row.row-index office many ∙ sym (take_all (length office) office (omega arith))))
+    subst (HoldsAs (pictured (storages_of office)) 1 (seen g.S.Store c.loop-row.tables).now) (as_many_pages office c.loop-row.row-index (length office) (take_all c.loop-row.row-index office many ∙ sym (take_all (length office) office (omega arith))))
     (c.loop-row.invariant.raised clean inside office all is holds)

@@ -13,5 +13,5 @@ abbrev pub invariant-loop-row : goal.invariant-loop-row
 invariant-loop-row g l = record {
   step : HasStepped g.S.Store l.fn.tables l.tables;
   raised : Inside g.S.Store l.fn.tables l.tables (λ before after. (office : Office) → AllByRecursion (λ (e : Entry). CanBeKept e.job) office → l.rows ≡ map (λ (e : Entry). queued_name (named e)) office
-      → HoldsAs (Some (storages_of office)) 1 before.now (with_first_pages 0 office) → HoldsAs (Some (storages_of office)) 1 after.now (with_first_pages l.row-index office));
+      → HoldsAs (pictured (storages_of office)) 1 before.now (with_first_pages 0 office) → HoldsAs (pictured (storages_of office)) 1 after.now (with_first_pages l.row-index office));
 }

@@ -14,5 +14,5 @@ returns-clause-raised g c clean inside =
     let on = c.in_ok-rows.ensures.step.frame early inside in
     on_ok_then c.raise_rows.result _ _ (λ raised office all holds.
     let found = c.in_ok-rows.ensures.found early inside (with_first_pages 0 office) (storages_of office) 1 holds in
-    raised office all (c.as_slice.ensures.value ∙ found.1 ∙ names_are office) (subst (λ db. HoldsAs (Some (storages_of office)) 1 db (with_first_pages 0 office)) (sym found.0.0.now_is) holds))
+    raised office all (c.as_slice.ensures.value ∙ found.1 ∙ names_are office) (subst (λ db. HoldsAs (pictured (storages_of office)) 1 db (with_first_pages 0 office)) (sym found.0.0.now_is) holds))
     (c.raise_rows.ensures.raised clean on.inside)

@@ -1,8 +1,9 @@
-use Rattle.std.proofs.Common.{refl, ap, arith}
+use Rattle.std.proofs.Common.{refl, ap, ◌∙◌, arith}
 use Rattle.sqlite.specs.State.{HasCleanDisk}
 use Rattle.ledger_tables.specs.Listed.{loaded_row}
 use Rattle.ledger_tables.specs.Steps.{seen}
 use Rattle.office.specs.declared.commands.JobCommand.TheVariants.{Cards}
+use Rattle.office.specs.Stackers.{cards_from}
 use Rattle.office.specs.declared.replies.Reply.TheVariants as reply
 use Rattle.ledger.specs.Standing.{tables_of}
 use Rattle.ledger.proofs.Offices.{still, part_found, part_none}
@@ -21,14 +22,14 @@ returns-clause-done g c clean inside office s =
     let customer = c.args.name.customer.now in
     let number = c.args.name.number in
     let it = part_found loaded_row customer number office c.in_ok-_row.field-0 c.in-Some._row found.1 c.in-Some.is in
-    let rest = c.in_ok-cards.ensures.found clean on.inside office (still old mid office found.0 s) in
-    let told = ap reply.Cards (rest.1 it.0 it.1) in
-    let stands = unchanged_saved new customer number Cards it.0 office refl it.1 rest.0 in
-    command_done new customer number Cards _ office it.0 it.1 told refl stands
+    let rest = c.in_ok-punched.ensures.found clean on.inside office (still old mid office found.0 s) in
+    let told = ap reply.Cards (c.in_ok-cards.ensures ∙ ap (cards_from c.args.from) (c.deref.ensures.value ∙ rest.1 it.0 it.1)) in
+    let stands = unchanged_saved new customer number (Cards c.args.from) it.0 office refl it.1 rest.0 in
+    command_done new customer number (Cards c.args.from) _ office it.0 it.1 told refl stands
 
 pub returns-in_default-clause-done : goal.returns-in_default-clause-done
 returns-in_default-clause-done g c clean inside office s =
     let old = seen g.S.Store c.args.tables.now in
     let new = seen g.S.Store c.find_loaded.new.self in
     let found = c.in_ok-_row.ensures.found clean inside (tables_of office) s.tables in
-    no_job new c.args.name.customer.now c.args.name.number Cards office (part_none loaded_row c.args.name.customer.now c.args.name.number office c.in_ok-_row.field-0 found.1 (none_is c.in_ok-_row.field-0 c.in_default.not-Some)) (still old new office found.0 s)
+    no_job new c.args.name.customer.now c.args.name.number (Cards c.args.from) office (part_none loaded_row c.args.name.customer.now c.args.name.number office c.in_ok-_row.field-0 found.1 (none_is c.in_ok-_row.field-0 c.in_default.not-Some)) (still old new office found.0 s)

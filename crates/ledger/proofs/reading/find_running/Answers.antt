@@ -1,19 +1,25 @@
-use Rattle.std.proofs.Common.{sym, ap, subst, ◌∙◌}
+use Rattle.std.proofs.Common.{sym, ap, subst, ◌∙◌, arith}
 use Rattle.cards.specs.Decks.{deck_bytes, IsDeck}
+use Rattle.sqlite.specs.State.{HasCleanDisk}
 use Rattle.ledger_tables.specs.Cells.{LoadedCells}
+use Rattle.ledger_tables.specs.Steps.{seen}
 use Rattle.office.specs.Jobs.{picture}
 use Rattle.ledger.proofs.Offices.{if_ok_then, job_is}
 use Rattle.ledger.proofs.ReadingLemmas.{picture_deck}
 use Rattle.ledger.proofs.reading.find_running.Goals as goal
 
 pub returns-clause-found : goal.returns-clause-found
-returns-clause-found g c clean inside = if_ok_then _ _ c.find_machine.result (λ machine found office s.
-    let rest = found office s in (
+returns-clause-found g c clean inside =
+    let early : HasCleanDisk (seen g.S.Store c.find_punch.new.tables) = omega (arith, c.find_machine.ensures.step.survives.clean) in
+    let on = c.in_ok-punch.ensures.step.frame early inside in
+    if_ok_then _ _ c.find_machine.result (λ machine found office s.
+    let punch = c.in_ok-punch.ensures.found early inside office s in
+    let rest = found office punch.0 in (
       rest.0,
       λ job is row switches.
           let kept = job_is c.args.name.customer.now c.args.name.number office job s.jobs is in
           let cells = c.row.view_is ∙ row in
           let deck = picture_deck c.runs_only_add.ensures.deck job in
           let loaded = c.deref.ensures.value ∙ ap (λ (r : LoadedCells). r.loaded) cells in
-          rest.1 job is (ap (λ (r : LoadedCells). r.size) cells) (c.in_ok-media.ensures.read (picture job) (subst IsDeck (sym deck) kept.job.loaded) (loaded ∙ ap deck_bytes (sym deck)) switches),
-    )) (c.find_machine.ensures.found clean inside)
+          rest.1 job is (ap (λ (r : LoadedCells). r.size) cells) (c.in_ok-media.ensures.read (picture job) (subst IsDeck (sym deck) kept.job.loaded) (loaded ∙ ap deck_bytes (sym deck)) switches (punch.1 job is)),
+    )) (c.find_machine.ensures.found clean on.inside)

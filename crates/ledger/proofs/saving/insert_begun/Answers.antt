@@ -13,4 +13,4 @@ returns-clause-added g c clean inside =
     let stretches : c.parts-parts.result.stretches.now ≡ c.args.job.now.stretches = search rules in
     let did = rw stretches at (c.in_ok-insert_last_stretch.ensures.added early inside) in
     let more = rw machine at (c.insert_machine.ensures.added clean on.inside) in
-    on_ok_then c.insert_machine.result _ _ (λ more t holds has. more (with_all_stretches c.args.name c.args.job.now.stretches t) (did t holds has.stretches) (record { state = has.machine.state; pages = has.machine.pages })) more
+    on_ok_then c.insert_machine.result _ _ (λ more t holds has. more (with_all_stretches c.args.name c.args.job.now.stretches t) (did t holds has.stretches) (record { state = has.machine.state; pages = has.machine.pages; profile = has.machine.profile })) more

@@ -1,9 +1,10 @@
-use Rattle.std.proofs.Common.{◌≡◌, None, arith, rules, subst}
+use Rattle.std.proofs.Common.{◌≡◌, arith, rules, subst}
 use Rattle.sqlite.specs.State.{HasCleanDisk}
 use Rattle.core_store.specs.Pages.{cells_of}
 use Rattle.ledger_rows.specs.Columns.{HoldsCharacters}
 use Rattle.ledger_tables.specs.Schema.{own_version}
 use Rattle.ledger_tables.specs.Steps.{seen}
+use Rattle.ledger_tables.specs.Tables.{complete}
 use Rattle.ledger_tables.proofs.Frames.{on_ok_then}
 use Rattle.ledger.specs.Saving.{with_storage}
 use Rattle.ledger.proofs.saving.insert_machine.Goals as goal
@@ -14,10 +15,9 @@ returns-clause-added g c clean inside =
     let on = c.in_ok-insert_pages.ensures.step.frame early inside in
     let storage : cells_of c.machine.inside.core ≡ c.args.machine.now.works.storage = search rules in
     let did = rw storage at (c.in_ok-insert_pages.ensures.added early inside) in
-    let row = rw c.state_row.ensures at (c.insert_state.ensures.added clean on.inside) in
     on_ok_then c.insert_state.result _ _
-    (λ more t holds has. more (with_storage c.args.name c.args.machine.now.works.storage t) (did None own_version t holds has.pages) has.state)
-    row
+    (λ more t holds has. more (with_storage c.args.name c.args.machine.now.works.storage t) (did complete own_version t holds has.pages) (has.state, has.profile))
+    (c.insert_state.ensures.added clean on.inside)
 
 pub returns-clause-characters : goal.returns-clause-characters
 returns-clause-characters g c =

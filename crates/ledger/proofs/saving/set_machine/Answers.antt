@@ -1,7 +1,8 @@
-use Rattle.std.proofs.Common.{◌≡◌, None, arith, rules}
+use Rattle.std.proofs.Common.{◌≡◌, arith, rules}
 use Rattle.sqlite.specs.State.{HasCleanDisk}
 use Rattle.ledger_tables.specs.Schema.{own_version}
 use Rattle.ledger_tables.specs.Steps.{seen}
+use Rattle.ledger_tables.specs.Tables.{complete}
 use Rattle.ledger_tables.proofs.Frames.{on_ok_then}
 use Rattle.ledger_tables.proofs.Stepping.{on_any}
 use Rattle.core_store.specs.Pages.{cells_of}
@@ -15,7 +16,7 @@ returns-clause-set g c clean inside =
     let storage : cells_of c.machine.inside.core ≡ c.args.machine.now.works.storage = search rules in
     let did = rw storage at (c.in_ok-save_pages.ensures.saved early inside) in
     on_ok_then c.set_state.result _ _
-    (λ more t holds has. more (with_storage c.args.name c.args.machine.now.works.storage t) (did None own_version t holds has.pages) has.state)
+    (λ more t holds has. more (with_storage c.args.name c.args.machine.now.works.storage t) (did complete own_version t holds has.pages) has.state)
     (c.set_state.ensures.set clean on.inside)
 
 pub returns-clause-characters : goal.returns-clause-characters

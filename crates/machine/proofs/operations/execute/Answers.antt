@@ -129,6 +129,16 @@ unfolding operation_by row_of operations glyph_of
 returns-in-54 g c =
     ends_as c.args.instruction c.args.next 54 (sym c.number.ensures.same ∙ c.in-54.is) _ _ _ (c.give_order.ensures (g.C.Core.cells c.args.core.now))
 
+pub select_pocket-requires : goal.select_pocket-requires
+unfolding glyph_of
+select_pocket-requires g c =
+    ap (λ n. is_glyph n (codes "K")) (sym c.number.ensures.same ∙ c.in-34.is)
+
+pub returns-in-34 : goal.returns-in-34
+unfolding operation_by row_of operations glyph_of
+returns-in-34 g c =
+    ends_as c.args.instruction c.args.next 34 (sym c.number.ensures.same ∙ c.in-34.is) _ _ _ (c.select_pocket.ensures (g.C.Core.cells c.args.core.now))
+
 pub returns-in-59 : goal.returns-in-59
 unfolding effect operation_by row_of operations glyph_of
 returns-in-59 g c =
@@ -147,7 +157,7 @@ unfolding effect
 returns-in_default g c =
     let none : operation_by c.args.instruction.first ≡ NoOperation = elim c.in_default.branch [
       | in_default-via-then-this-lt1 w ↦ names_blank c.args.instruction.first (omega arith)
-      | in_default-via-else-this-lt1+else-this-lt8 w ↦ names_none c.args.instruction.first (omega arith) (omega arith) (omega arith) (omega arith) (omega arith) (omega arith) (omega arith) (omega arith) (omega arith) (omega arith) (omega arith) (omega arith) (omega arith) (omega arith) (omega arith) (omega arith) (omega arith) (omega arith) (omega arith) (omega arith) (omega arith) (omega arith) (omega arith)
+      | in_default-via-else-this-lt1+else-this-lt8 w ↦ names_none c.args.instruction.first (omega arith) (omega arith) (omega arith) (omega arith) (omega arith) (omega arith) (omega arith) (omega arith) (omega arith) (omega arith) (omega arith) (omega arith) (omega arith) (omega arith) (omega arith) (omega arith) (omega arith) (omega arith) (omega arith) (omega arith) (omega arith) (omega arith) (omega arith) (omega arith)
     ] in
     let w = works_of (g.C.Core.cells c.args.core.now) c.args.registers.now c.args.units.now in
     ap (λ o. effect o (decoded_by c.args.instruction) c.args.next w) none

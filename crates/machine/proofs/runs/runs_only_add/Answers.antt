@@ -9,6 +9,8 @@ returns c = record {
   deck = λ m count. (stems_after m m count (stems_same m)).deck;
   before = λ m count. (stems_after m m count (stems_same m)).before;
   switches = λ m count. (stems_after m m count (stems_same m)).switches;
-  cards = λ m count. begins_take m.works.units.punch (after m count).works.units.punch (stems_after m m count (stems_same m)).cards;
+  cards = λ m count. begins_take m.works.units.punch.cards (after m count).works.units.punch.cards (stems_after m m count (stems_same m)).punch.cards;
+  profile = λ m count. (stems_after m m count (stems_same m)).punch.profile;
+  plain = λ m count. (stems_after m m count (stems_same m)).punch.plain;
   lines = λ m count. begins_take (lines_of m) (lines_of (after m count)) (stems_after m m count (stems_same m)).lines;
 }

@@ -18,7 +18,7 @@ pub invariant_of-result : goal.invariant_of-result
 invariant_of-result g c =
     let s = g.C.Core.cells c.in_ok-core.core in (
       rw (c.in_ok-core.ensures, c.first_registers.ensures, c.first_units.ensures)
-          (loaded_in_range c.args.deck c.args.size c.args.switches c.requires),
+          (loaded_in_range c.args.deck c.args.size c.args.switches c.args.profile c.requires),
       length-loaded s c.args.size (first_card c.args.deck) c.in_ok-core.ensures ∙ sym (ap length c.in_ok-spare.ensures ∙ length-replicate (positions_of c.args.size) _),
     )
 
