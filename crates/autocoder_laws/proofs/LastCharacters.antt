@@ -6,19 +6,22 @@ use Rattle.std.proofs.lemmas.Bool.{eqb-true}
 use Rattle.bcd.specs.Table.{glyph_of}
 use Rattle.bcd.specs.declared.Zone.TheVariants.{Bare, A, B, AB}
 use Rattle.units.specs.Carriages.{order_of}
+use Rattle.units.specs.Pockets.{pocket_of}
 use Rattle.units.specs.declared.carriage.CarriageOrder.{CarriageOrder}
 use Rattle.units.specs.declared.carriage.CarriageOrder.TheVariants.{Now, AfterLine}
 use Rattle.units.specs.declared.carriage.Motion.TheVariants.{Space, DoubleSpace, TripleSpace, SkipToChannel1}
+use Rattle.units.specs.declared.pockets.Pocket.{Pocket}
+use Rattle.units.specs.declared.pockets.Pocket.TheVariants.{Normal, Four, Eight}
 use Rattle.machine.specs.Branches.{switch, condition_of, test_of}
-use Rattle.machine.specs.Operations.{names_condition, names_test, names_order}
+use Rattle.machine.specs.Operations.{names_condition, names_test, names_order, names_pocket}
 use Rattle.machine.specs.declared.branches.Condition.TheVariants.{SwitchOn}
 use Rattle.machine.specs.declared.branches.PositionTest.{PositionTest}
 use Rattle.machine.specs.declared.branches.PositionTest.TheVariants.{HasMark, HasZone, HasZoneOrMark}
-use Rattle.machine.specs.declared.named.Modifier.TheVariants.{OnCondition, OnTest, ByOrder}
+use Rattle.machine.specs.declared.named.Modifier.TheVariants.{OnCondition, OnTest, ByOrder, ToPocket}
 use Rattle.machine.specs.declared.named.Operation.TheVariants as operation
 use Rattle.autocoder_statements.specs.Operands.{is_modifier}
-use Rattle.autocoder_statements.specs.declared.modifiers.Modifiers.TheVariants.{Switches, ZonesAndMarks, Carriage}
-use Rattle.autocoder_laws.specs.Meanings.{Meaning, switch_named, switch_asked, test_asked, order_asked}
+use Rattle.autocoder_statements.specs.declared.modifiers.Modifiers.TheVariants.{Switches, ZonesAndMarks, Carriage, Pockets}
+use Rattle.autocoder_laws.specs.Meanings.{Meaning, switch_named, switch_asked, test_asked, order_asked, pocket_asked}
 use Rattle.autocoder_laws.proofs.SuitLemmas.{Agrees}
 use Rattle.autocoder_statements.proofs.Tests.{either}
 
@@ -114,5 +117,27 @@ orders code h =
     ▸ (λ e. at_order code (AfterLine TripleSpace) (rw e refl))
     ▸ (λ e. at_order code (Now SkipToChannel1) (rw e refl))
     ▸ (λ e. at_order code (AfterLine SkipToChannel1) (rw e refl))
+    ▸ tt)
+    (glyph_of code) h refl
+
+-- ---- the pockets of the punch
+
+abbrev asks_pocket : Meaning
+asks_pocket = record { operation = operation.ChoosePocket; says = pocket_asked }
+
+AtPocket : ℕ → ℕ → Type 0
+AtPocket code glyph = glyph_of code ≡ glyph → Agrees asks_pocket names_pocket code
+
+at_pocket : (code : ℕ) (pocket : Pocket) → pocket_of code ≡ Some pocket → Agrees asks_pocket names_pocket code
+at_pocket code pocket named = record { modifier = ToPocket pocket; read = rw named refl; meant = rw named refl }
+
+pub pockets : (code : ℕ) → is_modifier Pockets code ≡ true → Agrees asks_pocket names_pocket code
+unfolding is_modifier pocket_of AtPocket
+pockets code h =
+    among (AtPocket code) (codes "1248")
+    ((λ e. at_pocket code Normal (rw e refl))
+    ▸ (λ e. at_pocket code Normal (rw e refl))
+    ▸ (λ e. at_pocket code Four (rw e refl))
+    ▸ (λ e. at_pocket code Eight (rw e refl))
     ▸ tt)
     (glyph_of code) h refl

@@ -16,7 +16,7 @@ use Rattle.autocoder_statements.specs.declared.operand_forms.OperandForm.TheVari
 use Rattle.autocoder_statements.specs.declared.operand_kinds.OperandKind.{OperandKind}
 use Rattle.autocoder_statements.specs.declared.operand_kinds.OperandKind.TheVariants.{Branch, Field}
 use Rattle.autocoder_statements.specs.declared.modifiers.Modifiers.{Modifiers}
-use Rattle.autocoder_statements.specs.declared.modifiers.Modifiers.TheVariants.{Any, Switches, ZonesAndMarks, Carriage}
+use Rattle.autocoder_statements.specs.declared.modifiers.Modifiers.TheVariants.{Any, Switches, ZonesAndMarks, Carriage, Pockets}
 use Rattle.autocoder_statements.specs.declared.operands.Operand.{Operand}
 use Rattle.autocoder_statements.specs.declared.operands.Operand.TheVariants.{Address, Literal}
 use Rattle.autocoder_statements.specs.declared.operands.Operands.{Operands}
@@ -152,6 +152,7 @@ allowed_is Any c = ap not (blank_class c)
 allowed_is Switches c = refl
 allowed_is ZonesAndMarks c = refl
 allowed_is Carriage c = refl
+allowed_is Pockets c = refl
 
 pub last_read : (modifiers : Modifiers) (c : ℕ) (text rest : List ℕ) → IsLast modifiers c text → IsEnd rest → modifier modifiers (text ++ rest) ≡ Some c
 unfolding modifier

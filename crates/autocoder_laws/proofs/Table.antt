@@ -11,7 +11,7 @@ use Rattle.machine.specs.declared.named.Operation.{Operation}
 use Rattle.machine.specs.declared.named.Operation.TheVariants.{Branch}
 use Rattle.autocoder_statements.specs.Mnemonics.{mnemonics, code_of}
 use Rattle.autocoder_laws.specs.Meanings.{meanings}
-use Rattle.autocoder_laws.proofs.LastCharacters.{switches, tests, orders}
+use Rattle.autocoder_laws.proofs.LastCharacters.{switches, tests, orders, pockets}
 use Rattle.autocoder_laws.proofs.RowLemmas.{AllFit}
 use Rattle.autocoder_laws.proofs.SuitLemmas.{Agrees}
 
@@ -73,6 +73,7 @@ all_fit =
     ▸ (refl, (refl, (refl, plain _), (refl, plain _), tt))
     ▸ (refl, (refl, (refl, plain _), (refl, plain _), tt))
     ▸ (refl, (refl, (refl, orders), tt, tt))
+    ▸ (refl, (refl, (refl, pockets), tt, tt))
     ▸ (refl, (refl, (refl, plain _), (refl, plain _), tt))
     ▸ (refl, (refl, (refl, plain _), tt, tt))
     ▸ (refl, (refl, (refl, plain _), tt, tt))

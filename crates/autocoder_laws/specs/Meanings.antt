@@ -2,6 +2,7 @@
 use Rattle.std.specs.Prelude.{ℕ, ◌+◌, ◌^◌, ◌==◌, List, [], ◌∷◌, Option, Some, option_map, codes, position}
 use Rattle.bcd.specs.Table.{glyph_of}
 use Rattle.units.specs.Carriages.{order_of}
+use Rattle.units.specs.Pockets.{pocket_of}
 use Rattle.units.specs.declared.switches.Switches.{Switches}
 use Rattle.machine.specs.Branches.{switch, test_of}
 use Rattle.machine.specs.Operations.{devices}
@@ -11,9 +12,9 @@ use Rattle.machine.specs.declared.branches.PositionTest.TheVariants.{HasMark}
 use Rattle.machine.specs.declared.operations.FieldOperation.{FieldOperation}
 use Rattle.machine.specs.declared.operations.FieldOperation.TheVariants.{Add, Subtract, ZeroAdd, ZeroSubtract, Compare, ModifyAddress, Move, Load, MoveDigit, MoveZone, Suppress, Edit, SetMark, ClearMark}
 use Rattle.machine.specs.declared.named.Modifier.{Modifier}
-use Rattle.machine.specs.declared.named.Modifier.TheVariants.{Plain, OnCondition, OnCharacter, OnTest, ByOrder}
+use Rattle.machine.specs.declared.named.Modifier.TheVariants.{Plain, OnCondition, OnCharacter, OnTest, ByOrder, ToPocket}
 use Rattle.machine.specs.declared.named.Operation.{Operation}
-use Rattle.machine.specs.declared.named.Operation.TheVariants.{OnFields, ClearStorage, Branch, BranchOnMarkOrZone, Operate, MoveCarriage, StoreA, StoreB, Halt, NoOperation}
+use Rattle.machine.specs.declared.named.Operation.TheVariants.{OnFields, ClearStorage, Branch, BranchOnMarkOrZone, Operate, MoveCarriage, ChoosePocket, StoreA, StoreB, Halt, NoOperation}
 use Rattle.autocoder_statements.specs.Mnemonics.{name_field}
 
 -- an operation of the machine, and what the last character of its instruction says
@@ -71,6 +72,10 @@ test_asked last = option_map (λ test. OnTest test) (test_of last)
 abbrev pub order_asked : ℕ → Option Modifier
 order_asked last = option_map (λ order. ByOrder order) (order_of last)
 
+-- what the digit of a pocket asks
+abbrev pub pocket_asked : ℕ → Option Modifier
+pocket_asked last = option_map (λ pocket. ToPocket pocket) (pocket_of last)
+
 -- the mnemonics in the order of the assembler's table, each with what it means to the machine
 unfoldable pub meanings : List (List ℕ × Meaning)
 meanings =
@@ -109,6 +114,7 @@ meanings =
     ∷ operates (codes "WP") (printer + punch)
     ∷ operates (codes "WRP") (printer + reader + punch)
     ∷ means (codes "CC") MoveCarriage order_asked
+    ∷ means (codes "SS") ChoosePocket pocket_asked
     ∷ plain (codes "H") Halt
     ∷ plain (codes "SBR") StoreB
     ∷ plain (codes "SAR") StoreA

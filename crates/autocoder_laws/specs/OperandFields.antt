@@ -5,7 +5,7 @@ use Rattle.autocoder_statements.specs.declared.operand_forms.OperandForm.TheVari
 use Rattle.autocoder_statements.specs.declared.operand_kinds.OperandKind.{OperandKind}
 use Rattle.autocoder_statements.specs.declared.operand_kinds.OperandKind.TheVariants.{Branch, Field}
 use Rattle.autocoder_statements.specs.declared.modifiers.Modifiers.{Modifiers}
-use Rattle.autocoder_statements.specs.declared.modifiers.Modifiers.TheVariants.{Any, Switches, ZonesAndMarks, Carriage}
+use Rattle.autocoder_statements.specs.declared.modifiers.Modifiers.TheVariants.{Any, Switches, ZonesAndMarks, Carriage, Pockets}
 use Rattle.autocoder_statements.specs.declared.operands.Operand.{Operand}
 use Rattle.autocoder_statements.specs.declared.operands.Operand.TheVariants.{Address, Literal}
 use Rattle.autocoder_statements.specs.declared.operands.Operands.{Operands}
@@ -25,6 +25,7 @@ is_allowed Any code = not (is_one_of (codes " ") code)
 is_allowed Switches code = is_one_of (codes "BCDEFG") code
 is_allowed ZonesAndMarks code = is_one_of (codes "12BKS3CLT") code
 is_allowed Carriage code = is_one_of (codes "JKL/ST1A") code
+is_allowed Pockets code = is_one_of (codes "1248") code
 
 -- the last character of an instruction
 pub record IsLast (modifiers : Modifiers) (code : ℕ) (text : List ℕ) : Type 0 where

@@ -6,7 +6,7 @@ use Rattle.autocoder_statements.specs.Operands.{operands}
 use Rattle.autocoder_statements.specs.declared.operand_forms.OperandForm.{OperandForm}
 use Rattle.autocoder_statements.specs.declared.operand_forms.OperandForm.TheVariants.{Empty, Modifier, One, OneAndModifier, Two, TwoAndModifier}
 use Rattle.autocoder_statements.specs.declared.operand_kinds.OperandKind.TheVariants.{Branch, Field}
-use Rattle.autocoder_statements.specs.declared.modifiers.Modifiers.TheVariants.{Any, Switches, ZonesAndMarks, Carriage}
+use Rattle.autocoder_statements.specs.declared.modifiers.Modifiers.TheVariants.{Any, Switches, ZonesAndMarks, Carriage, Pockets}
 use Rattle.autocoder_statements.specs.declared.operands.Operands.{Operands}
 use Rattle.autocoder_statements.specs.declared.operand_forms.OperandForms.{OperandForms}
 use Rattle.autocoder_statements.specs.declared.operations.Mnemonic.{Mnemonic}
@@ -103,6 +103,7 @@ mnemonics =
     ∷ plain (codes "WP") (codes "6") none_or_branch
     ∷ plain (codes "WRP") (codes "7") none_or_branch
     ∷ plain (codes "CC") (codes "F") (one_form (Modifier Carriage))
+    ∷ plain (codes "SS") (codes "K") (one_form (Modifier Pockets))
     ∷ plain (codes "H") (codes ".") none_or_branch
     ∷ plain (codes "SBR") (codes "H") (one_form (One Field))
     ∷ plain (codes "SAR") (codes "Q") (one_form (One Field))

@@ -8,7 +8,7 @@ use Rattle.autocoder_statements.specs.Constants.{literal}
 use Rattle.autocoder_statements.specs.declared.operand_kinds.OperandKind.{OperandKind}
 use Rattle.autocoder_statements.specs.declared.operand_kinds.OperandKind.TheVariants.{Branch, Field}
 use Rattle.autocoder_statements.specs.declared.modifiers.Modifiers.{Modifiers}
-use Rattle.autocoder_statements.specs.declared.modifiers.Modifiers.TheVariants.{Any, Switches, ZonesAndMarks, Carriage}
+use Rattle.autocoder_statements.specs.declared.modifiers.Modifiers.TheVariants.{Any, Switches, ZonesAndMarks, Carriage, Pockets}
 use Rattle.autocoder_statements.specs.declared.operand_forms.OperandForm.{OperandForm}
 use Rattle.autocoder_statements.specs.declared.operand_forms.OperandForm.TheVariants.{Empty, Modifier, One, OneAndModifier, Two, TwoAndModifier}
 use Rattle.autocoder_statements.specs.declared.operands.Operand.{Operand}
@@ -43,6 +43,7 @@ is_modifier Any code = not (is_blank code)
 is_modifier Switches code = is_among (codes "BCDEFG") code
 is_modifier ZonesAndMarks code = is_among (codes "12BKS3CLT") code
 is_modifier Carriage code = is_among (codes "JKL/ST1A") code
+is_modifier Pockets code = is_among (codes "1248") code
 
 -- the last character of an instruction, alone at the end of the field
 unfoldable pub modifier : Modifiers → List ℕ → Option ℕ

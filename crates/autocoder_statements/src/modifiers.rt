@@ -17,6 +17,8 @@ pub enum Modifiers {
     ZonesAndMarks,
     /// The orders to the carriage: `J K L / S T 1 A`.
     Carriage,
+    /// The pockets of the punch: `1 2 4 8`.
+    Pockets,
 }
 
 /// Whether a character's glyph is among these.
@@ -38,6 +40,7 @@ impl Modifiers {
             Modifiers::Switches => is_among(code, b"BCDEFG"),
             Modifiers::ZonesAndMarks => is_among(code, b"12BKS3CLT"),
             Modifiers::Carriage => is_among(code, b"JKL/ST1A"),
+            Modifiers::Pockets => is_among(code, b"1248"),
         }
     }
 }

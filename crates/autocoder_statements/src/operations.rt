@@ -186,8 +186,15 @@ const CARRIAGE: OperandForms = OperandForms {
     third: None,
 };
 
+/// A pocket of the punch.
+const POCKET: OperandForms = OperandForms {
+    form: OperandForm::Modifier(Modifiers::Pockets),
+    other: None,
+    third: None,
+};
+
 /// The mnemonics: name, operation, the fixed last character, forms of the operand field.
-const MNEMONICS: [([u8; LONGEST_OPERATION], (u8, Option<u8>, OperandForms)); 39] = [
+const MNEMONICS: [([u8; LONGEST_OPERATION], (u8, Option<u8>, OperandForms)); 40] = [
     (*b"A    ", (b'A', None, NONE_ONE_OR_TWO)),
     (*b"S    ", (b'S', None, NONE_ONE_OR_TWO)),
     (*b"ZA   ", (b'?', None, NONE_ONE_OR_TWO)),
@@ -223,6 +230,7 @@ const MNEMONICS: [([u8; LONGEST_OPERATION], (u8, Option<u8>, OperandForms)); 39]
     (*b"WP   ", (b'6', None, NONE_OR_BRANCH)),
     (*b"WRP  ", (b'7', None, NONE_OR_BRANCH)),
     (*b"CC   ", (b'F', None, CARRIAGE)),
+    (*b"SS   ", (b'K', None, POCKET)),
     (*b"H    ", (b'.', None, NONE_OR_BRANCH)),
     (*b"SBR  ", (b'H', None, ONE)),
     (*b"SAR  ", (b'Q', None, ONE)),

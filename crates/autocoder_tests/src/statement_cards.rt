@@ -156,6 +156,17 @@ const LAST_CHARACTERS_AND_SINGLE_FORMS: &str = "\
 0||CC|J|
 42||CC|B|
 42||CC||
+0||SS|1|
+0||SS|2|
+0||SS|4|
+0||SS|8  4|
+42||SS||
+42||SS|  4|
+42||SS|3|
+42||SS|48|
+42||SS|4,5|
+42||SS|4,|
+42||SS|@4@|
 0||SBR|A&X1|
 42||NOP|A|
 42||NOP| A|
@@ -230,6 +241,7 @@ const AN_OPERAND_BEGINS_IN_ITS_FIRST_COLUMN: &str = "\
 42||WP| 5|
 42||WRP| 5|
 42||CC| 5|
+42||SS| 4|
 42||H| 5|
 42||SBR| 5|
 42||SAR| 5|
@@ -287,6 +299,7 @@ const TWO_FAULTS_AT_ONCE: &str = "\
 42|1A|BWZ|A,B,A|
 42|1A|R|@A@|
 42|1A|CC|B|
+42|1A|SS|3|
 42|1A|SBR||
 42|1A|NOP|A|
 43|1A|NOP||
@@ -503,6 +516,8 @@ A @!@, 4 long||A|-0|
 A @1B@, 4 long||A|@1B@|
 A TAB&3&X2 @AB@, 7 long||A|TAB&3&X2,@AB@|
 / A B, 7 long||CS|A,B|
+K (4), 2 long||SS|4|
+F (K), 2 long||CC|K|
 ";
 
 /// Texts, numbers with and without a sign, and blanks.

@@ -214,6 +214,7 @@ number_body refusal.AlreadyHeld other = refl
 number_body refusal.NotHeld other = refl
 number_body refusal.Collected other = refl
 number_body refusal.TooMuch other = refl
+number_body refusal.NoSuchPocket other = refl
 number_body (refusal.Assembly faults) other = absurd (other faults refl)
 
 pub refusal_is : (d : Data) (reason : Refusal) (written : List ℕ) → d ≡ refusal_data (refusal_number reason)

@@ -55,6 +55,7 @@ refusal_status refusal.AlreadyHeld = 409
 refusal_status refusal.NotHeld = 409
 refusal_status refusal.Collected = 409
 refusal_status refusal.TooMuch = 409
+refusal_status refusal.NoSuchPocket = 400
 
 -- the status of the answer with a reply: 200 unless it is a refusal
 abbrev pub status_of : Reply → ℕ

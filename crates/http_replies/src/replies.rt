@@ -19,7 +19,8 @@ fn refusal_status(reason: &Refusal) -> u16
         | Refusal::Size
         | Refusal::Deck
         | Refusal::Assembly(_)
-        | Refusal::Limit => 400,
+        | Refusal::Limit
+        | Refusal::NoSuchPocket => 400,
         Refusal::NoJob => 404,
         Refusal::OtherContents
         | Refusal::TooManyJobs

@@ -26,7 +26,7 @@ post route = record { method = Post; route = route }
 abbrev pub get : Route → Path
 get route = record { method = Get; route = route }
 
--- the twelve paths of the counter, each with its method and its route
+-- the thirteen paths of the counter, each with its method and its route
 abbrev pub paths : List (List ℕ × Path)
 paths =
     (codes "/c/{customer}/j/{number}/object/{size}/{switches}", put (Submit Object))
@@ -38,6 +38,7 @@ paths =
     ∷ (codes "/c/{customer}/j/{number}/collect", post (Job verb.Collect))
     ∷ (codes "/c/{customer}/j/{number}", get (Job verb.Standing))
     ∷ (codes "/c/{customer}/j/{number}/cards", get (Job verb.Cards))
+    ∷ (codes "/c/{customer}/j/{number}/cards/{pocket}", get (Job verb.Pocket))
     ∷ (codes "/c/{customer}/j/{number}/lines", get (Job verb.Lines))
     ∷ (codes "/c/{customer}/jobs", get Jobs)
     ∷ (codes "/queue", get Queue)

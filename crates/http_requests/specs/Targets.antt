@@ -1,9 +1,13 @@
 -- what a target asks for, by its path and by the texts in it
-use Rattle.std.specs.Prelude.{ℕ, ◌≡◌, List, Some, ⊤}
+use Rattle.std.specs.Prelude.{ℕ, ◌≡◌, List, Some, ⊤, if◌then◌else◌, codes}
+use Rattle.std.specs.Str.{bytes_eq}
 use Rattle.texts.specs.Numbers.{IsNumberOf}
 use Rattle.texts.specs.Switches.{AreSwitchesOf}
+use Rattle.units.specs.declared.pockets.Pocket.TheVariants.{Normal, Four, Eight}
 use Rattle.office.specs.declared.commands.JobCommand.{JobCommand}
 use Rattle.office.specs.declared.commands.JobCommand.TheVariants as on
+use Rattle.office.specs.declared.stackers.Stacker.{Stacker}
+use Rattle.office.specs.declared.stackers.Stacker.TheVariants.{All, Of, Unknown}
 use Rattle.http_requests.specs.Parts.{part}
 use Rattle.http_requests.specs.Paths.{route_at}
 use Rattle.http_requests.specs.declared.routes.Route.TheVariants as route
@@ -17,7 +21,16 @@ use Rattle.http_requests.specs.declared.targets.JobName.{JobName}
 abbrev pub IsJobOf : List ℕ → JobName → Type 0
 IsJobOf text job = (job.customer.now ≡ part 2 text) × IsNumberOf (part 4 text) job.number
 
--- the command of a verb with the value in this text: a limit for a slice, switches for a start
+-- the cards that the text of a pocket asks for: those of pocket 0, 4 or 8, or of none that there is
+unfoldable pub stacker_of : List ℕ → Stacker
+stacker_of text =
+    if bytes_eq text (codes "0") then Of Normal else
+    if bytes_eq text (codes "4") then Of Four else
+    if bytes_eq text (codes "8") then Of Eight else
+    Unknown
+
+-- the command of a verb with the value in this text: a limit for a slice, switches for a start, a
+-- pocket for its cards
 abbrev pub IsCommandBy : Verb → List ℕ → JobCommand → Type 0
 IsCommandBy verb.Slice text (on.Slice limit) = IsNumberOf text limit
 IsCommandBy verb.Start text (on.Start switches) = AreSwitchesOf text switches
@@ -25,7 +38,8 @@ IsCommandBy verb.Hold text on.Hold = ⊤
 IsCommandBy verb.Release text on.Release = ⊤
 IsCommandBy verb.Collect text on.Collect = ⊤
 IsCommandBy verb.Standing text on.Standing = ⊤
-IsCommandBy verb.Cards text on.Cards = ⊤
+IsCommandBy verb.Cards text (on.Cards from) = from ≡ All
+IsCommandBy verb.Pocket text (on.Cards from) = from ≡ stacker_of text
 IsCommandBy verb.Lines text on.Lines = ⊤
 IsCommandBy v text other = ⊥
 

@@ -6,14 +6,15 @@ ghost use Rattle.http_requests.specs.Paths.{route_at};
 ghost use Rattle.http_requests.specs.declared.routes.Route.TheVariants as route;
 ghost use Rattle.office.specs.declared.commands.JobCommand.{JobCommand};
 ghost use Rattle.texts.specs.Numbers.{IsNumberOf};
-ghost use Rattle.http_requests.specs.Targets.{Asks, IsCommandBy, IsJobOf};
+ghost use Rattle.http_requests.specs.Targets.{Asks, IsCommandBy, IsJobOf, stacker_of};
 ghost use Rattle.http_requests.specs.declared.targets.Target.{Target};
 
 use crate::parts::part;
 use crate::routes::{Route, Verb};
 use crate::targets::{JobName, Target};
-use office::{JobCommand, Kind};
+use office::{JobCommand, Kind, Stacker};
 use texts::{number_or_zero, switches_of};
+use units::Pocket;
 
 /// The number in a part of a target, or 0 if its text is not one.
 fn number_at(text: &str, place: usize) -> u32
@@ -50,6 +51,19 @@ fn submission<'a>(kind: Kind, text: &'a str) -> Option<Target<'a>>
     }
 }
 
+/// The cards that the text of a pocket asks for.
+#[tactic(auto, unfolding(crate::specs::Targets::stacker_of))]
+fn stacker_of(text: &str) -> Stacker
+    ensures { result ≡ stacker_of text.now }
+{
+    match text {
+        "0" => Stacker::Of(Pocket::Normal),
+        "4" => Stacker::Of(Pocket::Four),
+        "8" => Stacker::Of(Pocket::Eight),
+        _ => Stacker::Unknown,
+    }
+}
+
 impl Verb {
     /// The command of this verb with the value in a text; none if its switches cannot be read.
     fn command(self, text: &str) -> Option<JobCommand>
@@ -69,7 +83,10 @@ impl Verb {
             Verb::Release => Some(JobCommand::Release),
             Verb::Collect => Some(JobCommand::Collect),
             Verb::Standing => Some(JobCommand::Standing),
-            Verb::Cards => Some(JobCommand::Cards),
+            Verb::Cards => Some(JobCommand::Cards { from: Stacker::All }),
+            Verb::Pocket => Some(JobCommand::Cards {
+                from: stacker_of(text),
+            }),
             Verb::Lines => Some(JobCommand::Lines),
         }
     }

@@ -4,7 +4,7 @@
 //! refuses it, the fault of a deck, or a command for the bureau, with its deck if it has one.
 //! [`Routes`] is the table of all paths, made once.
 //!
-//! From the inside out: `paths` has the twelve paths and finds the one of a target, and `parts` the
+//! From the inside out: `paths` has the thirteen paths and finds the one of a target, and `parts` the
 //! texts in a target that replace a path's names. A target is routed whole: nothing in it is
 //! decoded, and no query part is split off. `reading` and `heads` read a head by the grammar of
 //! `httparse`, and judge it: [`Head::verdict`] returns what it asks for and the length of its body,

@@ -11,7 +11,7 @@ use std::alloc::{AllocError, Global};
 
 /// Each path, by its text.
 #[rattlefmt::skip]
-const PATHS: [(&str, Path); 12] = [
+const PATHS: [(&str, Path); 13] = [
     ("/c/{customer}/j/{number}/object/{size}/{switches}",
         Path { method: Method::Put, route: Route::Submit(Kind::Object) }),
     ("/c/{customer}/j/{number}/autocoder/{size}/{switches}",
@@ -28,6 +28,8 @@ const PATHS: [(&str, Path); 12] = [
         Path { method: Method::Post, route: Route::Job(Verb::Collect) }),
     ("/c/{customer}/j/{number}", Path { method: Method::Get, route: Route::Job(Verb::Standing) }),
     ("/c/{customer}/j/{number}/cards", Path { method: Method::Get, route: Route::Job(Verb::Cards) }),
+    ("/c/{customer}/j/{number}/cards/{pocket}",
+        Path { method: Method::Get, route: Route::Job(Verb::Pocket) }),
     ("/c/{customer}/j/{number}/lines", Path { method: Method::Get, route: Route::Job(Verb::Lines) }),
     ("/c/{customer}/jobs", Path { method: Method::Get, route: Route::Jobs }),
     ("/queue", Path { method: Method::Get, route: Route::Queue }),

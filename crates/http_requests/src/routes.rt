@@ -30,6 +30,8 @@ pub enum Verb {
     Standing,
     /// To hand out the cards that the job punched.
     Cards,
+    /// To hand out the cards of one pocket.
+    Pocket,
     /// To hand out the lines that the job printed.
     Lines,
 }

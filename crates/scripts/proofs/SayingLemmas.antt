@@ -26,7 +26,7 @@ few_after verb after job.Hold h = omega (arith, ap length h.1)
 few_after verb after job.Release h = omega (arith, ap length h.1)
 few_after verb after job.Collect h = omega (arith, ap length h.1)
 few_after verb after job.Standing h = omega (arith, ap length h.1)
-few_after verb after job.Cards h = absurd h
+few_after verb after (job.Cards from) h = absurd h
 few_after verb after job.Lines h = absurd h
 
 -- how many words say a command

@@ -23,7 +23,7 @@ AreJobWords verb after Hold = (verb ≡ codes "hold") × (after ≡ [])
 AreJobWords verb after Release = (verb ≡ codes "release") × (after ≡ [])
 AreJobWords verb after Collect = (verb ≡ codes "collect") × (after ≡ [])
 AreJobWords verb after Standing = (verb ≡ codes "standing") × (after ≡ [])
-AreJobWords verb after Cards = ⊥
+AreJobWords verb after (Cards from) = ⊥
 AreJobWords verb after Lines = ⊥
 
 -- the command on a job with this verb and these words after the job's number, or none
