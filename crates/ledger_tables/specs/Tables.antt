@@ -340,8 +340,7 @@ pub record HasProfiles (db : Trees) (profiles : ByJob (Option ProfileRow)) (pock
       (λ customer number. profile_rows customer number (profiles customer number))
   pub pockets_are : IsOfEach pocket_row (db 17) pockets
 
--- the tables beside `states` and `pages` hold this and nothing else; what is told of a table that is
--- not there says nothing
+-- the tables beside `states` and `pages`, as many as there are, hold this and nothing else
 abbrev pub HasBeside : Beside → Trees → Tables → Type 0
 HasBeside (pictured storages) db t = HasPictures db t storages
 HasBeside paged db t = ⊤

@@ -233,6 +233,18 @@ impl<S: Alter> OpenTables<'_, '_, S> {
         self.make_lines()
     }
 
+    /// Creates the tables of version 1.
+    fn make_first(&mut self) -> Result<(), Fault>
+        ensures step { IsStep S.Store self.old self.new result }
+        ensures made { Makes S.Store self.old self.new result no_schema first_schema }
+        ensures named { Inside S.Store self.old self.new (λ old new. AddsNames
+            (codes "bureau" ∷ codes "jobs" ∷ codes "stretches" ∷ codes "pictures"
+            ∷ codes "cards" ∷ codes "lines" ∷ []) old new result) }
+    {
+        self.make_upper()?;
+        self.make_lower()
+    }
+
     /// Creates the later tables beside those of version 1.
     fn make_later(&mut self) -> Result<(), Fault>
         ensures step { IsStep S.Store self.old self.new result }
@@ -254,8 +266,7 @@ impl<S: Alter> OpenTables<'_, '_, S> {
         ensures named { Inside S.Store self.old self.new
             (λ old new. AddsNames table_names old new result) }
     {
-        self.make_upper()?;
-        self.make_lower()?;
+        self.make_first()?;
         self.make_later()
     }
 

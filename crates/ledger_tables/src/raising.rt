@@ -2,6 +2,8 @@
 //!
 //! The caller goes through the jobs of version 1 in turn, and puts the pages of each storage
 //! between [`OpenTables::lay_out`] and [`OpenTables::drop_pictures`].
+//! [`OpenTables::add_profiles`] is the last step but one from each version, before
+//! [`OpenTables::set_version`].
 
 ghost use Rattle.std.specs.Prelude.{◌≡◌, ℕ, IfOk, IsTrue, List, OnOk};
 ghost use Rattle.sqlite.specs.State.{IsUnchanged};
