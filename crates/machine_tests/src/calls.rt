@@ -121,8 +121,8 @@ fn work_alone<C: Core>(core: &mut C, units: &mut Units) -> bool {
 /// The cards punched, each with a semicolon, and the listing.
 fn made(alloc: Global, units: &Units) -> Result<String, AllocError> {
     let mut text = String::new(alloc);
-    for card in &units.punch.cards {
-        text.push_str(&text_of(alloc, &card.0)?)?;
+    for punched in &units.punch.cards {
+        text.push_str(&text_of(alloc, &punched.card.0)?)?;
         text.push(';')?;
     }
     for byte in render(alloc, &units.printer.lines)? {

@@ -1,6 +1,7 @@
-//! What the last characters of `B`, `V` and `F` mean, shown by what they do.
+//! What the last characters of `B`, `V`, `F` and `K` mean, shown by what they do.
 //!
-//! Every row of a sheet has an output of its own, so a row fails if two characters are exchanged.
+//! Every row of a sheet has an output of its own, so a row fails if two characters are exchanged;
+//! only `1` and `2` of `K` mean the same.
 
 use crate::machines::{deck_of, new_units};
 use crate::sheets::{Case, agreed, check};
@@ -11,7 +12,7 @@ use core_store::{Compared, Core, FlagCore, PlaneCore, Registers};
 use machine::{Machine, Meter, Parts, Standing};
 use std::alloc::{AllocError, Global};
 use std::test::Fail;
-use units::{Motion, Switches};
+use units::{Motion, Pocket, Switches};
 
 /// Adds a word to a list of words.
 fn push_word(words: &mut String, word: &str) -> Result<(), AllocError> {
@@ -64,6 +65,8 @@ fn put_state(parts: &mut Parts<PlaneCore>, state: &str) {
         "overflow" => parts.registers.overflow = true,
         "channel-12" => parts.units.printer.carriage.channel_12 = true,
         "waits" => parts.units.printer.carriage.waiting = Some(Motion::TripleSpace),
+        "pocket 4" => parts.units.punch.chosen = Pocket::Four,
+        "pocket 8" => parts.units.punch.chosen = Pocket::Eight,
         other => parts.units.switches = switch_of(other),
     }
 }
@@ -202,4 +205,38 @@ A -> form 1 line 1, form 2 line 1
 #[test]
 fn orders_of_f(rt: HostRuntime) -> Result<(), Fail> {
     check::<Orders>(rt.alloc(), ORDERS)
+}
+
+/// The pocket chosen after a selection with a last character, in a state.
+fn chosen_after(alloc: Global, last: &str, state: &str) -> Result<u32, Fail> {
+    let program = format!(in alloc; "~K{last}~")?;
+    let mut machine = machine(alloc, &program, state)?;
+    machine.step(&mut Meter::new())?;
+    Ok(machine.parts().units.punch.chosen.number())
+}
+
+/// The selections of `K`. Input: the last character. Output: the pocket chosen after it, where none
+/// was chosen before, and where 4 or 8 was.
+struct Selections;
+
+impl Case for Selections {
+    fn outcome(alloc: Global, given: &str) -> Result<String, Fail> {
+        let none = chosen_after(alloc, given, "")?;
+        let four = chosen_after(alloc, given, "pocket 4")?;
+        let eight = chosen_after(alloc, given, "pocket 8")?;
+        Ok(format!(in alloc; "{none} {four} {eight}")?)
+    }
+}
+
+/// All four.
+const SELECTIONS: &str = "\
+1 -> 0 4 8
+2 -> 0 4 8
+4 -> 4 4 4
+8 -> 8 8 8
+";
+
+#[test]
+fn selections_of_k(rt: HostRuntime) -> Result<(), Fail> {
+    check::<Selections>(rt.alloc(), SELECTIONS)
 }

@@ -32,6 +32,8 @@ mod machines;
 #[cfg(test)]
 mod moving;
 #[cfg(test)]
+mod pockets;
+#[cfg(test)]
 mod runs;
 #[cfg(test)]
 mod sheets;

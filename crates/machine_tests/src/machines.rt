@@ -3,7 +3,7 @@
 use crate::storage::card_of;
 use cards::{Deck, DeckFault};
 use std::alloc::Global;
-use units::{Carriage, Counts, Hopper, Printer, Punch, Switches, Units};
+use units::{Carriage, Counts, Hopper, Pocket, Printer, Profile, Punch, Switches, Units};
 
 /// The loading cards of a program that prints each data card, until the last one.
 const LIST_CARDS: &str = "\
@@ -35,13 +35,16 @@ pub(crate) fn deck_of(alloc: Global, cards: &str) -> Result<Deck, DeckFault> {
     Ok(deck)
 }
 
-/// Units that have made nothing, with a deck whose first `taken` cards were read.
+/// Units with stacker selection that have made nothing, with a deck whose first `taken` cards were
+/// read.
 pub(crate) fn new_units(alloc: Global, deck: Deck, taken: u16, switches: Switches) -> Units {
     Units {
         hopper: Hopper { deck, taken },
         before: Counts { cards: 0, lines: 0 },
         punch: Punch {
             cards: Vec::new(alloc),
+            chosen: Pocket::Normal,
+            profile: Profile::Selecting,
         },
         printer: Printer {
             lines: Vec::new(alloc),

@@ -12,10 +12,16 @@ use core_store::{Core, FlagCore, PlaneCore, Size};
 use machine::{Machine, Meter, Parts, Standing};
 use std::alloc::{AllocError, Global};
 use std::test::Fail;
-use units::{Counts, Switches, Units};
+use units::{Counts, Profile, Switches, Units};
 
 /// A machine after the load button.
-fn load<C: Core>(alloc: Global, size: &str, switch: &str, cards: &str) -> Result<Machine<C>, Fail> {
+pub(crate) fn load<C: Core>(
+    alloc: Global,
+    size: &str,
+    switch: &str,
+    cards: &str,
+    profile: Profile,
+) -> Result<Machine<C>, Fail> {
     let size = size_of(size)?;
     let switches = if switch == "A" {
         Switches::A
@@ -26,17 +32,21 @@ fn load<C: Core>(alloc: Global, size: &str, switch: &str, cards: &str) -> Result
     if deck.cards().len() == 0 {
         return Err("no card".into());
     }
-    Ok(Machine::<C>::load(alloc, deck, size, switches)?)
+    Ok(Machine::<C>::load(alloc, deck, size, switches, profile)?)
 }
 
-/// A copy of the units of a picture that has punched nothing.
+/// A copy of the units of a picture.
 fn units_of(alloc: Global, units: &Units) -> Result<Units, DeckFault> {
     let mut deck = Deck::empty(alloc);
     for card in units.hopper.deck.cards() {
         deck.push(*card)?;
     }
+    let cards = units.punch.cards.clone()?;
     let lines = units.printer.lines.clone()?;
     let mut copied = new_units(alloc, deck, units.hopper.taken, units.switches);
+    copied.punch.cards = cards;
+    copied.punch.chosen = units.punch.chosen;
+    copied.punch.profile = units.punch.profile;
     copied.printer.lines = lines;
     copied.printer.carriage = units.printer.carriage;
     Ok(copied)
@@ -118,7 +128,7 @@ const NEARLY_FULL: Counts = Counts {
 
 /// Does one order: `start`, `copy`, `leave` for a machine without its one line, `fill` for one that
 /// is nearly full, or the limit of a run.
-fn follow<C: Core>(
+pub(crate) fn follow<C: Core>(
     alloc: Global,
     machine: &mut Machine<C>,
     meter: &mut Meter,
@@ -143,8 +153,8 @@ fn push_text(made: &mut String, alloc: Global, codes: &[Code]) -> Result<(), All
 /// The cards that a machine has punched, and the lines that it has printed.
 fn made<C: Core>(alloc: Global, machine: &Machine<C>) -> Result<String, AllocError> {
     let mut made = String::from_str(alloc, "punched |")?;
-    for card in &machine.parts().units.punch.cards {
-        push_text(&mut made, alloc, &card.0)?;
+    for punched in &machine.parts().units.punch.cards {
+        push_text(&mut made, alloc, &punched.card.0)?;
     }
     made.push_str(" printed |")?;
     for line in &machine.parts().units.printer.lines {
@@ -183,7 +193,8 @@ fn outcome<C: Core>(alloc: Global, given: &str) -> Result<String, Fail> {
     let (size, given) = cut(given, "|");
     let (switch, given) = cut(given, "|");
     let (cards, orders) = cut(given, "|");
-    followed(alloc, &mut load::<C>(alloc, size, switch, cards)?, orders)
+    let mut machine = load::<C>(alloc, size, switch, cards, Profile::Selecting)?;
+    followed(alloc, &mut machine, orders)
 }
 
 /// Runs. Input: the size, the switch that is on, the cards, and orders. Output: for each run, the
@@ -264,7 +275,8 @@ fn remakes<C: Core>(
 
 /// The output of a case of `Picture` with one kind of storage.
 fn remade<C: Core>(alloc: Global, given: &str) -> Result<String, Fail> {
-    let mut machine = load::<C>(alloc, "1400", "A", "list;HELLO;WORLD")?;
+    let cards = "list;HELLO;WORLD";
+    let mut machine = load::<C>(alloc, "1400", "A", cards, Profile::Selecting)?;
     let (are_units, is_made) = remakes(alloc, &mut machine, given)?;
     Ok(format!(in alloc; "{are_units} {is_made}")?)
 }

@@ -119,7 +119,7 @@ impl Case for Steps {
 }
 
 /// Arithmetic, moves, comparison, registers that are stored, storage that is cleared, an index
-/// location, and the test of overflow, which turns it off.
+/// location, the test of overflow, which turns it off, and selections of a pocket.
 const OPERATIONS: &str = "\
 A 10 B 20|~A010020~|8 ~005|18 ~123| -> I 407 A 7 B 17 |~005|~128|
 A 10 B 20|~S010020~|8 ~005|18 ~003| -> I 407 A 7 B 17 |~005|~00K|
@@ -147,6 +147,8 @@ A 10 B 20|~/360299~|199 ~A~B~C|298 ~X~Y~Z| -> I 360 A 360 B 407 |~A  |  ~Z|
 A 10 B 20|~C010020~#010020~|8 ~005|18 ~3J5| -> I 407 A 7 B 17 high |~005|~3J5|
 2 steps, A 10 B 20|~C010020~#010020~|8 ~005|18 ~3J5| -> I 414 A 7 B 17 high |~005|~3K0|
 A 10 B 20|~)3J5~|92 005|320 ~ | -> I 404 A 319 B 319 |005| |
+A 10 B 20|~K4~|8 ~005|18 ~123| -> I 402 A 10 B 20 |~005|~123|
+A 10 B 20|~K1~|8 ~005|18 ~123| -> I 402 A 10 B 20 |~005|~123|
 ";
 
 #[test]
@@ -225,6 +227,14 @@ A 10 B 20|~A01002~|8 AB|18 ~123| -> Stop(Instruction) I 400 A 10 B 20 |AB|~123|
 A 10 B 20|~A010020~|8 ~0#5|18 ~123| -> Stop(Data) I 400 A 10 B 20 |~0#5|~123|
 A 10 B 20|~A020019~|8 AB|18 ~123| -> Stop(Overlap) I 400 A 10 B 20 |AB|~123|
 A 10 B 20|~#001020~|8 AB|18 ~123| -> Stop(Address) I 400 A 10 B 20 |AB|~123|
+A 10 B 20|~K3~|8 AB|18 ~123| -> Stop(Instruction) I 400 A 10 B 20 |AB|~123|
+A 10 B 20|~KD~|8 AB|18 ~123| -> Stop(Instruction) I 400 A 10 B 20 |AB|~123|
+A 10 B 20|~K~|8 AB|18 ~123| -> Stop(Instruction) I 400 A 10 B 20 |AB|~123|
+A 10 B 20|~K44~|8 AB|18 ~123| -> Stop(Instruction) I 400 A 10 B 20 |AB|~123|
+A 10 B 20|~K100~|8 AB|18 ~123| -> Stop(Instruction) I 400 A 10 B 20 |AB|~123|
+A 10 B 20|~K1004~|8 AB|18 ~123| -> Stop(Instruction) I 400 A 10 B 20 |AB|~123|
+A 10 B 20|~K100020~|8 AB|18 ~123| -> Stop(Instruction) I 400 A 10 B 20 |AB|~123|
+A 10 B 20|~K1000204~|8 AB|18 ~123| -> Stop(Instruction) I 400 A 10 B 20 |AB|~123|
 ";
 
 #[test]

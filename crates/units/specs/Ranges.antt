@@ -60,8 +60,8 @@ pub record AreUnits (u : Units) : Type 0 where
   pub printer : HasPrinted u.before.lines u.printer
   pub switches : AreSeven u.switches
 
--- an operation keeps the deck, the switches, the profile and the counts of what was made before, and
--- the cards and lines there were as the first of those after it
+-- an operation keeps the deck, the switches, the profile and the counts of what was made before,
+-- and the cards and lines there were as the first of those after it
 pub record OnlyAdds (u after : Units) : Type 0 where
   pub deck : after.hopper.deck ≡ u.hopper.deck
   pub before : after.before ≡ u.before

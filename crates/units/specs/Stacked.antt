@@ -6,8 +6,8 @@ use Rattle.units.specs.declared.profiles.Profile.{Profile}
 use Rattle.units.specs.declared.profiles.Profile.TheVariants.{Plain, Selecting}
 use Rattle.units.specs.declared.punch.Punched.{Punched}
 
--- a punch: the cards that it has punched, after those that are kept elsewhere, each with its pocket;
--- the pocket chosen for the next card; and the machine's profile
+-- a punch: the cards that it has punched, after those that are kept elsewhere, each with its
+-- pocket; the pocket chosen for the next card; and the machine's profile
 pub record Stacked : Type 0 where
   pub cards : List Punched
   pub chosen : Pocket
@@ -22,7 +22,8 @@ is_selecting Selecting = true
 abbrev pub IsNormal : Punched → Type 0
 IsNormal punched = punched.pocket ≡ Normal
 
--- a punch that never had stacker selection: no pocket is chosen, and its cards are in the normal one
+-- a punch that never had stacker selection: no pocket is chosen, and all its cards are in the normal
+-- one
 pub record IsPlain (p : Stacked) : Type 0 where
   pub profile : p.profile ≡ Plain
   pub chosen : p.chosen ≡ Normal

@@ -7,11 +7,13 @@
 //! does the work of several units in one operation. Memory is taken for a punched card, for a
 //! printed line and by `render`; if there is none, nothing is changed. Units in range stay in range
 //! (`specs/Ranges.antt`). Cards and lines that were made before and are kept elsewhere are only
-//! counted.
+//! counted. `choose_pocket` chooses the pocket of the next card (`specs/Pockets.antt`), unless the
+//! machine's profile has no stacker selection.
 //!
-//! Laws over the definitions: an operation keeps the deck, the switches and those counts, and the
-//! cards and lines that it found are the first of those that it leaves ([`operating_only_adds`]);
-//! printed lines in range rise by form and line ([`lines_in_range_rise`]).
+//! Laws over the definitions: an operation keeps the deck, the switches, the profile and those
+//! counts, and the cards and lines that it found are the first of those that it leaves
+//! ([`operating_only_adds`]); printed lines in range rise by form and line
+//! ([`lines_in_range_rise`]).
 #![tactic(auto)]
 
 mod areas;
