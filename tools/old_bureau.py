@@ -7,10 +7,11 @@ import tempfile
 from contextlib import closing, contextmanager
 
 PAGE = 100
-# The tables of versions 1 and 2, in the order in which their programs made them.
+# The tables of versions 1, 2 and 3, in the order in which their programs made them.
 TABLES = {
     1: ("bureau", "jobs", "stretches", "pictures", "cards", "lines"),
     2: ("bureau", "jobs", "stretches", "cards", "lines", "states", "pages"),
+    3: ("bureau", "jobs", "stretches", "cards", "lines", "states", "pages"),
 }
 
 
@@ -55,7 +56,7 @@ def old_rows(db, table, version):
     if table == "pictures":
         states = db.execute("SELECT * FROM states ORDER BY rowid").fetchall()
         return [(*row[:2], storage_of(db, row[:2]), *row[2:]) for row in states]
-    if table == "pages":
+    if table == "pages" and version == 2:
         jobs = db.execute("SELECT customer, number FROM states ORDER BY rowid").fetchall()
         return [(*job, at // PAGE, storage[at:at + PAGE]) for job in jobs
                 for storage in [storage_of(db, job)] for at in range(0, len(storage), PAGE)]
@@ -63,7 +64,8 @@ def old_rows(db, table, version):
 
 
 def make_old(path, old, version):
-    """Makes a file of an earlier version, with the jobs of a bureau's file of version 3."""
+    """Makes a file of an earlier version, with the jobs of a bureau's file of version 4.
+    The jobs must not have chosen a pocket, since older ones could not."""
     with copied(path) as db, closing(sqlite3.connect(old)) as made, made:
         texts = dict(db.execute("SELECT name, sql FROM sqlite_schema WHERE type = 'table'"))
         texts["pictures"] = with_storage(texts["states"])

@@ -18,7 +18,7 @@ use Rattle.ledger_tables.specs.Steps.{GoesOn}
 use Rattle.ledger_tables.proofs.Frames.{shown_goes_on, shown_opened, shown_same}
 use Rattle.ledger_tables.proofs.OpeningVersion.{plain_in, shown_understood, versions_shown}
 use Rattle.ledger.specs.Migrating.{IsRaisedFrom, IsVersionOf}
-use Rattle.ledger.specs.Older.{FirstRows, LeftOf, RowsOf, SecondRows, StandsOf}
+use Rattle.ledger.specs.Older.{FirstRows, LeftOf, RowsOf, SecondRows, StandsOf, ThirdRows}
 use Rattle.ledger.specs.Standing.{LeftAs, Rows, Stands}
 use Rattle.ledger.proofs.BureauTransactions.{left_as}
 
@@ -59,10 +59,12 @@ version_goes_on old new version inside (rows, shown, is) = shown_goes_on old new
 
 pub rows_version : (version : ℕ) (db : Database) (office : Office) → RowsOf version db office → IsOfVersion version db
 rows_version version db office (inl (is, rows)) =
-    (inr rows.tables.schema_is, ap (map (λ (r : Row). column r 2)) rows.tables.version ∙ ap (λ n. let vs : List Value = Int (pos n) ∷ [] in vs) (sym is))
+    (inr (inr rows.tables.schema_is), ap (map (λ (r : Row). column r 2)) rows.tables.version ∙ ap (λ n. let vs : List Value = Int (pos n) ∷ [] in vs) (sym is))
 rows_version version db office (inr (inl (is, rows))) =
-    (inl rows.tables.schema, ap (map (λ (r : Row). column r 2)) rows.tables.version ∙ ap (λ n. let vs : List Value = Int (pos n) ∷ [] in vs) (sym is))
-rows_version version db office (inr (inr (is, rows))) =
+    (inr (inl rows.tables.schema), ap (map (λ (r : Row). column r 2)) rows.tables.version ∙ ap (λ n. let vs : List Value = Int (pos n) ∷ [] in vs) (sym is))
+rows_version version db office (inr (inr (inl (is, rows)))) =
+    (inr (inl rows.tables.schema), ap (map (λ (r : Row). column r 2)) rows.tables.version ∙ ap (λ n. let vs : List Value = Int (pos n) ∷ [] in vs) (sym is))
+rows_version version db office (inr (inr (inr (is, rows)))) =
     (inl rows.tables.schema, ap (map (λ (r : Row). column r 2)) rows.tables.version ∙ ap (λ n. let vs : List Value = Int (pos n) ∷ [] in vs) (sym is))
 
 pub same_version : (db : Database) (found version : ℕ) → versions_in db ≡ Int (pos found) ∷ [] → versions_in db ≡ Int (pos version) ∷ [] → found ≡ version
@@ -73,23 +75,35 @@ same_version db found version one two =
 first_rows : (db : Database) (office : Office) → RowsOf 1 db office → FirstRows db office
 first_rows db office (inl (is, rows)) = rows
 first_rows db office (inr (inl (is, rows))) = absurd (omega (arith, is))
-first_rows db office (inr (inr (is, rows))) = absurd (omega (arith, is))
+first_rows db office (inr (inr (inl (is, rows)))) = absurd (omega (arith, is))
+first_rows db office (inr (inr (inr (is, rows)))) = absurd (omega (arith, is))
 
 second_rows : (db : Database) (office : Office) → RowsOf 2 db office → SecondRows db office
 second_rows db office (inl (is, rows)) = absurd (omega (arith, is))
 second_rows db office (inr (inl (is, rows))) = rows
-second_rows db office (inr (inr (is, rows))) = absurd (omega (arith, is))
+second_rows db office (inr (inr (inl (is, rows)))) = absurd (omega (arith, is))
+second_rows db office (inr (inr (inr (is, rows)))) = absurd (omega (arith, is))
+
+third_rows : (db : Database) (office : Office) → RowsOf 3 db office → ThirdRows db office
+third_rows db office (inl (is, rows)) = absurd (omega (arith, is))
+third_rows db office (inr (inl (is, rows))) = absurd (omega (arith, is))
+third_rows db office (inr (inr (inl (is, rows)))) = rows
+third_rows db office (inr (inr (inr (is, rows)))) = absurd (omega (arith, is))
 
 pub own_rows : (db : Database) (office : Office) → RowsOf own_version db office → Rows db office
 own_rows db office (inl (is, rows)) = absurd (omega (arith, is))
 own_rows db office (inr (inl (is, rows))) = absurd (omega (arith, is))
-own_rows db office (inr (inr (is, rows))) = rows
+own_rows db office (inr (inr (inl (is, rows)))) = absurd (omega (arith, is))
+own_rows db office (inr (inr (inr (is, rows)))) = rows
 
 pub of_first : (version : ℕ) (db : Database) (office : Office) → version ≡ 1 → RowsOf version db office → FirstRows db office
 of_first version db office is rows = first_rows db office (subst (λ n. RowsOf n db office) is rows)
 
 pub of_second : (version : ℕ) (db : Database) (office : Office) → version ≡ 2 → RowsOf version db office → SecondRows db office
 of_second version db office is rows = second_rows db office (subst (λ n. RowsOf n db office) is rows)
+
+pub of_third : (version : ℕ) (db : Database) (office : Office) → version ≡ 3 → RowsOf version db office → ThirdRows db office
+of_third version db office is rows = third_rows db office (subst (λ n. RowsOf n db office) is rows)
 
 -- tables of this program's version were only read
 pub raised_own : (before after : State) (found : ℕ) → IsVersionOf before after found → found ≡ own_version → IsRaisedFrom before after found
@@ -124,10 +138,12 @@ is_no_fault version db office fault rows of is = go (subst (IsFaultOf version) i
     go : (version ≡ 0) ⊎ (own_version < version) → RowsOf version db office → ⊥
     go (inl none) (inl (is, rows)) = omega (arith, none, is)
     go (inl none) (inr (inl (is, rows))) = omega (arith, none, is)
-    go (inl none) (inr (inr (is, rows))) = omega (arith, none, is)
+    go (inl none) (inr (inr (inl (is, rows)))) = omega (arith, none, is)
+    go (inl none) (inr (inr (inr (is, rows)))) = omega (arith, none, is)
     go (inr later) (inl (is, rows)) = omega (arith, later, is)
     go (inr later) (inr (inl (is, rows))) = omega (arith, later, is)
-    go (inr later) (inr (inr (is, rows))) = omega (arith, later, is)
+    go (inr later) (inr (inr (inl (is, rows)))) = omega (arith, later, is)
+    go (inr later) (inr (inr (inr (is, rows)))) = omega (arith, later, is)
 
 -- .. that perhaps are not seen
 pub is_no_fault_of : (s : State) (version : ℕ) (office : Office) (fault : OpenFault) → ((v : ℕ) → (IsTrue s.is_open → IsOfVersion v s.now) → IsFaultOf v fault) → (IsTrue s.is_open → RowsOf version s.now office) → fault ≢ NotABureau

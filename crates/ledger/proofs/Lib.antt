@@ -6,6 +6,7 @@ pub mod SavingFlags
 pub mod SavingJobs
 pub mod ListLemmas
 pub mod MigratingPages
+pub mod MigratingProfiles
 pub mod Offices
 pub mod StateRows
 pub mod PageMixes

@@ -9,8 +9,10 @@ use Rattle.office.specs.Jobs.{Job, resumed, beginning, picture, loaded_deck, Has
 use Rattle.office.specs.declared.stretches.Stretch.{Stretch}
 use Rattle.ledger_rows.proofs.FromCellsRows.{AreTold}
 use Rattle.ledger_tables.specs.declared.rows.StretchRow.{StretchRow}
+use Rattle.units.specs.Stacked.{IsPlain}
 use Rattle.units.specs.Switches.{seven, AreSeven}
 use Rattle.units.specs.Units.{nothing_made}
+use Rattle.units.specs.declared.profiles.Profile.TheVariants.{Plain}
 use Rattle.units.specs.declared.switches.Switches.{Switches}
 use Rattle.ledger.specs.Standing.{stretch_row}
 
@@ -67,6 +69,28 @@ resumed_before m (s ∷ stretches) =
 
 pub picture_before : (job : Job) → (picture job).works.units.before ≡ nothing_made
 picture_before job = resumed_before (beginning job) job.stretches
+
+-- and it has the job's profile
+resumed_profile : (m : State) (stretches : List Stretch) → (resumed m stretches).works.units.punch.profile ≡ m.works.units.punch.profile
+unfolding resumed
+resumed_profile m [] = refl
+resumed_profile m (s ∷ stretches) =
+    let now = started m s.switches in
+    resumed_profile (after now s.granted) stretches ∙ (stems_after now now s.granted (stems_same now)).profile
+
+pub picture_profile : (job : Job) → (picture job).works.units.punch.profile ≡ job.profile
+picture_profile job = resumed_profile (beginning job) job.stretches
+
+-- and without stacker selection it has chosen no pocket
+resumed_plain : (m : State) (stretches : List Stretch) → IsPlain m.works.units.punch → IsPlain (resumed m stretches).works.units.punch
+unfolding resumed
+resumed_plain m [] it = it
+resumed_plain m (s ∷ stretches) it =
+    let now = started m s.switches in
+    resumed_plain (after now s.granted) stretches ((stems_after now now s.granted (stems_same now)).plain it)
+
+pub picture_plain : (job : Job) → job.profile ≡ Plain → IsPlain (picture job).works.units.punch
+picture_plain job is = resumed_plain (beginning job) job.stretches (record { profile = is; chosen = refl; cards = λ k d less. absurd (omega (arith, less)) })
 
 pub some_is : {X : Type 0} {x y : X} → ◌≡◌ {A = Option X} (Some x) (Some y) → x ≡ y
 some_is e = cc

@@ -1,14 +1,15 @@
 -- The rows of jobs at a halt.
 use Rattle.std.proofs.Common.{List, [], ◌∷◌, map, ap, ◌∙◌}
 use Rattle.std.specs.List.{AllByRecursion}
+use Rattle.std.specs.Option.{option_to_list}
 use Rattle.machine.specs.Run.{State}
 use Rattle.units.specs.declared.switches.Switches.{Switches}
 use Rattle.office.specs.Jobs.{Job, HaltsBetween, IsAtHalt, RunsWhole, HasRunWhole, switches_of, cards_by, lines_by}
 use Rattle.office.specs.Office.{Entry, Office}
 use Rattle.sqlite.specs.Effect.{Database}
-use Rattle.ledger_tables.specs.Tables.{Holds, placed, card_row, line_row}
+use Rattle.ledger_tables.specs.Tables.{Holds, placed, card_row, line_row, pocket_row}
 use Rattle.ledger.specs.Listed.{IsIts}
-use Rattle.ledger.specs.Standing.{CanBeKept, Rows, tables_of, cards_of, lines_of}
+use Rattle.ledger.specs.Standing.{CanBeKept, Rows, tables_of, cards_of, lines_of, pockets_of}
 use Rattle.ledger.proofs.ListLemmas.{all_its}
 use Rattle.ledger.specs.WholeRows.{RunMakes, HasWholeRows, HaveWholeRows}
 
@@ -23,6 +24,7 @@ has_whole_rows db office holds e its runs halted =
       lines = lines_by e.job;
       rows = record {
         card_rows = holds.shared.cards.each e.customer e.number ∙ ap (λ j. placed (card_row e.customer e.number) 1 (cards_of j)) its;
+        pocket_rows = λ place. holds.beside.pockets.each e.customer e.number place ∙ ap (λ j. map (pocket_row e.customer e.number place) (option_to_list (pockets_of j place))) its;
         line_rows = holds.shared.lines.each e.customer e.number ∙ ap (λ j. placed (line_row e.customer e.number) 1 (lines_of j)) its;
       };
       from_deck = run_makes _ e.job whole.0;

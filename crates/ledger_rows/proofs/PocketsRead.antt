@@ -1,16 +1,20 @@
 -- punched cards that are read with the rows of their pockets
-use Rattle.std.proofs.Common.{◌≡◌, ◌≢◌, ◌⊎◌, inl, inr, ℕ, zero, suc, ◌+◌, ◌-◌, ◌<◌, ◌≤◌, ◌==◌, Bool, true, false, if◌then◌else◌, List, [], ◌∷◌, length, map, set, get_or, All, Contains, Option, Some, None, refl, sym, ◌∙◌, ap, subst, arith}
+use Rattle.std.proofs.Common.{◌≡◌, ◌≢◌, ◌⊎◌, inl, inr, ℕ, zero, suc, ◌+◌, ◌-◌, ◌<◌, ◌≤◌, ◌==◌, Bool, true, false, if◌then◌else◌, List, [], ◌∷◌, ◌++◌, length, map, set, take, get_or, All, Contains, Option, Some, None, refl, sym, ◌∙◌, ap, subst, arith}
 use Rattle.std.specs.List.{AllByRecursion}
+use Rattle.std.specs.Prelude.{IfSome, IsSome}
 use Rattle.std.proofs.lemmas.Bool.{cases_Bool}
 use Rattle.std.proofs.lemmas.Bool.Decides.{nat_tests}
-use Rattle.std.proofs.lemmas.List.{ext_get_or, get_or-map, length-map}
-use Rattle.std.proofs.lemmas.List.Elements.{recursion_from_All}
+use Rattle.std.proofs.lemmas.List.{ext_get_or, get_or-map, length-map, take-append-le, take_all}
+use Rattle.std.proofs.lemmas.List.Elements.{All-more, recursion_from_All}
+use Rattle.std.proofs.lemmas.List.Sums.{fold_more}
+use Rattle.cards.specs.Decks.{IsCard}
+use Rattle.cards.specs.declared.decks.Card.{Card}
 use Rattle.units.specs.declared.pockets.Pocket.{Pocket}
 use Rattle.units.specs.declared.pockets.Pocket.TheVariants.{Normal, Four, Eight}
 use Rattle.units.specs.declared.punch.Punched.{Punched}
 use Rattle.ledger_tables.specs.Named.{ArePockets}
 use Rattle.ledger_tables.specs.declared.rows.PocketRow.{PocketRow}
-use Rattle.ledger_rows.specs.Pockets.{in_normal, named_pocket, pocket_cell, pocket_rows_from, pocket_rows_of, put_behind, with_pocket, with_pockets, IsPocketOf}
+use Rattle.ledger_rows.specs.Pockets.{in_normal, named_pocket, pocket_cell, pocket_rows_from, pocket_rows_of, put_behind, punched_bytes, with_pocket, with_pockets, ArePunched, IsPocketOf, IsPunched}
 
 -- a card without columns, which stands where there is no card
 abbrev none : Punched
@@ -50,23 +54,25 @@ row_there first (c ∷ cards) zero less = go (first == first + zero) refl
     go : (b : Bool) → first == first + zero ≡ b → (if b then pocket_cell c.pocket else pocket_rows_from (first + 1) cards (first + zero)) ≡ pocket_cell c.pocket
     go true same = refl
     go false other = absurd (grind (arith, nat_tests))
-row_there first (c ∷ cards) (suc i) less = go (first == first + suc i) refl
+row_there first (c ∷ cards) (suc i) less = go (row_there (first + 1) cards i (omega (arith, less))) (first == first + suc i) refl
   where
     on : first + 1 + i ≡ first + suc i
     on = omega arith
 
-    go : (b : Bool) → first == first + suc i ≡ b → (if b then pocket_cell c.pocket else pocket_rows_from (first + 1) cards (first + suc i)) ≡ pocket_cell (get_or cards i none).pocket
-    go true same = absurd (grind (arith, nat_tests))
-    go false other = ap (pocket_rows_from (first + 1) cards) (sym on) ∙ row_there (first + 1) cards i (omega (arith, less))
+    go : pocket_rows_from (first + 1) cards (first + 1 + i) ≡ pocket_cell (get_or cards i none).pocket → (b : Bool) → first == first + suc i ≡ b
+        → (if b then pocket_cell c.pocket else pocket_rows_from (first + 1) cards (first + suc i)) ≡ pocket_cell (get_or cards i none).pocket
+    go rest true same = absurd (grind (arith, nat_tests))
+    go rest false other = ap (pocket_rows_from (first + 1) cards) (sym on) ∙ rest
 
 -- a row has the place of a card
 row_within : (first : ℕ) (cards : List Punched) (place number : ℕ) → pocket_rows_from first cards place ≡ Some number → (first ≤ place) × (place < first + length cards)
 row_within first [] place number is = absurd (let no = is in cc)
-row_within first (c ∷ cards) place number is = go (first == place) refl is
+row_within first (c ∷ cards) place number is = go (row_within (first + 1) cards place number) (first == place) refl is
   where
-    go : (b : Bool) → first == place ≡ b → (if b then pocket_cell c.pocket else pocket_rows_from (first + 1) cards place) ≡ Some number → (first ≤ place) × (place < first + length (c ∷ cards))
-    go true same h = (grind (arith, nat_tests), grind (arith, nat_tests))
-    go false other h = let rest = row_within (first + 1) cards place number h in (omega (arith, rest.0), omega (arith, rest.1))
+    go : (pocket_rows_from (first + 1) cards place ≡ Some number → (first + 1 ≤ place) × (place < first + 1 + length cards))
+        → (b : Bool) → first == place ≡ b → (if b then pocket_cell c.pocket else pocket_rows_from (first + 1) cards place) ≡ Some number → (first ≤ place) × (place < first + length (c ∷ cards))
+    go more true same h = (grind (arith, nat_tests), grind (arith, nat_tests))
+    go more false other h = let rest = more h in (omega (arith, rest.0), omega (arith, rest.1))
 
 named_so : (pocket : Pocket) (number : ℕ) → pocket_cell pocket ≡ Some number → (named_pocket number ≡ pocket) × ((number ≡ 4) ⊎ (number ≡ 8))
 named_so Normal number is = absurd (let no = is in cc)
@@ -190,3 +196,84 @@ module _ (punched : List Punched) where
       at_each j all inside put base_long None is =
           not_put rows (map in_normal punched) j (none_has rows j all (row_there 1 punched j inside ∙ is)) ∙ put
           ∙ ap (λ p. let c : Punched = record (right j) { pocket = p } in c) (sym (normal_so (right j).pocket is))
+
+-- ---- rows that are put in turn
+
+pub one_pocket_more : (s u : List Punched) (rows : List PocketRow) (i : ℕ) (row d : PocketRow) → i < length rows → row ≡ get_or rows i d → u ≡ with_pockets s (take i rows) → with_pocket u row ≡ with_pockets s (take (i + 1) rows)
+one_pocket_more s u rows i row d within row_is is =
+    ap (λ x. with_pocket x row) is ∙ ap (with_pocket (with_pockets s (take i rows))) row_is ∙ sym (fold_more with_pocket s rows i d within)
+
+abbrev pub no_row : PocketRow
+no_row = record { place = 0; pocket = 0 }
+
+pub one_row : (s u next : List Punched) (rows : List PocketRow) (i : ℕ) (row : PocketRow) → i < length rows → row ≡ get_or rows i no_row → u ≡ with_pockets s (take i rows) → All (IsPocketOf (length s)) (take i rows) → length u ≡ length s
+    → next ≡ with_pocket u row → IsPocketOf (length u) row → (next ≡ with_pockets s (take (i + 1) rows)) × All (IsPocketOf (length s)) (take (i + 1) rows)
+one_row s u next rows i row within row_is put are size did is = (
+  did ∙ one_pocket_more s u rows i row no_row within row_is put,
+  All-more (IsPocketOf (length s)) rows i no_row within are (subst (IsPocketOf (length s)) row_is (subst (λ n. IsPocketOf n row) size is)),
+)
+
+-- cards that were read, in their pockets
+pub normal_held : (punched : List Punched) → All IsPunched punched → All (λ c. IsCard c.card × (c.pocket ≡ Normal)) (map in_normal punched)
+normal_held punched held k d less =
+    let within : k < length punched = omega (arith, less, length-map punched in_normal) in
+    let is : get_or (map in_normal punched) k d ≡ in_normal (get_or punched k none) = get_or-map in_normal punched k none d within in
+    subst (λ (c : Punched). IsCard c.card × (c.pocket ≡ Normal)) (sym is) (held k none within, refl)
+
+pub normal_bytes : (punched : List Punched) → map punched_bytes (map in_normal punched) ≡ map punched_bytes punched
+normal_bytes [] = refl
+normal_bytes (c ∷ punched) = ap (λ xs. c.card.0 ∷ xs) (normal_bytes punched)
+
+-- what was read is told by its rows
+put_same_bytes : (i : ℕ) (pocket : Pocket) (cards : List Punched) → map punched_bytes (put_behind i pocket cards) ≡ map punched_bytes cards
+put_same_bytes i pocket [] = refl
+put_same_bytes zero pocket (c ∷ cards) = refl
+put_same_bytes (suc i) pocket (c ∷ cards) = ap (λ xs. c.card.0 ∷ xs) (put_same_bytes i pocket cards)
+
+put_same_normal : (i : ℕ) (pocket : Pocket) (cards : List Punched) → map in_normal (put_behind i pocket cards) ≡ map in_normal cards
+put_same_normal i pocket [] = refl
+put_same_normal zero pocket (c ∷ cards) = refl
+put_same_normal (suc i) pocket (c ∷ cards) = ap (λ (xs : List Punched). in_normal c ∷ xs) (put_same_normal i pocket cards)
+
+all_same_bytes : (rows : List PocketRow) (cards : List Punched) → map punched_bytes (with_pockets cards rows) ≡ map punched_bytes cards
+all_same_bytes [] cards = refl
+all_same_bytes (row ∷ rows) cards = all_same_bytes rows (with_pocket cards row) ∙ put_same_bytes (row.place - 1) (named_pocket row.pocket) cards
+
+all_same_normal : (rows : List PocketRow) (cards : List Punched) → map in_normal (with_pockets cards rows) ≡ map in_normal cards
+all_same_normal [] cards = refl
+all_same_normal (row ∷ rows) cards = all_same_normal rows (with_pocket cards row) ∙ put_same_normal (row.place - 1) (named_pocket row.pocket) cards
+
+already_normal : (cards : List Punched) → All (λ c. IsCard c.card × (c.pocket ≡ Normal)) cards → map in_normal cards ≡ cards
+already_normal cards held = ext_get_or none (map in_normal cards) cards (length-map cards in_normal) (λ k less.
+    let within : k < length cards = omega (arith, less, length-map cards in_normal) in
+    get_or-map in_normal cards k none none within ∙ ap (λ p. let c : Punched = record (get_or cards k none) { pocket = p } in c) (sym (held k none within).1))
+
+by_bytes : (cards made : List Punched) → map punched_bytes made ≡ map punched_bytes cards → All (λ c. IsCard c.card × (c.pocket ≡ Normal)) cards → All IsPunched made
+by_bytes cards made same held k d less =
+    let many : length made ≡ length cards = sym (length-map made punched_bytes) ∙ ap length same ∙ length-map cards punched_bytes in
+    let within : k < length cards = omega (arith, less, many) in
+    let bytes : (get_or made k d).card.0 ≡ (get_or cards k none).card.0 = sym (get_or-map punched_bytes made k d [] less) ∙ ap (λ xs. get_or xs k []) same ∙ get_or-map punched_bytes cards k none [] within in
+    subst IsCard (ap (λ bs. let card : Card = record { 0 = bs } in card) (sym bytes)) (held k none within).0
+
+pub are_punched : (bytes : List (List ℕ)) (rows : List PocketRow) (cards made : List Punched) → map punched_bytes cards ≡ bytes → All (λ c. IsCard c.card × (c.pocket ≡ Normal)) cards → length made ≡ length cards → All (IsPocketOf (length cards)) rows → made ≡ with_pockets cards rows
+    → ArePunched bytes rows made
+are_punched bytes rows cards made is held many are put =
+    let same : map punched_bytes made ≡ map punched_bytes cards = ap (map punched_bytes) put ∙ all_same_bytes rows cards in
+    let normal : map in_normal made ≡ cards = ap (map in_normal) put ∙ all_same_normal rows cards ∙ already_normal cards held in
+    record {
+      bytes = same ∙ is;
+      held = by_bytes cards made same held;
+      are_pockets = subst (λ n. All (IsPocketOf n) rows) (sym many) are;
+      pockets = put ∙ ap (λ (xs : List Punched). with_pockets xs rows) (sym normal);
+    }
+
+-- what was lent of a list and given back
+pub given_back : (new rest : List Punched) (n : ℕ) → n ≡ length new → take n (new ++ rest) ≡ new
+given_back new rest n is = take-append-le n new rest (omega (arith, is)) ∙ take_all n new (omega (arith, is))
+
+pub not_none : {X : Type 0} (o : Option X) → IsSome o → ((x : X) → o ≡ Some x → ⊥) → ⊥
+not_none None some not = absurd (let no = some in cc)
+not_none (Some x) some not = not x refl
+
+pub at_some : {X : Type 0} (P : X → Type 0) (o : Option X) (x : X) → o ≡ Some x → IfSome o P → P x
+at_some P o x is h = subst (λ q. IfSome q P) is h

@@ -66,5 +66,5 @@ pub record ArePunched (cards : List (List ℕ)) (rows : List PocketRow) (punched
     : Type 0 where
   pub bytes : map punched_bytes punched ≡ cards
   pub held : All IsPunched punched
-  pub rows : All (IsPocketOf (length punched)) rows
+  pub are_pockets : All (IsPocketOf (length punched)) rows
   pub pockets : punched ≡ with_pockets (map in_normal punched) rows

@@ -74,10 +74,10 @@ fn is_place(place: u32, count: usize) -> bool
 
 /// Puts the card at a row's place into the row's pocket. Returns whether the row is that of one of
 /// the cards, and of a pocket that is not the normal one.
-fn put_into_pocket(cards: &mut [Punched], row: PocketRow) -> bool
+fn put_into_pocket(cards: &mut [Punched], row: &PocketRow) -> bool
     ensures size { length cards.new ≡ length cards.old }
-    ensures is { IsTrue result ↔ IsPocketOf (length cards.old) row }
-    ensures put { IsTrue result → cards.new ≡ with_pocket cards.old row }
+    ensures is { IsTrue result ↔ IsPocketOf (length cards.old) row.now }
+    ensures put { IsTrue result → cards.new ≡ with_pocket cards.old row.now }
 {
     if !is_place(row.place, cards.len()) {
         return false;
@@ -101,7 +101,7 @@ fn put_into_pockets(cards: &mut [Punched], rows: &[PocketRow]) -> bool
     ensures put { IsTrue result → cards.new ≡ with_pockets cards.old rows.now }
 {
     for row in rows {
-        if !put_into_pocket(cards, *row) {
+        if !put_into_pocket(cards, row) {
             return false;
         }
     }

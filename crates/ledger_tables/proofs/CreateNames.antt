@@ -1,5 +1,5 @@
 -- What is named before and after a table is made, and why none was made.
-use Rattle.std.proofs.Common.{◌≡◌, ◌++◌, ◌||◌, ◌+◌, inl, inr, ℕ, Bool, true, false, List, [], ◌∷◌, is_some, Option, Some, None, Ok, Err, Result, IfErr, OnOk, IsTrue, refl, sym, ap, subst, ◌∙◌, arith}
+use Rattle.std.proofs.Common.{◌≡◌, ◌≤◌, ◌++◌, ◌||◌, ◌+◌, inl, inr, ℕ, Bool, true, false, true≢false, List, [], ◌∷◌, is_some, Option, Some, None, Ok, Err, Result, IfErr, OnOk, IsTrue, refl, sym, ap, subst, ◌∙◌, arith}
 use Rattle.std.specs.List.{list_any, position_from}
 use Rattle.std.proofs.lemmas.Bool.{cases_Bool}
 use Rattle.sqlite.specs.declared.error.Error.{Error}
@@ -197,3 +197,22 @@ module _ (sql name : List ℕ) (text : IsText sql name) (table : Table) (defined
   pub adds_one : {X : Type 0} (r : Result X Fault) → OnOk r (Ran sql [] old new) → IfErr r (FailsBy sql [] old new) → IsTrue old.in_transaction → AddsNames (name ∷ []) old new r
   adds_one (Ok x) ran failed inside = adds ran.0 ran.1
   adds_one (Err fault) ran failed inside = stops sql name text old new fault failed.0 inside failed.2 [] failed.1
+
+-- ---- one call after another
+
+carried : (a b c : State) (cause : StoreError) → a.faults ≤ b.faults → IsTrue b.is_open → HasCause b c ⊥ cause → HasCause a c ⊥ cause
+carried a b c OutOfMemory counts opened h = h
+carried a b c Io counts opened h = omega (arith, counts, h)
+carried a b c Corrupt counts opened h = omega (arith, counts, h)
+carried a b c Full counts opened h = omega (arith, counts, h)
+carried a b c Broken counts opened h = absurd (true≢false (sym opened ∙ h))
+carried a b c Unstorable counts opened h = absurd h
+
+-- the names of both calls were free before the first
+pub adds_then : {X : Type 0} (a b c : State) (r : Result X Fault) (first others : List (List ℕ)) → a.faults ≤ b.faults → AddsNames {X = Unit {0}} first a b (Ok tt) → AddsNames others b c r → AddsNames (first ++ others) a c r
+adds_then a b c (Ok x) first others counts p q = (both_free a.now.schema first others p.0 (free_before a.now.schema b.now.schema others p.1 q.0), keeps_then a.now.schema b.now.schema c.now.schema p.1 q.1, q.2)
+adds_then a b c (Err fault) first others counts p q = go q
+  where
+    go : IsStopped b c fault → IsStopped a c fault
+    go (inl refused) = inl refused
+    go (inr failed) = inr (failed.0, failed.1, carried a b c failed.0 counts p.2 failed.2, failed.3)

@@ -10,7 +10,7 @@ use Rattle.sqlite.specs.Schema.{Schema}
 use Rattle.sqlite.specs.Change.{created, KeepsRows}
 use Rattle.sqlite.specs.Does.{lacks_sequence}
 use Rattle.sqlite.specs.State.{State, ExecutesInside}
-use Rattle.ledger_tables.specs.Schema.{bureau, bureau_schema}
+use Rattle.ledger_tables.specs.Schema.{bureau, bureau_schema, own_version}
 use Rattle.ledger_tables.specs.Making.{AreMade}
 use Rattle.ledger_tables.specs.Tables.{Holds, no_rows}
 use Rattle.ledger_tables.proofs.Texts.{insert_bureau, insert_bureau_is}
@@ -30,7 +30,7 @@ table_made schema sql table is uncounted old new count h made =
     record { is = did.0; empty = all_push (λ t. new.now.trees t.tree ≡ []) schema.tables _ (still_empty schema.tables old.now.trees new.now.trees made.empty did.2) did.1 }
 
 abbrev pub version_params : Row
-version_params = Int (pos 1) ∷ Int (pos 3) ∷ []
+version_params = Int (pos 1) ∷ Int (pos own_version) ∷ []
 
 pub version_made : (old new : State) (count : ℕ) → ExecutesInside 0 insert_bureau version_params old new (Ok count) → AreMade old.now bureau_schema → Holds new.now no_rows
 version_made old new count h made =
@@ -41,10 +41,12 @@ version_made old new count h made =
     let lines_none : new.now.trees 9 ≡ [] = did.2.1.1.1.1.0 (apart refl) ∙ made.empty.1.1.1.1.0 in
     let states_none : new.now.trees 11 ≡ [] = did.2.1.1.1.1.1.0 (apart refl) ∙ made.empty.1.1.1.1.1.0 in
     let pages_none : new.now.trees 13 ≡ [] = did.2.1.1.1.1.1.1.0 (apart refl) ∙ made.empty.1.1.1.1.1.1.0 in
+    let profiles_none : new.now.trees 15 ≡ [] = did.2.1.1.1.1.1.1.1.0 (apart refl) ∙ made.empty.1.1.1.1.1.1.1.0 in
+    let pockets_none : new.now.trees 17 ≡ [] = did.2.1.1.1.1.1.1.1.1.0 (apart refl) ∙ made.empty.1.1.1.1.1.1.1.1.0 in
     record {
       schema = did.0;
       sound = did.3;
-      version = did.1 ∙ rw (made.empty.0, cast_null, cast_int (pos 1), cast_int (pos 3));
+      version = did.1 ∙ rw (made.empty.0, cast_null, cast_int (pos 1), cast_int (pos own_version));
       shared = record {
         jobs = rw jobs_none;
         jobs_rise = rw jobs_none (tt, tt);
@@ -55,5 +57,8 @@ version_made old new count h made =
       };
       states = rw states_none (record { each = λ c n. refl; named = tt; rise = (tt, tt) });
       pages = rw pages_none (record { each = λ c n k. refl; named = tt; rise = (tt, tt) });
-      beside = tt;
+      beside = record {
+        profiles_are = rw profiles_none (record { each = λ c n. refl; named = tt; rise = (tt, tt) });
+        pockets_are = rw pockets_none (record { each = λ c n k. refl; named = tt; rise = (tt, tt) });
+      };
     }

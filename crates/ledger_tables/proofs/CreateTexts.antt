@@ -17,7 +17,7 @@ use Rattle.sqlite_resolve.specs.declared.error.CompileError.TheVariants.{Misuse,
 use Rattle.sqlite_resolve.specs.Lowering.{Checked, and_then}
 use Rattle.sqlite_schema.specs.declared.command.Returning.{Returning}
 use Rattle.sqlite_schema.specs.Names.{table_named, index_named, view_named}
-use Rattle.ledger_tables.proofs.Texts.{create_bureau, create_jobs, create_stretches, create_pictures, create_cards, create_lines, create_states, create_pages}
+use Rattle.ledger_tables.proofs.Texts.{create_bureau, create_jobs, create_stretches, create_pictures, create_cards, create_lines, create_states, create_pages, create_profiles, create_pockets}
 
 -- a part that gave something gave it through what it stands on
 pub given : {A B : Type 0} (x : Checked A) (f : A → Checked B) (b : B) → and_then x f ≡ Ok b → (a : A) × (x ≡ Ok a) × (f a ≡ Ok b)
@@ -150,6 +150,14 @@ states_text = record { creates = λ schema. refl; whole = refl; short = omega ar
 pub pages_text : IsText create_pages (codes "pages")
 unfolding first everything
 pages_text = record { creates = λ schema. refl; whole = refl; short = omega arith }
+
+pub profiles_text : IsText create_profiles (codes "profiles")
+unfolding first everything
+profiles_text = record { creates = λ schema. refl; whole = refl; short = omega arith }
+
+pub pockets_text : IsText create_pockets (codes "pockets")
+unfolding first everything
+pockets_text = record { creates = λ schema. refl; whole = refl; short = omega arith }
 
 pub sequence_short : IsShort sequence_text (table_defined_by sequence_text)
 unfolding first everything

@@ -1,6 +1,7 @@
 -- One more row, behind those that a table has.
-use Rattle.std.proofs.Common.{◌≡◌, inl, inr, ℕ, pos, List, [], ◌∷◌, ◌++◌, length, filter, Bool, true, false, ◌&&◌, ◌==◌, ◌+◌, bytes_eq, if◌then◌else◌, None, Some, Option, refl, sym, ap, subst, ◌∙◌, arith, append-nil, true≢false}
+use Rattle.std.proofs.Common.{◌≡◌, inl, inr, ℕ, pos, List, [], ◌∷◌, ◌++◌, length, map, filter, Bool, true, false, ◌&&◌, ◌==◌, ◌+◌, bytes_eq, if◌then◌else◌, None, Some, Option, refl, sym, ap, subst, ◌∙◌, arith, append-nil, true≢false}
 use Rattle.std.specs.List.{AllByRecursion}
+use Rattle.std.specs.Option.{option_to_list}
 use Rattle.std.proofs.lemmas.List.Elements.{filter-append}
 use Rattle.std.proofs.lemmas.Bool.{and_parts, cases_Bool}
 use Rattle.std.proofs.lemmas.Bool.Decides.{nat_tests}
@@ -9,11 +10,12 @@ use Rattle.sqlite.specs.declared.types.Value.TheVariants.{Int, Text}
 use Rattle.sqlite.specs.Order.{Row}
 use Rattle.sqlite.specs.Tree.{put_row}
 use Rattle.sqlite.specs.Edit.{next_rowid}
-use Rattle.ledger_tables.specs.Tables.{NamedJob, ByJob, is_job, job_named, AreDistinct, at_job, placed, state_row, state_rows, cells, is_row_of, job_row, stretch_row, card_row, line_row, NamesJob, IsOf, IsOfPages, HoldsShared, Tables}
+use Rattle.ledger_tables.specs.Tables.{NamedJob, ByJob, is_job, job_named, AreDistinct, at_job, placed, cells, is_row_of, NamesJob, IsOf, IsOfEach, HasProfiles, HoldsShared, Tables}
 use Rattle.sqlite.specs.Tree.{Trees}
 use Rattle.sqlite.specs.View.{IsShaped}
 use Rattle.sqlite_trees.specs.declared.store.Shape.TheVariants.{Table as Rising}
-use Rattle.ledger_tables.specs.Cells.{Pages}
+use Rattle.ledger_tables.specs.Cells.{Pages, Pockets}
+use Rattle.ledger_tables.specs.declared.rows.ProfileRow.{ProfileRow}
 use Rattle.ledger_tables.specs.declared.rows.StateRow.{StateRow}
 use Rattle.ledger_tables.proofs.InsertPlaces.{next_cells, next_shaped}
 
@@ -21,8 +23,11 @@ use Rattle.ledger_tables.proofs.InsertPlaces.{next_cells, next_shaped}
 pub still : {of_job : ByJob (List Row)} {old new : List Row} → new ≡ old → IsOf old of_job → IsOf new of_job
 still {of_job} same is = subst (λ rows. IsOf rows of_job) (sym same) is
 
-pub still_pages : {pages : ByJob Pages} {old new : List Row} → new ≡ old → IsOfPages old pages → IsOfPages new pages
-still_pages {pages} same is = subst (λ rows. IsOfPages rows pages) (sym same) is
+pub still_each : {X : Type 0} {row : List ℕ → ℕ → ℕ → X → Row} {things : ByJob (ℕ → Option X)} {old new : List Row} → new ≡ old → IsOfEach row old things → IsOfEach row new things
+still_each {row = row} {things = things} same is = subst (λ rows. IsOfEach row rows things) (sym same) is
+
+pub still_profiles : {profiles : ByJob (Option ProfileRow)} {pockets : ByJob Pockets} {old new : Trees} → HasProfiles old profiles pockets → new 15 ≡ old 15 → new 17 ≡ old 17 → HasProfiles new profiles pockets
+still_profiles h fifteen seventeen = record { profiles_are = still fifteen h.profiles_are; pockets_are = still_each seventeen h.pockets_are }
 
 -- the tables that every version has stay
 pub still_shared : {t : Tables} {old new : Trees} → HoldsShared old t → new 1 ≡ old 1 → new 3 ≡ old 3 → new 7 ≡ old 7 → new 9 ≡ old 9 → HoldsShared new t
@@ -35,9 +40,9 @@ still_shared h one three seven nine = record {
   lines = still nine h.lines;
 }
 
--- .. and do not depend on states and pages
-pub shared_with : {t : Tables} {db : Trees} (states : ByJob (Option StateRow)) (pages : ByJob Pages) → HoldsShared db t → HoldsShared db (record t { states = states; pages = pages })
-shared_with states pages h = record { jobs = h.jobs; jobs_rise = h.jobs_rise; distinct = h.distinct; stretches = h.stretches; cards = h.cards; lines = h.lines }
+-- .. and do not depend on the other tables
+pub shared_with : {t : Tables} {db : Trees} (states : ByJob (Option StateRow)) (pages : ByJob Pages) (profiles : ByJob (Option ProfileRow)) (pockets : ByJob Pockets) → HoldsShared db t → HoldsShared db (record t { states = states; pages = pages; profiles = profiles; pockets = pockets })
+shared_with states pages profiles pockets h = record { jobs = h.jobs; jobs_rise = h.jobs_rise; distinct = h.distinct; stretches = h.stretches; cards = h.cards; lines = h.lines }
 
 -- the name of a job is tested by its customer and number
 pub name_is : (customer c : List ℕ) (number n : ℕ) → bytes_eq customer c && (number == n) ≡ true → (customer ≡ c) × (number ≡ n)
@@ -91,16 +96,16 @@ placed_behind row first customer number place x all at c n = go (bytes_eq custom
         rw (sym name.0, sym name.1, at) (sym (placed_more (row customer number) first (all customer number) x))
     go false other = append-nil (placed (row c n) first (all c n))
 
-pub state_behind : (customer : List ℕ) (number : ℕ) (state : StateRow) (all : ByJob (Option StateRow)) → all customer number ≡ None
-    → (c : List ℕ) (n : ℕ) → state_rows c n (all c n) ++ (if bytes_eq customer c && (number == n) then state_row customer number state ∷ [] else []) ≡ state_rows c n (at_job customer number (Some state) all c n)
-state_behind customer number state all none c n = go (bytes_eq customer c && (number == n)) refl
+pub one_behind : {X : Type 0} (row : List ℕ → ℕ → X → Row) (customer : List ℕ) (number : ℕ) (it : X) (all : ByJob (Option X)) → all customer number ≡ None
+    → (c : List ℕ) (n : ℕ) → map (row c n) (option_to_list (all c n)) ++ (if bytes_eq customer c && (number == n) then row customer number it ∷ [] else []) ≡ map (row c n) (option_to_list (at_job customer number (Some it) all c n))
+one_behind {X} row customer number it all none c n = go (bytes_eq customer c && (number == n)) refl
   where
     go : (b : Bool) → bytes_eq customer c && (number == n) ≡ b
-        → state_rows c n (all c n) ++ (if b then state_row customer number state ∷ [] else []) ≡ state_rows c n (if b then Some state else all c n)
+        → map (row c n) (option_to_list (all c n)) ++ (if b then row customer number it ∷ [] else []) ≡ map (row c n) (option_to_list (if b then Some it else all c n))
     go true here =
         let name = name_is customer c number n here in
         rw (sym name.0, sym name.1, none)
-    go false other = append-nil (state_rows c n (all c n))
+    go false other = append-nil (map (row c n) (option_to_list (all c n)))
 
 -- a row of this job goes behind the rows of its table
 pub row_behind : (customer : List ℕ) (number : ℕ) (rest : Row) (rows : List Row) (before after : ByJob (List Row)) → IsOf rows before

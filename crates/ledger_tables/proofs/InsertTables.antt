@@ -17,7 +17,7 @@ use Rattle.ledger_tables.specs.Tables.{NamedJob, Tables, Holds, job_named, with_
 use Rattle.ledger_tables.proofs.Texts.{insert_jobs, insert_jobs_is, insert_stretches, insert_stretches_is, insert_states, insert_states_is, insert_cards, insert_cards_is, insert_lines, insert_lines_is}
 use Rattle.ledger_tables.proofs.InsertStatement.{adds, apart, cast_int, cast_null}
 use Rattle.ledger_tables.proofs.InsertPlaces.{next_cells, next_shaped}
-use Rattle.ledger_tables.proofs.InsertLast.{still, still_pages, still_shared, shared_with, distinct_with, placed_behind, state_behind, row_behind}
+use Rattle.ledger_tables.proofs.InsertLast.{still, still_each, still_profiles, still_shared, shared_with, distinct_with, placed_behind, one_behind, row_behind}
 
 abbrev pub named : List ℕ → ℕ → JobCells → NamedJob
 named customer number job = record { customer = customer; number = number; cells = job }
@@ -41,8 +41,8 @@ job_added old new customer number job count h t holds free =
         lines = still (did.2.1.1.1.1.0 (apart refl)) holds.shared.lines;
       };
       states = still (did.2.1.1.1.1.1.0 (apart refl)) holds.states;
-      pages = still_pages (did.2.1.1.1.1.1.1.0 (apart refl)) holds.pages;
-      beside = tt;
+      pages = still_each (did.2.1.1.1.1.1.1.0 (apart refl)) holds.pages;
+      beside = still_profiles holds.beside (did.2.1.1.1.1.1.1.1.0 (apart refl)) (did.2.1.1.1.1.1.1.1.1.0 (apart refl));
     }
 
 pub stretch_added : (old new : State) (customer : List ℕ) (number place : ℕ) (stretch : StretchRow) (count : ℕ) → ExecutesInside 0 insert_stretches (stretch_row customer number place stretch) old new (Ok count)
@@ -64,8 +64,8 @@ stretch_added old new customer number place stretch count h t holds at =
         lines = still (did.2.1.1.1.1.0 (apart refl)) holds.shared.lines;
       };
       states = still (did.2.1.1.1.1.1.0 (apart refl)) holds.states;
-      pages = still_pages (did.2.1.1.1.1.1.1.0 (apart refl)) holds.pages;
-      beside = tt;
+      pages = still_each (did.2.1.1.1.1.1.1.0 (apart refl)) holds.pages;
+      beside = still_profiles holds.beside (did.2.1.1.1.1.1.1.1.0 (apart refl)) (did.2.1.1.1.1.1.1.1.1.0 (apart refl));
     }
 
 pub state_added : (old new : State) (customer : List ℕ) (number : ℕ) (state : StateRow) (count : ℕ) → ExecutesInside 0 insert_states (state_row customer number state) old new (Ok count)
@@ -78,10 +78,10 @@ state_added old new customer number state count h t holds at =
       schema = did.0;
       sound = did.3;
       version = did.2.0 (apart refl) ∙ holds.version;
-      shared = shared_with _ _ (still_shared holds.shared (did.2.1.0 (apart refl)) (did.2.1.1.0 (apart refl)) (did.2.1.1.1.0 (apart refl)) (did.2.1.1.1.1.0 (apart refl)));
-      states = still now (row_behind customer number (state_columns state) (old.now.trees 11) _ _ holds.states (state_behind customer number state t.states at));
-      pages = still_pages (did.2.1.1.1.1.1.1.0 (apart refl)) holds.pages;
-      beside = tt;
+      shared = shared_with _ _ _ _ (still_shared holds.shared (did.2.1.0 (apart refl)) (did.2.1.1.0 (apart refl)) (did.2.1.1.1.0 (apart refl)) (did.2.1.1.1.1.0 (apart refl)));
+      states = still now (row_behind customer number (state_columns state) (old.now.trees 11) _ _ holds.states (one_behind state_row customer number state t.states at));
+      pages = still_each (did.2.1.1.1.1.1.1.0 (apart refl)) holds.pages;
+      beside = still_profiles holds.beside (did.2.1.1.1.1.1.1.1.0 (apart refl)) (did.2.1.1.1.1.1.1.1.1.0 (apart refl));
     }
 
 pub card_added : (old new : State) (customer : List ℕ) (number place : ℕ) (card : List ℕ) (count : ℕ) → ExecutesInside 0 insert_cards (card_row customer number place card) old new (Ok count)
@@ -103,8 +103,8 @@ card_added old new customer number place card count h t holds at =
         lines = still (did.2.1.1.1.1.0 (apart refl)) holds.shared.lines;
       };
       states = still (did.2.1.1.1.1.1.0 (apart refl)) holds.states;
-      pages = still_pages (did.2.1.1.1.1.1.1.0 (apart refl)) holds.pages;
-      beside = tt;
+      pages = still_each (did.2.1.1.1.1.1.1.0 (apart refl)) holds.pages;
+      beside = still_profiles holds.beside (did.2.1.1.1.1.1.1.1.0 (apart refl)) (did.2.1.1.1.1.1.1.1.1.0 (apart refl));
     }
 
 pub line_added : (old new : State) (customer : List ℕ) (number place : ℕ) (line : LineCells) (count : ℕ) → ExecutesInside 0 insert_lines (line_row customer number place line) old new (Ok count)
@@ -126,6 +126,6 @@ line_added old new customer number place line count h t holds at =
         lines = still now (row_behind customer number (Int (pos place) ∷ Int (pos line.form) ∷ Int (pos line.line) ∷ Blob line.image ∷ []) (old.now.trees 9) _ _ holds.shared.lines (placed_behind line_row 1 customer number place line t.lines (omega (arith, at))));
       };
       states = still (did.2.1.1.1.1.1.0 (apart refl)) holds.states;
-      pages = still_pages (did.2.1.1.1.1.1.1.0 (apart refl)) holds.pages;
-      beside = tt;
+      pages = still_each (did.2.1.1.1.1.1.1.0 (apart refl)) holds.pages;
+      beside = still_profiles holds.beside (did.2.1.1.1.1.1.1.1.0 (apart refl)) (did.2.1.1.1.1.1.1.1.1.0 (apart refl));
     }

@@ -27,3 +27,4 @@ pub mod PageTables
 pub mod PageLookups
 pub mod PageClears
 pub mod RaisingTables
+pub mod ProfileTables

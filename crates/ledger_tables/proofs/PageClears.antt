@@ -1,22 +1,21 @@
 -- What the statement does that takes the rows of all blank pages away.
-use Rattle.std.proofs.Common.{◌≡◌, ◌≢◌, inl, inr, ℕ, ℤ, pos, List, [], ◌∷◌, map, drop, filter, codes, cond, Bool, true, false, not, ◌&&◌, bytes_eq, if◌then◌else◌, Option, Some, None, IsTrue, Ok, Less, Equal, Greater, All, refl, sym, ap, subst, ◌∙◌, true≢false}
+use Rattle.std.proofs.Common.{◌≡◌, inl, inr, ℕ, ℤ, List, [], ◌∷◌, map, drop, filter, codes, cond, Bool, true, false, not, ◌&&◌, bytes_eq, if◌then◌else◌, Option, Some, None, IsTrue, Ok, Less, Greater, refl, sym, ap, subst, ◌∙◌, true≢false}
 use Rattle.std.specs.List.{AllByRecursion}
 use Rattle.std.specs.List.Sorted.{IsPermutation}
+use Rattle.std.specs.Option.{option_to_list}
 use Rattle.std.specs.Ordering.{is_eq}
 use Rattle.std.proofs.lemmas.Bool.{cases_Bool}
 use Rattle.std.proofs.lemmas.Cmp.{tied_itself}
 use Rattle.std.proofs.lemmas.List.Elements.{recursion_from_All}
 use Rattle.std.proofs.lemmas.List.Sorted.{All-permutation, IsPermutation-map, IsPermutation-sym}
 use Rattle.std.proofs.lemmas.Map.Text.{is_eq-slice_cmp}
-use Rattle.sqlite.specs.declared.types.Value.{Value}
-use Rattle.sqlite.specs.declared.types.Value.TheVariants.{Null, Int, Text, Blob}
+use Rattle.sqlite.specs.declared.types.Value.TheVariants.{Int, Blob}
 use Rattle.sqlite.specs.Collation.TheVariants.{Binary}
 use Rattle.sqlite.specs.Command.TheVariants.{Delete}
-use Rattle.sqlite.specs.Edit.{edit_of, edited, id_in}
+use Rattle.sqlite.specs.Edit.{id_in}
 use Rattle.sqlite.specs.Listing.{understood}
 use Rattle.sqlite.specs.Ops.{binary, is_true, from_truth}
-use Rattle.sqlite.specs.Order.{Row, column, value_cmp}
-use Rattle.sqlite.specs.Rowids.TheVariants.{Given}
+use Rattle.sqlite.specs.Order.{Row, value_cmp}
 use Rattle.sqlite.specs.State.{State, ExecutesInside}
 use Rattle.sqlite.specs.Term.{Term, col, op2}
 use Rattle.sqlite.specs.Tree.{rowid, without_rowid}
@@ -34,15 +33,14 @@ use Rattle.sqlite_trees.proofs.ListLemmas.{all-filter}
 use Rattle.sqlite_value.proofs.OrderLemmas.{value_cmp_total, value_cmp-Blob}
 use Rattle.ledger_tables.specs.Cells.{blank_bytes, unless_blank}
 use Rattle.ledger_tables.specs.Raising.{without_blank_pages}
-use Rattle.ledger_tables.specs.Schema.{bureau_schema, pages}
-use Rattle.ledger_tables.specs.Tables.{ByJob, Tables, HoldsAs, IsOfPages, NamesPage, cells, is_page_of, page_row, page_rows}
-use Rattle.ledger_tables.proofs.InsertLast.{still, still_shared, shared_with}
-use Rattle.ledger_tables.proofs.InsertStatement.{Means, apart}
+use Rattle.ledger_tables.specs.Schema.{paged_schema, pages}
+use Rattle.ledger_tables.specs.Tables.{Tables, HoldsAs, IsOne, cells, is_row_at, page_row, paged}
+use Rattle.ledger_tables.proofs.InsertStatement.{Means}
 use Rattle.ledger_tables.proofs.LookupKeys.{and_true}
 use Rattle.ledger_tables.proofs.LookupStatement.{passes, show, plain_query, plain_answer}
 use Rattle.ledger_tables.proofs.PageLookups.{all_at}
-use Rattle.ledger_tables.proofs.PageTables.{deletes, left, all_left, same_filter}
-use Rattle.ledger_tables.proofs.UpdateStatements.{idle_here, on_cells}
+use Rattle.ledger_tables.proofs.PageTables.{deletes, left, all_left, pages_alone, same_filter}
+use Rattle.ledger_tables.proofs.UpdateStatements.{idle_beside, on_cells}
 
 abbrev pub clear_blanks : List ℕ
 clear_blanks = codes "DELETE FROM pages WHERE storage = ?1"
@@ -51,7 +49,7 @@ clear_blanks = codes "DELETE FROM pages WHERE storage = ?1"
 abbrev is_stored : List Term
 is_stored = op2 (Compare Eq Binary) (col 1 4) (col 0 0) ∷ []
 
-clear_blanks_is : Means bureau_schema clear_blanks (Delete 6 (record { lets = []; body = plain_query 13 is_stored (col 1 0 ∷ []) }))
+clear_blanks_is : Means paged_schema clear_blanks (Delete 6 (record { lets = []; body = plain_query 13 is_stored (col 1 0 ∷ []) }))
 unfolding understood everything
 clear_blanks_is = (refl, (refl, refl))
 
@@ -202,19 +200,19 @@ tests_turned p q (x ∷ xs) = go (p x) refl (q x) refl (tests_turned p q xs)
     go false this true that rest = rw (this, that, this) rest
     go false this false that rest = rw (this, that) rest
 
-rows_unless_blank : (c : List ℕ) (n k : ℕ) (o : Option (List ℕ)) → left is_blank (page_rows c n k o) ≡ page_rows c n k (unless_blank o)
+rows_unless_blank : (c : List ℕ) (n k : ℕ) (o : Option (List ℕ)) → left is_blank (map (page_row c n k) (option_to_list o)) ≡ map (page_row c n k) (option_to_list (unless_blank o))
 rows_unless_blank c n k None = refl
 rows_unless_blank c n k (Some storage) = go (bytes_eq storage blank_bytes) refl
   where
-    go : (b : Bool) → bytes_eq storage blank_bytes ≡ b → left is_blank (page_row c n k storage ∷ []) ≡ page_rows c n k (if bytes_eq storage blank_bytes then None else Some storage)
+    go : (b : Bool) → bytes_eq storage blank_bytes ≡ b → left is_blank (page_row c n k storage ∷ []) ≡ map (page_row c n k) (option_to_list (if bytes_eq storage blank_bytes then None else Some storage))
     go true this = rw (page_is_blank c n k storage, this) refl
     go false this = rw (page_is_blank c n k storage, this) refl
 
-pub blanks_cleared : (old new : State) (count : ℕ) → ExecutesInside 0 clear_blanks (Blob blank_bytes ∷ []) old new (Ok count) → (t : Tables) (version : ℕ) → (IsTrue old.is_open → HoldsAs None version old.now t)
-    → HoldsAs None version new.now (without_blank_pages t)
+pub blanks_cleared : (old new : State) (count : ℕ) → ExecutesInside 0 clear_blanks (Blob blank_bytes ∷ []) old new (Ok count) → (t : Tables) (version : ℕ) → (IsTrue old.is_open → HoldsAs paged version old.now t)
+    → HoldsAs paged version new.now (without_blank_pages t)
 blanks_cleared old new count h t version has =
     let holds = has h.1.was_open in
-    let did = deletes bureau_schema clear_blanks 6 (record pages { tree = 13 }) is_stored (col 1 0 ∷ []) clear_blanks_is refl (idle_here 13) old new blank_params count holds.schema h.0 in
+    let did = deletes paged_schema clear_blanks 6 (record pages { tree = 13 }) is_stored (col 1 0 ∷ []) clear_blanks_is refl (idle_beside paged 13) old new blank_params count holds.schema h.0 in
     let db = old.now.trees in
     let some = plain_answer 13 is_stored (col 1 0 ∷ []) blank_params db did.0 refl did.1.answer in
     let test : Row → Bool = passes is_stored blank_params in
@@ -222,17 +220,9 @@ blanks_cleared old new count h t version has =
     let gone : new.now.trees 13 ≡ filter (λ r. not (test r)) (db 13) =
     did.3 ∙ without_all_is (ids_of did.0) (db 13) ∙ same_filter (lacks (ids_of did.0)) (λ r. not (test r)) (db 13) (each_moved _ (ids_of did.0) test (db 13) ids (lacks_those test (db 13) holds.pages.rise)) in
     let now : cells (new.now.trees 13) ≡ left is_blank (cells (db 13)) = ap cells gone ∙ left_cells (db 13) in
-    let others = did.4 in
-    record {
-      schema = did.2;
-      sound = did.5;
-      version = others.0 (apart refl) ∙ holds.version;
-      shared = shared_with _ _ (still_shared holds.shared (others.1.0 (apart refl)) (others.1.1.0 (apart refl)) (others.1.1.1.0 (apart refl)) (others.1.1.1.1.0 (apart refl)));
-      states = still (others.1.1.1.1.1.0 (apart refl)) holds.states;
-      pages = record {
-        each = λ c n k. ap (filter (is_page_of c n k)) now ∙ tests_turned (is_page_of c n k) (λ row. not (is_blank row)) (cells (db 13)) ∙ ap (left is_blank) (holds.pages.each c n k) ∙ rows_unless_blank c n k (t.pages c n k);
-        named = subst (AllByRecursion NamesPage) (sym now) (all_left NamesPage (λ row. not (is_blank row)) (cells (db 13)) holds.pages.named);
-        rise = subst (IsShaped Rising) (sym gone) (IsShaped-filter Rising _ (db 13) holds.pages.rise);
-      };
-      beside = tt;
-    }
+    pages_alone paged version old.now new.now t _ holds did.2 did.5 did.4
+    (record {
+      each = λ c n k. ap (filter (is_row_at c n k)) now ∙ tests_turned (is_row_at c n k) (λ row. not (is_blank row)) (cells (db 13)) ∙ ap (left is_blank) (holds.pages.each c n k) ∙ rows_unless_blank c n k (t.pages c n k);
+      named = subst (AllByRecursion (IsOne page_row)) (sym now) (all_left (IsOne page_row) (λ row. not (is_blank row)) (cells (db 13)) holds.pages.named);
+      rise = subst (IsShaped Rising) (sym gone) (IsShaped-filter Rising _ (db 13) holds.pages.rise);
+    })

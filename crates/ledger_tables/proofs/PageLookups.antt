@@ -1,6 +1,7 @@
--- What the SELECT of a job's pages answers.
+-- What the SELECT of a job's pages answers, and that of its cards' pockets.
 use Rattle.std.proofs.Common.{◌≡◌, ◌⊎◌, inl, inr, ◌<◌, ◌^◌, ℕ, zero, suc, pos, List, [], ◌∷◌, length, map, filter, Bool, true, false, ◌==◌, bytes_eq, Option, Some, None, IsTrue, All, Contains, get_or, refl, sym, ap, subst, ◌∙◌, arith, true≢false}
 use Rattle.std.specs.List.{AllByRecursion}
+use Rattle.std.specs.Option.{option_to_list}
 use Rattle.std.specs.List.Sorted.{IsPermutation}
 use Rattle.std.proofs.lemmas.Bool.{and_parts}
 use Rattle.std.proofs.lemmas.Bool.Decides.{nat_tests}
@@ -12,19 +13,20 @@ use Rattle.sqlite.specs.Order.{Row, column}
 use Rattle.sqlite.specs.State.{State, Shown, IsUnchanged}
 use Rattle.sqlite.specs.Listing.{understood}
 use Rattle.sqlite_tied.specs.Compute.{everything}
-use Rattle.ledger_tables.specs.Cells.{Pages, PageCells}
-use Rattle.ledger_tables.specs.Named.{ArePages, HaveNumbers}
+use Rattle.ledger_tables.specs.Cells.{PageCells}
+use Rattle.ledger_tables.specs.Named.{ArePages, ArePockets, HaveNumbers, HavePocketNumbers}
 use Rattle.ledger_tables.specs.Reading.{CanRead, Refuses, ShowsNone}
 use Rattle.ledger_tables.specs.Schema.{bureau_schema}
-use Rattle.ledger_tables.specs.Shown.{shown_page}
+use Rattle.ledger_tables.specs.Shown.{shown_page, shown_pocket}
 use Rattle.ledger_tables.specs.Steps.{HasFailed}
-use Rattle.ledger_tables.specs.Tables.{Tables, Holds, NamesJob, NamesPage, cells, is_row_of, is_page_of, page_row, page_rows}
+use Rattle.ledger_tables.specs.Tables.{Tables, Holds, NamesJob, IsOne, cells, is_row_of, is_row_at}
+use Rattle.ledger_tables.specs.declared.rows.PocketRow.{PocketRow}
 use Rattle.ledger_tables.proofs.FaultLemmas.{IsWhole, IsCalm, refused}
 use Rattle.ledger_tables.proofs.Frames.{shown_opened}
 use Rattle.ledger_tables.proofs.LookupAnswers.{looks}
 use Rattle.ledger_tables.proofs.LookupKeys.{columns, view, shown_cells, rows_of_key}
 use Rattle.ledger_tables.proofs.LookupStatement.{passes, plain_query, plain_answer}
-use Rattle.ledger_tables.proofs.ReadTexts.{is_key, select_pages, select_pages_is, page_terms}
+use Rattle.ledger_tables.proofs.ReadTexts.{is_key, select_pages, select_pages_is, page_terms, select_pockets, select_pockets_is, pocket_terms}
 use Rattle.ledger_tables.proofs.UpdateFlags.{the_only, no_other}
 use Rattle.ledger_tables.proofs.UpdateRows.{key_yes}
 
@@ -38,19 +40,8 @@ abbrev bytes_in : Value → List ℕ
 bytes_in (Blob bytes) = bytes
 bytes_in _ = []
 
--- the page that a row of the answer shows
-abbrev page_in : Row → PageCells
-page_in row = record { page = nat_in (column row 0); storage = bytes_in (column row 1) }
-
-abbrev page_columns : List ℕ
-page_columns = 2 ∷ 3 ∷ []
-
-named_job : (row : Row) → NamesPage row → NamesJob row
-named_job row h = (h.0, h.1, ap (λ (r : Row). column r 0) h.4, ap (λ (r : Row). column r 1) h.4)
-
-named_jobs : (rows : List Row) → AllByRecursion NamesPage rows → AllByRecursion NamesJob rows
-named_jobs [] named = tt
-named_jobs (row ∷ rows) named = (named_job row named.0, named_jobs rows named.1)
+abbrev shown_columns : List ℕ
+shown_columns = 2 ∷ 3 ∷ []
 
 -- ---- lists
 
@@ -94,88 +85,104 @@ contains_map f (y ∷ xs) x h = go h.0 h.1 h.2 (contains_map f xs x)
     go zero less is rest = subst (λ z. Contains (f z ∷ map f xs) (f x)) (sym is) (contains_first (f x) (map f xs))
     go (suc k) less is rest = contains_later (f y) (f x) (map f xs) (rest (k, omega (arith, less), is))
 
--- ---- the rows of a job
+-- ---- the rows of a job's pages or cards
 
-module _ (customer : List ℕ) (number : ℕ) (all : Pages) (rows : List Row) (named : AllByRecursion NamesPage rows)
-    (each : (k : ℕ) → filter (is_page_of customer number k) rows ≡ page_rows customer number k (all k)) where
-  -- a row of the table of this page is the page's
-  of_one : (k : ℕ) (o : Option (List ℕ)) → all k ≡ o → AllByRecursion (λ row. is_page_of customer number k row ≡ true → all k ≡ Some (bytes_in (column row 3))) rows
-  of_one k None is = weaken rows (no_other (is_page_of customer number k) [] rows (each k ∙ ap (page_rows customer number k) is)) none_passes
-    where
-      none_passes : (row : Row) → is_page_of customer number k row ≡ true → row ≡ [] → all k ≡ Some (bytes_in (column row 3))
-      none_passes row passes empty = absurd (let e : is_page_of customer number k [] ≡ true = subst (λ r. is_page_of customer number k r ≡ true) empty passes in cc)
+-- things that a row holds in one column, and what is read of them with the number of the page or card
+module _ {X F : Type 0} (value : X → Value) (thing_in : Value → X) (back : (x : X) → thing_in (value x) ≡ x) (make : ℕ → X → F) (number_of : F → ℕ) (thing_of : F → X) (shown : F → Row)
+    (made : (k : ℕ) (x : X) → (shown (make k x) ≡ Int (pos k) ∷ value x ∷ []) × (number_of (make k x) ≡ k) × (thing_of (make k x) ≡ x)) where
+  abbrev each_row : List ℕ → ℕ → ℕ → X → Row
+  each_row customer number k x = Text customer ∷ Int (pos number) ∷ Int (pos k) ∷ value x ∷ []
 
-      weaken : (xs : List Row) → AllByRecursion (λ row. is_page_of customer number k row ≡ true → row ≡ []) xs → ((row : Row) → is_page_of customer number k row ≡ true → row ≡ [] → all k ≡ Some (bytes_in (column row 3)))
-          → AllByRecursion (λ row. is_page_of customer number k row ≡ true → all k ≡ Some (bytes_in (column row 3))) xs
-      weaken [] h f = tt
-      weaken (x ∷ xs) h f = (λ passes. f x passes (h.0 passes), weaken xs h.1 f)
-  of_one k (Some storage) is = weaken rows (the_only (is_page_of customer number k) (page_row customer number k storage) rows (each k ∙ ap (page_rows customer number k) is))
-    where
-      weaken : (xs : List Row) → AllByRecursion (λ row. is_page_of customer number k row ≡ true → row ≡ page_row customer number k storage) xs
-          → AllByRecursion (λ row. is_page_of customer number k row ≡ true → all k ≡ Some (bytes_in (column row 3))) xs
-      weaken [] h = tt
-      weaken (x ∷ xs) h = (λ passes. is ∙ ap (λ (r : Row). Some (bytes_in (column r 3))) (sym (h.0 passes)), weaken xs h.1)
+  named_job : (row : Row) → IsOne each_row row → NamesJob row
+  named_job row h = (h.0, h.1, ap (λ (r : Row). column r 0) h.4, ap (λ (r : Row). column r 1) h.4)
 
-  of_each : AllByRecursion (λ row. (k : ℕ) → is_page_of customer number k row ≡ true → all k ≡ Some (bytes_in (column row 3))) rows
-  of_each = each_k (λ k row. is_page_of customer number k row ≡ true → all k ≡ Some (bytes_in (column row 3))) rows (λ k. of_one k (all k) refl)
+  named_jobs : (rows : List Row) → AllByRecursion (IsOne each_row) rows → AllByRecursion NamesJob rows
+  named_jobs [] named = tt
+  named_jobs (row ∷ rows) named = (named_job row named.0, named_jobs rows named.1)
 
-  -- what is read of a row: it shows a page, and that of the job
-  abbrev Shows : Row → Type 0
-  Shows shown = (shown ≡ shown_page (page_in shown)) × (all (page_in shown).page ≡ Some (page_in shown).storage)
+  -- what a row of the answer shows
+  abbrev read : Row → F
+  read row = make (nat_in (column row 0)) (thing_in (column row 1))
 
-  shows_one : (row : Row) → NamesPage row → is_row_of customer number row ≡ true → ((k : ℕ) → is_page_of customer number k row ≡ true → all k ≡ Some (bytes_in (column row 3))) → Shows (view page_columns row)
-  shows_one row h his told =
-      let mine : is_page_of customer number h.2 row ≡ true = page_of_his h.0 h.1 h.2 h.3 row h.4 his in
-      let is = told h.2 mine in
-      subst (λ (r : Row). Shows (view page_columns r)) (sym h.4) (refl, subst (λ (r : Row). all h.2 ≡ Some (bytes_in (column r 3))) h.4 is)
-    where
-      page_of_his : (c : List ℕ) (n k : ℕ) (storage : List ℕ) (r : Row) → r ≡ page_row c n k storage → is_row_of customer number r ≡ true → is_page_of customer number k r ≡ true
-      page_of_his c n k storage r is his =
-          let both = and_parts (bytes_eq c customer) (n == number) (rw is at his) in
-          let name = both.0 in
-          let num : n == number ≡ true = both.1 in
-          let page : k == k ≡ true = grind (arith, nat_tests) in
-          rw (is, name, num, page)
+  module _ (customer : List ℕ) (number : ℕ) (all : ℕ → Option X) (rows : List Row) (named : AllByRecursion (IsOne each_row) rows)
+      (each : (k : ℕ) → filter (is_row_at customer number k) rows ≡ map (each_row customer number k) (option_to_list (all k))) where
+    abbrev Tells : ℕ → Row → Type 0
+    Tells k row = is_row_at customer number k row ≡ true → all k ≡ Some (thing_in (column row 3))
 
-  shows_all : (xs : List Row) → AllByRecursion NamesPage xs → AllByRecursion (λ row. (k : ℕ) → is_page_of customer number k row ≡ true → all k ≡ Some (bytes_in (column row 3))) xs → AllByRecursion Shows (map (view page_columns) (filter (is_row_of customer number) xs))
-  shows_all [] names told = tt
-  shows_all (x ∷ xs) names told = go (is_row_of customer number x) refl (shows_all xs names.1 told.1)
-    where
-      go : (b : Bool) → is_row_of customer number x ≡ b → AllByRecursion Shows (map (view page_columns) (filter (is_row_of customer number) xs)) → AllByRecursion Shows (map (view page_columns) (filter (is_row_of customer number) (x ∷ xs)))
-      go true is rest = rw is (shows_one x names.0 is told.0, rest)
-      go false is rest = rw is rest
+    -- a row of this number holds the thing of this number
+    of_one : (k : ℕ) (o : Option X) → all k ≡ o → AllByRecursion (Tells k) rows
+    of_one k None is = weaken rows (no_other (is_row_at customer number k) [] rows (each k ∙ ap (λ o. map (each_row customer number k) (option_to_list o)) is))
+      where
+        none_passes : (row : Row) → is_row_at customer number k row ≡ true → row ≡ [] → all k ≡ Some (thing_in (column row 3))
+        none_passes row passes empty = absurd (let e : is_row_at customer number k [] ≡ true = subst (λ r. is_row_at customer number k r ≡ true) empty passes in cc)
 
-  -- each page of the job is shown
-  shows_each : (k : ℕ) (storage : List ℕ) → all k ≡ Some storage → Contains (map (view page_columns) (filter (is_row_of customer number) rows)) (Int (pos k) ∷ Blob storage ∷ [])
-  shows_each k storage is =
-      let own : is_row_of customer number (page_row customer number k storage) ≡ true = own_row customer number k storage in
-      contains_map (view page_columns) (filter (is_row_of customer number) rows) (page_row customer number k storage)
-      (among (is_page_of customer number k) (is_row_of customer number) (page_row customer number k storage) rows own (each k ∙ ap (page_rows customer number k) is))
-    where
-      own_row : (c : List ℕ) (n k : ℕ) (storage : List ℕ) → is_row_of c n (page_row c n k storage) ≡ true
-      own_row c n k storage = key_yes c n c n refl refl
+        weaken : (xs : List Row) → AllByRecursion (λ row. is_row_at customer number k row ≡ true → row ≡ []) xs → AllByRecursion (Tells k) xs
+        weaken [] h = tt
+        weaken (x ∷ xs) h = (λ passes. none_passes x passes (h.0 passes), weaken xs h.1)
+    of_one k (Some thing) is = weaken rows (the_only (is_row_at customer number k) (each_row customer number k thing) rows (each k ∙ ap (λ o. map (each_row customer number k) (option_to_list o)) is))
+      where
+        weaken : (xs : List Row) → AllByRecursion (λ row. is_row_at customer number k row ≡ true → row ≡ each_row customer number k thing) xs → AllByRecursion (Tells k) xs
+        weaken [] h = tt
+        weaken (x ∷ xs) h = (λ passes. is ∙ ap Some (sym (back thing) ∙ ap (λ (r : Row). thing_in (column r 3)) (sym (h.0 passes))), weaken xs h.1)
 
-  read_back : (answer : List Row) → All Shows answer → answer ≡ map shown_page (map page_in answer)
-  read_back [] all_shown = refl
-  read_back (x ∷ answer) all_shown =
-      let shown = recursion_from_All Shows (x ∷ answer) all_shown in
-      ap (λ (r : Row). let rs : List Row = r ∷ answer in rs) shown.0.0 ∙ ap (λ (rs : List Row). let more : List Row = shown_page (page_in x) ∷ rs in more) (read_back answer (all_at Shows answer shown.1))
+    of_each : AllByRecursion (λ row. (k : ℕ) → Tells k row) rows
+    of_each = each_k Tells rows (λ k. of_one k (all k) refl)
 
-  only_pages : (answer : List Row) → AllByRecursion Shows answer → AllByRecursion (λ (it : PageCells). all it.page ≡ Some it.storage) (map page_in answer)
-  only_pages [] shown = tt
-  only_pages (x ∷ answer) shown = (shown.0.1, only_pages answer shown.1)
+    -- what is read of a row: it shows a thing, and that of the job
+    abbrev Shows : Row → Type 0
+    Shows row = (row ≡ shown (read row)) × (all (number_of (read row)) ≡ Some (thing_of (read row)))
 
-  pub pages_of_answer : (answer : List Row) → IsPermutation (map (view page_columns) (filter (is_row_of customer number) rows)) answer
-      → (found : List PageCells) × (answer ≡ map shown_page found) × ArePages found all
-  pages_of_answer answer same =
-      let shown = All-permutation Shows _ answer same (all_at Shows _ (shows_all rows named of_each)) in (
-        map page_in answer,
-        read_back answer shown,
-        record {
-          only = all_at _ (map page_in answer) (only_pages answer (recursion_from_All Shows answer shown));
-          all = λ k storage is. contains_map page_in answer (Int (pos k) ∷ Blob storage ∷ []) (Contains-permutation _ answer _ same (shows_each k storage is));
-        },
-      )
+    shows_this : (k : ℕ) (x : X) → all k ≡ Some x → Shows (Int (pos k) ∷ value x ∷ [])
+    shows_this k x is =
+        let it : read (Int (pos k) ∷ value x ∷ []) ≡ make k x = ap (make k) (back x) in
+        (sym (ap shown it ∙ (made k x).0), ap (λ f. all (number_of f)) it ∙ ap all (made k x).1 ∙ is ∙ ap Some (sym (ap thing_of it ∙ (made k x).2)))
+
+    shows_one : (row : Row) → IsOne each_row row → is_row_of customer number row ≡ true → ((k : ℕ) → Tells k row) → Shows (view shown_columns row)
+    shows_one row h his told =
+        let mine : is_row_at customer number h.2 row ≡ true = at_of_his h.0 h.1 h.2 h.3 row h.4 his in
+        let is : all h.2 ≡ Some h.3 = told h.2 mine ∙ ap (λ (r : Row). Some (thing_in (column r 3))) h.4 ∙ ap Some (back h.3) in
+        subst (λ (r : Row). Shows (view shown_columns r)) (sym h.4) (shows_this h.2 h.3 is)
+      where
+        at_of_his : (c : List ℕ) (n k : ℕ) (x : X) (r : Row) → r ≡ each_row c n k x → is_row_of customer number r ≡ true → is_row_at customer number k r ≡ true
+        at_of_his c n k x r is his =
+            let both = and_parts (bytes_eq c customer) (n == number) (rw is at his) in
+            let name = both.0 in
+            let num : n == number ≡ true = both.1 in
+            let own : k == k ≡ true = grind (arith, nat_tests) in
+            rw (is, name, num, own)
+
+    shows_all : (xs : List Row) → AllByRecursion (IsOne each_row) xs → AllByRecursion (λ row. (k : ℕ) → Tells k row) xs → AllByRecursion Shows (map (view shown_columns) (filter (is_row_of customer number) xs))
+    shows_all [] names told = tt
+    shows_all (x ∷ xs) names told = go (is_row_of customer number x) refl (shows_all xs names.1 told.1)
+      where
+        go : (b : Bool) → is_row_of customer number x ≡ b → AllByRecursion Shows (map (view shown_columns) (filter (is_row_of customer number) xs)) → AllByRecursion Shows (map (view shown_columns) (filter (is_row_of customer number) (x ∷ xs)))
+        go true is rest = rw is (shows_one x names.0 is told.0, rest)
+        go false is rest = rw is rest
+
+    -- each thing of the job is shown
+    shows_each : (k : ℕ) (x : X) → all k ≡ Some x → Contains (map (view shown_columns) (filter (is_row_of customer number) rows)) (Int (pos k) ∷ value x ∷ [])
+    shows_each k x is =
+        contains_map (view shown_columns) (filter (is_row_of customer number) rows) (each_row customer number k x)
+        (among (is_row_at customer number k) (is_row_of customer number) (each_row customer number k x) rows (key_yes customer number customer number refl refl) (each k ∙ ap (λ o. map (each_row customer number k) (option_to_list o)) is))
+
+    read_back : (answer : List Row) → AllByRecursion Shows answer → answer ≡ map shown (map read answer)
+    read_back [] all_shown = refl
+    read_back (x ∷ answer) all_shown = ap (λ (r : Row). let rs : List Row = r ∷ answer in rs) all_shown.0.0 ∙ ap (λ (rs : List Row). let more : List Row = shown (read x) ∷ rs in more) (read_back answer all_shown.1)
+
+    only_his : (answer : List Row) → AllByRecursion Shows answer → AllByRecursion (λ it. all (number_of it) ≡ Some (thing_of it)) (map read answer)
+    only_his [] shows = tt
+    only_his (x ∷ answer) shows = (shows.0.1, only_his answer shows.1)
+
+    -- what was read of an answer is what the job has, in some order
+    pub read_of_answer : (answer : List Row) → IsPermutation (map (view shown_columns) (filter (is_row_of customer number) rows)) answer
+        → (found : List F) × (answer ≡ map shown found) × All (λ it. all (number_of it) ≡ Some (thing_of it)) found × ((k : ℕ) (x : X) → all k ≡ Some x → Contains found (make k x))
+    read_of_answer answer same =
+        let shows = recursion_from_All Shows answer (All-permutation Shows _ answer same (all_at Shows _ (shows_all rows named of_each))) in (
+          map read answer,
+          read_back answer shows,
+          all_at _ (map read answer) (only_his answer shows),
+          λ k x is. subst (Contains (map read answer)) (ap (make k) (back x)) (contains_map read answer (Int (pos k) ∷ value x ∷ []) (Contains-permutation _ answer _ same (shows_each k x is))),
+        )
 
 pub pages_looked_up : (old new : State) (customer : List ℕ) (number : ℕ) (rows : List Row) → Shown select_pages (Text customer ∷ Int (pos number) ∷ []) old new rows
     → (t : Tables) → Holds old.now t → IsUnchanged old new × (found : List PageCells) × (rows ≡ map shown_page found) × ArePages found (t.pages customer number)
@@ -183,14 +190,33 @@ pages_looked_up old new customer number rows h t holds =
     let params : Row = Text customer ∷ Int (pos number) ∷ [] in
     let did = looks select_pages _ _ select_pages_is old new params rows holds.schema h in
     let db = old.now.trees in
+    let make : ℕ → List ℕ → PageCells = λ k storage. record { page = k; storage = storage } in
+    let named = named_jobs Blob bytes_in (λ x. refl) make (λ it. it.page) (λ it. it.storage) shown_page (λ k x. (refl, refl, refl)) (cells (db 13)) holds.pages.named in
     let kept = filter (passes is_key params) (db 13) in
-    let are : cells kept ≡ filter (is_row_of customer number) (cells (db 13)) = rows_of_key customer number [] (db 13) (named_jobs (cells (db 13)) holds.pages.named) in
-    let found = shown_cells page_columns params kept ∙ ap (map (view page_columns)) are in
-    let same = plain_answer 13 is_key (columns page_columns) params db rows refl did.1 in
-    let it = pages_of_answer customer number (t.pages customer number) (cells (db 13)) holds.pages.named (λ k. holds.pages.each customer number k) rows (subst (λ xs. IsPermutation xs rows) found same) in
-    (did.0, it.0, it.1, it.2)
+    let are : cells kept ≡ filter (is_row_of customer number) (cells (db 13)) = rows_of_key customer number [] (db 13) named in
+    let found = shown_cells shown_columns params kept ∙ ap (map (view shown_columns)) are in
+    let same = plain_answer 13 is_key (columns shown_columns) params db rows refl did.1 in
+    let it = read_of_answer Blob bytes_in (λ x. refl) make (λ it. it.page) (λ it. it.storage) shown_page (λ k x. (refl, refl, refl)) customer number (t.pages customer number) (cells (db 13)) holds.pages.named (holds.pages.each customer number) rows (subst (λ xs. IsPermutation xs rows) found same) in
+    (did.0, it.0, it.1, record { only = it.2; all = it.3 })
 
--- ---- why it fails
+pub pockets_looked_up : (old new : State) (customer : List ℕ) (number : ℕ) (rows : List Row) → Shown select_pockets (Text customer ∷ Int (pos number) ∷ []) old new rows
+    → (t : Tables) → Holds old.now t → IsUnchanged old new × (found : List PocketRow) × (rows ≡ map shown_pocket found) × ArePockets found (t.pockets customer number)
+pockets_looked_up old new customer number rows h t holds =
+    let params : Row = Text customer ∷ Int (pos number) ∷ [] in
+    let did = looks select_pockets _ _ select_pockets_is old new params rows holds.schema h in
+    let db = old.now.trees in
+    let is = holds.beside.pockets_are in
+    let value : ℕ → Value = λ p. Int (pos p) in
+    let make : ℕ → ℕ → PocketRow = λ k pocket. record { place = k; pocket = pocket } in
+    let named = named_jobs value nat_in (λ x. refl) make (λ it. it.place) (λ it. it.pocket) shown_pocket (λ k x. (refl, refl, refl)) (cells (db 17)) is.named in
+    let kept = filter (passes is_key params) (db 17) in
+    let are : cells kept ≡ filter (is_row_of customer number) (cells (db 17)) = rows_of_key customer number [] (db 17) named in
+    let found = shown_cells shown_columns params kept ∙ ap (map (view shown_columns)) are in
+    let same = plain_answer 17 is_key (columns shown_columns) params db rows refl did.1 in
+    let it = read_of_answer value nat_in (λ x. refl) make (λ it. it.place) (λ it. it.pocket) shown_pocket (λ k x. (refl, refl, refl)) customer number (t.pockets customer number) (cells (db 17)) is.named (is.each customer number) rows (subst (λ xs. IsPermutation xs rows) found same) in
+    (did.0, it.0, it.1, record { only = it.2; all = it.3 })
+
+-- ---- why they fail
 
 pages_whole : IsWhole 2 select_pages (understood bureau_schema select_pages)
 unfolding understood everything
@@ -213,3 +239,25 @@ pages_blamed old new customer number t has ready (inl h) = refused select_pages 
 pages_blamed old new customer number t has ready (inr none) =
     let looked = pages_looked_up old new customer number none.0 none.1 t (has (shown_opened old new select_pages _ none.0 none.1)) in
     absurd (none.2 looked.1 (can_read looked.1 (λ k d less. ready _ _ (looked.3.only k d less))) looked.2)
+
+pockets_whole : IsWhole 2 select_pockets (understood bureau_schema select_pockets)
+unfolding understood everything
+pockets_whole = (omega arith, refl)
+
+pockets_calm : (customer : List ℕ) (number : ℕ) → IsCalm (plain_query 17 is_key pocket_terms) (Text customer ∷ Int (pos number) ∷ [])
+pockets_calm customer number limit db e has (inl typed) = absurd (let no = rw has at typed.1 in cc)
+pockets_calm customer number limit db e has (inr (inl over)) = elim over.1 [ inl none ↦ absurd none | inr some ↦ absurd some.4 ]
+pockets_calm customer number limit db e has (inr (inr stopped)) = stopped.1
+
+can_read_pockets : (found : List PocketRow) → All (λ (it : PocketRow). (it.place < 2 ^ 32) × (it.pocket < 2 ^ 32)) found → CanRead shown_pocket found
+can_read_pockets [] all = tt
+can_read_pockets (it ∷ found) all =
+    let h = recursion_from_All (λ (it : PocketRow). (it.place < 2 ^ 32) × (it.pocket < 2 ^ 32)) (it ∷ found) all in
+    ((h.0.0, (h.0.1, tt)), can_read_pockets found (all_at (λ (it : PocketRow). (it.place < 2 ^ 32) × (it.pocket < 2 ^ 32)) found h.1))
+
+pub pockets_blamed : (old new : State) (customer : List ℕ) (number : ℕ) (t : Tables) → (IsTrue old.is_open → Holds old.now t) → HavePocketNumbers (t.pockets customer number)
+    → Refuses select_pockets (Text customer ∷ Int (pos number) ∷ []) old new ⊎ ShowsNone shown_pocket select_pockets (Text customer ∷ Int (pos number) ∷ []) old new → HasFailed old new
+pockets_blamed old new customer number t has ready (inl h) = refused select_pockets _ _ select_pockets_is 2 pockets_whole (Text customer ∷ Int (pos number) ∷ []) refl (pockets_calm customer number) old new t has h
+pockets_blamed old new customer number t has ready (inr none) =
+    let looked = pockets_looked_up old new customer number none.0 none.1 t (has (shown_opened old new select_pockets _ none.0 none.1)) in
+    absurd (none.2 looked.1 (can_read_pockets looked.1 (λ k d less. ready _ _ (looked.3.only k d less))) looked.2)

@@ -1,6 +1,7 @@
 -- What the statements on the table of pages do.
 use Rattle.std.proofs.Common.{◌≡◌, ◌≢◌, ◌⊎◌, inl, inr, ℕ, ℤ, pos, List, [], ◌∷◌, ◌++◌, map, drop, filter, slice_get, cond, Bool, true, false, not, ◌&&◌, ◌==◌, bytes_eq, if◌then◌else◌, Option, Some, None, Ok, Less, Equal, refl, sym, ap, subst, ◌∙◌, arith, append-nil, true≢false}
 use Rattle.std.specs.List.{AllByRecursion}
+use Rattle.std.specs.Option.{option_to_list}
 use Rattle.std.specs.List.Sorted.{IsPermutation}
 use Rattle.std.proofs.lemmas.List.Sorted.{length_permutation}
 use Rattle.std.proofs.Math.Path.{fun_ext}
@@ -33,17 +34,17 @@ use Rattle.sqlite_trees.proofs.TreeLemmas.{IsShaped-filter}
 use Rattle.sqlite_trees.proofs.ListLemmas.{all-filter}
 use Rattle.sqlite_value.proofs.OrderLemmas.{value_cmp_total}
 use Rattle.ledger_tables.specs.Cells.{Pages}
-use Rattle.ledger_tables.specs.Schema.{bureau_schema, raising_schema, pages}
-use Rattle.ledger_tables.specs.Tables.{Beside, ByJob, Tables, HoldsAs, IsOfPages, NamesPage, at_job, at_page, cells, is_page_of, page_row, page_rows, with_page}
+use Rattle.ledger_tables.specs.Schema.{pages}
+use Rattle.ledger_tables.specs.Tables.{Beside, ByJob, Tables, HoldsAs, IsOfEach, IsOfPages, IsOne, at_job, at_page, at_place, cells, is_row_at, page_row, schema_beside, with_page, pictured, paged, profiled, complete}
 use Rattle.ledger_tables.proofs.InsertStatement.{Means, adds, apart, cast_int, cast_null, went, same_value}
 use Rattle.ledger_tables.proofs.InsertPlaces.{next_cells, next_shaped}
-use Rattle.ledger_tables.proofs.InsertLast.{still, still_shared, shared_with, name_is, name_yes, all_push}
+use Rattle.ledger_tables.proofs.InsertLast.{still, still_profiles, still_shared, shared_with, name_is, name_yes, all_push}
 use Rattle.ledger_tables.proofs.LookupStatement.{passes, show, plain_query, plain_answer}
 use Rattle.ledger_tables.proofs.LookupKeys.{place_passes, kept_cells, each_test}
-use Rattle.ledger_tables.proofs.ReadTexts.{is_place, delete_pages, delete_pages_is, delete_pages_beside}
-use Rattle.ledger_tables.proofs.Texts.{insert_pages, insert_pages_is, insert_pages_beside}
+use Rattle.ledger_tables.proofs.ReadTexts.{is_place, delete_pages, delete_pages_is}
+use Rattle.ledger_tables.proofs.Texts.{insert_pages, insert_pages_is, place_of_pages}
 use Rattle.ledger_tables.proofs.UpdateRows.{kept_after, only_row}
-use Rattle.ledger_tables.proofs.UpdateStatements.{idle_here, idle_beside, on_cells, blind_place}
+use Rattle.ledger_tables.proofs.UpdateStatements.{idle_beside, on_cells, blind_place}
 
 -- ---- a DELETE
 
@@ -121,44 +122,44 @@ pub all_left : {X : Type 0} (P : X → Type 0) (p : X → Bool) (xs : List X) �
 all_left P p [] all = tt
 all_left P p (x ∷ xs) all = elim (p x) as (λ b. AllByRecursion P (cond b (x ∷ filter p xs) (filter p xs))) [ true ↦ (all.0, all_left P p xs all.1) | false ↦ all_left P p xs all.1 ]
 
-no_rows : (rows : List Row) → cells rows ≡ [] → rows ≡ []
+pub no_rows : (rows : List Row) → cells rows ≡ [] → rows ≡ []
 no_rows [] h = refl
 no_rows (r ∷ rows) h = absurd (let e = h in cc)
 
-no_more_rows : (rows : List Row) → IsPermutation [] rows → rows ≡ []
+pub no_more_rows : (rows : List Row) → IsPermutation [] rows → rows ≡ []
 no_more_rows [] same = refl
 no_more_rows (r ∷ rows) same = absurd (omega (arith, length_permutation [] (r ∷ rows) same))
 
--- ---- rows of pages
+-- ---- rows of pages, and of cards
 
--- the name of a page is tested by its job's customer and number, and by its own number
-page_is : (customer c : List ℕ) (number n page k : ℕ) → (bytes_eq customer c && ((number == n) && (page == k))) ≡ true → (customer ≡ c) × (number ≡ n) × (page ≡ k)
-page_is customer c number n page k h =
-    let both = and_parts (bytes_eq customer c) ((number == n) && (page == k)) h in
-    let two = and_parts (number == n) (page == k) both.1 in
+-- they are tested by their job's customer and number, and by their own number
+each_is : (customer c : List ℕ) (number n place k : ℕ) → (bytes_eq customer c && ((number == n) && (place == k))) ≡ true → (customer ≡ c) × (number ≡ n) × (place ≡ k)
+each_is customer c number n place k h =
+    let both = and_parts (bytes_eq customer c) ((number == n) && (place == k)) h in
+    let two = and_parts (number == n) (place == k) both.1 in
     let one : number == n ≡ true = two.0 in
-    let place : page == k ≡ true = two.1 in
+    let last : place == k ≡ true = two.1 in
     ((bytes_eq-Decides customer c).0 both.0, grind (arith, nat_tests), grind (arith, nat_tests))
 
-page_yes : (customer c : List ℕ) (number n page k : ℕ) → customer ≡ c → number ≡ n → page ≡ k → (bytes_eq customer c && ((number == n) && (page == k))) ≡ true
-page_yes customer c number n page k same same_number same_page =
+each_yes : (customer c : List ℕ) (number n place k : ℕ) → customer ≡ c → number ≡ n → place ≡ k → (bytes_eq customer c && ((number == n) && (place == k))) ≡ true
+each_yes customer c number n place k same same_number same_place =
     let one = (bytes_eq-Decides customer c).1 same in
     let two : number == n ≡ true = grind (arith, nat_tests) in
-    let three : page == k ≡ true = grind (arith, nat_tests) in
+    let three : place == k ≡ true = grind (arith, nat_tests) in
     rw (one, two, three)
 
--- what there is of each page, where it is told of one page and of the others
-pub by_page : (customer : List ℕ) (number page : ℕ) (here : Option (List ℕ)) (all : ByJob Pages) (R : (c : List ℕ) (n k : ℕ) → Option (List ℕ) → Type 0)
-    → R customer number page here → ((c : List ℕ) (n k : ℕ) → (bytes_eq customer c && ((number == n) && (page == k))) ≡ false → R c n k (all c n k))
-    → (c : List ℕ) (n k : ℕ) → R c n k (at_job customer number (at_page page here (all customer number)) all c n k)
-by_page customer number page here all R yes_here elsewhere c n k = go (bytes_eq customer c && (number == n)) refl
+-- what there is at each place, where it is told of one place and of the others
+pub by_place : {X : Type 0} (customer : List ℕ) (number place : ℕ) (here : Option X) (all : ByJob (ℕ → Option X)) (R : (c : List ℕ) (n k : ℕ) → Option X → Type 0)
+    → R customer number place here → ((c : List ℕ) (n k : ℕ) → (bytes_eq customer c && ((number == n) && (place == k))) ≡ false → R c n k (all c n k))
+    → (c : List ℕ) (n k : ℕ) → R c n k (at_job customer number (at_place place here (all customer number)) all c n k)
+by_place customer number place here all R yes_here elsewhere c n k = go (bytes_eq customer c && (number == n)) refl
   where
-    inside : (customer ≡ c) → (number ≡ n) → (b : Bool) → page == k ≡ b → R c n k (if b then here else all customer number k)
+    inside : (customer ≡ c) → (number ≡ n) → (b : Bool) → place == k ≡ b → R c n k (if b then here else all customer number k)
     inside one two true is =
-        let three : page ≡ k = grind (arith, nat_tests) in
+        let three : place ≡ k = grind (arith, nat_tests) in
         subst (λ x. R x n k here) one (subst (λ m. R customer m k here) two (subst (λ j. R customer number j here) three yes_here))
     inside one two false is =
-        let other : (bytes_eq customer c && ((number == n) && (page == k))) ≡ false = both_false (bytes_eq customer c) (number == n) (page == k) is in
+        let other : (bytes_eq customer c && ((number == n) && (place == k))) ≡ false = both_false (bytes_eq customer c) (number == n) (place == k) is in
         subst (λ x. R c n k (all x number k)) (sym one) (subst (λ m. R c n k (all c m k)) (sym two) (elsewhere c n k other))
       where
         both_false : (a b d : Bool) → d ≡ false → (a && (b && d)) ≡ false
@@ -171,58 +172,89 @@ by_page customer number page here all R yes_here elsewhere c n k = go (bytes_eq 
     apart_job true false d h = refl
     apart_job false b d h = refl
 
-    go : (b : Bool) → (bytes_eq customer c && (number == n)) ≡ b → R c n k ((if b then at_page page here (all customer number) else all c n) k)
-    go true is = let name = name_is customer c number n is in inside name.0 name.1 (page == k) refl
-    go false is = elsewhere c n k (apart_job (bytes_eq customer c) (number == n) (page == k) is)
+    go : (b : Bool) → (bytes_eq customer c && (number == n)) ≡ b → R c n k ((if b then at_place place here (all customer number) else all c n) k)
+    go true is = let name = name_is customer c number n is in inside name.0 name.1 (place == k) refl
+    go false is = elsewhere c n k (apart_job (bytes_eq customer c) (number == n) (place == k) is)
 
--- ---- one page more
+-- ---- one row more
 
-module _ (customer : List ℕ) (number page : ℕ) (storage : List ℕ) where
-  abbrev row : Row
-  row = page_row customer number page storage
+-- rows with these columns after the names of a job and of a page or a card
+module _ {X : Type 0} (columns : X → Row) where
+  abbrev pub keyed_row : List ℕ → ℕ → ℕ → X → Row
+  keyed_row customer number place it = Text customer ∷ Int (pos number) ∷ Int (pos place) ∷ columns it
 
-  -- the rows of the pages with this one behind them
-  one_behind : (rows news : List Row) (all : ByJob Pages) → IsOfPages rows all → all customer number page ≡ None → news ≡ put_row (Int (next_rowid rows) ∷ row) rows
-      → IsOfPages news (at_job customer number (at_page page (Some storage) (all customer number)) all)
-  one_behind rows news all is none now =
+  -- the rows of a table with this one behind them
+  pub put_behind : (customer : List ℕ) (number place : ℕ) (it : X) (rows news : List Row) (all : ByJob (ℕ → Option X)) → IsOfEach keyed_row rows all → all customer number place ≡ None
+      → news ≡ put_row (Int (next_rowid rows) ∷ keyed_row customer number place it) rows → IsOfEach keyed_row news (at_job customer number (at_place place (Some it) (all customer number)) all)
+  put_behind customer number place it rows news all is none now =
+      let row : Row = keyed_row customer number place it in
       let are : cells news ≡ cells rows ++ row ∷ [] = ap cells now ∙ next_cells row rows is.rise in
-      let own : (bytes_eq customer customer && ((number == number) && (page == page))) ≡ true = page_yes customer customer number number page page refl refl refl in
-      let R : (c : List ℕ) (n k : ℕ) → Option (List ℕ) → Type 0 = λ c n k o. filter (is_page_of c n k) (cells rows) ++ filter (is_page_of c n k) (row ∷ []) ≡ page_rows c n k o in
-      let here : R customer number page (Some storage) = ap (λ xs. xs ++ filter (is_page_of customer number page) (row ∷ [])) (is.each customer number page ∙ ap (page_rows customer number page) none) ∙ rw own in
-      let elsewhere : (c : List ℕ) (n k : ℕ) → (bytes_eq customer c && ((number == n) && (page == k))) ≡ false → R c n k (all c n k) = λ c n k other.
-      rw other (append-nil (filter (is_page_of c n k) (cells rows)) ∙ is.each c n k) in
+      let own : (bytes_eq customer customer && ((number == number) && (place == place))) ≡ true = each_yes customer customer number number place place refl refl refl in
+      let R : (c : List ℕ) (n k : ℕ) → Option X → Type 0 = λ c n k o. filter (is_row_at c n k) (cells rows) ++ filter (is_row_at c n k) (row ∷ []) ≡ map (keyed_row c n k) (option_to_list o) in
+      let here : R customer number place (Some it) = ap (λ xs. xs ++ filter (is_row_at customer number place) (row ∷ [])) (is.each customer number place ∙ ap (λ o. map (keyed_row customer number place) (option_to_list o)) none) ∙ rw own in
+      let elsewhere : (c : List ℕ) (n k : ℕ) → (bytes_eq customer c && ((number == n) && (place == k))) ≡ false → R c n k (all c n k) = λ c n k other.
+      rw other (append-nil (filter (is_row_at c n k) (cells rows)) ∙ is.each c n k) in
       record {
-        each = λ c n k. ap (filter (is_page_of c n k)) are ∙ filter-append (is_page_of c n k) (cells rows) (row ∷ []) ∙ by_page customer number page (Some storage) all R here elsewhere c n k;
-        named = subst (AllByRecursion NamesPage) (sym are) (all_push NamesPage (cells rows) row is.named (customer, number, page, storage, refl));
+        each = λ c n k. ap (filter (is_row_at c n k)) are ∙ filter-append (is_row_at c n k) (cells rows) (row ∷ []) ∙ by_place customer number place (Some it) all R here elsewhere c n k;
+        named = subst (AllByRecursion (IsOne keyed_row)) (sym are) (all_push (IsOne keyed_row) (cells rows) row is.named (customer, number, place, it, refl));
         rise = subst (IsShaped Rising) (sym now) (next_shaped row rows is.rise);
       }
 
-  pub page_added : (old new : State) (count : ℕ) → ExecutesInside 0 insert_pages (page_row customer number page storage) old new (Ok count)
-      → (beside : Beside) (version : ℕ) (t : Tables) → HoldsAs beside version old.now t → t.pages customer number page ≡ None → HoldsAs beside version new.now (with_page customer number page (Some storage) t)
-  page_added old new count h None version t holds none =
-      let did = adds bureau_schema insert_pages 6 (record pages { tree = 13 }) (lit Null ∷ col 0 0 ∷ col 0 1 ∷ col 0 2 ∷ col 0 3 ∷ []) 5 insert_pages_is refl old new row count holds.schema h.0 in
-      let now : new.now.trees 13 ≡ put_row (Int (next_rowid (old.now.trees 13)) ∷ row) (old.now.trees 13) = did.1 ∙ simp (cast_null, cast_int) in
-      record {
-        schema = did.0;
-        sound = did.3;
-        version = did.2.0 (apart refl) ∙ holds.version;
-        shared = shared_with _ _ (still_shared holds.shared (did.2.1.0 (apart refl)) (did.2.1.1.0 (apart refl)) (did.2.1.1.1.0 (apart refl)) (did.2.1.1.1.1.0 (apart refl)));
-        states = still (did.2.1.1.1.1.1.0 (apart refl)) holds.states;
-        pages = one_behind (old.now.trees 13) (new.now.trees 13) t.pages holds.pages none now;
-        beside = tt;
-      }
-  page_added old new count h (Some storages) version t holds none =
-      let did = adds raising_schema insert_pages 7 (record pages { tree = 13 }) (lit Null ∷ col 0 0 ∷ col 0 1 ∷ col 0 2 ∷ col 0 3 ∷ []) 5 insert_pages_beside refl old new row count holds.schema h.0 in
-      let now : new.now.trees 13 ≡ put_row (Int (next_rowid (old.now.trees 13)) ∷ row) (old.now.trees 13) = did.1 ∙ simp (cast_null, cast_int) in
-      record {
-        schema = did.0;
-        sound = did.3;
-        version = did.2.0 (apart refl) ∙ holds.version;
-        shared = shared_with _ _ (still_shared holds.shared (did.2.1.0 (apart refl)) (did.2.1.1.0 (apart refl)) (did.2.1.1.1.1.0 (apart refl)) (did.2.1.1.1.1.1.0 (apart refl)));
-        states = still (did.2.1.1.1.1.1.1.0 (apart refl)) holds.states;
-        pages = one_behind (old.now.trees 13) (new.now.trees 13) t.pages holds.pages none now;
-        beside = still (did.2.1.1.1.0 (apart refl)) holds.beside;
-      }
+-- ---- pages, whatever there is beside them
+
+-- where the rows of pages alone change
+pub pages_alone : (there : Beside) (version : ℕ) (old new : Database) (t : Tables) (all : ByJob Pages) → HoldsAs there version old t → new.schema ≡ schema_beside there → IsDatabase new
+    → AllByRecursion (λ s. s.tree ≢ 13 → new.trees s.tree ≡ old.trees s.tree) (schema_beside there).tables → IsOfPages (new.trees 13) all → HoldsAs there version new (record t { pages = all })
+pages_alone (pictured storages) version old new t all holds schema sound others are = record {
+  schema = schema;
+  sound = sound;
+  version = others.0 (apart refl) ∙ holds.version;
+  shared = shared_with _ _ _ _ (still_shared holds.shared (others.1.0 (apart refl)) (others.1.1.0 (apart refl)) (others.1.1.1.1.0 (apart refl)) (others.1.1.1.1.1.0 (apart refl)));
+  states = still (others.1.1.1.1.1.1.0 (apart refl)) holds.states;
+  pages = are;
+  beside = still (others.1.1.1.0 (apart refl)) holds.beside;
+}
+pages_alone paged version old new t all holds schema sound others are = record {
+  schema = schema;
+  sound = sound;
+  version = others.0 (apart refl) ∙ holds.version;
+  shared = shared_with _ _ _ _ (still_shared holds.shared (others.1.0 (apart refl)) (others.1.1.0 (apart refl)) (others.1.1.1.0 (apart refl)) (others.1.1.1.1.0 (apart refl)));
+  states = still (others.1.1.1.1.1.0 (apart refl)) holds.states;
+  pages = are;
+  beside = tt;
+}
+pages_alone profiled version old new t all holds schema sound others are = record {
+  schema = schema;
+  sound = sound;
+  version = others.0 (apart refl) ∙ holds.version;
+  shared = shared_with _ _ _ _ (still_shared holds.shared (others.1.0 (apart refl)) (others.1.1.0 (apart refl)) (others.1.1.1.0 (apart refl)) (others.1.1.1.1.0 (apart refl)));
+  states = still (others.1.1.1.1.1.0 (apart refl)) holds.states;
+  pages = are;
+  beside = others.1.1.1.1.1.1.1.0 (apart refl) ∙ holds.beside;
+}
+pages_alone complete version old new t all holds schema sound others are = record {
+  schema = schema;
+  sound = sound;
+  version = others.0 (apart refl) ∙ holds.version;
+  shared = shared_with _ _ _ _ (still_shared holds.shared (others.1.0 (apart refl)) (others.1.1.0 (apart refl)) (others.1.1.1.0 (apart refl)) (others.1.1.1.1.0 (apart refl)));
+  states = still (others.1.1.1.1.1.0 (apart refl)) holds.states;
+  pages = are;
+  beside = still_profiles holds.beside (others.1.1.1.1.1.1.1.0 (apart refl)) (others.1.1.1.1.1.1.1.1.0 (apart refl));
+}
+
+pages_there : (there : Beside) → slice_get (schema_beside there).tables (place_of_pages there) ≡ Some (record pages { tree = 13 })
+pages_there (pictured storages) = refl
+pages_there paged = refl
+pages_there profiled = refl
+pages_there complete = refl
+
+pub page_added : (customer : List ℕ) (number page : ℕ) (storage : List ℕ) (old new : State) (count : ℕ) → ExecutesInside 0 insert_pages (page_row customer number page storage) old new (Ok count)
+    → (there : Beside) (version : ℕ) (t : Tables) → HoldsAs there version old.now t → t.pages customer number page ≡ None → HoldsAs there version new.now (with_page customer number page (Some storage) t)
+page_added customer number page storage old new count h there version t holds none =
+    let row : Row = page_row customer number page storage in
+    let did = adds (schema_beside there) insert_pages (place_of_pages there) (record pages { tree = 13 }) (lit Null ∷ col 0 0 ∷ col 0 1 ∷ col 0 2 ∷ col 0 3 ∷ []) 5 (insert_pages_is there) (pages_there there) old new row count holds.schema h.0 in
+    let now : new.now.trees 13 ≡ put_row (Int (next_rowid (old.now.trees 13)) ∷ row) (old.now.trees 13) = did.1 ∙ simp (cast_null, cast_int) in
+    pages_alone there version old.now new.now t _ holds did.0 did.3 did.2 (put_behind (λ (bytes : List ℕ). Blob bytes ∷ []) customer number page storage (old.now.trees 13) (new.now.trees 13) t.pages holds.pages none now)
 
 -- ---- one page less
 
@@ -234,41 +266,37 @@ module _ (customer : List ℕ) (number page : ℕ) where
   of_page = on_cells is_place page_params
 
   -- the test is that of the page's name
-  page_passes : (row : Row) → NamesPage row → of_page row ≡ is_page_of customer number page row
+  page_passes : (row : Row) → IsOne page_row row → of_page row ≡ is_row_at customer number page row
   page_passes row h = rw h.4 (place_passes Null h.0 h.1 h.2 (Blob h.3 ∷ []) customer number page [])
-
-  all_pass : (rows : List Row) → AllByRecursion NamesPage rows → AllByRecursion (λ row. of_page row ≡ is_page_of customer number page row) rows
-  all_pass [] named = tt
-  all_pass (row ∷ rows) named = (page_passes row named.0, all_pass rows named.1)
 
   -- the rows of other pages are left
   module _ (c : List ℕ) (n k : ℕ) where
-    none_of_it : (rows : List Row) → AllByRecursion NamesPage rows → customer ≡ c → number ≡ n → page ≡ k → filter (is_page_of c n k) (left of_page rows) ≡ []
+    none_of_it : (rows : List Row) → AllByRecursion (IsOne page_row) rows → customer ≡ c → number ≡ n → page ≡ k → filter (is_row_at c n k) (left of_page rows) ≡ []
     none_of_it [] named one two three = refl
     none_of_it (row ∷ rows) named one two three = go (of_page row) refl (none_of_it rows named.1 one two three)
       where
-        go : (b : Bool) → of_page row ≡ b → filter (is_page_of c n k) (left of_page rows) ≡ [] → filter (is_page_of c n k) (left of_page (row ∷ rows)) ≡ []
+        go : (b : Bool) → of_page row ≡ b → filter (is_row_at c n k) (left of_page rows) ≡ [] → filter (is_row_at c n k) (left of_page (row ∷ rows)) ≡ []
         go true is rest = rw is rest
         go false is rest =
-            let out : is_page_of customer number page row ≡ false = sym (page_passes row named.0) ∙ is in
-            let here : is_page_of c n k row ≡ false = subst (λ x. is_page_of x n k row ≡ false) one (subst (λ m. is_page_of customer m k row ≡ false) two (subst (λ j. is_page_of customer number j row ≡ false) three out)) in
+            let out : is_row_at customer number page row ≡ false = sym (page_passes row named.0) ∙ is in
+            let here : is_row_at c n k row ≡ false = subst (λ x. is_row_at x n k row ≡ false) one (subst (λ m. is_row_at customer m k row ≡ false) two (subst (λ j. is_row_at customer number j row ≡ false) three out)) in
             rw (is, here) rest
 
-    others_stay : (rows : List Row) → AllByRecursion NamesPage rows → (bytes_eq customer c && ((number == n) && (page == k))) ≡ false → filter (is_page_of c n k) (left of_page rows) ≡ filter (is_page_of c n k) rows
+    others_stay : (rows : List Row) → AllByRecursion (IsOne page_row) rows → (bytes_eq customer c && ((number == n) && (page == k))) ≡ false → filter (is_row_at c n k) (left of_page rows) ≡ filter (is_row_at c n k) rows
     others_stay [] named other = refl
     others_stay (row ∷ rows) named other = go (of_page row) refl (others_stay rows named.1 other)
       where
-        go : (b : Bool) → of_page row ≡ b → filter (is_page_of c n k) (left of_page rows) ≡ filter (is_page_of c n k) rows → filter (is_page_of c n k) (left of_page (row ∷ rows)) ≡ filter (is_page_of c n k) (row ∷ rows)
+        go : (b : Bool) → of_page row ≡ b → filter (is_row_at c n k) (left of_page rows) ≡ filter (is_row_at c n k) rows → filter (is_row_at c n k) (left of_page (row ∷ rows)) ≡ filter (is_row_at c n k) (row ∷ rows)
         go true is rest =
             let it = named.0 in
             let mine : (bytes_eq it.0 customer && ((it.1 == number) && (it.2 == page))) ≡ true = rw it.4 at (sym (page_passes row it) ∙ is) in
-            let name = page_is it.0 customer it.1 number it.2 page mine in
+            let name = each_is it.0 customer it.1 number it.2 page mine in
             let out : (bytes_eq it.0 c && ((it.1 == n) && (it.2 == k))) ≡ false = rw (name.0, name.1, name.2) other in
             rw (is, it.4, out) rest
-        go false is rest = rw is (ap (λ xs. cond (is_page_of c n k row) (row ∷ xs) xs) rest)
+        go false is rest = rw is (ap (λ xs. cond (is_row_at c n k row) (row ∷ xs) xs) rest)
 
   -- what is left of the table, where the page had a row or none
-  removed : (o : Option (List ℕ)) (db : Trees) (rows : List Row) → IsShaped Rising (db 13) → cells (filter (passes is_place page_params) (db 13)) ≡ page_rows customer number page o
+  removed : (o : Option (List ℕ)) (db : Trees) (rows : List Row) → IsShaped Rising (db 13) → cells (filter (passes is_place page_params) (db 13)) ≡ map (page_row customer number page) (option_to_list o)
       → IsPermutation (map (show (col 1 0 ∷ []) page_params) (filter (passes is_place page_params) (db 13))) rows
       → (cells (edited db (edit_of db (record pages { tree = 13 }) (ids_of rows) Given 0 [])) ≡ left of_page (cells (db 13))) × IsShaped Rising (edited db (edit_of db (record pages { tree = 13 }) (ids_of rows) Given 0 []))
   removed None db rows shaped found some =
@@ -285,49 +313,27 @@ module _ (customer : List ℕ) (number page : ℕ) where
       → IsPermutation (map (show (col 1 0 ∷ []) page_params) (filter (passes is_place page_params) (db 13))) rows
       → IsOfPages (new 13) (at_job customer number (at_page page None (all customer number)) all)
   one_less db new all rows is tree some =
-      let found : cells (filter (passes is_place page_params) (db 13)) ≡ page_rows customer number page (all customer number page) =
-      kept_cells (passes is_place page_params) (is_page_of customer number page) (db 13)
-      (each_test NamesPage (passes is_place page_params) (is_page_of customer number page) (λ r named. blind_place page_params r ∙ page_passes (drop 1 r) named) (db 13) is.named)
+      let found : cells (filter (passes is_place page_params) (db 13)) ≡ map (page_row customer number page) (option_to_list (all customer number page)) =
+      kept_cells (passes is_place page_params) (is_row_at customer number page) (db 13)
+      (each_test (IsOne page_row) (passes is_place page_params) (is_row_at customer number page) (λ r named. blind_place page_params r ∙ page_passes (drop 1 r) named) (db 13) is.named)
       ∙ is.each customer number page in
       let are = removed (all customer number page) db rows is.rise found some in
       let now : cells (new 13) ≡ left of_page (cells (db 13)) = ap cells tree ∙ are.0 in
       record {
-        each = λ c n k. ap (filter (is_page_of c n k)) now
-            ∙ by_page customer number page None all (λ c n k o. filter (is_page_of c n k) (left of_page (cells (db 13))) ≡ page_rows c n k o)
+        each = λ c n k. ap (filter (is_row_at c n k)) now
+            ∙ by_place customer number page None all (λ c n k o. filter (is_row_at c n k) (left of_page (cells (db 13))) ≡ map (page_row c n k) (option_to_list o))
             (none_of_it customer number page (cells (db 13)) is.named refl refl refl)
             (λ c n k other. others_stay c n k (cells (db 13)) is.named other ∙ is.each c n k) c n k;
-        named = subst (AllByRecursion NamesPage) (sym now) (all_left NamesPage (λ row. not (of_page row)) (cells (db 13)) is.named);
+        named = subst (AllByRecursion (IsOne page_row)) (sym now) (all_left (IsOne page_row) (λ row. not (of_page row)) (cells (db 13)) is.named);
         rise = subst (IsShaped Rising) (sym tree) are.1;
       }
 
   pub page_removed : (old new : State) (count : ℕ) → ExecutesInside 0 delete_pages (Text customer ∷ Int (pos number) ∷ Int (pos page) ∷ []) old new (Ok count)
-      → (beside : Beside) (version : ℕ) (t : Tables) → HoldsAs beside version old.now t → HoldsAs beside version new.now (with_page customer number page None t)
-  page_removed old new count h None version t holds =
-      let did = deletes bureau_schema delete_pages 6 (record pages { tree = 13 }) is_place (col 1 0 ∷ []) delete_pages_is refl (idle_here 13) old new page_params count holds.schema h.0 in
+      → (there : Beside) (version : ℕ) (t : Tables) → HoldsAs there version old.now t → HoldsAs there version new.now (with_page customer number page None t)
+  page_removed old new count h there version t holds =
+      let did = deletes (schema_beside there) delete_pages (place_of_pages there) (record pages { tree = 13 }) is_place (col 1 0 ∷ []) (delete_pages_is there) (pages_there there) (idle_beside there 13) old new page_params count holds.schema h.0 in
       let some = plain_answer 13 is_place (col 1 0 ∷ []) page_params old.now.trees did.0 refl did.1.answer in
-      let others = did.4 in
-      record {
-        schema = did.2;
-        sound = did.5;
-        version = others.0 (apart refl) ∙ holds.version;
-        shared = shared_with _ _ (still_shared holds.shared (others.1.0 (apart refl)) (others.1.1.0 (apart refl)) (others.1.1.1.0 (apart refl)) (others.1.1.1.1.0 (apart refl)));
-        states = still (others.1.1.1.1.1.0 (apart refl)) holds.states;
-        pages = one_less old.now.trees new.now.trees t.pages did.0 holds.pages did.3 some;
-        beside = tt;
-      }
-  page_removed old new count h (Some storages) version t holds =
-      let did = deletes raising_schema delete_pages 7 (record pages { tree = 13 }) is_place (col 1 0 ∷ []) delete_pages_beside refl (idle_beside 13) old new page_params count holds.schema h.0 in
-      let some = plain_answer 13 is_place (col 1 0 ∷ []) page_params old.now.trees did.0 refl did.1.answer in
-      let others = did.4 in
-      record {
-        schema = did.2;
-        sound = did.5;
-        version = others.0 (apart refl) ∙ holds.version;
-        shared = shared_with _ _ (still_shared holds.shared (others.1.0 (apart refl)) (others.1.1.0 (apart refl)) (others.1.1.1.1.0 (apart refl)) (others.1.1.1.1.1.0 (apart refl)));
-        states = still (others.1.1.1.1.1.1.0 (apart refl)) holds.states;
-        pages = one_less old.now.trees new.now.trees t.pages did.0 holds.pages did.3 some;
-        beside = still (others.1.1.1.0 (apart refl)) holds.beside;
-      }
+      pages_alone there version old.now new.now t _ holds did.2 did.5 did.4 (one_less old.now.trees new.now.trees t.pages did.0 holds.pages did.3 some)
 
 -- ---- a page less, and then the page anew
 

@@ -1,13 +1,15 @@
 -- What the statements do that make the tables of an earlier version those of this one.
-use Rattle.std.proofs.Common.{◌≡◌, ◌≢◌, inl, inr, ℕ, pos, List, [], ◌∷◌, ◌++◌, length, map, drop, filter, replicate, slice_get, codes, Bool, true, false, cond, ◌&&◌, ◌==◌, bytes_eq, Option, Some, None, IsTrue, Ok, Less, refl, sym, ap, subst, ◌∙◌, append-nil, append_assoc}
+use Rattle.std.proofs.Common.{◌≡◌, ◌≢◌, ℕ, pos, List, [], ◌∷◌, ◌++◌, map, drop, filter, replicate, slice_get, codes, Bool, true, false, Option, Some, None, IsTrue, Ok, Less, refl, sym, ap, subst, ◌∙◌, append-nil, append_assoc}
 use Rattle.std.specs.List.{AllByRecursion}
 use Rattle.std.specs.List.Sorted.{IsPermutation}
 use Rattle.std.specs.Option.{option_map, option_to_list}
 use Rattle.std.proofs.lemmas.Cmp.{tied_itself}
+use Rattle.std.proofs.lemmas.List.Elements.{filter-append}
 use Rattle.sqlite_value.proofs.OrderLemmas.{value_cmp_total}
-use Rattle.sqlite.specs.declared.types.Value.TheVariants.{Null, Int, Text, Blob}
-use Rattle.sqlite.specs.Order.{Row, column, value_cmp}
+use Rattle.sqlite.specs.declared.types.Value.TheVariants.{Null, Int, Text}
+use Rattle.sqlite.specs.Order.{Row, value_cmp}
 use Rattle.sqlite.specs.Program.{overlay}
+use Rattle.sqlite.specs.Collation.{Collation}
 use Rattle.sqlite.specs.Collation.TheVariants.{Binary}
 use Rattle.sqlite.specs.Cast.{cast, cast_row}
 use Rattle.sqlite.specs.Kind.TheVariants.{Integer}
@@ -33,23 +35,23 @@ use Rattle.sqlite_rules.proofs.ActionLemmas.{no_works}
 use Rattle.sqlite_schema.specs.declared.schema.Keys.TheVariants.{Enforced}
 use Rattle.sqlite_tied.specs.Compute.{everything}
 use Rattle.sqlite_trees.specs.declared.store.Shape.TheVariants.{Table as Rising}
-use Rattle.ledger_tables.specs.Cells.{QueuedName}
 use Rattle.ledger_tables.specs.Listed.{queued_name}
 use Rattle.ledger_tables.specs.Making.{AreMade}
-use Rattle.ledger_tables.specs.Raising.{HasNewStates, HasNewTables, all_names}
-use Rattle.ledger_tables.specs.Schema.{bureau, pictures, states, pages, first_schema, up_to_states, raising_schema, bureau_schema, own_version}
+use Rattle.ledger_tables.specs.Raising.{HasNewStates, HasNewTables, all_names, plain_profile, with_plain_profiles}
+use Rattle.ledger_tables.specs.Schema.{bureau, pictures, states, pages, profiles, pockets, first_schema, up_to_states, raising_schema, paged_schema, up_to_profiles, new_up_to_pockets, bureau_schema, own_version}
 use Rattle.ledger_tables.specs.Shown.{shown_queued, shown_storage}
-use Rattle.ledger_tables.specs.Tables.{NamedJob, ByJob, Tables, HoldsAs, HoldsFirst, HoldsShared, IsOf, NamesJob, cells, is_row_of, job_row, picture_row, picture_rows, state_row, state_rows, version_rows, without_pages}
+use Rattle.ledger_tables.specs.Tables.{NamedJob, ByJob, Tables, HoldsAs, HoldsFirst, IsOf, NamesJob, cells, is_job, is_row_of, job_named, job_row, picture_row, picture_rows, profile_row, profile_rows, state_rows, version_rows, without_pages, without_profiles, pictured, paged, profiled, complete}
 use Rattle.ledger_tables.specs.declared.rows.StateRow.{StateRow}
 use Rattle.ledger_tables.proofs.CreateStatement.{creates}
-use Rattle.ledger_tables.proofs.InsertLast.{still, still_pages, still_shared, shared_with}
+use Rattle.ledger_tables.proofs.InsertLast.{still, still_each, still_profiles, still_shared, shared_with}
 use Rattle.ledger_tables.proofs.InsertPlaces.{next_cells, next_shaped}
 use Rattle.ledger_tables.proofs.InsertStatement.{Means, apart, went, same_value, cast_int, cast_null}
 use Rattle.ledger_tables.proofs.LookupAnswers.{looks_in}
-use Rattle.ledger_tables.proofs.LookupKeys.{at_most_one, columns, row_form, rows_of_key, shown_cells, view}
+use Rattle.ledger_tables.proofs.LookupKeys.{at_most_one, columns, found_once, key_is, row_form, rows_of_key, shown_cells, view}
 use Rattle.ledger_tables.proofs.LookupStatement.{passes, show, plain_query, plain_answer, ordered_query, ordered_answer, keyed_pair}
 use Rattle.ledger_tables.proofs.ReadTexts.{SelectsIn, is_key}
-use Rattle.ledger_tables.proofs.Texts.{create_states, create_states_is, create_pages, create_pages_is}
+use Rattle.ledger_tables.proofs.ProfileTables.{profiles_alone}
+use Rattle.ledger_tables.proofs.Texts.{create_states, create_states_is, create_pages, create_pages_is, create_profiles, create_profiles_is, create_pockets, create_pockets_is}
 use Rattle.ledger_tables.proofs.UpdateFlags.{the_only, no_other}
 use Rattle.ledger_tables.proofs.UpdateRows.{key_yes}
 use Rattle.ledger_tables.proofs.UpdateStatements.{idle_here, updates}
@@ -85,6 +87,24 @@ drop_pictures = codes "DROP TABLE pictures"
 drop_pictures_is : Means raising_schema drop_pictures (DropTable 3)
 unfolding understood everything
 drop_pictures_is = (refl, (refl, refl))
+
+-- the same in a new file
+drop_pictures_new : Means new_up_to_pockets drop_pictures (DropTable 3)
+unfolding understood everything
+drop_pictures_new = (refl, (refl, refl))
+
+abbrev pub copy_profiles : List ℕ
+copy_profiles = codes "INSERT INTO profiles (customer, number, profile, chosen) SELECT customer, number, 1, 0 FROM jobs ORDER BY rowid"
+
+abbrev profile_terms : List Term
+profile_terms = lit Null ∷ col 1 1 ∷ col 1 2 ∷ lit (Int (pos 1)) ∷ lit (Int (pos 0)) ∷ []
+
+abbrev profile_query : Query
+profile_query = record (ordered_query 1 [] profile_terms (col 1 0)) { collations = replicate 5 Binary }
+
+copy_profiles_is : Means bureau_schema copy_profiles (Insert 7 (FromQuery (record { lets = []; body = profile_query })))
+unfolding understood everything
+copy_profiles_is = (refl, (refl, refl))
 
 abbrev pub select_all_names : List ℕ
 select_all_names = codes "SELECT customer, number FROM jobs ORDER BY rowid"
@@ -135,6 +155,39 @@ pages_created old new count h t storages holds =
       };
       states = kept.1.1.1.1.1.1.0 ∙ holds.states;
       pages = did.1;
+    }
+
+pub profiles_created : (old new : State) (count : ℕ) → ExecutesInside 0 create_profiles [] old new (Ok count) → (t : Tables) (version : ℕ) → (IsTrue old.is_open → HoldsAs paged version old.now t) → HoldsAs profiled version new.now t
+profiles_created old new count h t version has =
+    let holds = has h.1.was_open in
+    let did = creates paged_schema create_profiles profiles create_profiles_is refl old new count holds.schema h.0 in
+    let kept = did.2 in
+    record {
+      schema = did.0;
+      sound = did.3;
+      version = kept.0 ∙ holds.version;
+      shared = still_shared holds.shared kept.1.0 kept.1.1.0 kept.1.1.1.0 kept.1.1.1.1.0;
+      states = still kept.1.1.1.1.1.0 holds.states;
+      pages = still_each kept.1.1.1.1.1.1.0 holds.pages;
+      beside = did.1;
+    }
+
+pub pockets_created : (old new : State) (count : ℕ) → ExecutesInside 0 create_pockets [] old new (Ok count) → (t : Tables) (version : ℕ) → HoldsAs profiled version old.now t → HoldsAs complete version new.now (without_profiles t)
+pockets_created old new count h t version holds =
+    let did = creates up_to_profiles create_pockets pockets create_pockets_is refl old new count holds.schema h.0 in
+    let kept = did.2 in
+    let no_profile : new.now.trees 15 ≡ [] = kept.1.1.1.1.1.1.1.0 ∙ holds.beside in
+    record {
+      schema = did.0;
+      sound = did.3;
+      version = kept.0 ∙ holds.version;
+      shared = shared_with _ _ _ _ (still_shared holds.shared kept.1.0 kept.1.1.0 kept.1.1.1.0 kept.1.1.1.1.0);
+      states = still kept.1.1.1.1.1.0 holds.states;
+      pages = still_each kept.1.1.1.1.1.1.0 holds.pages;
+      beside = record {
+        profiles_are = rw no_profile (record { each = λ c n. refl; named = tt; rise = (tt, tt) });
+        pockets_are = rw did.1 (record { each = λ c n k. refl; named = tt; rise = (tt, tt) });
+      };
     }
 
 -- ---- the states are copied
@@ -271,8 +324,8 @@ all_pass [] = refl
 all_pass (r ∷ rows) = ap (λ (xs : List Row). let ys : List Row = r ∷ xs in ys) (all_pass rows)
 
 -- collations say nothing where nothing is dropped
-any_collations : (db : Trees) (rows : List Row) → IsSureAnswer copy_query db [] rows → IsSureAnswer (ordered_query 5 [] copied_terms (col 1 0)) db [] rows
-any_collations db rows sure lost = let a = sure lost in record { staged = a.staged; grouped = a.grouped; kept = a.kept; distinct = a.distinct; ordered = a.ordered; same = a.same; sorted = a.sorted; shown = a.shown }
+any_collations : (tree : ℕ) (terms : List Term) (some : List Collation) (db : Trees) (rows : List Row) → IsSureAnswer (record (ordered_query tree [] terms (col 1 0)) { collations = some }) db [] rows → IsSureAnswer (ordered_query tree [] terms (col 1 0)) db [] rows
+any_collations tree terms some db rows sure lost = let a = sure lost in record { staged = a.staged; grouped = a.grouped; kept = a.kept; distinct = a.distinct; ordered = a.ordered; same = a.same; sorted = a.sorted; shown = a.shown }
 
 -- in the order of rowids, all rows of a table
 module _ (tree : ℕ) (terms : List Term) where
@@ -294,12 +347,12 @@ module _ (tree : ℕ) (terms : List Term) where
       ∙ ap (map (show terms [])) (all_pass (db tree))
 
 pub pictures_copied : (old new : State) (count : ℕ) → ExecutesInside 0 copy_pictures [] old new (Ok count) → (t : Tables) (storages : ByJob (List ℕ)) → HasNewTables old.now t storages
-    → HoldsAs (Some storages) 1 new.now (without_pages t)
+    → HoldsAs (pictured storages) 1 new.now (without_pages t)
 pictures_copied old new count h t storages holds =
     let did = copies raising_schema copy_pictures 6 (record states { tree = 11 }) copy_query copy_pictures_is refl old new count holds.first.schema_is h.0 in
     let db = old.now.trees in
     let are_pictures = all_pictures storages t.states (db 5) holds.first.pictures in
-    let whole = in_their_order 5 copied_terms db did.0 refl holds.first.pictures.rise (any_collations _ did.0 did.1.answer) in
+    let whole = in_their_order 5 copied_terms db did.0 refl holds.first.pictures.rise (any_collations 5 copied_terms _ _ did.0 did.1.answer) in
     let sources : map (λ (s : Row). cast_row (record states { tree = 11 }) (drop 0 s)) did.0 ≡ map (λ (r : Row). let s : Row = Null ∷ r in s) (map without_storage (cells (db 5))) =
     ap (map (λ (s : Row). cast_row (record states { tree = 11 }) (drop 0 s))) whole ∙ sources_cast (db 5) (with_ids (db 5) are_pictures) in
     let behind = all_behind [] (map without_storage (cells (db 5))) (tt, tt) in
@@ -312,7 +365,7 @@ pictures_copied old new count h t storages holds =
       schema = did.2;
       sound = did.5;
       version = others.0 (apart refl) ∙ holds.first.version;
-      shared = shared_with _ _ (still_shared holds.first.shared (others.1.0 (apart refl)) (others.1.1.0 (apart refl)) (others.1.1.1.1.0 (apart refl)) (others.1.1.1.1.1.0 (apart refl)));
+      shared = shared_with _ _ _ _ (still_shared holds.first.shared (others.1.0 (apart refl)) (others.1.1.0 (apart refl)) (others.1.1.1.1.0 (apart refl)) (others.1.1.1.1.1.0 (apart refl)));
       states = record {
         each = λ c n. ap (filter (is_row_of c n)) are ∙ same_names c n (cells (db 5)) are_pictures ∙ ap (map without_storage) (holds.first.pictures.each c n) ∙ state_of_picture c n (storages c n) (t.states c n);
         named = subst (AllByRecursion NamesJob) (sym are) (still_named (cells (db 5)) are_pictures);
@@ -321,6 +374,77 @@ pictures_copied old new count h t storages holds =
       pages = rw no_page (record { each = λ c n k. refl; named = tt; rise = (tt, tt) });
       beside = still (others.1.1.1.0 (apart refl)) holds.first.pictures;
     }
+
+-- ---- each job gets a profile
+
+-- the row of a job's plain profile
+abbrev plain_row : NamedJob → Row
+plain_row job = profile_row job.customer job.number plain_profile
+
+plain_cast : (rows : List Row) (jobs : List NamedJob) → cells rows ≡ map job_row jobs
+    → map (λ (s : Row). cast_row (record profiles { tree = 15 }) (drop 0 s)) (map (show profile_terms []) rows) ≡ map (λ (r : Row). let s : Row = Null ∷ r in s) (map plain_row jobs)
+plain_cast [] [] is = refl
+plain_cast [] (job ∷ jobs) is = absurd (let e = is in cc)
+plain_cast (r ∷ rows) [] is = absurd (let e = is in cc)
+plain_cast (r ∷ rows) (job ∷ jobs) is =
+    let here : drop 1 r ≡ job_row job = cc in
+    let rest : cells rows ≡ map job_row jobs = cc in
+    ap (λ (x : Row). x ∷ map (λ (s : Row). cast_row (record profiles { tree = 15 }) (drop 0 s)) (map (show profile_terms []) rows)) (one_cast r here) ∙ ap (λ (xs : List Row). (Null ∷ plain_row job) ∷ xs) (plain_cast rows jobs rest)
+  where
+    one_cast : (r : Row) → drop 1 r ≡ job_row job → cast_row (record profiles { tree = 15 }) (drop 0 (show profile_terms [] r)) ≡ Null ∷ plain_row job
+    one_cast [] is = absurd (let e = is in cc)
+    one_cast (x ∷ rest) is = rw is (simp (cast_null, cast_int))
+
+plain_named : (jobs : List NamedJob) → AllByRecursion NamesJob (map plain_row jobs)
+plain_named [] = tt
+plain_named (job ∷ jobs) = ((job.customer, job.number, refl, refl), plain_named jobs)
+
+plain_rows_of : (c : List ℕ) (n : ℕ) (jobs : List NamedJob) → filter (is_row_of c n) (map plain_row jobs) ≡ map plain_row (filter (is_job c n) jobs)
+plain_rows_of c n [] = refl
+plain_rows_of c n (job ∷ jobs) = go (is_job c n job) refl (plain_rows_of c n jobs)
+  where
+    go : (b : Bool) → is_job c n job ≡ b → filter (is_row_of c n) (map plain_row jobs) ≡ map plain_row (filter (is_job c n) jobs)
+        → filter (is_row_of c n) (map plain_row (job ∷ jobs)) ≡ map plain_row (filter (is_job c n) (job ∷ jobs))
+    go true this rest = rw this (ap (λ (ys : List Row). let zs : List Row = plain_row job ∷ ys in zs) rest)
+    go false this rest = rw this rest
+
+-- the job that is found has the name that was looked for
+plain_found : (c : List ℕ) (n : ℕ) (jobs : List NamedJob) → map plain_row (option_to_list (job_named c n jobs)) ≡ profile_rows c n (option_map (λ job. plain_profile) (job_named c n jobs))
+plain_found c n [] = refl
+plain_found c n (job ∷ jobs) = go (is_job c n job) refl (plain_found c n jobs)
+  where
+    go : (b : Bool) → is_job c n job ≡ b → map plain_row (option_to_list (job_named c n jobs)) ≡ profile_rows c n (option_map (λ job. plain_profile) (job_named c n jobs))
+        → map plain_row (option_to_list (job_named c n (job ∷ jobs))) ≡ profile_rows c n (option_map (λ job. plain_profile) (job_named c n (job ∷ jobs)))
+    go true this rest =
+        let key = key_is c n job.customer job.number this in
+        let same : plain_row job ≡ profile_row c n plain_profile = ap (λ x. profile_row x job.number plain_profile) key.0 ∙ ap (λ m. profile_row c m plain_profile) key.1 in
+        rw this (ap (λ (r : Row). let rs : List Row = r ∷ [] in rs) same)
+    go false this rest = rw this rest
+
+all_joined : (xs ys : List Row) → AllByRecursion NamesJob xs → AllByRecursion NamesJob ys → AllByRecursion NamesJob (xs ++ ys)
+all_joined [] ys all others = others
+all_joined (x ∷ xs) ys all others = (all.0, all_joined xs ys all.1 others)
+
+pub profiles_copied : (old new : State) (count : ℕ) → ExecutesInside 0 copy_profiles [] old new (Ok count) → (t : Tables) (version : ℕ) → HoldsAs complete version old.now (without_profiles t)
+    → HoldsAs complete version new.now (with_plain_profiles t)
+profiles_copied old new count h t version holds =
+    let did = copies bureau_schema copy_profiles 7 (record profiles { tree = 15 }) profile_query copy_profiles_is refl old new count holds.schema h.0 in
+    let db = old.now.trees in
+    let is = holds.beside.profiles_are in
+    let whole = in_their_order 1 profile_terms db did.0 refl holds.shared.jobs_rise (any_collations 1 profile_terms _ _ did.0 did.1.answer) in
+    let sources : map (λ (s : Row). cast_row (record profiles { tree = 15 }) (drop 0 s)) did.0 ≡ map (λ (r : Row). let s : Row = Null ∷ r in s) (map plain_row t.jobs) =
+    ap (map (λ (s : Row). cast_row (record profiles { tree = 15 }) (drop 0 s))) whole ∙ plain_cast (db 1) t.jobs holds.shared.jobs in
+    let behind = all_behind (db 15) (map plain_row t.jobs) is.rise in
+    let tree : new.now.trees 15 ≡ put_all (db 15) (numbered Chosen (db 15) (map (λ (r : Row). let s : Row = Null ∷ r in s) (map plain_row t.jobs))) =
+    did.3 ∙ ap (λ (ss : List Row). put_all (db 15) (numbered Chosen (db 15) ss)) sources in
+    let are : cells (new.now.trees 15) ≡ cells (db 15) ++ map plain_row t.jobs = ap cells tree ∙ behind.0 in
+    profiles_alone version old.now new.now (without_profiles t) (λ c n. option_map (λ job. plain_profile) (job_named c n t.jobs)) holds did.2 did.5 did.4
+    (record {
+      each = λ c n. ap (filter (is_row_of c n)) are ∙ filter-append (is_row_of c n) (cells (db 15)) (map plain_row t.jobs) ∙ ap (λ xs. xs ++ filter (is_row_of c n) (map plain_row t.jobs)) (is.each c n)
+          ∙ plain_rows_of c n t.jobs ∙ ap (map plain_row) (found_once c n t.jobs holds.shared.distinct) ∙ plain_found c n t.jobs;
+      named = subst (AllByRecursion NamesJob) (sym are) (all_joined (cells (db 15)) (map plain_row t.jobs) is.named (plain_named t.jobs));
+      rise = subst (IsShaped Rising) (sym tree) behind.1;
+    })
 
 -- ---- what is read of the old tables
 
@@ -337,7 +461,7 @@ names_shown (r ∷ rows) (job ∷ jobs) is =
     one_name_shown [] job is = absurd (let e = is in cc)
     one_name_shown (x ∷ rest) job is = rw is refl
 
-pub names_read : (old new : State) (rows : List Row) → Shown select_all_names [] old new rows → (t : Tables) (storages : ByJob (List ℕ)) (version : ℕ) → HoldsAs (Some storages) version old.now t
+pub names_read : (old new : State) (rows : List Row) → Shown select_all_names [] old new rows → (t : Tables) (storages : ByJob (List ℕ)) (version : ℕ) → HoldsAs (pictured storages) version old.now t
     → IsUnchanged old new × (rows ≡ map shown_queued (all_names t))
 names_read old new rows h t storages version holds =
     let did = looks_in raising_schema select_all_names _ _ select_all_names_is old new [] rows holds.schema h in
@@ -348,7 +472,7 @@ storage_shown customer number storage None = refl
 storage_shown customer number storage (Some s) = refl
 
 pub storage_read : (old new : State) (customer : List ℕ) (number : ℕ) (rows : List Row) → Shown select_storage (Text customer ∷ Int (pos number) ∷ []) old new rows
-    → (t : Tables) (storages : ByJob (List ℕ)) (version : ℕ) → HoldsAs (Some storages) version old.now t
+    → (t : Tables) (storages : ByJob (List ℕ)) (version : ℕ) → HoldsAs (pictured storages) version old.now t
     → IsUnchanged old new × (rows ≡ map shown_storage (option_to_list (option_map (λ (state : StateRow). storages customer number) (t.states customer number))))
 storage_read old new customer number rows h t storages version holds =
     let params : Row = Text customer ∷ Int (pos number) ∷ [] in
@@ -366,7 +490,7 @@ storage_read old new customer number rows h t storages version holds =
 version_edit : (version : ℕ) → put_row (cast Integer (Int (pos 1)) ∷ Null ∷ Int (pos own_version) ∷ []) (without_rowid (pos 1) (version_rows version)) ≡ version_rows own_version
 version_edit version = rw (cast_int (pos 1), tied_itself value_cmp_total (Int (pos 1)))
 
-pub version_set : (old new : State) (count : ℕ) → ExecutesInside 0 set_version (Int (pos own_version) ∷ []) old new (Ok count) → (t : Tables) (version : ℕ) → HoldsAs None version old.now t → HoldsAs None own_version new.now t
+pub version_set : (old new : State) (count : ℕ) → ExecutesInside 0 set_version (Int (pos own_version) ∷ []) old new (Ok count) → (t : Tables) (version : ℕ) → HoldsAs complete version old.now t → HoldsAs complete own_version new.now t
 version_set old new count h t version holds =
     let params : Row = Int (pos own_version) ∷ [] in
     let did = updates bureau_schema set_version 0 (record bureau { tree = 0 }) [] set_terms set_version_is refl (idle_here 0) old new params count holds.schema h.0 in
@@ -384,8 +508,8 @@ version_set old new count h t version holds =
       version = did.3 ∙ ap (λ rs. edited db (edit_of db (record bureau { tree = 0 }) (ids_of rs) Given 1 rs)) one ∙ edit;
       shared = still_shared holds.shared (others.1.0 (apart refl)) (others.1.1.0 (apart refl)) (others.1.1.1.0 (apart refl)) (others.1.1.1.1.0 (apart refl));
       states = still (others.1.1.1.1.1.0 (apart refl)) holds.states;
-      pages = still_pages (others.1.1.1.1.1.1.0 (apart refl)) holds.pages;
-      beside = tt;
+      pages = still_each (others.1.1.1.1.1.1.0 (apart refl)) holds.pages;
+      beside = still_profiles holds.beside (others.1.1.1.1.1.1.1.0 (apart refl)) (others.1.1.1.1.1.1.1.1.0 (apart refl));
     }
 
 -- ---- the old table goes
@@ -418,7 +542,11 @@ pictures_idle : is_acted_on raising_schema Enforced (record pictures { tree = 5;
 unfolding understood everything
 pictures_idle = refl
 
-pub pictures_dropped : (old new : State) (count : ℕ) → ExecutesInside 0 drop_pictures [] old new (Ok count) → (t : Tables) (storages : ByJob (List ℕ)) (version : ℕ) → HoldsAs (Some storages) version old.now t → HoldsAs None version new.now t
+new_pictures_idle : is_acted_on new_up_to_pockets Enforced (record pictures { tree = 5; is_counted = false }) ≡ false
+unfolding understood everything
+new_pictures_idle = refl
+
+pub pictures_dropped : (old new : State) (count : ℕ) → ExecutesInside 0 drop_pictures [] old new (Ok count) → (t : Tables) (storages : ByJob (List ℕ)) (version : ℕ) → HoldsAs (pictured storages) version old.now t → HoldsAs paged version new.now t
 pictures_dropped old new count h t storages version holds =
     let did = drops raising_schema drop_pictures 3 (record pictures { tree = 5 }) drop_pictures_is refl pictures_idle old new count holds.schema h.0 in
     let kept = did.1 in
@@ -428,16 +556,16 @@ pictures_dropped old new count h t storages version holds =
       version = kept.0 ∙ holds.version;
       shared = still_shared holds.shared kept.1.0 kept.1.1.0 kept.1.1.1.0 kept.1.1.1.1.0;
       states = still kept.1.1.1.1.1.0 holds.states;
-      pages = still_pages kept.1.1.1.1.1.1.0 holds.pages;
+      pages = still_each kept.1.1.1.1.1.1.0 holds.pages;
       beside = tt;
     }
 
-pub made_dropped : (old new : State) (count : ℕ) → ExecutesInside 0 drop_pictures [] old new (Ok count) → AreMade old.now raising_schema → AreMade new.now bureau_schema
+pub made_dropped : (old new : State) (count : ℕ) → ExecutesInside 0 drop_pictures [] old new (Ok count) → AreMade old.now new_up_to_pockets → AreMade new.now bureau_schema
 made_dropped old new count h made =
-    let did = drops raising_schema drop_pictures 3 (record pictures { tree = 5 }) drop_pictures_is refl pictures_idle old new count made.is h.0 in
+    let did = drops new_up_to_pockets drop_pictures 3 (record pictures { tree = 5 }) drop_pictures_new refl new_pictures_idle old new count made.is h.0 in
     let kept = did.1 in
     let was = made.empty in
     record {
       is = did.0;
-      empty = (kept.0 ∙ was.0, (kept.1.0 ∙ was.1.0, (kept.1.1.0 ∙ was.1.1.0, (kept.1.1.1.0 ∙ was.1.1.1.1.0, (kept.1.1.1.1.0 ∙ was.1.1.1.1.1.0, (kept.1.1.1.1.1.0 ∙ was.1.1.1.1.1.1.0, (kept.1.1.1.1.1.1.0 ∙ was.1.1.1.1.1.1.1.0, tt)))))));
+      empty = (kept.0 ∙ was.0, (kept.1.0 ∙ was.1.0, (kept.1.1.0 ∙ was.1.1.0, (kept.1.1.1.0 ∙ was.1.1.1.1.0, (kept.1.1.1.1.0 ∙ was.1.1.1.1.1.0, (kept.1.1.1.1.1.0 ∙ was.1.1.1.1.1.1.0, (kept.1.1.1.1.1.1.0 ∙ was.1.1.1.1.1.1.1.0, (kept.1.1.1.1.1.1.1.0 ∙ was.1.1.1.1.1.1.1.1.0, (kept.1.1.1.1.1.1.1.1.0 ∙ was.1.1.1.1.1.1.1.1.1.0, tt)))))))));
     }

@@ -12,11 +12,13 @@ use Rattle.sqlite_tied.specs.Compute.{everything}
 use Rattle.sqlite.specs.Listing.{understood, reads_listing}
 use Rattle.sqlite_value.specs.Keys.{ascending}
 use Rattle.sqlite_value.specs.declared.keys.Key.{Key}
-use Rattle.ledger_tables.specs.Schema.{bureau_schema, first_schema, raising_schema}
+use Rattle.ledger_tables.specs.Schema.{bureau_schema, first_schema, paged_schema}
+use Rattle.ledger_tables.specs.Tables.{Beside, schema_beside, pictured, paged, profiled, complete}
 use Rattle.ledger_tables.specs.Versions.{select_version}
 use Rattle.ledger_tables.proofs.InsertStatement.{Means}
 use Rattle.ledger_tables.proofs.LookupStatement.{plain_query, ordered_query}
 use Rattle.ledger_tables.proofs.LookupOrder.{sorting_query}
+use Rattle.ledger_tables.proofs.Texts.{place_of_pages}
 
 -- the text means this query under a schema, and does not read the listing of tables
 abbrev pub SelectsIn : Schema → List ℕ → Query → List (List ℕ) → Type 0
@@ -46,6 +48,10 @@ version_terms = col 1 2 ∷ []
 pub select_version_is : Selects select_version (plain_query 0 [] version_terms) (codes "version" ∷ [])
 unfolding understood everything
 select_version_is = ((refl, (refl, refl)), refl)
+
+pub select_version_paged : SelectsIn paged_schema select_version (plain_query 0 [] version_terms) (codes "version" ∷ [])
+unfolding understood everything
+select_version_paged = ((refl, (refl, refl)), refl)
 
 pub select_version_first : SelectsIn first_schema select_version (plain_query 0 [] version_terms) (codes "version" ∷ [])
 unfolding understood everything
@@ -193,14 +199,12 @@ select_pages_is = ((refl, (refl, refl)), refl)
 abbrev pub delete_pages : List ℕ
 delete_pages = codes "DELETE FROM pages WHERE customer = ?1 AND number = ?2 AND page = ?3"
 
-pub delete_pages_is : Means bureau_schema delete_pages (Delete 6 (record { lets = []; body = plain_query 13 is_place (col 1 0 ∷ []) }))
+pub delete_pages_is : (there : Beside) → Means (schema_beside there) delete_pages (Delete (place_of_pages there) (record { lets = []; body = plain_query 13 is_place (col 1 0 ∷ []) }))
 unfolding understood everything
-delete_pages_is = (refl, (refl, refl))
-
--- the same while `pictures` is there
-pub delete_pages_beside : Means raising_schema delete_pages (Delete 7 (record { lets = []; body = plain_query 13 is_place (col 1 0 ∷ []) }))
-unfolding understood everything
-delete_pages_beside = (refl, (refl, refl))
+delete_pages_is (pictured storages) = (refl, (refl, refl))
+delete_pages_is paged = (refl, (refl, refl))
+delete_pages_is profiled = (refl, (refl, refl))
+delete_pages_is complete = (refl, (refl, refl))
 
 -- ---- cards
 
@@ -225,3 +229,37 @@ line_terms = col 1 4 ∷ col 1 5 ∷ col 1 6 ∷ []
 pub select_lines_is : Selects select_lines (ordered_query 9 is_key line_terms (col 1 3)) (codes "form" ∷ codes "line" ∷ codes "image" ∷ [])
 unfolding understood everything
 select_lines_is = ((refl, (refl, refl)), refl)
+
+-- ---- profiles
+
+abbrev pub select_profile : List ℕ
+select_profile = codes "SELECT profile, chosen FROM profiles WHERE customer = ?1 AND number = ?2"
+
+abbrev pub profile_terms : List Term
+profile_terms = col 1 3 ∷ col 1 4 ∷ []
+
+pub select_profile_is : Selects select_profile (plain_query 15 is_key profile_terms) (codes "profile" ∷ codes "chosen" ∷ [])
+unfolding understood everything
+select_profile_is = ((refl, (refl, refl)), refl)
+
+abbrev pub update_chosen : List ℕ
+update_chosen = codes "UPDATE profiles SET chosen = ?3 WHERE customer = ?1 AND number = ?2"
+
+abbrev pub chosen_terms : List Term
+chosen_terms = col 1 0 ∷ col 1 0 ∷ col 1 1 ∷ col 1 2 ∷ col 1 3 ∷ col 0 2 ∷ []
+
+pub update_chosen_is : Means bureau_schema update_chosen (Update 7 (record { lets = []; body = plain_query 15 is_key chosen_terms }))
+unfolding understood everything
+update_chosen_is = (refl, (refl, refl))
+
+-- ---- pockets
+
+abbrev pub select_pockets : List ℕ
+select_pockets = codes "SELECT place, pocket FROM pockets WHERE customer = ?1 AND number = ?2"
+
+abbrev pub pocket_terms : List Term
+pocket_terms = col 1 3 ∷ col 1 4 ∷ []
+
+pub select_pockets_is : Selects select_pockets (plain_query 17 is_key pocket_terms) (codes "place" ∷ codes "pocket" ∷ [])
+unfolding understood everything
+select_pockets_is = ((refl, (refl, refl)), refl)

@@ -6,7 +6,8 @@ use Rattle.sqlite.specs.Source.TheVariants.{Values}
 use Rattle.sqlite.specs.Command.TheVariants.{Insert}
 use Rattle.sqlite_tied.specs.Compute.{everything}
 use Rattle.sqlite.specs.Listing.{understood}
-use Rattle.ledger_tables.specs.Schema.{bureau, jobs, stretches, pictures, cards, lines, states, pages, no_schema, up_to_bureau, up_to_jobs, up_to_stretches, up_to_pictures, up_to_cards, first_schema, up_to_states, raising_schema, bureau_schema}
+use Rattle.ledger_tables.specs.Schema.{bureau, jobs, stretches, pictures, cards, lines, states, pages, profiles, pockets, no_schema, up_to_bureau, up_to_jobs, up_to_stretches, up_to_pictures, up_to_cards, first_schema, up_to_states, raising_schema, paged_schema, up_to_profiles, new_up_to_profiles, bureau_schema}
+use Rattle.ledger_tables.specs.Tables.{Beside, schema_beside, pictured, paged, profiled, complete}
 use Rattle.ledger_tables.proofs.CreateStatement.{Creates}
 use Rattle.ledger_tables.proofs.InsertStatement.{Means}
 
@@ -66,6 +67,30 @@ pub create_pages_is : Creates up_to_states create_pages pages
 unfolding understood everything
 create_pages_is = ((refl, (refl, refl)), refl, refl)
 
+abbrev pub create_profiles : List ℕ
+create_profiles = codes "CREATE TABLE profiles (customer TEXT NOT NULL, number INTEGER NOT NULL, profile INTEGER NOT NULL, chosen INTEGER NOT NULL, PRIMARY KEY (customer, number), FOREIGN KEY (customer, number) REFERENCES jobs (customer, number)) STRICT"
+
+pub create_profiles_is : Creates paged_schema create_profiles profiles
+unfolding understood everything
+create_profiles_is = ((refl, (refl, refl)), refl, refl)
+
+-- the same in a new file
+pub create_profiles_new : Creates raising_schema create_profiles profiles
+unfolding understood everything
+create_profiles_new = ((refl, (refl, refl)), refl, refl)
+
+abbrev pub create_pockets : List ℕ
+create_pockets = codes "CREATE TABLE pockets (customer TEXT NOT NULL, number INTEGER NOT NULL, place INTEGER NOT NULL, pocket INTEGER NOT NULL, PRIMARY KEY (customer, number, place), FOREIGN KEY (customer, number, place) REFERENCES cards (customer, number, place)) STRICT"
+
+pub create_pockets_is : Creates up_to_profiles create_pockets pockets
+unfolding understood everything
+create_pockets_is = ((refl, (refl, refl)), refl, refl)
+
+-- the same in a new file
+pub create_pockets_new : Creates new_up_to_profiles create_pockets pockets
+unfolding understood everything
+create_pockets_new = ((refl, (refl, refl)), refl, refl)
+
 abbrev pub insert_bureau : List ℕ
 insert_bureau = codes "INSERT INTO bureau (id, version) VALUES (?1, ?2)"
 
@@ -97,14 +122,17 @@ insert_states_is = (refl, (refl, refl))
 abbrev pub insert_pages : List ℕ
 insert_pages = codes "INSERT INTO pages (customer, number, page, storage) VALUES (?1, ?2, ?3, ?4)"
 
-pub insert_pages_is : Means bureau_schema insert_pages (Insert 6 (Values (lit Null ∷ col 0 0 ∷ col 0 1 ∷ col 0 2 ∷ col 0 3 ∷ []) 5))
-unfolding understood everything
-insert_pages_is = (refl, (refl, refl))
+-- the place of `pages` among the tables
+abbrev pub place_of_pages : Beside → ℕ
+place_of_pages (pictured storages) = 7
+place_of_pages _ = 6
 
--- the same while `pictures` is there
-pub insert_pages_beside : Means raising_schema insert_pages (Insert 7 (Values (lit Null ∷ col 0 0 ∷ col 0 1 ∷ col 0 2 ∷ col 0 3 ∷ []) 5))
+pub insert_pages_is : (there : Beside) → Means (schema_beside there) insert_pages (Insert (place_of_pages there) (Values (lit Null ∷ col 0 0 ∷ col 0 1 ∷ col 0 2 ∷ col 0 3 ∷ []) 5))
 unfolding understood everything
-insert_pages_beside = (refl, (refl, refl))
+insert_pages_is (pictured storages) = (refl, (refl, refl))
+insert_pages_is paged = (refl, (refl, refl))
+insert_pages_is profiled = (refl, (refl, refl))
+insert_pages_is complete = (refl, (refl, refl))
 
 abbrev pub insert_cards : List ℕ
 insert_cards = codes "INSERT INTO cards (customer, number, place, card) VALUES (?1, ?2, ?3, ?4)"
@@ -119,3 +147,17 @@ insert_lines = codes "INSERT INTO lines (customer, number, place, form, line, im
 pub insert_lines_is : Means bureau_schema insert_lines (Insert 4 (Values (lit Null ∷ col 0 0 ∷ col 0 1 ∷ col 0 2 ∷ col 0 3 ∷ col 0 4 ∷ col 0 5 ∷ []) 7))
 unfolding understood everything
 insert_lines_is = (refl, (refl, refl))
+
+abbrev pub insert_profiles : List ℕ
+insert_profiles = codes "INSERT INTO profiles (customer, number, profile, chosen) VALUES (?1, ?2, ?3, ?4)"
+
+pub insert_profiles_is : Means bureau_schema insert_profiles (Insert 7 (Values (lit Null ∷ col 0 0 ∷ col 0 1 ∷ col 0 2 ∷ col 0 3 ∷ []) 5))
+unfolding understood everything
+insert_profiles_is = (refl, (refl, refl))
+
+abbrev pub insert_pockets : List ℕ
+insert_pockets = codes "INSERT INTO pockets (customer, number, place, pocket) VALUES (?1, ?2, ?3, ?4)"
+
+pub insert_pockets_is : Means bureau_schema insert_pockets (Insert 8 (Values (lit Null ∷ col 0 0 ∷ col 0 1 ∷ col 0 2 ∷ col 0 3 ∷ []) 5))
+unfolding understood everything
+insert_pockets_is = (refl, (refl, refl))

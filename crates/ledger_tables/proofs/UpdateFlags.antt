@@ -18,7 +18,7 @@ use Rattle.sqlite_trees.proofs.TreeLemmas.{IsShaped-put_row, IsShaped-filter}
 use Rattle.ledger_tables.specs.Schema.{bureau_schema, jobs}
 use Rattle.ledger_tables.specs.Tables.{NamedJob, AreDistinct, Tables, Holds, flagged, with_flags, NamesJob, cells, is_job, job_named, job_row}
 use Rattle.ledger_tables.proofs.InsertStatement.{cast_int}
-use Rattle.ledger_tables.proofs.InsertLast.{still, still_pages}
+use Rattle.ledger_tables.proofs.InsertLast.{still, still_each, still_profiles}
 use Rattle.ledger_tables.proofs.LookupStatement.{passes, show, plain_query, plain_answer}
 use Rattle.ledger_tables.proofs.LookupKeys.{key_passes, kept_cells, each_test, jobs_named, rows_of_jobs, found_once, at_most_one}
 use Rattle.ledger_tables.proofs.UpdateRows.{renewed, in_place}
@@ -112,8 +112,8 @@ module _ (customer : List ℕ) (number held collected : ℕ) where
       lines = still (others.1.1.1.1.0 (λ e. cc)) holds.shared.lines;
     };
     states = still (others.1.1.1.1.1.0 (λ e. cc)) holds.states;
-    pages = still_pages (others.1.1.1.1.1.1.0 (λ e. cc)) holds.pages;
-    beside = tt;
+    pages = still_each (others.1.1.1.1.1.1.0 (λ e. cc)) holds.pages;
+    beside = still_profiles holds.beside (others.1.1.1.1.1.1.1.0 (λ e. cc)) (others.1.1.1.1.1.1.1.1.0 (λ e. cc));
   }
 
   module _ (old new : State) (count : ℕ) (h : Executes update_flags flag_params old new (Ok count)) (t : Tables) (holds : Holds old.now t) where

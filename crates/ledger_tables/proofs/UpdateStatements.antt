@@ -26,27 +26,30 @@ use Rattle.sqlite_rules.specs.Calls.{ids_of}
 use Rattle.sqlite_trees.specs.declared.store.Shape.TheVariants.{Table as Rising}
 use Rattle.sqlite_trees.proofs.TreeLemmas.{IsShaped-put_row, IsShaped-filter}
 use Rattle.ledger_tables.specs.Named.{granted_last}
-use Rattle.ledger_tables.specs.Schema.{bureau_schema, raising_schema, to_job, stretches, states}
-use Rattle.ledger_tables.specs.Tables.{Tables, Holds, NamesJob, cells, placed, is_row_of, stretch_row, state_row, state_rows, with_stretches, with_state}
+use Rattle.ledger_tables.specs.Schema.{bureau_schema, to_job, stretches, states}
+use Rattle.ledger_tables.specs.Tables.{Beside, Tables, Holds, NamesJob, cells, placed, is_row_of, schema_beside, stretch_row, state_row, state_rows, with_stretches, with_state, pictured, paged, profiled, complete}
 use Rattle.ledger_tables.specs.declared.rows.StateRow.{StateRow}
 use Rattle.ledger_tables.specs.declared.rows.StretchRow.{StretchRow}
-use Rattle.ledger_tables.proofs.InsertLast.{still, still_pages, still_shared, shared_with}
+use Rattle.ledger_tables.proofs.InsertLast.{still, still_each, still_profiles, still_shared, shared_with}
 use Rattle.ledger_tables.proofs.InsertStatement.{Means, apart, went, same_value, cast_int}
 use Rattle.ledger_tables.proofs.LookupStatement.{passes, show, plain_query, plain_answer}
 use Rattle.ledger_tables.proofs.ReadTexts.{is_key, is_place, update_granted, update_granted_is, granted_terms, update_state, update_state_is, new_state_terms}
 use Rattle.ledger_tables.proofs.LookupKeys.{key_passes, key_test, place_passes, place_needs, kept_cells, each_test}
 use Rattle.ledger_tables.proofs.UpdateRows.{renewed, in_place, only_row, within, all_within, renews, key_yes, by_job, none_placed, last_found, last_renewed}
 
--- no row refers to a row below a job, so no action is carried out
+-- no reference has an action, to a job or to a card, so none is carried out
 no_deed : (deletes : Bool) → deed_for Enforced deletes to_job ≡ None
 no_deed true = refl
 no_deed false = refl
 
-pub idle_here : (tree : ℕ) (olds news : List Row) → works bureau_schema Enforced 0 tree olds news ≡ []
-idle_here tree olds news = rw (no_deed (length news == 0))
+pub idle_beside : (there : Beside) (tree : ℕ) (olds news : List Row) → works (schema_beside there) Enforced 0 tree olds news ≡ []
+idle_beside (pictured storages) tree olds news = rw (no_deed (length news == 0))
+idle_beside paged tree olds news = rw (no_deed (length news == 0))
+idle_beside profiled tree olds news = rw (no_deed (length news == 0))
+idle_beside complete tree olds news = rw (no_deed (length news == 0))
 
-pub idle_beside : (tree : ℕ) (olds news : List Row) → works raising_schema Enforced 0 tree olds news ≡ []
-idle_beside tree olds news = rw (no_deed (length news == 0))
+pub idle_here : (tree : ℕ) (olds news : List Row) → works bureau_schema Enforced 0 tree olds news ≡ []
+idle_here = idle_beside complete
 
 module _ (schema : Schema) (sql : List ℕ) (at : ℕ) (table : Table) (tests terms : List Term) (is : Means schema sql (Update at (record { lets = []; body = plain_query table.tree tests terms })))
     (place : slice_get schema.tables at ≡ Some table) (idle : (olds news : List Row) → works schema Enforced 0 table.tree olds news ≡ []) where
@@ -146,10 +149,10 @@ module _ (customer : List ℕ) (number : ℕ) (p : StateRow) where
         schema = did.2;
         sound = did.5;
         version = others.0 (apart refl) ∙ holds.version;
-        shared = shared_with _ _ (still_shared holds.shared (others.1.0 (apart refl)) (others.1.1.0 (apart refl)) (others.1.1.1.0 (apart refl)) (others.1.1.1.1.0 (apart refl)));
+        shared = shared_with _ _ _ _ (still_shared holds.shared (others.1.0 (apart refl)) (others.1.1.0 (apart refl)) (others.1.1.1.0 (apart refl)) (others.1.1.1.1.0 (apart refl)));
         states = renews customer number (drop 2 state_params) of_key keyed (db 11) (new.now.trees 11) (λ c n. state_rows c n (t.states c n)) (λ c n. state_rows c n ((with_state customer number p t).states c n)) holds.states are shaped turned;
-        pages = still_pages (others.1.1.1.1.1.1.0 (apart refl)) holds.pages;
-        beside = tt;
+        pages = still_each (others.1.1.1.1.1.1.0 (apart refl)) holds.pages;
+        beside = still_profiles holds.beside (others.1.1.1.1.1.1.1.0 (apart refl)) (others.1.1.1.1.1.1.1.1.0 (apart refl));
       }
 
   pub state_in_place : (old new : State) (count : ℕ) → Executes update_state state_params old new (Ok count) → (t : Tables) → Holds old.now t → IsSome (t.states customer number)
@@ -238,8 +241,8 @@ module _ (customer : List ℕ) (number place granted : ℕ) where
           lines = still (others.1.1.1.1.0 (apart refl)) holds.shared.lines;
         };
         states = still (others.1.1.1.1.1.0 (apart refl)) holds.states;
-        pages = still_pages (others.1.1.1.1.1.1.0 (apart refl)) holds.pages;
-        beside = tt;
+        pages = still_each (others.1.1.1.1.1.1.0 (apart refl)) holds.pages;
+        beside = still_profiles holds.beside (others.1.1.1.1.1.1.1.0 (apart refl)) (others.1.1.1.1.1.1.1.1.0 (apart refl));
       }
 
   pub granted_in_last : (old new : State) (count : ℕ) → Executes update_granted stretch_params old new (Ok count) → (t : Tables) → Holds old.now t → length (t.stretches customer number) ≡ place + 1

@@ -39,6 +39,14 @@ abbrev pub unless_blank : Option (List ℕ) → Option (List ℕ)
 unless_blank None = None
 unless_blank (Some storage) = if bytes_eq storage blank_bytes then None else Some storage
 
+-- the pockets of a job's punched cards that are not in the normal one, by place
+abbrev pub Pockets : Type 0
+Pockets = ℕ → Option ℕ
+
+-- each card is in the normal pocket
+abbrev pub no_pockets : Pockets
+no_pockets place = None
+
 -- the columns of a job's row that are its name
 pub record QueuedName : Type 0 where
   pub customer : List ℕ

@@ -1,9 +1,11 @@
 -- what a statement on a job requires of the tables, and the tables after it
 use Rattle.std.specs.Prelude.{◌≡◌, ◌+◌, ◌++◌, ◌<◌, ◌^◌, ℕ, All, Contains, List, [], ◌∷◌, length, Option, Some, None, IsSome}
 use Rattle.std.specs.Option.{option_map}
-use Rattle.ledger_tables.specs.Cells.{JobCells, LineCells, PageCells, Pages}
-use Rattle.ledger_tables.specs.Tables.{ByJob, Tables, job_named, with_job, with_flags, with_stretches, with_state, with_page, with_cards, with_lines}
+use Rattle.ledger_tables.specs.Cells.{JobCells, LineCells, PageCells, Pages, Pockets}
+use Rattle.ledger_tables.specs.Tables.{ByJob, Tables, job_named, with_job, with_flags, with_stretches, with_state, with_page, with_cards, with_lines, with_profile, with_chosen, with_pocket}
 use Rattle.ledger_tables.specs.declared.names.JobName.{JobName}
+use Rattle.ledger_tables.specs.declared.rows.PocketRow.{PocketRow}
+use Rattle.ledger_tables.specs.declared.rows.ProfileRow.{ProfileRow}
 use Rattle.ledger_tables.specs.declared.rows.StateRow.{StateRow}
 use Rattle.ledger_tables.specs.declared.rows.StretchRow.{StretchRow}
 
@@ -98,3 +100,35 @@ IsNextLine name place t = place ≡ length (of_job name t.lines) + 1
 abbrev pub with_next_line : JobName → LineCells → Tables → Tables
 with_next_line name line t =
     with_lines name.customer.now name.number (of_job name t.lines ++ line ∷ []) t
+
+-- the job has no profile
+abbrev pub HasNoProfile : JobName → Tables → Type 0
+HasNoProfile name t = of_job name t.profiles ≡ None
+
+-- the tables with this profile of the job
+abbrev pub with_profile_of : JobName → ProfileRow → Tables → Tables
+with_profile_of name = with_profile name.customer.now name.number
+
+-- the tables with this pocket chosen for the job's next card, if the job has a profile
+abbrev pub with_chosen_of : JobName → ℕ → Tables → Tables
+with_chosen_of name = with_chosen name.customer.now name.number
+
+-- the pocket of the card at this place has no row
+abbrev pub HasNoPocket : JobName → ℕ → Tables → Type 0
+HasNoPocket name place t = of_job name t.pockets place ≡ None
+
+-- the tables with this pocket of the job's card at this place
+abbrev pub with_pocket_of : JobName → ℕ → ℕ → Tables → Tables
+with_pocket_of name place pocket =
+    with_pocket name.customer.now name.number place (Some pocket)
+
+-- these are the rows of pockets, in some order
+pub record ArePockets (found : List PocketRow) (pockets : Pockets) : Type 0 where
+  pub only : All (λ it. pockets it.place ≡ Some it.pocket) found
+  pub all : (place pocket : ℕ) → pockets place ≡ Some pocket
+      → Contains found (record { place = place; pocket = pocket })
+
+-- the places and the pockets are numbers that a row can hold
+abbrev pub HavePocketNumbers : Pockets → Type 0
+HavePocketNumbers pockets = (place pocket : ℕ) → pockets place ≡ Some pocket
+    → (place < 2 ^ 32) × (pocket < 2 ^ 32)

@@ -6,8 +6,9 @@ use Rattle.ledger_tables.specs.Cells.{QueuedName, unless_blank}
 use Rattle.ledger_tables.specs.Listed.{queued_name}
 use Rattle.ledger_tables.specs.Named.{of_job}
 use Rattle.ledger_tables.specs.Schema.{raising_schema, up_to_states}
-use Rattle.ledger_tables.specs.Tables.{ByJob, Tables, HoldsFirstIn}
+use Rattle.ledger_tables.specs.Tables.{ByJob, Tables, HoldsFirstIn, job_named, without_profiles}
 use Rattle.ledger_tables.specs.declared.names.JobName.{JobName}
+use Rattle.ledger_tables.specs.declared.rows.ProfileRow.{ProfileRow}
 
 -- the tables of version 1 hold this, and beside them is a table of states without a row
 pub record HasNewStates (db : Database) (t : Tables) (storages : ByJob (List ℕ)) : Type 0 where
@@ -33,3 +34,14 @@ storage_of name storages t = option_map (λ state. of_job name storages) (of_job
 abbrev pub without_blank_pages : Tables → Tables
 without_blank_pages t =
     record t { pages = λ customer number page. unless_blank (t.pages customer number page) }
+
+-- the profile of a job of an earlier version: 1, with no pocket chosen
+abbrev pub plain_profile : ProfileRow
+plain_profile = record { profile = 1; chosen = 0 }
+
+-- the tables with that profile of each job, and no pockets
+abbrev pub with_plain_profiles : Tables → Tables
+with_plain_profiles t = record (without_profiles t) {
+  profiles = λ customer number.
+      option_map (λ job. plain_profile) (job_named customer number t.jobs);
+}

@@ -14,7 +14,7 @@ use Rattle.sqlite.specs.Kind.TheVariants.{Integer, Text, Blob}
 
 -- the version of the tables that this program makes and opens
 abbrev pub own_version : ℕ
-own_version = 3
+own_version = 4
 
 -- a column of this name that always has a value of this kind
 abbrev pub required : List ℕ → Kind → Column
@@ -33,6 +33,17 @@ to_job = record {
   columns = 1 ∷ 2 ∷ [];
   parent = codes "jobs";
   parent_columns = codes "customer" ∷ codes "number" ∷ [];
+  on_delete = NoAction;
+  on_update = NoAction;
+  is_deferred = false;
+}
+
+-- the reference of a row to a punched card, by its job's customer and number and its place
+abbrev pub to_card : Reference
+to_card = record {
+  columns = 1 ∷ 2 ∷ 3 ∷ [];
+  parent = codes "cards";
+  parent_columns = codes "customer" ∷ codes "number" ∷ codes "place" ∷ [];
   on_delete = NoAction;
   on_update = NoAction;
   is_deferred = false;
@@ -233,6 +244,58 @@ pages = record {
 abbrev pub raising_schema : Schema
 raising_schema = created up_to_states pages
 
--- the schema of a bureau, with its seven tables: `pictures` is dropped
+-- the schema of versions 2 and 3, with their seven tables: `pictures` is dropped
+abbrev pub paged_schema : Schema
+paged_schema = without_table raising_schema 5
+
+-- the table `profiles`, with a row for each job
+abbrev pub profiles : Table
+profiles = record {
+  name = codes "profiles";
+  tree = 0;
+  columns = required (codes "customer") Text ∷ required (codes "number") Integer
+      ∷ required (codes "profile") Integer ∷ required (codes "chosen") Integer ∷ [];
+  key = None;
+  primary = 1 ∷ 2 ∷ [];
+  uniques = (1 ∷ 2 ∷ []) ∷ [];
+  orders = plain ∷ [];
+  checks = [];
+  references = to_job ∷ [];
+  computed = [];
+  stamps = record { places = []; terms = []; formats = [] };
+  is_counted = false;
+}
+
+-- the schema once `profiles` is created beside the tables of version 3
+abbrev pub up_to_profiles : Schema
+up_to_profiles = created paged_schema profiles
+
+-- the table `pockets`, with a row for each punched card that is not in the normal pocket
+abbrev pub pockets : Table
+pockets = record {
+  name = codes "pockets";
+  tree = 0;
+  columns = required (codes "customer") Text ∷ required (codes "number") Integer
+      ∷ required (codes "place") Integer ∷ required (codes "pocket") Integer ∷ [];
+  key = None;
+  primary = 1 ∷ 2 ∷ 3 ∷ [];
+  uniques = (1 ∷ 2 ∷ 3 ∷ []) ∷ [];
+  orders = plain ∷ [];
+  checks = [];
+  references = to_card ∷ [];
+  computed = [];
+  stamps = record { places = []; terms = []; formats = [] };
+  is_counted = false;
+}
+
+-- the schema of a bureau, with its nine tables
 abbrev pub bureau_schema : Schema
-bureau_schema = without_table raising_schema 5
+bureau_schema = created up_to_profiles pockets
+
+-- the schema of a new file once `profiles` is created: `pictures` is dropped at the end
+abbrev pub new_up_to_profiles : Schema
+new_up_to_profiles = created raising_schema profiles
+
+-- the schema of a new file once `pockets` is created too
+abbrev pub new_up_to_pockets : Schema
+new_up_to_pockets = created new_up_to_profiles pockets

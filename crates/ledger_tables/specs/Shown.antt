@@ -5,6 +5,8 @@ use Rattle.sqlite.specs.Order.{Row}
 use Rattle.ledger_tables.specs.Cells.{JobCells, LineCells, LoadedCells, PageCells, QueuedName}
 use Rattle.ledger_tables.specs.Tables.{NamedJob, state_columns}
 use Rattle.ledger_tables.specs.declared.rows.NameRow.{NameRow}
+use Rattle.ledger_tables.specs.declared.rows.PocketRow.{PocketRow}
+use Rattle.ledger_tables.specs.declared.rows.ProfileRow.{ProfileRow}
 use Rattle.ledger_tables.specs.declared.rows.ProgressRow.{ProgressRow}
 use Rattle.ledger_tables.specs.declared.rows.StateRow.{StateRow}
 use Rattle.ledger_tables.specs.declared.rows.StretchRow.{StretchRow}
@@ -59,3 +61,11 @@ shown_card card = Blob card ∷ []
 -- the columns read of a line, without its job and place
 abbrev pub shown_line : LineCells → Row
 shown_line l = Int (pos l.form) ∷ Int (pos l.line) ∷ Blob l.image ∷ []
+
+-- the columns read of a profile, without its job
+abbrev pub shown_profile : ProfileRow → Row
+shown_profile p = Int (pos p.profile) ∷ Int (pos p.chosen) ∷ []
+
+-- the columns read of a pocket, without its job
+abbrev pub shown_pocket : PocketRow → Row
+shown_pocket p = Int (pos p.place) ∷ Int (pos p.pocket) ∷ []

@@ -1,14 +1,14 @@
 //! Creating the tables.
 //!
-//! Every table but `bureau` and `jobs` refers to its job by a foreign key. All columns are NOT
-//! NULL, and the tables are STRICT.
+//! Every table but `bureau` and `jobs` refers to its job by a foreign key, and `pockets` to the
+//! card. All columns are NOT NULL, and the tables are STRICT.
 
-ghost use Rattle.std.specs.Prelude.{◌≡◌, ℕ, true, false, List, [], ◌∷◌, codes, IfErr, IsTrue, None, OnOk, Some};
-ghost use Rattle.ledger_tables.specs.Schema.{no_schema, up_to_bureau, up_to_jobs, up_to_stretches, up_to_pictures, up_to_cards, first_schema, up_to_states, raising_schema, bureau_schema};
+ghost use Rattle.std.specs.Prelude.{◌≡◌, ℕ, true, false, List, [], ◌∷◌, codes, IfErr, IsTrue, OnOk};
+ghost use Rattle.ledger_tables.specs.Schema.{no_schema, up_to_bureau, up_to_jobs, up_to_stretches, up_to_pictures, up_to_cards, first_schema, up_to_states, raising_schema, new_up_to_profiles, new_up_to_pockets, bureau_schema};
 ghost use Rattle.ledger_tables.specs.Making.{AreMade, Makes, AddsNames, IsStopped, is_taken, table_names};
 ghost use Rattle.ledger_tables.specs.Steps.{Inside, IsStep};
 ghost use Rattle.ledger_tables.specs.Raising.{HasNewStates, HasNewTables};
-ghost use Rattle.ledger_tables.specs.Tables.{ByJob, Holds, HoldsAs, HoldsFirst, Tables, no_rows};
+ghost use Rattle.ledger_tables.specs.Tables.{ByJob, Holds, HoldsAs, HoldsFirst, Tables, complete, no_rows, paged, pictured, profiled, without_profiles};
 
 use crate::faults::Fault;
 use crate::open_tables::OpenTables;
@@ -146,13 +146,53 @@ impl<S: Alter> OpenTables<'_, '_, S> {
         )
     }
 
+    /// Creates the table of profiles.
+    pub(crate) fn make_profiles(&mut self) -> Result<(), Fault>
+        ensures step { IsStep S.Store self.old self.new result }
+        ensures made { Makes S.Store self.old self.new result raising_schema new_up_to_profiles }
+        ensures named { Inside S.Store self.old self.new
+            (λ old new. AddsNames (codes "profiles" ∷ []) old new result) }
+        ensures beside { Inside S.Store self.old self.new (λ old new. OnOk result ((t : Tables)
+            → (version : ℕ) → (IsTrue old.is_open → HoldsAs paged version old.now t)
+            → HoldsAs profiled version new.now t)) }
+    {
+        self.run(
+            "CREATE TABLE profiles (customer TEXT NOT NULL, number INTEGER NOT NULL, \
+             profile INTEGER NOT NULL, chosen INTEGER NOT NULL, PRIMARY KEY (customer, number), \
+             FOREIGN KEY (customer, number) REFERENCES jobs (customer, number)) STRICT",
+            &[],
+        )
+    }
+
+    /// Creates the table of pockets.
+    pub(crate) fn make_pockets(&mut self) -> Result<(), Fault>
+        ensures step { IsStep S.Store self.old self.new result }
+        ensures made { Makes S.Store self.old self.new result
+            new_up_to_profiles new_up_to_pockets }
+        ensures named { Inside S.Store self.old self.new
+            (λ old new. AddsNames (codes "pockets" ∷ []) old new result) }
+        ensures beside { Inside S.Store self.old self.new (λ old new. OnOk result ((t : Tables)
+            → (version : ℕ) → HoldsAs profiled version old.now t
+            → HoldsAs complete version new.now (without_profiles t))) }
+    {
+        self.run(
+            "CREATE TABLE pockets (customer TEXT NOT NULL, number INTEGER NOT NULL, \
+             place INTEGER NOT NULL, pocket INTEGER NOT NULL, \
+             PRIMARY KEY (customer, number, place), \
+             FOREIGN KEY (customer, number, place) \
+             REFERENCES cards (customer, number, place)) STRICT",
+            &[],
+        )
+    }
+
     /// Drops the table of pictures.
     pub fn drop_pictures(&mut self) -> Result<(), Fault>
         ensures step { IsStep S.Store self.old self.new result }
-        ensures made { Makes S.Store self.old self.new result raising_schema bureau_schema }
+        ensures made { Makes S.Store self.old self.new result new_up_to_pockets bureau_schema }
         ensures dropped { Inside S.Store self.old self.new (λ old new. OnOk result ((t : Tables)
             → (storages : ByJob (List ℕ)) → (version : ℕ)
-            → HoldsAs (Some storages) version old.now t → HoldsAs None version new.now t)) }
+            → HoldsAs (pictured storages) version old.now t
+            → HoldsAs paged version new.now t)) }
     {
         self.run("DROP TABLE pictures", &[])
     }
@@ -193,21 +233,24 @@ impl<S: Alter> OpenTables<'_, '_, S> {
         self.make_lines()
     }
 
-    /// Creates the tables of states and of pages beside those of version 1.
+    /// Creates the later tables beside those of version 1.
     fn make_later(&mut self) -> Result<(), Fault>
         ensures step { IsStep S.Store self.old self.new result }
-        ensures made { Makes S.Store self.old self.new result first_schema raising_schema }
+        ensures made { Makes S.Store self.old self.new result first_schema new_up_to_pockets }
         ensures named { Inside S.Store self.old self.new (λ old new.
-            AddsNames (codes "states" ∷ codes "pages" ∷ []) old new result) }
+            AddsNames (codes "states" ∷ codes "pages" ∷ codes "profiles" ∷ codes "pockets" ∷ [])
+            old new result) }
     {
         self.make_states()?;
-        self.make_pages()
+        self.make_pages()?;
+        self.make_profiles()?;
+        self.make_pockets()
     }
 
     /// Creates the tables of version 1 and the later ones.
     fn make_all(&mut self) -> Result<(), Fault>
         ensures step { IsStep S.Store self.old self.new result }
-        ensures made { Makes S.Store self.old self.new result no_schema raising_schema }
+        ensures made { Makes S.Store self.old self.new result no_schema new_up_to_pockets }
         ensures named { Inside S.Store self.old self.new
             (λ old new. AddsNames table_names old new result) }
     {

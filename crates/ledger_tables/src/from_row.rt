@@ -5,12 +5,12 @@ ghost use Rattle.std.specs.Option.{option_to_list};
 ghost use Rattle.sqlite.specs.Order.{Row as Values};
 ghost use Rattle.sqlite.specs.declared.error.ErrorCode.TheVariants.{OutOfMemory};
 ghost use Rattle.ledger_tables.specs.Reading.{AreReadable, CanRead};
-ghost use Rattle.ledger_tables.specs.Shown.{shown_job, shown_loaded, shown_name, shown_queued, shown_stretch, shown_state, shown_progress, shown_page, shown_storage, shown_card, shown_line};
+ghost use Rattle.ledger_tables.specs.Shown.{shown_job, shown_loaded, shown_name, shown_queued, shown_stretch, shown_state, shown_progress, shown_page, shown_storage, shown_card, shown_line, shown_profile, shown_pocket};
 
 use crate::faults::{Fault, fault_of};
 use crate::rows::{
-    CardRow, JobRow, LineRow, LoadedRow, NameRow, PageRow, ProgressRow, QueuedRow, StateRow,
-    StorageRow, StretchRow,
+    CardRow, JobRow, LineRow, LoadedRow, NameRow, PageRow, PocketRow, ProfileRow, ProgressRow,
+    QueuedRow, StateRow, StorageRow, StretchRow,
 };
 use sqlite::{Error, Row};
 use std::alloc::Global;
@@ -162,6 +162,28 @@ impl FromRow for LineRow {
             form: row.get(0)?,
             line: row.get(1)?,
             image: row.get(2)?,
+        })
+    }
+}
+
+impl FromRow for ProfileRow {
+    ghost shown = { shown_profile };
+
+    fn from_row(row: &Row) -> Result<ProfileRow, Error> {
+        Ok(ProfileRow {
+            profile: row.get(0)?,
+            chosen: row.get(1)?,
+        })
+    }
+}
+
+impl FromRow for PocketRow {
+    ghost shown = { shown_pocket };
+
+    fn from_row(row: &Row) -> Result<PocketRow, Error> {
+        Ok(PocketRow {
+            place: row.get(0)?,
+            pocket: row.get(1)?,
         })
     }
 }

@@ -19,6 +19,7 @@ mod names;
 mod open_tables;
 mod openings;
 mod pages;
+mod pockets;
 mod raising;
 mod rows;
 mod updates;
@@ -29,6 +30,6 @@ pub use names::JobName;
 pub use open_tables::OpenTables;
 pub use openings::{OpenFault, VERSION};
 pub use rows::{
-    CardRow, JobRow, LineRow, LoadedRow, NameRow, PageRow, ProgressRow, QueuedRow, StateRow,
-    StorageRow, StretchRow,
+    CardRow, JobRow, LineRow, LoadedRow, NameRow, PageRow, PocketRow, ProfileRow, ProgressRow,
+    QueuedRow, StateRow, StorageRow, StretchRow,
 };

@@ -3,12 +3,12 @@
 //! The caller goes through the jobs of version 1 in turn, and puts the pages of each storage
 //! between [`OpenTables::lay_out`] and [`OpenTables::drop_pictures`].
 
-ghost use Rattle.std.specs.Prelude.{◌≡◌, ℕ, IfOk, IsTrue, List, None, OnOk, Some};
+ghost use Rattle.std.specs.Prelude.{◌≡◌, ℕ, IfOk, IsTrue, List, OnOk};
 ghost use Rattle.sqlite.specs.State.{IsUnchanged};
-ghost use Rattle.ledger_tables.specs.Raising.{HasNewTables, all_names, storage_of, without_blank_pages};
+ghost use Rattle.ledger_tables.specs.Raising.{HasNewTables, all_names, storage_of, with_plain_profiles, without_blank_pages};
 ghost use Rattle.ledger_tables.specs.Schema.{own_version};
 ghost use Rattle.ledger_tables.specs.Steps.{Inside, IsOpenStep, IsStep};
-ghost use Rattle.ledger_tables.specs.Tables.{Beside, ByJob, HoldsAs, HoldsFirst, Tables, without_pages};
+ghost use Rattle.ledger_tables.specs.Tables.{ByJob, HoldsAs, HoldsFirst, Tables, complete, paged, pictured, without_pages, without_profiles};
 
 use crate::faults::Fault;
 use crate::names::JobName;
@@ -26,7 +26,7 @@ impl<S: Alter> OpenTables<'_, '_, S> {
         ensures step { IsStep S.Store self.old self.new result }
         ensures copied { Inside S.Store self.old self.new (λ old new. OnOk result ((t : Tables)
             → (storages : ByJob (List ℕ)) → HasNewTables old.now t storages
-            → HoldsAs (Some storages) 1 new.now (without_pages t))) }
+            → HoldsAs (pictured storages) 1 new.now (without_pages t))) }
     {
         self.run(
             "INSERT INTO states (customer, number, i, a, b, compare, overflow, channel, waiting, \
@@ -43,7 +43,7 @@ impl<S: Alter> OpenTables<'_, '_, S> {
         ensures step { IsStep S.Store self.old self.new result }
         ensures laid { Inside S.Store self.old self.new (λ old new. OnOk result ((t : Tables)
             → (storages : ByJob (List ℕ)) → (IsTrue old.is_open → HoldsFirst old.now t storages)
-            → HoldsAs (Some storages) 1 new.now (without_pages t))) }
+            → HoldsAs (pictured storages) 1 new.now (without_pages t))) }
     {
         self.make_states()?;
         self.make_pages()?;
@@ -55,7 +55,7 @@ impl<S: Alter> OpenTables<'_, '_, S> {
         ensures step { IsOpenStep S.Store self.old self.new result }
         ensures found { Inside S.Store self.old self.new (λ old new. IfOk result (λ names.
             (t : Tables) → (storages : ByJob (List ℕ)) → (version : ℕ)
-            → HoldsAs (Some storages) version old.now t
+            → HoldsAs (pictured storages) version old.now t
             → IsUnchanged old new × (names.items ≡ all_names t))) }
     {
         self.all(
@@ -69,7 +69,7 @@ impl<S: Alter> OpenTables<'_, '_, S> {
         ensures step { IsOpenStep S.Store self.old self.new result }
         ensures found { Inside S.Store self.old self.new (λ old new. IfOk result (λ found.
             (t : Tables) → (storages : ByJob (List ℕ)) → (version : ℕ)
-            → HoldsAs (Some storages) version old.now t
+            → HoldsAs (pictured storages) version old.now t
             → IsUnchanged old new × (found ≡ storage_of name.entry storages t))) }
     {
         self.one(
@@ -82,18 +82,45 @@ impl<S: Alter> OpenTables<'_, '_, S> {
     pub fn clear_blank_pages(&mut self) -> Result<(), Fault>
         ensures step { IsStep S.Store self.old self.new result }
         ensures cleared { Inside S.Store self.old self.new (λ old new. OnOk result ((t : Tables)
-            → (version : ℕ) → (IsTrue old.is_open → HoldsAs None version old.now t)
-            → HoldsAs None version new.now (without_blank_pages t))) }
+            → (version : ℕ) → (IsTrue old.is_open → HoldsAs paged version old.now t)
+            → HoldsAs paged version new.now (without_blank_pages t))) }
     {
         self.run("DELETE FROM pages WHERE storage = ?1", params![&BLANK[..]])
+    }
+
+    /// Gives each job profile 1, and no pocket chosen, in the new table of profiles.
+    fn copy_profiles(&mut self) -> Result<(), Fault>
+        ensures step { IsStep S.Store self.old self.new result }
+        ensures copied { Inside S.Store self.old self.new (λ old new. OnOk result ((t : Tables)
+            → (version : ℕ) → HoldsAs complete version old.now (without_profiles t)
+            → HoldsAs complete version new.now (with_plain_profiles t))) }
+    {
+        self.run(
+            "INSERT INTO profiles (customer, number, profile, chosen) \
+             SELECT customer, number, 1, 0 FROM jobs ORDER BY rowid",
+            &[],
+        )
+    }
+
+    /// Makes the tables of profiles and of pockets beside those of version 3. Each job has profile
+    /// 1, and each card is in the normal pocket.
+    pub fn add_profiles(&mut self) -> Result<(), Fault>
+        ensures step { IsStep S.Store self.old self.new result }
+        ensures added { Inside S.Store self.old self.new (λ old new. OnOk result ((t : Tables)
+            → (version : ℕ) → (IsTrue old.is_open → HoldsAs paged version old.now t)
+            → HoldsAs complete version new.now (with_plain_profiles t))) }
+    {
+        self.make_profiles()?;
+        self.make_pockets()?;
+        self.copy_profiles()
     }
 
     /// Marks the tables as of this program's version.
     pub fn set_version(&mut self) -> Result<(), Fault>
         ensures step { IsStep S.Store self.old self.new result }
         ensures set { Inside S.Store self.old self.new (λ old new. OnOk result ((t : Tables)
-            → (version : ℕ) → HoldsAs None version old.now t
-            → HoldsAs None own_version new.now t)) }
+            → (version : ℕ) → HoldsAs complete version old.now t
+            → HoldsAs complete own_version new.now t)) }
     {
         self.run("UPDATE bureau SET version = ?1", params![VERSION])
     }

@@ -178,6 +178,24 @@ impl Model for CardRow {
     ghost view = { λ row. row.card.items };
 }
 
+/// A row of `profiles`.
+#[derive(Clone, Copy, Debug)]
+pub struct ProfileRow {
+    /// 1 for a job made before version 4 of the tables, 2 for one made since.
+    pub profile: u32,
+    /// The pocket chosen for the next punched card: 0 the normal one, 4 or 8.
+    pub chosen: u32,
+}
+
+/// A row of `pockets`.
+#[derive(Clone, Copy, Debug)]
+pub struct PocketRow {
+    /// The place of the punched card, from 1.
+    pub place: u32,
+    /// 4 or 8.
+    pub pocket: u32,
+}
+
 /// A row of `lines`.
 #[derive(Drop)]
 pub struct LineRow {

@@ -6,7 +6,7 @@ use Rattle.ledger.proofs.migrating.end_first.Goals as goal
 
 pub returns-clause-ended : goal.returns-clause-ended
 returns-clause-ended g c clean inside =
-    let early : HasCleanDisk (seen g.S.Store c.drop_pictures.new.self) = omega (arith, c.set_version.ensures.step.survives.clean) in
+    let early : HasCleanDisk (seen g.S.Store c.drop_pictures.new.self) = omega (arith, c.end_third.ensures.step.survives.clean) in
     let on = c.in_ok-drop_pictures.ensures.step.frame early inside in
     let dropped = c.in_ok-drop_pictures.ensures.dropped early inside in
-    on_ok_then c.set_version.result _ _ (λ set storages version t holds. set t version (dropped t storages version holds)) (c.set_version.ensures.set clean on.inside)
+    on_ok_then c.end_third.result _ _ (λ ended storages version t holds. ended version t (λ _. dropped t storages version holds)) (c.end_third.ensures.ended clean on.inside)

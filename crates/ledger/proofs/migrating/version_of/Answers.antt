@@ -3,7 +3,7 @@ use Rattle.ledger.proofs.BureauVersions.{is_no_fault_of, shown_old, shown_own, v
 use Rattle.ledger.proofs.migrating.version_of.Goals as goal
 
 pub returns-in-Ok-clause-found : goal.returns-in-Ok-clause-found
-returns-in-Ok-clause-found g c clean inside = version_found _ _ 3 (shown_own _ _ _ (c.in-Ok.ensures.found clean inside))
+returns-in-Ok-clause-found g c clean inside = version_found _ _ 4 (shown_own _ _ _ (c.in-Ok.ensures.found clean inside))
 
 pub returns-in-Err-Old-clause-found : goal.returns-in-Err-Old-clause-found
 returns-in-Err-Old-clause-found g c clean inside = version_found _ _ c.in-Err-Old.version (shown_old _ _ _ _ c.in-Err-Old.field-0-is (c.in-Err-Old.ensures.found clean inside))

@@ -31,7 +31,7 @@ returns-clause-found g c clean inside = if_ok_then _ _ c.machine_of.result (λ m
           let pages = subst (λ o. ArePages c.in_ok-pages.pages.items (pages_of o)) is rest.1 in
           made m (c.outputs_are_put_back.ensures.in_range (picture job) range) kept.storage (record {
             size_is = size ∙ sym (picture_size c.runs_only_add.ensures.size job);
-            state = record { row_is = state; deck = media.deck; switches = media.switches; cards = media.cards; lines = media.lines };
+            state = record { row_is = state; deck = media.deck; switches = media.switches; punch = media.punch; lines = media.lines };
             pages_are = subst (λ xs. ArePages xs (rows_of m.works.storage)) (sym rows) pages;
           }),
     )) c.machine_of.ensures.machine
