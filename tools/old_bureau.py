@@ -63,6 +63,12 @@ def old_rows(db, table, version):
     return db.execute(f"SELECT * FROM {table} ORDER BY rowid").fetchall()
 
 
+def make_plain(path):
+    """Gives each job of a bureau's file profile 1, which those of older versions have."""
+    with closing(sqlite3.connect(path)) as db, db:
+        db.execute("UPDATE profiles SET profile = 1")
+
+
 def make_old(path, old, version):
     """Makes a file of an earlier version, with the jobs of a bureau's file of version 4.
     The jobs must not have chosen a pocket, since older ones could not."""
