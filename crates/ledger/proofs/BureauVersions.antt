@@ -17,6 +17,7 @@ use Rattle.ledger_tables.specs.declared.openings.OpenFault.TheVariants.{NoMemory
 use Rattle.ledger_tables.specs.Steps.{GoesOn}
 use Rattle.ledger_tables.proofs.Frames.{shown_goes_on, shown_opened, shown_same}
 use Rattle.ledger_tables.proofs.OpeningVersion.{plain_in, shown_understood, versions_shown}
+use Rattle.ledger.specs.Adopting.{IsUntouched}
 use Rattle.ledger.specs.Migrating.{IsRaisedFrom, IsVersionOf}
 use Rattle.ledger.specs.Older.{FirstRows, LeftOf, RowsOf, SecondRows, StandsOf, ThirdRows}
 use Rattle.ledger.specs.Standing.{LeftAs, Rows, Stands}
@@ -197,3 +198,11 @@ left_in_either version old begun mid new office same early one two s served clea
   | inl before ↦ elim (one.crash (early clean) db before) [ inl first ↦ inl (s.left db (same db first)) | inr none ↦ absurd none ]
   | inr made ↦ inr (subst (λ d. LeftAs d office) (sym made) (left_as mid.now office served))
 ]
+
+-- what was left as it was stands as before
+pub untouched_stands : (old new : State) (office : Office) → IsUntouched old new → Stands old office → Stands new office
+untouched_stands old new office it s = record {
+  outside = it.mode ∙ s.outside;
+  now = λ opened. subst (λ db. Rows db office) (sym (it.now opened)) (s.now (it.was_open opened));
+  left = λ db may. s.left db (it.left db may);
+}

@@ -15,7 +15,7 @@ use Rattle.ledger_tables.specs.Named.{of_job}
 use Rattle.ledger_tables.specs.Raising.{without_blank_pages}
 use Rattle.ledger_tables.specs.Raising as raising
 use Rattle.ledger_tables.specs.declared.names.JobName.{JobName}
-use Rattle.ledger_tables.specs.Tables.{ByJob, NamedJob, Tables, AreDistinct, HoldsAs, is_job, with_pages}
+use Rattle.ledger_tables.specs.Tables.{ByJob, NamedJob, Tables, AreDistinct, HoldsAs, is_job, with_pages, pictured}
 use Rattle.ledger_tables.proofs.InsertLast.{name_is, name_yes}
 use Rattle.ledger.specs.Listed.{IsIts}
 use Rattle.ledger.specs.Older.{HasWhole, all_pages_of, second_tables_of, storage_of, storages_of, with_first_pages}

@@ -34,11 +34,11 @@ profile_told job plain =
 -- cards in the normal pocket have no rows
 none_apart : (first : ℕ) (cards : List Punched) (place : ℕ) → AllByRecursion IsNormal cards → pocket_rows_from first cards place ≡ None
 none_apart first [] place all = refl
-none_apart first (c ∷ cards) place all = go (first == place)
+none_apart first (c ∷ cards) place all = go (none_apart (first + 1) cards place all.1) (first == place)
   where
-    go : (b : Bool) → (if b then pocket_cell c.pocket else pocket_rows_from (first + 1) cards place) ≡ None
-    go true = ap pocket_cell all.0
-    go false = none_apart (first + 1) cards place all.1
+    go : pocket_rows_from (first + 1) cards place ≡ None → (b : Bool) → (if b then pocket_cell c.pocket else pocket_rows_from (first + 1) cards place) ≡ None
+    go rest true = ap pocket_cell all.0
+    go rest false = rest
 
 pockets_told : (job : Job) → IsPlainJob job → no_pockets ≡ pocket_rows_of (picture job).works.units.punch.cards
 pockets_told job plain =
@@ -49,8 +49,8 @@ all_told : (office : Office) → AllByRecursion (λ (e : Entry). IsPlainJob e.jo
     → (option_map (λ job. plain_profile) (job_named c n (map named office)) ≡ profile_of (job_of c n office)) × (no_pockets ≡ pockets_of (job_of c n office))
 all_told [] plain c n = (refl, refl)
 all_told (e ∷ office) plain c n = elim (cases_Bool (is_entry c n e)) [
-  | inl this ↦ (rw (this, this) (ap (λ (p : ProfileRow). let o : Option ProfileRow = Some p in o) (profile_told e.job plain.0)), rw this (pockets_told e.job plain.0))
-  | inr other ↦ let rest = all_told office plain.1 c n in (rw (other, other) rest.0, rw other rest.1)
+  | inl this ↦ (rw this (ap (λ (p : ProfileRow). let o : Option ProfileRow = Some p in o) (profile_told e.job plain.0)), rw this (pockets_told e.job plain.0))
+  | inr other ↦ let rest = all_told office plain.1 c n in (rw other rest.0, rw other rest.1)
 ]
 
 -- the tables of such an office with the profiles and pockets of such jobs are its tables

@@ -112,5 +112,5 @@ same_entries a b (e ∷ xs) (f ∷ ys) agree alike mine yours its others is =
 pub one_office : (db : Database) (a b : Office) → Rows db a → Rows db b → a ≡ b
 one_office db a b one two =
     same_entries a b a b (λ c n. same_placed c n 0 _ _ (sym (one.tables.shared.stretches.each c n) ∙ two.tables.shared.stretches.each c n))
-    (λ c n. same_told c n _ _ (sym (one.tables.beside.profiles.each c n) ∙ two.tables.beside.profiles.each c n))
+    (λ c n. same_told c n _ _ (sym (one.tables.beside.profiles_are.each c n) ∙ two.tables.beside.profiles_are.each c n))
     (all_its a one.tables.shared.distinct) (all_its b two.tables.shared.distinct) one.jobs two.jobs (sym one.tables.shared.jobs ∙ two.tables.shared.jobs)

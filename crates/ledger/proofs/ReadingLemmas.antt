@@ -76,7 +76,7 @@ unfolding resumed
 resumed_profile m [] = refl
 resumed_profile m (s ∷ stretches) =
     let now = started m s.switches in
-    resumed_profile (after now s.granted) stretches ∙ (stems_after now now s.granted (stems_same now)).profile
+    resumed_profile (after now s.granted) stretches ∙ (stems_after now now s.granted (stems_same now)).punch.profile
 
 pub picture_profile : (job : Job) → (picture job).works.units.punch.profile ≡ job.profile
 picture_profile job = resumed_profile (beginning job) job.stretches
@@ -87,7 +87,7 @@ unfolding resumed
 resumed_plain m [] it = it
 resumed_plain m (s ∷ stretches) it =
     let now = started m s.switches in
-    resumed_plain (after now s.granted) stretches ((stems_after now now s.granted (stems_same now)).plain it)
+    resumed_plain (after now s.granted) stretches ((stems_after now now s.granted (stems_same now)).punch.plain it)
 
 pub picture_plain : (job : Job) → job.profile ≡ Plain → IsPlain (picture job).works.units.punch
 picture_plain job is = resumed_plain (beginning job) job.stretches (record { profile = is; chosen = refl; cards = λ k d less. absurd (omega (arith, less)) })

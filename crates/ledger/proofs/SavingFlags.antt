@@ -9,7 +9,7 @@ use Rattle.sqlite.specs.Effect.{Database}
 use Rattle.ledger_tables.specs.Tables.{NamedJob, AreDistinct, Holds, is_job, flagged, with_flags}
 use Rattle.ledger_tables.proofs.InsertLast.{name_is}
 use Rattle.ledger.specs.Saving.{flagged_job}
-use Rattle.ledger.specs.Standing.{named, stretches_of, state_of, pages_of, cards_of, lines_of, tables_of, CanBeKept, Rows}
+use Rattle.ledger.specs.Standing.{named, stretches_of, state_of, pages_of, cards_of, lines_of, profile_of, pockets_of, tables_of, CanBeKept, Rows}
 use Rattle.ledger.proofs.SavingChanges.{all_with}
 use Rattle.ledger.proofs.Offices.{job_is}
 use Rattle.ledger.proofs.SavingLemmas.{same_tables, told_of}
@@ -71,6 +71,7 @@ module _ (customer : List ℕ) (number : ℕ) (old : Job) (held collected : Bool
   flags_told office distinct is =
       let all = only_old office distinct is in
       same_tables _ _ (jobs_flagged office all) (all_still stretches_of refl office all) (all_still state_of refl office all) (all_still pages_of refl office all) (all_still cards_of refl office all) (all_still lines_of refl office all)
+      (all_still profile_of refl office all) (all_still pockets_of refl office all)
 
 pub flags_saved : (db0 db : Database) (office : Office) (customer : List ℕ) (number a b : ℕ) (held collected : Bool) (old : Job) → Rows db0 office → job_of customer number office ≡ Some old → IsJob (flagged_job held collected old) → a ≡ truth held → b ≡ truth collected
     → Holds db (with_flags customer number a b (tables_of office)) → Rows db (with_job customer number (flagged_job held collected old) office)

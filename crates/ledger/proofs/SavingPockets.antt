@@ -14,26 +14,27 @@ use Rattle.ledger.proofs.SavingLemmas.{at_job_again, at_job_here, at_job_same}
 -- no card before it has the next place
 none_behind : (first : ℕ) (cards : List Punched) (place : ℕ) → first + length cards ≤ place → pocket_rows_from first cards place ≡ None
 none_behind first [] place past = refl
-none_behind first (c ∷ cards) place past = go (first == place) refl
+none_behind first (c ∷ cards) place past = go (none_behind (first + 1) cards place (omega (arith, past))) (first == place) refl
   where
-    go : (b : Bool) → first == place ≡ b → (if b then pocket_cell c.pocket else pocket_rows_from (first + 1) cards place) ≡ None
-    go true same = absurd (grind (arith, nat_tests))
-    go false other = none_behind (first + 1) cards place (omega (arith, past))
+    go : pocket_rows_from (first + 1) cards place ≡ None → (b : Bool) → first == place ≡ b → (if b then pocket_cell c.pocket else pocket_rows_from (first + 1) cards place) ≡ None
+    go rest true same = absurd (grind (arith, nat_tests))
+    go rest false other = rest
 
 -- the rows with those of one card more, behind the others
 one_behind : (first : ℕ) (cards : List Punched) (c : Punched) (place : ℕ) → pocket_rows_from first (cards ++ c ∷ []) place ≡ at_place (first + length cards) (pocket_cell c.pocket) (pocket_rows_from first cards) place
 one_behind first [] c place = ap (λ n. if n == place then pocket_cell c.pocket else None) (let same : first ≡ first + zero = omega arith in same)
-one_behind first (d ∷ cards) c place = go (first == place) refl (first + length (d ∷ cards) == place) refl
+one_behind first (d ∷ cards) c place = go (one_behind (first + 1) cards c place) (first == place) refl (first + length (d ∷ cards) == place) refl
   where
     on : first + 1 + length cards ≡ first + length (d ∷ cards)
     on = omega arith
 
-    go : (b : Bool) → first == place ≡ b → (e : Bool) → first + length (d ∷ cards) == place ≡ e
+    go : pocket_rows_from (first + 1) (cards ++ c ∷ []) place ≡ at_place (first + 1 + length cards) (pocket_cell c.pocket) (pocket_rows_from (first + 1) cards) place
+        → (b : Bool) → first == place ≡ b → (e : Bool) → first + length (d ∷ cards) == place ≡ e
         → (if b then pocket_cell d.pocket else pocket_rows_from (first + 1) (cards ++ c ∷ []) place) ≡ (if e then pocket_cell c.pocket else (if b then pocket_cell d.pocket else pocket_rows_from (first + 1) cards place))
-    go true same true last = absurd (grind (arith, nat_tests))
-    go true same false last = refl
-    go false other e last =
-        one_behind (first + 1) cards c place ∙ ap (λ n. if n == place then pocket_cell c.pocket else pocket_rows_from (first + 1) cards place) on
+    go rest true same true last = absurd (grind (arith, nat_tests))
+    go rest true same false last = refl
+    go rest false other e last =
+        rest ∙ ap (λ n. if n == place then pocket_cell c.pocket else pocket_rows_from (first + 1) cards place) on
         ∙ ap (λ b. if b then pocket_cell c.pocket else pocket_rows_from (first + 1) cards place) last
 
 pub pockets_still : (db : Database) (t : Tables) (customer : List ℕ) (number : ℕ) (pockets : Pockets) → Holds db t → t.pockets customer number ≡ pockets → Holds db (with_pockets customer number pockets t)

@@ -24,7 +24,7 @@ has_whole_rows db office holds e its runs halted =
       lines = lines_by e.job;
       rows = record {
         card_rows = holds.shared.cards.each e.customer e.number ∙ ap (λ j. placed (card_row e.customer e.number) 1 (cards_of j)) its;
-        pocket_rows = λ place. holds.beside.pockets.each e.customer e.number place ∙ ap (λ j. map (pocket_row e.customer e.number place) (option_to_list (pockets_of j place))) its;
+        pocket_rows = λ place. holds.beside.pockets_are.each e.customer e.number place ∙ ap (λ j. map (pocket_row e.customer e.number place) (option_to_list (pockets_of j place))) its;
         line_rows = holds.shared.lines.each e.customer e.number ∙ ap (λ j. placed (line_row e.customer e.number) 1 (lines_of j)) its;
       };
       from_deck = run_makes _ e.job whole.0;

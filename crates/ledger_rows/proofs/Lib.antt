@@ -5,3 +5,4 @@ pub mod FromCellsRows
 pub mod PageBytes
 pub mod PagesRead
 pub mod PocketsRead
+pub mod CodesRead

@@ -22,11 +22,12 @@ pub fn read_codes(numbers: &[u8], codes: &mut [Code]) -> bool
     ensures all { AreCharacters numbers.now → IsTrue result }
     ensures only { IsTrue result → (codes.new ≡ numbers.now) × AreCharacters numbers.now }
 {
+    // It goes on past a number that is none, so that the compiler takes many at once.
+    let mut are = true;
     for place in 0..numbers.len() {
-        let Some(code) = Code::from_number(numbers[place]) else {
-            return false;
-        };
-        codes[place] = code;
+        let code = Code::from_number(numbers[place]);
+        are &= code.is_some();
+        codes[place] = code.unwrap_or(Code::blank());
     }
-    true
+    are
 }

@@ -1,11 +1,12 @@
-use Rattle.std.proofs.Common.{◌≡◌, false, ap, sym, subst, arith, rules, IsTrue}
+use Rattle.std.proofs.Common.{◌≡◌, false, ap, sym, subst, ◌∙◌, arith, rules, IsTrue}
 use Rattle.sqlite.specs.State.{HasCleanDisk, IsRolledBack, Survives}
 use Rattle.sqlite.specs.Held.{state}
+use Rattle.ledger_tables.specs.Schema.{own_version}
 use Rattle.ledger.specs.Adopting.{IsUntouched}
 use Rattle.ledger.specs.Older.{RowsOf}
 use Rattle.ledger.specs.Standing.{Rows, Stands}
 use Rattle.ledger.proofs.BureauTransactions.{committed_stands, kept_by, rolled_untouched}
-use Rattle.ledger.proofs.BureauVersions.{left_in_either}
+use Rattle.ledger.proofs.BureauVersions.{left_in_either, stands_own, untouched_stands}
 use Rattle.ledger.proofs.migrating.migrate.Goals as goal
 
 pub returns-in-Ok-commit-clause-raised : goal.returns-in-Ok-commit-clause-raised
@@ -98,3 +99,28 @@ returns-in-Err-clause-untouched g c clean which =
     let outside : c.args.conn.now.in_transaction ≡ false = search rules in
     subst (λ h. IsUntouched (state g.S.Store c.args.conn.now) (state g.S.Store h)) same
     (rolled_untouched g.S.Store c.args.conn.now tx mid end begun settled outside (kept_by _ _ c.raise_found-found.result (step.frame early inside)) step.survives early back two late)
+
+pub returns-then-version-eq-VERSION-clause-raised : goal.returns-then-version-eq-VERSION-clause-raised
+returns-then-version-eq-VERSION-clause-raised g c clean version office s =
+    let begun = c.transaction-tx.ensures.begun in
+    let old = c.args.conn.now in
+    let tx = c.transaction-tx.result.conn.now in
+    let mid = c.raise_found-found.new.tables.tx.now.conn.now in
+    let end = c.rollback.new.self.0 in
+    let same : end ≡ c.conn-1.given.0 = search rules in
+    let inside : IsTrue tx.in_transaction = ap (λ h. h.in_transaction) begun in
+    let late : HasCleanDisk (state g.S.Store end) = search rules in
+    let early : HasCleanDisk (state g.S.Store mid) = search (rules, c.rollback.ensures.survives.clean) in
+    let step = c.raise_found-found.ensures.step in
+    let to_last : mid ≡ c.tx-2-1.given.0.conn.now = search rules in
+    let back = subst (λ h. IsRolledBack (state g.S.Store h) (state g.S.Store end)) (sym to_last) (c.rollback.ensures.undone late) in
+    let two = subst (λ h. Survives (state g.S.Store h) (state g.S.Store end) (λ _. ⊥)) (sym to_last) c.rollback.ensures.survives in
+    let settled : IsTrue (state g.S.Store old).is_open → (state g.S.Store old).now ≡ (state g.S.Store old).committed = search rules in
+    let outside : old.in_transaction ≡ false = search rules in
+    let still = rolled_untouched g.S.Store old tx mid end begun settled outside (kept_by _ _ c.raise_found-found.result (step.frame early inside)) step.survives early back two late in
+    let found = c.in-Ok.ensures.found early inside in
+    let first : RowsOf version (state g.S.Store tx).now office = rw begun (s.now (rw begun at found.opened)) in
+    let same_version = (found.raised version office first).0 in
+    let own : version ≡ own_version = sym same_version ∙ c.if-version-eq-VERSION.true in
+    let stands = stands_own (state g.S.Store old) version office own s in
+    (same_version, subst (λ h. Stands (state g.S.Store h) office) same (untouched_stands (state g.S.Store old) (state g.S.Store end) office still stands))

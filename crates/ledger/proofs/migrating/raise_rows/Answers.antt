@@ -5,7 +5,7 @@ use Rattle.sqlite.specs.State.{HasCleanDisk}
 use Rattle.ledger_tables.proofs.Stepping.{step_still, step_then, step_ends}
 use Rattle.ledger_tables.specs.Listed.{queued_name}
 use Rattle.ledger_tables.specs.Steps.{seen}
-use Rattle.ledger_tables.specs.Tables.{HoldsAs}
+use Rattle.ledger_tables.specs.Tables.{HoldsAs, pictured}
 use Rattle.ledger.specs.Listed.{IsIts}
 use Rattle.ledger.specs.Older.{storages_of}
 use Rattle.ledger.specs.Standing.{named}

@@ -4,7 +4,7 @@ use Rattle.office.specs.Office.{Entry, Office}
 use Rattle.ledger_tables.proofs.Stepping.{HasStepped}
 use Rattle.ledger_tables.specs.Listed.{queued_name}
 use Rattle.ledger_tables.specs.Steps.{Inside}
-use Rattle.ledger_tables.specs.Tables.{HoldsAs}
+use Rattle.ledger_tables.specs.Tables.{HoldsAs, pictured}
 use Rattle.ledger.specs.Older.{storages_of, with_first_pages}
 use Rattle.ledger.specs.Standing.{named, CanBeKept}
 use Rattle.ledger.proofs.migrating.raise_rows.Given as goal

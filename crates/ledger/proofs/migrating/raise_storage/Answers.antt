@@ -2,7 +2,7 @@ use Rattle.std.proofs.Common.{◌≡◌, Some, sym, subst, ◌∙◌, arith, rul
 use Rattle.sqlite.specs.State.{HasCleanDisk}
 use Rattle.core_store.specs.Storage.{Storage}
 use Rattle.ledger_tables.specs.Steps.{seen}
-use Rattle.ledger_tables.specs.Tables.{HoldsAs}
+use Rattle.ledger_tables.specs.Tables.{HoldsAs, pictured}
 use Rattle.ledger_tables.proofs.Frames.{on_ok_then}
 use Rattle.ledger.specs.Saving.{with_storage}
 use Rattle.ledger.proofs.ReadingLemmas.{ok_is, some_is}

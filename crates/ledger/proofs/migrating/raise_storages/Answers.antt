@@ -1,7 +1,7 @@
 use Rattle.std.proofs.Common.{◌∙◌, Some, sym, subst, arith}
 use Rattle.sqlite.specs.State.{HasCleanDisk}
 use Rattle.ledger_tables.specs.Steps.{seen}
-use Rattle.ledger_tables.specs.Tables.{HoldsAs}
+use Rattle.ledger_tables.specs.Tables.{HoldsAs, pictured}
 use Rattle.ledger_tables.proofs.Frames.{on_ok_then}
 use Rattle.ledger.specs.Older.{storages_of, with_first_pages}
 use Rattle.ledger.proofs.MigratingPages.{names_are}

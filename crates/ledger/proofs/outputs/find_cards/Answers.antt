@@ -1,4 +1,4 @@
-use Rattle.std.proofs.Common.{ap, subst, ◌∙◌, arith}
+use Rattle.std.proofs.Common.{ap, subst, sym, Some, ◌∙◌, arith}
 use Rattle.sqlite.specs.State.{HasCleanDisk}
 use Rattle.ledger_tables.specs.Cells.{Pockets}
 use Rattle.ledger_tables.specs.Named.{ArePockets}
@@ -23,6 +23,6 @@ returns-clause-found g c clean inside = if_ok_then _ _ c.read_cards.result (λ c
     let pockets = c.in_ok-pockets.ensures.found clean further.inside (tables_of office) after.tables in (
       still mid new office pockets.0 after,
       λ job named.
-          read (picture job).works.units.punch.cards (job_is c.args.name.customer.now c.args.name.number office job s.jobs named).cards (c.as_slice-1.ensures.value ∙ rows.1 ∙ ap cards_of named)
-          (subst (λ rows. ArePockets rows _) c.as_slice-2.ensures.value (subst (λ (p : Pockets). ArePockets c.in_ok-pockets.pockets.items p) (ap pockets_of named) pockets.1)),
+          read (picture job).works.units.punch.cards (job_is c.args.name.customer.now c.args.name.number office job s.jobs named).cards (c.as_slice.ensures.value ∙ rows.1 ∙ ap cards_of named)
+          (subst (λ rows. ArePockets rows (pockets_of (Some job))) (sym c.as_slice-2.ensures.value) (subst (λ (p : Pockets). ArePockets c.in_ok-pockets.pockets.items p) (ap pockets_of named) pockets.1)),
     )) c.read_cards.ensures.cards

@@ -27,7 +27,7 @@ loop-place-preserved g c =
     let early = λ (clean : HasCleanDisk last). let h : HasCleanDisk mid = omega (arith, c.insert_card.ensures.step.survives.clean) in h in
     record {
       step = step_ends g.S.Store _ _ _ _ (step_then g.S.Store _ _ _ _ _ was.step did.step);
-      characters = all_more IsPunched c.args.cards.now c.loop-place.place c.index-cards-place.result c.loop-place-test.true c.index-cards-place.is was.characters c.card_bytes-bytes.ensures.card;
+      characters = all_more IsPunched c.args.cards.now c.loop-place.place c.index-cards-place.result c.loop-place-test.true c.index-cards-place.is was.characters (subst IsPunched (sym c.index-cards-place.is) c.card_bytes-bytes.ensures.card);
       added = λ earlier clean inside t holds there.
           let on = was.step.frame (early clean) inside in
           let before = was.added earlier (early clean) inside t holds there in
@@ -35,7 +35,7 @@ loop-place-preserved g c =
           let cards = map punched_bytes (earlier ++ take place c.args.cards.now) in
           let many = rows_behind punched_bytes earlier c.args.cards.now c.args.before place there.count (omega (arith, c.loop-place-test.true)) in
           let after = did.added clean on.inside (with_cards c.args.name.customer.now c.args.name.number cards t) before (cards_place t c.args.name.customer.now c.args.name.number cards (c.args.before + place) many) in
-          card_pushed last.now t c.args.name.customer.now c.args.name.number cards (map punched_bytes (earlier ++ take (place + 1) c.args.cards.now)) _ (one_more_behind punched_bytes earlier c.args.cards.now place c.index-cards-place.result _ c.loop-place-test.true c.index-cards-place.is c.card_bytes-bytes.ensures.bytes) after;
+          card_pushed last.now t c.args.name.customer.now c.args.name.number cards (map punched_bytes (earlier ++ take (place + 1) c.args.cards.now)) _ (one_more_behind punched_bytes earlier c.args.cards.now place c.index-cards-place.result _ c.loop-place-test.true c.index-cards-place.is (c.card_bytes-bytes.ensures.bytes ∙ ap punched_bytes (sym c.index-cards-place.is))) after;
     }
 
 pub returns-clause-added : goal.returns-clause-added

@@ -1,10 +1,12 @@
 use Rattle.std.proofs.Common.{arith, ap, sym, subst, ◌+◌, ◌∙◌, ◌++◌, take}
 use Rattle.std.proofs.lemmas.List.{append-nil, take_all}
 use Rattle.sqlite.specs.State.{HasCleanDisk}
+use Rattle.units.specs.declared.punch.Punched.{Punched}
 use Rattle.ledger_rows.specs.Pockets.{pocket_rows_of}
 use Rattle.ledger_tables.specs.Steps.{seen}
 use Rattle.ledger_tables.specs.Tables.{Holds, with_pockets}
 use Rattle.ledger_tables.proofs.Stepping.{step_still, step_then, step_ends}
+use Rattle.ledger.specs.Saving.{with_card_pocket}
 use Rattle.ledger.proofs.SavingPockets.{pockets_still, pocket_free, pocket_pushed}
 use Rattle.ledger.proofs.saving.insert_pockets.Goals as goal
 
@@ -29,7 +31,8 @@ loop-place-preserved g c =
           let before = was.added earlier (early clean) inside t holds there in
           let place = c.loop-place.place in
           let free = pocket_free t c.args.name.customer.now c.args.name.number earlier c.args.cards.now c.args.before place there.count c.loop-place-test.true in
-          let after = did.added clean on.inside (with_pockets c.args.name.customer.now c.args.name.number (pocket_rows_of (earlier ++ take place c.args.cards.now)) t) before free in
+          let with_them = with_pockets c.args.name.customer.now c.args.name.number (pocket_rows_of (earlier ++ take place c.args.cards.now)) t in
+          let after = subst (λ (card : Punched). Holds last.now (with_card_pocket c.args.name (c.args.before + place + 1) card.pocket with_them)) (sym c.index-cards-place.is) (did.added clean on.inside with_them before free) in
           pocket_pushed t c.args.name.customer.now c.args.name.number earlier c.args.cards.now c.args.before place there.count c.loop-place-test.true last.now c.index-cards-place.result c.index-cards-place.is after;
     }
 

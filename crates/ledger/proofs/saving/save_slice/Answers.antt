@@ -4,6 +4,7 @@ use Rattle.ledger_tables.specs.Steps.{seen}
 use Rattle.ledger_tables.proofs.Frames.{on_ok_then}
 use Rattle.core_store.specs.Storage.{Storage}
 use Rattle.ledger_rows.specs.Pages.{rows_of}
+use Rattle.machine.specs.Earlier.{without_outputs}
 use Rattle.machine.specs.Run.{lines_of}
 use Rattle.office.specs.Jobs.{picture}
 use Rattle.office.specs.Kept.{Kept}
@@ -25,7 +26,6 @@ returns-clause-saved g c limit old clean inside =
     let did = rw units at (c.in_ok-insert_made.ensures.added cards lines early inside) in
     let all_cards = rw units at c.in_ok-insert_made.ensures.cards in
     let all_lines = rw units at c.in_ok-insert_made.ensures.lines in
-    let same = λ (is : IsAfterStorage c.args.name (cells_of c.args.earlier.now) c.args.job.now (Slice limit) old _). ap (λ (k : Kept). k.machine.works.units.punch.profile) is.after.made ∙ c.runs_only_add.ensures.profile (without_outputs (picture old)) limit in
     on_ok_then c.set_progress.result _ _
     (λ all office stands is.
     let mid = with_made c.args.name cards lines c.args.job.now.machine.works.units (tables_of office) in
@@ -34,7 +34,8 @@ returns-clause-saved g c limit old clean inside =
       pockets = record { are = ap pockets_of is.after.found; count = ap (λ (n : Counts). n.cards) is.after.counted };
       lines = record { are = ap standing.lines_of is.after.found; count = ap (λ (n : Counts). n.lines) is.after.counted };
     }) in
-    slice_saved (seen g.S.Store c.args.tables.now).now (seen g.S.Store c.set_progress.new.tables).now office c.args.name.customer.now c.args.name.number limit old c.args.job.now stands is.after.found is.after.counted is.after.is is.after.job (same is) all.0 all_cards all_lines
+    slice_saved (seen g.S.Store c.args.tables.now).now (seen g.S.Store c.set_progress.new.tables).now office c.args.name.customer.now c.args.name.number limit old c.args.job.now stands is.after.found is.after.counted is.after.is is.after.job
+    (ap (λ (k : Kept). k.machine.works.units.punch.profile) is.after.made ∙ c.runs_only_add.ensures.profile (without_outputs (picture old)) limit) all.0 all_cards all_lines
     (all.1 mid made (
       record { pages = ap pages_of is.after.found ∙ ap (λ (s : Storage). rows_of s) (sym is.storage); state = ap is_some (ap state_of is.after.found) },
       (old.stretches, limit, ap (λ (k : Kept). k.stretches) is.after.made, ap stretches_of is.after.found),

@@ -3,6 +3,7 @@ use Rattle.sqlite.specs.State.{HasCleanDisk}
 use Rattle.ledger_tables.specs.Steps.{seen}
 use Rattle.ledger_tables.proofs.Frames.{on_ok_then}
 use Rattle.ledger_tables.proofs.Stepping.{on_any}
+use Rattle.units.specs.Pockets.{pocket_number}
 use Rattle.ledger.specs.Saving.{with_machine}
 use Rattle.ledger.proofs.saving.set_running.Goals as goal
 
@@ -10,9 +11,9 @@ pub returns-clause-set : goal.returns-clause-set
 returns-clause-set g c clean inside =
     let early : HasCleanDisk (seen g.S.Store c.set_machine.new.tables) = omega (arith, c.set_chosen.ensures.step.survives.clean) in
     let on = c.in_ok-set_machine.ensures.step.frame early inside in
-    let punch : c.machine.inside.units.punch ≡ c.args.machine.now.works.units.punch = search rules in
+    let chosen : c.number.result ≡ pocket_number c.args.machine.now.works.units.punch.chosen = search rules in
     let did = c.in_ok-set_machine.ensures.set early inside in
-    let number = rw (c.number.ensures, punch) at (c.set_chosen.ensures.set clean on.inside) in
+    let number = rw chosen at (c.set_chosen.ensures.set clean on.inside) in
     on_ok_then c.set_chosen.result _ _ (λ more t holds has. more (with_machine c.args.name c.args.machine.now t) (did t holds (record { pages = has.pages; state = has.state })) tt) number
 
 pub returns-clause-characters : goal.returns-clause-characters
