@@ -16,7 +16,7 @@ usage:
   bureau init FILE                    makes FILE, a new bureau without jobs
   bureau apply FILE SCRIPT            carries out the commands in the file SCRIPT, in order
   bureau serve FILE PORT COUNT        answers COUNT requests over HTTP, one after the other
-  bureau export FILE CUSTOMER NUMBER  writes what a job punched and printed to two files here
+  bureau export FILE CUSTOMER NUMBER  writes what a job punched and printed to five files here
   bureau migrate FILE                 makes a file of an earlier version one of this version
   bureau ROW --help                   prints the help of a row alone, as run --help (or -h)
   bureau --help                       prints this text (or -h)
@@ -114,6 +114,7 @@ refusals of a bureau, which change nothing:
   26      the job is not held               there is nothing to do
   27      the job is collected              its output is there still; submit it anew to run it
   28      over 1,000,000,000 are granted    submit it anew, under another number
+  29      there is no such pocket           0, 4 or 8 after /cards/
 ";
 
 /// The text that `run --help` prints.
@@ -205,7 +206,7 @@ is not enough memory. Status 2: the words are not as above. Status 3: the bureau
 
 /// The text that `export --help` prints.
 pub const EXPORT_HELP: &str = "\
-bureau export FILE CUSTOMER NUMBER: writes what a job punched and printed to two files here.
+bureau export FILE CUSTOMER NUMBER: writes what a job punched and printed to five files here.
 
 FILE      the bureau's file
 CUSTOMER  the job's customer
@@ -214,11 +215,11 @@ NUMBER    the job's number
 example:
   bureau export my.bureau ACME 9
 
-It writes ACME-9.cards, a line for each card with three hexadecimal digits a column, and
-ACME-9.lines, the printed lines. Files of these names are replaced. A file is there whole or not
-at all.
+It writes ACME-9.cards, a line for each card with three hexadecimal digits a column; the cards of
+each pocket alone, ACME-9.cards0, ACME-9.cards4 and ACME-9.cards8; and ACME-9.lines, the printed
+lines. Files of these names are replaced. A file is there whole or not at all.
 
-Status 0: both files were written. Status 1: the job is refused, as `refused 20`, or a file could
+Status 0: all files were written. Status 1: the job is refused, as `refused 20`, or a file could
 not be written. Status 2: the words are not as above. Status 3: the bureau's file failed.
 `bureau --help` lists the faults and refusals.
 ";
@@ -227,15 +228,15 @@ not be written. Status 2: the words are not as above. Status 3: the bureau's fil
 pub const MIGRATE_HELP: &str = "\
 bureau migrate FILE: makes FILE, a bureau's file of an earlier version, one of this version.
 
-FILE  the bureau's file. All jobs stay as they are, with what they punched and printed. It is
-      changed at once or not at all, also where the program is stopped: then FILE is the old one
-      or the new one, and migrate may be called again. The program of the earlier version cannot
-      use it any more, so keep a copy for that
+FILE  the bureau's file. All jobs stay as they are, with what they punched and printed, and go on
+      as they began, without stacker selection. It is changed at once or not at all, also where
+      the program is stopped: then FILE is the old one or the new one, and migrate may be called
+      again. The program of the earlier version cannot use it any more, so keep a copy for that
 
 example:
   bureau migrate my.bureau
 
-It prints `version 1 to 3`, with the version that FILE had, or `version 3` where there was nothing
+It prints `version 1 to 4`, with the version that FILE had, or `version 4` where there was nothing
 to do. While it runs, no other program can use FILE.
 
 Status 0: FILE is of this version. Status 1: there is not enough memory, and FILE is as before;
@@ -257,7 +258,8 @@ COUNT  how many connections are served before it ends: 1 to 1000000
   POST  /c/CUSTOMER/j/NUMBER/start/SWITCHES           lets a halted job go on
   POST  /c/CUSTOMER/j/NUMBER/hold, /release or /collect in its place
   GET   /c/CUSTOMER/j/NUMBER                          how the job stands; /cards and /lines after
-                                                      it: what it punched and printed
+                                                      it: what it punched and printed; /cards/0,
+                                                      /cards/4, /cards/8: the cards of a pocket
   GET   /c/CUSTOMER/jobs, or /queue
 
 examples:

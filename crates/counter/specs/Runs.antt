@@ -10,6 +10,7 @@ use Rattle.cards.specs.Files.{file_of, text_of}
 use Rattle.core_store.specs.declared.sizes.Size.{Size}
 use Rattle.units.specs.declared.switches.Switches.{Switches}
 use Rattle.units.specs.Listing.{rendered}
+use Rattle.units.specs.declared.profiles.Profile.TheVariants.{Selecting}
 use Rattle.machine.specs.Run.{State, after, lines_of, loaded}
 use Rattle.machine.specs.Standings.{standing_of}
 use Rattle.command_line.specs.declared.faults.Fault.{Fault}
@@ -36,7 +37,7 @@ Reads remaining text = IfSome remaining (λ bytes. text ≡ take most_bytes byte
 -- the report of a machine: its counts of cards and lines, and its standing
 abbrev pub report_of : State → Report
 report_of m = record {
-  cards = length m.works.units.punch;
+  cards = length m.works.units.punch.cards;
   lines = length (lines_of m);
   standing = standing_of m;
 }
@@ -50,14 +51,15 @@ pub record Shown : Type 0 where
 abbrev pub shown_by : State → Shown
 shown_by m = record { listing = rendered (lines_of m); report = report_of m }
 
--- the text is that of a deck with a card, and this is given by the machine that ran the deck
+-- the text is that of a deck with a card, and this is given by the machine that ran the deck, one
+-- with stacker selection
 pub record IsRunOf (text : List ℕ) (size : Size) (switches : Switches)
     (shown : Shown) : Type 0 where
   pub deck : List Card
   pub is_deck : IsDeck deck
   pub has_card : 0 < length deck
   pub is_text : text ≡ text_of deck
-  pub gives : shown ≡ shown_by (after (loaded deck size switches) most_instructions)
+  pub gives : shown ≡ shown_by (after (loaded deck size switches Selecting) most_instructions)
 
 -- the first fault of a text as a deck
 abbrev pub IsTextFault : List ℕ → CardFault → Type 0

@@ -6,6 +6,7 @@ ghost use Rattle.cards.specs.Decks.{IsDeck};
 ghost use Rattle.cards.specs.Faults.{out_of_memory};
 ghost use Rattle.cards.specs.Files.{text_of};
 ghost use Rattle.cards.specs.declared.Card.{Card};
+ghost use Rattle.units.specs.declared.profiles.Profile.TheVariants.{Selecting};
 ghost use Rattle.counter.specs.Runs.{IsRunOf, IsShown, Reads, Refuses, Tells, shown_by, shown_of, most_bytes, most_instructions};
 
 use crate::reports::Report;
@@ -16,7 +17,7 @@ use machine::{Machine, Meter};
 use std::alloc::{AllocError, Global};
 use std::io;
 use std::io::{Read, Write};
-use units::{Switches, render};
+use units::{Profile, Switches, render};
 
 /// How many bytes are read at most: 2,000 cards and one byte, so that a longer deck is noticed.
 pub const MOST_BYTES: u64 = 162_001;
@@ -45,7 +46,7 @@ pub fn text_in<R: Read + Drop>(alloc: Global, reader: R) -> Result<Vec<u8>, Faul
     }
 }
 
-/// The machine that has run a deck.
+/// The machine, with stacker selection, that has run a deck.
 fn machine_after(
     alloc: Global,
     deck: Deck,
@@ -54,9 +55,9 @@ fn machine_after(
 ) -> Result<Machine<PlaneCore>, AllocError>
     requires { 0 < length deck }
     ensures { IfOk result (λ machine.
-        machine ≡ after (loaded deck size switches) most_instructions) }
+        machine ≡ after (loaded deck size switches Selecting) most_instructions) }
 {
-    let mut machine = Machine::load(alloc, deck, size, switches)?;
+    let mut machine = Machine::load(alloc, deck, size, switches, Profile::Selecting)?;
     machine.run(MOST_INSTRUCTIONS, &mut Meter::new())?;
     Ok(machine)
 }
