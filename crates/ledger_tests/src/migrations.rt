@@ -362,41 +362,41 @@ fn stops_of(alloc: Global, made: &str, version: &str, failing: Failing) -> Resul
 #[test]
 fn the_log_fails_at_version_1(rt: HostRuntime) -> Result<(), Fail> {
     let Stops { old, next } = stops_of(rt.alloc(), "lay", "1", Failing::Log)?;
-    assert_eq!(rt; (old, next), (0, 0));
+    assert!(rt; old >= 20 && next >= 1, "{old} old, {next} next");
     Ok(())
 }
 
 #[test]
 fn the_database_fails_at_version_1(rt: HostRuntime) -> Result<(), Fail> {
     let Stops { old, next } = stops_of(rt.alloc(), "lay", "1", Failing::Database)?;
-    assert_eq!(rt; (old, next), (0, 0));
+    assert!(rt; old >= 20, "{old} old, {next} next");
     Ok(())
 }
 
 #[test]
 fn the_log_fails_at_version_2(rt: HostRuntime) -> Result<(), Fail> {
     let Stops { old, next } = stops_of(rt.alloc(), "make", "2", Failing::Log)?;
-    assert_eq!(rt; (old, next), (0, 0));
+    assert!(rt; old >= 8 && next >= 1, "{old} old, {next} next");
     Ok(())
 }
 
 #[test]
 fn the_log_fails_at_version_3(rt: HostRuntime) -> Result<(), Fail> {
     let Stops { old, next } = stops_of(rt.alloc(), "make", "3", Failing::Log)?;
-    assert_eq!(rt; (old, next), (0, 0));
+    assert!(rt; old >= 4 && next >= 1, "{old} old, {next} next");
     Ok(())
 }
 
 #[test]
 fn the_database_fails_at_version_3(rt: HostRuntime) -> Result<(), Fail> {
     let Stops { old, next } = stops_of(rt.alloc(), "make", "3", Failing::Database)?;
-    assert_eq!(rt; (old, next), (0, 0));
+    assert!(rt; old >= 4, "{old} old, {next} next");
     Ok(())
 }
 
 #[test]
 fn the_database_fails_at_version_2(rt: HostRuntime) -> Result<(), Fail> {
     let Stops { old, next } = stops_of(rt.alloc(), "make", "2", Failing::Database)?;
-    assert_eq!(rt; (old, next), (0, 0));
+    assert!(rt; old >= 8, "{old} old, {next} next");
     Ok(())
 }

@@ -37,8 +37,11 @@ fn contents<S: Alter>(conn: &mut Connection<S>) -> Result<i64, Fail> {
         Ok(row) => row.get(0)?,
         Err(_) => 0,
     };
-    let numbers = [apart, jobs, granted, cards];
-    Ok(numbers.iter().fold(0, |sum: i64, it| sum.wrapping_mul(10).wrapping_add(*it)))
+    let mut sum: i64 = 0;
+    for number in [apart, jobs, granted, cards] {
+        sum = sum.wrapping_mul(10).wrapping_add(number);
+    }
+    Ok(sum)
 }
 
 /// Whether a command is applied, or leaves the tables as they were.

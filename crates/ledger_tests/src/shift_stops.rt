@@ -200,28 +200,28 @@ fn stops_of(alloc: Global, sheet: &Sheet, failing: Failing) -> Result<Stops, Fai
 #[test]
 fn the_log_fails_in_a_shift(rt: HostRuntime) -> Result<(), Fail> {
     let Stops { lost, kept } = stops_of(rt.alloc(), &TWO_LINES, Failing::Log)?;
-    assert_eq!(rt; (lost, kept), (0, 0));
+    assert!(rt; lost >= 80 && kept >= 2, "{lost} lost, {kept} kept");
     Ok(())
 }
 
 #[test]
 fn the_log_fails_in_a_shift_of_cards(rt: HostRuntime) -> Result<(), Fail> {
     let Stops { lost, kept } = stops_of(rt.alloc(), &THREE_POCKETS, Failing::Log)?;
-    assert_eq!(rt; (lost, kept), (0, 0));
+    assert!(rt; lost >= 70 && kept >= 1, "{lost} lost, {kept} kept");
     Ok(())
 }
 
 #[test]
 fn the_database_fails_in_a_shift(rt: HostRuntime) -> Result<(), Fail> {
     let Stops { lost, kept } = stops_of(rt.alloc(), &TWO_LINES, Failing::Database)?;
-    assert_eq!(rt; (lost, kept), (0, 0));
+    assert!(rt; lost >= 15, "{lost} lost, {kept} kept");
     Ok(())
 }
 
 #[test]
 fn the_database_fails_in_a_shift_of_cards(rt: HostRuntime) -> Result<(), Fail> {
     let Stops { lost, kept } = stops_of(rt.alloc(), &THREE_POCKETS, Failing::Database)?;
-    assert_eq!(rt; (lost, kept), (0, 0));
+    assert!(rt; lost >= 15, "{lost} lost, {kept} kept");
     Ok(())
 }
 
