@@ -41,7 +41,7 @@ answers rise Hold job is = tt
 answers rise Release job is = tt
 answers rise Collect job is = tt
 answers rise Tell job is = tt
-answers rise Cards job is = tt
+answers rise (Cards from) job is = tt
 answers rise Lines job is = rise job is
 
 on_job : LinesRise → (name : List ℕ) (number : ℕ) (c : JobCommand) (office : Office) → AreKept office → HasLinesInOrder (commanded name number c office (job_of name number office)).1

@@ -50,7 +50,8 @@ found_is s db opens live sound same =
 rows_sound : (version : ℕ) (db : Database) (office : Office) → RowsOf version db office → IsDatabase db
 rows_sound version db office (inl (is, rows)) = rows.tables.sound
 rows_sound version db office (inr (inl (is, rows))) = rows.tables.sound
-rows_sound version db office (inr (inr (is, rows))) = rows.tables.sound
+rows_sound version db office (inr (inr (inl (is, rows)))) = rows.tables.sound
+rows_sound version db office (inr (inr (inr (is, rows)))) = rows.tables.sound
 
 -- a connection that was just opened represents the office of its trees, in their version
 pub found_stands_of : (s : State) (version : ℕ) (office : Office) → Settles s → Opens s → IsLive s → LeftOf version s.committed.trees office → StandsOf version s office

@@ -5,11 +5,11 @@ use crate::replies::reply_text;
 use bitflags::Flags;
 use ledger::{Bureau, Fault};
 use machine::Meter;
-use office::{Command, Contents, JobCommand, Kind, Reply};
+use office::{Command, Contents, JobCommand, Kind, Reply, Stacker};
 use sqlite::Alter;
 use std::alloc::Global;
 use std::test::Fail;
-use units::Switches;
+use units::{Pocket, Switches};
 
 /// The number in a field.
 fn number_of(field: &str) -> Result<u32, Fail> {
@@ -40,7 +40,18 @@ fn contents_of(alloc: Global, kind: Kind, fields: &str) -> Result<Contents, Fail
     })
 }
 
-/// The command on a job with this word, and with its limit or switches.
+/// The cards that a field asks for.
+fn stacker_of(field: &str) -> Stacker {
+    match field {
+        "" => Stacker::All,
+        "0" => Stacker::Of(Pocket::Normal),
+        "4" => Stacker::Of(Pocket::Four),
+        "8" => Stacker::Of(Pocket::Eight),
+        _ => Stacker::Unknown,
+    }
+}
+
+/// The command on a job with this word, and with its limit, switches or pocket.
 fn job_command_of(word: &str, field: &str) -> Result<JobCommand, Fail> {
     match word {
         "slice" => Ok(JobCommand::Slice {
@@ -53,7 +64,9 @@ fn job_command_of(word: &str, field: &str) -> Result<JobCommand, Fail> {
         "release" => Ok(JobCommand::Release),
         "collect" => Ok(JobCommand::Collect),
         "standing" => Ok(JobCommand::Standing),
-        "cards" => Ok(JobCommand::Cards),
+        "cards" => Ok(JobCommand::Cards {
+            from: stacker_of(field),
+        }),
         "lines" => Ok(JobCommand::Lines),
         _ => Err("a word")?,
     }

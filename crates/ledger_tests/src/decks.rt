@@ -18,6 +18,13 @@ const PUNCHES_THREE: &str = ",008015,022029,030031,032033444.\n";
 /// A program that prints a line, punches a card and halts; started again, it does so again.
 const PRINTS_AND_PUNCHES: &str = ",008015,022029,030031,03203624.B029\n";
 
+/// A program that punches its own card into pocket 4, into the normal one, and into pocket 8.
+const PUNCHES_INTO_EACH: &str = ",008015,022029,036043,045046,047049,050051K444K84.\n";
+
+/// A program that prints a line, punches a card and halts; started again, it does so again, but
+/// punches the card into pocket 4.
+const PUNCHES_APART: &str = ",008015,022029,036037,038039,04104524.K4B036\n";
+
 /// The source of a program that copies a card.
 const COPIES_A_CARD: &str = "               SW   001
                R
@@ -35,6 +42,8 @@ fn cards_named(name: &str) -> Option<(&'static str, &'static str)> {
         "loop" => Some((",008012B008\n", "")),
         "outside" => Some((",008015L000200\n", "")),
         "three cards" => Some((PUNCHES_THREE, "")),
+        "three pockets" => Some((PUNCHES_INTO_EACH, "")),
+        "cards apart" => Some((PUNCHES_APART, "")),
         "a line and a card" => Some((PRINTS_AND_PUNCHES, "")),
         "many cards" => Some((",008015,0150194015\n", "")),
         "many lines" => Some((",008015,0150192015\n", "")),

@@ -1,6 +1,6 @@
 //! Tests of the bureau: the replies to sheets of commands and the rows after them; disks that fail
-//! and memory that is refused; shifts; tables of older versions; and, below it, the rows of its
-//! tables and the pictures of machines in them.
+//! and memory that is refused; shifts; and tables of older versions. `ledger_rows_tests` has those of
+//! the rows below it.
 //!
 //! They are one crate, because each crate over `sqlite` takes a minute to start.
 #![tactic(auto)]
@@ -18,13 +18,7 @@ mod failing_disks;
 #[cfg(test)]
 mod lists;
 #[cfg(test)]
-mod machines;
-#[cfg(test)]
-mod media;
-#[cfg(test)]
 mod migrations;
-#[cfg(test)]
-mod numbers;
 #[cfg(test)]
 mod old_tables;
 #[cfg(test)]

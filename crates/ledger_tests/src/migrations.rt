@@ -9,8 +9,8 @@ use std::alloc::Global;
 use std::test::Fail;
 
 /// Jobs of two customers: two that are running, of which one has printed two lines and one is held;
-/// one at its second halt that has punched and printed; one that is collected; and one that has not
-/// run.
+/// one at its second halt that has punched and printed; one that is collected; and two that have not
+/// run, of which one has selections of stackers.
 const JOBS: &str = "\
 taken 6|submit|ACME|9|4000|A|two lines
 ran 34, running|slice|ACME|9|34
@@ -22,6 +22,7 @@ taken 1|submit|ACME|10|1400|-|three cards
 ran 8, halted, next 33|slice|ACME|10|2000
 collected 3 0|collect|ACME|10|
 taken 4|submit source|ACME|2|2000|-|source
+taken 1|submit|ZETA|3|1400|-|three pockets
 taken 1|submit|ZETA|1|4000|127|loop
 ran 100, running|slice|ZETA|1|100
 held|hold|ZETA|1|
@@ -53,8 +54,16 @@ release|ZETA|1|
 slice|ZETA|1|5
 submit|ZETA|2|16000|A|two lines
 slice|ZETA|2|34
+submit|ZETA|3|1400|-|three pockets
+slice|ZETA|3|2000
+submit|ZETA|4|1400|-|three pockets
+slice|ZETA|4|2000
+cards|ZETA|4|4
 queue|
 ";
+
+/// Makes the profiles of all jobs those of jobs that were made before version 4.
+const PLAIN: &str = "execute|UPDATE profiles SET profile = 1#";
 
 /// What is told of tables that are made by some stages: the reply to a migration, every row after
 /// it, the replies to more commands, every row after them, and the reply to another migration.
@@ -68,9 +77,9 @@ fn told_of(alloc: Global, stages: &str, migration: &str) -> Result<String, Fail>
 fn older_tables_go_on_as_if_they_were_new(rt: HostRuntime) -> Result<(), Fail> {
     let alloc = rt.alloc();
     let stages = format!(in alloc; "make|#sheet|{JOBS}#")?;
-    let wanted = told_of(alloc, stages.as_str(), "")?;
-    assert!(rt; wanted.ends_with("version 3"));
-    for (version, made) in [(1, "lay"), (2, "make")] {
+    let wanted = told_of(alloc, stages.as_str(), PLAIN)?;
+    assert!(rt; wanted.ends_with("version 4"));
+    for (version, made) in [(1, "lay"), (2, "make"), (3, "make")] {
         let stages = format!(in alloc; "{made}|#sheet|{JOBS}#old|{version}#")?;
         let told = told_of(alloc, stages.as_str(), "migrate|#")?;
         let wanted = format!(in alloc; "version {version}{wanted}")?;
@@ -117,12 +126,46 @@ fn a_job_ends_after_a_migration(rt: HostRuntime) -> Result<(), Fail> {
     let alloc = rt.alloc();
     assert_eq!(rt;
         told_of_one(alloc, "lay", "1")?.as_str(),
-        "51 of 1 51 of 1, version 13, 0 0, 0 2 3 pages, 2 lines"
+        "51 of 1 51 of 1, version 14, 0 0, 0 2 3 pages, 2 lines"
     );
     assert_eq!(rt;
         told_of_one(alloc, "make", "2")?.as_str(),
-        "51 of 2 51 of 2, version 23, 0 0, 0 2 3 pages, 2 lines"
+        "51 of 2 51 of 2, version 24, 0 0, 0 2 3 pages, 2 lines"
     );
+    assert_eq!(rt;
+        told_of_one(alloc, "make", "3")?.as_str(),
+        "51 of 3 51 of 3, version 34, 0 0, 0 2 3 pages, 2 lines"
+    );
+    Ok(())
+}
+
+/// A job that selects stackers, made before version 4: the first selection is a check. The same deck
+/// handed in since selects them.
+const SELECTING: &str = "\
+ran 6, Instruction at 43|slice|ACME|9|2000
+cards 0|cards|ACME|9|
+taken 1|submit|ACME|9|1400|-|three pockets
+taken 1|submit|ACME|8|1400|-|three pockets
+ran 12, halted, next 51|slice|ACME|8|2000
+cards 3 [     ] [     ] [     ]|cards|ACME|8|
+cards 1 [     ]|cards|ACME|8|0
+cards 1 [     ]|cards|ACME|8|4
+cards 1 [     ]|cards|ACME|8|8
+";
+
+#[test]
+fn an_older_job_selects_no_stacker(rt: HostRuntime) -> Result<(), Fail> {
+    let alloc = rt.alloc();
+    for (version, made) in [(1, "lay"), (2, "make"), (3, "make")] {
+        let stages = format!(in alloc;
+            "{made}|#sheet|taken 1|submit|ACME|9|1400|-|three pockets\n\
+            #old|{version}#migrate|#sheet|{SELECTING}#numbers|profiles\
+            |SELECT profile FROM profiles ORDER BY number#"
+        )?;
+        let (told, _) = told_in_memory(alloc, stages.as_str())?;
+        let wanted = format!(in alloc; "version {version}2 1 profiles")?;
+        assert_eq!(rt; told.as_str(), wanted.as_str());
+    }
     Ok(())
 }
 
@@ -133,22 +176,25 @@ const LEFT_ALONE: &str = "\
 fault 50||
 fault 50||execute|CREATE TABLE cards (card TEXT)#
 fault 50||execute|CREATE TABLE bureau (name TEXT)#
-version 3|3|
-version 3|3|execute|UPDATE bureau SET id = 2#
-fault 50|3|execute|UPDATE bureau SET version = 4#
-fault 50|3|execute|UPDATE bureau SET version = 0#
-fault 50|3|execute|UPDATE bureau SET version = -1#
-fault 50|3|execute|INSERT INTO bureau (id, version) VALUES (2, 3)#
+version 4|4|
+version 4|4|execute|UPDATE bureau SET id = 2#
+fault 50|4|execute|UPDATE bureau SET version = 5#
+fault 50|4|execute|UPDATE bureau SET version = 0#
+fault 50|4|execute|UPDATE bureau SET version = -1#
+fault 50|4|execute|INSERT INTO bureau (id, version) VALUES (2, 4)#
 fault 50|1|execute|INSERT INTO bureau (id, version) VALUES (2, 1)#
-fault 50|3|execute|DELETE FROM bureau#
-fault 50|3|execute|DROP TABLE bureau#
-fault 2|3|execute|BEGIN#
+fault 50|4|execute|DELETE FROM bureau#
+fault 50|4|execute|DROP TABLE bureau#
+fault 2|4|execute|BEGIN#
 fault 2|1|execute|BEGIN#
 fault 2|2|execute|BEGIN#
+fault 2|3|execute|BEGIN#
 fault 2|1|execute|UPDATE pictures SET storage = x'00'#
 fault 2|1|execute|DELETE FROM pictures#
 fault 2|1|execute|CREATE TABLE pages (page INTEGER)#
 fault 2|2|execute|DROP TABLE pages#
+fault 2|2|execute|CREATE TABLE pockets (place INTEGER)#
+fault 2|3|execute|CREATE TABLE profiles (profile INTEGER)#
 ";
 
 /// The stages of these tables.
@@ -156,8 +202,8 @@ fn stages_of(alloc: Global, line: &str) -> Result<String, Fail> {
     let (version, rest) = line.split_once('|').ok_or("a version")?;
     match version {
         "1" => Ok(format!(in alloc; "lay|#sheet|{NEARLY_ENDED}#old|1#{rest}")?),
-        "2" => Ok(format!(in alloc; "make|#sheet|{NEARLY_ENDED}#old|2#{rest}")?),
-        "3" => Ok(format!(in alloc; "make|#sheet|{NEARLY_ENDED}#{rest}")?),
+        "2" | "3" => Ok(format!(in alloc; "make|#sheet|{NEARLY_ENDED}#old|{version}#{rest}")?),
+        "4" => Ok(format!(in alloc; "make|#sheet|{NEARLY_ENDED}#{rest}")?),
         _ => Ok(String::from_str(alloc, rest)?),
     }
 }
@@ -257,7 +303,7 @@ fn disks_after(alloc: Global, stages: &str) -> Result<Files<Memory>, Fail> {
 fn trial_from(alloc: Global, made: &str, version: &str) -> Result<Trial, Fail> {
     let stages = format!(in alloc; "{made}|#sheet|{TWO_JOBS}#old|{version}#")?;
     let disks = disks_after(alloc, stages.as_str())?;
-    let stages = format!(in alloc; "make|#sheet|{TWO_JOBS}#")?;
+    let stages = format!(in alloc; "make|#sheet|{TWO_JOBS}#{PLAIN}")?;
     let never_old = disks_after(alloc, stages.as_str())?;
     let old_rows = told_of_disks(alloc, &disks, "rows|#")?;
     let last = told_of_disks(alloc, &never_old, AT_LAST)?;
@@ -331,6 +377,20 @@ fn the_database_fails_at_version_1(rt: HostRuntime) -> Result<(), Fail> {
 fn the_log_fails_at_version_2(rt: HostRuntime) -> Result<(), Fail> {
     let Stops { old, next } = stops_of(rt.alloc(), "make", "2", Failing::Log)?;
     assert!(rt; old >= 8 && next >= 1, "{old} old, {next} next");
+    Ok(())
+}
+
+#[test]
+fn the_log_fails_at_version_3(rt: HostRuntime) -> Result<(), Fail> {
+    let Stops { old, next } = stops_of(rt.alloc(), "make", "3", Failing::Log)?;
+    assert!(rt; old >= 4 && next >= 1, "{old} old, {next} next");
+    Ok(())
+}
+
+#[test]
+fn the_database_fails_at_version_3(rt: HostRuntime) -> Result<(), Fail> {
+    let Stops { old, next } = stops_of(rt.alloc(), "make", "3", Failing::Database)?;
+    assert!(rt; old >= 4, "{old} old, {next} next");
     Ok(())
 }
 

@@ -4,9 +4,9 @@ use sqlite::{Alter, Connection, params};
 use std::alloc::Global;
 use std::test::Fail;
 
-/// The statements that create the tables of version 1, and beside them those that version 3 has in
-/// place of `pictures`.
-const FIRST_TABLES: [&str; 11] = [
+/// The statements that create the tables of version 1, and beside them those that version 4 has
+/// besides or in place of `pictures`.
+const FIRST_TABLES: [&str; 13] = [
     "BEGIN",
     "CREATE TABLE bureau (id INTEGER NOT NULL PRIMARY KEY, version INTEGER NOT NULL) STRICT",
     "CREATE TABLE jobs (customer TEXT NOT NULL, number INTEGER NOT NULL, kind INTEGER NOT NULL, \
@@ -39,7 +39,13 @@ const FIRST_TABLES: [&str; 11] = [
     "CREATE TABLE pages (customer TEXT NOT NULL, number INTEGER NOT NULL, \
     page INTEGER NOT NULL, storage BLOB NOT NULL, PRIMARY KEY (customer, number, page), \
     FOREIGN KEY (customer, number) REFERENCES jobs (customer, number)) STRICT",
-    "INSERT INTO bureau (id, version) VALUES (1, 3)",
+    "CREATE TABLE profiles (customer TEXT NOT NULL, number INTEGER NOT NULL, \
+    profile INTEGER NOT NULL, chosen INTEGER NOT NULL, PRIMARY KEY (customer, number), \
+    FOREIGN KEY (customer, number) REFERENCES jobs (customer, number)) STRICT",
+    "CREATE TABLE pockets (customer TEXT NOT NULL, number INTEGER NOT NULL, \
+    place INTEGER NOT NULL, pocket INTEGER NOT NULL, PRIMARY KEY (customer, number, place), \
+    FOREIGN KEY (customer, number, place) REFERENCES cards (customer, number, place)) STRICT",
+    "INSERT INTO bureau (id, version) VALUES (1, 4)",
     "COMMIT",
 ];
 
@@ -175,16 +181,25 @@ fn make_second<S: Alter>(alloc: Global, conn: &mut Connection<S>) -> Result<(), 
     execute_all(conn, &["UPDATE bureau SET version = 2"])
 }
 
-/// Makes the tables those of an older version, of the same jobs.
+/// Makes the tables those of version 3.
+fn make_third<S: Alter>(conn: &mut Connection<S>) -> Result<(), Fail> {
+    execute_all(conn, &["UPDATE bureau SET version = 3"])
+}
+
+/// Makes the tables those of an older version, of the same jobs; none of them had profiles.
 pub(crate) fn make_old<S: Alter + Drop>(
     alloc: Global,
     mut conn: Connection<S>,
     version: &str,
 ) -> Result<Connection<S>, Fail> {
-    execute_all(&mut conn, &["BEGIN"])?;
+    execute_all(
+        &mut conn,
+        &["BEGIN", "DROP TABLE pockets", "DROP TABLE profiles"],
+    )?;
     match version {
         "1" => make_first(alloc, &mut conn)?,
         "2" => make_second(alloc, &mut conn)?,
+        "3" => make_third(&mut conn)?,
         _ => Err("an older version")?,
     }
     execute_all(&mut conn, &["COMMIT"])?;

@@ -115,13 +115,13 @@ fn a_thousand_million_instructions_and_no_more(rt: HostRuntime) -> Result<(), Fa
     Ok(())
 }
 
-/// A job that has printed two lines and punched two cards, of three stretches, and is running; and
-/// another customer's.
+/// A job that has printed two lines and punched two cards, the second one into pocket 4, of three
+/// stretches, and is running; and another customer's.
 const TWO_CUSTOMERS: &str = "\
-taken 1|submit|ACME|9|1400|-|a line and a card
-ran 7, halted, next 32|slice|ACME|9|2000
+taken 1|submit|ACME|9|1400|-|cards apart
+ran 8, halted, next 39|slice|ACME|9|2000
 started|start|ACME|9|-
-ran 4, halted, next 32|slice|ACME|9|2000
+ran 5, halted, next 39|slice|ACME|9|2000
 started|start|ACME|9|-
 taken 1|submit|ZETA|1|1400|-|loop
 ";
@@ -129,7 +129,7 @@ taken 1|submit|ZETA|1|1400|-|loop
 /// The commands that a line of altered rows has a mark for, each after its usual reply. Only the last
 /// two change rows.
 const COMMANDS: [&str; 11] = [
-    "taken 1|submit|ACME|9|1400|-|a line and a card",
+    "taken 1|submit|ACME|9|1400|-|cards apart",
     "refused 24|start|ACME|9|-",
     "cards 2 [     ] [     ]|cards|ACME|9|",
     "lines 2 //|lines|ACME|9|",
@@ -138,7 +138,7 @@ const COMMANDS: [&str; 11] = [
     "running, false false 4000 2 2|standing|ACME|9|",
     "jobs; 9 false false running|jobs|ACME|",
     "queue ACME/9 ZETA/1|queue|",
-    "ran 4, halted, next 32|slice|ACME|9|2000",
+    "ran 5, halted, next 39|slice|ACME|9|2000",
     "held|hold|ACME|9|",
 ];
 
@@ -269,6 +269,41 @@ const ALTERED_OUTPUTS: &str = "\
 ...2.......|UPDATE lines SET form = 2 WHERE place = 2
 ";
 
+/// The same for the row of the job's profile, which only a machine needs. A machine of profile 1
+/// takes no choice of a pocket.
+const ALTERED_PROFILES: &str = "\
+.2.......2.|DELETE FROM profiles WHERE number = 9
+.2.......2.|UPDATE profiles SET profile = 0 WHERE number = 9
+.2.......2.|UPDATE profiles SET profile = 3 WHERE number = 9
+.2.......2.|UPDATE profiles SET profile = -1 WHERE number = 9
+.2.......2.|UPDATE profiles SET chosen = 1 WHERE number = 9
+.2.......2.|UPDATE profiles SET chosen = 5 WHERE number = 9
+.2.......2.|UPDATE profiles SET chosen = 4294967300 WHERE number = 9
+...........|UPDATE profiles SET chosen = 8 WHERE number = 9
+.........-.|UPDATE profiles SET profile = 1 WHERE number = 9
+";
+
+/// The same for rows of the pockets of cards, which `cards` alone reads. In the last lines a table
+/// takes pockets of cards that there are not, or of a card twice.
+const ALTERED_POCKETS: &str = "\
+...........|DELETE FROM pockets
+...........|UPDATE pockets SET pocket = 8
+...........|INSERT INTO pockets (customer, number, place, pocket) VALUES ('ACME', 9, 1, 4)
+..2........|UPDATE pockets SET pocket = 0
+..2........|UPDATE pockets SET pocket = 5
+..2........|UPDATE pockets SET pocket = -4
+..2........|UPDATE pockets SET pocket = 4294967300
+..2........|DROP TABLE pockets\
+    #execute|CREATE TABLE pockets (customer, number, place, pocket)\
+    #execute|INSERT INTO pockets VALUES ('ACME', 9, 0, 4)
+..2........|DROP TABLE pockets\
+    #execute|CREATE TABLE pockets (customer, number, place, pocket)\
+    #execute|INSERT INTO pockets VALUES ('ACME', 9, 3, 4)
+..2........|DROP TABLE pockets\
+    #execute|CREATE TABLE pockets (customer, number, place, pocket)\
+    #execute|INSERT INTO pockets VALUES ('ACME', 9, '2', 4)
+";
+
 /// The sheet of a command and of a slice before it of another customer's job, for a mark.
 fn sheet_for(alloc: Global, mark: u8, line: &str) -> Result<String, Fail> {
     let (usual, command) = line.split_once('|').ok_or("a reply")?;
@@ -276,16 +311,16 @@ fn sheet_for(alloc: Global, mark: u8, line: &str) -> Result<String, Fail> {
     Ok(format!(in alloc; "sheet|ran 1, running|slice|ZETA|1|1\n{reply}|{command}\n#")?)
 }
 
-/// The ticks of a session: 11 before the statement, one for each command that is tried, and 4 where
+/// The ticks of a session: 13 before the statement, one for each command that is tried, and 5 where
 /// the job is run.
 fn ticks_of(marks: &str) -> u64 {
-    let mut ticks: u64 = 11;
+    let mut ticks: u64 = 13;
     for (mark, line) in marks.bytes().zip(COMMANDS) {
         if mark != b'-' {
             ticks = ticks.saturating_add(1);
         }
-        if mark != b'2' && line.contains("slice") {
-            ticks = ticks.saturating_add(4);
+        if mark != b'2' && mark != b'-' && line.contains("slice") {
+            ticks = ticks.saturating_add(5);
         }
     }
     ticks
@@ -332,6 +367,18 @@ fn machines_that_are_none_of_a_bureau(rt: HostRuntime) -> Result<(), Fail> {
 #[test]
 fn pages_that_are_none_of_a_bureau(rt: HostRuntime) -> Result<(), Fail> {
     assert_eq!(rt; misread(rt.alloc(), ALTERED_PAGES)?.as_str(), "");
+    Ok(())
+}
+
+#[test]
+fn profiles_that_are_none_of_a_bureau(rt: HostRuntime) -> Result<(), Fail> {
+    assert_eq!(rt; misread(rt.alloc(), ALTERED_PROFILES)?.as_str(), "");
+    Ok(())
+}
+
+#[test]
+fn pockets_that_are_none_of_a_bureau(rt: HostRuntime) -> Result<(), Fail> {
+    assert_eq!(rt; misread(rt.alloc(), ALTERED_POCKETS)?.as_str(), "");
     Ok(())
 }
 

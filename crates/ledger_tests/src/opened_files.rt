@@ -68,7 +68,7 @@ fn an_older_file_is_left_until_it_is_raised(rt: HostRuntime) -> Result<(), Fail>
     assert_eq!(rt; told_by(&rt, path, "rows|#")?.as_str(), rows.as_str());
     assert_eq!(rt; told_by(&rt, path, "migrate|#")?.as_str(), "version 1");
     assert_eq!(rt; told_at(&rt, path, AFTER)?.as_str(), "");
-    assert_eq!(rt; told_by(&rt, path, "migrate|#")?.as_str(), "version 3");
+    assert_eq!(rt; told_by(&rt, path, "migrate|#")?.as_str(), "version 4");
     fs::remove_file(&rt, path)?;
     fs::remove_file(&rt, "older.db-wal")?;
     Ok(())

@@ -8,7 +8,8 @@ const TAKEN: &str = "\
 taken 6|submit|ACME|9|4000|A|two lines
 ";
 
-/// The same job, and submissions with a wrong customer, number, contents or size.
+/// The same job, and submissions with a wrong customer, number, contents or size; and
+/// queries with a wrong name or pocket.
 const HANDED_IN_WRONGLY: &str = "\
 taken 6|submit|ACME|9|4000|A|two lines
 refused 10|submit|acme|9|4000|A|two lines
@@ -22,6 +23,10 @@ refused 14|submit|ACME|9|2000|A|two lines
 refused 14|submit|ACME|9|4001|A|two lines
 refused 12|submit|ACME|8|4001|A|two lines
 refused 10|standing||9|
+refused 29|cards|ACME|9|5
+refused 29|cards|ACME|8|5
+refused 11|cards|ACME|0|5
+refused 20|cards|ACME|8|4
 refused 10|jobs||
 ";
 

@@ -19,20 +19,29 @@ use std::test::Fail;
 /// Submits a job that punches three cards.
 const SUBMIT: &str = "submit|ACME|9|1400|-|three cards";
 
+/// Submits a job that punches a card into each pocket.
+const SUBMIT_APART: &str = "submit|ACME|9|1400|-|three pockets";
+
 /// Runs the job to its halt.
 const SLICE: &str = "slice|ACME|9|2000";
 
-/// The number of jobs, the number of stretches with instructions granted, and the number of cards
-/// punched, as one number.
+/// The number of cards apart, of jobs, of stretches with instructions granted, and of cards punched,
+/// as one number. Tables of an older version have no cards apart.
 fn contents<S: Alter>(conn: &mut Connection<S>) -> Result<i64, Fail> {
     let jobs: i64 = conn.query_row("SELECT count(*) FROM jobs", &[])?.get(0)?;
     let granted: i64 = conn
         .query_row("SELECT count(*) FROM stretches WHERE granted > 0", &[])?
         .get(0)?;
     let cards: i64 = conn.query_row("SELECT count(*) FROM cards", &[])?.get(0)?;
-    let hundreds = jobs.wrapping_mul(100);
-    let tens = granted.wrapping_mul(10);
-    Ok(hundreds.wrapping_add(tens).wrapping_add(cards))
+    let apart = match conn.query_row("SELECT count(*) FROM pockets", &[]) {
+        Ok(row) => row.get(0)?,
+        Err(_) => 0,
+    };
+    let mut sum: i64 = 0;
+    for number in [apart, jobs, granted, cards] {
+        sum = sum.wrapping_mul(10).wrapping_add(number);
+    }
+    Ok(sum)
 }
 
 /// Whether a command is applied, or leaves the tables as they were.
@@ -62,7 +71,7 @@ fn in_memory(alloc: Global) -> Result<Bureau<MemStore>, Fail> {
 /// A bureau with one job that has not run.
 fn with_a_job(alloc: Global) -> Result<Bureau<MemStore>, Fail> {
     let mut bureau = in_memory(alloc)?;
-    match bureau.apply(&command_of(alloc, SUBMIT)?, &mut Meter::new()) {
+    match bureau.apply(&command_of(alloc, SUBMIT_APART)?, &mut Meter::new()) {
         Ok(_) => Ok(bureau),
         Err(_) => Err("not taken")?,
     }
@@ -113,7 +122,7 @@ fn is_run_or_not(alloc: Global) -> Result<bool, Fail> {
         with_a_job(alloc)?,
         &command_of(alloc, SLICE)?,
         100,
-        113,
+        2113,
     )
 }
 
@@ -162,12 +171,12 @@ fn first_tables(alloc: Global) -> Result<Connection<MemStore>, Fail> {
 fn is_raised_or_not(alloc: Global) -> Result<bool, Fail> {
     let mut conn = first_tables(alloc)?;
     match raise_tables(alloc, &mut conn) {
-        Ok(found) => Ok(found == 1 && version(&mut conn)? == 3 && contents(&mut conn)? == 113),
+        Ok(found) => Ok(found == 1 && version(&mut conn)? == 4 && contents(&mut conn)? == 113),
         Err(OpenFault::NoMemory) => Ok(
             version(&mut conn)? == 11
                 && contents(&mut conn)? == 113
                 && raise_tables(alloc, &mut conn) == Ok(1)
-                && version(&mut conn)? == 3
+                && version(&mut conn)? == 4
                 && contents(&mut conn)? == 113,
         ),
         Err(_) => Ok(false),

@@ -1,6 +1,8 @@
 //! A row of each table.
 
-use ledger_tables::{Fault, JobName, JobRow, LineRow, OpenTables, StateRow, StretchRow};
+use ledger_tables::{
+    Fault, JobName, JobRow, LineRow, OpenTables, ProfileRow, StateRow, StretchRow,
+};
 use sqlite::{Alter, Connection, MemStore};
 use std::alloc::Global;
 use std::test::Fail;
@@ -38,6 +40,12 @@ pub(crate) const STATE: StateRow = StateRow {
     standing: 5,
 };
 
+/// The profile of a machine.
+const PROFILE: ProfileRow = ProfileRow {
+    profile: 25,
+    chosen: 0,
+};
+
 fn line(alloc: Global) -> Result<LineRow, Fail> {
     Ok(LineRow {
         form: 11,
@@ -57,11 +65,15 @@ fn take_job<S: Alter>(tables: &mut OpenTables<'_, '_, S>, job: &JobRow) -> Resul
     tables.insert_stretch(NAME, 0, stretch)
 }
 
-/// Adds the job's state, a card and a line.
+/// Adds the job's state and profile, a card with its pocket, and a line; then chooses another
+/// pocket.
 fn run_job<S: Alter>(tables: &mut OpenTables<'_, '_, S>, line: &LineRow) -> Result<(), Fault> {
     tables.insert_state(NAME, STATE)?;
+    tables.insert_profile(NAME, PROFILE)?;
     tables.insert_card(NAME, 1, &[15, 16])?;
-    tables.insert_line(NAME, 1, line)
+    tables.insert_pocket(NAME, 1, 24)?;
+    tables.insert_line(NAME, 1, line)?;
+    tables.set_chosen(NAME, 26)
 }
 
 /// Sets three pages, of which the second one is cleared again and the third one set again.
@@ -105,17 +117,22 @@ fn filled(alloc: Global) -> Result<Connection<MemStore>, Fail> {
 
 /// Queries, each after the number that it returns.
 const NUMBERS: &str = "\
-3|SELECT version FROM bureau
+4|SELECT version FROM bureau
 1|SELECT count(*) FROM jobs
 1|SELECT count(*) FROM stretches
 1|SELECT count(*) FROM states
 1|SELECT count(*) FROM cards
 1|SELECT count(*) FROM lines
+1|SELECT count(*) FROM profiles
+1|SELECT count(*) FROM pockets
 2|SELECT count(*) FROM pages
 4000|SELECT size FROM jobs
 1000|SELECT granted FROM stretches
 5|SELECT standing FROM states
 335|SELECT b FROM states
+25|SELECT profile FROM profiles
+26|SELECT chosen FROM profiles
+24|SELECT pocket FROM pockets
 2|SELECT length(card) FROM cards
 11|SELECT form FROM lines
 1|SELECT length(storage) FROM pages WHERE page = 0

@@ -4,8 +4,8 @@
 //!
 //! - `make` creates the tables.
 //! - `lay` creates them beside those of version 1; the bureau does not know these.
-//! - `old` makes the tables those of the version after it: 1, after `lay`, or 2. They hold the same
-//!   jobs.
+//! - `old` makes the tables those of the version after it: 1, after `lay`, or 2 or 3. They hold the
+//!   same jobs, whose profiles and pockets they do not have.
 //! - `create` and `adopt` create the bureau and open it: each tells `done`, or the fault.
 //! - `migrate` tells the version from which it raises the tables, or the number of the fault.
 //! - `sheet` opens the bureau and applies the commands of a sheet: it tells the first line that gets
@@ -208,7 +208,7 @@ fn numbered_all<S: Alter + Drop>(
 }
 
 /// Every table of any version, and the order of its rows.
-const TABLES: [&str; 8] = [
+const TABLES: [&str; 10] = [
     "bureau ORDER BY id",
     "jobs ORDER BY customer, number",
     "stretches ORDER BY customer, number, place",
@@ -217,6 +217,8 @@ const TABLES: [&str; 8] = [
     "pages ORDER BY customer, number, page",
     "cards ORDER BY customer, number, place",
     "lines ORDER BY customer, number, place",
+    "profiles ORDER BY customer, number",
+    "pockets ORDER BY customer, number, place",
 ];
 
 /// The rows of a table, or the fault of looking for them.

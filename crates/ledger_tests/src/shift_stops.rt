@@ -48,20 +48,20 @@ const TWO_LINES: Sheet = Sheet {
     end: "halted, next 361, false false 2034 0 2",
 };
 
-/// A job that punches three cards.
-const THREE_CARDS: Sheet = Sheet {
-    commands: &["submit|ACME|9|1400|-|three cards", "slice|ACME|9|2000"],
+/// A job that punches a card into each pocket.
+const THREE_POCKETS: Sheet = Sheet {
+    commands: &["submit|ACME|9|1400|-|three pockets", "slice|ACME|9|2000"],
     lost: &[
         "refused 20; taken 1; running, false false 0 0 0",
-        "running, false false 0 0 0; ran 8, halted, next 33; \
-        halted, next 33, false false 2000 3 0",
+        "running, false false 0 0 0; ran 12, halted, next 51; \
+        halted, next 51, false false 2000 3 0",
     ],
     kept: &[
         "running, false false 0 0 0; taken 1; running, false false 0 0 0",
-        "halted, next 33, false false 2000 3 0; refused 23; \
-        halted, next 33, false false 2000 3 0",
+        "halted, next 51, false false 2000 3 0; refused 23; \
+        halted, next 51, false false 2000 3 0",
     ],
-    end: "halted, next 33, false false 2000 3 0",
+    end: "halted, next 51, false false 2000 3 0",
 };
 
 /// A query for job 9 of ACME.
@@ -206,7 +206,7 @@ fn the_log_fails_in_a_shift(rt: HostRuntime) -> Result<(), Fail> {
 
 #[test]
 fn the_log_fails_in_a_shift_of_cards(rt: HostRuntime) -> Result<(), Fail> {
-    let Stops { lost, kept } = stops_of(rt.alloc(), &THREE_CARDS, Failing::Log)?;
+    let Stops { lost, kept } = stops_of(rt.alloc(), &THREE_POCKETS, Failing::Log)?;
     assert!(rt; lost >= 70 && kept >= 1, "{lost} lost, {kept} kept");
     Ok(())
 }
@@ -220,7 +220,7 @@ fn the_database_fails_in_a_shift(rt: HostRuntime) -> Result<(), Fail> {
 
 #[test]
 fn the_database_fails_in_a_shift_of_cards(rt: HostRuntime) -> Result<(), Fail> {
-    let Stops { lost, kept } = stops_of(rt.alloc(), &THREE_CARDS, Failing::Database)?;
+    let Stops { lost, kept } = stops_of(rt.alloc(), &THREE_POCKETS, Failing::Database)?;
     assert!(rt; lost >= 15, "{lost} lost, {kept} kept");
     Ok(())
 }

@@ -189,10 +189,13 @@ ran 22, halted, next 347|refused 23|commands|slice|ACME|9|2000
 cards 1 [HELLO]|cards 1 [HELLO]|commands|cards|ACME|9|
 ";
 
-/// The same for a job that punches three cards.
+/// The same for a job that punches a card into each pocket, and stops first where a pocket is chosen
+/// and nothing is punched.
 const WITH_CARDS: &str = "\
-taken 1|taken 1|commands|submit|ACME|9|1400|-|three cards
-ran 8, halted, next 33|refused 23|commands|slice|ACME|9|2000
+taken 1|taken 1|commands|submit|ACME|9|1400|-|three pockets
+ran 7, running|ran 5, halted, next 51|commands|slice|ACME|9|7
+ran 5, halted, next 51|refused 23|commands|slice|ACME|9|2000
+cards 1 [     ]|cards 1 [     ]|commands|cards|ACME|9|4
 ";
 
 #[test]

@@ -13,12 +13,13 @@ const VERSIONS: &str = "make|#\
 faults|#\
 execute|UPDATE bureau SET version = 1#faults|#\
 execute|UPDATE bureau SET version = 2#faults|#\
+execute|UPDATE bureau SET version = 3#faults|#\
 execute|UPDATE bureau SET version = 0#faults|#\
 execute|UPDATE bureau SET version = -1#faults|#\
+execute|UPDATE bureau SET version = 5#faults|#\
+execute|UPDATE bureau SET version = 4294967300#faults|#\
 execute|UPDATE bureau SET version = 4#faults|#\
-execute|UPDATE bureau SET version = 4294967299#faults|#\
-execute|UPDATE bureau SET version = 3#faults|#\
-execute|INSERT INTO bureau (id, version) VALUES (2, 3)#faults|#\
+execute|INSERT INTO bureau (id, version) VALUES (2, 4)#faults|#\
 execute|UPDATE bureau SET version = 2#faults|#\
 execute|DELETE FROM bureau#faults|#\
 execute|DROP TABLE bureau#faults|#";
@@ -42,8 +43,8 @@ fn one_version_is_adopted(rt: HostRuntime) -> Result<(), Fail> {
     let (told, _) = told_in_memory(rt.alloc(), VERSIONS)?;
     assert_eq!(rt;
         told.as_str(),
-        "0 0, 51 of 1 51 of 1, 51 of 2 51 of 2, 50 50, 50 50, 50 50, 50 50, 0 0, \
-        50 50, 50 50, 50 50, 50 50, "
+        "0 0, 51 of 1 51 of 1, 51 of 2 51 of 2, 51 of 3 51 of 3, 50 50, 50 50, 50 50, 50 50, \
+        0 0, 50 50, 50 50, 50 50, 50 50, "
     );
     Ok(())
 }

@@ -15,6 +15,7 @@ use Rattle.office.specs.declared.commands.Command.TheVariants.{Job as OnJob}
 use Rattle.office.specs.declared.commands.JobCommand.{JobCommand}
 use Rattle.office.specs.declared.commands.JobCommand.TheVariants.{Cards, Lines}
 use Rattle.office.specs.declared.replies.Reply.{Reply}
+use Rattle.office.specs.declared.stackers.Stacker.{Stacker}
 use Rattle.service.specs.Outcomes.{with_file}
 use Rattle.service.specs.declared.outcomes.Outcome.{Outcome}
 use Rattle.service.specs.declared.outcomes.Outcome.TheVariants as outcome
@@ -66,10 +67,15 @@ IsOnJob customer number c other = ⊥
 abbrev pub TellsAsked : List ℕ → ℕ → JobCommand → List Command → List Reply → Type 0
 TellsAsked customer number c done replies = AllByRecursion (IsOnJob customer number c) done
 
--- each command that was carried out is a query for the job's cards or for its lines
+-- the command is a query for the job's cards, from some stacker, or for its lines
+abbrev pub AsksForMade : List ℕ → ℕ → Command → Type 0
+AsksForMade customer number it =
+    ((from : Stacker) × IsOnJob customer number (Cards from) it)
+    ⊎ IsOnJob customer number Lines it
+
+-- each command that was carried out is such a query
 abbrev pub TellsExport : List ℕ → ℕ → List Command → List Reply → Type 0
-TellsExport customer number done replies = AllByRecursion
-    (λ it. IsOnJob customer number Cards it ⊎ IsOnJob customer number Lines it) done
+TellsExport customer number done replies = AllByRecursion (AsksForMade customer number) done
 
 -- a script was applied to the bureau in a file, with this outcome and with these bytes on the
 -- output; or the file could not be opened, and nothing is on the output

@@ -14,18 +14,45 @@ use ledger::{Bureau, Fault, kept_offices_run_whole};
 use ledger_files::{Work, with_bureau};
 use ledger_tables::OpenFault;
 use machine::Meter;
-use office::{Command, JobCommand, Reply};
+use office::{Command, JobCommand, Reply, Stacker};
 use sqlite::Alter;
 use std::alloc::Global;
 use std::io;
 use std::io::Write;
-use units::render;
+use units::{Pocket, render};
 
-/// What a job has made, as the bytes of its two files.
+/// The parts of what a job has made: the ending of the name of the part's file, and the query for
+/// the part, in the order in which the files are written.
+const PARTS: [(&str, JobCommand); 5] = [
+    ("cards", JobCommand::Cards { from: Stacker::All }),
+    (
+        "cards0",
+        JobCommand::Cards {
+            from: Stacker::Of(Pocket::Normal),
+        },
+    ),
+    (
+        "cards4",
+        JobCommand::Cards {
+            from: Stacker::Of(Pocket::Four),
+        },
+    ),
+    (
+        "cards8",
+        JobCommand::Cards {
+            from: Stacker::Of(Pocket::Eight),
+        },
+    ),
+    ("lines", JobCommand::Lines),
+];
+
+/// A part of what a job has made.
 #[derive(Drop)]
 struct Made {
-    cards: Vec<u8>,
-    lines: Vec<u8>,
+    /// The ending of its file's name.
+    ending: &'static str,
+    /// The bytes of its file.
+    bytes: Vec<u8>,
 }
 
 /// The outcome if there is no memory.
@@ -76,44 +103,62 @@ fn bytes_of(alloc: Global, reply: &Reply) -> Result<Vec<u8>, Outcome> {
     }
 }
 
-/// What a job has made.
+/// The bytes of the file for the reply to a query of a job.
+fn bytes_for<S: Alter>(
+    alloc: Global,
+    bureau: &mut Bureau<S>,
+    customer: &str,
+    number: u32,
+    query: JobCommand,
+) -> Result<Vec<u8>, Outcome>
+    ensures works { HasWorked S.Store bureau.old.conn bureau.new.conn bureau.new.broken
+        (TellsAsked customer.now number query) }
+    ensures whole { OnOk result (bureau.new.broken ≡ false) }
+    ensures clean { doubt (state S.Store bureau.old.conn).is_clean
+        ≤ doubt (state S.Store bureau.new.conn).is_clean }
+{
+    let reply = ask(alloc, bureau, customer, number, query)?;
+    bytes_of(alloc, &reply)
+}
+
+/// What a job has made, part by part.
 fn made_by<S: Alter>(
     alloc: Global,
     bureau: &mut Bureau<S>,
     customer: &str,
     number: u32,
-) -> Result<Made, Outcome>
+) -> Result<Vec<Made>, Outcome>
     ensures works { HasWorked S.Store bureau.old.conn bureau.new.conn bureau.new.broken
         (TellsExport customer.now number) }
     ensures clean { doubt (state S.Store bureau.old.conn).is_clean
         ≤ doubt (state S.Store bureau.new.conn).is_clean }
 {
-    let cards = ask(alloc, bureau, customer, number, JobCommand::Cards)?;
-    let cards = bytes_of(alloc, &cards)?;
-    let lines = ask(alloc, bureau, customer, number, JobCommand::Lines)?;
-    let lines = bytes_of(alloc, &lines)?;
-    Ok(Made { cards, lines })
+    // A law, for the proof: it does nothing.
+    kept_offices_run_whole();
+    let mut made = Vec::new(alloc);
+    for (ending, query) in PARTS {
+        let bytes = bytes_for(alloc, bureau, customer, number, query)?;
+        if made.push(Made { ending, bytes }).is_err() {
+            return Err(NO_MEMORY);
+        }
+    }
+    Ok(made)
 }
 
-/// Replaces the job's file of this kind, in the folder where the program runs.
-fn put(
-    rt: &HostRuntime,
-    customer: &str,
-    number: u32,
-    kind: &str,
-    bytes: &[u8],
-) -> Result<(), Outcome> {
-    let Ok(name) = format!(in rt.alloc(); "{customer}-{number}.{kind}") else {
+/// Replaces the job's file of a part, in the folder where the program runs.
+fn put(rt: &HostRuntime, customer: &str, number: u32, part: &Made) -> Result<(), Outcome> {
+    let ending = part.ending;
+    let Ok(name) = format!(in rt.alloc(); "{customer}-{number}.{ending}") else {
         return Err(NO_MEMORY);
     };
-    match put_file(rt, &name, bytes) {
+    match put_file(rt, &name, &part.bytes) {
         Ok(()) => Ok(()),
         Err(WritingFault::Memory) => Err(NO_MEMORY),
         Err(_) => Err(Outcome::Device),
     }
 }
 
-/// Writes what a job has made. Nothing is written before the bytes of both files are made.
+/// Writes what a job has made. Nothing is written before the bytes of all files are made.
 fn write_made<S: Alter>(
     rt: &HostRuntime,
     bureau: &mut Bureau<S>,
@@ -126,8 +171,10 @@ fn write_made<S: Alter>(
         ≤ doubt (state S.Store bureau.new.conn).is_clean }
 {
     let made = made_by(rt.alloc(), bureau, customer, number)?;
-    put(rt, customer, number, "cards", &made.cards)?;
-    put(rt, customer, number, "lines", &made.lines)
+    for part in &made {
+        put(rt, customer, number, part)?;
+    }
+    Ok(())
 }
 
 /// The work of exporting a job.
@@ -154,9 +201,10 @@ impl Work for ExportWork<'_> {
     }
 }
 
-/// Writes what a job has punched and printed to the files `CUSTOMER-NUMBER.cards` and
-/// `CUSTOMER-NUMBER.lines`, in the folder where the program runs. Files of these names are
-/// replaced, each whole or not at all; if the job is refused, none is touched.
+/// Writes what a job has punched and printed to files in the folder where the program runs:
+/// `CUSTOMER-NUMBER.cards` has all its cards, `.cards0`, `.cards4` and `.cards8` those of each
+/// pocket, and `.lines` its lines. Files of these names are replaced, each whole or not at all; if
+/// the job is refused, none is touched.
 pub fn export(rt: &HostRuntime, path: &str, customer: &str, number: u32) -> Outcome {
     let mut work = ExportWork {
         customer,

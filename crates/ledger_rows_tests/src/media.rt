@@ -2,14 +2,14 @@
 
 use bcd::Code;
 use cards::{COLUMNS, Card, Deck};
-use ledger_rows::{card_bytes, deck_bytes, line_row, read_deck, read_rows};
+use ledger_rows::{card_bytes, deck_bytes, line_row, read_deck, read_punched, read_rows};
 use ledger_tables::{CardRow, LineRow};
 use std::alloc::Global;
 use std::test::Fail;
-use units::Line;
+use units::{Line, Punched};
 
 /// A deck with a card for each of these characters, which is in all its columns.
-fn deck_of(alloc: Global, glyphs: &str) -> Result<Deck, Fail> {
+pub(crate) fn deck_of(alloc: Global, glyphs: &str) -> Result<Deck, Fail> {
     let mut deck = Deck::empty(alloc);
     for glyph in glyphs.bytes() {
         let code = Code::from_glyph(glyph).ok_or("a glyph")?;
@@ -46,24 +46,43 @@ fn deck_told(alloc: Global, glyphs: &str, numbers: &[u8]) -> Result<&'static str
     })
 }
 
+/// The row of a card.
+pub(crate) fn card_row(alloc: Global, card: &Card) -> Result<CardRow, Fail> {
+    let card = Vec::from_slice(alloc, &card_bytes(card))?;
+    Ok(CardRow { card })
+}
+
 /// The rows of a deck's cards.
-fn rows_of(alloc: Global, deck: &Deck) -> Result<Vec<CardRow>, Fail> {
+pub(crate) fn deck_rows(alloc: Global, deck: &Deck) -> Result<Vec<CardRow>, Fail> {
     let mut rows = Vec::new(alloc);
     for card in deck.cards() {
-        let card = Vec::from_slice(alloc, &card_bytes(card))?;
-        rows.push(CardRow { card })?;
+        rows.push(card_row(alloc, card)?)?;
     }
     Ok(rows)
+}
+
+/// Whether punched cards are the cards of a deck.
+fn are_of(punched: &[Punched], deck: &Deck) -> bool {
+    let cards = deck.cards();
+    if punched.len() != cards.len() {
+        return false;
+    }
+    for place in 0..cards.len() {
+        if punched[place].card != cards[place] {
+            return false;
+        }
+    }
+    true
 }
 
 /// The result of reading the rows of cards.
 fn cards_told(alloc: Global, glyphs: &str) -> Result<&'static str, Fail> {
     let deck = deck_of(alloc, glyphs)?;
-    let rows = rows_of(alloc, &deck)?;
-    let Some(read) = read_rows::<CardRow, Card>(alloc, &rows)? else {
+    let rows = deck_rows(alloc, &deck)?;
+    let Some(read) = read_punched(alloc, &rows, &[])? else {
         return Ok("no cards");
     };
-    Ok(if read.as_slice() == deck.cards() {
+    Ok(if are_of(&read, &deck) {
         "the cards"
     } else {
         "other cards"
@@ -73,10 +92,10 @@ fn cards_told(alloc: Global, glyphs: &str) -> Result<&'static str, Fail> {
 /// Whether rows of cards are read if a row of `count` bytes comes after them.
 fn are_cards(alloc: Global, glyphs: &str, count: usize, byte: u8) -> Result<bool, Fail> {
     let deck = deck_of(alloc, glyphs)?;
-    let mut rows = rows_of(alloc, &deck)?;
+    let mut rows = deck_rows(alloc, &deck)?;
     let card = bytes_of(alloc, count, &[byte])?;
     rows.push(CardRow { card })?;
-    Ok(read_rows::<CardRow, Card>(alloc, &rows)?.is_some())
+    Ok(read_punched(alloc, &rows, &[])?.is_some())
 }
 
 /// The row of a line that has one character in every column, and whether it is read as the line.
@@ -151,6 +170,9 @@ false|deck|81|0|
 true|deck|160000|0|
 false|deck|160080|0|
 false|behind two cards|79|0|
+true|behind two cards|80|63|
+false|behind two cards|80|64|
+false|behind two cards|81|0|
 true|line 255|132|63|
 false|line 256|132|63|
 false|line 1|131|0|

@@ -1,7 +1,8 @@
 //! Storage, indicators, orders, standings and switches as numbers, and read back.
 
-use crate::decks::deck_named;
+use crate::decks::punching_deck;
 use crate::machines::page_rows;
+use crate::pockets::number_of;
 use bcd::Code;
 use bitflags::Flags;
 use core_store::{Core, FlagCore, PlaneCore, Size};
@@ -12,7 +13,7 @@ use ledger_tables::{PageRow, StateRow};
 use machine::{Machine, Parts};
 use std::alloc::Global;
 use std::test::Fail;
-use units::Switches;
+use units::{Pocket, Profile, Punch, Switches};
 
 /// A state's row with these numbers, for a machine that has read a card and made nothing.
 fn row_with(compare: u32, waiting: u32, standing: u32) -> StateRow {
@@ -36,9 +37,13 @@ fn row_with(compare: u32, waiting: u32, standing: u32) -> StateRow {
 /// The media of a machine that has made nothing.
 fn media(alloc: Global) -> Result<Media, Fail> {
     Ok(Media {
-        deck: deck_named(alloc, "two lines")?,
+        deck: punching_deck(alloc)?,
         switches: Switches::A,
-        cards: Vec::new(alloc),
+        punch: Punch {
+            cards: Vec::new(alloc),
+            chosen: Pocket::Normal,
+            profile: Profile::Selecting,
+        },
         lines: Vec::new(alloc),
     })
 }
@@ -89,11 +94,6 @@ const NUMBERS: &str = "\
 0|5|0|none
 0|0|9|none
 ";
-
-/// The number in a text.
-fn number_of(text: &str) -> Result<u32, Fail> {
-    Ok(text.parse::<u32>().ok().ok_or("a number")?)
-}
 
 /// The first line of a sheet whose numbers represent something else than it gives, or are not the
 /// numbers of that; empty if there is none.
