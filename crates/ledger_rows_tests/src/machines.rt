@@ -200,8 +200,8 @@ fn told_of_pockets(
 
 /// Machines that are made again: after how many instructions, and with which number of a profile;
 /// the first character and the pocket of each card punched, and the pocket of the next card; the
-/// same after it has run on; and its standing and register I. A choice that waits holds in a profile
-/// without stacker selection too, in which the next choice is a check.
+/// same after it has run on; and its standing and register I. A choice that waits holds without
+/// stacker selection too, where the next choice is a check.
 const MACHINES: &str = "\
 21|2|then 0|H4 H0 W8 W0 then 8, Halted 368
 22|2|then 4|H4 H0 W8 W0 then 8, Halted 368
