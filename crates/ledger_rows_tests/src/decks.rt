@@ -5,8 +5,8 @@ use std::alloc::Global;
 use std::test::Fail;
 
 /// A program and two data cards, each card without its trailing blanks. The program chooses pocket
-/// 4; then it reads a card, prints and punches it, punches it once more, and chooses pocket 8, until
-/// the last card.
+/// 4; then it reads a card, prints and punches it, punches it once more and chooses pocket 8, until
+/// it has read the last card.
 const PUNCHES_EACH_CARD_TWICE: &str = "\
 ,008015,022029,036040,047054,061068,072)008015)022029)036036N0000001040
 ,001K41M080280M08018064K8B367AB339.    L036368,337339,340347,3543551040

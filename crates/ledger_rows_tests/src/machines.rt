@@ -198,10 +198,10 @@ fn told_of_pockets(
     Ok(format!(in alloc; "{before}|{after}, {standing:?} {i}")?)
 }
 
-/// Machines that are made again. Of each: after how many instructions, and with which number of a
-/// profile; what it has punched, the first character and the pocket of each card, and the pocket of
-/// the next card; the same after it has run on; and its standing and register I. A choice that
-/// waits holds also where there is no stacker selection; the next one is a check.
+/// Machines that are made again: after how many instructions, and with which number of a profile;
+/// the first character and the pocket of each card punched, and the pocket of the next card; the
+/// same after it has run on; and its standing and register I. A choice that waits holds without
+/// stacker selection too, where the next choice is a check.
 const MACHINES: &str = "\
 21|2|then 0|H4 H0 W8 W0 then 8, Halted 368
 22|2|then 4|H4 H0 W8 W0 then 8, Halted 368
@@ -252,8 +252,8 @@ fn made_before(
     }
 }
 
-/// What a machine has made, of its state's row, and what was made before the cards and lines of its
-/// media: where these are all, two, one and none.
+/// The numbers of a machine's state row, and how many cards and lines were made before those of
+/// its media: where these are all, the first two, one and none.
 fn row_told(alloc: Global, machine: &Machine<FlagCore>) -> Result<String, Fail> {
     let rows = rows_of(alloc, machine)?;
     let (cards, lines) = (rows.state.cards, rows.state.lines);

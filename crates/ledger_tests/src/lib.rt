@@ -1,6 +1,6 @@
 //! Tests of the bureau: the replies to sheets of commands and the rows after them; disks that fail
-//! and memory that is refused; shifts; and tables of older versions. `ledger_rows_tests` has those of
-//! the rows below it.
+//! and memory that is refused; shifts; and tables of older versions. Those of cards, lines and
+//! pictures as rows are in `ledger_rows_tests`.
 //!
 //! They are one crate, because each crate over `sqlite` takes a minute to start.
 #![tactic(auto)]
