@@ -17,6 +17,7 @@ use Rattle.texts.specs.Numbers.{IsNumberOf}
 use Rattle.texts.specs.Switches.{AreSwitchesOf, letters_of, risen, text_of_bits}
 use Rattle.office.specs.declared.commands.JobCommand.{JobCommand}
 use Rattle.office.specs.declared.commands.JobCommand.TheVariants as on
+use Rattle.office.specs.declared.stackers.Stacker.{Stacker}
 use Rattle.http_requests.specs.Targets.{Asks, IsCommandBy, IsJobOf}
 use Rattle.http_requests.specs.Fields.{body_length}
 use Rattle.http_requests.specs.Heads.{AsksFor}
@@ -79,8 +80,10 @@ one_command verb.Collect text on.Collect on.Collect x y = refl
 one_command verb.Collect text on.Collect d x y = absurd y
 one_command verb.Standing text on.Standing on.Standing x y = refl
 one_command verb.Standing text on.Standing d x y = absurd y
-one_command verb.Cards text on.Cards on.Cards x y = refl
-one_command verb.Cards text on.Cards d x y = absurd y
+one_command verb.Cards text (on.Cards from) (on.Cards all) x y = ap (λ (s : Stacker). on.Cards s) (x ∙ sym y)
+one_command verb.Cards text (on.Cards from) d x y = absurd y
+one_command verb.Pocket text (on.Cards from) (on.Cards same) x y = ap (λ (s : Stacker). on.Cards s) (x ∙ sym y)
+one_command verb.Pocket text (on.Cards from) d x y = absurd y
 one_command verb.Lines text on.Lines on.Lines x y = refl
 one_command verb.Lines text on.Lines d x y = absurd y
 one_command v text c d x y = absurd x

@@ -80,9 +80,9 @@ module _ (verb : List ℕ) (after : List (List ℕ)) where
   one_on_job on.Standing on.Hold x y = absurd (omega (arith, ap key (sym x.0 ∙ y.0)))
   one_on_job on.Standing on.Release x y = absurd (omega (arith, ap key (sym x.0 ∙ y.0)))
   one_on_job on.Standing on.Collect x y = absurd (omega (arith, ap key (sym x.0 ∙ y.0)))
-  one_on_job on.Cards d x y = absurd x
+  one_on_job (on.Cards from) d x y = absurd x
   one_on_job on.Lines d x y = absurd x
-  one_on_job c on.Cards x y = absurd y
+  one_on_job c (on.Cards from) x y = absurd y
   one_on_job c on.Lines x y = absurd y
 
 -- words say one command on one job
@@ -162,7 +162,7 @@ no_heading words (command.Job customer number on.Hold) h x y = omega (arith, ap 
 no_heading words (command.Job customer number on.Release) h x y = omega (arith, ap length x.are, ap length y.are, ap length x.command_is.1)
 no_heading words (command.Job customer number on.Collect) h x y = omega (arith, ap length x.are, ap length y.are, ap length x.command_is.1)
 no_heading words (command.Job customer number on.Standing) h x y = omega (arith, ap length x.are, ap length y.are, ap length x.command_is.1)
-no_heading words (command.Job customer number on.Cards) h x y = x.command_is
+no_heading words (command.Job customer number (on.Cards from)) h x y = x.command_is
 no_heading words (command.Job customer number on.Lines) h x y = x.command_is
 no_heading words (command.Jobs customer) h x y = omega (arith, ap length x.1, ap length y.are)
 no_heading words command.Queue h x y = omega (arith, ap length x, ap length y.are)

@@ -11,7 +11,7 @@ use Rattle.office.specs.Jobs.{Job, granted, picture}
 use Rattle.office.specs.Kept.{Kept, answered, job_refusal, kept_of, refused_if, summary_of, take_kept, taken_unless}
 use Rattle.office.specs.Limits.{most_granted}
 use Rattle.office.specs.Names.{is_customer, is_limit, is_number}
-use Rattle.office.specs.Office.{Office, commanded, early_refusal, job_of, limit_refusal, served, take, taken}
+use Rattle.office.specs.Office.{Office, commanded, early_refusal, job_of, value_refusal, served, take, taken}
 use Rattle.office.specs.declared.commands.Command.{Command}
 use Rattle.office.specs.declared.commands.Command.TheVariants as command
 use Rattle.office.specs.declared.commands.JobCommand.{JobCommand}
@@ -19,6 +19,8 @@ use Rattle.office.specs.declared.commands.JobCommand.TheVariants.{Slice, Start, 
 use Rattle.office.specs.declared.refusals.Refusal.{Refusal}
 use Rattle.office.specs.declared.refusals.Refusal.TheVariants as refusal
 use Rattle.office.specs.declared.replies.Reply.TheVariants as reply
+use Rattle.office.specs.declared.stackers.Stacker.{Stacker}
+use Rattle.office.specs.declared.stackers.Stacker.TheVariants.{All, Of, Unknown}
 use Rattle.bureau_laws.specs.Refusals.{Holds, HoldsIn, HoldsNone, HoldsOfJob, IsFirst, IsAvailable, IsLetThrough, IsQuery, IsRefusedWhere, IsStoppedByHold, tested_for}
 
 -- ---- reasons in order
@@ -202,7 +204,7 @@ module _ (job : Job) where
       collected Collect _ _ (λ q. q) (held Collect _ _ tt
       (last (goes_on (standing_at state next)) refusal.NotAtHalt (has Collect) (λ e. runs state next e) (λ e. stands state next e)))
   of_job Tell = tt
-  of_job Cards = tt
+  of_job (Cards from) = tt
   of_job Lines = tt
 
 -- ---- replies to a command on a job
@@ -214,7 +216,7 @@ no_refusal Hold k r e = absurd (cc)
 no_refusal Release k r e = absurd (cc)
 no_refusal Collect k r e = absurd (cc)
 no_refusal Tell k r e = absurd (cc)
-no_refusal Cards k r e = absurd (cc)
+no_refusal (Cards from) k r e = absurd (cc)
 no_refusal Lines k r e = absurd (cc)
 
 of_kept : (c : JobCommand) (k : Kept) (o : Option Refusal) (r : Refusal) → ((taken_unless c k o).1 ≡ reply.Refused r) ↔ (o ≡ Some r)
@@ -253,7 +255,7 @@ module _ (job : Job) where
   first_where Collect r (inr (a, inr (b, inl d))) = as_where Collect _ r d.1 (free Collect (λ q. q) tt a b, d.0)
   first_where Collect r (inr (a, inr (b, inr d))) = absurd d.1
   first_where Tell r first = absurd first
-  first_where Cards r first = absurd first
+  first_where (Cards from) r first = absurd first
   first_where Lines r first = absurd first
 
   where_first : (c : JobCommand) (r : Refusal) → IsRefusedWhere r c job → IsFirst (has job c) (job_tests c) r
@@ -281,9 +283,9 @@ module _ (job : Job) where
   where_first Tell refusal.Collected w = absurd (w.0 tt)
   where_first Tell refusal.Held w = absurd w.0
   where_first Tell r w = absurd w
-  where_first Cards refusal.Collected w = absurd (w.0 tt)
-  where_first Cards refusal.Held w = absurd w.0
-  where_first Cards r w = absurd w
+  where_first (Cards from) refusal.Collected w = absurd (w.0 tt)
+  where_first (Cards from) refusal.Held w = absurd w.0
+  where_first (Cards from) r w = absurd w
   where_first Lines refusal.Collected w = absurd (w.0 tt)
   where_first Lines refusal.Held w = absurd w.0
   where_first Lines r w = absurd w
@@ -295,7 +297,7 @@ module _ (job : Job) where
   none_through Release n = (is_set job.held n.1.0, λ h. n.0 ((λ q. q), h))
   none_through Collect n = (free Collect (λ q. q) tt n.0 n.1.0, n.1.1.0)
   none_through Tell n = tt
-  none_through Cards n = tt
+  none_through (Cards from) n = tt
   none_through Lines n = tt
 
   through_none : (c : JobCommand) → IsLetThrough c job → HoldsNone (has job c) (job_tests c)
@@ -305,7 +307,7 @@ module _ (job : Job) where
   through_none Release t = ((λ h. t.1 h.1), ((λ h. h t.0), tt))
   through_none Collect t = ((λ h. t.0.1 h.1), ((λ h. t.0.0 h.1), (t.1, tt)))
   through_none Tell t = tt
-  through_none Cards t = tt
+  through_none (Cards from) t = tt
   through_none Lines t = tt
 
 pub refused_where : (c : JobCommand) (job : Job) (r : Refusal) → ((take_kept c (kept_of job)).1 ≡ reply.Refused r) ↔ IsRefusedWhere r c job
@@ -348,7 +350,7 @@ module _ (customer : List ℕ) (number : ℕ) (office : Office) where
     same_tests Release = (same_here refusal.Collected Release, (same_here refusal.NotHeld Release, tt))
     same_tests Collect = (same_here refusal.Collected Collect, (same_here refusal.Held Collect, (same_here refusal.NotAtHalt Collect, tt)))
     same_tests Tell = tt
-    same_tests Cards = tt
+    same_tests (Cards from) = tt
     same_tests Lines = tt
 
     in_office : (c : JobCommand) → Agrees (why job c) (holds c) (job_tests c)
@@ -388,11 +390,16 @@ module _ (customer : List ℕ) (number : ℕ) (office : Office) where
   whole c =
       if not (is_customer customer) then Some refusal.Customer else
       if not (is_number number) then Some refusal.Number else
-      or_else (limit_refusal c None) (on_found c (job_of customer number office))
+      or_else (value_refusal c None) (on_found c (job_of customer number office))
 
   limited : (b : Bool) (rest : Option Refusal) → or_else (if b then None else Some refusal.Limit) rest ≡ (if not b then Some refusal.Limit else rest)
   limited true rest = refl
   limited false rest = refl
+
+  -- cards of a pocket that there is
+  of_pocket : (from : Stacker) → ¬ (from ≡ Unknown)
+      → Agrees (on_found (Cards from) (job_of customer number office)) (holds (Cards from)) (refusal.NoSuchPocket ∷ refusal.NoJob ∷ [])
+  of_pocket from known = pass refusal.NoSuchPocket _ (holds (Cards from)) _ known (found (Cards from) (λ e. e) (λ e. e) (job_of customer number office) refl)
 
   agrees : (c : JobCommand) → Agrees (whole c) (holds c) (tested_for c)
   agrees (Slice limit) =
@@ -406,7 +413,9 @@ module _ (customer : List ℕ) (number : ℕ) (office : Office) where
   agrees Release = named Release _ _ (λ e. e) (λ e. e) (λ e. e) (λ e. e) (found Release (λ e. e) (λ e. e) (job_of customer number office) refl)
   agrees Collect = named Collect _ _ (λ e. e) (λ e. e) (λ e. e) (λ e. e) (found Collect (λ e. e) (λ e. e) (job_of customer number office) refl)
   agrees Tell = named Tell _ _ (λ e. e) (λ e. e) (λ e. e) (λ e. e) (found Tell (λ e. e) (λ e. e) (job_of customer number office) refl)
-  agrees Cards = named Cards _ _ (λ e. e) (λ e. e) (λ e. e) (λ e. e) (found Cards (λ e. e) (λ e. e) (job_of customer number office) refl)
+  agrees (Cards Unknown) = named (Cards Unknown) _ _ (λ e. e) (λ e. e) (λ e. e) (λ e. e) (inl (refl, refl))
+  agrees (Cards All) = named (Cards All) _ _ (λ e. e) (λ e. e) (λ e. e) (λ e. e) (of_pocket All (λ e. absurd (cc)))
+  agrees (Cards (Of pocket)) = named (Cards (Of pocket)) _ _ (λ e. e) (λ e. e) (λ e. e) (λ e. e) (of_pocket (Of pocket) (λ e. absurd (cc)))
   agrees Lines = named Lines _ _ (λ e. e) (λ e. e) (λ e. e) (λ e. e) (found Lines (λ e. e) (λ e. e) (job_of customer number office) refl)
 
   -- ---- replies
@@ -421,8 +430,8 @@ module _ (customer : List ℕ) (number : ℕ) (office : Office) where
   of_early it None rest r same = same
 
   early : (c : JobCommand) (a b : Bool) (rest : Option Refusal)
-      → or_else (limit_refusal c (if not a then Some refusal.Customer else if not b then Some refusal.Number else None)) rest
-      ≡ (if not a then Some refusal.Customer else if not b then Some refusal.Number else or_else (limit_refusal c None) rest)
+      → or_else (value_refusal c (if not a then Some refusal.Customer else if not b then Some refusal.Number else None)) rest
+      ≡ (if not a then Some refusal.Customer else if not b then Some refusal.Number else or_else (value_refusal c None) rest)
   early c false b rest = refl
   early c true false rest = refl
   early c true true rest = refl

@@ -60,7 +60,7 @@ changed_is contents cards job it Hold = record { same = it.same; loaded = it.loa
 changed_is contents cards job it Release = record { same = it.same; loaded = it.loaded }
 changed_is contents cards job it Collect = record { same = it.same; loaded = it.loaded }
 changed_is contents cards job it Tell = it
-changed_is contents cards job it Cards = it
+changed_is contents cards job it (Cards from) = it
 changed_is contents cards job it Lines = it
 
 after_is : (contents : Contents) (cards : ℕ) (job : Job) → IsOf contents cards job → (c : JobCommand) → IsOf contents cards (job_after c job)

@@ -22,7 +22,8 @@ use Rattle.bureau_laws.specs.Rounds.{AreWholeOf, Round, Link, worked, migrated, 
 rows_sound : (version : ℕ) (db : Database) (o : Office) → RowsOf version db o → IsDatabase db
 rows_sound version db o (inl (is, rows)) = rows.tables.sound
 rows_sound version db o (inr (inl (is, rows))) = rows.tables.sound
-rows_sound version db o (inr (inr (is, rows))) = rows.tables.sound
+rows_sound version db o (inr (inr (inl (is, rows)))) = rows.tables.sound
+rows_sound version db o (inr (inr (inr (is, rows)))) = rows.tables.sound
 
 left_of_own : (db : Trees) (o : Office) → LeftAs db o → LeftOf own_version db o
 left_of_own db o left = inr (inr (refl, left))

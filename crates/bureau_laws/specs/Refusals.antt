@@ -8,13 +8,14 @@ use Rattle.office.specs.declared.commands.JobCommand.{JobCommand}
 use Rattle.office.specs.declared.commands.JobCommand.TheVariants.{Slice, Start, Hold, Release, Collect, Standing as Tell, Cards, Lines}
 use Rattle.office.specs.declared.refusals.Refusal.{Refusal}
 use Rattle.office.specs.declared.refusals.Refusal.TheVariants as refusal
+use Rattle.office.specs.declared.stackers.Stacker.TheVariants.{Unknown}
 
 -- ---- commands and jobs
 
 -- the command is a query, which only asks for something of a job
 abbrev pub IsQuery : JobCommand → Type 0
 IsQuery Tell = ⊤
-IsQuery Cards = ⊤
+IsQuery (Cards from) = ⊤
 IsQuery Lines = ⊤
 IsQuery other = ⊥
 
@@ -87,11 +88,13 @@ HoldsOfJob customer number office reason c =
     (job : Job) × (job_of customer number office ≡ Some job) × Holds reason c job
 
 -- the reason holds of this command on the job of this name in the office: of the name for 10 and
--- 11, of a slice's limit for 21, of the name in this office for 20, and else of its job
+-- 11, of a slice's limit for 21, of the pocket of cards for 29, of the name in this office for 20,
+-- and else of its job
 abbrev pub HoldsIn : List ℕ → ℕ → Office → JobCommand → Refusal → Type 0
 HoldsIn customer number office c refusal.Customer = is_customer customer ≡ false
 HoldsIn customer number office c refusal.Number = is_number number ≡ false
 HoldsIn customer number office (Slice limit) refusal.Limit = is_limit limit ≡ false
+HoldsIn customer number office (Cards from) refusal.NoSuchPocket = from ≡ Unknown
 HoldsIn customer number office c refusal.NoJob = job_of customer number office ≡ None
 HoldsIn customer number office c reason = HoldsOfJob customer number office reason c
 
@@ -114,6 +117,8 @@ tested_for Release =
 tested_for Collect =
     refusal.Customer ∷ refusal.Number ∷ refusal.NoJob
     ∷ refusal.Collected ∷ refusal.Held ∷ refusal.NotAtHalt ∷ []
+tested_for (Cards from) =
+    refusal.Customer ∷ refusal.Number ∷ refusal.NoSuchPocket ∷ refusal.NoJob ∷ []
 tested_for query = refusal.Customer ∷ refusal.Number ∷ refusal.NoJob ∷ []
 
 -- the reason is the first of these that holds
