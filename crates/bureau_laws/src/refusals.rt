@@ -14,7 +14,7 @@ ghost use Rattle.bureau_laws.specs.Refusals.{HoldsIn, HoldsNone, IsFirst, IsLetT
 /// The law of refusals of commands on jobs: a command on a job is refused for each reason exactly
 /// where the job is as the reason says, and not refused exactly where it can be carried out. In an
 /// office it is refused for the first of its reasons, in their order, that holds of the command's
-/// name, of its limit or of the job, and not refused exactly where none holds.
+/// name, of its limit or pocket or of the job, and not refused exactly where none holds.
 pub fn refusals_have_reasons()
     ensures refused { (c : JobCommand) (job : Job) (reason : Refusal) →
         ((take_kept c (kept_of job)).1 ≡ Reply.Refused reason) ↔ IsRefusedWhere reason c job }

@@ -1,19 +1,24 @@
-//! A submission.
+//! Decks, and a submission.
 
 use bitflags::Flags;
-use cards::read_text;
+use cards::{Deck, read_text};
 use office::{Contents, Kind};
 use std::alloc::Global;
 use std::test::Fail;
 use units::Switches;
 
+/// The deck of one card.
+pub(crate) fn deck_of(alloc: Global, card: &str) -> Result<Deck, Fail> {
+    let text = format!(in alloc; "{card:80}\n")?;
+    Ok(read_text(alloc, text.as_str().as_bytes())?)
+}
+
 /// A program that punches three cards and halts.
 pub(crate) fn three_cards(alloc: Global) -> Result<Contents, Fail> {
-    let text = format!(in alloc; "{:80}\n", ",008015,022029,030031,032033444.")?;
     Ok(Contents {
         kind: Kind::Object,
         size: 1400,
         switches: Switches::empty(),
-        deck: read_text(alloc, text.as_str().as_bytes())?,
+        deck: deck_of(alloc, ",008015,022029,030031,032033444.")?,
     })
 }

@@ -1,6 +1,6 @@
 //! Jobs made from their parts.
 
-use crate::decks::three_cards;
+use crate::decks::{deck_of, three_cards};
 use crate::replies::are_answered;
 use bitflags::Flags;
 use cards::Deck;
@@ -9,15 +9,17 @@ use machine::{Parts, Standing};
 use office::{Job, JobCommand, JobParts, Stretch};
 use std::alloc::Global;
 use std::test::Fail;
-use units::{Carriage, Counts, Hopper, Printer, Punch, Switches, Units, put_card};
+use units::{Carriage, Counts, Hopper, Pocket, Printer, Profile, Punch, Switches, Units, put_card};
 
 /// Units that have read the first card of a deck.
-fn units_with(alloc: Global, deck: Deck) -> Units {
+fn units_with(alloc: Global, deck: Deck, profile: Profile) -> Units {
     Units {
         hopper: Hopper { deck, taken: 1 },
         before: Counts { cards: 0, lines: 0 },
         punch: Punch {
             cards: Vec::new(alloc),
+            chosen: Pocket::Normal,
+            profile,
         },
         printer: Printer {
             lines: Vec::new(alloc),
@@ -27,8 +29,8 @@ fn units_with(alloc: Global, deck: Deck) -> Units {
     }
 }
 
-/// A machine that has just loaded a deck.
-fn machine_with(alloc: Global, deck: Deck) -> Result<Parts<PlaneCore>, Fail> {
+/// A machine of a profile that has just loaded a deck.
+fn machine_with(alloc: Global, deck: Deck, profile: Profile) -> Result<Parts<PlaneCore>, Fail> {
     let mut core = PlaneCore::blank(alloc, Size::Positions1400)?;
     core.set_mark(1);
     put_card(&mut core, deck.cards().first().ok_or("a card")?);
@@ -44,14 +46,18 @@ fn machine_with(alloc: Global, deck: Deck) -> Result<Parts<PlaneCore>, Fail> {
             compare: Compared::Equal,
             overflow: false,
         },
-        units: units_with(alloc, deck),
+        units: units_with(alloc, deck, profile),
         standing: Standing::Running,
     })
 }
 
-/// The parts of a job that punches three cards, with one stretch of these switches and this grant.
-fn parts_with(alloc: Global, switches: u8, granted: u32) -> Result<JobParts<PlaneCore>, Fail> {
-    let contents = three_cards(alloc)?;
+/// The parts of a job with one stretch of these switches and this grant.
+fn job_parts(
+    alloc: Global,
+    switches: u8,
+    granted: u32,
+    machine: Parts<PlaneCore>,
+) -> Result<JobParts<PlaneCore>, Fail> {
     let mut stretches = Vec::new(alloc);
     stretches.push(Stretch {
         switches: Switches::from_bits_retain(switches),
@@ -61,8 +67,25 @@ fn parts_with(alloc: Global, switches: u8, granted: u32) -> Result<JobParts<Plan
         stretches,
         held: false,
         collected: false,
-        machine: machine_with(alloc, contents.deck)?,
+        machine,
     })
+}
+
+/// The parts of a job of a profile that has just loaded a deck of one card.
+pub(crate) fn parts_in(
+    alloc: Global,
+    card: &str,
+    profile: Profile,
+) -> Result<JobParts<PlaneCore>, Fail> {
+    let machine = machine_with(alloc, deck_of(alloc, card)?, profile)?;
+    job_parts(alloc, 0, 0, machine)
+}
+
+/// The parts of a job that punches three cards, with one stretch of these switches and this grant.
+fn parts_with(alloc: Global, switches: u8, granted: u32) -> Result<JobParts<PlaneCore>, Fail> {
+    let contents = three_cards(alloc)?;
+    let machine = machine_with(alloc, contents.deck, Profile::Selecting)?;
+    job_parts(alloc, switches, granted, machine)
 }
 
 /// Whether the job of these parts, if there is one, replies to slices of two instructions, of one

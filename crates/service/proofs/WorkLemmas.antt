@@ -12,8 +12,10 @@ use Rattle.ledger.proofs.WorkLemmas.{all_of, worked_after, worked_so}
 use Rattle.ledger.specs.Working.{HasWorked}
 use Rattle.ledger_tables.specs.declared.openings.OpenFault.TheVariants as opening
 use Rattle.office.specs.declared.commands.Command.{Command}
-use Rattle.office.specs.declared.commands.JobCommand.TheVariants.{Cards, Lines}
-use Rattle.service.specs.Work.{Bytes, HasApplied, IsOnJob, IsSomeWork, TellsApply, TellsAsked, TellsExport, TellsServe}
+use Rattle.office.specs.declared.replies.Reply.{Reply}
+use Rattle.service.specs.Work.{AsksForMade, Bytes, HasApplied, IsOnJob, IsSomeWork, TellsApply, TellsAsked, TellsExport, TellsServe, query_for}
+use Rattle.service.specs.declared.exporting.Part.{Part}
+use Rattle.service.specs.declared.exporting.Part.TheVariants as part
 use Rattle.service.specs.declared.outcomes.Outcome.{Outcome}
 use Rattle.service.specs.declared.outcomes.Outcome.TheVariants as outcome
 
@@ -39,29 +41,34 @@ module _ {S : Type 0} (g : Ghosts S) (old new : Held S) where
 
   -- ---- exporting
 
+  -- it was whole, so it may be said of a bureau that is broken or not
+  pub whole_so_far : (Tells : List Command → List Reply → Type 0) (is_broken : Bool) → HasWorked g old new false Tells → HasWorked g old new is_broken Tells
+  whole_so_far Tells is_broken it =
+      let whole = all_of g old new it.commands (length it.replies) it.works.ends in
+      record { commands = it.commands; replies = it.replies; told = it.told; works = record { leads = it.works.leads; ends = inl whole }; are = it.are }
+
   module _ (customer : List ℕ) (number : ℕ) where
-    as_cards : (done : List Command) → AllByRecursion (IsOnJob customer number Cards) done → AllByRecursion (λ it. IsOnJob customer number Cards it ⊎ IsOnJob customer number Lines it) done
-    as_cards [] all = tt
-    as_cards (command ∷ done) all = (inl all.0, as_cards done all.1)
+    -- the query for a part
+    asks_for : (of : Part) (it : Command) → IsOnJob customer number (query_for of) it → AsksForMade customer number it
+    asks_for (part.Cards from) it on = inl (from, on)
+    asks_for part.Lines it on = inr on
 
-    as_lines : (done : List Command) → AllByRecursion (IsOnJob customer number Lines) done → AllByRecursion (λ it. IsOnJob customer number Cards it ⊎ IsOnJob customer number Lines it) done
-    as_lines [] all = tt
-    as_lines (command ∷ done) all = (inr all.0, as_lines done all.1)
+    all_ask : (of : Part) (done : List Command) → AllByRecursion (IsOnJob customer number (query_for of)) done → AllByRecursion (AsksForMade customer number) done
+    all_ask of [] all = tt
+    all_ask of (it ∷ done) all = (asks_for of it all.0, all_ask of done all.1)
 
-    cards_and_lines : (first second : List Command) → AllByRecursion (IsOnJob customer number Cards) first → AllByRecursion (IsOnJob customer number Lines) second
-        → AllByRecursion (λ it. IsOnJob customer number Cards it ⊎ IsOnJob customer number Lines it) (first ++ second)
-    cards_and_lines [] second all more = as_lines second more
-    cards_and_lines (command ∷ first) second all more = (inl all.0, cards_and_lines first second all.1 more)
+    -- .. after those for others
+    all_asked : (of : Part) (first second : List Command) → AllByRecursion (AsksForMade customer number) first
+        → AllByRecursion (IsOnJob customer number (query_for of)) second → AllByRecursion (AsksForMade customer number) (first ++ second)
+    all_asked of [] second all more = all_ask of second more
+    all_asked of (it ∷ first) second all more = (all.0, all_asked of first second all.1 more)
 
-    pub asked_cards : (is_broken : Bool) → HasWorked g old new is_broken (TellsAsked customer number Cards) → HasWorked g old new is_broken (TellsExport customer number)
-    asked_cards is_broken = worked_so g old new is_broken (TellsAsked customer number Cards) (TellsExport customer number) (λ done replies told. as_cards done told)
-
-    pub asked_both : (mid : Held S) (was_broken is_broken : Bool) → was_broken ≡ false → doubt (state g mid).is_clean ≤ doubt (state g new).is_clean
-        → HasWorked g old mid was_broken (TellsAsked customer number Cards) → HasWorked g mid new is_broken (TellsAsked customer number Lines)
+    pub asked_more : (mid : Held S) (is_broken : Bool) (of : Part) → doubt (state g mid).is_clean ≤ doubt (state g new).is_clean
+        → HasWorked g old mid false (TellsExport customer number) → HasWorked g mid new is_broken (TellsAsked customer number (query_for of))
         → HasWorked g old new is_broken (TellsExport customer number)
-    asked_both mid was_broken is_broken whole early one two =
-        worked_after g old mid new is_broken (TellsAsked customer number Cards) (TellsAsked customer number Lines) (TellsExport customer number) early
-        (subst (λ b. HasWorked g old mid b (TellsAsked customer number Cards)) whole one) two (λ cs ds rs qs a b. cards_and_lines cs ds a b)
+    asked_more mid is_broken of early one two =
+        worked_after g old mid new is_broken (TellsExport customer number) (TellsAsked customer number (query_for of)) (TellsExport customer number) early
+        one two (λ cs ds rs qs a b. all_asked of cs ds a b)
 
 -- ---- applying
 

@@ -17,6 +17,8 @@ use Rattle.office.specs.declared.commands.JobCommand.TheVariants.{Cards, Lines}
 use Rattle.office.specs.declared.replies.Reply.{Reply}
 use Rattle.office.specs.declared.stackers.Stacker.{Stacker}
 use Rattle.service.specs.Outcomes.{with_file}
+use Rattle.service.specs.declared.exporting.Part.{Part}
+use Rattle.service.specs.declared.exporting.Part.TheVariants as part
 use Rattle.service.specs.declared.outcomes.Outcome.{Outcome}
 use Rattle.service.specs.declared.outcomes.Outcome.TheVariants as outcome
 
@@ -66,6 +68,11 @@ IsOnJob customer number c other = ⊥
 -- each command that was carried out is this one on the job of this name
 abbrev pub TellsAsked : List ℕ → ℕ → JobCommand → List Command → List Reply → Type 0
 TellsAsked customer number c done replies = AllByRecursion (IsOnJob customer number c) done
+
+-- the query for a part of what a job has made: for its cards from a stacker, or for its lines
+abbrev pub query_for : Part → JobCommand
+query_for (part.Cards from) = Cards from
+query_for part.Lines = Lines
 
 -- the command is a query for the job's cards, from some stacker, or for its lines
 abbrev pub AsksForMade : List ℕ → ℕ → Command → Type 0

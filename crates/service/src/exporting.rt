@@ -4,7 +4,7 @@ ghost use Rattle.std.specs.Prelude.{◌≡◌, ◌≤◌, false, OnOk};
 ghost use Rattle.sqlite.specs.Held.{state};
 ghost use Rattle.sqlite.specs.View.{doubt};
 ghost use Rattle.ledger.specs.Working.{HasWorked};
-ghost use Rattle.service.specs.Work.{TellsAsked, TellsExport};
+ghost use Rattle.service.specs.Work.{TellsAsked, TellsExport, query_for};
 
 use crate::outcomes::Outcome;
 use cards::write_punched_cards;
@@ -21,37 +21,38 @@ use std::io;
 use std::io::Write;
 use units::{Pocket, render};
 
-/// The parts of what a job has made: the ending of the name of the part's file, and the query for
-/// the part, in the order in which the files are written.
-const PARTS: [(&str, JobCommand); 5] = [
-    ("cards", JobCommand::Cards { from: Stacker::All }),
-    (
-        "cards0",
-        JobCommand::Cards {
-            from: Stacker::Of(Pocket::Normal),
-        },
-    ),
-    (
-        "cards4",
-        JobCommand::Cards {
-            from: Stacker::Of(Pocket::Four),
-        },
-    ),
-    (
-        "cards8",
-        JobCommand::Cards {
-            from: Stacker::Of(Pocket::Eight),
-        },
-    ),
-    ("lines", JobCommand::Lines),
+/// A part of what a job has made: its cards from a stacker, or its lines.
+#[derive(Clone, Copy)]
+enum Part {
+    Cards(Stacker),
+    Lines,
+}
+
+/// The parts, each with the ending of its file's name, in the order in which they are written.
+const PARTS: [(&str, Part); 5] = [
+    ("cards", Part::Cards(Stacker::All)),
+    ("cards0", Part::Cards(Stacker::Of(Pocket::Normal))),
+    ("cards4", Part::Cards(Stacker::Of(Pocket::Four))),
+    ("cards8", Part::Cards(Stacker::Of(Pocket::Eight))),
+    ("lines", Part::Lines),
 ];
 
-/// A part of what a job has made.
+impl Part {
+    /// The query for it.
+    fn query(self) -> JobCommand
+        ensures { result ≡ query_for self }
+    {
+        match self {
+            Part::Cards(from) => JobCommand::Cards { from },
+            Part::Lines => JobCommand::Lines,
+        }
+    }
+}
+
+/// The file of a part: the ending of its name, and its bytes.
 #[derive(Drop)]
 struct Made {
-    /// The ending of its file's name.
     ending: &'static str,
-    /// The bytes of its file.
     bytes: Vec<u8>,
 }
 
@@ -103,25 +104,25 @@ fn bytes_of(alloc: Global, reply: &Reply) -> Result<Vec<u8>, Outcome> {
     }
 }
 
-/// The bytes of the file for the reply to a query of a job.
+/// The bytes of the file of a part.
 fn bytes_for<S: Alter>(
     alloc: Global,
     bureau: &mut Bureau<S>,
     customer: &str,
     number: u32,
-    query: JobCommand,
+    part: Part,
 ) -> Result<Vec<u8>, Outcome>
     ensures works { HasWorked S.Store bureau.old.conn bureau.new.conn bureau.new.broken
-        (TellsAsked customer.now number query) }
+        (TellsAsked customer.now number (query_for part)) }
     ensures whole { OnOk result (bureau.new.broken ≡ false) }
     ensures clean { doubt (state S.Store bureau.old.conn).is_clean
         ≤ doubt (state S.Store bureau.new.conn).is_clean }
 {
-    let reply = ask(alloc, bureau, customer, number, query)?;
+    let reply = ask(alloc, bureau, customer, number, part.query())?;
     bytes_of(alloc, &reply)
 }
 
-/// What a job has made, part by part.
+/// The files of all parts.
 fn made_by<S: Alter>(
     alloc: Global,
     bureau: &mut Bureau<S>,
@@ -136,8 +137,8 @@ fn made_by<S: Alter>(
     // A law, for the proof: it does nothing.
     kept_offices_run_whole();
     let mut made = Vec::new(alloc);
-    for (ending, query) in PARTS {
-        let bytes = bytes_for(alloc, bureau, customer, number, query)?;
+    for (ending, part) in PARTS {
+        let bytes = bytes_for(alloc, bureau, customer, number, part)?;
         if made.push(Made { ending, bytes }).is_err() {
             return Err(NO_MEMORY);
         }
@@ -146,12 +147,12 @@ fn made_by<S: Alter>(
 }
 
 /// Replaces the job's file of a part, in the folder where the program runs.
-fn put(rt: &HostRuntime, customer: &str, number: u32, part: &Made) -> Result<(), Outcome> {
-    let ending = part.ending;
+fn put(rt: &HostRuntime, customer: &str, number: u32, file: &Made) -> Result<(), Outcome> {
+    let ending = file.ending;
     let Ok(name) = format!(in rt.alloc(); "{customer}-{number}.{ending}") else {
         return Err(NO_MEMORY);
     };
-    match put_file(rt, &name, &part.bytes) {
+    match put_file(rt, &name, &file.bytes) {
         Ok(()) => Ok(()),
         Err(WritingFault::Memory) => Err(NO_MEMORY),
         Err(_) => Err(Outcome::Device),
@@ -171,8 +172,8 @@ fn write_made<S: Alter>(
         ≤ doubt (state S.Store bureau.new.conn).is_clean }
 {
     let made = made_by(rt.alloc(), bureau, customer, number)?;
-    for part in &made {
-        put(rt, customer, number, part)?;
+    for file in &made {
+        put(rt, customer, number, file)?;
     }
     Ok(())
 }

@@ -1,17 +1,35 @@
-use Rattle.service.proofs.WorkLemmas.{asked_both}
+use Rattle.std.proofs.Common.{arith, false, subst}
+use Rattle.ledger.proofs.WorkLemmas.{worked_still}
+use Rattle.ledger.specs.Working.{HasWorked}
+use Rattle.service.specs.Work.{TellsAsked, TellsExport, query_for}
+use Rattle.service.proofs.WorkLemmas.{asked_more, whole_so_far}
 use Rattle.service.proofs.exporting.made_by.Goals as goal
 
-pub returns-in_err-lines-clause-works : goal.returns-in_err-lines-clause-works
-returns-in_err-lines-clause-works g c =
-    asked_both g.S.Store c.args.bureau.now.conn c.ask-2.new.bureau.conn c.args.customer.now c.args.number c.ask.new.bureau.conn c.ask.new.bureau.broken c.ask-2.new.bureau.broken
-    c.in_ok-cards.ensures.whole c.ask-2.ensures.clean c.in_ok-cards.ensures.works c.in_err-lines.ensures.works
+pub loop-ending-init : goal.loop-ending-init
+loop-ending-init g c = record {
+  works = worked_still c.kept_offices_run_whole.ensures g.S.Store c.args.bureau.now.conn c.args.bureau.now.conn false _ (λ clean o s. s) tt;
+  clean = omega arith;
+}
 
-pub returns-in_err-lines-2-clause-works : goal.returns-in_err-lines-2-clause-works
-returns-in_err-lines-2-clause-works g c =
-    asked_both g.S.Store c.args.bureau.now.conn c.ask-2.new.bureau.conn c.args.customer.now c.args.number c.ask.new.bureau.conn c.ask.new.bureau.broken c.ask-2.new.bureau.broken
-    c.in_ok-cards.ensures.whole c.ask-2.ensures.clean c.in_ok-cards.ensures.works c.in_ok-lines.ensures.works
+pub loop-ending-preserved : goal.loop-ending-preserved
+loop-ending-preserved g c =
+    let was = c.loop-ending.invariant in
+    let told = subst (λ b. HasWorked g.S.Store c.loop-ending.bureau.conn c.bytes_for.new.bureau.conn b (TellsAsked c.args.customer.now c.args.number (query_for _))) c.in_ok-bytes.ensures.whole c.bytes_for.ensures.works in
+    record {
+      works = asked_more g.S.Store c.args.bureau.now.conn c.bytes_for.new.bureau.conn c.args.customer.now c.args.number c.loop-ending.bureau.conn false _ c.bytes_for.ensures.clean was.works
+          told;
+      clean = omega (arith, was.clean, c.bytes_for.ensures.clean);
+    }
+
+pub returns-in_err-bytes-clause-works : goal.returns-in_err-bytes-clause-works
+returns-in_err-bytes-clause-works g c =
+    asked_more g.S.Store c.args.bureau.now.conn c.bytes_for.new.bureau.conn c.args.customer.now c.args.number c.loop-ending.bureau.conn c.bytes_for.new.bureau.broken _ c.bytes_for.ensures.clean
+    c.loop-ending.invariant.works c.bytes_for.ensures.works
+
+pub returns-then-is_err-clause-works : goal.returns-then-is_err-clause-works
+returns-then-is_err-clause-works g c =
+    asked_more g.S.Store c.args.bureau.now.conn c.bytes_for.new.bureau.conn c.args.customer.now c.args.number c.loop-ending.bureau.conn c.bytes_for.new.bureau.broken _ c.bytes_for.ensures.clean
+    c.loop-ending.invariant.works c.bytes_for.ensures.works
 
 pub returns-clause-works : goal.returns-clause-works
-returns-clause-works g c =
-    asked_both g.S.Store c.args.bureau.now.conn c.ask-2.new.bureau.conn c.args.customer.now c.args.number c.ask.new.bureau.conn c.ask.new.bureau.broken c.ask-2.new.bureau.broken
-    c.in_ok-cards.ensures.whole c.ask-2.ensures.clean c.in_ok-cards.ensures.works c.in_ok-lines.ensures.works
+returns-clause-works g c = whole_so_far g.S.Store c.args.bureau.now.conn c.loop-ending.bureau.conn (TellsExport c.args.customer.now c.args.number) c.loop-ending.bureau.broken c.loop-ending.invariant.works
