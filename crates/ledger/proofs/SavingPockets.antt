@@ -69,10 +69,10 @@ module _ (t : Tables) (customer : List ℕ) (number : ℕ) (earlier cards : List
   pub pocket_pushed : (db : Database) (c : Punched) → c ≡ slice_index_or cards i c → Holds db (with_pocket customer number (before + i + 1) (pocket_cell c.pocket) (with_pockets customer number (pocket_rows_of pushed) t))
       → Holds db (with_pockets customer number (pocket_rows_of (earlier ++ take (i + 1) cards)) t)
   pocket_pushed db c is = subst (λ all. Holds db (record t { pockets = all })) (
-    at_job_again customer number _ (pocket_rows_of pushed) t.pockets
-    ∙ ap (λ (p : Pockets). at_job customer number (at_place (before + i + 1) (pocket_cell c.pocket) p) t.pockets) (at_job_here customer number (pocket_rows_of pushed) t.pockets)
-    ∙ ap (λ (p : Pockets). at_job customer number p t.pockets) (sym more)
-  )
+      at_job_again customer number _ (pocket_rows_of pushed) t.pockets
+      ∙ ap (λ (p : Pockets). at_job customer number (at_place (before + i + 1) (pocket_cell c.pocket) p) t.pockets) (at_job_here customer number (pocket_rows_of pushed) t.pockets)
+      ∙ ap (λ (p : Pockets). at_job customer number p t.pockets) (sym more)
+      )
     where
       all : earlier ++ take (i + 1) cards ≡ pushed ++ c ∷ []
       all = ap (λ (xs : List Punched). earlier ++ xs) (take_more cards i c within ∙ ap (λ (x : Punched). take i cards ++ x ∷ []) (sym is)) ∙ sym (append_assoc earlier (take i cards) (c ∷ []))

@@ -58,7 +58,12 @@ fn find_cards<S: Alter>(
     let progress = find_progress(tables, name)?;
     let rows = tables.find_cards(name)?;
     let pockets = tables.find_pockets(name)?;
-    read_cards(tables.alloc, rows.as_slice(), pockets.as_slice(), progress.cards)
+    read_cards(
+        tables.alloc,
+        rows.as_slice(),
+        pockets.as_slice(),
+        progress.cards,
+    )
 }
 
 /// Finds the carriage of the machine of the job of this name.

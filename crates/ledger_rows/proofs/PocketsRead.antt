@@ -168,12 +168,12 @@ module _ (punched : List Punched) where
   none_has [] j all missing = tt
   none_has (row ∷ rows) j all missing = (
     λ at. (
-      let place = within row all.0 in
-      let on : 1 + j ≡ row.place = omega (arith, at, place.0) in
-      let a : pocket_rows_of punched row.place ≡ None = subst (λ n. pocket_rows_of punched n ≡ None) on missing in
-      let b = all.0 in
-      absurd (cc)
-    ),
+        let place = within row all.0 in
+        let on : 1 + j ≡ row.place = omega (arith, at, place.0) in
+        let a : pocket_rows_of punched row.place ≡ None = subst (λ n. pocket_rows_of punched n ≡ None) on missing in
+        let b = all.0 in
+        absurd (cc)
+        ),
     none_has rows j all.1 missing,
   )
 

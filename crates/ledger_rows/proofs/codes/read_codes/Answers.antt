@@ -15,8 +15,8 @@ loop-place-preserved c =
     let within = c.loop-place-test.true in
     let valid : get_or numbers i 0 < 64 → is ≡ true = λ less. c.is_some-are.ensures ∙ c.from_number-code.ensures.valid.1 less in
     let value : is ≡ true → (code ≡ get_or numbers i 0) × (get_or numbers i 0 < 64) =
-        λ good. let read = read_value found c.blank.result (get_or numbers i 0) c.from_number-code.ensures.valid c.from_number-code.ensures.value (sym c.is_some-are.ensures ∙ good) in
-          (c.unwrap_or.ensures ∙ read.0, read.1) in
+    λ good. let read = read_value found c.blank.result (get_or numbers i 0) c.from_number-code.ensures.valid c.from_number-code.ensures.value (sym c.is_some-are.ensures ∙ good) in
+    (c.unwrap_or.ensures ∙ read.0, read.1) in
     record {
       numbers = one_read codes numbers i c.loop-place.are is code within loop.size valid value loop.numbers loop.characters loop.all;
       characters = one_character codes numbers i c.loop-place.are is code within loop.size valid value loop.numbers loop.characters loop.all;

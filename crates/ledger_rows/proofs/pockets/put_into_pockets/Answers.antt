@@ -11,5 +11,5 @@ loop-row-preserved c =
     let i = c.loop-row.row-index in
     let within = c.loop-row-test.true in
     let done = one_row c.args.cards.now now c.put_into_pocket.new.cards rows i _ within (get_or_default rows i _ no_row within) loop.put loop.are loop.size
-        (c.put_into_pocket.ensures.put c.if-not-put_into_pocket.false) (c.put_into_pocket.ensures.is.0 c.if-not-put_into_pocket.false) in
+    (c.put_into_pocket.ensures.put c.if-not-put_into_pocket.false) (c.put_into_pocket.ensures.is.0 c.if-not-put_into_pocket.false) in
     record { put = done.0; are = done.1; size = c.put_into_pocket.ensures.size ∙ loop.size }
