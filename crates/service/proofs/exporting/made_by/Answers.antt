@@ -1,7 +1,7 @@
 use Rattle.std.proofs.Common.{arith, false, subst}
 use Rattle.ledger.proofs.WorkLemmas.{worked_still}
 use Rattle.ledger.specs.Working.{HasWorked}
-use Rattle.service.specs.Work.{TellsAsked, TellsExport, query_for}
+use Rattle.service.specs.Work.{TellsExport}
 use Rattle.service.proofs.WorkLemmas.{asked_more, whole_so_far}
 use Rattle.service.proofs.exporting.made_by.Goals as goal
 
@@ -14,10 +14,10 @@ loop-ending-init g c = record {
 pub loop-ending-preserved : goal.loop-ending-preserved
 loop-ending-preserved g c =
     let was = c.loop-ending.invariant in
-    let told = subst (λ b. HasWorked g.S.Store c.loop-ending.bureau.conn c.bytes_for.new.bureau.conn b (TellsAsked c.args.customer.now c.args.number (query_for _))) c.in_ok-bytes.ensures.whole c.bytes_for.ensures.works in
     record {
-      works = asked_more g.S.Store c.args.bureau.now.conn c.bytes_for.new.bureau.conn c.args.customer.now c.args.number c.loop-ending.bureau.conn false _ c.bytes_for.ensures.clean was.works
-          told;
+      works = subst (λ b. HasWorked g.S.Store c.args.bureau.now.conn c.bytes_for.new.bureau.conn b (TellsExport c.args.customer.now c.args.number)) c.in_ok-bytes.ensures.whole
+          (asked_more g.S.Store c.args.bureau.now.conn c.bytes_for.new.bureau.conn c.args.customer.now c.args.number c.loop-ending.bureau.conn c.bytes_for.new.bureau.broken _
+          c.bytes_for.ensures.clean was.works c.bytes_for.ensures.works);
       clean = omega (arith, was.clean, c.bytes_for.ensures.clean);
     }
 
