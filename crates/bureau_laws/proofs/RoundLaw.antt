@@ -26,7 +26,7 @@ rows_sound version db o (inr (inr (inl (is, rows)))) = rows.tables.sound
 rows_sound version db o (inr (inr (inr (is, rows)))) = rows.tables.sound
 
 left_of_own : (db : Trees) (o : Office) → LeftAs db o → LeftOf own_version db o
-left_of_own db o left = inr (inr (refl, left))
+left_of_own db o left = inr (inr (inr (refl, left)))
 
 left_as_own : (version : ℕ) (db : Trees) (o : Office) → own_version ≡ version → LeftOf version db o → LeftAs db o
 left_as_own version db o own left = own_rows _ o (subst (λ n. LeftOf n db o) (sym own) left)
