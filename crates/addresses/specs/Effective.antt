@@ -30,9 +30,13 @@ with_index s n (Some location) =
 abbrev pub effective : Storage → Tagged → Result ℕ Check
 effective s address = with_index s address.base address.index
 
+-- the position in storage that an address names, or the check
+abbrev pub position_of : Storage → Tagged → Result ℕ Check
+position_of s address =
+    and_then (effective s address) (λ position.
+    require (nat_lt position (length s)) Address (Ok position))
+
 -- the position in storage that three address characters name, or the check
 unfoldable pub operand : Storage → ℕ → ℕ → ℕ → Result ℕ Check
 operand s first second third =
-    find_or (tagged first second third) Address (λ address.
-    and_then (effective s address) (λ position.
-    require (nat_lt position (length s)) Address (Ok position)))
+    find_or (tagged first second third) Address (λ address. position_of s address)

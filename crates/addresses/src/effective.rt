@@ -1,14 +1,11 @@
 //! The effective position of an address in a storage.
 
-ghost use Rattle.std.specs.Prelude.{◌≡◌, ◌<◌, ◌≤◌, ℕ, nat_lt, length, Some, IfSome, Ok, IfOk};
-ghost use Rattle.core_store.specs.Checked.{require};
-ghost use Rattle.core_store.specs.declared.checks.Check.TheVariants.{Address};
+ghost use Rattle.std.specs.Prelude.{◌≡◌, ◌<◌, ◌≤◌, ℕ, length, Some, IfSome, IfOk};
 ghost use Rattle.core_store.specs.Storage.{largest_size};
-ghost use Rattle.addresses.specs.Effective.{base_ending, with_index, effective, operand};
+ghost use Rattle.addresses.specs.Effective.{base_ending, with_index, effective, position_of};
 
 use crate::tables::{UNREADABLE, base};
 use crate::tagged::{IndexLocation, Tagged};
-use bcd::{Code, Zone};
 use core_store::{Check, Core, LARGEST_SIZE};
 
 /// The base of the three characters that end at a position, whatever their tag, if they are an
@@ -29,6 +26,7 @@ pub fn base_ending<C: Core>(core: &C, position: u16) -> Option<u16>
 }
 
 /// A base plus the number at an index location, modulo 16000.
+#[inline(never)]
 #[tactic(auto, unfolding(crate::specs::Effective::with_index))]
 fn with_index<C: Core>(core: &C, base: u16, location: IndexLocation) -> Result<u16, Check>
     ensures number { result ≡ with_index (C.cells core.now) base (Some location) }
@@ -46,6 +44,7 @@ fn with_index<C: Core>(core: &C, base: u16, location: IndexLocation) -> Result<u
 
 /// The number that an address represents, always below 16000: its base, plus the number at its
 /// index location if it names one. Check ADDRESS if the index location cannot be read.
+#[inline(always)]
 #[tactic(auto, unfolding(crate::specs::Effective::with_index))]
 pub fn effective_address<C: Core>(core: &C, tagged: Tagged) -> Result<u16, Check>
     ensures number { result ≡ effective (C.cells core.now) tagged }
@@ -57,41 +56,15 @@ pub fn effective_address<C: Core>(core: &C, tagged: Tagged) -> Result<u16, Check
     }
 }
 
-/// The position that an operand represents, whether its address has a tag or not. It is outside the
-/// storage if the address cannot be read.
-#[inline(never)]
-#[tactic(auto, unfolding(crate::specs::Effective::operand, crate::specs::Effective::with_index, crate::specs::Addresses::tagged))]
-fn effective_position<C: Core>(core: &C, first: Code, second: Code, third: Code) -> u16
-    ensures { operand (C.cells core.now) first second third
-        ≡ require (nat_lt result (length (C.cells core.now))) Address (Ok result) }
-{
-    let size = core.size();
-    let base = base(first, second, third);
-    match IndexLocation::of_zone(second.zone()) {
-        Some(location) if base < UNREADABLE => match with_index(core, base, location) {
-            Ok(position) => position,
-            Err(_) => size,
-        },
-        Some(_) => size,
-        None => base,
-    }
-}
-
-/// The position of a storage that the three characters of an operand represent. They are looked up
-/// directly in the tables, and an address without a tag needs only that. Check ADDRESS if they
-/// cannot be read or the position is outside the storage.
+/// The position of a storage that an address represents. Check ADDRESS if its index location cannot
+/// be read or the position is outside the storage.
 #[inline(always)]
-#[tactic(auto, unfolding(crate::specs::Effective::operand, crate::specs::Effective::with_index, crate::specs::Addresses::tagged, bcd::specs::Table::zone_of))]
-pub fn operand<C: Core>(core: &C, first: Code, second: Code, third: Code) -> Result<u16, Check>
-    ensures position { result ≡ operand (C.cells core.now) first second third }
+pub fn position<C: Core>(core: &C, address: Tagged) -> Result<u16, Check>
+    ensures position { result ≡ position_of (C.cells core.now) address }
     ensures inside { IfOk result (λ position. position < length (C.cells core.now)) }
     ensures below { IfOk result (λ position. position < largest_size) }
 {
-    let position = if second.number() < 16 {
-        base(first, second, third)
-    } else {
-        effective_position(core, first, second, third)
-    };
+    let position = effective_address(core, address)?;
     if position < core.size() {
         Ok(position)
     } else {

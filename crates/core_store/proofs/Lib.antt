@@ -9,5 +9,6 @@ mod PlaneLemmas
 mod PlaneStretches
 mod PlaneWords
 pub mod NearCodes
+pub mod MarkRows
 pub mod SizeLemmas
 pub mod PageLemmas

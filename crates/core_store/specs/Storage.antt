@@ -78,6 +78,10 @@ least_mark s p (suc count) = if is_marked s p then Some p else least_mark s (p +
 unfoldable pub codes_from : Storage → ℕ → ℕ → List ℕ
 codes_from s first count = map (λ cell. cell.0) (slice_range s first (first + count))
 
+-- the word marks of the count positions from the first on
+unfoldable pub marks_from : Storage → ℕ → ℕ → List Bool
+marks_from s first count = map (λ cell. cell.1) (slice_range s first (first + count))
+
 -- the characters of the count positions up to p
 unfoldable pub codes_ending : Storage → ℕ → ℕ → List ℕ
 codes_ending s p count = map (λ cell. cell.0) (slice_range s (p + 1 - count) (p + 1))

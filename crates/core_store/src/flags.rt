@@ -49,6 +49,14 @@ impl Core for FlagCore {
         self.cells[position as usize + count as usize].0
     }
 
+    fn eight_codes(&self, position: u16) -> u64 {
+        let mut codes = [0; 8];
+        for place in 0..8 {
+            codes[place as usize] = self.get(position + place).number();
+        }
+        u64::from_le_bytes(codes)
+    }
+
     fn is_marked(&self, position: u16) -> bool {
         self.cells[position as usize].1
     }
@@ -118,6 +126,14 @@ impl Core for FlagCore {
             }
         }
         17
+    }
+
+    fn nine_marks(&self, position: u16) -> u64 {
+        let mut marks = 0;
+        for place in (0..9).rev() {
+            marks = 2 * marks + u64::from(self.is_marked(position + place));
+        }
+        marks
     }
 
     fn mark_after(&self, position: u16) -> Option<u16> {

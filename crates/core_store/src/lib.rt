@@ -24,7 +24,9 @@ mod registers;
 mod sizes;
 
 ghost use Rattle.std.specs.Prelude.{◌≡◌, ◌+◌, ◌-◌, ◌<◌, ◌≤◌, ℕ, All, List, Bool, true, false, length, replicate, None, IfOk, IfSome, if◌then◌else◌};
-ghost use Rattle.core_store.specs.Storage.{blank_cell, blank_storage, cells_ending, code_at, codes_ending, is_marked, put, put_cells, put_codes, with_mark, greatest_mark, largest_size, least_mark, GreatestMark, LeastMark, Storage, positions_of};
+ghost use Rattle.std.specs.Int.{w64, from_le_bytes};
+ghost use Rattle.std.specs.Simd.Lanes.{mask_l};
+ghost use Rattle.core_store.specs.Storage.{blank_cell, blank_storage, cells_ending, code_at, codes_ending, codes_from, is_marked, marks_from, put, put_cells, put_codes, with_mark, greatest_mark, largest_size, least_mark, GreatestMark, LeastMark, Storage, positions_of};
 ghost use Rattle.core_store.specs.Operands.{is_overlapping, near_length};
 
 use bcd::Code;
@@ -71,6 +73,12 @@ pub trait Core: Sized + Drop {
     fn get_after(&self, position: u16, count: u16) -> Code
         requires { position + count < length (cells self.now) }
         ensures { result ≡ code_at (cells self.now) (position + count) };
+
+    /// The characters of eight positions as one number, that of the position itself lowest.
+    fn eight_codes(&self, position: u16) -> u64
+        requires { position + 8 ≤ length (cells self.now) }
+        ensures codes { result ≡ from_le_bytes w64 (codes_from (cells self.now) position 8) }
+        ensures below { All (λ code. code < 64) (codes_from (cells self.now) position 8) };
 
     /// Whether a position has a word mark.
     fn is_marked(&self, position: u16) -> bool
@@ -149,6 +157,11 @@ pub trait Core: Sized + Drop {
         requires room { 15 ≤ position }
         ensures length { result ≡ near_length (cells self.now) position }
         ensures some { 1 ≤ result };
+
+    /// The word marks of nine positions as bits, that of the position itself lowest.
+    fn nine_marks(&self, position: u16) -> u64
+        requires { position + 16 ≤ length (cells self.now) }
+        ensures { result ≡ mask_l (marks_from (cells self.now) position 9) };
 
     /// The least marked position among the next eight positions, at which an instruction ends.
     fn mark_after(&self, position: u16) -> Option<u16>

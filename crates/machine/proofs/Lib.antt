@@ -7,3 +7,5 @@ pub mod FormTables
 pub mod OperationEffects
 pub mod BranchConditions
 pub mod DecodeLemmas
+pub mod KeptShapes
+pub mod ShapeDecoding

@@ -2,6 +2,7 @@ pub mod Glyphs
 pub mod Branches
 pub mod Word
 pub mod Instructions
+pub mod Shapes
 pub mod Operations
 pub mod Effect
 pub mod Run

@@ -1,19 +1,26 @@
 //! The instruction cycle.
 
-ghost use Rattle.std.specs.Prelude.{◌≡◌, ◌+◌, ◌%◌, ◌<◌, ◌≤◌, ℕ, length, OnErr, OnOk};
+ghost use Rattle.std.specs.Prelude.{◌≡◌, ◌+◌, ◌%◌, ◌<◌, ◌≤◌, ℕ, length, Ok, OnErr, OnOk};
 ghost use Rattle.core_store.specs.Storage.{largest_size};
 ghost use Rattle.machine.specs.Effect.{attempt, works_of, Ends, next_of};
 ghost use Rattle.units.specs.Units.{areas_end, Makes};
+ghost use Rattle.machine.specs.Shapes.{shape_at};
 ghost use Rattle.machine.specs.Run.{step, attempts, risen, is_running, is_checked, is_halted};
 
-use crate::decode::{Word, decode, word_length};
+use crate::cache::Cache;
+use crate::decode::{operands, read_shape};
 use crate::meter::Meter;
 use crate::operations::{Course, execute};
 use crate::parts::Parts;
+use crate::shapes::Shape;
 use crate::standings::Standing;
 use core_store::{Check, Core, LARGEST_SIZE, Registers};
 use std::alloc::AllocError;
 use units::{Fault, Units};
+
+/// The number of positions that are looked at for a kept shape: the eight characters of the longest
+/// instruction, nine marks, and what is read with them.
+const LOOKED_AT: u16 = 16;
 
 /// The position after an instruction of `count` characters, modulo 16000.
 #[inline(always)]
@@ -25,13 +32,46 @@ fn next_of(i: u16, count: u16) -> u16
     if next == LARGEST_SIZE { 0 } else { next }
 }
 
-/// Reads the instruction at register I and executes it.
+/// Executes the instruction at register I, which has this shape.
 #[inline(always)]
-#[tactic(auto, unfolding(crate::specs::Effect::attempt, crate::specs::Word::word))]
-fn attempt<C: Core>(
+fn carry_out<C: Core>(
     core: &mut C,
     registers: &mut Registers,
     units: &mut Units,
+    shape: &Shape,
+) -> Result<Course, Fault>
+    requires size { areas_end ≤ length (C.cells core.old) }
+    requires inside { registers.old.i < length (C.cells core.old) }
+    requires below { registers.old.i + shape.now.length ≤ largest_size }
+    requires shape { shape_at (C.cells core.old) registers.old.i ≡ Ok shape.now }
+    ensures { Ends result (works_of (C.cells core.old) registers.old units.old)
+        (works_of (C.cells core.new) registers.new units.new) attempt }
+{
+    let (a, b) = match operands(core, registers, &shape.addresses) {
+        Ok(operands) => operands,
+        Err(check) => return Err(Fault::Stopped(check)),
+    };
+    let next = next_of(registers.i, shape.length);
+    execute(core, registers, units, shape.working_at(a, b), next)
+}
+
+/// Keeps the shape of the instruction at a position.
+fn keep<C: Core>(cache: &mut Cache, core: &C, i: u16, shape: Shape)
+    requires size { areas_end ≤ length (C.cells core.now) }
+    requires shape { shape_at (C.cells core.now) i ≡ Ok shape }
+{
+    if i <= core.size() - LOOKED_AT {
+        cache.keep(i, core.eight_codes(i), core.nine_marks(i), shape);
+    }
+}
+
+/// Reads the instruction at register I and executes it. Its shape is kept.
+#[inline(never)]
+fn attempt_anew<C: Core>(
+    core: &mut C,
+    registers: &mut Registers,
+    units: &mut Units,
+    cache: &mut Cache,
 ) -> Result<Course, Fault>
     requires { areas_end ≤ length (C.cells core.old) }
     ensures { Ends result (works_of (C.cells core.old) registers.old units.old)
@@ -41,18 +81,36 @@ fn attempt<C: Core>(
     if i >= core.size() {
         return Err(Fault::Stopped(Check::Address));
     }
-    let Some(count) = word_length(core, i) else {
-        return Err(Fault::Stopped(Check::Instruction));
-    };
-    let word = Word {
-        first: i,
-        length: count,
-    };
-    let instruction = match decode(core, registers, word) {
-        Ok(instruction) => instruction,
+    let shape = match read_shape(core, i) {
+        Ok(shape) => shape,
         Err(check) => return Err(Fault::Stopped(check)),
     };
-    execute(core, registers, units, instruction, next_of(i, count))
+    keep(cache, core, i, shape);
+    carry_out(core, registers, units, &shape)
+}
+
+/// Executes the instruction at register I. Its shape is the one kept for its position, if it was
+/// read from what stands there now; else it is read.
+#[inline(always)]
+fn attempt<C: Core>(
+    core: &mut C,
+    registers: &mut Registers,
+    units: &mut Units,
+    cache: &mut Cache,
+) -> Result<Course, Fault>
+    requires { areas_end ≤ length (C.cells core.old) }
+    ensures { Ends result (works_of (C.cells core.old) registers.old units.old)
+        (works_of (C.cells core.new) registers.new units.new) attempt }
+{
+    let i = registers.i;
+    if i <= core.size() - LOOKED_AT {
+        let characters = core.eight_codes(i);
+        let marks = core.nine_marks(i);
+        if let Some(shape) = cache.shape(i, characters, marks) {
+            return carry_out(core, registers, units, shape);
+        }
+    }
+    attempt_anew(core, registers, units, cache)
 }
 
 impl<C: Core> Parts<C> {
@@ -63,9 +121,9 @@ impl<C: Core> Parts<C> {
         self.standing.is_running()
     }
 
-    /// Does one step. Only an instruction that punches or prints may fail, if there is no memory;
+    /// Does one step, with the shapes kept before. Only an instruction that punches or prints may fail, if there is no memory;
     /// then nothing is changed.
-    pub(crate) fn step(&mut self, meter: &mut Meter) -> Result<(), AllocError>
+    pub(crate) fn step(&mut self, cache: &mut Cache, meter: &mut Meter) -> Result<(), AllocError>
         ensures step { OnOk result (self.new ≡ step self.old) }
         ensures unchanged { OnErr result (self.new ≡ self.old) }
         ensures memory { OnErr result (Makes self.old.works.units (step self.old).works.units) }
@@ -75,7 +133,7 @@ impl<C: Core> Parts<C> {
         if !self.is_running() {
             return Ok(());
         }
-        match attempt(&mut self.core, &mut self.registers, &mut self.units) {
+        match attempt(&mut self.core, &mut self.registers, &mut self.units, cache) {
             Ok(Course::GoesOn) => {
                 meter.tick();
                 Ok(())

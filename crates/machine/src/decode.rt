@@ -1,13 +1,14 @@
-//! Decoding an instruction.
+//! Reading an instruction.
 
-ghost use Rattle.std.specs.Prelude.{◌≡◌, ◌↔◌, ◌+◌, ◌-◌, ◌<◌, ◌≤◌, ◌==◌, ℕ, length, slice_index, unwrap_or, min, if◌then◌else◌, Some, None, IfSome, Ok, Err, IfOk, IfErr};
+ghost use Rattle.std.specs.Prelude.{◌≡◌, ◌↔◌, ◌+◌, ◌-◌, ◌<◌, ◌≤◌, ℕ, length, slice_index, unwrap_or, min, if◌then◌else◌, true, Some, None, IfSome, IfOk};
 ghost use Rattle.core_store.specs.Storage.{Storage, codes_from, is_marked, least_mark, largest_size};
-ghost use Rattle.machine.specs.Word.{word_length, ending_in, operand_at, operands_of, decoded_of, LooksInside, IsInstruction};
+ghost use Rattle.machine.specs.Word.{word_length, ending_in, IsInstruction};
 ghost use Rattle.machine.specs.Instructions.{decoded_by, Names};
+ghost use Rattle.machine.specs.Shapes.{addresses_of, has_two, instruction_at, operands_at, shape_at, shape_of, tagged_at};
 
 use crate::forms::{addresses_in, allows, has_form};
-use crate::instruction::Instruction;
-use addresses::operand;
+use crate::shapes::{Addresses, Shape};
+use addresses::{Tagged, decode, position};
 use bcd::Code;
 use core_store::{Check, Core, Registers};
 
@@ -87,121 +88,59 @@ fn character<C: Core>(core: &C, word: Word, place: u16) -> Code
     core.get_after(word.first, place)
 }
 
-/// The position of the operand whose address begins at an index of an instruction.
+/// The address whose characters begin at an index of an instruction, if they are one.
 #[inline(always)]
-fn operand_at<C: Core>(core: &C, word: Word, place: u16) -> Result<u16, Check>
+fn address<C: Core>(core: &C, word: Word, place: u16) -> Option<Tagged>
     requires within { word.first + word.length ≤ length (C.cells core.now) }
     requires below { word.first < largest_size }
     requires among { place + 3 ≤ word.length }
     requires most { word.length ≤ 8 }
-    ensures position { result ≡ operand_at (C.cells core.now)
+    ensures { result ≡ tagged_at
         (codes_from (C.cells core.now) word.first word.length) place }
-    ensures inside { IfOk result (λ position. position < length (C.cells core.now)) }
-    ensures below { IfOk result (λ position. position < largest_size) }
 {
-    operand(
-        core,
+    decode([
         character(core, word, place),
         character(core, word, place + 1),
         character(core, word, place + 2),
-    )
+    ])
 }
 
-/// The first operand of an instruction with this number of addresses.
+/// The addresses of an instruction that has so many, if each can be read.
 #[inline(always)]
-fn first_operand<C: Core>(
-    core: &C,
-    registers: &Registers,
-    word: Word,
-    count: u16,
-) -> Result<u16, Check>
-    requires within { word.first + word.length ≤ length (C.cells core.now) }
-    requires below { word.first < largest_size }
-    requires one { 0 < count → 4 ≤ word.length }
-    requires most { word.length ≤ 8 }
-    ensures { result ≡ (if count == 0 then Ok registers.now.a
-        else operand_at (C.cells core.now)
-        (codes_from (C.cells core.now) word.first word.length) 1) }
-{
-    if count == 0 {
-        return Ok(registers.a);
-    }
-    operand_at(core, word, 1)
-}
-
-/// The second operand of an instruction with this number of addresses. With one address both
-/// operands are the same.
-#[inline(always)]
-fn second_operand<C: Core>(
-    core: &C,
-    registers: &Registers,
-    word: Word,
-    count: u16,
-    first: u16,
-) -> Result<u16, Check>
-    requires within { word.first + word.length ≤ length (C.cells core.now) }
-    requires below { word.first < largest_size }
-    requires two { 1 < count → 7 ≤ word.length }
-    requires most { word.length ≤ 8 }
-    ensures operand { result ≡ (if count == 0 then Ok registers.now.b
-        else (if count == 1 then Ok first
-        else operand_at (C.cells core.now)
-        (codes_from (C.cells core.now) word.first word.length) 4)) }
-    ensures inside { IfOk result (λ operand. 1 < count → operand < length (C.cells core.now)) }
-    ensures below { IfOk result (λ operand. 1 < count → operand < largest_size) }
-{
-    if count == 0 {
-        return Ok(registers.b);
-    }
-    if count == 1 {
-        return Ok(first);
-    }
-    operand_at(core, word, 4)
-}
-
-/// The operands of an instruction with this number of addresses.
-#[inline(always)]
-#[tactic(auto, unfolding(crate::specs::Word::operands_of))]
-fn operands_of<C: Core>(
-    core: &C,
-    registers: &Registers,
-    word: Word,
-    count: u16,
-) -> Result<(u16, u16), Check>
+#[tactic(auto, unfolding(crate::specs::Shapes::addresses_of))]
+fn addresses<C: Core>(core: &C, word: Word, count: u16) -> Option<Addresses>
     requires within { word.first + word.length ≤ length (C.cells core.now) }
     requires below { word.first < largest_size }
     requires one { 0 < count → 4 ≤ word.length }
     requires two { 1 < count → 7 ≤ word.length }
     requires most { word.length ≤ 8 }
-    ensures operands { result ≡ operands_of (C.cells core.now) count registers.now
+    ensures { result ≡ addresses_of count
         (codes_from (C.cells core.now) word.first word.length) }
-    ensures inside { IfOk result (λ operands. 1 < count → operands.1 < length (C.cells core.now)) }
-    ensures below { IfOk result (λ operands. 1 < count → operands.1 < largest_size) }
 {
-    let first = first_operand(core, registers, word, count)?;
-    let second = second_operand(core, registers, word, count, first)?;
-    Ok((first, second))
+    if count == 0 {
+        return Some(Addresses::Absent);
+    }
+    let first = address(core, word, 1)?;
+    if count == 1 {
+        return Some(Addresses::One(first));
+    }
+    let second = address(core, word, 4)?;
+    Some(Addresses::Two(first, second))
 }
 
-/// Decodes the instruction in `word`. Check INSTRUCTION if its operation, length or last character
-/// is not the machine's; check ADDRESS if an address cannot be read or is outside the storage.
+/// Reads what the characters of an instruction say by themselves. Check INSTRUCTION if its
+/// operation, length or last character is not the machine's; check ADDRESS if an address cannot be
+/// read.
 #[inline(always)]
-pub fn decode<C: Core>(core: &C, registers: &Registers, word: Word) -> Result<Instruction, Check>
+fn shape_of<C: Core>(core: &C, word: Word) -> Result<Shape, Check>
     requires some { 1 ≤ word.length }
     requires most { word.length ≤ 8 }
     requires within { word.first + word.length ≤ length (C.cells core.now) }
     requires below { word.first < largest_size }
-    ensures decoded { IfOk result (λ instruction.
-        decoded_of (C.cells core.now) word.length registers.now
-        (codes_from (C.cells core.now) word.first word.length) ≡ Ok (decoded_by instruction)) }
-    ensures names { IfOk result (λ instruction. Names instruction (decoded_by instruction)) }
-    ensures check { IfErr result (λ check.
-        decoded_of (C.cells core.now) word.length registers.now
-        (codes_from (C.cells core.now) word.first word.length) ≡ Err check) }
-    ensures inside { IfOk result (λ instruction. LooksInside (decoded_by instruction).modifier
-        instruction.b (length (C.cells core.now))) }
-    ensures below { IfOk result (λ instruction. LooksInside (decoded_by instruction).modifier
-        instruction.b largest_size) }
+    ensures shape { result ≡ shape_of word.length
+        (codes_from (C.cells core.now) word.first word.length) }
+    ensures names { IfOk result (λ shape. (a b : ℕ) →
+        Names (instruction_at shape a b) (decoded_by (instruction_at shape a b))) }
 {
     let first = character(core, word, 0);
     if !has_form(first, word.length) {
@@ -211,17 +150,64 @@ pub fn decode<C: Core>(core: &C, registers: &Registers, word: Word) -> Result<In
     if !allows(first, word.length, last) {
         return Err(Check::Instruction);
     }
-    let (a, b) = match operands_of(core, registers, word, addresses_in(first, word.length)) {
-        Ok(operands) => operands,
-        Err(check) => return Err(check),
+    let Some(addresses) = addresses(core, word, addresses_in(first, word.length)) else {
+        return Err(Check::Address);
     };
-    Ok(Instruction {
+    Ok(Shape {
         first,
-        length: word.length,
-        a,
-        b,
         last,
+        length: word.length,
+        addresses,
     })
+}
+
+/// Reads the instruction at a position by its own characters. Check INSTRUCTION if none begins and
+/// ends there, or its operation, length or last character is not the machine's; check ADDRESS if an
+/// address cannot be read.
+pub fn read_shape<C: Core>(core: &C, i: u16) -> Result<Shape, Check>
+    requires within { i < length (C.cells core.now) }
+    requires below { i < largest_size }
+    ensures { result ≡ shape_at (C.cells core.now) i }
+{
+    let Some(count) = word_length(core, i) else {
+        return Err(Check::Instruction);
+    };
+    shape_of(
+        core,
+        Word {
+            first: i,
+            length: count,
+        },
+    )
+}
+
+/// The positions that an instruction with these addresses works at. Check ADDRESS if an index
+/// location cannot be read or a position is outside the storage.
+#[inline(always)]
+#[tactic(auto, unfolding(crate::specs::Shapes::operands_at))]
+pub fn operands<C: Core>(
+    core: &C,
+    registers: &Registers,
+    addresses: &Addresses,
+) -> Result<(u16, u16), Check>
+    ensures operands { result ≡ operands_at (C.cells core.now) registers.now addresses.now }
+    ensures inside { IfOk result (λ operands. has_two addresses.now ≡ true →
+        operands.1 < length (C.cells core.now)) }
+    ensures below { IfOk result (λ operands. has_two addresses.now ≡ true →
+        operands.1 < largest_size) }
+{
+    match addresses {
+        Addresses::Absent => Ok((registers.a, registers.b)),
+        Addresses::One(address) => {
+            let first = position(core, *address)?;
+            Ok((first, first))
+        }
+        Addresses::Two(address, other) => {
+            let first = position(core, *address)?;
+            let second = position(core, *other)?;
+            Ok((first, second))
+        }
+    }
 }
 
 /// The law of instructions: an instruction that begins at a position ends before the first mark

@@ -14,6 +14,7 @@
 #![tactic(auto)]
 
 mod branches;
+mod cache;
 mod characters;
 mod cycle;
 mod decode;
@@ -26,6 +27,7 @@ mod operations;
 mod parts;
 mod ranges;
 mod runs;
+mod shapes;
 mod standings;
 
 pub use decode::instructions_end_at_marks;

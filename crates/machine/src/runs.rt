@@ -13,6 +13,7 @@ ghost use Rattle.machine.specs.Run.{first_card, first_units, State, step, after,
 ghost use Rattle.machine.specs.Effect.{works_of};
 ghost use Rattle.machine.specs.Ranges.{IsInRange};
 
+use crate::cache::Cache;
 use crate::meter::Meter;
 use crate::parts::Parts;
 use crate::standings::{Event, Standing};
@@ -178,7 +179,7 @@ impl<C: Core> Machine<C> {
         ensures memory { OnErr result (Makes self.old.works.units (step self.old).works.units) }
         ensures unticked { OnErr result (meter.new ≡ meter.old) }
     {
-        self.parts.step(meter)?;
+        self.parts.step(&mut Cache::new(), meter)?;
         Ok(self.parts.standing.event())
     }
 
@@ -196,11 +197,12 @@ impl<C: Core> Machine<C> {
         ensures given_up { OnErr result (IsGivenUp self.old limit meter.old meter.new) }
     {
         let checkpoint = self.parts.checkpoint(&mut self.spare);
+        let mut cache = Cache::new();
         for attempted in 0..limit {
             if !self.parts.is_running() {
                 return Ok(self.parts.report(checkpoint.standing, attempted));
             }
-            if let Err(error) = self.parts.step(meter) {
+            if let Err(error) = self.parts.step(&mut cache, meter) {
                 self.parts.restore(&self.spare, checkpoint);
                 return Err(error);
             }

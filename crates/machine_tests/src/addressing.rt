@@ -2,7 +2,7 @@
 
 use crate::sheets::{Case, agreed, check, cut, number};
 use crate::storage::{at_places, blank, code, lay, size_of};
-use addresses::{Tagged, decode, effective_address, encode, operand, store};
+use addresses::{Tagged, decode, effective_address, encode, position, store};
 use bcd::Code;
 use core_store::{Check, Core, FlagCore, LARGEST_SIZE, PlaneCore, Size};
 use std::alloc::Global;
@@ -108,8 +108,10 @@ const INDEXED: &str = "\
 /// The position that an address represents with 91 in the first index location, or the check.
 fn position_of<C: Core>(core: &mut C, address: &str) -> Result<u16, Check> {
     lay(core, 87, "091");
-    let [first, second, third] = three(address);
-    operand(core, first, second, third)
+    let Some(tagged) = decode(three(address)) else {
+        return Err(Check::Address);
+    };
+    position(core, tagged)
 }
 
 /// The output of a case of `Operand` with one kind of storage.
