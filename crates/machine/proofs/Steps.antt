@@ -38,12 +38,13 @@ use Rattle.machine.specs.declared.named.Modifier.{Modifier}
 use Rattle.machine.specs.declared.named.Modifier.TheVariants.{Plain, OnCondition, OnCharacter, OnTest, ByOrder, ToPocket}
 use Rattle.machine.specs.declared.named.Decoded.{Decoded}
 use Rattle.machine.specs.declared.operations.Course.{Course}
+use Rattle.machine.specs.declared.operations.Course.TheVariants.{GoesOn, Halts}
 use Rattle.machine.specs.declared.standings.Standing.{Standing}
 use Rattle.machine.specs.declared.standings.Standing.TheVariants.{Running, Halted, Checked}
 use Rattle.machine.specs.declared.runs.Checkpoint.{Checkpoint}
 use Rattle.machine.specs.Word.{word, word_length, decoded, decoded_of}
 use Rattle.machine.specs.Effect.{Works, attempt, effect, filled, next_of, ordered_by, pocket_by, worked}
-use Rattle.machine.specs.Run.{State, IsGivenUp, step, after, attempts, executed, attempted, is_running, is_checked, risen, standing_after, lines_of, restored, first_card}
+use Rattle.machine.specs.Run.{State, IsGivenUp, IsWanting, running, step, after, attempts, executed, attempted, is_running, is_checked, risen, standing_after, lines_of, restored, first_card}
 
 -- what an attempt does once the instruction is read
 pub attempt_is : (w : Works) (count : ℕ) (d : Decoded) → w.registers.i < length w.storage → Some count ≡ word_length w.storage w.registers.i → w.registers.i + count ≤ length w.storage →
@@ -367,29 +368,10 @@ makes_through old now next end before (inr lines) behind =
     let last = begins_longer (lines_of next) (lines_of end) behind.lines in
     inr (omega arith)
 
--- ---- a run by what is left of it
+-- ---- ticks, and the instructions executed
 
 pub risen-risen : (ticks first second : ℕ) → risen (risen ticks first) second ≡ risen ticks (first + second)
 risen-risen ticks first second = omega arith
-
-pub risen_none : (ticks : ℕ) → ticks ≡ risen ticks 0
-risen_none ticks = omega arith
-
-pub after_none : (m : State) (n : ℕ) → n ≡ 0 → after m n ≡ m
-unfolding after
-after_none m n h = ap (after m) h
-
-pub attempts_none : (m : State) (n : ℕ) → n ≡ 0 → attempts m n ≡ 0
-unfolding attempts
-attempts_none m n h = ap (attempts m) h
-
-pub after_more : (m : State) (k n : ℕ) → n ≡ suc k → after (step m) k ≡ after m n
-unfolding after
-after_more m k n h = ap (after m) (sym h)
-
-pub attempts_more : (m : State) (k n : ℕ) → n ≡ suc k → is_running m.standing ≡ true → attempts m n ≡ 1 + attempts (step m) k
-unfolding attempts
-attempts_more m k n h running = ap (attempts m) h ∙ ap (λ b. (if b then 1 else 0) + attempts (step m) k) running
 
 pub executed_is : (old end : State) (limit attempted : ℕ) (began : Standing) → attempted ≡ attempts old limit → began ≡ old.standing → end ≡ after old limit →
     attempted - (if is_running began && is_checked end.standing then 1 else 0) ≡ executed old limit
@@ -428,107 +410,110 @@ length-loaded s size codes is =
     let t = put_codes (blank_storage (positions_of size)) 1 codes in
     ap length is ∙ length-set t 1 (code_at t 1, true) ∙ length-put_codes (blank_storage (positions_of size)) 1 codes ∙ length-replicate (positions_of size) (0, false)
 
--- ---- a run in its middle: what is left of it leads to where the whole run does
-
-pub record Left (old now : State) (limit attempted old_ticks ticks : ℕ) : Type 0 where
-  pub machine : after now (limit - attempted) ≡ after old limit
-  pub meter : risen ticks (attempts now (limit - attempted)) ≡ risen old_ticks (attempts old limit)
-  pub attempts : attempted + attempts now (limit - attempted) ≡ attempts old limit
-
-pub left_none : (old now : State) (limit ticks : ℕ) → now ≡ old → Left old now limit 0 ticks ticks
-left_none old now limit ticks same =
-    let whole : limit - 0 ≡ limit = omega arith in
-    let all : attempts now (limit - 0) ≡ attempts old limit = ap (λ (m : State). attempts m (limit - 0)) same ∙ ap (attempts old) whole in
-    record {
-      machine = ap (λ (m : State). after m (limit - 0)) same ∙ ap (after old) whole;
-      meter = ap (risen ticks) all;
-      attempts = omega (arith, all);
-    }
-
--- a run that is over
-pub record Over (old now : State) (limit attempted old_ticks ticks : ℕ) : Type 0 where
-  pub machine : now ≡ after old limit
-  pub meter : ticks ≡ risen old_ticks (attempts old limit)
-  pub attempts : attempted ≡ attempts old limit
-
-module _ (old now : State) (limit attempted old_ticks ticks : ℕ) (left : Left old now limit attempted old_ticks ticks) where
-  over : attempts now (limit - attempted) ≡ 0 → now ≡ after old limit → Over old now limit attempted old_ticks ticks
-  over none end = record {
-    machine = end;
-    meter = risen_none ticks ∙ ap (risen ticks) (sym none) ∙ left.meter;
-    attempts = omega (arith, left.attempts, none);
-  }
-
-  pub over_stopped : is_running now.standing ≡ false → Over old now limit attempted old_ticks ticks
-  over_stopped stopped =
-      over (attempts_stopped now (limit - attempted) stopped) (sym (after_stopped now (limit - attempted) stopped) ∙ left.machine)
-
-  pub over_done : limit ≤ attempted → Over old now limit attempted old_ticks ticks
-  over_done done =
-      let none : limit - attempted ≡ 0 = omega arith in
-      over (attempts_none now (limit - attempted) none) (sym (after_none now (limit - attempted) none) ∙ left.machine)
-
-  pub left_step : (next : State) (next_ticks : ℕ) → attempted < limit → is_running now.standing ≡ true → next ≡ step now → next_ticks ≡ risen ticks (attempts now 1) →
-      Left old next limit (attempted + 1) old_ticks next_ticks
-  left_step next next_ticks lt running stepped ticked =
-      let k : ℕ = limit - (attempted + 1) in
-      let more : limit - attempted ≡ suc k = omega arith in
-      let rest : attempts now (limit - attempted) ≡ 1 + attempts (step now) k = attempts_more now k (limit - attempted) more running in
-      let same : attempts next k ≡ attempts (step now) k = ap (λ (x : State). attempts x k) stepped in
-      record {
-        machine = ap (λ (x : State). after x k) stepped ∙ after_more now k (limit - attempted) more ∙ left.machine;
-        meter =
-            ap (λ t. risen t (attempts next k)) (ticked ∙ ap (risen ticks) (attempts_one now running))
-            ∙ risen-risen ticks 1 (attempts next k)
-            ∙ ap (λ n. risen ticks (1 + n)) same
-            ∙ ap (risen ticks) (sym rest)
-            ∙ left.meter;
-        attempts = omega (arith, left.attempts, rest, same);
-      }
-
-  pub left_makes : Stems old now → attempted < limit → Makes now.works.units (step now).works.units → Makes old.works.units (after old limit).works.units
-  left_makes stems lt makes =
-      let k : ℕ = limit - (attempted + 1) in
-      let more : limit - attempted ≡ suc k = omega arith in
-      let whole : after (step now) k ≡ after old limit = after_more now k (limit - attempted) more ∙ left.machine in
-      let through : Makes old.works.units (after (step now) k).works.units =
-      makes_through old now (step now) (after (step now) k) stems makes (stems_after (step now) (step now) k (stems_same (step now))) in
-      rw whole at through
-
 -- ---- a run in its middle: how far it has come
 
-pub record Reached (old now : State) (attempted old_ticks ticks : ℕ) : Type 0 where
-  pub machine : after old attempted ≡ now
-  pub attempts : attempts old attempted ≡ attempted
-  pub meter : ticks ≡ risen old_ticks attempted
+pub record Reached (old now : State) (done : ℕ) : Type 0 where
+  pub machine : after old done ≡ now
+  pub attempts : attempts old done ≡ done
 
 after_one : (m : State) → after m 1 ≡ step m
 unfolding after
 after_one m = refl
 
-pub reached_none : (old now : State) (ticks : ℕ) → now ≡ old → Reached old now 0 ticks ticks
+pub reached_none : (m : State) → Reached m m 0
 unfolding after attempts
-reached_none old now ticks same = record { machine = sym same; attempts = refl; meter = risen_none ticks }
+reached_none m = record { machine = refl; attempts = refl }
 
-module _ (old now : State) (attempted old_ticks ticks : ℕ) (reached : Reached old now attempted old_ticks ticks) where
-  one_further : after old (attempted + 1) ≡ step now
-  one_further = sym (after-after old attempted 1) ∙ ap (λ (m : State). after m 1) reached.machine ∙ after_one now
+-- a machine that is running has this standing
+pub running_is : (m : State) (w : Works) → w ≡ m.works → is_running m.standing ≡ true → running w ≡ m
+running_is m w same h = ap running same ∙ ap (λ s. record { works = m.works; standing = s }) (sym (runs m.standing h))
 
-  pub reached_step : (next : State) (next_ticks : ℕ) → is_running now.standing ≡ true → next ≡ step now → next_ticks ≡ risen ticks (attempts now 1) → Reached old next (attempted + 1) old_ticks next_ticks
-  reached_step next next_ticks running stepped ticked =
-      let one : attempts (after old attempted) 1 ≡ 1 = ap (λ (m : State). attempts m 1) reached.machine ∙ attempts_one now running in
+-- a run that came to its end
+pub record Ended (old now : State) (limit done : ℕ) : Type 0 where
+  pub machine : now ≡ after old limit
+  pub attempts : done ≡ attempts old limit
+
+module _ (old now : State) (done : ℕ) (reached : Reached old now done) where
+  one_further : after old (done + 1) ≡ step now
+  one_further = sym (after-after old done 1) ∙ ap (λ (m : State). after m 1) reached.machine ∙ after_one now
+
+  pub reached_step : (next : State) → is_running now.standing ≡ true → next ≡ step now → Reached old next (done + 1)
+  reached_step next running stepped =
+      let one : attempts (after old done) 1 ≡ 1 = ap (λ (m : State). attempts m 1) reached.machine ∙ attempts_one now running in
+      record { machine = one_further ∙ sym stepped; attempts = omega (arith, attempts-add old done 1, reached.attempts, one) }
+
+  pub ended_stopped : (limit : ℕ) → done ≤ limit → is_running now.standing ≡ false → Ended old now limit done
+  ended_stopped limit within stopped =
+      let whole : done + (limit - done) ≡ limit = omega arith in
+      let none : attempts (after old done) (limit - done) ≡ 0 = ap (λ (m : State). attempts m (limit - done)) reached.machine ∙ attempts_stopped now (limit - done) stopped in
       record {
-        machine = one_further ∙ sym stepped;
-        attempts = omega (arith, attempts-add old attempted 1, reached.attempts, one);
-        meter = ticked ∙ ap (risen ticks) (attempts_one now running) ∙ ap (λ t. risen t 1) reached.meter ∙ risen-risen old_ticks attempted 1;
+        machine =
+            sym (after_stopped now (limit - done) stopped) ∙ ap (λ (m : State). after m (limit - done)) (sym reached.machine) ∙ after-after old done (limit - done) ∙ ap (after old) whole;
+        attempts = omega (arith, attempts-add old done (limit - done), reached.attempts, none, ap (attempts old) whole);
       }
 
-  pub reached_given_up : (limit left_ticks : ℕ) → attempted < limit → Makes now.works.units (step now).works.units → left_ticks ≡ ticks → IsGivenUp old limit old_ticks left_ticks
-  reached_given_up limit left_ticks below makes same =
+  pub ended_whole : (limit : ℕ) → limit ≡ done → Ended old now limit limit
+  ended_whole limit same = record { machine = sym reached.machine ∙ ap (after old) (sym same); attempts = same ∙ sym reached.attempts ∙ ap (attempts old) (sym same) }
+
+  pub wanting_here : (limit : ℕ) → done < limit → Makes now.works.units (step now).works.units → IsWanting old now limit done
+  wanting_here limit below makes = record { below = below; reached = reached.machine; attempted = reached.attempts; wanting = makes }
+
+-- how a run in its middle goes on from works by the outcome of the next attempt
+module _ (old : State) (w x : Works) (done : ℕ) (reached : Reached old (running w) done) where
+  pub goes_on_here : attempt w ≡ Ok (x, GoesOn) → Reached old (running x) (done + 1)
+  goes_on_here outcome = reached_step old (running w) done reached (running x) refl (step_ok (running w) w x GoesOn refl refl outcome)
+
+  pub halted_here : (limit : ℕ) → done < limit → attempt w ≡ Ok (x, Halts) → Ended old (record { works = x; standing = Halted }) limit (done + 1)
+  halted_here limit below outcome =
+      let next : State = record { works = x; standing = Halted } in
+      ended_stopped old next (done + 1) (reached_step old (running w) done reached next refl (step_ok (running w) w x Halts refl refl outcome)) limit (omega arith) refl
+
+  pub checked_here : (limit : ℕ) (check : Check) → done < limit → attempt w ≡ Err check → x ≡ w → Ended old (record { works = x; standing = Checked check }) limit (done + 1)
+  checked_here limit check below outcome same =
+      let next : State = record { works = x; standing = Checked check } in
+      let stepped : next ≡ step (running w) = ap (λ works. record { works = works; standing = Checked check }) same ∙ step_check (running w) w check refl refl outcome in
+      ended_stopped old next (done + 1) (reached_step old (running w) done reached next refl stepped) limit (omega arith) refl
+
+  pub wanting_next : (limit : ℕ) → done < limit → MakesBy w (attempt w) → x ≡ w → IsWanting old (running x) limit done
+  wanting_next limit below makes same =
+      rw same (wanting_here old (running w) done reached limit below (step_makes (running w) w refl refl makes))
+
+-- a machine that is not running is at its end at once
+pub ended_at_once : (m : State) (limit : ℕ) → is_running m.standing ≡ false → Ended m m limit 0
+ended_at_once m limit stopped = record { machine = sym (after_stopped m limit stopped); attempts = sym (attempts_stopped m limit stopped) }
+
+-- ---- a run given up
+
+module _ (old now : State) (limit done : ℕ) (wanting : IsWanting old now limit done) where
+  wanted_further : after old (done + 1) ≡ step now
+  wanted_further = sym (after-after old done 1) ∙ ap (λ (m : State). after m 1) wanting.reached ∙ after_one now
+
+  pub wanting_stems : Stems old now
+  wanting_stems = rw wanting.reached at (stems_after old old done (stems_same old))
+
+  pub wanting_makes : Makes old.works.units (after old limit).works.units
+  wanting_makes =
+      let k : ℕ = limit - (done + 1) in
+      let split : done + 1 + k ≡ limit = omega (arith, wanting.below) in
+      let whole : after (step now) k ≡ after old limit = ap (λ (m : State). after m k) (sym wanted_further) ∙ after-after old (done + 1) k ∙ ap (after old) split in
+      let through : Makes old.works.units (after (step now) k).works.units =
+      makes_through old now (step now) (after (step now) k) wanting_stems wanting.wanting (stems_after (step now) (step now) k (stems_same (step now))) in
+      rw whole at through
+
+  pub wanting_given_up : (old_ticks ticks : ℕ) → ticks ≡ risen old_ticks done → IsGivenUp old limit old_ticks ticks
+  wanting_given_up old_ticks ticks ticked =
       record {
-        done = attempted;
-        below = below;
-        attempted = reached.attempts;
-        wanting = rw (reached.machine, one_further) makes;
-        meter = same ∙ reached.meter;
+        done = done;
+        below = wanting.below;
+        attempted = wanting.attempted;
+        wanting = rw (wanting.reached, wanted_further) wanting.wanting;
+        meter = ticked;
       }
+
+-- one instruction that is given up changes nothing
+pub wanting_first : (old now : State) (done : ℕ) → IsWanting old now 1 done → (now ≡ old) × Makes old.works.units (step old).works.units
+unfolding after
+wanting_first old now done wanting =
+    let none : done ≡ 0 = omega (arith, wanting.below) in
+    let same : old ≡ now = ap (after old) (sym none) ∙ wanting.reached in
+    (sym same, rw same wanting.wanting)

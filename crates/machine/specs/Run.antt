@@ -111,6 +111,10 @@ restored m storage c = record {
   standing = c.standing;
 }
 
+-- a running machine that works on these
+abbrev pub running : Works → State
+running works = record { works = works; standing = Running }
+
 -- a machine after an attempt; a check changes nothing but its standing
 abbrev pub attempted : State → Result (Works × Course) Check → State
 attempted m (Ok (works, course)) = record { works = works; standing = standing_after course }
@@ -143,6 +147,14 @@ lines_of m = m.works.units.printer.lines
 -- a count risen by so many, which stays at the greatest that 64 bits hold
 abbrev pub risen : ℕ → ℕ → ℕ
 risen ticks more = ticks + min more (2 ^ 64 - 1 - ticks)
+
+-- a machine that has come so far and gives up, for want of memory for the card or the line that the
+-- next instruction makes
+pub record IsWanting (m now : State) (limit done : ℕ) : Type 0 where
+  pub below : done < limit
+  pub reached : after m done ≡ now
+  pub attempted : attempts m done ≡ done
+  pub wanting : Makes now.works.units (step now).works.units
 
 -- a run given up for want of memory, at an instruction that makes a card or a line; the meter has
 -- risen by the instructions before it

@@ -1,21 +1,19 @@
 //! The instruction cycle.
 
-ghost use Rattle.std.specs.Prelude.{◌≡◌, ◌+◌, ◌%◌, ◌<◌, ◌≤◌, ℕ, length, Ok, OnErr, OnOk};
+ghost use Rattle.std.specs.Prelude.{◌≡◌, ◌+◌, ◌%◌, ◌<◌, ◌≤◌, ℕ, length, Ok, OnOk, IfOk, IfErr};
 ghost use Rattle.core_store.specs.Storage.{largest_size};
 ghost use Rattle.machine.specs.Effect.{attempt, works_of, Ends, next_of};
-ghost use Rattle.units.specs.Units.{areas_end, Makes};
+ghost use Rattle.units.specs.Units.{areas_end};
 ghost use Rattle.machine.specs.Shapes.{shape_at};
-ghost use Rattle.machine.specs.Run.{step, attempts, risen, is_running, is_checked, is_halted};
+ghost use Rattle.machine.specs.Run.{after, attempts, is_running, running, IsWanting};
 
 use crate::cache::Cache;
 use crate::decode::{operands, read_shape};
-use crate::meter::Meter;
 use crate::operations::{Course, execute};
 use crate::parts::Parts;
 use crate::shapes::Shape;
 use crate::standings::Standing;
 use core_store::{Check, Core, LARGEST_SIZE, Registers};
-use std::alloc::AllocError;
 use units::{Fault, Units};
 
 /// The number of positions that are looked at for a kept shape: the eight characters of the longest
@@ -113,6 +111,65 @@ fn attempt<C: Core>(
     attempt_anew(core, registers, units, cache)
 }
 
+/// How far a machine came.
+pub(crate) struct Stretch {
+    /// The number of instructions attempted.
+    pub attempted: u32,
+    pub standing: Standing,
+}
+
+/// That a machine gave up at an instruction that punches or prints, for want of memory.
+pub(crate) struct GivenUp {
+    /// The number of instructions before it.
+    pub attempted: u32,
+}
+
+/// Executes instructions of a running machine until one of them halts or ends in a check, at most
+/// `limit` of them.
+#[inline(never)]
+fn execute_up_to<C: Core>(
+    core: &mut C,
+    registers: &mut Registers,
+    units: &mut Units,
+    limit: u32,
+) -> Result<Stretch, GivenUp>
+    requires { areas_end ≤ length (C.cells core.old) }
+    ensures machine { IfOk result (λ stretch.
+        record { works = works_of (C.cells core.new) registers.new units.new;
+            standing = stretch.standing }
+        ≡ after (running (works_of (C.cells core.old) registers.old units.old)) limit) }
+    ensures attempted { IfOk result (λ stretch. stretch.attempted
+        ≡ attempts (running (works_of (C.cells core.old) registers.old units.old)) limit) }
+    ensures given_up { IfErr result (λ given_up.
+        IsWanting (running (works_of (C.cells core.old) registers.old units.old))
+        (running (works_of (C.cells core.new) registers.new units.new))
+        limit given_up.attempted) }
+{
+    let mut cache = Cache::new();
+    for attempted in 0..limit {
+        match attempt(core, registers, units, &mut cache) {
+            Ok(Course::GoesOn) => {}
+            Ok(Course::Halts) => {
+                return Ok(Stretch {
+                    attempted: attempted + 1,
+                    standing: Standing::Halted,
+                });
+            }
+            Err(Fault::Stopped(check)) => {
+                return Ok(Stretch {
+                    attempted: attempted + 1,
+                    standing: Standing::Checked(check),
+                });
+            }
+            Err(Fault::NoMemory) => return Err(GivenUp { attempted }),
+        }
+    }
+    Ok(Stretch {
+        attempted: limit,
+        standing: Standing::Running,
+    })
+}
+
 impl<C: Core> Parts<C> {
     /// Whether the machine is running.
     pub(crate) fn is_running(&self) -> bool
@@ -121,36 +178,24 @@ impl<C: Core> Parts<C> {
         self.standing.is_running()
     }
 
-    /// Does one step, with the shapes kept before. Only an instruction that punches or prints may fail, if there is no memory;
-    /// then nothing is changed.
-    pub(crate) fn step(&mut self, cache: &mut Cache, meter: &mut Meter) -> Result<(), AllocError>
-        ensures step { OnOk result (self.new ≡ step self.old) }
-        ensures unchanged { OnErr result (self.new ≡ self.old) }
-        ensures memory { OnErr result (Makes self.old.works.units (step self.old).works.units) }
-        ensures meter { OnOk result (meter.new ≡ risen meter.old (attempts self.old 1)) }
-        ensures unticked { OnErr result (meter.new ≡ meter.old) }
+    /// Runs until the limit, a halt or a check. Returns the number of instructions attempted. Only
+    /// one that punches or prints may fail, if there is no memory; those before it are done.
+    pub(crate) fn work(&mut self, limit: u32) -> Result<u32, GivenUp>
+        ensures machine { OnOk result (self.new ≡ after self.old limit) }
+        ensures attempted { IfOk result (λ attempted. attempted ≡ attempts self.old limit) }
+        ensures given_up { IfErr result (λ given_up.
+            IsWanting self.old self.new limit given_up.attempted) }
     {
         if !self.is_running() {
-            return Ok(());
+            return Ok(0);
         }
-        match attempt(&mut self.core, &mut self.registers, &mut self.units, cache) {
-            Ok(Course::GoesOn) => {
-                meter.tick();
-                Ok(())
-            }
-            Ok(Course::Halts) => {
-                self.standing = Standing::Halted;
-                meter.tick();
-                Ok(())
-            }
-            Err(fault) => match fault {
-                Fault::Stopped(check) => {
-                    self.standing = Standing::Checked(check);
-                    meter.tick();
-                    Ok(())
-                }
-                Fault::NoMemory => Err(AllocError),
-            },
-        }
+        let stretch = execute_up_to(
+            &mut self.core,
+            &mut self.registers,
+            &mut self.units,
+            limit,
+        )?;
+        self.standing = stretch.standing;
+        Ok(stretch.attempted)
     }
 }

@@ -35,10 +35,10 @@ impl Meter {
         *ticks
     }
 
-    /// Counts one more instruction.
-    pub(crate) fn tick(&mut self)
-        ensures { self.new ≡ risen self.old 1 }
+    /// Counts so many more instructions.
+    pub(crate) fn advance(&mut self, count: u32)
+        ensures { self.new ≡ risen self.old count }
     {
-        self.ticks = self.ticks.saturating_add(1);
+        self.ticks = self.ticks.saturating_add(u64::from(count));
     }
 }

@@ -13,7 +13,6 @@ ghost use Rattle.machine.specs.Run.{first_card, first_units, State, step, after,
 ghost use Rattle.machine.specs.Effect.{works_of};
 ghost use Rattle.machine.specs.Ranges.{IsInRange};
 
-use crate::cache::Cache;
 use crate::meter::Meter;
 use crate::parts::Parts;
 use crate::standings::{Event, Standing};
@@ -179,8 +178,13 @@ impl<C: Core> Machine<C> {
         ensures memory { OnErr result (Makes self.old.works.units (step self.old).works.units) }
         ensures unticked { OnErr result (meter.new ≡ meter.old) }
     {
-        self.parts.step(&mut Cache::new(), meter)?;
-        Ok(self.parts.standing.event())
+        match self.parts.work(1) {
+            Ok(attempted) => {
+                meter.advance(attempted);
+                Ok(self.parts.standing.event())
+            }
+            Err(_) => Err(AllocError),
+        }
     }
 
     /// Runs until the limit, a halt or a check. Every attempted instruction ticks the meter. Only
@@ -197,17 +201,17 @@ impl<C: Core> Machine<C> {
         ensures given_up { OnErr result (IsGivenUp self.old limit meter.old meter.new) }
     {
         let checkpoint = self.parts.checkpoint(&mut self.spare);
-        let mut cache = Cache::new();
-        for attempted in 0..limit {
-            if !self.parts.is_running() {
-                return Ok(self.parts.report(checkpoint.standing, attempted));
+        match self.parts.work(limit) {
+            Ok(attempted) => {
+                meter.advance(attempted);
+                Ok(self.parts.report(checkpoint.standing, attempted))
             }
-            if let Err(error) = self.parts.step(&mut cache, meter) {
+            Err(given_up) => {
+                meter.advance(given_up.attempted);
                 self.parts.restore(&self.spare, checkpoint);
-                return Err(error);
+                Err(AllocError)
             }
         }
-        Ok(self.parts.report(checkpoint.standing, limit))
     }
 }
 
