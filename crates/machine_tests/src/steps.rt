@@ -51,9 +51,25 @@ fn machine<C: Core>(
     running(alloc, core, registers)
 }
 
+/// How the steps of a case are done.
+#[derive(Clone, Copy)]
+enum Way {
+    /// Each by itself, so that each instruction is read from storage.
+    Steps,
+    /// As one run, in which what the characters of an instruction say is kept.
+    Run,
+}
+
 /// The event of the last of `steps` steps.
-fn last_event<C: Core>(machine: &mut Machine<C>, steps: u16) -> Result<Event, AllocError> {
+fn last_event<C: Core>(
+    machine: &mut Machine<C>,
+    way: Way,
+    steps: u16,
+) -> Result<Event, AllocError> {
     let mut meter = Meter::new();
+    if let Way::Run = way {
+        return Ok(machine.run(u32::from(steps), &mut meter)?.standing.event());
+    }
     let mut event = Event::Next;
     for _ in 0..steps {
         event = machine.step(&mut meter)?;
@@ -65,10 +81,11 @@ fn last_event<C: Core>(machine: &mut Machine<C>, steps: u16) -> Result<Event, Al
 fn stepped<C: Core>(
     alloc: Global,
     machine: &mut Machine<C>,
+    way: Way,
     steps: u16,
     places: &str,
 ) -> Result<String, Fail> {
-    let event = last_event(machine, steps)?;
+    let event = last_event(machine, way, steps)?;
     let parts = machine.parts();
     let registers = registers_shown(alloc, &parts.registers)?;
     let shown = at_places(alloc, &parts.core, places)?;
@@ -94,14 +111,21 @@ fn size_before(text: &str) -> Result<(Size, &str), Fail> {
     }
 }
 
-/// The output of a case of `Steps` with one kind of storage.
+/// The output of a case of `Steps` with one kind of storage, both as steps and as a run.
 pub(crate) fn outcome<C: Core>(alloc: Global, given: &str) -> Result<String, Fail> {
+    let steps = done::<C>(alloc, given, Way::Steps)?;
+    let run = done::<C>(alloc, given, Way::Run)?;
+    agreed(alloc, steps, run)
+}
+
+/// The output of a case of `Steps` with one kind of storage, done in one way.
+fn done<C: Core>(alloc: Global, given: &str, way: Way) -> Result<String, Fail> {
     let (size, given) = size_before(given)?;
     let (order, given) = cut(given, "|");
     let (program, places) = cut(given, "|");
     let (steps, registers) = order.split_once("A ").ok_or("registers")?;
     let mut machine = machine::<C>(alloc, size, registers, program, places)?;
-    stepped(alloc, &mut machine, steps_of(steps), places)
+    stepped(alloc, &mut machine, way, steps_of(steps), places)
 }
 
 /// Steps, of a machine whose comparison is low and whose overflow is off. Input: the size of the
@@ -154,6 +178,36 @@ A 10 B 20|~K1~|8 ~005|18 ~123| -> I 402 A 10 B 20 |~005|~123|
 #[test]
 fn operations(rt: HostRuntime) -> Result<(), Fail> {
     check::<Steps>(rt.alloc(), OPERATIONS)
+}
+
+/// Instructions that are changed after they were read, and read again: one that writes over itself,
+/// and over the next one; by a mark within it, and by the mark behind it; two programs at positions
+/// 512 apart; an address whose index location is changed; and programs that begin at the last
+/// position that is looked at for a kept shape, and one after it.
+const KEPT: &str = "\
+3 steps, A 10 B 20|~D010403~B400~|10 5    7|400 ~D010403| \
+    -> I 407 A 14 B 402 |5    7|~D017403|
+6 steps, A 10 B 20|~D010410~D011030~D012010~B400~|10 1638|30 0|407 ~D011030| \
+    -> I 414 A 12 B 29 |3638|8|~D013030|
+4 steps, A 10 B 20|~N000000~,404~B400~|8 AB| -> I 404 A 400 B 415 |AB|
+5 steps, A 10 B 20|~N000000~,404~B400~|8 AB| -> Stop(Instruction) I 404 A 400 B 415 |AB|
+3 steps, A 10 B 20|~B500009X~)408~B400~|9 A| -> I 400 A 400 B 416 |A|
+4 steps, A 10 B 20|~B500009X~)408~B400~|9 A| -> Stop(Instruction) I 400 A 400 B 416 |A|
+3 steps, A 10 B 20|~A010020~B912~|8 ~001|18 ~005|912 ~S010020~B400~| \
+    -> I 919 A 7 B 17 |~001|~00E|~S010020~B400~|
+5 steps, A 10 B 20|~A010020~B912~|8 ~001|18 ~005|912 ~S010020~B400~| \
+    -> I 407 A 7 B 17 |~001|~00F|~S010020~B400~|
+4 steps, A 10 B 20|~D0/0320~D093089~B400~|10 4 7|87 000|93 2|320 0| \
+    -> I 407 A 11 B 319 |4 7|002|2|7|
+5 steps, A 10 B 20|~BT84~|8 ~001|18 ~005|1384 ~A010020~B400~| \
+    -> I 1391 A 7 B 17 |~001|~007|~A010020~B400~|
+5 steps, A 10 B 20|~BT85~|8 ~001|18 ~005|1385 ~A010020~B400~| \
+    -> I 1392 A 7 B 17 |~001|~007|~A010020~B400~|
+";
+
+#[test]
+fn kept_shapes(rt: HostRuntime) -> Result<(), Fail> {
+    check::<Steps>(rt.alloc(), KEPT)
 }
 
 /// Fields, marks and instructions at the end of larger storages, and past it.

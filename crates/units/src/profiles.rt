@@ -6,7 +6,9 @@ ghost use Rattle.units.specs.Stacked.{is_selecting};
 /// The profile of a job's machine: what its punch can do.
 #[derive(Clone, Copy)]
 pub enum Profile {
-    /// Profile 1: all cards go into the normal pocket.
+    /// Profile 1, of jobs made before there was stacker selection: all cards go into the normal
+    /// pocket, since no machine of this profile chooses another. A picture in which another one is
+    /// chosen is taken as it stands.
     Plain,
     /// Profile 2: with stacker selection.
     Selecting,
