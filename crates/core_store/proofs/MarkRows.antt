@@ -1,9 +1,11 @@
 -- marks in a row, and characters as one number
-use Rattle.std.proofs.Common.{◌≡◌, ℕ, zero, suc, ◌+◌, ◌-◌, ◌*◌, ◌/◌, ◌%◌, ◌^◌, ◌<◌, ◌≤◌, ◌∙◌, Bool, true, false, cond, ltb, All, List, [], ◌∷◌, get_or, length, take, drop, map, ap, sym, refl, arith, add-one}
+use Rattle.std.proofs.Common.{◌≡◌, ℕ, zero, suc, ◌+◌, ◌-◌, ◌*◌, ◌/◌, ◌%◌, ◌^◌, ◌<◌, ◌≤◌, ◌∙◌, Bool, true, false, cond, ltb, not, All, List, [], ◌∷◌, get_or, length, take, drop, map, ap, sym, refl, arith}
 use Rattle.std.specs.Int.{w64, from_bool, from_le_bytes}
 use Rattle.std.specs.Simd.Lanes.{mask_l, chunk}
 use Rattle.std.proofs.Math.Pow.{pow_mono}
-use Rattle.std.proofs.Math.Nat.{pow-suc}
+use Rattle.std.proofs.Math.Nat.{mod-lt, pow-suc}
+use Rattle.std.proofs.Math.Decide.{dec_lt}
+use Rattle.std.proofs.lemmas.Bool.{lt-ltb, ne_eqb}
 use Rattle.std.proofs.lemmas.Nat.{mod-mul-add, div-add-mod'}
 use Rattle.std.proofs.lemmas.List.{ext_get_or, drop_more, length-drop, length-map, length-take, get_or-drop, get_or-map, get_or-take, get_or_default}
 use Rattle.std.proofs.lemmas.Simd.{length-chunk, get_or-chunk, mask_l-lt}
@@ -56,32 +58,51 @@ one_mark_before s position place marks one inside some most read is =
     ∙ one_mark s (position + (place - 1)) (9 - place) marks (omega arith) (read ∙ ap (λ p. mask_l (marks_from s p (9 - place))) next)
     ∙ ap (λ n. mask_l (marks_from s (position + (place - 1)) n)) (sym many)
 
+pub byte_most : (b : Bool) → from_bool b ≤ 1
+byte_most true = omega arith
+byte_most false = omega arith
+
+-- all nine
+pub nine_read : (s : Storage) (position place marks : ℕ) → place ≡ 0 → marks ≡ mask_l (marks_from s (position + place) (9 - place)) → marks ≡ mask_l (marks_from s position 9)
+nine_read s position place marks none read =
+    let here : position + place ≡ position = omega arith in
+    let many : 9 - place ≡ 9 = omega arith in
+    read ∙ ap (λ p. mask_l (marks_from s p (9 - place))) here ∙ ap (λ n. mask_l (marks_from s position n)) many
+
 pub nine_at_most : (s : Storage) (first count : ℕ) → first + count ≤ length s → count ≤ 9 → mask_l (marks_from s first count) < 512
 nine_at_most s first count h few =
     omega (arith, mask_l-lt (marks_from s first count), length-marks_from s first count h, pow_mono {i = length (marks_from s first count)} {j = 9} (omega (arith, length-marks_from s first count h)))
 
 -- ---- the lowest bits of a mask are the mask of the first flags
 
-low_step : (b : Bool) (n p : ℕ) → 0 < p → (cond b 1 0 + 2 * n) % (2 * p) ≡ cond b 1 0 + 2 * (n % p)
-low_step b n p some =
+low_step : (one n p : ℕ) → one ≤ 1 → 0 < p → (one + 2 * n) % (2 * p) ≡ one + 2 * (n % p)
+low_step one n p few some =
     let split : n / p * p + n % p ≡ n = div-add-mod' n p in
-    let whole : cond b 1 0 + 2 * n ≡ n / p * (2 * p) + (cond b 1 0 + 2 * (n % p)) = omega (arith, split) in
-    let less : cond b 1 0 + 2 * (n % p) < 2 * p = omega arith in
-    ap (λ m. m % (2 * p)) whole ∙ mod-mul-add (n / p) (2 * p) (cond b 1 0 + 2 * (n % p)) less
+    let rest : n % p < p = mod-lt n some in
+    let whole : one + 2 * n ≡ n / p * (2 * p) + (one + 2 * (n % p)) = omega (arith, split) in
+    let less : one + 2 * (n % p) < 2 * p = omega arith in
+    ap (λ m. m % (2 * p)) whole ∙ mod-mul-add (n / p) (2 * p) (one + 2 * (n % p)) less
+
+flag_most : (b : Bool) → cond b 1 0 ≤ 1
+flag_most true = omega arith
+flag_most false = omega arith
 
 pub low_mask : (ms : List Bool) (k : ℕ) → mask_l ms % 2 ^ k ≡ mask_l (take k ms)
 low_mask ms zero = omega arith
 low_mask [] (suc k) = omega arith
 low_mask (m ∷ ms) (suc k) =
     let double : 2 ^ suc k ≡ 2 * 2 ^ k = omega (arith, pow-suc 2 k) in
-    let some : 0 < 2 ^ k = omega arith in
-    ap (λ p. (cond m 1 0 + 2 * mask_l ms) % p) double ∙ low_step m (mask_l ms) (2 ^ k) some ∙ ap (λ n. cond m 1 0 + 2 * n) (low_mask ms k)
+    let some : 0 < 2 ^ k = omega (arith, pow_mono {i = 0} {j = k} (omega arith)) in
+    ap (λ p. (cond m 1 0 + 2 * mask_l ms) % p) double ∙ low_step (cond m 1 0) (mask_l ms) (2 ^ k) (flag_most m) some ∙ ap (λ n. cond m 1 0 + 2 * n) (low_mask ms k)
 
 -- ---- planes
 
 some_is_over : (n : ℕ) → is_some n ≡ ltb 0 n
-some_is_over zero = refl
-some_is_over (suc n) = refl
+some_is_over n =
+    elim (dec_lt 0 n) [
+      | yes some ↦ ap not (ne_eqb n 0 (omega arith)) ∙ sym (lt-ltb 0 n some)
+      | no none ↦ let zero_there : n ≡ 0 = omega arith in rw zero_there refl
+    ]
 
 pub nine_joined : (codes marks slice : List ℕ) (p mask : ℕ) → slice ≡ marks → length codes ≡ length marks → p + 16 ≤ length marks → mask ≡ mask_l (map is_some (chunk p 16 slice)) →
     mask % 512 ≡ mask_l (marks_from (joined_planes codes marks) p 9)

@@ -52,7 +52,7 @@ impl Core for FlagCore {
     fn eight_codes(&self, position: u16) -> u64 {
         let mut codes = [0; 8];
         for place in 0..8 {
-            codes[place as usize] = self.get(position + place).number();
+            codes[place as usize] = self.get_after(position, place).number();
         }
         u64::from_le_bytes(codes)
     }
@@ -131,7 +131,8 @@ impl Core for FlagCore {
     fn nine_marks(&self, position: u16) -> u64 {
         let mut marks = 0;
         for place in (0..9).rev() {
-            marks = 2 * marks + u64::from(self.is_marked(position + place));
+            let (_, marked) = self.cells[position as usize + place];
+            marks = 2 * marks + u64::from(marked);
         }
         marks
     }

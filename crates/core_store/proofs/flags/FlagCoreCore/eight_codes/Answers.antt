@@ -1,6 +1,5 @@
-use Rattle.std.proofs.Common.{◌≡◌, ◌∙◌, ◌<◌, All, ap, sym, arith, subst}
+use Rattle.std.proofs.Common.{◌∙◌, ◌<◌, All, ap, arith, subst}
 use Rattle.std.specs.Int.{w64, from_le_bytes}
-use Rattle.core_store.specs.Storage.{codes_from}
 use Rattle.core_store.proofs.MarkRows.{stretch_read}
 use Rattle.core_store.proofs.flags.FlagCoreCore.eight_codes.Goals as goal
 
