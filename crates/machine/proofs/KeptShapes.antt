@@ -1,9 +1,8 @@
 -- the same characters and word marks have the same shape, wherever they stand
-use Rattle.std.proofs.Common.{◌≡◌, ℕ, zero, suc, ◌+◌, ◌-◌, ◌/◌, ◌%◌, ◌^◌, ◌<◌, ◌≤◌, min, Bool, true, false, cond, All, List, Option, Some, None, Result, Ok, Err, refl, sym, ap, ◌∙◌, arith, if◌then◌else◌, length, get_or, leb, unwrap_or}
+use Rattle.std.proofs.Common.{◌≡◌, ℕ, zero, suc, ◌+◌, ◌-◌, ◌/◌, ◌%◌, ◌^◌, ◌<◌, ◌≤◌, min, Bool, true, false, cond, List, Option, Some, None, Ok, inl, inr, refl, sym, ap, ◌∙◌, arith, if◌then◌else◌, length, get_or, unwrap_or}
 use Rattle.std.specs.Prelude.{codes}
 use Rattle.std.specs.Option.{option_map}
-use Rattle.std.specs.Int.{w64, from_le_bytes, to_le_bytes}
-use Rattle.std.specs.Simd.Lanes.{mask_l}
+use Rattle.std.specs.Int.{w64, to_le_bytes}
 use Rattle.std.proofs.Math.Decide.{dec_lt}
 use Rattle.std.proofs.lemmas.Bool.{le-leb}
 use Rattle.std.proofs.lemmas.List.{ext_get_or, get_or_past}
@@ -11,7 +10,6 @@ use Rattle.std.proofs.lemmas.Nat.{le_bytes_8}
 use Rattle.std.proofs.lemmas.Simd.{bit_mask_l}
 use Rattle.core_store.specs.Storage.{Storage, code_at, codes_from, is_marked, least_mark, marks_from}
 use Rattle.core_store.specs.Checked.{find_or}
-use Rattle.core_store.specs.declared.checks.Check.{Check}
 use Rattle.core_store.specs.declared.checks.Check.TheVariants.{Instruction}
 use Rattle.core_store.proofs.Fields.{code-codes_from, length-codes_from}
 use Rattle.core_store.proofs.MarkRows.{mark-marks_from, nine_at_most}
@@ -23,7 +21,7 @@ use Rattle.machine.proofs.DecodeLaw.{length_ends}
 
 -- ---- what stands there, one by one
 
-flag_of : (a b : Bool) → cond a 1 0 ≡ cond b 1 0 → a ≡ b
+flag_of : (a b : Bool) → ◌≡◌ {A = ℕ} (cond a 1 0) (cond b 1 0) → a ≡ b
 flag_of true true e = refl
 flag_of true false e = absurd (omega arith)
 flag_of false true e = absurd (omega arith)

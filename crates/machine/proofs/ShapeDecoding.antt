@@ -1,5 +1,5 @@
 -- an instruction decoded by its shape
-use Rattle.std.proofs.Common.{◌≡◌, ℕ, ◌+◌, ◌-◌, ◌<◌, ◌≤◌, ◌==◌, Bool, true, false, List, Option, Some, None, Result, Ok, Err, refl, sym, ap, ◌∙◌, arith, if◌then◌else◌, length, nat_lt, eqb, slice_index}
+use Rattle.std.proofs.Common.{◌≡◌, ℕ, ◌+◌, ◌-◌, ◌%◌, ◌<◌, ◌≤◌, ◌==◌, Bool, true, false, List, Option, Some, None, Result, Ok, Err, refl, sym, ap, ◌∙◌, arith, if◌then◌else◌, length, nat_lt, slice_index}
 use Rattle.std.specs.Option.{option_map, option_and_then}
 use Rattle.std.proofs.lemmas.Bool.{lt-ltb, ne_eqb}
 use Rattle.std.proofs.lemmas.Option.{same_Some}
@@ -8,10 +8,9 @@ use Rattle.core_store.specs.Checked.{require, find_or, and_then}
 use Rattle.core_store.specs.declared.checks.Check.{Check}
 use Rattle.core_store.specs.declared.checks.Check.TheVariants.{Address, Instruction}
 use Rattle.core_store.specs.declared.registers.Registers.{Registers}
-use Rattle.addresses.specs.Addresses.{Tagged, tagged}
-use Rattle.addresses.specs.Effective.{base_ending, effective, operand, position_of, units_position, with_index}
+use Rattle.addresses.specs.Addresses.{Tagged}
+use Rattle.addresses.specs.Effective.{base_ending, operand, position_of, units_position, with_index}
 use Rattle.addresses.specs.declared.tagged.IndexLocation.{IndexLocation}
-use Rattle.machine.specs.declared.named.Decoded.{Decoded}
 use Rattle.machine.specs.declared.shapes.Addresses.{Addresses}
 use Rattle.machine.specs.declared.shapes.Addresses.TheVariants.{Absent, One, Two}
 use Rattle.machine.specs.declared.shapes.Shape.{Shape}
@@ -26,7 +25,7 @@ use Rattle.machine.proofs.Steps.{attempt_check, attempt_is}
 -- ---- its addresses
 
 -- a check for an address, whatever position was found before
-refused : ℕ → Result (ℕ × ℕ) Check
+abbrev refused : ℕ → Result (ℕ × ℕ) Check
 refused first = Err Address
 
 by_place : (inside : Bool) (p : ℕ) → and_then (require inside Address (Ok p)) refused ≡ Err Address
@@ -70,6 +69,9 @@ module _ (s : Storage) (r : Registers) (codes : List ℕ) where
 
 ok_same : (a b : Shape) → ◌≡◌ {A = Result Shape Check} (Ok a) (Ok b) → a ≡ b
 ok_same a b e = cc
+
+err_same : (a b : Check) → ◌≡◌ {A = Result Shape Check} (Err a) (Err b) → a ≡ b
+err_same a b e = cc
 
 module _ (count : ℕ) (codes : List ℕ) where
   pub record IsShaped (shape : Shape) : Type 0 where
@@ -120,12 +122,12 @@ module _ (count : ℕ) (codes : List ℕ) where
 
     unread_by : (form allowed : Bool) (found : Option Addresses) (check : Check) → is_form (slice_index codes 0) count ≡ form → is_last (slice_index codes 0) count (slice_index codes (count - 1)) ≡ allowed →
         addresses_of (addresses_by (slice_index codes 0) count) codes ≡ found → tested form allowed found ≡ Err check → decoded_of s count r codes ≡ Err check
-    unread_by false allowed found check e f g h = form_refused s count r codes (slice_index codes 0) (slice_index codes (count - 1)) refl refl e ∙ h
-    unread_by true false found check e f g h = last_refused s count r codes (slice_index codes 0) (slice_index codes (count - 1)) refl refl e f ∙ h
+    unread_by false allowed found check e f g h = form_refused s count r codes (slice_index codes 0) (slice_index codes (count - 1)) refl refl e ∙ ap Err (err_same Instruction check h)
+    unread_by true false found check e f g h = last_refused s count r codes (slice_index codes 0) (slice_index codes (count - 1)) refl refl e f ∙ ap Err (err_same Instruction check h)
     unread_by true true None check e f g h =
         let operands : operands_of s (addresses_by (slice_index codes 0) count) r codes ≡ Err Address =
         operands_are s r codes (addresses_by (slice_index codes 0) count) ∙ ap (λ t. find_or t Address (operands_at s r)) g in
-        operands_refused s count r codes (slice_index codes 0) (slice_index codes (count - 1)) refl refl (addresses_by (slice_index codes 0) count) Address e f refl (sym operands) ∙ h
+        operands_refused s count r codes (slice_index codes 0) (slice_index codes (count - 1)) refl refl (addresses_by (slice_index codes 0) count) Address e f refl (sym operands) ∙ ap Err (err_same Address check h)
     unread_by true true (Some addresses) check e f g h = absurd (cc)
 
     -- one without a shape
@@ -199,6 +201,7 @@ module _ (s : Storage) (i : ℕ) where
   -- and tests the position of its second address only if it has two
   pub shape_looks_inside : (shape : Shape) (a b size : ℕ) → shape_at s i ≡ Ok shape → (has_two shape.addresses ≡ true → b < size) →
       LooksInside (decoded_by (instruction_at shape a b)).modifier b size
+  unfolding addresses_of
   shape_looks_inside shape a b size h inside =
       let has = has_shape shape h in
       let is = shaped has.count (codes_from s i has.count) shape has.read in
@@ -215,7 +218,6 @@ module _ (s : Storage) (i : ℕ) where
       two_found false false (Some address) (Some other) addresses e f h = ap has_two (sym (same_Some (Two address other) addresses h))
 
       two_read : (count : ℕ) (codes : List ℕ) (addresses : Addresses) → 1 < count → addresses_of count codes ≡ Some addresses → has_two addresses ≡ true
-      unfolding addresses_of
       two_read count codes addresses more h =
           two_found (count == 0) (count == 1) (tagged_at codes 1) (tagged_at codes 4) addresses (ne_eqb count 0 (omega arith)) (ne_eqb count 1 (omega arith)) h
 
@@ -248,7 +250,7 @@ module _ (w : Works) (inside : w.registers.i < length w.storage) where
 
   unread_found : (found : Option ℕ) (check : Check) → word_length w.storage w.registers.i ≡ found →
       find_or found Instruction (λ count. shape_of count (codes_from w.storage w.registers.i count)) ≡ Err check → attempt w ≡ Err check
-  unread_found None check e h = attempt_wordless e ∙ h
+  unread_found None check e h = attempt_wordless e ∙ ap Err (err_same Instruction check h)
   unread_found (Some count) check e h =
       let s = w.storage in
       let i = w.registers.i in

@@ -416,7 +416,7 @@ pub record Reached (old now : State) (done : ℕ) : Type 0 where
   pub machine : after old done ≡ now
   pub attempts : attempts old done ≡ done
 
-after_one : (m : State) → after m 1 ≡ step m
+pub after_one : (m : State) → after m 1 ≡ step m
 unfolding after
 after_one m = refl
 

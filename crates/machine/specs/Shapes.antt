@@ -6,7 +6,7 @@ use Rattle.std.specs.Option.{option_map, option_and_then}
 use Rattle.core_store.specs.Storage.{Storage, codes_from, marks_from}
 use Rattle.core_store.specs.Checked.{require, find_or, and_then}
 use Rattle.core_store.specs.declared.checks.Check.{Check}
-use Rattle.core_store.specs.declared.checks.Check.TheVariants.{Address, Instruction}
+use Rattle.core_store.specs.declared.checks.Check.TheVariants.{Address, Instruction as BadInstruction}
 use Rattle.core_store.specs.declared.registers.Registers.{Registers}
 use Rattle.addresses.specs.Addresses.{Tagged, tagged}
 use Rattle.addresses.specs.Effective.{position_of}
@@ -34,8 +34,8 @@ addresses_of count codes =
 -- the shape of an instruction of so many characters, or the check
 unfoldable pub shape_of : ℕ → List ℕ → Result Shape Check
 shape_of count codes =
-    require (is_form (slice_index codes 0) count) Instruction
-    (require (is_last (slice_index codes 0) count (slice_index codes (count - 1))) Instruction
+    require (is_form (slice_index codes 0) count) BadInstruction
+    (require (is_last (slice_index codes 0) count (slice_index codes (count - 1))) BadInstruction
     (find_or (addresses_of (addresses_by (slice_index codes 0) count) codes) Address (λ addresses.
     Ok (record {
       first = slice_index codes 0;
@@ -47,7 +47,7 @@ shape_of count codes =
 -- the shape of the instruction at position i, or the check
 unfoldable pub shape_at : Storage → ℕ → Result Shape Check
 shape_at s i =
-    find_or (word_length s i) Instruction (λ count. shape_of count (codes_from s i count))
+    find_or (word_length s i) BadInstruction (λ count. shape_of count (codes_from s i count))
 
 -- whether an instruction has an address for each operand
 abbrev pub has_two : Addresses → Bool

@@ -26,6 +26,7 @@ pub struct Entry {
 }
 
 /// Shapes of instructions, each at a place given by the position of its instruction.
+#[derive(Drop)]
 pub struct Cache {
     entries: [Entry; ENTRIES],
     ghost right: { All IsRight entries },

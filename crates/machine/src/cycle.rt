@@ -65,6 +65,7 @@ fn keep<C: Core>(cache: &mut Cache, core: &C, i: u16, shape: Shape)
 
 /// Reads the instruction at register I and executes it. Its shape is kept.
 #[inline(never)]
+#[tactic(auto, unfolding(crate::specs::Effect::attempt))]
 fn attempt_anew<C: Core>(
     core: &mut C,
     registers: &mut Registers,
@@ -112,6 +113,7 @@ fn attempt<C: Core>(
 }
 
 /// How far a machine came.
+#[derive(Clone, Copy)]
 pub(crate) struct Stretch {
     /// The number of instructions attempted.
     pub attempted: u32,
@@ -119,6 +121,7 @@ pub(crate) struct Stretch {
 }
 
 /// That a machine gave up at an instruction that punches or prints, for want of memory.
+#[derive(Clone, Copy)]
 pub(crate) struct GivenUp {
     /// The number of instructions before it.
     pub attempted: u32,
@@ -144,6 +147,7 @@ fn execute_up_to<C: Core>(
         IsWanting (running (works_of (C.cells core.old) registers.old units.old))
         (running (works_of (C.cells core.new) registers.new units.new))
         limit given_up.attempted) }
+    ensures size { length (C.cells core.new) ≡ length (C.cells core.old) }
 {
     let mut cache = Cache::new();
     for attempted in 0..limit {
@@ -155,13 +159,15 @@ fn execute_up_to<C: Core>(
                     standing: Standing::Halted,
                 });
             }
-            Err(Fault::Stopped(check)) => {
-                return Ok(Stretch {
-                    attempted: attempted + 1,
-                    standing: Standing::Checked(check),
-                });
-            }
-            Err(Fault::NoMemory) => return Err(GivenUp { attempted }),
+            Err(fault) => match fault {
+                Fault::Stopped(check) => {
+                    return Ok(Stretch {
+                        attempted: attempted + 1,
+                        standing: Standing::Checked(check),
+                    });
+                }
+                Fault::NoMemory => return Err(GivenUp { attempted }),
+            },
         }
     }
     Ok(Stretch {

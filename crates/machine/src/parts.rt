@@ -1,9 +1,10 @@
 //! The parts of a machine.
 
 ghost use Rattle.std.specs.Prelude.{◌≡◌};
+ghost use Rattle.machine.specs.Run.{event_of};
 ghost use Rattle.machine.specs.Standings.{standing_of};
 
-use crate::standings::{Standing, StandingAt};
+use crate::standings::{Event, Standing, StandingAt};
 use core_store::{Core, Registers};
 use std::marker::Model;
 use units::Units;
@@ -38,5 +39,12 @@ impl<C: Core> Parts<C> {
         ensures { result ≡ standing_of self.now }
     {
         StandingAt::new(self.standing, self.registers.i)
+    }
+
+    /// What a step returns that has left this standing.
+    pub(crate) fn event(&self) -> Event
+        ensures { result ≡ event_of self.now.standing }
+    {
+        self.standing.event()
     }
 }

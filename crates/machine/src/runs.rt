@@ -178,13 +178,12 @@ impl<C: Core> Machine<C> {
         ensures memory { OnErr result (Makes self.old.works.units (step self.old).works.units) }
         ensures unticked { OnErr result (meter.new ≡ meter.old) }
     {
-        match self.parts.work(1) {
-            Ok(attempted) => {
-                meter.advance(attempted);
-                Ok(self.parts.standing.event())
-            }
-            Err(_) => Err(AllocError),
-        }
+        let attempted = match self.parts.work(1) {
+            Ok(attempted) => attempted,
+            Err(_) => return Err(AllocError),
+        };
+        meter.advance(attempted);
+        Ok(self.parts.event())
     }
 
     /// Runs until the limit, a halt or a check. Every attempted instruction ticks the meter. Only

@@ -9,8 +9,5 @@ returns-in-Err g c =
     let inside : w.registers.i < length w.storage = omega arith in
     (attempt_unread w inside c.in-Err.check (sym c.in-Err.ensures), refl)
 
-pub carry_out-requires-below : goal.carry_out-requires-below
-carry_out-requires-below g c = omega (arith, shape_ends (g.C.Core.cells c.args.core.now) c.args.registers.now.i c.in-Ok.shape (sym c.in-Ok.ensures))
-
-pub carry_out-requires-shape : goal.carry_out-requires-shape
-carry_out-requires-shape g c = sym c.in-Ok.ensures
+pub carry_out-requires-clause-below : goal.carry_out-requires-clause-below
+carry_out-requires-clause-below g c = omega (arith, shape_ends (g.C.Core.cells c.args.core.now) c.args.registers.now.i c.in-Ok.shape (sym c.in-Ok.ensures))

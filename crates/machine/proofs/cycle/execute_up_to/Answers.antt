@@ -1,7 +1,6 @@
-use Rattle.std.proofs.Common.{◌∙◌, refl, sym, arith}
-use Rattle.machine.specs.Effect.{works_of}
-use Rattle.machine.specs.Run.{running}
-use Rattle.machine.specs.declared.operations.Course.TheVariants.{GoesOn}
+use Rattle.std.proofs.Common.{◌∙◌, ap, refl, arith, length}
+use Rattle.machine.specs.Effect.{Works, works_of}
+use Rattle.machine.specs.declared.operations.Course.TheVariants.{GoesOn, Halts}
 use Rattle.machine.proofs.Steps.{attempt_size, checked_here, ended_whole, goes_on_here, halted_here, reached_none, wanting_next}
 use Rattle.machine.proofs.cycle.execute_up_to.Goals as goal
 
@@ -28,20 +27,31 @@ returns-in-Ok-Halts-clause-attempted g c =
     let outcome = rw c.in-Ok-Halts.field-0-is at c.in-Ok-Halts.ensures in
     (halted_here _ _ _ _ c.loop-attempted.invariant.reached c.args.limit (omega arith) outcome).attempts
 
-pub returns-in-Err-Stopped-clause-machine : goal.returns-in-Err-Stopped-clause-machine
-returns-in-Err-Stopped-clause-machine g c =
-    let outcome = rw c.in-Err-Stopped.field-0-is at c.in-Err-Stopped.ensures.0 in
-    (checked_here _ _ _ _ c.loop-attempted.invariant.reached c.args.limit _ (omega arith) outcome c.in-Err-Stopped.ensures.1).machine
+pub returns-in-Ok-Halts-clause-size : goal.returns-in-Ok-Halts-clause-size
+returns-in-Ok-Halts-clause-size g c =
+    let outcome = rw c.in-Ok-Halts.field-0-is at c.in-Ok-Halts.ensures in
+    attempt_size _ _ Halts outcome ∙ c.loop-attempted.invariant.size
 
-pub returns-in-Err-Stopped-clause-attempted : goal.returns-in-Err-Stopped-clause-attempted
-returns-in-Err-Stopped-clause-attempted g c =
-    let outcome = rw c.in-Err-Stopped.field-0-is at c.in-Err-Stopped.ensures.0 in
-    (checked_here _ _ _ _ c.loop-attempted.invariant.reached c.args.limit _ (omega arith) outcome c.in-Err-Stopped.ensures.1).attempts
+pub returns-in-Stopped-clause-machine : goal.returns-in-Stopped-clause-machine
+returns-in-Stopped-clause-machine g c =
+    let outcome = rw c.in-Stopped.is at c.in-Err.ensures.0 in
+    (checked_here _ _ _ _ c.loop-attempted.invariant.reached c.args.limit c.in-Stopped.check (omega arith) outcome c.in-Err.ensures.1).machine
 
-pub returns-in-Err-NoMemory-clause-given_up : goal.returns-in-Err-NoMemory-clause-given_up
-returns-in-Err-NoMemory-clause-given_up g c =
-    let makes = rw c.in-Err-NoMemory.field-0-is at c.in-Err-NoMemory.ensures.0 in
-    wanting_next _ _ _ _ c.loop-attempted.invariant.reached c.args.limit (omega arith) makes c.in-Err-NoMemory.ensures.1
+pub returns-in-Stopped-clause-attempted : goal.returns-in-Stopped-clause-attempted
+returns-in-Stopped-clause-attempted g c =
+    let outcome = rw c.in-Stopped.is at c.in-Err.ensures.0 in
+    (checked_here _ _ _ _ c.loop-attempted.invariant.reached c.args.limit c.in-Stopped.check (omega arith) outcome c.in-Err.ensures.1).attempts
+
+pub returns-in-Stopped-clause-size : goal.returns-in-Stopped-clause-size
+returns-in-Stopped-clause-size g c = ap (λ (w : Works). length w.storage) c.in-Err.ensures.1 ∙ c.loop-attempted.invariant.size
+
+pub returns-in-NoMemory-clause-given_up : goal.returns-in-NoMemory-clause-given_up
+returns-in-NoMemory-clause-given_up g c =
+    let makes = rw c.in-NoMemory.is at c.in-Err.ensures.0 in
+    wanting_next _ _ _ _ c.loop-attempted.invariant.reached c.args.limit (omega arith) makes c.in-Err.ensures.1
+
+pub returns-in-NoMemory-clause-size : goal.returns-in-NoMemory-clause-size
+returns-in-NoMemory-clause-size g c = ap (λ (w : Works). length w.storage) c.in-Err.ensures.1 ∙ c.loop-attempted.invariant.size
 
 pub returns-clause-machine : goal.returns-clause-machine
 returns-clause-machine g c = (ended_whole _ _ _ c.loop-attempted.invariant.reached c.args.limit (omega arith)).machine

@@ -14,10 +14,11 @@ returns-then-not-allows-clause-shape g c =
     unallowed c.args.word.length (codes_from (g.C.Core.cells c.args.core.now) c.args.word.first c.args.word.length) c.character-first.result c.character-last.result c.character-first.ensures c.character-last.ensures
     (sym c.has_form.ensures ∙ c.if-not-has_form.false) (sym c.allows.ensures ∙ c.if-not-allows.true)
 
-pub returns-in-None-clause-shape : goal.returns-in-None-clause-shape
-returns-in-None-clause-shape g c =
+pub returns-in_default-clause-shape : goal.returns-in_default-clause-shape
+returns-in_default-clause-shape g c =
     unaddressed c.args.word.length (codes_from (g.C.Core.cells c.args.core.now) c.args.word.first c.args.word.length) c.character-first.result c.character-last.result c.character-first.ensures c.character-last.ensures
-    c.addresses_in.result (sym c.has_form.ensures ∙ c.if-not-has_form.false) (sym c.allows.ensures ∙ c.if-not-allows.false) c.addresses_in.ensures.count c.in-None.ensures
+    c.addresses_in.result (sym c.has_form.ensures ∙ c.if-not-has_form.false) (sym c.allows.ensures ∙ c.if-not-allows.false) c.addresses_in.ensures.count
+    (sym c.in_default.is ∙ c.addresses.ensures)
 
 pub returns-clause-shape : goal.returns-clause-shape
 returns-clause-shape g c =

@@ -1,8 +1,8 @@
-use Rattle.std.proofs.Common.{◌≡◌, ◌≤◌, ◌∙◌, ap, sym, arith, length, true}
+use Rattle.std.proofs.Common.{◌≡◌, ◌∙◌, ap, sym, arith}
 use Rattle.machine.specs.Effect.{works_of}
-use Rattle.machine.specs.Run.{State, after, attempts, is_running, running, IsWanting}
-use Rattle.machine.proofs.Steps.{ended_at_once, running_is, stems_after, stems_same, wanting_stems}
-use Rattle.machine.proofs.cycle.Parts.work.Goals as goal
+use Rattle.machine.specs.Run.{State, after, attempts, running}
+use Rattle.machine.proofs.Steps.{ended_at_once, running_is}
+use Rattle.machine.proofs.parts.Parts.work.Goals as goal
 
 pub returns-then-not-is_running-clause-machine : goal.returns-then-not-is_running-clause-machine
 returns-then-not-is_running-clause-machine g c = (ended_at_once c.args.self.now c.args.limit (sym c.is_running.ensures ∙ c.if-not-is_running.true)).machine
@@ -23,3 +23,9 @@ returns-clause-attempted g c =
     let w = works_of (g.C.Core.cells c.self.inside.core) c.self.inside.registers c.self.inside.units in
     let began : running w ≡ m = running_is m w (ap (λ (x : State). x.works) c.self.view_is) (sym c.is_running.ensures ∙ c.if-not-is_running.false) in
     c.in_ok-stretch.ensures.attempted ∙ ap (λ (x : State). attempts x c.args.limit) began
+
+pub invariant_of-self : goal.invariant_of-self
+invariant_of-self g c = omega (arith, c.execute_up_to.ensures.size, c.self.invariant)
+
+pub invariant_of-self-2 : goal.invariant_of-self-2
+invariant_of-self-2 g c = omega (arith, c.execute_up_to.ensures.size, c.self.invariant)
