@@ -1,6 +1,8 @@
 //! The effective position of an address in a storage.
 
-ghost use Rattle.std.specs.Prelude.{◌≡◌, ◌<◌, ◌≤◌, ℕ, length, Some, IfSome, IfOk};
+ghost use Rattle.std.specs.Prelude.{◌≡◌, ◌<◌, ◌≤◌, ℕ, nat_lt, length, Some, IfSome, Ok, IfOk};
+ghost use Rattle.core_store.specs.Checked.{require};
+ghost use Rattle.core_store.specs.declared.checks.Check.TheVariants.{Address};
 ghost use Rattle.core_store.specs.Storage.{largest_size};
 ghost use Rattle.addresses.specs.Effective.{base_ending, with_index, effective, position_of};
 
@@ -26,7 +28,7 @@ pub fn base_ending<C: Core>(core: &C, position: u16) -> Option<u16>
 }
 
 /// A base plus the number at an index location, modulo 16000.
-#[inline(never)]
+#[inline(always)]
 #[tactic(auto, unfolding(crate::specs::Effective::with_index))]
 fn with_index<C: Core>(core: &C, base: u16, location: IndexLocation) -> Result<u16, Check>
     ensures number { result ≡ with_index (C.cells core.now) base (Some location) }
@@ -44,7 +46,6 @@ fn with_index<C: Core>(core: &C, base: u16, location: IndexLocation) -> Result<u
 
 /// The number that an address represents, always below 16000: its base, plus the number at its
 /// index location if it names one. Check ADDRESS if the index location cannot be read.
-#[inline(always)]
 #[tactic(auto, unfolding(crate::specs::Effective::with_index))]
 pub fn effective_address<C: Core>(core: &C, tagged: Tagged) -> Result<u16, Check>
     ensures number { result ≡ effective (C.cells core.now) tagged }
@@ -56,15 +57,33 @@ pub fn effective_address<C: Core>(core: &C, tagged: Tagged) -> Result<u16, Check
     }
 }
 
+/// The position that an address with an index location represents. It is outside the storage if the
+/// index location cannot be read.
+#[inline(never)]
+#[tactic(auto, unfolding(crate::specs::Effective::with_index))]
+fn indexed_position<C: Core>(core: &C, base: u16, location: IndexLocation) -> u16
+    ensures { position_of (C.cells core.now) (record { base = base; index = Some location })
+        ≡ require (nat_lt result (length (C.cells core.now))) Address (Ok result) }
+{
+    match with_index(core, base, location) {
+        Ok(position) => position,
+        Err(_) => core.size(),
+    }
+}
+
 /// The position of a storage that an address represents. Check ADDRESS if its index location cannot
 /// be read or the position is outside the storage.
 #[inline(always)]
+#[tactic(auto, unfolding(crate::specs::Effective::with_index))]
 pub fn position<C: Core>(core: &C, address: Tagged) -> Result<u16, Check>
     ensures position { result ≡ position_of (C.cells core.now) address }
     ensures inside { IfOk result (λ position. position < length (C.cells core.now)) }
     ensures below { IfOk result (λ position. position < largest_size) }
 {
-    let position = effective_address(core, address)?;
+    let position = match address.index {
+        None => address.base,
+        Some(location) => indexed_position(core, address.base, location),
+    };
     if position < core.size() {
         Ok(position)
     } else {

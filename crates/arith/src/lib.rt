@@ -24,6 +24,6 @@ mod zeros;
 pub use bases::modify;
 pub use decimal::spelled_is_read;
 pub use operands::{Counts, counts_are_of_fields};
-pub use ranks::{compare, order_is_by_the_first_difference};
-pub use sums::{add, subtract};
+pub use ranks::{compare, compare_at_once, order_is_by_the_first_difference};
+pub use sums::{add, add_at_once, subtract, subtract_at_once};
 pub use zeros::{zero_add, zero_subtract};

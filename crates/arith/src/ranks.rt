@@ -1,6 +1,6 @@
 //! Compare, by the ranks of characters.
 
-ghost use Rattle.std.specs.Prelude.{◌≡◌, ◌+◌, ◌<◌, ◌≤◌, ◌==◌, not, ℕ, List, length};
+ghost use Rattle.std.specs.Prelude.{◌≡◌, ◌+◌, ◌<◌, ◌≤◌, ◌==◌, not, ℕ, List, true, false, length, Ok};
 ghost use Rattle.std.specs.Simd.Lanes.{mask_l, zip2};
 ghost use Rattle.bcd.specs.Table.{rank_of};
 ghost use Rattle.core_store.specs.Doing.{Does};
@@ -110,20 +110,34 @@ fn near_comparison<C: Core>(core: &C, a: u16, b: u16, counts: Counts) -> Compare
     }
 }
 
+/// Compares as `compare` does, at most sixteen characters, all at once, of fields that end at
+/// position 15 or later. Returns whether it did; if not, nothing is changed.
+#[inline(always)]
+#[tactic(auto, unfolding(crate::specs::Order::compared))]
+pub fn compare_at_once<C: Core>(core: &C, registers: &mut Registers) -> bool
+    ensures done { result ≡ true → compared (C.cells core.now) registers.old
+        ≡ Ok (C.cells core.now, registers.new) }
+    ensures unchanged { result ≡ false → registers.new ≡ registers.old }
+{
+    let Registers { a, b, .. } = *registers;
+    let Some(counts) = near_counts(core, a, b) else {
+        return false;
+    };
+    registers.compare = near_comparison(core, a, b, counts);
+    registers.lower(counts.a, counts.b);
+    true
+}
+
 /// Compares the cut at A with the B field, and sets the indicator. Storage is unchanged. Fails with
 /// check ADDRESS as `counts_at` does.
-#[tactic(auto, unfolding(crate::specs::Order::compared))]
 pub fn compare<C: Core>(core: &mut C, registers: &mut Registers) -> Result<(), Check>
     ensures { Does result (C.cells core.old) registers.old
         (C.cells core.new) registers.new compared }
 {
-    let Registers { a, b, .. } = *registers;
-    let Some(counts) = near_counts(core, a, b) else {
-        return compare_far(core, registers);
-    };
-    registers.compare = near_comparison(core, a, b, counts);
-    registers.lower(counts.a, counts.b);
-    Ok(())
+    if compare_at_once(core, registers) {
+        return Ok(());
+    }
+    compare_far(core, registers)
 }
 
 /// Compares as `compare` does, fields of any length.

@@ -31,6 +31,30 @@ pub fn subtract<C: Core>(core: &mut C, registers: &mut Registers) -> Result<(), 
     combine(core, registers, true)
 }
 
+/// Adds as `add` does, all digits at once, where that is possible. Returns whether it did; if not,
+/// nothing is changed.
+#[inline(always)]
+pub fn add_at_once<C: Core>(core: &mut C, registers: &mut Registers) -> bool
+    ensures done { result ≡ true → added false (C.cells core.old) registers.old
+        ≡ Ok (C.cells core.new, registers.new) }
+    ensures unchanged { result ≡ false → (C.cells core.new ≡ C.cells core.old)
+        × (registers.new ≡ registers.old) }
+{
+    combine_near(core, registers, false)
+}
+
+/// Subtracts as `subtract` does, all digits at once, where that is possible. Returns whether it did;
+/// if not, nothing is changed.
+#[inline(always)]
+pub fn subtract_at_once<C: Core>(core: &mut C, registers: &mut Registers) -> bool
+    ensures done { result ≡ true → added true (C.cells core.old) registers.old
+        ≡ Ok (C.cells core.new, registers.new) }
+    ensures unchanged { result ≡ false → (C.cells core.new ≡ C.cells core.old)
+        × (registers.new ≡ registers.old) }
+{
+    combine_near(core, registers, true)
+}
+
 /// Adds the A digits to the B field. A subtraction reverses the sign of A.
 #[inline(always)]
 fn combine<C: Core>(core: &mut C, registers: &mut Registers, reversed: bool) -> Result<(), Check>

@@ -198,6 +198,13 @@ module _ (s : Storage) (i : ℕ) where
       let is = shaped has.count (codes_from s i has.count) shape has.read in
       omega (arith, (length_most s i has.count has.found).1, is.size)
 
+  -- and has at most eight characters
+  pub shape_short : (shape : Shape) → shape_at s i ≡ Ok shape → shape.length ≤ 8
+  shape_short shape h =
+      let has = has_shape shape h in
+      let is = shaped has.count (codes_from s i has.count) shape has.read in
+      omega (arith, (length_most s i has.count has.found).0, is.size)
+
   -- and tests the position of its second address only if it has two
   pub shape_looks_inside : (shape : Shape) (a b size : ℕ) → shape_at s i ≡ Ok shape → (has_two shape.addresses ≡ true → b < size) →
       LooksInside (decoded_by (instruction_at shape a b)).modifier b size
@@ -222,6 +229,10 @@ module _ (s : Storage) (i : ℕ) where
           two_found (count == 0) (count == 1) (tagged_at codes 1) (tagged_at codes 4) addresses (ne_eqb count 0 (omega arith)) (ne_eqb count 1 (omega arith)) h
 
 -- ---- attempts
+
+-- the position after an instruction before the last of storage
+pub next_within : (i count : ℕ) → i + count < 16000 → next_of i count ≡ i + count
+next_within i count within = omega arith
 
 module _ (w : Works) (inside : w.registers.i < length w.storage) where
   pub attempt_shaped : (shape : Shape) (a b : ℕ) → shape_at w.storage w.registers.i ≡ Ok shape → operands_at w.storage w.registers shape.addresses ≡ Ok (a, b) →

@@ -12,6 +12,10 @@ use bcd::Code;
 /// The number of entries.
 const ENTRIES: usize = 512;
 
+/// The number of positions that are looked at for a kept shape: eight characters, nine marks, and
+/// what is read with them.
+pub const LOOKED_AT: u16 = 16;
+
 /// Marks that stand nowhere, since nine positions have nine bits.
 const NO_MARKS: u64 = 512;
 

@@ -7,7 +7,8 @@ ghost use Rattle.units.specs.Units.{areas_end};
 ghost use Rattle.machine.specs.Shapes.{shape_at};
 ghost use Rattle.machine.specs.Run.{after, attempts, is_running, running, IsWanting};
 
-use crate::cache::Cache;
+use crate::at_once::execute_kept;
+use crate::cache::{Cache, LOOKED_AT};
 use crate::decode::{operands, read_shape};
 use crate::operations::{Course, execute};
 use crate::parts::Parts;
@@ -15,10 +16,6 @@ use crate::shapes::Shape;
 use crate::standings::Standing;
 use core_store::{Check, Core, LARGEST_SIZE, Registers};
 use units::{Fault, Units};
-
-/// The number of positions that are looked at for a kept shape: the eight characters of the longest
-/// instruction, nine marks, and what is read with them.
-const LOOKED_AT: u16 = 16;
 
 /// The position after an instruction of `count` characters, modulo 16000.
 #[inline(always)]
@@ -90,7 +87,7 @@ fn attempt_anew<C: Core>(
 
 /// Executes the instruction at register I. Its shape is the one kept for its position, if it was
 /// read from what stands there now; else it is read.
-#[inline(always)]
+#[inline(never)]
 fn attempt<C: Core>(
     core: &mut C,
     registers: &mut Registers,
@@ -151,6 +148,9 @@ fn execute_up_to<C: Core>(
 {
     let mut cache = Cache::new();
     for attempted in 0..limit {
+        if execute_kept(core, registers, units, &cache) {
+            continue;
+        }
         match attempt(core, registers, units, &mut cache) {
             Ok(Course::GoesOn) => {}
             Ok(Course::Halts) => {

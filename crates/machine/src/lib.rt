@@ -13,6 +13,7 @@
 //! them ([`earlier_outputs_stay_in_front`]).
 #![tactic(auto)]
 
+mod at_once;
 mod branches;
 mod cache;
 mod characters;

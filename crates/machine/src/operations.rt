@@ -211,7 +211,7 @@ fn branch_on_character<C: Core>(
 
 /// Branches, on a condition or on a character at a position.
 #[inline(always)]
-fn branch<C: Core>(
+pub fn branch<C: Core>(
     core: &C,
     registers: &mut Registers,
     units: &Units,

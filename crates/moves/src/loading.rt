@@ -1,6 +1,6 @@
 //! A field loaded with its word mark.
 
-ghost use Rattle.std.specs.Prelude.{◌≡◌, ◌+◌, ◌-◌, ◌<◌, ◌≤◌, ℕ, Some, length, Ok};
+ghost use Rattle.std.specs.Prelude.{◌≡◌, ◌+◌, ◌-◌, ◌<◌, ◌≤◌, ℕ, true, false, Some, length, Ok};
 ghost use Rattle.core_store.specs.Doing.{Does};
 ghost use Rattle.core_store.specs.Storage.{Storage, cells_ending, field_length, put_cells, largest_size};
 ghost use Rattle.core_store.specs.declared.registers.Registers.{Registers};
@@ -29,22 +29,36 @@ fn load_near<C: Core>(core: &mut C, a: u16, b: u16, count: u16)
     core.set_mark(b + 1 - count);
 }
 
+/// Loads as `load_field` does, at most sixteen characters, all at once, of fields that end at
+/// position 15 or later. Returns whether it did; if not, nothing is changed.
+#[inline(always)]
+pub fn load_at_once<C: Core>(core: &mut C, registers: &mut Registers) -> bool
+    ensures done { result ≡ true → field_loaded (C.cells core.old) registers.old
+        ≡ Ok (C.cells core.new, registers.new) }
+    ensures unchanged { result ≡ false → (C.cells core.new ≡ C.cells core.old)
+        × (registers.new ≡ registers.old) }
+{
+    let Registers { a, b, .. } = *registers;
+    let Some(count) = near_field(core, a, b) else {
+        return false;
+    };
+    load_near(core, a, b, count);
+    registers.lower(count, count);
+    true
+}
+
 /// Copies the field at A to B with its word mark, and clears the other marks there. Check ADDRESS
 /// if A or B is outside the storage, if the field would pass position 000 at A or at B, or if it
 /// would be overwritten before it is read.
 #[inline(never)]
-#[tactic(auto)]
 pub fn load_field<C: Core>(core: &mut C, registers: &mut Registers) -> Result<(), Check>
     ensures { Does result (C.cells core.old) registers.old
         (C.cells core.new) registers.new field_loaded }
 {
-    let Registers { a, b, .. } = *registers;
-    let Some(count) = near_field(core, a, b) else {
-        return load_far(core, registers);
-    };
-    load_near(core, a, b, count);
-    registers.lower(count, count);
-    Ok(())
+    if load_at_once(core, registers) {
+        return Ok(());
+    }
+    load_far(core, registers)
 }
 
 /// Loads as `load_field` does, a field of any length.

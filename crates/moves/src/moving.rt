@@ -140,20 +140,34 @@ fn move_near<C: Core>(core: &mut C, a: u16, b: u16, count: u16)
     put_last(core, b, count, codes);
 }
 
+/// Moves as `move_field` does, at most sixteen characters, all at once, of fields that end at
+/// position 15 or later. Returns whether it did; if not, nothing is changed.
+#[inline(always)]
+pub fn move_at_once<C: Core>(core: &mut C, registers: &mut Registers) -> bool
+    ensures done { result ≡ true → moved (C.cells core.old) registers.old
+        ≡ Ok (C.cells core.new, registers.new) }
+    ensures unchanged { result ≡ false → (C.cells core.new ≡ C.cells core.old)
+        × (registers.new ≡ registers.old) }
+{
+    let Registers { a, b, .. } = *registers;
+    let Some(count) = near_count(core, a, b) else {
+        return false;
+    };
+    move_near(core, a, b, count);
+    registers.lower(count, count);
+    true
+}
+
 /// Moves characters from the field at A to the field at B, up to the first mark in either. Marks
 /// stay. Check ADDRESS if A or B is outside the storage or a field would pass position 000.
-#[inline(always)]
 pub fn move_field<C: Core>(core: &mut C, registers: &mut Registers) -> Result<(), Check>
     ensures { Does result (C.cells core.old) registers.old
         (C.cells core.new) registers.new moved }
 {
-    let Registers { a, b, .. } = *registers;
-    let Some(count) = near_count(core, a, b) else {
-        return move_far(core, registers);
-    };
-    move_near(core, a, b, count);
-    registers.lower(count, count);
-    Ok(())
+    if move_at_once(core, registers) {
+        return Ok(());
+    }
+    move_far(core, registers)
 }
 
 /// Moves as `move_field` does, fields of any length.
