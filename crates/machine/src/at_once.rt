@@ -4,13 +4,13 @@
 //! fields of at most sixteen characters, or branch. These are done here, and all others as in
 //! `cycle`.
 
-ghost use Rattle.std.specs.Prelude.{◌≡◌, ◌≤◌, ◌<◌, ℕ, true, false, length, Ok};
+ghost use Rattle.std.specs.Prelude.{◌≡◌, ◌≤◌, ◌<◌, ℕ, true, false, length, IfSome, Ok};
 ghost use Rattle.core_store.specs.Storage.{largest_size};
 ghost use Rattle.units.specs.declared.units.Units.{Units};
 ghost use Rattle.units.specs.Units.{areas_end};
 ghost use Rattle.machine.specs.declared.named.Operation.TheVariants.{OnFields};
 ghost use Rattle.machine.specs.declared.operations.Course.TheVariants.{GoesOn};
-ghost use Rattle.machine.specs.Effect.{attempt, effect, worked, works_of};
+ghost use Rattle.machine.specs.Effect.{IsReady, attempt, effect, worked, works_of};
 ghost use Rattle.machine.specs.Instructions.{decoded_by};
 ghost use Rattle.machine.specs.Word.{LooksInside};
 
@@ -78,6 +78,36 @@ fn work_on_fields_at_once<C: Core>(
     true
 }
 
+/// An instruction that is ready to be executed.
+#[derive(Clone, Copy)]
+pub struct Prepared {
+    pub instruction: Instruction,
+    /// The position after it.
+    pub next: u16,
+}
+
+/// The instruction at register I, if its shape is kept and its operands are inside the storage.
+#[inline(always)]
+pub fn prepare<C: Core>(core: &C, registers: &Registers, cache: &Cache) -> Option<Prepared>
+    requires { areas_end ≤ length (C.cells core.now) }
+    ensures { (units : Units) → IfSome result (λ prepared.
+        IsReady prepared (works_of (C.cells core.now) registers.now units)) }
+{
+    let i = registers.i;
+    if i > core.size() - LOOKED_AT {
+        return None;
+    }
+    let shape = cache.shape(i, core.eight_codes(i), core.nine_marks(i))?;
+    let (a, b) = match operands(core, registers, &shape.addresses) {
+        Ok(operands) => operands,
+        Err(_) => return None,
+    };
+    Some(Prepared {
+        instruction: shape.working_at(a, b),
+        next: i + shape.length,
+    })
+}
+
 /// Executes one of the usual operations, if it can be done at once. Returns whether it was; if not,
 /// nothing is changed.
 #[inline(always)]
@@ -112,33 +142,25 @@ fn execute_at_once<C: Core>(
     }
 }
 
-/// Executes the instruction at register I, if its shape is kept and it can be done at once. Returns
+/// Executes the instruction that is ready, if there is one and it can be done at once. Returns
 /// whether it was; if not, nothing is changed.
 #[inline(always)]
-pub fn execute_kept<C: Core>(
+pub fn attempt_at_once<C: Core>(
     core: &mut C,
     registers: &mut Registers,
     units: &Units,
-    cache: &Cache,
+    prepared: &Option<Prepared>,
 ) -> bool
-    requires { areas_end ≤ length (C.cells core.old) }
+    requires { IfSome prepared.now (λ ready.
+        IsReady ready (works_of (C.cells core.old) registers.old units.now)) }
     ensures done { result ≡ true →
         attempt (works_of (C.cells core.old) registers.old units.now)
         ≡ Ok (works_of (C.cells core.new) registers.new units.now, GoesOn) }
     ensures unchanged { result ≡ false → (C.cells core.new ≡ C.cells core.old)
         × (registers.new ≡ registers.old) }
 {
-    let i = registers.i;
-    if i > core.size() - LOOKED_AT {
-        return false;
+    match prepared {
+        Some(ready) => execute_at_once(core, registers, units, ready.instruction, ready.next),
+        None => false,
     }
-    let Some(shape) = cache.shape(i, core.eight_codes(i), core.nine_marks(i)) else {
-        return false;
-    };
-    let (a, b) = match operands(core, registers, &shape.addresses) {
-        Ok(operands) => operands,
-        Err(_) => return false,
-    };
-    let next = i + shape.length;
-    execute_at_once(core, registers, units, shape.working_at(a, b), next)
 }

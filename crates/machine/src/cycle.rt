@@ -1,13 +1,13 @@
 //! The instruction cycle.
 
-ghost use Rattle.std.specs.Prelude.{◌≡◌, ◌+◌, ◌%◌, ◌<◌, ◌≤◌, ℕ, length, Ok, OnOk, IfOk, IfErr};
+ghost use Rattle.std.specs.Prelude.{◌≡◌, ◌+◌, ◌%◌, ◌<◌, ◌≤◌, ℕ, length, Ok, OnOk, IfSome, IfOk, IfErr};
 ghost use Rattle.core_store.specs.Storage.{largest_size};
-ghost use Rattle.machine.specs.Effect.{attempt, works_of, Ends, next_of};
+ghost use Rattle.machine.specs.Effect.{attempt, works_of, Ends, IsReady, next_of};
 ghost use Rattle.units.specs.Units.{areas_end};
 ghost use Rattle.machine.specs.Shapes.{shape_at};
 ghost use Rattle.machine.specs.Run.{after, attempts, is_running, running, IsWanting};
 
-use crate::at_once::execute_kept;
+use crate::at_once::{Prepared, attempt_at_once, prepare};
 use crate::cache::{Cache, LOOKED_AT};
 use crate::decode::{operands, read_shape};
 use crate::operations::{Course, execute};
@@ -85,28 +85,42 @@ fn attempt_anew<C: Core>(
     carry_out(core, registers, units, &shape)
 }
 
-/// Executes the instruction at register I. Its shape is the one kept for its position, if it was
-/// read from what stands there now; else it is read.
+/// Executes an instruction that is ready.
 #[inline(never)]
+fn execute_prepared<C: Core>(
+    core: &mut C,
+    registers: &mut Registers,
+    units: &mut Units,
+    prepared: Prepared,
+) -> Result<Course, Fault>
+    requires size { areas_end ≤ length (C.cells core.old) }
+    requires ready { IsReady prepared (works_of (C.cells core.old) registers.old units.old) }
+    ensures { Ends result (works_of (C.cells core.old) registers.old units.old)
+        (works_of (C.cells core.new) registers.new units.new) attempt }
+{
+    let Prepared { instruction, next } = prepared;
+    execute(core, registers, units, instruction, next)
+}
+
+/// Executes the instruction at register I: the one that is ready, or else as it is read.
+#[inline(always)]
 fn attempt<C: Core>(
     core: &mut C,
     registers: &mut Registers,
     units: &mut Units,
     cache: &mut Cache,
+    prepared: &Option<Prepared>,
 ) -> Result<Course, Fault>
-    requires { areas_end ≤ length (C.cells core.old) }
+    requires size { areas_end ≤ length (C.cells core.old) }
+    requires ready { IfSome prepared.now (λ ready.
+        IsReady ready (works_of (C.cells core.old) registers.old units.old)) }
     ensures { Ends result (works_of (C.cells core.old) registers.old units.old)
         (works_of (C.cells core.new) registers.new units.new) attempt }
 {
-    let i = registers.i;
-    if i <= core.size() - LOOKED_AT {
-        let characters = core.eight_codes(i);
-        let marks = core.nine_marks(i);
-        if let Some(shape) = cache.shape(i, characters, marks) {
-            return carry_out(core, registers, units, shape);
-        }
+    match prepared {
+        Some(ready) => execute_prepared(core, registers, units, *ready),
+        None => attempt_anew(core, registers, units, cache),
     }
-    attempt_anew(core, registers, units, cache)
 }
 
 /// How far a machine came.
@@ -148,10 +162,11 @@ fn execute_up_to<C: Core>(
 {
     let mut cache = Cache::new();
     for attempted in 0..limit {
-        if execute_kept(core, registers, units, &cache) {
+        let prepared = prepare(core, registers, &cache);
+        if attempt_at_once(core, registers, units, &prepared) {
             continue;
         }
-        match attempt(core, registers, units, &mut cache) {
+        match attempt(core, registers, units, &mut cache, &prepared) {
             Ok(Course::GoesOn) => {}
             Ok(Course::Halts) => {
                 return Ok(Stretch {

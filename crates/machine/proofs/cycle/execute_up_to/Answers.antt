@@ -9,11 +9,11 @@ loop-attempted-init g c = record { reached = reached_none _; size = refl }
 
 -- the instruction was done at once
 
-pub loop-attempted-preserved-then-execute_kept : goal.loop-attempted-preserved-then-execute_kept
-loop-attempted-preserved-then-execute_kept g c =
+pub loop-attempted-preserved-then-attempt_at_once : goal.loop-attempted-preserved-then-attempt_at_once
+loop-attempted-preserved-then-attempt_at_once g c =
     let w = works_of (g.C.Core.cells c.loop-attempted.core) c.loop-attempted.registers c.loop-attempted.units in
-    let x = works_of (g.C.Core.cells c.execute_kept.new.core) c.execute_kept.new.registers c.loop-attempted.units in
-    let outcome = c.execute_kept.ensures.done c.if-execute_kept.true in
+    let x = works_of (g.C.Core.cells c.attempt_at_once.new.core) c.attempt_at_once.new.registers c.loop-attempted.units in
+    let outcome = c.attempt_at_once.ensures.done c.if-attempt_at_once.true in
     record {
       reached = goes_on_here _ w x _ c.loop-attempted.invariant.reached outcome;
       size = attempt_size w x GoesOn outcome ∙ c.loop-attempted.invariant.size;
@@ -24,8 +24,8 @@ loop-attempted-preserved-then-execute_kept g c =
 pub loop-attempted-preserved : goal.loop-attempted-preserved
 loop-attempted-preserved g c =
     let w = works_of (g.C.Core.cells c.loop-attempted.core) c.loop-attempted.registers c.loop-attempted.units in
-    let v = works_of (g.C.Core.cells c.execute_kept.new.core) c.execute_kept.new.registers c.loop-attempted.units in
-    let kept = c.execute_kept.ensures.unchanged c.if-execute_kept.false in
+    let v = works_of (g.C.Core.cells c.attempt_at_once.new.core) c.attempt_at_once.new.registers c.loop-attempted.units in
+    let kept = c.attempt_at_once.ensures.unchanged c.if-attempt_at_once.false in
     let same : v ≡ w = rw (kept.0, kept.1) refl in
     let x = works_of (g.C.Core.cells c.attempt.new.core) c.attempt.new.registers c.attempt.new.units in
     let outcome = rw c.in-Ok-GoesOn.field-0-is at c.in-Ok-GoesOn.ensures in
@@ -37,8 +37,8 @@ loop-attempted-preserved g c =
 pub returns-in-Ok-Halts-clause-machine : goal.returns-in-Ok-Halts-clause-machine
 returns-in-Ok-Halts-clause-machine g c =
     let w = works_of (g.C.Core.cells c.loop-attempted.core) c.loop-attempted.registers c.loop-attempted.units in
-    let v = works_of (g.C.Core.cells c.execute_kept.new.core) c.execute_kept.new.registers c.loop-attempted.units in
-    let kept = c.execute_kept.ensures.unchanged c.if-execute_kept.false in
+    let v = works_of (g.C.Core.cells c.attempt_at_once.new.core) c.attempt_at_once.new.registers c.loop-attempted.units in
+    let kept = c.attempt_at_once.ensures.unchanged c.if-attempt_at_once.false in
     let same : v ≡ w = rw (kept.0, kept.1) refl in
     let outcome = rw c.in-Ok-Halts.field-0-is at c.in-Ok-Halts.ensures in
     (halted_here _ v _ _ (reached_as _ w v _ same c.loop-attempted.invariant.reached) c.args.limit (omega arith) outcome).machine
@@ -46,8 +46,8 @@ returns-in-Ok-Halts-clause-machine g c =
 pub returns-in-Ok-Halts-clause-attempted : goal.returns-in-Ok-Halts-clause-attempted
 returns-in-Ok-Halts-clause-attempted g c =
     let w = works_of (g.C.Core.cells c.loop-attempted.core) c.loop-attempted.registers c.loop-attempted.units in
-    let v = works_of (g.C.Core.cells c.execute_kept.new.core) c.execute_kept.new.registers c.loop-attempted.units in
-    let kept = c.execute_kept.ensures.unchanged c.if-execute_kept.false in
+    let v = works_of (g.C.Core.cells c.attempt_at_once.new.core) c.attempt_at_once.new.registers c.loop-attempted.units in
+    let kept = c.attempt_at_once.ensures.unchanged c.if-attempt_at_once.false in
     let same : v ≡ w = rw (kept.0, kept.1) refl in
     let outcome = rw c.in-Ok-Halts.field-0-is at c.in-Ok-Halts.ensures in
     (halted_here _ v _ _ (reached_as _ w v _ same c.loop-attempted.invariant.reached) c.args.limit (omega arith) outcome).attempts
@@ -55,8 +55,8 @@ returns-in-Ok-Halts-clause-attempted g c =
 pub returns-in-Ok-Halts-clause-size : goal.returns-in-Ok-Halts-clause-size
 returns-in-Ok-Halts-clause-size g c =
     let w = works_of (g.C.Core.cells c.loop-attempted.core) c.loop-attempted.registers c.loop-attempted.units in
-    let v = works_of (g.C.Core.cells c.execute_kept.new.core) c.execute_kept.new.registers c.loop-attempted.units in
-    let kept = c.execute_kept.ensures.unchanged c.if-execute_kept.false in
+    let v = works_of (g.C.Core.cells c.attempt_at_once.new.core) c.attempt_at_once.new.registers c.loop-attempted.units in
+    let kept = c.attempt_at_once.ensures.unchanged c.if-attempt_at_once.false in
     let same : v ≡ w = rw (kept.0, kept.1) refl in
     let outcome = rw c.in-Ok-Halts.field-0-is at c.in-Ok-Halts.ensures in
     attempt_size v _ Halts outcome ∙ ap (λ (u : Works). length u.storage) same ∙ c.loop-attempted.invariant.size
@@ -64,8 +64,8 @@ returns-in-Ok-Halts-clause-size g c =
 pub returns-in-Stopped-clause-machine : goal.returns-in-Stopped-clause-machine
 returns-in-Stopped-clause-machine g c =
     let w = works_of (g.C.Core.cells c.loop-attempted.core) c.loop-attempted.registers c.loop-attempted.units in
-    let v = works_of (g.C.Core.cells c.execute_kept.new.core) c.execute_kept.new.registers c.loop-attempted.units in
-    let kept = c.execute_kept.ensures.unchanged c.if-execute_kept.false in
+    let v = works_of (g.C.Core.cells c.attempt_at_once.new.core) c.attempt_at_once.new.registers c.loop-attempted.units in
+    let kept = c.attempt_at_once.ensures.unchanged c.if-attempt_at_once.false in
     let same : v ≡ w = rw (kept.0, kept.1) refl in
     let outcome = rw c.in-Stopped.is at c.in-Err.ensures.0 in
     (checked_here _ v _ _ (reached_as _ w v _ same c.loop-attempted.invariant.reached) c.args.limit c.in-Stopped.check (omega arith) outcome c.in-Err.ensures.1).machine
@@ -73,8 +73,8 @@ returns-in-Stopped-clause-machine g c =
 pub returns-in-Stopped-clause-attempted : goal.returns-in-Stopped-clause-attempted
 returns-in-Stopped-clause-attempted g c =
     let w = works_of (g.C.Core.cells c.loop-attempted.core) c.loop-attempted.registers c.loop-attempted.units in
-    let v = works_of (g.C.Core.cells c.execute_kept.new.core) c.execute_kept.new.registers c.loop-attempted.units in
-    let kept = c.execute_kept.ensures.unchanged c.if-execute_kept.false in
+    let v = works_of (g.C.Core.cells c.attempt_at_once.new.core) c.attempt_at_once.new.registers c.loop-attempted.units in
+    let kept = c.attempt_at_once.ensures.unchanged c.if-attempt_at_once.false in
     let same : v ≡ w = rw (kept.0, kept.1) refl in
     let outcome = rw c.in-Stopped.is at c.in-Err.ensures.0 in
     (checked_here _ v _ _ (reached_as _ w v _ same c.loop-attempted.invariant.reached) c.args.limit c.in-Stopped.check (omega arith) outcome c.in-Err.ensures.1).attempts
@@ -82,16 +82,16 @@ returns-in-Stopped-clause-attempted g c =
 pub returns-in-Stopped-clause-size : goal.returns-in-Stopped-clause-size
 returns-in-Stopped-clause-size g c =
     let w = works_of (g.C.Core.cells c.loop-attempted.core) c.loop-attempted.registers c.loop-attempted.units in
-    let v = works_of (g.C.Core.cells c.execute_kept.new.core) c.execute_kept.new.registers c.loop-attempted.units in
-    let kept = c.execute_kept.ensures.unchanged c.if-execute_kept.false in
+    let v = works_of (g.C.Core.cells c.attempt_at_once.new.core) c.attempt_at_once.new.registers c.loop-attempted.units in
+    let kept = c.attempt_at_once.ensures.unchanged c.if-attempt_at_once.false in
     let same : v ≡ w = rw (kept.0, kept.1) refl in
     ap (λ (u : Works). length u.storage) c.in-Err.ensures.1 ∙ ap (λ (u : Works). length u.storage) same ∙ c.loop-attempted.invariant.size
 
 pub returns-in-NoMemory-clause-given_up : goal.returns-in-NoMemory-clause-given_up
 returns-in-NoMemory-clause-given_up g c =
     let w = works_of (g.C.Core.cells c.loop-attempted.core) c.loop-attempted.registers c.loop-attempted.units in
-    let v = works_of (g.C.Core.cells c.execute_kept.new.core) c.execute_kept.new.registers c.loop-attempted.units in
-    let kept = c.execute_kept.ensures.unchanged c.if-execute_kept.false in
+    let v = works_of (g.C.Core.cells c.attempt_at_once.new.core) c.attempt_at_once.new.registers c.loop-attempted.units in
+    let kept = c.attempt_at_once.ensures.unchanged c.if-attempt_at_once.false in
     let same : v ≡ w = rw (kept.0, kept.1) refl in
     let makes = rw c.in-NoMemory.is at c.in-Err.ensures.0 in
     wanting_next _ v _ _ (reached_as _ w v _ same c.loop-attempted.invariant.reached) c.args.limit (omega arith) makes c.in-Err.ensures.1
@@ -99,8 +99,8 @@ returns-in-NoMemory-clause-given_up g c =
 pub returns-in-NoMemory-clause-size : goal.returns-in-NoMemory-clause-size
 returns-in-NoMemory-clause-size g c =
     let w = works_of (g.C.Core.cells c.loop-attempted.core) c.loop-attempted.registers c.loop-attempted.units in
-    let v = works_of (g.C.Core.cells c.execute_kept.new.core) c.execute_kept.new.registers c.loop-attempted.units in
-    let kept = c.execute_kept.ensures.unchanged c.if-execute_kept.false in
+    let v = works_of (g.C.Core.cells c.attempt_at_once.new.core) c.attempt_at_once.new.registers c.loop-attempted.units in
+    let kept = c.attempt_at_once.ensures.unchanged c.if-attempt_at_once.false in
     let same : v ≡ w = rw (kept.0, kept.1) refl in
     ap (λ (u : Works). length u.storage) c.in-Err.ensures.1 ∙ ap (λ (u : Works). length u.storage) same ∙ c.loop-attempted.invariant.size
 
