@@ -232,7 +232,7 @@ characters_lanes k ds zone long le all =
     ∙ ap (λ n. spelled (number (take k ds ++ drop k ds)) n zone) rest
     ∙ ap (λ xs. spelled (number xs) (16 - k) zone) (take-append-drop k ds)
 
-digit_most : (p : ℕ) → p ≤ 10 → digit_of_part p ≤ 9
+pub digit_most : (p : ℕ) → p ≤ 10 → digit_of_part p ≤ 9
 digit_most p le =
     elim (dec_lt p 10) [
       | yes lt ↦ let small : p ≤ 9 = omega arith in rw (ne_eqb p 10 (omega arith)) small

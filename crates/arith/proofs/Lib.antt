@@ -11,3 +11,6 @@ pub mod LaneLemmas
 pub mod LaneSums
 pub mod SumLanes
 pub mod LaneCarries
+pub mod WordBytes
+pub mod WordDifferences
+pub mod SumDifferences

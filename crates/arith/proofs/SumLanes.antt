@@ -1,7 +1,8 @@
 -- a sum that is found and written all at once
-use Rattle.std.proofs.Common.{◌≡◌, ◌++◌, ℕ, ◌+◌, ◌-◌, ◌%◌, ◌^◌, ◌<◌, ◌≤◌, All, Bool, true, false, leb, ltb, List, refl, sym, ◌∙◌, ap, arith, length, take, drop, map, replicate, get_or, Ok, not, ◌||◌}
+use Rattle.std.proofs.Common.{◌≡◌, ◌++◌, ℕ, ◌+◌, ◌-◌, ◌%◌, ◌^◌, ◌<◌, ◌≤◌, All, Bool, true, false, leb, ltb, List, refl, sym, ◌∙◌, ap, arith, length, take, drop, map, max, replicate, get_or, Ok, not, ◌||◌}
 use mathlib.Core.Bool.{beq}
 use Rattle.std.specs.List.{list_any}
+use Rattle.std.specs.Simd.Lanes.{zip2}
 use Rattle.bcd.specs.Table.{zone_of}
 use Rattle.std.proofs.Math.Nat.{pow-le-pow_right}
 use Rattle.std.proofs.lemmas.List.Elements.{All-same, All-drop}
@@ -18,7 +19,7 @@ use Rattle.arith.specs.Operands.{counts_at, counts_apart, AreCounts}
 use Rattle.arith.specs.declared.operands.Counts.{Counts}
 use Rattle.arith.specs.Sums.{added}
 use Rattle.arith.proofs.SumDigits.{value_below, length-spelled}
-use Rattle.arith.proofs.LaneSums.{lanes_long, lanes_number, lanes_value, overflow_lanes, characters_lanes}
+use Rattle.arith.proofs.LaneSums.{neither_over, lanes_long, lanes_number, lanes_value, overflow_lanes, characters_lanes}
 use Rattle.arith.proofs.SumSigns.{sum_put, sum_carried}
 use Rattle.arith.proofs.SumWholes.{added_is}
 
@@ -41,6 +42,27 @@ module _ (s : Storage) (p count : ℕ) (codes parts : List ℕ) (room : 15 ≤ p
   pub field_value : All (λ n. n ≤ 10) parts → number (map digit_of_part parts) ≡ value (codes_ending s p count)
   field_value all =
       ap (λ ps. number (map digit_of_part ps)) is ∙ lanes_value (16 - count) (drop (16 - count) codes) (All-same (λ n. n ≤ 10) _ parts (sym is) all) ∙ ap value field_codes
+
+-- the numeric parts of both fields
+module _ (s : Storage) (a b : ℕ) (counts : Counts) (known : AreCounts s a b counts.a counts.b) (room : (15 ≤ a) × (15 ≤ b) × (counts.b ≤ 16)) (codes_a codes_b parts_a parts_b most : List ℕ)
+    (read_a : codes_a ≡ codes_ending s a 16) (read_b : codes_b ≡ codes_ending s b 16)
+    (is_a : parts_a ≡ replicate (16 - counts.a) 0 ++ map (λ c. c % 16) (drop (16 - counts.a) codes_a)) (is_b : parts_b ≡ replicate (16 - counts.b) 0 ++ map (λ c. c % 16) (drop (16 - counts.b) codes_b))
+    (most_is : most ≡ zip2 max parts_a parts_b) (none : list_any (λ x. ltb 10 x) most ≡ false) where
+  a_few : counts.a ≤ 16
+  a_few = omega (arith, known.cut, room.2)
+
+  pub both_small : All (λ n. n ≤ 10) parts_a × All (λ n. n ≤ 10) parts_b
+  both_small =
+      neither_over 10 parts_a parts_b (parts_long s a counts.a codes_a parts_a room.0 known.a_in a_few read_a is_a ∙ sym (parts_long s b counts.b codes_b parts_b room.1 known.b_in room.2 read_b is_b))
+      (ap (list_any (λ x. ltb 10 x)) (sym most_is) ∙ none)
+
+  pub both_numbers : (is_number (codes_ending s a counts.a) ≡ true) × (is_number (codes_ending s b counts.b) ≡ true)
+  both_numbers =
+      (field_number s a counts.a codes_a parts_a room.0 known.a_in a_few read_a is_a both_small.0, field_number s b counts.b codes_b parts_b room.1 known.b_in room.2 read_b is_b both_small.1)
+
+  pub both_values : (number (map digit_of_part parts_a) ≡ value (codes_ending s a counts.a)) × (number (map digit_of_part parts_b) ≡ value (codes_ending s b counts.b))
+  both_values =
+      (field_value s a counts.a codes_a parts_a room.0 known.a_in a_few read_a is_a both_small.0, field_value s b counts.b codes_b parts_b room.1 known.b_in room.2 read_b is_b both_small.1)
 
 module _ (s : Storage) (a a_count b b_count : ℕ) (known : AreCounts s a b a_count b_count) (a_room : 15 ≤ a) (b_room : 15 ≤ b) (few : b_count ≤ 15)
     (old digits : List ℕ) (read : old ≡ codes_ending s b 16) (long : length digits ≡ 16) (small : All (λ d. d < 10) digits)
@@ -98,6 +120,12 @@ not_differing x y h = stays (beq x y) h where
   stays : (b : Bool) → not b ≡ false → b ≡ true
   stays true h = refl
   stays false h = absurd (cc)
+
+pub differing : (x y : Bool) → not (beq x y) ≡ true → beq x y ≡ false
+differing x y h = stays (beq x y) h where
+  stays : (b : Bool) → not b ≡ true → b ≡ false
+  stays true h = absurd (cc)
+  stays false h = refl
 
 -- the operation as a whole
 module _ (reversed : Bool) (s : Storage) (r : Registers) (counts : Counts) (found : counts_at s r.a r.b ≡ Ok counts) (known : AreCounts s r.a r.b counts.a counts.b)

@@ -192,6 +192,12 @@ module _ (s : Storage) (a a_count b b_count : ℕ) (known : AreCounts s a b a_co
     pub no_overflow : false ≡ sum_overflows minus A_codes B_codes
     no_overflow = unequal_overflows s a a_count b b_count known minus differ
 
+    pub not_less_b : value A_codes ≤ value B_codes → spelled (value B_codes - value A_codes) b_count (sign_zone minus_b) ≡ sum_codes minus A_codes B_codes
+    not_less_b le = ap (λ m. spelled (value B_codes - value A_codes) b_count (sign_zone m)) sign_b ∙ greater_b s a a_count b b_count known minus differ le
+
+    pub less_b : value B_codes < value A_codes → spelled (value A_codes - value B_codes) b_count (sign_zone minus) ≡ sum_codes minus A_codes B_codes
+    less_b lt = greater_a s a a_count b b_count known minus differ lt
+
     module _ (carry : Bool) (zone : Zone) (between : Storage) (carry_is : carry ≡ leb (10 ^ b_count) (joined_total Difference s a a_count b b_count))
         (written : between ≡ put_codes s first (spelled (joined_total Difference s a a_count b b_count) b_count zone)) where
       pub same_size : length between ≡ length s

@@ -5,3 +5,4 @@ pub mod Order
 pub mod Bases
 pub mod Joining
 pub mod Columns
+pub mod Words

@@ -4,7 +4,7 @@ ghost use Rattle.std.specs.Prelude.{◌≡◌, ◌+◌, ◌-◌, ◌<◌, ◌≤
 ghost use Rattle.std.specs.List.{list_any};
 ghost use Rattle.std.specs.Simd.Lanes.{sum_l, zip2};
 ghost use Rattle.bcd.specs.Table.{zone_of};
-ghost use Rattle.arith.specs.Columns.{characters, digit_of_part, number};
+ghost use Rattle.arith.specs.Columns.{characters, digit_of_part, number, sign_bits};
 
 use core_store::{last_of, replace_lanes};
 use std::simd::prelude::*;
@@ -82,6 +82,27 @@ pub fn write_digits(digits: u8x16, old: u8x16, count: u16) -> u8x16
 {
     let zone = last_of(1, mask(old, 48), u8x16::splat(0));
     last_of(count, totals(replace_lanes(digits, 0, 10), zone), old)
+}
+
+/// The bits of a sign in a character.
+#[inline(always)]
+fn sign_bits(minus: bool) -> u8
+    ensures bits { result ≡ sign_bits minus }
+    ensures below { result < 64 }
+{
+    if minus { 32 } else { 48 }
+}
+
+/// The old characters, of which the last has only a sign.
+#[inline(always)]
+pub fn signed(old: u8x16, minus: bool) -> u8x16
+    requires sixteen { length old ≡ 16 }
+    requires codes { All (λ code. code < 64) old }
+    ensures codes { result ≡ take 15 old ++ sign_bits minus ∷ [] }
+    ensures sixteen { length result ≡ 16 }
+    ensures below { All (λ code. code < 64) result }
+{
+    last_of(1, u8x16::splat(sign_bits(minus)), old)
 }
 
 /// The carries of digits that may be more than 9: 1 from each of them, and 0 from the others.

@@ -7,9 +7,9 @@
 //! addresses (`specs/Bases.antt`); or the first check that applies, and then nothing is changed.
 //! Everything is generic over `Core`, and no call takes memory.
 //!
-//! Fields of at most sixteen characters are compared all at once, and those of at most fifteen with
-//! the same sign are added so (`lanes`), where they end at position 15 or later. All others go
-//! character by character.
+//! Fields of at most sixteen characters that end at position 15 or later are compared all at once,
+//! and so are numbers copied and subtracted (`words`); those with the same sign are added so where
+//! they have at most fifteen characters (`lanes`). All others go character by character.
 #![tactic(auto)]
 
 mod bases;
@@ -19,6 +19,7 @@ mod lanes;
 mod operands;
 mod ranks;
 mod sums;
+mod words;
 mod zeros;
 
 pub use bases::modify;

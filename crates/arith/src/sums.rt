@@ -9,8 +9,9 @@ ghost use Rattle.arith.specs.Sums.{added, sum_codes, sum_overflows};
 
 use crate::decimal::{is_number, sign_zone};
 use crate::joining::{Joined, join};
-use crate::lanes::{greater, is_over, parts, sum, write_digits};
+use crate::lanes::{greater, is_over, parts, signed, sum, write_digits};
 use crate::operands::{Counts, counts_apart, near_counts};
+use crate::words::difference;
 use core_store::{Check, Core, Registers, is_minus, last_of, overlaps};
 use std::simd::prelude::*;
 
@@ -67,8 +68,8 @@ fn combine<C: Core>(core: &mut C, registers: &mut Registers, reversed: bool) -> 
     combine_far(core, registers, reversed)
 }
 
-/// Combines as `combine` does, all digits at once, where the signs are the same and the B field has
-/// at most fifteen digits. Returns whether it did; if not, nothing is changed.
+/// Combines as `combine` does, all digits at once, where the B field has at most sixteen digits, or
+/// fifteen if the signs are the same. Returns whether it did; if not, nothing is changed.
 #[inline(always)]
 fn combine_near<C: Core>(core: &mut C, registers: &mut Registers, reversed: bool) -> bool
     ensures done { result ≡ true → added reversed (C.cells core.old) registers.old
@@ -80,14 +81,25 @@ fn combine_near<C: Core>(core: &mut C, registers: &mut Registers, reversed: bool
     let Some(counts) = near_counts(core, a, b) else {
         return false;
     };
-    let minus_a = is_minus(core, a) != reversed;
-    if counts.b > 15 || overlaps(a, b, counts.a) || minus_a != is_minus(core, b) {
+    if overlaps(a, b, counts.a) {
         return false;
     }
     let old = core.near_codes(b);
     let parts_a = parts(core.near_codes(a), counts.a);
     let parts_b = parts(old, counts.b);
     if is_over(greater(parts_a, parts_b), 10) {
+        return false;
+    }
+    let minus_a = is_minus(core, a) != reversed;
+    let minus_b = is_minus(core, b);
+    if minus_a != minus_b {
+        let (digits, is_greater) = difference(parts_a, parts_b);
+        let signed = signed(old, is_greater != minus_b);
+        core.put_near_codes(b, write_digits(digits, signed, counts.b));
+        registers.lower(counts.a, counts.b);
+        return true;
+    }
+    if counts.b > 15 {
         return false;
     }
     let digits = sum(parts_a, parts_b);

@@ -1,13 +1,14 @@
 //! Zero and add, zero and subtract.
 
-ghost use Rattle.std.specs.Prelude.{ℕ, false, true};
+ghost use Rattle.std.specs.Prelude.{◌≡◌, ℕ, false, true, Ok};
 ghost use Rattle.core_store.specs.Doing.{Does};
 ghost use Rattle.arith.specs.Sums.{zero_added};
 
 use crate::decimal::{is_number, sign_zone};
 use crate::joining::{Joined, join};
-use crate::operands::counts_apart;
-use core_store::{Check, Core, Registers, is_minus};
+use crate::lanes::{digits, is_over, parts, signed, write_digits};
+use crate::operands::{counts_apart, near_counts};
+use core_store::{Check, Core, Registers, is_minus, overlaps};
 
 /// Replaces the B field by the A digits. Fails as `counts_apart` does, and with check DATA if a
 /// character at A has no numeric value.
@@ -28,8 +29,50 @@ pub fn zero_subtract<C: Core>(core: &mut C, registers: &mut Registers) -> Result
 
 /// Replaces the B field by the A digits. A subtraction reverses the sign.
 #[inline(always)]
-#[tactic(auto, unfolding(crate::specs::Sums::zero_added))]
 fn replace<C: Core>(core: &mut C, registers: &mut Registers, reversed: bool) -> Result<(), Check>
+    ensures { Does result (C.cells core.old) registers.old
+        (C.cells core.new) registers.new (zero_added reversed) }
+{
+    if replace_near(core, registers, reversed) {
+        return Ok(());
+    }
+    replace_far(core, registers, reversed)
+}
+
+/// Replaces as `replace` does, all digits at once, where the B field has at most sixteen
+/// characters. Returns whether it did; if not, nothing is changed.
+#[inline(always)]
+fn replace_near<C: Core>(core: &mut C, registers: &mut Registers, reversed: bool) -> bool
+    ensures done { result ≡ true → zero_added reversed (C.cells core.old) registers.old
+        ≡ Ok (C.cells core.new, registers.new) }
+    ensures unchanged { result ≡ false → (C.cells core.new ≡ C.cells core.old)
+        × (registers.new ≡ registers.old) }
+{
+    let Registers { a, b, .. } = *registers;
+    let Some(counts) = near_counts(core, a, b) else {
+        return false;
+    };
+    if overlaps(a, b, counts.a) {
+        return false;
+    }
+    let parts = parts(core.near_codes(a), counts.a);
+    if is_over(parts, 10) {
+        return false;
+    }
+    let signed = signed(core.near_codes(b), is_minus(core, a) != reversed);
+    core.put_near_codes(b, write_digits(digits(parts), signed, counts.b));
+    registers.lower(counts.a, counts.b);
+    true
+}
+
+/// Replaces as `replace` does, digit by digit.
+#[inline(never)]
+#[tactic(auto, unfolding(crate::specs::Sums::zero_added))]
+fn replace_far<C: Core>(
+    core: &mut C,
+    registers: &mut Registers,
+    reversed: bool,
+) -> Result<(), Check>
     ensures { Does result (C.cells core.old) registers.old
         (C.cells core.new) registers.new (zero_added reversed) }
 {

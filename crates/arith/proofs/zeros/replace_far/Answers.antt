@@ -1,5 +1,5 @@
 use Rattle.arith.proofs.SumWholes.{zero_added_is}
-use Rattle.arith.proofs.zeros.replace.Goals as goal
+use Rattle.arith.proofs.zeros.replace_far.Goals as goal
 
 pub returns : goal.returns
 returns g c =
