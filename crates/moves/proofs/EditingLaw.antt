@@ -18,7 +18,7 @@ filled_place : (minus : Bool) (count right digit code : ℕ) → is_place code �
 unfolding filled_code
 filled_place minus count right digit code place = rw place refl
 
-from_right_is : (codes : List ℕ) (j : ℕ) → j < length codes → from_right codes j ≡ get_or codes (length codes - 1 - j) 0
+pub from_right_is : (codes : List ℕ) (j : ℕ) → j < length codes → from_right codes j ≡ get_or codes (length codes - 1 - j) 0
 unfolding from_right
 from_right_is [] j h = absurd (omega arith)
 from_right_is (c ∷ codes) j h =

@@ -28,7 +28,7 @@ use Rattle.moves.proofs.LaneLemmas.{agree, agreed, mask_drop}
 
 -- ---- lane by lane
 
-map_same : {B : Type 0} (f g : ℕ → B) (xs : List ℕ) → All (λ code. code < 64) xs → ((code : ℕ) → code < 64 → f code ≡ g code) → map f xs ≡ map g xs
+pub map_same : {B : Type 0} (f g : ℕ → B) (xs : List ℕ) → All (λ code. code < 64) xs → ((code : ℕ) → code < 64 → f code ≡ g code) → map f xs ≡ map g xs
 map_same f g [] all same = refl
 map_same f g (x ∷ xs) all same =
     ap (λ y. y ∷ map f xs) (same x (All-head (λ code. code < 64) x xs all)) ∙ ap (λ l. g x ∷ l) (map_same f g xs (All-tail (λ code. code < 64) x xs all) same)
@@ -97,7 +97,7 @@ bare_all_below (c ∷ xs) all =
       either true h = bare_below c
       either false h = h
 
-drop-bare : (k : ℕ) (xs : List ℕ) → drop k (bare_units xs) ≡ bare_units (drop k xs)
+pub drop-bare : (k : ℕ) (xs : List ℕ) → drop k (bare_units xs) ≡ bare_units (drop k xs)
 unfolding bare_units
 drop-bare zero xs = refl
 drop-bare (suc k) [] = refl

@@ -11,3 +11,7 @@ pub mod LaneBlanks
 pub mod NearLemmas
 pub mod LoadingLemmas
 pub mod MovingNear
+pub mod ControlPlaces
+pub mod ControlLanes
+pub mod ControlZero
+pub mod EditingNear

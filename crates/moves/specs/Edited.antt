@@ -20,6 +20,11 @@ unfoldable pub places : List ℕ → ℕ
 places [] = 0
 places (code ∷ codes) = if is_place code then suc (places codes) else places codes
 
+-- for each character of a control field, how many digit places are to its right
+unfoldable pub places_right : List ℕ → List ℕ
+places_right [] = []
+places_right (code ∷ control) = places control ∷ places_right control
+
 -- the edited character for one of the control field, by the amount's sign and length, the number of
 -- digit places to its right, and the digit for its place
 unfoldable pub filled_code : Bool → ℕ → ℕ → ℕ → ℕ → ℕ

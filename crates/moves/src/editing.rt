@@ -1,16 +1,27 @@
 //! Data edited by a control field.
 
-ghost use Rattle.std.specs.Prelude.{◌≡◌, ◌+◌, ◌-◌, ◌<◌, ◌≤◌, ℕ, List, Bool, true, false, length, min, slice_index};
+ghost use Rattle.std.specs.Prelude.{◌≡◌, ◌+◌, ◌-◌, ◌<◌, ◌≤◌, ℕ, List, Bool, true, false, length, max, min, slice_index, Some, IfSome, Ok};
 ghost use Rattle.core_store.specs.Doing.{Does};
-ghost use Rattle.core_store.specs.Storage.{codes_ending, put_codes, largest_size};
+ghost use Rattle.core_store.specs.Storage.{codes_ending, field_length, put_codes, largest_size};
+ghost use Rattle.core_store.specs.Operands.{are_inside, cut_length};
 ghost use Rattle.moves.specs.Blanked.{ends, leading, blanked};
 ghost use Rattle.moves.specs.Characters.{bare_units};
 ghost use Rattle.moves.specs.declared.blanking.Stop.TheVariants.{Digit};
-ghost use Rattle.moves.specs.Edited.{edited, is_minus, is_place, is_sharing, field_edited, IsShown};
+ghost use Rattle.moves.specs.Edited.{edited, is_minus, is_place, is_sharing, places, field_edited, IsShown};
 
 use crate::blanking::{Stop, blank_near, blank_start};
+use crate::control::edit_codes;
 use crate::filling::{data_count, fill};
-use core_store::{Check, Core, Registers, are_inside, cut_length, field_length};
+use crate::lanes;
+use crate::near::put_last;
+use core_store::{Check, Core, Registers, are_inside, cut_length, field_length, is_minus};
+
+/// The number of data characters at A and of control characters at B.
+#[derive(Clone, Copy, Debug, PartialEq, Eq)]
+struct Counts {
+    a: u16,
+    b: u16,
+}
 
 /// Whether two ranges of positions, which end at A and at B, have one in common.
 #[inline(always)]
@@ -66,11 +77,104 @@ fn fill_blanked<C: Core>(core: &mut C, a: u16, a_count: u16, b: u16, b_count: u1
     blank_left(core, b, b_count, through);
 }
 
+/// The counts of an edit, found at once if sixteen characters end at A and at B, the control field
+/// has at most that many, and no data are in it. `None` says nothing about the fields.
+#[inline(always)]
+fn near_counts<C: Core>(core: &C, a: u16, b: u16) -> Option<Counts>
+    ensures inside { IfSome result (λ counts. are_inside (C.cells core.now) a b ≡ true) }
+    ensures within { IfSome result (λ counts. (a < length (C.cells core.now))
+        × (b < length (C.cells core.now)) × (a < largest_size) × (b < largest_size)) }
+    ensures control { IfSome result (λ counts.
+        field_length (C.cells core.now) b ≡ Some counts.b) }
+    ensures cut { IfSome result (λ counts. cut_length (C.cells core.now) a
+        (max 1 (places (codes_ending (C.cells core.now) b counts.b))) ≡ Some counts.a) }
+    ensures room { IfSome result (λ counts. (15 ≤ a) × (15 ≤ b)) }
+    ensures some { IfSome result (λ counts. (1 ≤ counts.a) × (1 ≤ counts.b)) }
+    ensures most { IfSome result (λ counts. (counts.a ≤ 16) × (counts.b ≤ 16)) }
+    ensures apart { IfSome result (λ counts. is_sharing a counts.a b counts.b ≡ false) }
+{
+    if !are_inside(core, a, b) || a < 15 || b < 15 {
+        return None;
+    }
+    let b_count = core.near_length(b);
+    if b_count > 16 {
+        return None;
+    }
+    let a_count = core.near_length(a).min(data_count(core, b, b_count));
+    if shares(a, a_count, b, b_count) {
+        return None;
+    }
+    Some(Counts {
+        a: a_count,
+        b: b_count,
+    })
+}
+
+/// Puts the data into the control field as `fill_blanked` does, all at once.
+#[inline(always)]
+#[tactic(auto, using(crate::proofs::LaneLemmas::near_long))]
+fn fill_near<C: Core>(core: &mut C, a: u16, a_count: u16, b: u16, b_count: u16)
+    requires a_in { a < length (C.cells core.old) }
+    requires b_in { b < length (C.cells core.old) }
+    requires a_room { 15 ≤ a }
+    requires b_room { 15 ≤ b }
+    requires a_some { 1 ≤ a_count }
+    requires a_most { a_count ≤ 16 }
+    requires b_most { b_count ≤ 16 }
+    ensures codes { C.cells core.new ≡ put_codes (C.cells core.old) (b + 1 - b_count)
+        (edited (codes_ending (C.cells core.old) b b_count)
+        (bare_units (codes_ending (C.cells core.old) a a_count))
+        (is_minus (codes_ending (C.cells core.old) a a_count))) }
+    ensures size { length (C.cells core.new) ≡ length (C.cells core.old) }
+{
+    let control = core.near_codes(b);
+    let amount = lanes::bare_units(core.near_codes(a));
+    let minus = is_minus(core, a);
+    put_last(
+        core,
+        b,
+        b_count,
+        edit_codes(control, b_count, amount, a_count, minus),
+    );
+}
+
+/// Edits as `edit` does, all at once, where sixteen characters end at A and at B, the control field
+/// has at most that many, and no data are in it. Returns whether it did; if not, nothing is
+/// changed.
+#[inline(always)]
+fn edit_near<C: Core>(core: &mut C, registers: &mut Registers) -> bool
+    ensures done { result ≡ true → field_edited (C.cells core.old) registers.old
+        ≡ Ok (C.cells core.new, registers.new) }
+    ensures unchanged { result ≡ false → (C.cells core.new ≡ C.cells core.old)
+        × (registers.new ≡ registers.old) }
+{
+    let Registers { a, b, .. } = *registers;
+    let Some(counts) = near_counts(core, a, b) else {
+        return false;
+    };
+    fill_near(core, a, counts.a, b, counts.b);
+    core.clear_mark(b + 1 - counts.b);
+    registers.lower(counts.a, counts.b);
+    true
+}
+
 /// Edits the data at A by the control field at B. Check ADDRESS if A or B is outside the storage or
 /// a field would pass position 000, check OVERLAP if data and control field share a position.
 #[inline(never)]
-#[tactic(auto, unfolding(crate::specs::Edited::field_edited))]
 pub fn edit<C: Core>(core: &mut C, registers: &mut Registers) -> Result<(), Check>
+    ensures { Does result (C.cells core.old) registers.old
+        (C.cells core.new) registers.new field_edited }
+{
+    if edit_near(core, registers) {
+        return Ok(());
+    }
+    edit_far(core, registers)
+}
+
+/// Edits as `edit` does, character by character.
+#[inline(never)]
+#[tactic(auto, unfolding(crate::specs::Edited::field_edited))]
+fn edit_far<C: Core>(core: &mut C, registers: &mut Registers) -> Result<(), Check>
     ensures { Does result (C.cells core.old) registers.old
         (C.cells core.new) registers.new field_edited }
 {

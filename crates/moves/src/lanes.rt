@@ -13,7 +13,7 @@ use std::simd::prelude::*;
 
 /// Which lanes have a value: bit 0 for the first.
 #[inline(always)]
-fn equal(lanes: u8x16, value: u8) -> u64
+pub fn equal(lanes: u8x16, value: u8) -> u64
     requires { length lanes ≡ 16 }
     ensures { result ≡ mask_l (map (λ lane. lane == value) lanes) }
 {

@@ -9,6 +9,7 @@
 
 mod blanking;
 mod characters;
+mod control;
 mod editing;
 mod filling;
 mod lanes;
