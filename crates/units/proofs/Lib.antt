@@ -1,5 +1,6 @@
 pub mod AreaLemmas
 pub mod OperationLemmas
+pub mod ListingBlanks
 pub mod ListingLines
 pub mod ListingPieces
 pub mod OperationOutcomes

@@ -1,6 +1,6 @@
 //! Listings: printed lines as a text.
 
-ghost use Rattle.std.specs.Prelude.{◌≡◌, ◌≢◌, ◌≤◌, ◌<◌, ◌+◌, ◌-◌, ◌++◌, ◌∷◌, ℕ, [], length, map, take, replicate, slice_index, vec_len, IfOk, IfErr, OnOk};
+ghost use Rattle.std.specs.Prelude.{◌≡◌, ◌≢◌, ◌≤◌, ◌<◌, ◌+◌, ◌-◌, ◌++◌, ◌∷◌, ℕ, [], length, map, take, replicate, slice_index, vec_len, ◌↔◌, IsTrue, IfOk, IfErr, OnOk};
 ghost use Rattle.std.specs.Vec.{vec_capacity};
 ghost use Rattle.std.specs.Io.KnownBytes.{Appends, Keeps, append_known};
 ghost use Rattle.units.specs.Listing.{shown, blank, text_of, form_feed_between, done_on, added_after, most_added, rendered, IsRising};
@@ -21,6 +21,9 @@ const MOST_ADDED: usize = 389;
 
 /// The number of bytes of a listing that are written at once.
 const PIECE: usize = 65_536;
+
+/// The number of characters that are looked at at once for blanks at the end of a line.
+const BLOCK: usize = 16;
 
 /// Why a listing was not written whole.
 #[derive(Clone, Copy, Debug, PartialEq, Eq)]
@@ -59,6 +62,19 @@ fn shown_glyph(code: Code) -> u8
     SHOWN[code.number() as usize]
 }
 
+/// Whether the characters of the block that begins there are blanks, looked at all at once.
+#[inline(always)]
+fn is_blank(codes: &[Code], first: usize) -> bool
+    requires { first + 16 ≤ length codes.now }
+    ensures { IsTrue result ↔ ((k : ℕ) → first ≤ k → k < first + 16 → slice_index codes.now k ≡ 0) }
+{
+    let mut numbers = 0;
+    for place in first..first + BLOCK {
+        numbers |= codes[place].number();
+    }
+    numbers == 0
+}
+
 /// The number of characters without the trailing blanks.
 #[tactic(auto, using(crate::proofs::ListingLines::text_is))]
 fn length_shown(codes: &[Code]) -> usize
@@ -68,7 +84,11 @@ fn length_shown(codes: &[Code]) -> usize
     ensures not_before { 0 < result → shown (slice_index codes.now (result - 1)) ≢ blank }
     ensures text { text_of codes.now ≡ map shown (take result codes.now) }
 {
-    for length in (0..codes.len()).rev() {
+    let mut end = codes.len();
+    while end >= BLOCK && is_blank(codes, end - BLOCK) {
+        end -= BLOCK;
+    }
+    for length in (0..end).rev() {
         if shown_glyph(codes[length]) != b' ' {
             return length + 1;
         }
