@@ -8,7 +8,7 @@ use Rattle.cards.specs.declared.faults.CardError.TheVariants.{NoMemory, Length, 
 use Rattle.cards.specs.declared.faults.CardFault.{CardFault}
 use Rattle.cards.specs.declared.forms.Form.{Form}
 use Rattle.cards.specs.declared.forms.Form.TheVariants.{Text, Punched}
-use Rattle.cards.specs.Files.{line_feed, digits, hexadecimal, column_of, file_of}
+use Rattle.cards.specs.Files.{line_feed, digits, hexadecimal, column_of, line_of, file_of}
 
 -- the bytes do not begin with the column of a character
 abbrev pub IsNoColumn : Form → List ℕ → Type 0
@@ -21,6 +21,10 @@ IsNoDigit bytes = (number : ℕ) (rest : List ℕ) → number < 16 → bytes ≢
 -- the bytes do not begin with a line feed
 abbrev pub IsNoLineFeed : List ℕ → Type 0
 IsNoLineFeed bytes = (rest : List ℕ) → bytes ≢ line_feed ∷ rest
+
+-- the bytes are not the line of a card
+abbrev pub IsNoLine : Form → List ℕ → Type 0
+IsNoLine form bytes = (card : Card) → IsCard card → bytes ≢ line_of form card
 
 -- the bytes are at the end of a line or of the file
 abbrev pub IsCutOff : List ℕ → Type 0

@@ -1,5 +1,5 @@
 -- the two forms of a deck's file
-use Rattle.std.specs.Prelude.{ℕ, ◌≡◌, ◌<◌, ◌/◌, ◌%◌, List, [], ◌∷◌, ◌++◌, slice_index, codes}
+use Rattle.std.specs.Prelude.{ℕ, ◌≡◌, ◌<◌, ◌*◌, ◌/◌, ◌%◌, List, [], ◌∷◌, ◌++◌, slice_index, take, drop, codes}
 use Rattle.std.specs.List.{flat_map}
 use Rattle.bcd.specs.Table.{glyph_of, punches_of}
 use Rattle.cards.specs.declared.decks.Card.{Card}
@@ -35,6 +35,20 @@ BeginsWithDigit bytes number rest = (number < 16) × (bytes ≡ hexadecimal numb
 -- the bytes begin with the column of this character, and the rest follows
 abbrev pub BeginsWithColumn : Form → List ℕ → ℕ → List ℕ → Type 0
 BeginsWithColumn form bytes code rest = (code < 64) × (bytes ≡ column_of form code ++ rest)
+
+-- the number of bytes of a column
+abbrev pub column_length : Form → ℕ
+column_length Text = 1
+column_length Punched = 3
+
+-- the bytes of a column of a line, where the first column is 0
+abbrev pub column_at : Form → List ℕ → ℕ → List ℕ
+column_at form line column = take (column_length form) (drop (column_length form * column) line)
+
+-- the number of bytes of a card's line
+abbrev pub line_length : Form → ℕ
+line_length Text = 81
+line_length Punched = 241
 
 -- the line of a card: its columns and a line feed
 abbrev pub line_of : Form → Card → List ℕ

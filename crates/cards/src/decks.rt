@@ -46,6 +46,14 @@ impl Deck {
         }
     }
 
+    /// The deck of these cards.
+    pub(crate) fn of(cards: Vec<Card>) -> Self
+        requires { length cards.items ≤ largest_deck }
+        ensures { result ≡ cards.items }
+    {
+        Deck { cards }
+    }
+
     /// The cards in order.
     pub fn cards(&self) -> &[Card]
         ensures cards { result.now ≡ self.now }

@@ -87,6 +87,13 @@ pub struct CardFault {
     pub column: u8,
 }
 
+/// The fault of a file for which there is no memory.
+pub const OUT_OF_MEMORY: CardFault = CardFault {
+    error: CardError::NoMemory,
+    card: 0,
+    column: 0,
+};
+
 impl CardFault {
     /// The fault of a column of a card, after `columns` columns.
     pub(crate) fn behind(columns: usize, card: u16, error: CardError) -> Self

@@ -2,7 +2,7 @@
 
 ghost use Rattle.std.specs.Prelude.{◌≡◌, ◌≢◌, ◌<◌, ℕ, List, ◌∷◌, ◌++◌, IfOk, IfErr, OnErr, IfSome, IsNone};
 ghost use Rattle.cards.specs.Faults.{IsCutOff, IsNoDigit, IsNoColumn, IsNoLineFeed, digits_error, column_error};
-ghost use Rattle.cards.specs.Files.{hexadecimal, line_feed, BeginsWithDigit, BeginsWithColumn};
+ghost use Rattle.cards.specs.Files.{hexadecimal, line_feed, line_length, BeginsWithDigit, BeginsWithColumn};
 
 use crate::faults::CardError;
 use bcd::Code;
@@ -17,6 +17,18 @@ pub(crate) enum Form {
     Text,
     /// As three hexadecimal digits of its punches.
     Punched,
+}
+
+impl Form {
+    /// The number of bytes of a card's line.
+    pub(crate) fn line_length(self) -> usize
+        ensures { result ≡ line_length self }
+    {
+        match self {
+            Form::Text => 81,
+            Form::Punched => 241,
+        }
+    }
 }
 
 /// The hexadecimal digits in the order of their values.
@@ -110,7 +122,7 @@ pub(crate) fn digit_of(number: u16) -> u8
 }
 
 /// The value of an upper-case hexadecimal digit.
-fn digit_value(byte: u8) -> Option<u16>
+pub(crate) fn digit_value(byte: u8) -> Option<u16>
     ensures found { IfSome result (λ number. (number < 16) × (hexadecimal number ≡ byte)) }
     ensures missing { IsNone result → (number : ℕ) → number < 16 → hexadecimal number ≢ byte }
 {

@@ -8,18 +8,19 @@
 //! punches. Its contract for the layers above: a deck is the list of its cards; what is written is
 //! the one text or punch file of the deck (`specs/Files.antt`); what is read is the one deck whose
 //! file it is, or else the first fault in reading order (`specs/Faults.antt`). Reading and writing
-//! take one pass.
+//! take one pass, and memory once, before the first card.
 #![tactic(auto)]
 
 mod decks;
 mod faults;
 mod forms;
 mod laws;
+mod lines;
 mod reading;
 mod writing;
 
 pub use decks::{COLUMNS, Card, Deck, LARGEST_DECK};
-pub use faults::{CardError, CardFault, DeckFault};
+pub use faults::{CardError, CardFault, DeckFault, OUT_OF_MEMORY};
 pub use forms::LINE_FEED;
 pub use laws::one_reading;
 pub use reading::{read_punched, read_text};

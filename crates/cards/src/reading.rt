@@ -7,8 +7,9 @@ ghost use Rattle.cards.specs.Files.{file_of, line_of, text_of, punch_file_of};
 ghost use Rattle.cards.specs.declared.decks.Card.{Card};
 
 use crate::decks::{COLUMNS, Card, Deck, LARGEST_DECK};
-use crate::faults::{CardError, CardFault};
+use crate::faults::{CardError, CardFault, OUT_OF_MEMORY};
 use crate::forms::{Form, split_column, split_line_feed};
+use crate::lines::card_of_line;
 use bcd::Code;
 use std::alloc::Global;
 
@@ -35,22 +36,19 @@ pub fn read_punched(alloc: Global, file: &[u8]) -> Result<Deck, CardFault>
     read(alloc, Form::Punched, file)
 }
 
-/// The error that is returned if there is no memory for the deck.
-const OUT_OF_MEMORY: CardFault = CardFault {
-    error: CardError::NoMemory,
-    card: 0,
-    column: 0,
-};
-
-/// Reads the deck of a file of this form.
+/// Reads the deck of a file of this form. Memory is taken once, for as many cards as have room in
+/// the file.
 fn read(alloc: Global, form: Form, bytes: &[u8]) -> Result<Deck, CardFault>
     ensures deck { IfOk result (λ deck. IsDeck deck × (bytes.now ≡ file_of form deck)) }
     ensures fault { IfErr result (λ fault. IsFault form bytes.now fault) }
 {
-    let mut deck = Deck::empty(alloc);
+    let room = (bytes.len() / form.line_length()).min(LARGEST_DECK);
+    let Ok(mut cards) = Vec::with_capacity(alloc, room) else {
+        return Err(OUT_OF_MEMORY);
+    };
     let mut rest = bytes;
     while !rest.is_empty() {
-        let read = deck.cards().len();
+        let read = cards.len();
         let number = read as u16 + 1;
         if read == LARGEST_DECK {
             return Err(CardFault::behind(0, number, CardError::TooManyCards));
@@ -60,15 +58,36 @@ fn read(alloc: Global, form: Form, bytes: &[u8]) -> Result<Deck, CardFault>
             Ok(found) => found,
             Err(fault) => return Err(fault),
         };
-        deck.push(card).map_err(|_| OUT_OF_MEMORY)?;
+        cards.push_reserved(card);
         rest = behind;
     }
-    Ok(deck)
+    Ok(Deck::of(cards))
 }
 
 /// Returns the first card of the bytes, and the bytes after its line feed. A fault carries the
 /// card's number.
+#[inline(always)]
 fn split_card(form: Form, bytes: &[u8], number: u16) -> Result<(Card, &[u8]), CardFault>
+    ensures line { IfOk result (λ found. IsCard found.0
+        × (bytes.now ≡ line_of form found.0 ++ found.1.now)) }
+    ensures card { IfErr result (λ fault. fault.card ≡ number) }
+    ensures fault { IfErr result (λ fault. IsLineFault form bytes.now fault.column fault.error) }
+{
+    let length = form.line_length();
+    if bytes.len() < length {
+        return look_through(form, bytes, number);
+    }
+    let (line, behind) = bytes.split_at(length);
+    match card_of_line(form, line) {
+        Some(card) => Ok((card, behind)),
+        None => look_through(form, bytes, number),
+    }
+}
+
+/// The same, column by column, so that the first that is none is found.
+#[cold]
+#[inline(never)]
+fn look_through(form: Form, bytes: &[u8], number: u16) -> Result<(Card, &[u8]), CardFault>
     ensures line { IfOk result (λ found. IsCard found.0
         × (bytes.now ≡ line_of form found.0 ++ found.1.now)) }
     ensures card { IfErr result (λ fault. fault.card ≡ number) }

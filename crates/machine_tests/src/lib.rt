@@ -28,6 +28,8 @@ mod forms;
 #[cfg(test)]
 mod last_characters;
 #[cfg(test)]
+mod listings;
+#[cfg(test)]
 mod machines;
 #[cfg(test)]
 mod moving;

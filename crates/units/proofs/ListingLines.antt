@@ -1,5 +1,5 @@
 -- listings that grow line by line
-use Rattle.std.proofs.Common.{set, length-set, get_or-set_other, List, [], ◌∷◌, ◌++◌, ◌≡◌, ◌≢◌, ◌⊎◌, inl, inr, ℕ, zero, suc, ◌+◌, ◌-◌, ◌<◌, ◌≤◌, max, map, take, length, get_or, replicate, Bool, true, false, cond, eqb, ◌&&◌, Option, Some, None, refl, sym, ◌∙◌, ap, subst, arith}
+use Rattle.std.proofs.Common.{set, length-set, get_or-set_other, List, [], ◌∷◌, ◌++◌, ◌≡◌, ◌≢◌, ◌⊎◌, inl, inr, ℕ, zero, suc, ◌+◌, ◌-◌, ◌<◌, ◌≤◌, max, map, take, length, get_or, replicate, Bool, true, false, cond, eqb, ◌&&◌, Option, Some, None, refl, sym, ◌∙◌, ap, ap₂, subst, arith}
 use Rattle.std.specs.List.{AllAdjacentBelow, fold, filter, find, flat_map, join_with_byte, dedup_from, range_with_len}
 use Rattle.std.specs.Option.{option_or}
 use Rattle.std.proofs.lemmas.List.{length-replicate, get_or-replicate, take_more_set, map_more, length-map, get_or-map, take-map, take_more, append-nil, append_assoc, map-append}
@@ -9,7 +9,7 @@ use Rattle.std.proofs.lemmas.List.Folds.{find-append}
 use Rattle.std.proofs.lemmas.List.Sums.{suffix_len_is, fold_push}
 use Rattle.std.proofs.lemmas.Bool.{eq-eqb, ne_eqb, cases_eq}
 use Rattle.units.specs.declared.printer.Line.{Line}
-use Rattle.units.specs.Listing.{shown, blank, text_of, form_feed, printed_at, listed_line, last_line, page, rendered, IsAbove, IsRising}
+use Rattle.units.specs.Listing.{shown, blank, text_of, form_feed, printed_at, listed_line, last_line, page, rendered, added_after, IsAbove, IsRising}
 use Rattle.cards.specs.Files.{line_feed}
 
 -- what a print area shows, by where its trailing blanks begin
@@ -347,12 +347,6 @@ pub record IsShown (xs : List Line) (bytes : List ℕ) (on last : ℕ) : Type 0 
   pub done : last ≡ last_line xs on
   pub none : on ≡ 0 → xs ≡ []
 
--- the same once the form of the next line is reached
-pub record IsReached (xs : List Line) (y : Line) (bytes : List ℕ) (on last : ℕ) : Type 0 where
-  pub text : bytes ≡ rendered xs ++ between xs y.form
-  pub form : on ≡ y.form
-  pub done : last ≡ last_line xs y.form
-
 pub shown_none : IsShown [] [] 0 0
 unfolding rendered last_line
 shown_none = record { text = refl; form = refl; done = refl; none = λ _. refl }
@@ -365,53 +359,45 @@ between_new : (xs : List Line) (form : ℕ) → 0 < last_form xs → last_form x
 between_new [] form some ne = absurd (omega arith)
 between_new (x ∷ xs) form some ne = rw (ne_eqb form (last_form (x ∷ xs)) (λ e. ne (sym e))) refl
 
-module _ (xs : List Line) (y : Line) (bytes : List ℕ) (on last : ℕ) (so_far : IsShown xs bytes on last) (now : List ℕ) (on_now last_now : ℕ) where
-  pub same_form : y.form ≡ on → now ≡ bytes → on_now ≡ on → last_now ≡ last → IsReached xs y now on_now last_now
-  same_form same text_is form_is done_is = record {
-    text = text_is ∙ so_far.text ∙ sym (append-nil (rendered xs)) ∙ ap (λ r. rendered xs ++ r) (sym (between_same xs y.form (sym so_far.form ∙ sym same)));
-    form = form_is ∙ sym same;
-    done = done_is ∙ so_far.done ∙ ap (last_line xs) (sym same);
-  }
+module _ (xs : List Line) (y : Line) (bytes : List ℕ) (on last : ℕ) (so_far : IsShown xs bytes on last) where
+  -- the form feed before another form
+  feed : last_form xs ≢ y.form → cond (eqb on 0) [] (form_feed ∷ []) ≡ between xs y.form
+  feed new = elim (cases_eq on 0) [
+    | inl none ↦ rw (eq-eqb on 0 none, so_far.none none) refl
+    | inr some ↦ rw (ne_eqb on 0 some) (sym (between_new xs y.form (omega (arith, so_far.form)) new))
+  ]
 
-  other : y.form ≢ on → last_form xs ≢ y.form
-  other ne e = ne (sym e ∙ sym so_far.form)
-
-  pub first_form : on ≤ 0 → y.form ≢ on → Rises xs y.form y.line → now ≡ bytes → on_now ≡ y.form → last_now ≡ 0 → IsReached xs y now on_now last_now
-  first_form none ne h text_is form_is done_is = record {
-    text = text_is ∙ so_far.text ∙ sym (append-nil (rendered xs)) ∙ ap (λ r. rendered xs ++ between r y.form) (sym (so_far.none (omega arith)));
-    form = form_is;
-    done = done_is ∙ sym (none_on_new_form xs y.form y.line h (other ne));
-  }
-
-  pub next_form : 0 < on → y.form ≢ on → Rises xs y.form y.line → now ≡ bytes ++ form_feed ∷ [] → on_now ≡ y.form → last_now ≡ 0 → IsReached xs y now on_now last_now
-  next_form some ne h text_is form_is done_is = record {
-    text = text_is ∙ ap (λ r. r ++ form_feed ∷ []) so_far.text ∙ ap (λ r. rendered xs ++ r) (sym (between_new xs y.form (omega (arith, so_far.form)) (other ne)));
-    form = form_is;
-    done = done_is ∙ sym (none_on_new_form xs y.form y.line h (other ne));
-  }
+  -- what the next line adds
+  adds : Rises xs y.form y.line → added_after on last y ≡ between xs y.form ++ added y (last_line xs y.form)
+  unfolding added_after
+  adds above = elim (cases_eq on y.form) [
+    | inl same ↦
+        rw (eq-eqb on y.form same, between_same xs y.form (sym so_far.form ∙ same))
+        (ap (added y) (so_far.done ∙ ap (last_line xs) same))
+    | inr other ↦
+        let new : last_form xs ≢ y.form = λ e. other (so_far.form ∙ e) in
+        rw (ne_eqb on y.form other)
+        (ap₂ (λ front last. front ++ added y last) (feed new) (sym (none_on_new_form xs y.form y.line above new)))
+  ]
 
 module _ (lines : List Line) (i : ℕ) (y : Line) (rising : IsRising lines) (inside : i < length lines) (at : y ≡ get_or lines i y) where
   -- the lines so far stand above the next
-  pub rises_to : Rises (take i lines) y.form y.line
+  rises_to : Rises (take i lines) y.form y.line
   rises_to = subst (λ (z : Line). Rises (take i lines) z.form z.line) (sym at) (rises lines i y inside rising.in_order)
 
-  pub shown_more : (bytes empty now : List ℕ) (on last count : ℕ) → IsReached (take i lines) y bytes on last → count ≡ y.line - last - 1 →
-      empty ≡ bytes ++ replicate count line_feed → now ≡ empty ++ (text_of y.codes ++ line_feed ∷ []) → IsShown (take (i + 1) lines) now on y.line
-  shown_more bytes empty now on last count reached left first second =
+  -- the listing of one line more
+  pub shown_more : (bytes : List ℕ) (on last : ℕ) → IsShown (take i lines) bytes on last → IsShown (take (i + 1) lines) (bytes ++ added_after on last y) y.form y.line
+  shown_more bytes on last so_far =
       let xs = take i lines in
-      let text = text_of y.codes ++ line_feed ∷ [] in
       let stands : (0 < y.form) × (0 < y.line) = subst (λ (z : Line). (0 < z.form) × (0 < z.line)) (sym at) (rising.on_forms i y inside) in
       let lower = last_line_above xs y.form y.line rises_to stands.1 in
       let longer : take (i + 1) lines ≡ xs ++ y ∷ [] = take_more lines i y inside ∙ ap (λ z. xs ++ z ∷ []) (sym at) in
-      subst (λ ys. IsShown ys now on y.line) (sym longer) (record {
+      subst (λ ys. IsShown ys (bytes ++ added_after on last y) y.form y.line) (sym longer) (record {
         text =
-            second
-            ∙ ap (λ r. r ++ text) (first ∙ ap (λ r. r ++ replicate count line_feed) reached.text)
-            ∙ ap (λ n. rendered xs ++ between xs y.form ++ replicate n line_feed ++ text) left
-            ∙ append_assoc (rendered xs ++ between xs y.form) (replicate (y.line - last - 1) line_feed) text
-            ∙ append_assoc (rendered xs) (between xs y.form) (added y last)
-            ∙ sym (rendered_more xs y last rises_to stands.1 reached.done);
-        form = reached.form ∙ sym (ap (final 0) (map-append (λ (l : Line). l.form) xs (y ∷ [])) ∙ fold_push (λ _ x. x) 0 (map (λ l. l.form) xs) y.form);
-        done = omega (arith, ap (last_line (xs ++ y ∷ [])) reached.form, last_line_own xs y);
-        none = λ zeroth. absurd (omega (arith, stands.0, reached.form));
+            ap (λ bs. bs ++ added_after on last y) so_far.text
+            ∙ ap (λ more. rendered xs ++ more) (adds xs y bytes on last so_far rises_to)
+            ∙ sym (rendered_more xs y (last_line xs y.form) rises_to stands.1 refl);
+        form = sym (ap (final 0) (map-append (λ (l : Line). l.form) xs (y ∷ [])) ∙ fold_push (λ _ x. x) 0 (map (λ l. l.form) xs) y.form);
+        done = omega (arith, last_line_own xs y);
+        none = λ zeroth. absurd (omega (arith, stands.0));
       })

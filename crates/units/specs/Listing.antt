@@ -1,5 +1,5 @@
 -- the listing of printed lines
-use Rattle.std.specs.Prelude.{ℕ, ◌≡◌, ◌-◌, ◌<◌, ◌⊎◌, ◌==◌, ◌&&◌, max, List, [], ◌∷◌, ◌++◌, map, filter, fold, find, take, length, Option, if◌then◌else◌, codes}
+use Rattle.std.specs.Prelude.{ℕ, ◌≡◌, ◌-◌, ◌<◌, ◌⊎◌, ◌==◌, ◌&&◌, max, List, [], ◌∷◌, ◌++◌, map, filter, fold, find, take, length, replicate, Option, if◌then◌else◌, codes}
 use Rattle.std.specs.List.{All, AllAdjacentBelow, list_any, flat_map, join_with_byte, dedup, range_with_len, suffix_len}
 use Rattle.std.specs.Option.{option_map_or}
 use Rattle.bcd.specs.Table.{glyph_of, byte}
@@ -54,6 +54,28 @@ forms_of lines = dedup ◌==◌ (map (λ l. l.form) lines)
 -- the listing of printed lines: the pages of their forms, with a form feed between two pages
 unfoldable pub rendered : List Line → List ℕ
 rendered lines = join_with_byte form_feed (map (page lines) (forms_of lines))
+
+-- a form feed between two forms, the first of them 0 where the listing begins
+abbrev pub form_feed_between : ℕ → ℕ → List ℕ
+form_feed_between form next =
+    if form == next then [] else (if form == 0 then [] else form_feed ∷ [])
+
+-- the last listed line of the form that comes next, where the listing has come to a line of a form
+abbrev pub done_on : ℕ → ℕ → ℕ → ℕ
+done_on form done next = if form == next then done else 0
+
+-- what a printed line adds to a listing that has come to a line of a form, 0 of 0 where it begins: a
+-- form feed before another form, the empty lines above the line, what was printed and a line feed
+unfoldable pub added_after : ℕ → ℕ → Line → List ℕ
+added_after form done line =
+    form_feed_between form line.form
+    ++ (replicate (line.line - done_on form done line.form - 1) line_feed
+    ++ (text_of line.codes ++ line_feed ∷ []))
+
+-- the most bytes that a printed line adds to a listing: a form feed, 255 empty lines, its 132
+-- characters and a line feed
+abbrev pub most_added : ℕ
+most_added = 389
 
 -- a line is above another: on an earlier form, or higher on the same one
 abbrev pub IsAbove : Line → Line → Type 0

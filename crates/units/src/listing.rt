@@ -1,15 +1,54 @@
 //! Listings: printed lines as a text.
 
-ghost use Rattle.std.specs.Prelude.{◌≡◌, ◌≢◌, ◌≤◌, ◌<◌, ◌-◌, ◌++◌, ◌∷◌, ℕ, [], length, map, take, replicate, slice_index, IfOk, OnOk};
-ghost use Rattle.units.specs.Listing.{shown, blank, text_of, rendered, IsRising};
+ghost use Rattle.std.specs.Prelude.{◌≡◌, ◌≢◌, ◌≤◌, ◌<◌, ◌+◌, ◌-◌, ◌++◌, ◌∷◌, ℕ, [], length, map, take, replicate, slice_index, vec_len, ◌↔◌, IsTrue, IfOk, IfErr, OnOk};
+ghost use Rattle.std.specs.Vec.{vec_capacity};
+ghost use Rattle.std.specs.Io.KnownBytes.{Appends, Keeps, append_known};
+ghost use Rattle.units.specs.Listing.{shown, blank, text_of, form_feed_between, done_on, added_after, most_added, rendered, IsRising};
 ghost use Rattle.cards.specs.Files.{line_feed};
+ghost use Rattle.units.specs.declared.listing.ListingFault.TheVariants.{Memory, Output};
 
 use crate::printer::{LINE_LENGTH, Line};
 use bcd::Code;
 use cards::LINE_FEED;
 use std::alloc::{AllocError, Global};
+use std::io;
+use std::io::Write;
 
 const FORM_FEED: u8 = 12;
+
+/// The most bytes that a printed line adds to a listing.
+const MOST_ADDED: usize = 389;
+
+/// The number of bytes of a listing that are written at once.
+const PIECE: usize = 65_536;
+
+/// The number of characters that are looked at at once for blanks at the end of a line.
+const BLOCK: usize = 16;
+
+/// Why a listing was not written whole.
+#[derive(Clone, Copy, Debug, PartialEq, Eq)]
+pub enum ListingFault {
+    /// There is no memory for a piece of it. Nothing was written.
+    Memory,
+    /// The writer failed. It may have taken some of the listing.
+    Output,
+}
+
+impl From<AllocError> for ListingFault {
+    ghost from_gives = { λ _ fault. fault ≡ Memory };
+
+    fn from(_error: AllocError) -> Self {
+        ListingFault::Memory
+    }
+}
+
+impl From<io::Error> for ListingFault {
+    ghost from_gives = { λ _ fault. fault ≡ Output };
+
+    fn from(_error: io::Error) -> Self {
+        ListingFault::Output
+    }
+}
 
 /// The byte that the printer shows for each character. Thirteen characters are not on its chain.
 const SHOWN: [u8; 64] = *b" 1234567890#@    /STUVWXYZ|,%   -JKLMNOPQR!$*   &ABCDEFGHI?.)   ";
@@ -23,6 +62,19 @@ fn shown_glyph(code: Code) -> u8
     SHOWN[code.number() as usize]
 }
 
+/// Whether the characters of the block that begins there are blanks, looked at all at once.
+#[inline(always)]
+fn is_blank(codes: &[Code], first: usize) -> bool
+    requires { first + 16 ≤ length codes.now }
+    ensures { IsTrue result ↔ ((k : ℕ) → first ≤ k → k < first + 16 → slice_index codes.now k ≡ 0) }
+{
+    let mut numbers = 0;
+    for place in first..first + BLOCK {
+        numbers |= codes[place].number();
+    }
+    numbers == 0
+}
+
 /// The number of characters without the trailing blanks.
 #[tactic(auto, using(crate::proofs::ListingLines::text_is))]
 fn length_shown(codes: &[Code]) -> usize
@@ -32,7 +84,11 @@ fn length_shown(codes: &[Code]) -> usize
     ensures not_before { 0 < result → shown (slice_index codes.now (result - 1)) ≢ blank }
     ensures text { text_of codes.now ≡ map shown (take result codes.now) }
 {
-    for length in (0..codes.len()).rev() {
+    let mut end = codes.len();
+    while end >= BLOCK && is_blank(codes, end - BLOCK) {
+        end -= BLOCK;
+    }
+    for length in (0..end).rev() {
         if shown_glyph(codes[length]) != b' ' {
             return length + 1;
         }
@@ -40,28 +96,80 @@ fn length_shown(codes: &[Code]) -> usize
     0
 }
 
+/// Adds bytes for which there is room.
+#[inline(always)]
+fn push_bytes(text: &mut Vec<u8>, bytes: &[u8])
+    requires { vec_len text.old + length bytes.now ≤ vec_capacity text.old }
+    ensures items { text.new.items ≡ text.old.items ++ bytes.now }
+    ensures len { vec_len text.new ≡ vec_len text.old + length bytes.now }
+    ensures capacity { vec_capacity text.old ≤ vec_capacity text.new }
+{
+    let Ok(()) = text.extend_from_slice(bytes) else {
+        unreachable!()
+    };
+}
+
 /// Adds a line as it is shown, without trailing blanks, and its line feed.
-fn push_line(text: &mut Vec<u8>, codes: &[Code; LINE_LENGTH]) -> Result<(), AllocError>
-    ensures { OnOk result (text.new.items
-        ≡ text.old.items ++ (text_of codes.now ++ line_feed ∷ [])) }
+fn push_line(text: &mut Vec<u8>, codes: &[Code; LINE_LENGTH])
+    requires { vec_len text.old + 133 ≤ vec_capacity text.old }
+    ensures items { text.new.items ≡ text.old.items ++ (text_of codes.now ++ line_feed ∷ []) }
+    ensures capacity { vec_capacity text.old ≤ vec_capacity text.new }
 {
     let length = length_shown(codes);
     let mut line = [LINE_FEED; LINE_LENGTH + 1];
     for place in 0..length {
         line[place] = shown_glyph(codes[place]);
     }
-    text.extend_from_slice(&line[..length + 1])?;
-    Ok(())
+    push_bytes(text, &line[..length + 1]);
 }
 
 /// Adds `count` empty lines.
-fn push_empty_lines(text: &mut Vec<u8>, count: u8) -> Result<(), AllocError>
-    ensures { OnOk result (text.new.items ≡ text.old.items ++ replicate count line_feed) }
+fn push_empty_lines(text: &mut Vec<u8>, count: u8)
+    requires { vec_len text.old + count ≤ vec_capacity text.old }
+    ensures items { text.new.items ≡ text.old.items ++ replicate count line_feed }
+    ensures len { vec_len text.new ≡ vec_len text.old + count }
+    ensures capacity { vec_capacity text.new ≡ vec_capacity text.old }
 {
     for _ in 0..count {
-        text.push(LINE_FEED)?;
+        text.push_reserved(LINE_FEED);
     }
-    Ok(())
+}
+
+/// Adds a form feed between two forms, the first of them 0 where the listing begins.
+fn push_form_feed(text: &mut Vec<u8>, form: u32, next: u32)
+    requires { vec_len text.old + 1 ≤ vec_capacity text.old }
+    ensures items { text.new.items ≡ text.old.items ++ form_feed_between form next }
+    ensures len { vec_len text.new ≤ vec_len text.old + 1 }
+    ensures capacity { vec_capacity text.new ≡ vec_capacity text.old }
+{
+    if form == next {
+        return;
+    }
+    if form == 0 {
+        return;
+    }
+    text.push_reserved(FORM_FEED);
+}
+
+/// The last listed line of the form that comes next.
+fn done_on(form: u32, done: u8, next: u32) -> u8
+    ensures { result ≡ done_on form done next }
+{
+    if form == next { done } else { 0 }
+}
+
+/// Adds what a printed line adds to a listing that has come to a line of a form, 0 of 0 where it
+/// begins.
+#[tactic(auto, unfolding(crate::specs::Listing::added_after))]
+fn push_listed(text: &mut Vec<u8>, form: u32, done: u8, line: &Line)
+    requires { vec_len text.old + most_added ≤ vec_capacity text.old }
+    ensures items { text.new.items ≡ text.old.items ++ added_after form done line.now }
+    ensures capacity { vec_capacity text.old ≤ vec_capacity text.new }
+{
+    push_form_feed(text, form, line.form);
+    let done = done_on(form, done, line.form);
+    push_empty_lines(text, line.line.saturating_sub(done).saturating_sub(1));
+    push_line(text, &line.codes);
 }
 
 /// Returns the listing of printed lines that rise by form and line. Each form with a printed line
@@ -74,16 +182,63 @@ pub fn render(alloc: Global, lines: &[Line]) -> Result<Vec<u8>, AllocError>
     let mut form = 0u32;
     let mut done = 0u8;
     for line in lines {
-        if line.form != form {
-            if form > 0 {
-                text.push(FORM_FEED)?;
-            }
-            form = line.form;
-            done = 0;
-        }
-        push_empty_lines(&mut text, line.line.saturating_sub(done).saturating_sub(1))?;
-        push_line(&mut text, &line.codes)?;
+        text.try_reserve(MOST_ADDED)?;
+        push_listed(&mut text, form, done, line);
+        form = line.form;
         done = line.line;
     }
     Ok(text)
+}
+
+/// Writes a piece, and empties it.
+fn put_piece<W: Write>(output: &mut W, piece: &mut Vec<u8>) -> io::Result<()>
+    ensures kept { OnOk result (Keeps
+        (append_known (W.contents output.old) piece.old.items)
+        (append_known (W.contents output.new) piece.new.items)) }
+    ensures empty { OnOk result (piece.new.items ≡ []) }
+    ensures capacity { vec_capacity piece.new ≡ vec_capacity piece.old }
+{
+    output.write_all(piece.as_slice())?;
+    piece.clear();
+    Ok(())
+}
+
+/// Writes a piece, and empties it, if it has no room for what a line adds.
+fn make_room<W: Write>(output: &mut W, piece: &mut Vec<u8>) -> io::Result<()>
+    requires { most_added ≤ vec_capacity piece.old }
+    ensures kept { OnOk result (Keeps
+        (append_known (W.contents output.old) piece.old.items)
+        (append_known (W.contents output.new) piece.new.items)) }
+    ensures room { OnOk result (vec_len piece.new + most_added ≤ vec_capacity piece.new) }
+{
+    if piece.capacity() - piece.len() >= MOST_ADDED {
+        return Ok(());
+    }
+    put_piece(output, piece)
+}
+
+/// Writes the listing of printed lines that rise by form and line, as `render` returns it, piece by
+/// piece: no more than one piece of it is in memory, which is taken before anything is written.
+pub fn write_listing<W: Write>(
+    alloc: Global,
+    output: &mut W,
+    lines: &[Line],
+) -> Result<(), ListingFault>
+    ensures whole { IsRising lines.now → OnOk result
+        (Appends (W.contents output.old) (W.contents output.new) (rendered lines.now)) }
+    ensures nothing { IfErr result (λ fault. fault ≡ Memory
+        → Keeps (W.contents output.old) (W.contents output.new)) }
+{
+    let mut piece = Vec::with_capacity(alloc, PIECE)?;
+    let mut form = 0u32;
+    let mut done = 0u8;
+    for line in lines {
+        make_room(output, &mut piece)?;
+        push_listed(&mut piece, form, done, line);
+        form = line.form;
+        done = line.line;
+    }
+    put_piece(output, &mut piece)?;
+    output.flush()?;
+    Ok(())
 }

@@ -13,9 +13,9 @@ loop-place-preserved c =
     filled_step c.args.codes.now c.loop-place.line c.loop-place.place c.index-codes-place.result c.shown_glyph.result within room c.index-codes-place.is
     (c.shown_glyph.ensures ∙ ap shown (sym c.index-codes-place.is)) c.loop-place.invariant
 
-pub returns : goal.returns
-returns c =
+pub returns-clause-items : goal.returns-clause-items
+returns-clause-items c =
     let n = c.length_shown-length.result in
     let end : c.loop-place.place ≡ n = omega arith in
-    line_pushed c.args.text.now.items c.extend_from_slice.new.self.items c.args.codes.now c.loop-place.line n (omega (arith, c.loop-place.invariant.within))
-    (subst (λ place. IsFilled c.args.codes.now place c.loop-place.line) end c.loop-place.invariant) c.length_shown-length.ensures.text c.in_ok-extend_from_slice.ensures.items
+    line_pushed c.args.text.now.items c.push_bytes.new.text.items c.args.codes.now c.loop-place.line n (omega (arith, c.loop-place.invariant.within))
+    (subst (λ place. IsFilled c.args.codes.now place c.loop-place.line) end c.loop-place.invariant) c.length_shown-length.ensures.text c.push_bytes.ensures.items

@@ -3,7 +3,7 @@ use Rattle.std.specs.List.{flat_map}
 use Rattle.cards.specs.declared.decks.TheConstants.{COLUMNS}
 use Rattle.cards.specs.Decks.{AreCharacters}
 use Rattle.cards.specs.Files.{column_of}
-use Rattle.cards.proofs.reading.split_card.Given as goal
+use Rattle.cards.proofs.reading.look_through.Given as goal
 
 abbrev pub invariant-loop-index : goal.invariant-loop-index
 invariant-loop-index l = record {

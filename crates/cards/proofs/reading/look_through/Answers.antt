@@ -1,6 +1,6 @@
 use Rattle.std.proofs.Common.{◌<◌, ◌∙◌, length, length-set, arith, refl}
 use Rattle.cards.proofs.ReadingColumns.{characters_more, columns_more, wrong_column, no_line_feed, whole_line}
-use Rattle.cards.proofs.reading.split_card.Goals as goal
+use Rattle.cards.proofs.reading.look_through.Goals as goal
 
 pub returns-in-Err-clause-fault : goal.returns-in-Err-clause-fault
 returns-in-Err-clause-fault c =
