@@ -458,10 +458,6 @@ module _ (old now : State) (done : ℕ) (reached : Reached old now done) where
   pub wanting_here : (limit : ℕ) → done < limit → Makes now.works.units (step now).works.units → IsWanting old now limit done
   wanting_here limit below makes = record { below = below; reached = reached.machine; attempted = reached.attempts; wanting = makes }
 
--- the same works, written otherwise
-pub reached_as : (old : State) (w x : Works) (done : ℕ) → x ≡ w → Reached old (running w) done → Reached old (running x) done
-reached_as old w x done same reached = rw same reached
-
 -- how a run in its middle goes on from works by the outcome of the next attempt
 module _ (old : State) (w x : Works) (done : ℕ) (reached : Reached old (running w) done) where
   pub goes_on_here : attempt w ≡ Ok (x, GoesOn) → Reached old (running x) (done + 1)

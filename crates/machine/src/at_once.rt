@@ -10,7 +10,7 @@ ghost use Rattle.units.specs.declared.units.Units.{Units};
 ghost use Rattle.units.specs.Units.{areas_end};
 ghost use Rattle.machine.specs.declared.named.Operation.TheVariants.{OnFields};
 ghost use Rattle.machine.specs.declared.operations.Course.TheVariants.{GoesOn};
-ghost use Rattle.machine.specs.Effect.{IsReady, attempt, effect, worked, works_of};
+ghost use Rattle.machine.specs.Effect.{IsReady, effect, worked, works_of};
 ghost use Rattle.machine.specs.Instructions.{decoded_by};
 ghost use Rattle.machine.specs.Word.{LooksInside};
 
@@ -111,7 +111,7 @@ pub fn prepare<C: Core>(core: &C, registers: &Registers, cache: &Cache) -> Optio
 /// Executes one of the usual operations, if it can be done at once. Returns whether it was; if not,
 /// nothing is changed.
 #[inline(always)]
-fn execute_at_once<C: Core>(
+pub fn execute_at_once<C: Core>(
     core: &mut C,
     registers: &mut Registers,
     units: &Units,
@@ -139,28 +139,5 @@ fn execute_at_once<C: Core>(
             true
         }
         _ => false,
-    }
-}
-
-/// Executes the instruction that is ready, if there is one and it can be done at once. Returns
-/// whether it was; if not, nothing is changed.
-#[inline(always)]
-pub fn attempt_at_once<C: Core>(
-    core: &mut C,
-    registers: &mut Registers,
-    units: &Units,
-    prepared: &Option<Prepared>,
-) -> bool
-    requires { IfSome prepared.now (λ ready.
-        IsReady ready (works_of (C.cells core.old) registers.old units.now)) }
-    ensures done { result ≡ true →
-        attempt (works_of (C.cells core.old) registers.old units.now)
-        ≡ Ok (works_of (C.cells core.new) registers.new units.now, GoesOn) }
-    ensures unchanged { result ≡ false → (C.cells core.new ≡ C.cells core.old)
-        × (registers.new ≡ registers.old) }
-{
-    match prepared {
-        Some(ready) => execute_at_once(core, registers, units, ready.instruction, ready.next),
-        None => false,
     }
 }

@@ -1,13 +1,13 @@
 //! The instruction cycle.
 
-ghost use Rattle.std.specs.Prelude.{◌≡◌, ◌+◌, ◌%◌, ◌<◌, ◌≤◌, ℕ, length, Ok, OnOk, IfSome, IfOk, IfErr};
+ghost use Rattle.std.specs.Prelude.{◌≡◌, ◌+◌, ◌%◌, ◌<◌, ◌≤◌, ℕ, length, Ok, OnOk, IfOk, IfErr};
 ghost use Rattle.core_store.specs.Storage.{largest_size};
 ghost use Rattle.machine.specs.Effect.{attempt, works_of, Ends, IsReady, next_of};
 ghost use Rattle.units.specs.Units.{areas_end};
 ghost use Rattle.machine.specs.Shapes.{shape_at};
 ghost use Rattle.machine.specs.Run.{after, attempts, is_running, running, IsWanting};
 
-use crate::at_once::{Prepared, attempt_at_once, prepare};
+use crate::at_once::{Prepared, execute_at_once, prepare};
 use crate::cache::{Cache, LOOKED_AT};
 use crate::decode::{operands, read_shape};
 use crate::operations::{Course, execute};
@@ -102,24 +102,31 @@ fn execute_prepared<C: Core>(
     execute(core, registers, units, instruction, next)
 }
 
-/// Executes the instruction at register I: the one that is ready, or else as it is read.
+/// Executes the instruction at register I: at once if it can be done so, else out of line. What is
+/// out of line has a result of its own, which keeps that of the usual case out of memory.
 #[inline(always)]
 fn attempt<C: Core>(
     core: &mut C,
     registers: &mut Registers,
     units: &mut Units,
     cache: &mut Cache,
-    prepared: &Option<Prepared>,
 ) -> Result<Course, Fault>
-    requires size { areas_end ≤ length (C.cells core.old) }
-    requires ready { IfSome prepared.now (λ ready.
-        IsReady ready (works_of (C.cells core.old) registers.old units.old)) }
+    requires { areas_end ≤ length (C.cells core.old) }
     ensures { Ends result (works_of (C.cells core.old) registers.old units.old)
         (works_of (C.cells core.new) registers.new units.new) attempt }
 {
-    match prepared {
-        Some(ready) => execute_prepared(core, registers, units, *ready),
-        None => attempt_anew(core, registers, units, cache),
+    let Some(ready) = prepare(core, registers, cache) else {
+        return match attempt_anew(core, registers, units, cache) {
+            Ok(course) => Ok(course),
+            Err(fault) => Err(fault),
+        };
+    };
+    if execute_at_once(core, registers, units, ready.instruction, ready.next) {
+        return Ok(Course::GoesOn);
+    }
+    match execute_prepared(core, registers, units, ready) {
+        Ok(course) => Ok(course),
+        Err(fault) => Err(fault),
     }
 }
 
@@ -162,11 +169,7 @@ fn execute_up_to<C: Core>(
 {
     let mut cache = Cache::new();
     for attempted in 0..limit {
-        let prepared = prepare(core, registers, &cache);
-        if attempt_at_once(core, registers, units, &prepared) {
-            continue;
-        }
-        match attempt(core, registers, units, &mut cache, &prepared) {
+        match attempt(core, registers, units, &mut cache) {
             Ok(Course::GoesOn) => {}
             Ok(Course::Halts) => {
                 return Ok(Stretch {

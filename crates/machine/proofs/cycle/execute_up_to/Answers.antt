@@ -1,108 +1,57 @@
-use Rattle.std.proofs.Common.{◌≡◌, ◌∙◌, ap, refl, arith, length}
+use Rattle.std.proofs.Common.{◌∙◌, ap, refl, arith, length}
 use Rattle.machine.specs.Effect.{Works, works_of}
 use Rattle.machine.specs.declared.operations.Course.TheVariants.{GoesOn, Halts}
-use Rattle.machine.proofs.Steps.{attempt_size, checked_here, ended_whole, goes_on_here, halted_here, reached_as, reached_none, wanting_next}
+use Rattle.machine.proofs.Steps.{attempt_size, checked_here, ended_whole, goes_on_here, halted_here, reached_none, wanting_next}
 use Rattle.machine.proofs.cycle.execute_up_to.Goals as goal
 
 pub loop-attempted-init : goal.loop-attempted-init
 loop-attempted-init g c = record { reached = reached_none _; size = refl }
 
--- the instruction was done at once
-
-pub loop-attempted-preserved-then-attempt_at_once : goal.loop-attempted-preserved-then-attempt_at_once
-loop-attempted-preserved-then-attempt_at_once g c =
+pub loop-attempted-preserved : goal.loop-attempted-preserved
+loop-attempted-preserved g c =
     let w = works_of (g.C.Core.cells c.loop-attempted.core) c.loop-attempted.registers c.loop-attempted.units in
-    let x = works_of (g.C.Core.cells c.attempt_at_once.new.core) c.attempt_at_once.new.registers c.loop-attempted.units in
-    let outcome = c.attempt_at_once.ensures.done c.if-attempt_at_once.true in
+    let x = works_of (g.C.Core.cells c.attempt.new.core) c.attempt.new.registers c.attempt.new.units in
+    let outcome = rw c.in-Ok-GoesOn.field-0-is at c.in-Ok-GoesOn.ensures in
     record {
       reached = goes_on_here _ w x _ c.loop-attempted.invariant.reached outcome;
       size = attempt_size w x GoesOn outcome ∙ c.loop-attempted.invariant.size;
     }
 
--- it was not, and nothing was changed
-
-pub loop-attempted-preserved : goal.loop-attempted-preserved
-loop-attempted-preserved g c =
-    let w = works_of (g.C.Core.cells c.loop-attempted.core) c.loop-attempted.registers c.loop-attempted.units in
-    let v = works_of (g.C.Core.cells c.attempt_at_once.new.core) c.attempt_at_once.new.registers c.loop-attempted.units in
-    let kept = c.attempt_at_once.ensures.unchanged c.if-attempt_at_once.false in
-    let same : v ≡ w = rw (kept.0, kept.1) refl in
-    let x = works_of (g.C.Core.cells c.attempt.new.core) c.attempt.new.registers c.attempt.new.units in
-    let outcome = rw c.in-Ok-GoesOn.field-0-is at c.in-Ok-GoesOn.ensures in
-    record {
-      reached = goes_on_here _ v x _ (reached_as _ w v _ same c.loop-attempted.invariant.reached) outcome;
-      size = attempt_size v x GoesOn outcome ∙ ap (λ (u : Works). length u.storage) same ∙ c.loop-attempted.invariant.size;
-    }
-
 pub returns-in-Ok-Halts-clause-machine : goal.returns-in-Ok-Halts-clause-machine
 returns-in-Ok-Halts-clause-machine g c =
-    let w = works_of (g.C.Core.cells c.loop-attempted.core) c.loop-attempted.registers c.loop-attempted.units in
-    let v = works_of (g.C.Core.cells c.attempt_at_once.new.core) c.attempt_at_once.new.registers c.loop-attempted.units in
-    let kept = c.attempt_at_once.ensures.unchanged c.if-attempt_at_once.false in
-    let same : v ≡ w = rw (kept.0, kept.1) refl in
     let outcome = rw c.in-Ok-Halts.field-0-is at c.in-Ok-Halts.ensures in
-    (halted_here _ v _ _ (reached_as _ w v _ same c.loop-attempted.invariant.reached) c.args.limit (omega arith) outcome).machine
+    (halted_here _ _ _ _ c.loop-attempted.invariant.reached c.args.limit (omega arith) outcome).machine
 
 pub returns-in-Ok-Halts-clause-attempted : goal.returns-in-Ok-Halts-clause-attempted
 returns-in-Ok-Halts-clause-attempted g c =
-    let w = works_of (g.C.Core.cells c.loop-attempted.core) c.loop-attempted.registers c.loop-attempted.units in
-    let v = works_of (g.C.Core.cells c.attempt_at_once.new.core) c.attempt_at_once.new.registers c.loop-attempted.units in
-    let kept = c.attempt_at_once.ensures.unchanged c.if-attempt_at_once.false in
-    let same : v ≡ w = rw (kept.0, kept.1) refl in
     let outcome = rw c.in-Ok-Halts.field-0-is at c.in-Ok-Halts.ensures in
-    (halted_here _ v _ _ (reached_as _ w v _ same c.loop-attempted.invariant.reached) c.args.limit (omega arith) outcome).attempts
+    (halted_here _ _ _ _ c.loop-attempted.invariant.reached c.args.limit (omega arith) outcome).attempts
 
 pub returns-in-Ok-Halts-clause-size : goal.returns-in-Ok-Halts-clause-size
 returns-in-Ok-Halts-clause-size g c =
-    let w = works_of (g.C.Core.cells c.loop-attempted.core) c.loop-attempted.registers c.loop-attempted.units in
-    let v = works_of (g.C.Core.cells c.attempt_at_once.new.core) c.attempt_at_once.new.registers c.loop-attempted.units in
-    let kept = c.attempt_at_once.ensures.unchanged c.if-attempt_at_once.false in
-    let same : v ≡ w = rw (kept.0, kept.1) refl in
     let outcome = rw c.in-Ok-Halts.field-0-is at c.in-Ok-Halts.ensures in
-    attempt_size v _ Halts outcome ∙ ap (λ (u : Works). length u.storage) same ∙ c.loop-attempted.invariant.size
+    attempt_size _ _ Halts outcome ∙ c.loop-attempted.invariant.size
 
 pub returns-in-Stopped-clause-machine : goal.returns-in-Stopped-clause-machine
 returns-in-Stopped-clause-machine g c =
-    let w = works_of (g.C.Core.cells c.loop-attempted.core) c.loop-attempted.registers c.loop-attempted.units in
-    let v = works_of (g.C.Core.cells c.attempt_at_once.new.core) c.attempt_at_once.new.registers c.loop-attempted.units in
-    let kept = c.attempt_at_once.ensures.unchanged c.if-attempt_at_once.false in
-    let same : v ≡ w = rw (kept.0, kept.1) refl in
     let outcome = rw c.in-Stopped.is at c.in-Err.ensures.0 in
-    (checked_here _ v _ _ (reached_as _ w v _ same c.loop-attempted.invariant.reached) c.args.limit c.in-Stopped.check (omega arith) outcome c.in-Err.ensures.1).machine
+    (checked_here _ _ _ _ c.loop-attempted.invariant.reached c.args.limit c.in-Stopped.check (omega arith) outcome c.in-Err.ensures.1).machine
 
 pub returns-in-Stopped-clause-attempted : goal.returns-in-Stopped-clause-attempted
 returns-in-Stopped-clause-attempted g c =
-    let w = works_of (g.C.Core.cells c.loop-attempted.core) c.loop-attempted.registers c.loop-attempted.units in
-    let v = works_of (g.C.Core.cells c.attempt_at_once.new.core) c.attempt_at_once.new.registers c.loop-attempted.units in
-    let kept = c.attempt_at_once.ensures.unchanged c.if-attempt_at_once.false in
-    let same : v ≡ w = rw (kept.0, kept.1) refl in
     let outcome = rw c.in-Stopped.is at c.in-Err.ensures.0 in
-    (checked_here _ v _ _ (reached_as _ w v _ same c.loop-attempted.invariant.reached) c.args.limit c.in-Stopped.check (omega arith) outcome c.in-Err.ensures.1).attempts
+    (checked_here _ _ _ _ c.loop-attempted.invariant.reached c.args.limit c.in-Stopped.check (omega arith) outcome c.in-Err.ensures.1).attempts
 
 pub returns-in-Stopped-clause-size : goal.returns-in-Stopped-clause-size
-returns-in-Stopped-clause-size g c =
-    let w = works_of (g.C.Core.cells c.loop-attempted.core) c.loop-attempted.registers c.loop-attempted.units in
-    let v = works_of (g.C.Core.cells c.attempt_at_once.new.core) c.attempt_at_once.new.registers c.loop-attempted.units in
-    let kept = c.attempt_at_once.ensures.unchanged c.if-attempt_at_once.false in
-    let same : v ≡ w = rw (kept.0, kept.1) refl in
-    ap (λ (u : Works). length u.storage) c.in-Err.ensures.1 ∙ ap (λ (u : Works). length u.storage) same ∙ c.loop-attempted.invariant.size
+returns-in-Stopped-clause-size g c = ap (λ (w : Works). length w.storage) c.in-Err.ensures.1 ∙ c.loop-attempted.invariant.size
 
 pub returns-in-NoMemory-clause-given_up : goal.returns-in-NoMemory-clause-given_up
 returns-in-NoMemory-clause-given_up g c =
-    let w = works_of (g.C.Core.cells c.loop-attempted.core) c.loop-attempted.registers c.loop-attempted.units in
-    let v = works_of (g.C.Core.cells c.attempt_at_once.new.core) c.attempt_at_once.new.registers c.loop-attempted.units in
-    let kept = c.attempt_at_once.ensures.unchanged c.if-attempt_at_once.false in
-    let same : v ≡ w = rw (kept.0, kept.1) refl in
     let makes = rw c.in-NoMemory.is at c.in-Err.ensures.0 in
-    wanting_next _ v _ _ (reached_as _ w v _ same c.loop-attempted.invariant.reached) c.args.limit (omega arith) makes c.in-Err.ensures.1
+    wanting_next _ _ _ _ c.loop-attempted.invariant.reached c.args.limit (omega arith) makes c.in-Err.ensures.1
 
 pub returns-in-NoMemory-clause-size : goal.returns-in-NoMemory-clause-size
-returns-in-NoMemory-clause-size g c =
-    let w = works_of (g.C.Core.cells c.loop-attempted.core) c.loop-attempted.registers c.loop-attempted.units in
-    let v = works_of (g.C.Core.cells c.attempt_at_once.new.core) c.attempt_at_once.new.registers c.loop-attempted.units in
-    let kept = c.attempt_at_once.ensures.unchanged c.if-attempt_at_once.false in
-    let same : v ≡ w = rw (kept.0, kept.1) refl in
-    ap (λ (u : Works). length u.storage) c.in-Err.ensures.1 ∙ ap (λ (u : Works). length u.storage) same ∙ c.loop-attempted.invariant.size
+returns-in-NoMemory-clause-size g c = ap (λ (w : Works). length w.storage) c.in-Err.ensures.1 ∙ c.loop-attempted.invariant.size
 
 pub returns-clause-machine : goal.returns-clause-machine
 returns-clause-machine g c = (ended_whole _ _ _ c.loop-attempted.invariant.reached c.args.limit (omega arith)).machine
