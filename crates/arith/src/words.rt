@@ -41,8 +41,8 @@ fn settle(bytes: u8x16) -> u8x16
 }
 
 /// The digits of the difference of two numbers, which are given by their numeric parts, and whether
-/// the first is greater.
-#[inline(always)]
+/// the first is greater. It is out of line, so that sums under the same sign stay small.
+#[inline(never)]
 pub fn difference(a: u8x16, b: u8x16) -> (u8x16, bool)
     requires a { length a ≡ 16 }
     requires b { length b ≡ 16 }

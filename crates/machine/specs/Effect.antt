@@ -1,6 +1,6 @@
 -- the effect of an instruction
 use Rattle.std.specs.Prelude.{ℕ, ◌≡◌, ◌+◌, ◌%◌, ◌==◌, length, nat_lt, Bool, true, false, if◌then◌else◌, Result, Ok, Err}
-use Rattle.core_store.specs.Storage.{Storage, code_at, largest_size}
+use Rattle.core_store.specs.Storage.{Storage, code_at}
 use Rattle.core_store.specs.Operands.{lowered}
 use Rattle.core_store.specs.Checked.{require, find_or, and_then}
 use Rattle.core_store.specs.declared.registers.Registers.{Registers}
@@ -33,9 +33,7 @@ use Rattle.machine.specs.declared.named.Modifier.TheVariants.{Plain, OnCondition
 use Rattle.machine.specs.declared.named.Decoded.{Decoded}
 use Rattle.machine.specs.declared.operations.Course.{Course}
 use Rattle.machine.specs.declared.operations.Course.TheVariants.{GoesOn, Halts}
-use Rattle.machine.specs.declared.at_once.Prepared.{Prepared}
-use Rattle.machine.specs.Instructions.{decoded_by}
-use Rattle.machine.specs.Word.{word, decoded, LooksInside}
+use Rattle.machine.specs.Word.{word, decoded}
 use Rattle.machine.specs.Branches.{is_met, once_tested, passes}
 
 -- what an instruction works on: storage, registers and units
@@ -206,13 +204,6 @@ attempt w =
     (find_or (word w.storage w.registers.i) Instruction (λ codes.
     and_then (decoded w.storage w.registers codes) (λ d.
     effect d.operation d (next_of w.registers.i (length codes)) w)))
-
--- an instruction is ready: it is the one that an attempt executes, and what it looks at is inside
-pub record IsReady (p : Prepared) (w : Works) : Type 0 where
-  pub same : attempt w
-      ≡ effect (decoded_by p.instruction).operation (decoded_by p.instruction) p.next w
-  pub inside : LooksInside (decoded_by p.instruction).modifier p.instruction.b (length w.storage)
-  pub below : LooksInside (decoded_by p.instruction).modifier p.instruction.b largest_size
 
 -- why an instruction was given up: the check that stops it, or no memory for a card or a line that
 -- it makes

@@ -4,19 +4,16 @@
 //! fields of at most sixteen characters, or branch. These are done here, and all others as in
 //! `cycle`.
 
-ghost use Rattle.std.specs.Prelude.{◌≡◌, ◌≤◌, ◌<◌, ℕ, true, false, length, IfSome, Ok};
+ghost use Rattle.std.specs.Prelude.{◌≡◌, ◌≤◌, ◌<◌, ℕ, true, false, length, Ok};
 ghost use Rattle.core_store.specs.Storage.{largest_size};
 ghost use Rattle.units.specs.declared.units.Units.{Units};
-ghost use Rattle.units.specs.Units.{areas_end};
 ghost use Rattle.machine.specs.declared.named.Operation.TheVariants.{OnFields};
 ghost use Rattle.machine.specs.declared.operations.Course.TheVariants.{GoesOn};
-ghost use Rattle.machine.specs.Effect.{IsReady, effect, worked, works_of};
+ghost use Rattle.machine.specs.Effect.{effect, worked, works_of};
 ghost use Rattle.machine.specs.Instructions.{decoded_by};
 ghost use Rattle.machine.specs.Word.{LooksInside};
 
-use crate::cache::{Cache, LOOKED_AT};
 use crate::characters::{ADD, BRANCH, COMPARE, LOAD, MOVE, SUBTRACT};
-use crate::decode::operands;
 use crate::instruction::Instruction;
 use crate::operations::FieldOperation::{self, Add, Compare, Load, Move, Subtract};
 use crate::operations::branch;
@@ -76,36 +73,6 @@ fn work_on_fields_at_once<C: Core>(
     }
     registers.i = next;
     true
-}
-
-/// An instruction that is ready to be executed.
-#[derive(Clone, Copy)]
-pub struct Prepared {
-    pub instruction: Instruction,
-    /// The position after it.
-    pub next: u16,
-}
-
-/// The instruction at register I, if its shape is kept and its operands are inside the storage.
-#[inline(always)]
-pub fn prepare<C: Core>(core: &C, registers: &Registers, cache: &Cache) -> Option<Prepared>
-    requires { areas_end ≤ length (C.cells core.now) }
-    ensures { (units : Units) → IfSome result (λ prepared.
-        IsReady prepared (works_of (C.cells core.now) registers.now units)) }
-{
-    let i = registers.i;
-    if i > core.size() - LOOKED_AT {
-        return None;
-    }
-    let shape = cache.shape(i, core.eight_codes(i), core.nine_marks(i))?;
-    let (a, b) = match operands(core, registers, &shape.addresses) {
-        Ok(operands) => operands,
-        Err(_) => return None,
-    };
-    Some(Prepared {
-        instruction: shape.working_at(a, b),
-        next: i + shape.length,
-    })
 }
 
 /// Executes one of the usual operations, if it can be done at once. Returns whether it was; if not,

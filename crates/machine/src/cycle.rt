@@ -1,13 +1,13 @@
 //! The instruction cycle.
 
-ghost use Rattle.std.specs.Prelude.{◌≡◌, ◌+◌, ◌%◌, ◌<◌, ◌≤◌, ℕ, length, Ok, OnOk, IfOk, IfErr};
+ghost use Rattle.std.specs.Prelude.{◌≡◌, ◌+◌, ◌%◌, ◌<◌, ◌≤◌, ℕ, true, length, Ok, OnOk, IfOk, IfErr};
 ghost use Rattle.core_store.specs.Storage.{largest_size};
-ghost use Rattle.machine.specs.Effect.{attempt, works_of, Ends, IsReady, next_of};
+ghost use Rattle.machine.specs.Effect.{attempt, works_of, Ends, next_of};
 ghost use Rattle.units.specs.Units.{areas_end};
-ghost use Rattle.machine.specs.Shapes.{shape_at};
+ghost use Rattle.machine.specs.Shapes.{has_two, operands_at, shape_at};
 ghost use Rattle.machine.specs.Run.{after, attempts, is_running, running, IsWanting};
 
-use crate::at_once::{Prepared, execute_at_once, prepare};
+use crate::at_once::execute_at_once;
 use crate::cache::{Cache, LOOKED_AT};
 use crate::decode::{operands, read_shape};
 use crate::operations::{Course, execute};
@@ -27,8 +27,32 @@ fn next_of(i: u16, count: u16) -> u16
     if next == LARGEST_SIZE { 0 } else { next }
 }
 
+/// Executes the instruction at register I, which has this shape and works at these positions.
+#[inline(never)]
+fn execute_shape<C: Core>(
+    core: &mut C,
+    registers: &mut Registers,
+    units: &mut Units,
+    shape: &Shape,
+    a: u16,
+    b: u16,
+) -> Result<Course, Fault>
+    requires size { areas_end ≤ length (C.cells core.old) }
+    requires inside { registers.old.i < length (C.cells core.old) }
+    requires ends { registers.old.i + shape.now.length ≤ largest_size }
+    requires shape { shape_at (C.cells core.old) registers.old.i ≡ Ok shape.now }
+    requires operands { operands_at (C.cells core.old) registers.old shape.now.addresses
+        ≡ Ok (a, b) }
+    requires two { has_two shape.now.addresses ≡ true → b < length (C.cells core.old) }
+    requires below { has_two shape.now.addresses ≡ true → b < largest_size }
+    ensures { Ends result (works_of (C.cells core.old) registers.old units.old)
+        (works_of (C.cells core.new) registers.new units.new) attempt }
+{
+    let next = next_of(registers.i, shape.length);
+    execute(core, registers, units, shape.working_at(a, b), next)
+}
+
 /// Executes the instruction at register I, which has this shape.
-#[inline(always)]
 fn carry_out<C: Core>(
     core: &mut C,
     registers: &mut Registers,
@@ -46,8 +70,7 @@ fn carry_out<C: Core>(
         Ok(operands) => operands,
         Err(check) => return Err(Fault::Stopped(check)),
     };
-    let next = next_of(registers.i, shape.length);
-    execute(core, registers, units, shape.working_at(a, b), next)
+    execute_shape(core, registers, units, shape, a, b)
 }
 
 /// Keeps the shape of the instruction at a position.
@@ -85,25 +108,9 @@ fn attempt_anew<C: Core>(
     carry_out(core, registers, units, &shape)
 }
 
-/// Executes an instruction that is ready.
-#[inline(never)]
-fn execute_prepared<C: Core>(
-    core: &mut C,
-    registers: &mut Registers,
-    units: &mut Units,
-    prepared: Prepared,
-) -> Result<Course, Fault>
-    requires size { areas_end ≤ length (C.cells core.old) }
-    requires ready { IsReady prepared (works_of (C.cells core.old) registers.old units.old) }
-    ensures { Ends result (works_of (C.cells core.old) registers.old units.old)
-        (works_of (C.cells core.new) registers.new units.new) attempt }
-{
-    let Prepared { instruction, next } = prepared;
-    execute(core, registers, units, instruction, next)
-}
-
-/// Executes the instruction at register I: at once if it can be done so, else out of line. What is
-/// out of line has a result of its own, which keeps that of the usual case out of memory.
+/// Executes the instruction at register I: at once if its shape is kept and it can be done so, else
+/// out of line. What is out of line has a result of its own, which keeps that of the usual case out
+/// of memory.
 #[inline(always)]
 fn attempt<C: Core>(
     core: &mut C,
@@ -115,16 +122,26 @@ fn attempt<C: Core>(
     ensures { Ends result (works_of (C.cells core.old) registers.old units.old)
         (works_of (C.cells core.new) registers.new units.new) attempt }
 {
-    let Some(ready) = prepare(core, registers, cache) else {
-        return match attempt_anew(core, registers, units, cache) {
-            Ok(course) => Ok(course),
-            Err(fault) => Err(fault),
-        };
-    };
-    if execute_at_once(core, registers, units, ready.instruction, ready.next) {
-        return Ok(Course::GoesOn);
+    let i = registers.i;
+    if i <= core.size() - LOOKED_AT {
+        let characters = core.eight_codes(i);
+        let marks = core.nine_marks(i);
+        if let Some(shape) = cache.shape(i, characters, marks) {
+            let (a, b) = match operands(core, registers, &shape.addresses) {
+                Ok(operands) => operands,
+                Err(check) => return Err(Fault::Stopped(check)),
+            };
+            let instruction = shape.working_at(a, b);
+            if execute_at_once(core, registers, units, instruction, i + shape.length) {
+                return Ok(Course::GoesOn);
+            }
+            return match execute_shape(core, registers, units, shape, a, b) {
+                Ok(course) => Ok(course),
+                Err(fault) => Err(fault),
+            };
+        }
     }
-    match execute_prepared(core, registers, units, ready) {
+    match attempt_anew(core, registers, units, cache) {
         Ok(course) => Ok(course),
         Err(fault) => Err(fault),
     }
