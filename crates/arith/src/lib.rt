@@ -7,9 +7,9 @@
 //! addresses (`specs/Bases.antt`); or the first check that applies, and then nothing is changed.
 //! Everything is generic over `Core`, and no call takes memory.
 //!
-//! Fields of at most sixteen characters that end at position 15 or later are compared all at once,
-//! and so are numbers copied and subtracted (`words`); those with the same sign are added so where
-//! they have at most fifteen characters (`lanes`). All others go character by character.
+//! Fields of at most sixteen characters that end at position 15 or later are compared all at once.
+//! Numbers in such fields are copied so, and added so if their signs differ (`words`), or if they
+//! have at most fifteen digits (`lanes`). All others go character by character.
 #![tactic(auto)]
 
 mod bases;
