@@ -55,8 +55,8 @@ fn place_bits(control: u8x16) -> u8x16
     )
 }
 
-/// The number of digit places to the right of each character. It is summed up for the next lane,
-/// the next two, the next four and the next eight.
+/// The number of digit places to the right of each character. Each sum is of twice as many lanes as
+/// the one before it.
 #[inline(always)]
 fn places_right(control: u8x16) -> u8x16
     requires sixteen { length control ≡ 16 }
@@ -96,7 +96,8 @@ fn places_of_blank_sign(minus: bool) -> u8
 }
 
 /// What is left of the control characters beside the data: a blank for each that is not kept, and
-/// digit places as they are. `count` is the number of data characters.
+/// digit places as they are. `right` is the number of digit places to the right of each character,
+/// `count` the number of data characters.
 #[inline(always)]
 fn keep_codes(control: u8x16, right: u8x16, count: u16, minus: bool) -> u8x16
     requires most { count ≤ 16 }
