@@ -4,7 +4,7 @@ ghost use Rattle.std.specs.Prelude.{◌≡◌, Some};
 ghost use Rattle.std.specs.IoError.{error_kind};
 ghost use Rattle.command_line.specs.Printed.{fault_words, reading_fault, writing_fault};
 
-use cards::{CardError, CardFault, DeckFault};
+use cards::{CardFault, DeckFault, OUT_OF_MEMORY};
 use std::alloc::AllocError;
 use std::error::Error;
 use std::fmt::{Display, Formatter};
@@ -32,11 +32,7 @@ impl Fault {
         ensures { result ≡ reading_fault (error_kind error.now) }
     {
         match error.kind() {
-            ErrorKind::OutOfMemory => Fault::Card(CardFault {
-                error: CardError::NoMemory,
-                card: 0,
-                column: 0,
-            }),
+            ErrorKind::OutOfMemory => Fault::Card(OUT_OF_MEMORY),
             _ => Fault::Device,
         }
     }

@@ -16,7 +16,6 @@ use Rattle.machine.specs.Standings.{standing_of}
 use Rattle.command_line.specs.declared.faults.Fault.{Fault}
 use Rattle.command_line.specs.declared.faults.Fault.TheVariants as fault
 use Rattle.counter.specs.declared.reports.Report.{Report}
-use Rattle.counter.specs.declared.running.Outcome.{Outcome}
 use Rattle.command_line.specs.declared.statuses.Status.{Status}
 use Rattle.command_line.specs.declared.statuses.Status.TheVariants as status
 use Rattle.command_line.specs.Printed.{fault_words}
@@ -73,10 +72,6 @@ Refuses text fault.TooManyCards = ⊥
 Refuses text fault.Memory = Unit {0}
 Refuses text fault.Device = Unit {0}
 
--- what an outcome gives: its listing and its report
-abbrev pub shown_of : Outcome → Shown
-shown_of outcome = record { listing = outcome.listing.items; report = outcome.report }
-
 -- how the run of a text ends: with what the machine gives, or with a fault
 abbrev pub Ends : List ℕ → Size → Switches → Result Shown Fault → Type 0
 Ends text size switches (Ok shown) = IsRunOf text size switches shown
@@ -105,11 +100,16 @@ pub record IsPrinted (ending : Result Shown Fault) (ended : Status)
   pub output : Outputs ending output_old output_new
   pub errors : Appends errors_old errors_new (message_of ending)
 
--- what the run gave was printed, or the fault of a device
+-- why a listing was not written whole: want of memory, and then nothing was written, or a device
+abbrev pub IsListingFault : Fault → Option (List ℕ) → Option (List ℕ) → Type 0
+IsListingFault f old new = ((f ≡ fault.Memory) × Keeps old new) ⊎ (f ≡ fault.Device)
+
+-- what the run gave was printed, or the fault of memory or of a device
 abbrev pub IsShown : Shown → Status → Option (List ℕ) → Option (List ℕ) → Option (List ℕ) →
     Option (List ℕ) → Type 0
 IsShown shown ended output_old output_new errors_old errors_new =
     IsPrinted (Ok shown) ended output_old output_new errors_old errors_new
+    ⊎ IsPrinted (Err fault.Memory) ended output_old output_new errors_old errors_new
     ⊎ IsPrinted (Err fault.Device) ended output_old output_new errors_old errors_new
 
 -- the run of the text ended in some way, and what it gave was printed

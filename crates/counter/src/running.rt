@@ -1,23 +1,25 @@
 //! Running a deck from a reader.
 
-ghost use Rattle.std.specs.Prelude.{◌≡◌, ◌≢◌, ◌<◌, ◌⊎◌, List, ℕ, length, take, IfOk, IfErr};
-ghost use Rattle.machine.specs.Run.{after, loaded};
+ghost use Rattle.std.specs.Prelude.{◌≡◌, ◌≢◌, ◌<◌, ◌⊎◌, List, ℕ, length, take, IfOk, IfErr, OnOk};
+ghost use Rattle.std.specs.Io.KnownBytes.{Appends};
+ghost use Rattle.machine.specs.Run.{after, lines_of, loaded};
 ghost use Rattle.cards.specs.Decks.{IsDeck};
 ghost use Rattle.cards.specs.Faults.{out_of_memory};
 ghost use Rattle.cards.specs.Files.{text_of};
 ghost use Rattle.cards.specs.declared.Card.{Card};
 ghost use Rattle.units.specs.declared.profiles.Profile.TheVariants.{Selecting};
-ghost use Rattle.counter.specs.Runs.{IsRunOf, IsShown, Reads, Refuses, Tells, shown_by, shown_of, most_bytes, most_instructions};
+ghost use Rattle.units.specs.Listing.{rendered};
+ghost use Rattle.counter.specs.Runs.{IsListingFault, IsRunOf, IsShown, Reads, Refuses, Tells, report_of, shown_by, most_bytes, most_instructions};
 
 use crate::reports::Report;
-use cards::{Deck, read_text};
-use command_line::{Fault, Status, put_out, tell_fault};
+use cards::{Deck, OUT_OF_MEMORY, read_text};
+use command_line::{Fault, Status, tell_fault};
 use core_store::{PlaneCore, Size};
 use machine::{Machine, Meter};
 use std::alloc::{AllocError, Global};
 use std::io;
 use std::io::{Read, Write};
-use units::{Profile, Switches, render};
+use units::{ListingFault, Profile, Switches, write_listing};
 
 /// How many bytes are read at most: 2,000 cards and one byte, so that a longer deck is noticed.
 pub const MOST_BYTES: u64 = 162_001;
@@ -25,21 +27,16 @@ pub const MOST_BYTES: u64 = 162_001;
 /// The greatest number of instructions for which a deck runs.
 pub const MOST_INSTRUCTIONS: u32 = 1_000_000;
 
-/// The result of a run: the listing, and the machine's report.
-#[derive(Drop)]
-struct Outcome {
-    listing: Vec<u8>,
-    report: Report,
-}
-
-/// Reads a reader to its end, or up to `MOST_BYTES` bytes. Fails if the reader fails or if there is
-/// no memory.
+/// Reads a reader to its end, or up to `MOST_BYTES` bytes, for which memory is taken at once. Fails
+/// if the reader fails or if there is no memory.
 pub fn text_in<R: Read + Drop>(alloc: Global, reader: R) -> Result<Vec<u8>, Fault>
     ensures text { IfOk result (λ text. Reads (R.remaining reader) text.items) }
     ensures fault { IfErr result (λ fault. (fault ≡ Fault.Card out_of_memory)
         ⊎ (fault ≡ Fault.Device)) }
 {
-    let mut text = Vec::new(alloc);
+    let Ok(mut text) = Vec::with_capacity(alloc, MOST_BYTES as usize) else {
+        return Err(Fault::Card(OUT_OF_MEMORY));
+    };
     match reader.take(MOST_BYTES).read_to_end(&mut text) {
         Ok(_) => Ok(text),
         Err(error) => Err(Fault::of_reading(&error)),
@@ -62,23 +59,14 @@ fn machine_after(
     Ok(machine)
 }
 
-/// The result of a machine's run.
-fn outcome_in(alloc: Global, machine: &Machine<PlaneCore>) -> Result<Outcome, AllocError>
-    ensures { IfOk result (λ outcome. shown_of outcome ≡ shown_by machine.now) }
-{
-    let parts = machine.parts();
-    let listing = render(alloc, &parts.units.printer.lines)?;
-    let report = Report {
-        cards: parts.units.punch.cards.len(),
-        lines: parts.units.printer.lines.len(),
-        standing: parts.standing_at(),
-    };
-    Ok(Outcome { listing, report })
-}
-
-/// The result of the run of a text's deck.
-fn outcome_of(alloc: Global, text: &[u8], size: Size, switches: Switches) -> Result<Outcome, Fault>
-    ensures ran { IfOk result (λ outcome. IsRunOf text.now size switches (shown_of outcome)) }
+/// The machine that has run a text's deck.
+fn machine_for(
+    alloc: Global,
+    text: &[u8],
+    size: Size,
+    switches: Switches,
+) -> Result<Machine<PlaneCore>, Fault>
+    ensures ran { IfOk result (λ machine. IsRunOf text.now size switches (shown_by machine)) }
     ensures fault { IfErr result (λ fault. Refuses text.now fault × (fault ≢ Fault.Device)) }
 {
     let deck = match read_text(alloc, text) {
@@ -88,33 +76,67 @@ fn outcome_of(alloc: Global, text: &[u8], size: Size, switches: Switches) -> Res
     if deck.cards().is_empty() {
         return Err(Fault::Empty);
     }
-    let Ok(machine) = machine_after(alloc, deck, size, switches) else {
-        return Err(Fault::Memory);
-    };
-    match outcome_in(alloc, &machine) {
-        Ok(outcome) => Ok(outcome),
+    match machine_after(alloc, deck, size, switches) {
+        Ok(machine) => Ok(machine),
         Err(_) => Err(Fault::Memory),
     }
 }
 
-/// Writes the listing, and then prints the machine's report.
-fn show<W: Write, E: Write>(outcome: &Outcome, output: &mut W, errors: &mut E) -> io::Result<Status>
-    ensures { IfOk result (λ status. IsShown (shown_of outcome.now) status
+/// Writes the listing of the lines that a machine has printed.
+fn put_listing<W: Write>(
+    alloc: Global,
+    machine: &Machine<PlaneCore>,
+    output: &mut W,
+) -> Result<(), Fault>
+    ensures whole { OnOk result (Appends (W.contents output.old) (W.contents output.new)
+        (rendered (lines_of machine.now))) }
+    ensures fault { IfErr result (λ fault. IsListingFault fault
+        (W.contents output.old) (W.contents output.new)) }
+{
+    match write_listing(alloc, output, &machine.parts().units.printer.lines) {
+        Ok(()) => Ok(()),
+        Err(ListingFault::Memory) => Err(Fault::Memory),
+        Err(ListingFault::Output) => Err(Fault::Device),
+    }
+}
+
+/// The report of a machine.
+fn report_of(machine: &Machine<PlaneCore>) -> Report
+    ensures { result ≡ report_of machine.now }
+{
+    let parts = machine.parts();
+    Report {
+        cards: parts.units.punch.cards.len(),
+        lines: parts.units.printer.lines.len(),
+        standing: parts.standing_at(),
+    }
+}
+
+/// Writes the listing of a machine that has run, and then prints its report.
+fn show<W: Write, E: Write>(
+    alloc: Global,
+    machine: &Machine<PlaneCore>,
+    output: &mut W,
+    errors: &mut E,
+) -> io::Result<Status>
+    ensures { IfOk result (λ status. IsShown (shown_by machine.now) status
         (W.contents output.old) (W.contents output.new)
         (E.contents errors.old) (E.contents errors.new)) }
 {
-    if put_out(output, &outcome.listing).is_err() {
-        return tell_fault(errors, Fault::Device);
+    match put_listing(alloc, machine, output) {
+        Ok(()) => {}
+        Err(fault) => return tell_fault(errors, fault),
     }
-    let report = outcome.report;
+    let report = report_of(machine);
     writeln!(errors, "{report}")?;
     Ok(report.status())
 }
 
 /// Runs the deck whose text a reader has, and returns how the program ends.
 ///
-/// The listing is written whole before anything is printed. If a fault is printed, no listing is
-/// written, except for what a failing output took. Fails only if `errors` itself fails.
+/// The listing is written whole, piece by piece, before anything is printed. If a fault is printed,
+/// no listing is written, except for what a failing output took. Fails only if `errors` itself
+/// fails.
 pub fn run_deck<R: Read + Drop, W: Write, E: Write>(
     alloc: Global,
     reader: R,
@@ -132,8 +154,8 @@ pub fn run_deck<R: Read + Drop, W: Write, E: Write>(
         Ok(text) => text,
         Err(fault) => return tell_fault(errors, fault),
     };
-    match outcome_of(alloc, &text, size, switches) {
-        Ok(outcome) => show(&outcome, output, errors),
+    match machine_for(alloc, &text, size, switches) {
+        Ok(machine) => show(alloc, &machine, output, errors),
         Err(fault) => tell_fault(errors, fault),
     }
 }

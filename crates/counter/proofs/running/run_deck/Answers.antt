@@ -36,8 +36,8 @@ returns-in-Err g c =
 pub returns : goal.returns
 returns g c =
     let text = c.in-Ok.text.items in
-    let fault = c.in-Err-outcome_of.fault in
-    let refused : Refuses text fault = subst (λ (t : List ℕ). Refuses t fault) c.deref.ensures.value c.in-Err-outcome_of.ensures.fault.0 in
-    IfOk-weaker c.tell_fault-in-Err-outcome_of.result _ _
+    let fault = c.in-Err-machine_for.fault in
+    let refused : Refuses text fault = subst (λ (t : List ℕ). Refuses t fault) c.deref.ensures.value c.in-Err-machine_for.ensures.fault.0 in
+    IfOk-weaker c.tell_fault-in-Err-machine_for.result _ _
     (λ ended is. (text, c.in-Ok.ensures.text, told text c.args.size c.args.switches fault ended _ _ _ refused is))
-    c.tell_fault-in-Err-outcome_of.ensures
+    c.tell_fault-in-Err-machine_for.ensures
