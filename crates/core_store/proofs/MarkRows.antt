@@ -136,9 +136,17 @@ pub eight_listed : (plane : List ℕ) (first : ℕ) → first + 8 ≤ length pla
     ≡ from_le_bytes w64 (chunk first 8 plane)
 eight_listed plane first room =
     let here : first + 0 ≡ first = omega arith in
-    omega (arith, get_or-chunk first 8 plane 0 0 (omega arith) ∙ ap (λ n. get_or plane n 0) here, get_or-chunk first 8 plane 1 0 (omega arith), get_or-chunk first 8 plane 2 0 (omega arith),
-    get_or-chunk first 8 plane 3 0 (omega arith), get_or-chunk first 8 plane 4 0 (omega arith), get_or-chunk first 8 plane 5 0 (omega arith), get_or-chunk first 8 plane 6 0 (omega arith),
-    get_or-chunk first 8 plane 7 0 (omega arith))
+    omega (
+      arith,
+      get_or-chunk first 8 plane 0 0 (omega arith) ∙ ap (λ n. get_or plane n 0) here,
+      get_or-chunk first 8 plane 1 0 (omega arith),
+      get_or-chunk first 8 plane 2 0 (omega arith),
+      get_or-chunk first 8 plane 3 0 (omega arith),
+      get_or-chunk first 8 plane 4 0 (omega arith),
+      get_or-chunk first 8 plane 5 0 (omega arith),
+      get_or-chunk first 8 plane 6 0 (omega arith),
+      get_or-chunk first 8 plane 7 0 (omega arith),
+    )
 
 -- the characters that were read one by one are those of the stretch
 pub stretch_read : (s : Storage) (first count : ℕ) (codes : List ℕ) → first + count ≤ length s → length codes ≡ count → ((j : ℕ) → j < count → get_or codes j 0 ≡ code_at s (first + j)) → codes ≡ codes_from s first count

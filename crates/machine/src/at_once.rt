@@ -26,11 +26,7 @@ use units::Units;
 /// it was; if not, nothing is changed.
 #[inline(always)]
 #[tactic(auto, unfolding(crate::specs::Effect::worked))]
-fn work_at_once<C: Core>(
-    core: &mut C,
-    registers: &mut Registers,
-    operation: FieldOperation,
-) -> bool
+fn work_at_once<C: Core>(core: &mut C, registers: &mut Registers, operation: FieldOperation) -> bool
     ensures done { result ≡ true → worked operation (C.cells core.old) registers.old
         ≡ Ok (C.cells core.new, registers.new) }
     ensures unchanged { result ≡ false → (C.cells core.new ≡ C.cells core.old)

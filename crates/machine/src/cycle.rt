@@ -173,8 +173,10 @@ fn execute_up_to<C: Core>(
 ) -> Result<Stretch, GivenUp>
     requires { areas_end ≤ length (C.cells core.old) }
     ensures machine { IfOk result (λ stretch.
-        record { works = works_of (C.cells core.new) registers.new units.new;
-            standing = stretch.standing }
+        record {
+          works = works_of (C.cells core.new) registers.new units.new;
+          standing = stretch.standing;
+        }
         ≡ after (running (works_of (C.cells core.old) registers.old units.old)) limit) }
     ensures attempted { IfOk result (λ stretch. stretch.attempted
         ≡ attempts (running (works_of (C.cells core.old) registers.old units.old)) limit) }
@@ -230,12 +232,7 @@ impl<C: Core> Parts<C> {
         if !self.is_running() {
             return Ok(0);
         }
-        let stretch = execute_up_to(
-            &mut self.core,
-            &mut self.registers,
-            &mut self.units,
-            limit,
-        )?;
+        let stretch = execute_up_to(&mut self.core, &mut self.registers, &mut self.units, limit)?;
         self.standing = stretch.standing;
         Ok(stretch.attempted)
     }
