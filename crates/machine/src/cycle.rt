@@ -147,11 +147,11 @@ fn attempt<C: Core>(
     }
 }
 
-/// How far a machine came.
+/// The attempts of a run that came to its end.
 #[derive(Clone, Copy)]
-pub(crate) struct Stretch {
-    /// The number of instructions attempted.
-    pub attempted: u32,
+pub(crate) struct Attempts {
+    pub number: u32,
+    /// The standing after them.
     pub standing: Standing,
 }
 
@@ -170,15 +170,15 @@ fn execute_up_to<C: Core>(
     registers: &mut Registers,
     units: &mut Units,
     limit: u32,
-) -> Result<Stretch, GivenUp>
+) -> Result<Attempts, GivenUp>
     requires { areas_end ≤ length (C.cells core.old) }
-    ensures machine { IfOk result (λ stretch.
+    ensures machine { IfOk result (λ made.
         record {
           works = works_of (C.cells core.new) registers.new units.new;
-          standing = stretch.standing;
+          standing = made.standing;
         }
         ≡ after (running (works_of (C.cells core.old) registers.old units.old)) limit) }
-    ensures attempted { IfOk result (λ stretch. stretch.attempted
+    ensures attempted { IfOk result (λ made. made.number
         ≡ attempts (running (works_of (C.cells core.old) registers.old units.old)) limit) }
     ensures given_up { IfErr result (λ given_up.
         IsWanting (running (works_of (C.cells core.old) registers.old units.old))
@@ -191,15 +191,15 @@ fn execute_up_to<C: Core>(
         match attempt(core, registers, units, &mut cache) {
             Ok(Course::GoesOn) => {}
             Ok(Course::Halts) => {
-                return Ok(Stretch {
-                    attempted: attempted + 1,
+                return Ok(Attempts {
+                    number: attempted + 1,
                     standing: Standing::Halted,
                 });
             }
             Err(fault) => match fault {
                 Fault::Stopped(check) => {
-                    return Ok(Stretch {
-                        attempted: attempted + 1,
+                    return Ok(Attempts {
+                        number: attempted + 1,
                         standing: Standing::Checked(check),
                     });
                 }
@@ -207,8 +207,8 @@ fn execute_up_to<C: Core>(
             },
         }
     }
-    Ok(Stretch {
-        attempted: limit,
+    Ok(Attempts {
+        number: limit,
         standing: Standing::Running,
     })
 }
@@ -232,8 +232,8 @@ impl<C: Core> Parts<C> {
         if !self.is_running() {
             return Ok(0);
         }
-        let stretch = execute_up_to(&mut self.core, &mut self.registers, &mut self.units, limit)?;
-        self.standing = stretch.standing;
-        Ok(stretch.attempted)
+        let made = execute_up_to(&mut self.core, &mut self.registers, &mut self.units, limit)?;
+        self.standing = made.standing;
+        Ok(made.number)
     }
 }

@@ -15,14 +15,14 @@ returns-clause-machine g c =
     let m = c.args.self.now in
     let w = works_of (g.C.Core.cells c.self.inside.core) c.self.inside.registers c.self.inside.units in
     let began : running w ≡ m = running_is m w (ap (λ (x : State). x.works) c.self.view_is) (sym c.is_running.ensures ∙ c.if-not-is_running.false) in
-    c.in_ok-stretch.ensures.machine ∙ ap (λ (x : State). after x c.args.limit) began
+    c.in_ok-made.ensures.machine ∙ ap (λ (x : State). after x c.args.limit) began
 
 pub returns-clause-attempted : goal.returns-clause-attempted
 returns-clause-attempted g c =
     let m = c.args.self.now in
     let w = works_of (g.C.Core.cells c.self.inside.core) c.self.inside.registers c.self.inside.units in
     let began : running w ≡ m = running_is m w (ap (λ (x : State). x.works) c.self.view_is) (sym c.is_running.ensures ∙ c.if-not-is_running.false) in
-    c.in_ok-stretch.ensures.attempted ∙ ap (λ (x : State). attempts x c.args.limit) began
+    c.in_ok-made.ensures.attempted ∙ ap (λ (x : State). attempts x c.args.limit) began
 
 pub invariant_of-self : goal.invariant_of-self
 invariant_of-self g c = omega (arith, c.execute_up_to.ensures.size, c.self.invariant)
