@@ -52,7 +52,10 @@ fn pieces_are_the_listing(rt: HostRuntime) -> Result<(), Fail> {
         let mut written = Vec::new(alloc);
         let result = write_listing(alloc, &mut written, &lines);
         assert!(rt; result.is_ok());
-        assert!(rt; written.as_slice() == render(alloc, &lines)?.as_slice(), "at {count}");
+        assert!(rt;
+            written.as_slice() == render(alloc, &lines)?.as_slice(),
+            "at {count}"
+        );
     }
     Ok(())
 }
@@ -62,7 +65,9 @@ fn a_failing_writer_has_a_beginning(rt: HostRuntime) -> Result<(), Fail> {
     let alloc = rt.alloc();
     let lines = full_lines(alloc, 1000)?;
     let listing = render(alloc, &lines)?;
-    for room in [0, 1, 65_147, 65_148, 65_177, 65_178, 65_536, 130_354, 133_014] {
+    for room in [
+        0, 1, 65_147, 65_148, 65_177, 65_178, 65_536, 130_354, 133_014,
+    ] {
         let mut output = Limited {
             taken: Vec::new(alloc),
             room,
@@ -70,7 +75,10 @@ fn a_failing_writer_has_a_beginning(rt: HostRuntime) -> Result<(), Fail> {
         let result = write_listing(alloc, &mut output, &lines);
         assert!(rt; result == Err(ListingFault::Output), "at {room}");
         assert!(rt; output.taken.len() == room, "at {room}");
-        assert!(rt; listing.as_slice().starts_with(output.taken.as_slice()), "at {room}");
+        assert!(rt;
+            listing.as_slice().starts_with(output.taken.as_slice()),
+            "at {room}"
+        );
     }
     Ok(())
 }
