@@ -1,6 +1,6 @@
 //! The characters: their glyphs, zones, values, punches and ranks.
 
-use crate::sheets::{Case, check};
+use crate::sheets::{cut, number};
 use bcd::Code;
 use std::alloc::Global;
 use std::test::Fail;
@@ -21,26 +21,17 @@ fn value_of(code: Code) -> char {
     }
 }
 
-/// A character. Input: its number. Output: its glyph, zone, numeric value, punches in hexadecimal
-/// and rank, and the numbers of the characters with its glyph and with its punches.
-struct Character;
-
-impl Case for Character {
-    fn outcome(alloc: Global, given: &str) -> Result<String, Fail> {
-        let Some(code) = given.parse::<u8>().ok().and_then(Code::from_number) else {
-            return Ok(String::new(alloc));
-        };
-        let glyph = code.glyph() as char;
-        let zone = code.zone();
-        let value = value_of(code);
-        let punches = code.punches();
-        let rank = code.rank();
-        let of_glyph = number_of(Code::from_glyph(code.glyph()));
-        let of_punches = number_of(Code::of_punches(punches));
-        Ok(format!(in alloc;
-            "{glyph} {zone:?} {value} {punches:03X} {rank} {of_glyph} {of_punches}"
-        )?)
-    }
+/// The glyph, zone, numeric value, punches in hexadecimal and rank of a character, and the numbers
+/// of the characters with its glyph and with its punches.
+fn shown(alloc: Global, code: Code) -> Result<String, Fail> {
+    let glyph = code.glyph() as char;
+    let zone = code.zone();
+    let value = value_of(code);
+    let punches = code.punches();
+    let rank = code.rank();
+    let of_glyph = number_of(Code::from_glyph(code.glyph()));
+    let of_punches = number_of(Code::of_punches(punches));
+    Ok(format!(in alloc; "{glyph} {zone:?} {value} {punches:03X} {rank} {of_glyph} {of_punches}")?)
 }
 
 /// All characters, as another program lists them.
@@ -114,7 +105,13 @@ const CHARACTERS: &str = "\
 #[test]
 fn all_as_listed(rt: HostRuntime) -> Result<(), Fail> {
     assert!(rt; CHARACTERS.lines().count() == 64);
-    check::<Character>(rt.alloc(), CHARACTERS)
+    for row in CHARACTERS.lines() {
+        let (given, wanted) = cut(row, " -> ");
+        let given = u8::try_from(number(given)).ok().ok_or("a number")?;
+        let code = Code::from_number(given).ok_or("a character")?;
+        assert_eq!(rt; shown(rt.alloc(), code)?.as_str(), wanted);
+    }
+    Ok(())
 }
 
 /// The number of patterns of punches that are read as characters with these punches.
