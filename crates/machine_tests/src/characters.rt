@@ -1,7 +1,8 @@
 //! The characters: their glyphs, zones, values, punches and ranks.
 
-use crate::sheets::{cut, number};
+use crate::sheets::{Case, check};
 use bcd::Code;
+use core_store::Core;
 use std::alloc::Global;
 use std::test::Fail;
 
@@ -21,17 +22,27 @@ fn value_of(code: Code) -> char {
     }
 }
 
-/// The glyph, zone, numeric value, punches in hexadecimal and rank of a character, and the numbers
-/// of the characters with its glyph and with its punches.
-fn shown(alloc: Global, code: Code) -> Result<String, Fail> {
-    let glyph = code.glyph() as char;
-    let zone = code.zone();
-    let value = value_of(code);
-    let punches = code.punches();
-    let rank = code.rank();
-    let of_glyph = number_of(Code::from_glyph(code.glyph()));
-    let of_punches = number_of(Code::of_punches(punches));
-    Ok(format!(in alloc; "{glyph} {zone:?} {value} {punches:03X} {rank} {of_glyph} {of_punches}")?)
+/// A character. Input: its number. Output: its glyph, zone, numeric value, punches in hexadecimal
+/// and rank, and the numbers of the characters with its glyph and with its punches.
+struct Character;
+
+impl Case for Character {
+    fn outcome<C: Core>(alloc: Global, given: &str) -> Result<String, Fail> {
+        let number = given.parse::<u8>().ok().unwrap_or(u8::MAX);
+        let Some(code) = Code::from_number(number) else {
+            return Ok(String::new(alloc));
+        };
+        let glyph = code.glyph() as char;
+        let zone = code.zone();
+        let value = value_of(code);
+        let punches = code.punches();
+        let rank = code.rank();
+        let of_glyph = number_of(Code::from_glyph(code.glyph()));
+        let of_punches = number_of(Code::of_punches(punches));
+        Ok(format!(in alloc;
+            "{glyph} {zone:?} {value} {punches:03X} {rank} {of_glyph} {of_punches}"
+        )?)
+    }
 }
 
 /// All characters, as another program lists them.
@@ -105,13 +116,7 @@ const CHARACTERS: &str = "\
 #[test]
 fn all_as_listed(rt: HostRuntime) -> Result<(), Fail> {
     assert!(rt; CHARACTERS.lines().count() == 64);
-    for row in CHARACTERS.lines() {
-        let (given, wanted) = cut(row, " -> ");
-        let given = u8::try_from(number(given)).ok().ok_or("a number")?;
-        let code = Code::from_number(given).ok_or("a character")?;
-        assert_eq!(rt; shown(rt.alloc(), code)?.as_str(), wanted);
-    }
-    Ok(())
+    check::<Character>(rt.alloc(), CHARACTERS)
 }
 
 /// The number of patterns of punches that are read as characters with these punches.

@@ -391,6 +391,7 @@ fn push_pages(
     old: &PlaneCore,
     new: &PlaneCore,
 ) -> Result<(), AllocError> {
+    text.push_str("pages|")?;
     if old.size() == new.size() {
         for page in &changed_pages(alloc, old, new)? {
             push_number(text, Some(*page))?;
@@ -399,38 +400,40 @@ fn push_pages(
     Ok(())
 }
 
-/// The pages in which a storage with texts at some places differs from a blank one.
-fn changed(alloc: Global, size: Size, places: &str) -> Result<String, AllocError> {
-    let old = PlaneCore::blank(alloc, size)?;
-    let mut new = PlaneCore::blank(alloc, size)?;
-    lay_places(&mut new, places);
-    let mut text = String::new(alloc);
-    push_pages(&mut text, alloc, &old, &new)?;
-    Ok(text)
+/// Pages that change. Input: the size of the storage, and the texts at some places. Output: the
+/// pages in which it then differs from a blank one.
+struct Changed;
+
+impl Case for Changed {
+    // Pages are those of planes.
+    fn outcome<C: Core>(alloc: Global, given: &str) -> Result<String, Fail> {
+        let (size, places) = cut(given, " ");
+        let size = size_of(number(size))?;
+        let old = PlaneCore::blank(alloc, size)?;
+        let mut new = PlaneCore::blank(alloc, size)?;
+        lay_places(&mut new, places);
+        let mut text = String::new(alloc);
+        push_pages(&mut text, alloc, &old, &new)?;
+        Ok(text)
+    }
 }
 
-/// Sizes, texts at places, and the pages that change: characters and marks at both ends of pages, in
-/// the middle of one, and at the end of storage.
+/// Characters and marks at both ends of pages, in the middle of one, and at the end of storage.
+const CHANGES: &str = "\
+1400 1399  | -> pages|
+1400 99 A|1300 A| -> pages|0|13|
+1400 100 ~ |1399 A| -> pages|1|13|
+2000 299 ~A~B|1999 ~ | -> pages|2|3|19|
+4000 3863 A|3964 A| -> pages|38|39|
+8000 7899 A|7999 ~ | -> pages|78|79|
+12000 11935 ~ |11936 A| -> pages|119|
+16000 0 A|8000 ~ |15899 ~ |15999 A| -> pages|0|80|158|159|
+16000 15999 ~ | -> pages|159|
+";
+
 #[test]
 fn pages_that_change(rt: HostRuntime) -> Result<(), Fail> {
-    for (size, places, pages) in [
-        (Size::Positions1400, "1399  ", ""),
-        (Size::Positions1400, "99 A|1300 A", "0|13|"),
-        (Size::Positions1400, "100 ~ |1399 A", "1|13|"),
-        (Size::Positions2000, "299 ~A~B|1999 ~ ", "2|3|19|"),
-        (Size::Positions4000, "3863 A|3964 A", "38|39|"),
-        (Size::Positions8000, "7899 A|7999 ~ ", "78|79|"),
-        (Size::Positions12000, "11935 ~ |11936 A", "119|"),
-        (
-            Size::Positions16000,
-            "0 A|8000 ~ |15899 ~ |15999 A",
-            "0|80|158|159|",
-        ),
-        (Size::Positions16000, "15999 ~ ", "159|"),
-    ] {
-        assert_eq!(rt; changed(rt.alloc(), size, places)?.as_str(), pages);
-    }
-    Ok(())
+    check::<Changed>(rt.alloc(), CHANGES)
 }
 
 /// Adds the lengths of the field at a position, and of its cut.

@@ -118,19 +118,27 @@ fn line_at(line: u16) -> Line {
     }
 }
 
+/// Blank lines of the first form, at two of its lines.
+fn lines_at(alloc: Global, first: u16, second: u16) -> Result<Vec<Line>, AllocError> {
+    let mut lines = Vec::new(alloc);
+    lines.push(line_at(first))?;
+    lines.push(line_at(second))?;
+    Ok(lines)
+}
+
 /// The units of a machine that has printed two lines from the cards of a deck.
 fn units_with(alloc: Global, numbers: [u16; 8]) -> Result<Units, Fail> {
     let [_, line, taken, switches, cards, lines, first, second] = numbers;
     let deck = deck_of(alloc, "list;HELLO;WORLD")?;
     let switches = Switches::from_bits_retain(small(switches));
+    let printed = lines_at(alloc, first, second)?;
     let mut units = new_units(alloc, deck, taken, switches);
     units.before = Counts {
         cards: u32::from(cards),
         lines: u32::from(lines),
     };
     units.printer.carriage.line = small(line);
-    units.printer.lines.push(line_at(first))?;
-    units.printer.lines.push(line_at(second))?;
+    units.printer.lines = printed;
     Ok(units)
 }
 

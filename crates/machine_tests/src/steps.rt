@@ -56,20 +56,12 @@ fn last_event<C: Core>(
     Ok(event)
 }
 
-/// The last event, if it is not the next instruction, the registers, and the texts at some places.
-fn told<C: Core>(
-    alloc: Global,
-    event: Event,
-    parts: &Parts<C>,
-    places: &str,
-) -> Result<String, AllocError> {
-    let mut text = String::new(alloc);
-    if let Event::Next = event {} else {
-        write!(&mut text, "{event:?} ")?;
+/// The event, if it is not the next instruction, and a blank.
+fn event_text(alloc: Global, event: Event) -> Result<String, AllocError> {
+    match event {
+        Event::Next => Ok(String::new(alloc)),
+        _ => format!(in alloc; "{event:?} "),
     }
-    push_registers(&mut text, &parts.registers)?;
-    push_places(&mut text, &parts.core, places)?;
-    Ok(text)
 }
 
 /// The number before a word, and the rest of the text; without the word, this number and the whole
@@ -81,19 +73,45 @@ fn before<'a>(text: &'a str, word: &str, otherwise: u16) -> (u16, &'a str) {
     }
 }
 
+/// A machine of this size before a program, with these registers and texts at some places.
+fn machine<C: Core>(
+    alloc: Global,
+    positions: u16,
+    registers: &str,
+    program: &str,
+    places: &str,
+) -> Result<Machine<C>, Fail> {
+    let mut core = C::blank(alloc, size_of(positions)?)?;
+    lay(&mut core, START, program);
+    lay_places(&mut core, places);
+    running(alloc, core, registers)
+}
+
+/// Does the steps, and returns the last event, the registers, and the texts at some places.
+fn stepped<C: Core>(
+    alloc: Global,
+    machine: &mut Machine<C>,
+    as_run: bool,
+    steps: u16,
+    places: &str,
+) -> Result<String, Fail> {
+    let event = last_event(machine, as_run, steps)?;
+    let mut text = event_text(alloc, event)?;
+    let parts = machine.parts();
+    push_registers(&mut text, &parts.registers)?;
+    push_places(&mut text, &parts.core, places)?;
+    Ok(text)
+}
+
 /// The outcome of a case of `Steps`, done in one way.
 fn done<C: Core>(alloc: Global, given: &str, as_run: bool) -> Result<String, Fail> {
     let (positions, given) = before(given, " positions, ", 1400);
     let (order, given) = cut(given, "|");
     let (program, places) = cut(given, "|");
     let (steps, registers) = before(order, " steps, A ", 1);
-    let mut core = C::blank(alloc, size_of(positions)?)?;
-    lay(&mut core, START, program);
-    lay_places(&mut core, places);
     let registers = registers.strip_prefix("A ").unwrap_or(registers);
-    let mut machine = running(alloc, core, registers)?;
-    let event = last_event(&mut machine, as_run, steps)?;
-    Ok(told(alloc, event, machine.parts(), places)?)
+    let mut machine = machine::<C>(alloc, positions, registers, program, places)?;
+    stepped(alloc, &mut machine, as_run, steps, places)
 }
 
 /// Steps, of a machine whose comparison is low and whose overflow is off. Input: the size of the
