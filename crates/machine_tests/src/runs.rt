@@ -109,20 +109,17 @@ fn small(number: u16) -> u8 {
     u8::try_from(number).ok().unwrap_or(u8::MAX)
 }
 
-/// A blank line of the first form.
-fn line_at(line: u16) -> Line {
-    Line {
-        form: 1,
-        line: small(line),
-        codes: [Code::blank(); LINE_LENGTH],
-    }
-}
-
-/// Blank lines of the first form, at two of its lines.
-fn lines_at(alloc: Global, first: u16, second: u16) -> Result<Vec<Line>, AllocError> {
+/// Blank lines of the first form, at these lines of it.
+fn lines_at(alloc: Global, places: [u16; 2]) -> Result<Vec<Line>, AllocError> {
+    let code = Code::from_glyph(b' ').unwrap_or(Code::blank());
     let mut lines = Vec::new(alloc);
-    lines.push(line_at(first))?;
-    lines.push(line_at(second))?;
+    for place in places {
+        lines.push(Line {
+            form: 1,
+            line: small(place),
+            codes: [code; LINE_LENGTH],
+        })?;
+    }
     Ok(lines)
 }
 
@@ -131,7 +128,7 @@ fn units_with(alloc: Global, numbers: [u16; 8]) -> Result<Units, Fail> {
     let [_, line, taken, switches, cards, lines, first, second] = numbers;
     let deck = deck_of(alloc, "list;HELLO;WORLD")?;
     let switches = Switches::from_bits_retain(small(switches));
-    let printed = lines_at(alloc, first, second)?;
+    let printed = lines_at(alloc, [first, second])?;
     let mut units = new_units(alloc, deck, taken, switches);
     units.before = Counts {
         cards: u32::from(cards),
