@@ -1,7 +1,6 @@
 //! Cards and decks as on a coding sheet: one line for each card, with its label, its operation and
 //! its operands, each followed by a bar.
 
-use autocoder_layout::Cell;
 use bcd::Code;
 use cards::{COLUMNS, Card, Deck};
 use std::alloc::Global;
@@ -48,25 +47,6 @@ pub(crate) fn push_glyphs(text: &mut String, codes: &[Code]) -> Result<(), Fail>
         text.push(code.glyph() as char)?;
     }
     Ok(())
-}
-
-/// The filled positions: the first position of each row of them, and their glyphs, each after an
-/// apostrophe if it has a word mark.
-pub(crate) fn image_text(alloc: Global, cells: &[Cell]) -> Result<String, Fail> {
-    let mut text = String::new(alloc);
-    let mut next = 0;
-    for cell in cells {
-        let position = cell.position;
-        if position != next {
-            write!(&mut text, " {position} ")?;
-        }
-        if cell.marked {
-            text.push('\'')?;
-        }
-        text.push(cell.code.glyph() as char)?;
-        next = position.saturating_add(1);
-    }
-    Ok(text)
 }
 
 /// The cards of a deck as lines, without the blanks at their ends.

@@ -1,7 +1,9 @@
-//! Worked decks: the cards that load a program and start it.
+//! A worked program with its listing, the cards that load it, and those of its data. More of them
+//! are in `cases/assemblies`, which the program assembles.
 
 use crate::coding_sheets::{deck_of, lines_of};
-use autocoder::{Program, assemble};
+use autocoder::{Program, assemble, listing};
+use autocoder_layout::SourceFault;
 use bcd::Code;
 use cards::{COLUMNS, Card, Deck};
 use loader::{deck_to_run, object_deck};
@@ -15,13 +17,6 @@ fn program_of(alloc: Global, sheet: &str) -> Result<Program, Fail> {
         Ok(program) => Ok(program),
         Err(_) => Err(Fail::from("a program")),
     }
-}
-
-/// The cards that load the program of a sheet's source.
-fn loading(alloc: Global, sheet: &str) -> Result<String, Fail> {
-    let program = program_of(alloc, sheet)?;
-    let deck = object_deck(alloc, &program)?;
-    lines_of(alloc, deck.cards())
 }
 
 /// A program with headings.
@@ -46,112 +41,43 @@ B342.                                  L006361,360361N000000N0000001040
                                        /333080
 ";
 
-/// A program with a literal.
-const LITERAL_SOURCE: &str = "\
-|MCW|&12,280|
-|MCW|&12,290|
-|H||
-|END||
+/// Its listing.
+const LISTING: &str = "   1 00333                CS   332
+   2 00337                CS
+   3 00338                SW   001
+   4 00342      READ      R
+   5 00343                MCW  080,280
+   6 00350                W
+   7 00351                BLC  DONE
+   8 00356                B    READ
+   9 00360      DONE      H
+  10                      END
 ";
 
-/// Its cards. All its marks but the first are set in pairs.
-const LITERAL: &str = "\
-,008015,022029,036040,047054,061068,072)008015)022029)036036N0000001040
-M350280M350290. 1B                     L018350,340347,348349N0000001040
-                                       /333080
-";
+/// The listing of a sheet's source.
+fn listed(alloc: Global, sheet: &str) -> Result<String, Fail> {
+    let deck = deck_of(alloc, sheet)?;
+    let Ok(program) = assemble(alloc, &deck) else {
+        return Err(Fail::from("a program"));
+    };
+    let mut text = String::new(alloc);
+    for glyph in &listing(alloc, &deck, &program)? {
+        text.push(*glyph as char)?;
+    }
+    Ok(text)
+}
 
-/// A program of two marks.
-const TWO_MARKS_SOURCE: &str = "\
-|ORG|340|
-|MCW|350,290|
-|DCW|@.@|
-|END|340|
-";
-
-/// Its cards. The second mark, a single last one, is set twice.
-const TWO_MARKS: &str = "\
-,008015,022029,036040,047054,061068,072)008015)022029)036036N0000001040
-M350290.                               L008347,347347N000000N0000001040
-                                       /340080
-";
-
-/// A program whose first position is unmarked.
-const UNMARKED_SOURCE: &str = "\
-|ORG|500|
-|DC|@AB@|
-|H||
-|END||
-";
-
-/// Its cards. The mark of the first position is cleared.
-const UNMARKED: &str = "\
-,008015,022029,036040,047054,061068,072)008015)022029)036036N0000001040
-AB.                                    L004503)500500,502503N0000001040
-                                       /502080
-";
-
-/// A program of forty positions.
-const FORTY_SOURCE: &str = "\
-|ORG|961|
-|DCW|@0123456789012345678901234567890123456789@|
-|END|3999|
-";
-
-/// Its cards. One of them carries thirty-nine positions.
-const FORTY: &str = "\
-,008015,022029,036040,047054,061068,072)008015)022029)036036N0000001040
-012345678901234567890123456789012345678L039999N000000N000000N0000001040
-9                                      L001|00)|00|00N000000N0000001040
-                                       /I99080
-";
-
-/// A program with a gap.
-const GAP_SOURCE: &str = "\
-|ORG|400|
-|DCW|@ABC@|
-|DS|2|
-|DC|@D@|
-|DCW|@E@|
-|END|400|
-";
-
-/// Its cards. A card begins after the gap.
-const GAP: &str = "\
-,008015,022029,036040,047054,061068,072)008015)022029)036036N0000001040
-ABC                                    L003402N000000N000000N0000001040
-DE                                     L002406)405405,406406N0000001040
-                                       /400080
-";
-
-/// A program that begins at 8000 of 16000 positions.
-const HIGH_SOURCE: &str = "\
-|CTL|6|
-|ORG|8000|
-|H||
-|END||
-";
-
-/// Its cards. The addresses have zone bits in the units.
-const HIGH: &str = "\
-,008015,022029,036040,047054,061068,072)008015)022029)036036N0000001040
-.                                      L00200J,00J00JN000000N0000001040
-                                       /00!080
-";
+/// The cards that load the program of a sheet's source.
+fn loading(alloc: Global, sheet: &str) -> Result<String, Fail> {
+    let program = program_of(alloc, sheet)?;
+    let deck = object_deck(alloc, &program)?;
+    lines_of(alloc, deck.cards())
+}
 
 #[test]
-fn cards_that_load_a_program(rt: HostRuntime) -> Result<(), Fail> {
-    for (source, cards) in [
-        (HEADING_SOURCE, HEADING),
-        (LITERAL_SOURCE, LITERAL),
-        (TWO_MARKS_SOURCE, TWO_MARKS),
-        (UNMARKED_SOURCE, UNMARKED),
-        (FORTY_SOURCE, FORTY),
-        (GAP_SOURCE, GAP),
-        (HIGH_SOURCE, HIGH),
-    ] {
-        assert_eq!(rt; loading(rt.alloc(), source)?.as_str(), cards);
-    }
+fn a_program_is_listed_and_loaded(rt: HostRuntime) -> Result<(), Fail> {
+    assert_eq!(rt; listed(rt.alloc(), HEADING_SOURCE)?.as_str(), LISTING);
+    assert_eq!(rt; loading(rt.alloc(), HEADING_SOURCE)?.as_str(), HEADING);
     Ok(())
 }
 
@@ -162,43 +88,6 @@ fn blank_cards(alloc: Global, count: u32) -> Result<Deck, Fail> {
         deck.push(Card([Code::blank(); COLUMNS]))?;
     }
     Ok(deck)
-}
-
-/// A program that fills nothing and starts at 90.
-const EMPTY_SOURCE: &str = "\
-|END|90|
-";
-
-/// Its cards.
-const EMPTY: &str = "\
-,008015,022029,036040,047054,061068,072)008015)022029)036036N0000001040
-                                       /090080
-";
-
-/// The same cards with two blank cards after them.
-const EMPTY_OVER_TWO_CARDS: &str = "\
-,008015,022029,036040,047054,061068,072)008015)022029)036036N0000001040
-                                       /090080
-
-
-";
-
-/// The deck that runs the program of a sheet's source on `count` blank cards.
-fn running(alloc: Global, sheet: &str, count: u32) -> Result<Deck, Fail> {
-    let program = program_of(alloc, sheet)?;
-    let data = blank_cards(alloc, count)?;
-    Ok(deck_to_run(alloc, &program, data.cards())?)
-}
-
-#[test]
-fn data_cards_come_last(rt: HostRuntime) -> Result<(), Fail> {
-    assert_eq!(rt; loading(rt.alloc(), EMPTY_SOURCE)?.as_str(), EMPTY);
-    let deck = running(rt.alloc(), EMPTY_SOURCE, 2)?;
-    assert_eq!(rt;
-        lines_of(rt.alloc(), deck.cards())?.as_str(),
-        EMPTY_OVER_TWO_CARDS
-    );
-    Ok(())
 }
 
 /// A program of a hundred stretches of thirty-nine positions.
@@ -233,5 +122,6 @@ fn two_thousand_cards_and_no_more(rt: HostRuntime) -> Result<(), Fail> {
             wanted
         );
     }
+    assert!(rt; SourceFault::NoMemory.number() == 1);
     Ok(())
 }

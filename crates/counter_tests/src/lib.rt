@@ -1,7 +1,7 @@
 //! Cases of runs, assemblies, requests and scripts that no file shows: readers and writers that
 //! give and take little, or fail; answers that the program gives only where memory or the store
-//! fails; and what the meter counts. Words, runs, scripts, requests and their answers are in
-//! `cases/`.
+//! fails; what the meter counts; and a start with switches that no word names. Words, runs,
+//! scripts, requests and their answers are in `cases/`.
 #![tactic(auto)]
 
 #[cfg(test)]
@@ -26,6 +26,8 @@ mod fixed_answers;
 mod lines_sent;
 #[cfg(test)]
 mod meters;
+#[cfg(test)]
+mod odd_jobs;
 #[cfg(test)]
 mod request_bodies;
 #[cfg(test)]

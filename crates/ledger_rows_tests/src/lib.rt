@@ -1,7 +1,9 @@
-//! Tests of cards, lines and pictures of machines as rows: rows that are read as the same values,
-//! rows that are none, and machines that go on from their rows.
+//! Tests of cards, lines and pictures of machines as rows: machines that go on from their rows, and
+//! rows that no bureau's file can have or show. All other rows, those in range and those that are
+//! not, are in `cases/rows`, which are put into a bureau's file.
 //!
-//! They need no file and no table, so they are apart from those of the bureau.
+//! Nearly all is over any kind of storage: the proof of a function that names a kind takes many
+//! times as long.
 #![tactic(auto)]
 
 #[cfg(test)]
@@ -11,6 +13,4 @@ mod machines;
 #[cfg(test)]
 mod media;
 #[cfg(test)]
-mod numbers;
-#[cfg(test)]
-mod pockets;
+mod storages;

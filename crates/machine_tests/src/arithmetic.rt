@@ -1,11 +1,7 @@
 //! Arithmetic and comparison.
 
-use crate::sheets::check;
-use crate::steps::Steps;
-use std::test::Fail;
-
 /// Sums, differences and changed addresses.
-const SUMS: &str = "\
+pub(crate) const SUMS: &str = "\
 A 101 B 203|~A~|101 ~1|201 ~999| -> I 401 A 100 B 200 overflow |~1|~000|
 A 101 B 201|~A~|101 ~5|201 ~L| -> I 401 A 100 B 200 |~5|~B|
 A 101 B 201|~A~|101 ~5|201 ~C| -> I 401 A 100 B 200 |~5|~H|
@@ -30,15 +26,10 @@ A 133 B 233|~S~|101 ~000000000000000000000000000000001|201 ~00000000000000000000
     -> I 401 A 100 B 200 |~000000000000000000000000000000001|~00000000000000000000000000000000K|
 ";
 
-#[test]
-fn sums_and_differences(rt: HostRuntime) -> Result<(), Fail> {
-    check::<Steps>(rt.alloc(), SUMS)
-}
-
 /// Sums of numbers with different signs: of lengths up to those that go digit by digit, equal
 /// numbers, all characters of 0, zones over other digits, fields of two lengths, fields that share
 /// characters, and the first positions of storage.
-const DIFFERENCES: &str = "\
+pub(crate) const DIFFERENCES: &str = "\
 A 108 B 208|~A~|101 ~12345678|201 ~8765432J| -> I 401 A 100 B 200 |~12345678|~7530864L|
 A 108 B 208|~A~|101 ~87654321|201 ~1234567Q| -> I 401 A 100 B 200 |~87654321|~7530864C|
 A 109 B 209|~A~|101 ~000000001|201 ~10000000!| -> I 401 A 100 B 200 |~000000001|~09999999R|
@@ -67,13 +58,9 @@ A 25 B 14|~S~|23 ~012|12 ~015| -> I 401 A 22 B 11 |~012|~00C|
 A 2 B 14|~S~|0 ~012|12 ~015| -> I 401 A 15999 B 11 |~012|~00C|
 ";
 
-#[test]
-fn differences(rt: HostRuntime) -> Result<(), Fail> {
-    check::<Steps>(rt.alloc(), DIFFERENCES)
-}
-
-/// Zero and Add and Zero and Subtract of the same fields, where what B held is not read.
-const COPIES: &str = "\
+/// Zero and Add and Zero and Subtract of the same fields, where what B held is not read; and each
+/// zone of a sign.
+pub(crate) const COPIES: &str = "\
 A 108 B 208|~?~|101 ~12345678|201 ~#@#@#@#@| -> I 401 A 100 B 200 |~12345678|~1234567H|
 A 108 B 208|~!~|101 ~1234567Q|201 ~00000000| -> I 401 A 100 B 200 |~1234567Q|~1234567H|
 A 109 B 209|~!~|101 ~123456789|201 ~000000000| -> I 401 A 100 B 200 |~123456789|~12345678R|
@@ -81,6 +68,9 @@ A 116 B 216|~?~|101 ~123456789012345!|201 ~0000000000000000| \
     -> I 401 A 100 B 200 |~123456789012345!|~123456789012345!|
 A 117 B 217|~?~|101 ~1234567890123456!|201 ~00000000000000000| \
     -> I 401 A 100 B 200 |~1234567890123456!|~1234567890123456!|
+A 101 B 201|~?~|101 ~V|201 ~3| -> I 401 A 100 B 200 |~V|~E|
+A 101 B 201|~?~|101 ~N|201 ~3| -> I 401 A 100 B 200 |~N|~N|
+A 101 B 201|~?~|101 ~E|201 ~3| -> I 401 A 100 B 200 |~E|~E|
 A 103 B 203|~?~|101 ~?! |201 ~999| -> I 401 A 100 B 200 |~?! |~00?|
 A 103 B 203|~!~|101 ~AS4|201 ~ZZZ| -> I 401 A 100 B 200 |~AS4|~12M|
 A 108 B 203|~?~|101 ~00##0012|201 ~999| -> I 401 A 105 B 200 |~00##0012|~01B|
@@ -94,13 +84,8 @@ A 25 B 15|~!~|23 ~012|13 ~999| -> I 401 A 22 B 12 |~012|~01K|
 A 25 B 14|~!~|23 ~012|12 ~999| -> I 401 A 22 B 11 |~012|~01K|
 ";
 
-#[test]
-fn copies(rt: HostRuntime) -> Result<(), Fail> {
-    check::<Steps>(rt.alloc(), COPIES)
-}
-
 /// Comparisons of fields of equal length, and with a shorter one.
-const COMPARISONS: &str = "\
+pub(crate) const COMPARISONS: &str = "\
 A 101 B 201|~C~|101 ~A|201 ~0| -> I 401 A 100 B 200 high |~A|~0|
 A 103 B 202|~C~|101 ~ABC|201 ~BC| -> I 401 A 101 B 200 equal |~ABC|~BC|
 A 102 B 203|~C~|101 ~BC|201 ~ABC| -> I 401 A 100 B 200 high |~BC|~ABC|
@@ -122,14 +107,9 @@ A 165 B 265|~C~|101 ~AAAAAAAAAAAAAAAAAAAAAAAAAAAAAAAAAAAAAAAAAAAAAAAAAAAAAAAAAAA
     ~AAAAAAAAAAAAAAAAAAAAAAAAAAAAAAAAAAAAAAAAAAAAAAAAAAAAAAAAAAAAAAAAA|
 ";
 
-#[test]
-fn comparisons(rt: HostRuntime) -> Result<(), Fail> {
-    check::<Steps>(rt.alloc(), COMPARISONS)
-}
-
 /// Characters without a value; fields that overlap, whose characters are not examined then; and
 /// fields that would pass position 0.
-const CHECKS: &str = "\
+pub(crate) const CHECKS: &str = "\
 A 101 B 201|~A~|101 ~#|201 ~3| -> Stop(Data) I 400 A 101 B 201 |~#|~3|
 A 101 B 201|~S~|101 ~3|201 ~#| -> Stop(Data) I 400 A 101 B 201 |~3|~#|
 A 101 B 201|~?~|101 ~#|201 ~3| -> Stop(Data) I 400 A 101 B 201 |~#|~3|
@@ -151,8 +131,3 @@ A 1400 B 8|~C~|4 ~12345| -> Stop(Address) I 400 A 1400 B 8 |~12345|
 A 1 B 8|~#001008~|4 ~12345| -> Stop(Address) I 400 A 1 B 8 |~12345|
 A 8 B 1|~#008001~|4 ~12345| -> Stop(Address) I 400 A 8 B 1 |~12345|
 ";
-
-#[test]
-fn checks_change_nothing(rt: HostRuntime) -> Result<(), Fail> {
-    check::<Steps>(rt.alloc(), CHECKS)
-}

@@ -2,6 +2,7 @@
 
 use crate::sheets::{Case, check};
 use bcd::Code;
+use core_store::Core;
 use std::alloc::Global;
 use std::test::Fail;
 
@@ -26,8 +27,9 @@ fn value_of(code: Code) -> char {
 struct Character;
 
 impl Case for Character {
-    fn outcome(alloc: Global, given: &str) -> Result<String, Fail> {
-        let Some(code) = given.parse::<u8>().ok().and_then(Code::from_number) else {
+    fn outcome<C: Core>(alloc: Global, given: &str) -> Result<String, Fail> {
+        let number = given.parse::<u8>().ok().unwrap_or(u8::MAX);
+        let Some(code) = Code::from_number(number) else {
             return Ok(String::new(alloc));
         };
         let glyph = code.glyph() as char;

@@ -1,165 +1,13 @@
 //! Storages with their marks, sizes, and registers.
+//!
+//! The functions are over any kind of storage: the proof of one that names a kind takes many times
+//! as long.
 
-use crate::sheets::{Case, agreed, check, cut, number};
-use crate::storage::{SIZES, blank, code, lay, lay_places, size_of};
-use core_store::{
-    Compared, Core, FlagCore, PlaneCore, Registers, Size, are_inside, changed_pages, cut_length,
-    field_length, is_minus, lower, overlaps,
-};
+use crate::sheets::{Case, check, cut, number};
+use crate::storage::{SIZES, code, lay, lay_places, push_places, size_of};
+use core_store::{Core, FlagCore, PlaneCore, Size, changed_pages, cut_length, field_length};
 use std::alloc::{AllocError, Global};
 use std::test::Fail;
-
-/// Sets a mark, or clears it if the word begins with `-`.
-fn mark<C: Core>(core: &mut C, word: &str) {
-    let (set, cleared) = cut(word, "-");
-    let (set, cleared) = (number(set), number(cleared));
-    if set < core.size() {
-        core.set_mark(set);
-    }
-    if cleared < core.size() {
-        core.clear_mark(cleared);
-    }
-}
-
-/// The mark found from a position downwards, and the one in the next eight positions, after marks
-/// were set and cleared.
-fn found<C: Core>(
-    alloc: Global,
-    size: Size,
-    position: u16,
-    marks: &str,
-) -> Result<(Option<u16>, Option<u16>), AllocError> {
-    let mut core = C::blank(alloc, size)?;
-    for word in marks.split_whitespace() {
-        mark(&mut core, word);
-    }
-    if position >= core.size() {
-        return Ok((None, None));
-    }
-    Ok((core.mark_at_or_below(position), core.mark_after(position)))
-}
-
-/// The search for marks. Input: the size of the storage, a position, and the marks that are set and
-/// cleared. Output: the mark found downwards and the one among the next eight positions, by both
-/// kinds of storage.
-struct Search;
-
-impl Case for Search {
-    fn outcome(alloc: Global, given: &str) -> Result<String, Fail> {
-        let (size, given) = cut(given, " ");
-        let (position, marks) = cut(given, "|");
-        let (size, position) = (size_of(size)?, number(position));
-        let (below, after) = found::<FlagCore>(alloc, size, position, marks)?;
-        if (below, after) != found::<PlaneCore>(alloc, size, position, marks)? {
-            return Err("two answers".into());
-        }
-        Ok(format!(in alloc; "{below:?} {after:?}")?)
-    }
-}
-
-/// Marks near and far, at both ends, and one that is cleared.
-const SEARCHES: &str = "\
-1400 1399| -> None None
-1400 1398|0 1399 -> Some(0) Some(1399)
-1400 1392|0 1399 -> Some(0) Some(1399)
-1400 1390|0 1399 -> Some(0) None
-1400 1398|0 1399 -0 -> None Some(1399)
-1400 1398|0 40 1399 -> Some(40) Some(1399)
-1400 39|0 40 1399 -> Some(0) Some(40)
-1400 32|0 40 1399 -> Some(0) Some(40)
-1400 31|0 40 1399 -> Some(0) None
-1400 1391|0 40 1399 -> Some(40) Some(1399)
-1400 1396|0 40 1399 -> Some(40) Some(1399)
-1400 1399|0 40 1399 -> Some(1399) None
-1400 1398|0 40 1399 -40 -> Some(0) Some(1399)
-2000 1999|0 -> Some(0) None
-4000 3999|0 -> Some(0) None
-8000 7999|0 -> Some(0) None
-8000 7998|0 7936 7999 -> Some(7936) Some(7999)
-12000 11999|0 -> Some(0) None
-12000 11998|0 11968 11999 -> Some(11968) Some(11999)
-16000 15999| -> None None
-16000 15999|0 -> Some(0) None
-16000 15999|0 8000 -> Some(8000) None
-16000 15999|0 15935 -> Some(15935) None
-16000 15999|0 15936 -> Some(15936) None
-16000 15998|0 15983 15999 -> Some(15983) Some(15999)
-16000 15991|0 15999 -> Some(0) Some(15999)
-16000 15990|0 15999 -> Some(0) None
-16000 15998|0 15999 -0 -> None Some(15999)
-";
-
-#[test]
-fn marks_are_found_near_and_far(rt: HostRuntime) -> Result<(), Fail> {
-    check::<Search>(rt.alloc(), SEARCHES)
-}
-
-/// The end of the word at a position, after marks were set and cleared.
-fn word_end<C: Core>(
-    alloc: Global,
-    size: Size,
-    position: u16,
-    marks: &str,
-) -> Result<Option<u16>, AllocError> {
-    let mut core = C::blank(alloc, size)?;
-    for word in marks.split_whitespace() {
-        mark(&mut core, word);
-    }
-    if position >= core.size() {
-        return Ok(None);
-    }
-    Ok(core.word_end(position))
-}
-
-/// The ends of words. Input: the size of the storage, a position, and the marks that are set and
-/// cleared. Output: the end of the word at that position, by both kinds of storage.
-struct Word;
-
-impl Case for Word {
-    fn outcome(alloc: Global, given: &str) -> Result<String, Fail> {
-        let (size, given) = cut(given, " ");
-        let (position, marks) = cut(given, "|");
-        let (size, position) = (size_of(size)?, number(position));
-        let end = word_end::<FlagCore>(alloc, size, position, marks)?;
-        if end != word_end::<PlaneCore>(alloc, size, position, marks)? {
-            return Err("two answers".into());
-        }
-        Ok(format!(in alloc; "{end:?}")?)
-    }
-}
-
-/// Words of one to nine characters, one that does not begin, and words at the end of storage.
-const WORDS: &str = "\
-1400 0|0 1 -> Some(1)
-1400 0|0 7 8 -> Some(7)
-1400 0|0 8 -> Some(8)
-1400 0|0 9 -> None
-1400 0|8 -> None
-1400 40|0 40 42 44 -42 -> Some(44)
-1400 1383|1383 1391 -> Some(1391)
-1400 1384|1384 1392 -> Some(1392)
-1400 1385|1385 1393 -> Some(1393)
-1400 1391|1391 1399 -> Some(1399)
-1400 1390|1390 1399 -> None
-1400 1398|1398 1399 -> Some(1399)
-1400 1398|1399 -> None
-1400 1399|1399 -> None
-8000 7991|7991 7999 -> Some(7999)
-8000 7990|7990 7999 -> None
-12000 11984|11984 11992 -> Some(11992)
-12000 11985|11985 11993 -> Some(11993)
-16000 15983|15983 15991 -> Some(15991)
-16000 15984|15984 15992 -> Some(15992)
-16000 15991|15991 15999 -> Some(15999)
-16000 15990|15990 15999 -> None
-16000 15998|15998 15999 -> Some(15999)
-16000 15999|15999 -> None
-";
-
-#[test]
-fn ends_of_words(rt: HostRuntime) -> Result<(), Fail> {
-    check::<Word>(rt.alloc(), WORDS)
-}
 
 /// Marks a position, or clears its mark.
 fn put_mark<C: Core>(core: &mut C, position: u16, marked: bool) {
@@ -171,6 +19,111 @@ fn put_mark<C: Core>(core: &mut C, position: u16, marked: bool) {
     } else {
         core.clear_mark(position);
     }
+}
+
+/// Adds a number and a bar; a hyphen if there is none.
+fn push_number(text: &mut String, number: Option<u16>) -> Result<(), AllocError> {
+    match number {
+        Some(number) => write!(text, "{number}|"),
+        None => text.push_str("-|"),
+    }
+}
+
+/// Adds the marks that a storage finds from a position.
+fn push_found<C: Core>(text: &mut String, core: &C, position: u16) -> Result<(), AllocError> {
+    if position >= core.size() {
+        return Ok(());
+    }
+    push_number(text, core.mark_at_or_below(position))?;
+    push_number(text, core.mark_after(position))?;
+    push_number(text, core.word_end(position))
+}
+
+/// The search for marks. Input: the size of the storage, a position, the marks that are set, and
+/// those that are cleared, each after a hyphen. Output: the mark found downwards, the one among the
+/// next eight positions, and the end of the word at that position.
+struct Marks;
+
+impl Case for Marks {
+    fn outcome<C: Core>(alloc: Global, given: &str) -> Result<String, Fail> {
+        let (place, marks) = cut(given, "|");
+        let (size, position) = cut(place, " ");
+        let mut core = C::blank(alloc, size_of(number(size))?)?;
+        for word in marks.split_whitespace() {
+            let (set, cleared) = cut(word, "-");
+            put_mark(&mut core, number(set), true);
+            put_mark(&mut core, number(cleared), false);
+        }
+        let mut text = String::new(alloc);
+        push_found(&mut text, &core, number(position))?;
+        Ok(text)
+    }
+}
+
+/// Marks near and far, at both ends, and one that is cleared.
+const SEARCHES: &str = "\
+1400 1399| -> -|-|-|
+1400 1398|0 1399 -> 0|1399|-|
+1400 1392|0 1399 -> 0|1399|-|
+1400 1390|0 1399 -> 0|-|-|
+1400 1398|0 1399 -0 -> -|1399|-|
+1400 1398|0 40 1399 -> 40|1399|-|
+1400 39|0 40 1399 -> 0|40|-|
+1400 32|0 40 1399 -> 0|40|-|
+1400 31|0 40 1399 -> 0|-|-|
+1400 1391|0 40 1399 -> 40|1399|-|
+1400 1396|0 40 1399 -> 40|1399|-|
+1400 1399|0 40 1399 -> 1399|-|-|
+1400 1398|0 40 1399 -40 -> 0|1399|-|
+2000 1999|0 -> 0|-|-|
+4000 3999|0 -> 0|-|-|
+8000 7999|0 -> 0|-|-|
+8000 7998|0 7936 7999 -> 7936|7999|-|
+12000 11999|0 -> 0|-|-|
+12000 11998|0 11968 11999 -> 11968|11999|-|
+16000 15999| -> -|-|-|
+16000 15999|0 -> 0|-|-|
+16000 15999|0 8000 -> 8000|-|-|
+16000 15999|0 15935 -> 15935|-|-|
+16000 15999|0 15936 -> 15936|-|-|
+16000 15998|0 15983 15999 -> 15983|15999|-|
+16000 15991|0 15999 -> 0|15999|-|
+16000 15990|0 15999 -> 0|-|-|
+16000 15998|0 15999 -0 -> -|15999|-|
+";
+
+/// Words of one to nine characters, one that does not begin, and words at the end of storage.
+const WORDS: &str = "\
+1400 0|0 1 -> 0|1|1|
+1400 0|0 7 8 -> 0|7|7|
+1400 0|0 8 -> 0|8|8|
+1400 0|0 9 -> 0|-|-|
+1400 0|8 -> -|8|-|
+1400 40|0 40 42 44 -42 -> 40|44|44|
+1400 1383|1383 1391 -> 1383|1391|1391|
+1400 1384|1384 1392 -> 1384|1392|1392|
+1400 1385|1385 1393 -> 1385|1393|1393|
+1400 1391|1391 1399 -> 1391|1399|1399|
+1400 1390|1390 1399 -> 1390|-|-|
+1400 1398|1398 1399 -> 1398|1399|1399|
+1400 1398|1399 -> -|1399|-|
+1400 1399|1399 -> 1399|-|-|
+8000 7991|7991 7999 -> 7991|7999|7999|
+8000 7990|7990 7999 -> 7990|-|-|
+12000 11984|11984 11992 -> 11984|11992|11992|
+12000 11985|11985 11993 -> 11985|11993|11993|
+16000 15983|15983 15991 -> 15983|15991|15991|
+16000 15984|15984 15992 -> 15984|15992|15992|
+16000 15991|15991 15999 -> 15991|15999|15999|
+16000 15990|15990 15999 -> 15990|-|-|
+16000 15998|15998 15999 -> 15998|15999|15999|
+16000 15999|15999 -> 15999|-|-|
+";
+
+#[test]
+fn marks_and_ends_of_words(rt: HostRuntime) -> Result<(), Fail> {
+    check::<Marks>(rt.alloc(), SEARCHES)?;
+    check::<Marks>(rt.alloc(), WORDS)
 }
 
 /// Whether a storage with one mark finds it from a position, both downwards and among the next
@@ -185,11 +138,11 @@ fn finds<C: Core>(core: &C, marked: u16, position: u16) -> bool {
         && core.mark_after(position) == (if is_after { Some(marked) } else { None })
 }
 
-/// The first position of 1400 from which a storage with one mark does not find it; of `all`, or of
-/// each 101st one, which are others at another mark.
-fn first_missed<C: Core>(core: &C, marked: u16, all: bool) -> Option<u16> {
+/// The first position of 1400 from which a storage with one mark does not find it; of each of those
+/// that are `apart`, which are others at another mark.
+fn first_missed<C: Core>(core: &C, marked: u16, apart: u16) -> Option<u16> {
     for position in 0..1400u16 {
-        let is_tried = all || position.wrapping_add(marked) % 101 == 0;
+        let is_tried = position.wrapping_add(marked) % apart.max(1) == 0;
         if is_tried && !finds(core, marked, position) {
             return Some(position);
         }
@@ -197,11 +150,11 @@ fn first_missed<C: Core>(core: &C, marked: u16, all: bool) -> Option<u16> {
     None
 }
 
-/// Whether a storage finds its one mark, wherever that is; from `all` positions, or from some.
-fn finds_each<C: Core>(core: &mut C, all: bool) -> bool {
+/// Whether a storage finds its one mark, wherever that is, from positions that are `apart`.
+fn finds_each<C: Core>(core: &mut C, apart: u16) -> bool {
     for marked in 0..1400 {
         put_mark(core, marked, true);
-        if first_missed(core, marked, all).is_some() {
+        if first_missed(core, marked, apart).is_some() {
             return false;
         }
         put_mark(core, marked, false);
@@ -210,7 +163,7 @@ fn finds_each<C: Core>(core: &mut C, all: bool) -> bool {
 }
 
 /// Whether two storages find the same marks from a position.
-fn agree(flags: &FlagCore, planes: &PlaneCore, position: u16) -> bool {
+fn agree<F: Core, P: Core>(flags: &F, planes: &P, position: u16) -> bool {
     position < flags.size()
         && position < planes.size()
         && flags.mark_at_or_below(position) == planes.mark_at_or_below(position)
@@ -221,7 +174,7 @@ fn agree(flags: &FlagCore, planes: &PlaneCore, position: u16) -> bool {
 
 /// The first position of a storage, from one on, from which another storage finds different marks:
 /// of all positions, or of those that are `apart` from each other.
-fn difference(flags: &FlagCore, planes: &PlaneCore, first: u16, apart: u16) -> Option<u16> {
+fn difference<F: Core, P: Core>(flags: &F, planes: &P, first: u16, apart: u16) -> Option<u16> {
     for position in first..flags.size() {
         let is_tried = position % apart.max(1) == 0;
         if is_tried && !agree(flags, planes, position) {
@@ -233,7 +186,12 @@ fn difference(flags: &FlagCore, planes: &PlaneCore, first: u16, apart: u16) -> O
 
 /// Whether two storages, in which 38 positions that are `apart` are marked in turn, find the same
 /// marks from all positions, or from those that are `tried` from each other.
-fn agree_throughout(flags: &mut FlagCore, planes: &mut PlaneCore, apart: u16, tried: u16) -> bool {
+fn agree_throughout<F: Core, P: Core>(
+    flags: &mut F,
+    planes: &mut P,
+    apart: u16,
+    tried: u16,
+) -> bool {
     for turn in 0..38u16 {
         let marked = turn.saturating_mul(apart);
         put_mark(flags, marked, true);
@@ -243,41 +201,6 @@ fn agree_throughout(flags: &mut FlagCore, planes: &mut PlaneCore, apart: u16, tr
         }
     }
     true
-}
-
-#[test]
-fn flags_find_each_mark(rt: HostRuntime) -> Result<(), Fail> {
-    let mut flags = blank::<FlagCore>(rt.alloc())?;
-    assert!(rt; finds_each(&mut flags, false));
-    Ok(())
-}
-
-#[test]
-fn planes_find_each_mark_from_everywhere(rt: HostRuntime) -> Result<(), Fail> {
-    let mut planes = blank::<PlaneCore>(rt.alloc())?;
-    assert!(rt; finds_each(&mut planes, true));
-    Ok(())
-}
-
-#[test]
-fn both_storages_find_the_same_marks(rt: HostRuntime) -> Result<(), Fail> {
-    let mut flags = blank::<FlagCore>(rt.alloc())?;
-    let mut planes = blank::<PlaneCore>(rt.alloc())?;
-    assert!(rt; agree_throughout(&mut flags, &mut planes, 37, 1));
-    Ok(())
-}
-
-/// Whether both kinds of storage of the largest size find the same marks.
-fn largest_agree(alloc: Global) -> Result<bool, AllocError> {
-    let mut flags = FlagCore::blank(alloc, Size::Positions16000)?;
-    let mut planes = PlaneCore::blank(alloc, Size::Positions16000)?;
-    Ok(agree_throughout(&mut flags, &mut planes, 421, 37))
-}
-
-#[test]
-fn the_largest_storages_find_the_same_marks(rt: HostRuntime) -> Result<(), Fail> {
-    assert!(rt; largest_agree(rt.alloc())?);
-    Ok(())
 }
 
 /// The positions at the end of a storage from which marks are searched: one more than 64 lanes.
@@ -306,7 +229,7 @@ fn finds_from_each<C: Core>(core: &C, first: u16, second: u16) -> bool {
 
 /// Whether both kinds of storage find a mark, wherever it is among their last positions, from each
 /// of these, and the mark at `first` from where it is not.
-fn find_at_the_end(flags: &mut FlagCore, planes: &mut PlaneCore, first: u16) -> bool {
+fn find_at_the_end<F: Core, P: Core>(flags: &mut F, planes: &mut P, first: u16) -> bool {
     let end = flags.size();
     put_mark(flags, first, true);
     put_mark(planes, first, true);
@@ -325,20 +248,59 @@ fn find_at_the_end(flags: &mut FlagCore, planes: &mut PlaneCore, first: u16) -> 
     true
 }
 
+/// Whether a storage of 1400 positions finds its one mark, wherever that is.
+fn finds_all<C: Core>(alloc: Global, apart: u16) -> Result<bool, AllocError> {
+    let mut core = C::blank(alloc, Size::Positions1400)?;
+    Ok(finds_each(&mut core, apart))
+}
+
+/// Whether both kinds of storage of this size find the same marks.
+fn throughout<F: Core, P: Core>(
+    alloc: Global,
+    size: Size,
+    apart: u16,
+    tried: u16,
+) -> Result<bool, AllocError> {
+    let mut flags = F::blank(alloc, size)?;
+    let mut planes = P::blank(alloc, size)?;
+    Ok(agree_throughout(&mut flags, &mut planes, apart, tried))
+}
+
 /// Whether both kinds of storage of this size find each mark among their last positions. The other
 /// mark is as far from the end as two times 64 lanes and one more.
-fn ends_agree(alloc: Global, size: Size) -> Result<bool, AllocError> {
-    let mut flags = FlagCore::blank(alloc, size)?;
-    let mut planes = PlaneCore::blank(alloc, size)?;
+fn ends_agree<F: Core, P: Core>(alloc: Global, size: Size) -> Result<bool, AllocError> {
+    let mut flags = F::blank(alloc, size)?;
+    let mut planes = P::blank(alloc, size)?;
     let first = size.positions().saturating_sub(129);
     Ok(find_at_the_end(&mut flags, &mut planes, first))
 }
 
-#[test]
-fn marks_at_the_end_of_each_size(rt: HostRuntime) -> Result<(), Fail> {
-    for size in SIZES {
-        assert!(rt; ends_agree(rt.alloc(), size)?, "{size:?}");
+/// What is found wrongly: by flags from some positions, by planes from all; by one kind otherwise
+/// than by the other, also in the largest size; or at the end of a size. Empty if nothing is.
+fn misfound<F: Core, P: Core>(alloc: Global) -> Result<&'static str, AllocError> {
+    if !finds_all::<F>(alloc, 101)? {
+        return Ok("by flags");
     }
+    if !finds_all::<P>(alloc, 1)? {
+        return Ok("by planes");
+    }
+    if !throughout::<F, P>(alloc, Size::Positions1400, 37, 1)? {
+        return Ok("by one kind");
+    }
+    if !throughout::<F, P>(alloc, Size::Positions16000, 421, 37)? {
+        return Ok("in the largest size");
+    }
+    for size in SIZES {
+        if !ends_agree::<F, P>(alloc, size)? {
+            return Ok("at the end");
+        }
+    }
+    Ok("")
+}
+
+#[test]
+fn marks_are_found_from_everywhere(rt: HostRuntime) -> Result<(), Fail> {
+    assert_eq!(rt; misfound::<FlagCore, PlaneCore>(rt.alloc())?, "");
     Ok(())
 }
 
@@ -361,24 +323,12 @@ fn copy_all<C: Core>(copy: &mut C, core: &C) {
 
 /// Whether the last position has no mark after a letter was put there, and has both in a copy of
 /// the storage after it was marked.
-fn keeps<C: Core>(alloc: Global, size: Size) -> Result<bool, AllocError> {
-    let mut core = C::blank(alloc, size)?;
-    let mut copy = C::blank(alloc, size)?;
-    let last = size.positions().saturating_sub(1);
-    lay(&mut core, last, "A");
-    let is_unmarked = ends_with_a(&core, false);
-    put_mark(&mut core, last, true);
-    copy_all(&mut copy, &core);
-    Ok(is_unmarked && ends_with_a(&copy, true))
-}
-
-#[test]
-fn characters_and_marks_are_kept_apart(rt: HostRuntime) -> Result<(), Fail> {
-    for size in SIZES {
-        assert!(rt; keeps::<FlagCore>(rt.alloc(), size)?, "{size:?}");
-        assert!(rt; keeps::<PlaneCore>(rt.alloc(), size)?, "{size:?}");
-    }
-    Ok(())
+fn keeps<C: Core>(core: &mut C, copy: &mut C, last: u16) -> bool {
+    lay(core, last, "A");
+    let is_unmarked = ends_with_a(core, false);
+    put_mark(core, last, true);
+    copy_all(copy, core);
+    is_unmarked && ends_with_a(copy, true)
 }
 
 /// Copies at once the sixteen characters that end at `from` to those that end at `to`.
@@ -389,50 +339,65 @@ fn copy_sixteen<C: Core>(core: &mut C, from: u16, to: u16) {
     }
 }
 
-/// The first `count` characters of storage, each after a `~` if it is marked.
-fn beginning<C: Core>(alloc: Global, core: &C, count: u16) -> Result<String, AllocError> {
-    let mut text = String::new(alloc);
-    for position in 0..count {
-        if position < core.size() {
-            if core.is_marked(position) {
-                text.push('~')?;
-            }
-            text.push(core.get(position).glyph() as char)?;
-        }
-    }
-    Ok(text)
+/// Copies the last sixteen characters of a storage to its beginning, twice. The first of them is an
+/// `A`, and the last a `B` with a mark.
+fn copy_to_the_beginning<C: Core>(core: &mut C, last: u16) {
+    lay(core, last.saturating_sub(15), "A");
+    lay(core, last, "~B");
+    put_mark(core, 1, true);
+    copy_sixteen(core, last, 15);
+    copy_sixteen(core, last, 31);
 }
 
-/// The beginning of a storage to which its last sixteen characters were copied, with the marks.
-fn sixteen_copied<C: Core>(alloc: Global, size: Size) -> Result<String, AllocError> {
-    let mut core = C::blank(alloc, size)?;
-    let last = size.positions().saturating_sub(1);
-    lay(&mut core, last.saturating_sub(15), "A");
-    lay(&mut core, last, "~B");
-    put_mark(&mut core, 1, true);
-    copy_sixteen(&mut core, last, 15);
-    copy_sixteen(&mut core, last, 31);
-    beginning(alloc, &core, 34)
+/// Characters and marks. Input: the size of the storage. Output: whether its last position has no
+/// mark after a letter was put there, and has both in a copy of the storage after it was marked; and
+/// the beginning of a storage to which its last sixteen characters were copied, without their marks.
+struct Kept;
+
+impl Case for Kept {
+    fn outcome<C: Core>(alloc: Global, given: &str) -> Result<String, Fail> {
+        let size = size_of(number(given))?;
+        let last = size.positions().saturating_sub(1);
+        let mut core = C::blank(alloc, size)?;
+        let mut copy = C::blank(alloc, size)?;
+        let kept = keeps(&mut core, &mut copy, last);
+        let mut core = C::blank(alloc, size)?;
+        copy_to_the_beginning(&mut core, last);
+        let mut text = format!(in alloc; "{kept} ")?;
+        push_places(&mut text, &core, "0 34 characters that are shown here.")?;
+        Ok(text)
+    }
 }
+
+/// Each size.
+const SIZES_KEPT: &str = "\
+1400 -> true |A~              BA              B  |
+2000 -> true |A~              BA              B  |
+4000 -> true |A~              BA              B  |
+8000 -> true |A~              BA              B  |
+12000 -> true |A~              BA              B  |
+16000 -> true |A~              BA              B  |
+";
 
 #[test]
-fn sixteen_characters_are_copied_at_once(rt: HostRuntime) -> Result<(), Fail> {
-    let copied = "A~              BA              B  ";
-    for size in SIZES {
-        let flags = sixteen_copied::<FlagCore>(rt.alloc(), size)?;
-        assert_eq!(rt; flags.as_str(), copied, "{size:?}");
-        let planes = sixteen_copied::<PlaneCore>(rt.alloc(), size)?;
-        assert_eq!(rt; planes.as_str(), copied, "{size:?}");
-    }
-    Ok(())
+fn characters_and_marks_are_kept_apart(rt: HostRuntime) -> Result<(), Fail> {
+    check::<Kept>(rt.alloc(), SIZES_KEPT)
 }
 
-/// The pages in which two storages differ, if they are of one size.
-fn pages_between(alloc: Global, old: &PlaneCore, new: &PlaneCore) -> Result<Vec<u16>, AllocError> {
-    if old.size() != new.size() {
-        return Ok(Vec::new(alloc));
+/// Adds the pages in which two storages differ, if they are of one size.
+fn push_pages(
+    text: &mut String,
+    alloc: Global,
+    old: &PlaneCore,
+    new: &PlaneCore,
+) -> Result<(), AllocError> {
+    text.push_str("pages|")?;
+    if old.size() == new.size() {
+        for page in &changed_pages(alloc, old, new)? {
+            push_number(text, Some(*page))?;
+        }
     }
-    changed_pages(alloc, old, new)
+    Ok(())
 }
 
 /// Pages that change. Input: the size of the storage, and the texts at some places. Output: the
@@ -440,28 +405,30 @@ fn pages_between(alloc: Global, old: &PlaneCore, new: &PlaneCore) -> Result<Vec<
 struct Changed;
 
 impl Case for Changed {
-    fn outcome(alloc: Global, given: &str) -> Result<String, Fail> {
+    // Pages are those of planes.
+    fn outcome<C: Core>(alloc: Global, given: &str) -> Result<String, Fail> {
         let (size, places) = cut(given, " ");
-        let size = size_of(size)?;
+        let size = size_of(number(size))?;
         let old = PlaneCore::blank(alloc, size)?;
         let mut new = PlaneCore::blank(alloc, size)?;
         lay_places(&mut new, places);
-        let pages = pages_between(alloc, &old, &new)?;
-        Ok(format!(in alloc; "{pages:?}")?)
+        let mut text = String::new(alloc);
+        push_pages(&mut text, alloc, &old, &new)?;
+        Ok(text)
     }
 }
 
 /// Characters and marks at both ends of pages, in the middle of one, and at the end of storage.
 const CHANGES: &str = "\
-1400 1399  | -> []
-1400 99 A|1300 A| -> [0, 13]
-1400 100 ~ |1399 A| -> [1, 13]
-2000 299 ~A~B|1999 ~ | -> [2, 3, 19]
-4000 3863 A|3964 A| -> [38, 39]
-8000 7899 A|7999 ~ | -> [78, 79]
-12000 11935 ~ |11936 A| -> [119]
-16000 0 A|8000 ~ |15899 ~ |15999 A| -> [0, 80, 158, 159]
-16000 15999 ~ | -> [159]
+1400 1399  | -> pages|
+1400 99 A|1300 A| -> pages|0|13|
+1400 100 ~ |1399 A| -> pages|1|13|
+2000 299 ~A~B|1999 ~ | -> pages|2|3|19|
+4000 3863 A|3964 A| -> pages|38|39|
+8000 7899 A|7999 ~ | -> pages|78|79|
+12000 11935 ~ |11936 A| -> pages|119|
+16000 0 A|8000 ~ |15899 ~ |15999 A| -> pages|0|80|158|159|
+16000 15999 ~ | -> pages|159|
 ";
 
 #[test]
@@ -469,24 +436,18 @@ fn pages_that_change(rt: HostRuntime) -> Result<(), Fail> {
     check::<Changed>(rt.alloc(), CHANGES)
 }
 
-/// The lengths of the field at a position, and of its cut, with only 010 marked.
-fn lengths<C: Core>(core: &mut C, position: u16, limit: u16) -> (Option<u16>, Option<u16>) {
-    if core.size() > 10 {
-        core.set_mark(10);
-    }
+/// Adds the lengths of the field at a position, and of its cut.
+fn push_lengths<C: Core>(
+    text: &mut String,
+    core: &C,
+    position: u16,
+    limit: u16,
+) -> Result<(), AllocError> {
     if position >= core.size() || limit == 0 {
-        return (None, None);
+        return Ok(());
     }
-    (
-        field_length(core, position),
-        cut_length(core, position, limit),
-    )
-}
-
-/// The output of a case of `Cut` with one kind of storage.
-fn measured<C: Core>(alloc: Global, position: u16, limit: u16) -> Result<String, Fail> {
-    let (field, cut) = lengths(&mut blank::<C>(alloc)?, position, limit);
-    Ok(format!(in alloc; "{field:?} {cut:?}")?)
+    push_number(text, field_length(core, position))?;
+    push_number(text, cut_length(core, position, limit))
 }
 
 /// Fields and cuts. Input: a position and a limit, in a storage with only 010 marked. Output: the
@@ -494,28 +455,29 @@ fn measured<C: Core>(alloc: Global, position: u16, limit: u16) -> Result<String,
 struct Cut;
 
 impl Case for Cut {
-    fn outcome(alloc: Global, given: &str) -> Result<String, Fail> {
+    fn outcome<C: Core>(alloc: Global, given: &str) -> Result<String, Fail> {
         let (position, limit) = cut(given, " ");
-        let (position, limit) = (number(position), number(limit));
-        let flags = measured::<FlagCore>(alloc, position, limit)?;
-        let planes = measured::<PlaneCore>(alloc, position, limit)?;
-        agreed(alloc, flags, planes)
+        let mut core = C::blank(alloc, Size::Positions1400)?;
+        put_mark(&mut core, 10, true);
+        let mut text = String::new(alloc);
+        push_lengths(&mut text, &core, number(position), number(limit))?;
+        Ok(text)
     }
 }
 
 /// Cuts that are shorter than the field, that end at its mark, that have about 16 characters, and
 /// that would pass position 0.
 const CUTS: &str = "\
-14 4 -> Some(5) Some(4)
-14 6 -> Some(5) Some(5)
-25 15 -> Some(16) Some(15)
-25 16 -> Some(16) Some(16)
-25 17 -> Some(16) Some(16)
-26 16 -> Some(17) Some(16)
-26 17 -> Some(17) Some(17)
-26 18 -> Some(17) Some(17)
-9 10 -> None Some(10)
-9 11 -> None None
+14 4 -> 5|4|
+14 6 -> 5|5|
+25 15 -> 16|15|
+25 16 -> 16|16|
+25 17 -> 16|16|
+26 16 -> 17|16|
+26 17 -> 17|17|
+26 18 -> 17|17|
+9 10 -> -|10|
+9 11 -> -|-|
 ";
 
 #[test]
@@ -523,77 +485,9 @@ fn fields_and_cuts(rt: HostRuntime) -> Result<(), Fail> {
     check::<Cut>(rt.alloc(), CUTS)
 }
 
-/// Whether both are positions of a storage of 1400.
-fn both_inside(alloc: Global, a: u16, b: u16) -> Result<bool, AllocError> {
-    Ok(are_inside(&blank::<PlaneCore>(alloc)?, a, b))
-}
-
 #[test]
-fn places_of_operands(rt: HostRuntime) -> Result<(), Fail> {
-    assert!(rt; both_inside(rt.alloc(), 0, 1399)?);
-    assert!(rt; !both_inside(rt.alloc(), 1400, 0)?);
-    assert!(rt; !both_inside(rt.alloc(), 0, 1400)?);
-    assert!(rt; overlaps(105, 103, 3));
-    assert!(rt; !overlaps(105, 103, 2));
-    assert!(rt; !overlaps(105, 105, 3));
-    assert!(rt; !overlaps(103, 105, 3));
-    Ok(())
-}
-
-/// Whether a field with this character as its units is negative.
-fn makes_minus(core: &mut PlaneCore, glyph: u8) -> bool {
-    if core.size() > 7 {
-        core.put(7, code(glyph));
+fn no_other_sizes(rt: HostRuntime) {
+    for positions in [1399, 12_001, 20_000] {
+        assert!(rt; Size::of_positions(positions).is_none());
     }
-    core.size() > 7 && is_minus(core, 7)
-}
-
-#[test]
-fn signs_of_fields(rt: HostRuntime) -> Result<(), Fail> {
-    let mut core = blank(rt.alloc())?;
-    assert!(rt; !makes_minus(&mut core, b'5'));
-    assert!(rt; !makes_minus(&mut core, b'V'));
-    assert!(rt; makes_minus(&mut core, b'N'));
-    assert!(rt; !makes_minus(&mut core, b'E'));
-    Ok(())
-}
-
-/// Whether registers A and B are lowered by 5 and by 4, and the others stay.
-fn are_lowered() -> bool {
-    let mut registers = Registers {
-        i: 400,
-        a: 105,
-        b: 3,
-        compare: Compared::High,
-        overflow: true,
-    };
-    registers.lower(5, 4);
-    let Registers {
-        i,
-        a,
-        b,
-        compare,
-        overflow,
-    } = registers;
-    (i, a, b) == (400, 100, 15999) && compare == Compared::High && overflow
-}
-
-/// Whether there is a size with this number of positions.
-fn is_size(positions: u16) -> bool {
-    match Size::of_positions(u32::from(positions)) {
-        Some(size) => size.positions() == positions,
-        None => false,
-    }
-}
-
-#[test]
-fn registers_and_sizes(rt: HostRuntime) {
-    assert!(rt; are_lowered());
-    assert!(rt; lower(0, 1) == 15999);
-    for positions in [1400, 2000, 4000, 8000, 12_000, 16_000] {
-        assert!(rt; is_size(positions));
-    }
-    assert!(rt; !is_size(1399));
-    assert!(rt; !is_size(12_001));
-    assert!(rt; !is_size(20_000));
 }

@@ -7,6 +7,7 @@ use crate::storage::card_of;
 use cards::{
     COLUMNS, CardFault, Deck, DeckFault, read_punched, read_text, write_punched, write_text,
 };
+use core_store::Core;
 use std::alloc::{AllocError, Global};
 use std::test::Fail;
 
@@ -55,7 +56,7 @@ fn file(
 struct Faulty;
 
 impl Case for Faulty {
-    fn outcome(alloc: Global, given: &str) -> Result<String, Fail> {
+    fn outcome<C: Core>(alloc: Global, given: &str) -> Result<String, Fail> {
         let (cards, given) = cut(given, "|");
         let (columns, rest) = cut(given, "|");
         let file = file(alloc, "000", number(cards), "", number(columns), rest)?;
@@ -123,7 +124,7 @@ fn read_both(alloc: Global, text: &[u8], punched: &[u8]) -> Result<String, Fail>
 struct BothFiles;
 
 impl Case for BothFiles {
-    fn outcome(alloc: Global, given: &str) -> Result<String, Fail> {
+    fn outcome<C: Core>(alloc: Global, given: &str) -> Result<String, Fail> {
         let (cards, given) = cut(given, "=");
         let (glyphs, given) = cut(given, "=");
         let (punches, given) = cut(given, "=");

@@ -5,9 +5,10 @@
 //! near its end, or close to each other, and have as many characters as 16, 32 and 64 lanes, or
 //! about as many.
 
-use crate::addressing::written;
-use crate::steps::outcome;
-use core_store::{FlagCore, PlaneCore};
+use crate::sheets::with_both;
+use crate::steps::Steps;
+use addresses::encode;
+use core_store::LARGEST_SIZE;
 use std::alloc::{AllocError, Global};
 use std::test::Fail;
 
@@ -116,8 +117,10 @@ fn push_program(
     row.push('~')?;
     row.push(operation as char)?;
     for address in addresses {
-        for glyph in written(address) {
-            row.push(glyph)?;
+        if address < LARGEST_SIZE {
+            for code in encode(address) {
+                row.push(code.glyph() as char)?;
+            }
         }
     }
     for _ in 0..3 {
@@ -156,12 +159,11 @@ fn row(
 /// Whether the steps of a drawn row end without a check. Fails if the two kinds of storage differ.
 fn goes_on(alloc: Global, draws: &mut Draws, positions: u16, operation: u8) -> Result<bool, Fail> {
     let row = row(alloc, draws, positions, operation)?;
-    let flags = outcome::<FlagCore>(alloc, &row)?;
-    let planes = outcome::<PlaneCore>(alloc, &row)?;
-    if flags.as_str() != planes.as_str() {
-        return Err(Fail::new(format_args!("{row} -> {flags} and in planes {planes}")));
+    let outcome = with_both::<Steps>(alloc, &row)?;
+    if outcome.contains(" BUT ") {
+        return Err(Fail::new(format_args!("{row} -> {outcome}")));
     }
-    Ok(!flags.starts_with("Stop"))
+    Ok(!outcome.starts_with("Stop"))
 }
 
 /// Draws so many rows for each operation. Fails if the two kinds of storage differ, or if few rows

@@ -1,11 +1,7 @@
 //! Moves, suppression and edit, word marks, and the clearing of storage.
 
-use crate::sheets::check;
-use crate::steps::Steps;
-use std::test::Fail;
-
 /// Fields, numeric parts and zones that are moved, and marks that are set and cleared.
-const MOVES: &str = "\
+pub(crate) const MOVES: &str = "\
 A 103 B 205|~M~|101 ~ABC|201 ~UVWXY| -> I 401 A 100 B 202 |~ABC|~UVABC|
 A 105 B 203|~M~|101 ~ABCDE|201 ~XYZ| -> I 401 A 102 B 200 |~ABCDE|~CDE|
 A 103 B 205|~L~|101 ~ABC|201 ~UVWXY| -> I 401 A 100 B 202 |~ABC|~UV~ABC|
@@ -28,13 +24,8 @@ A 15000 B 201|~/~|198 ~ABC~DE| -> I 401 A 15000 B 199 |~AB  E|
 A 0 B 55|~/~|0 ~A|54 ~BCD| -> I 401 A 0 B 15999 | |  D|
 ";
 
-#[test]
-fn fields_moved_and_marks(rt: HostRuntime) -> Result<(), Fail> {
-    check::<Steps>(rt.alloc(), MOVES)
-}
-
 /// Zeros that are suppressed, and control fields by which data are edited.
-const EDITS: &str = "\
+pub(crate) const EDITS: &str = "\
 A 106 B 206|~Z~|101 ~00,120|201 ~XXXXXX| -> I 401 A 100 B 200 |~00,120|   120|
 A 103 B 205|~Z~|101 ~000|201 ~UVXXX| -> I 401 A 100 B 202 |~000|~UV   |
 A 104 B 204|~Z~|101 ~0?0B|201 ~XXXX| -> I 401 A 100 B 200 |~0?0B| ?02|
@@ -63,15 +54,10 @@ A 134 B 239|~E~|101 ~0000000000000000000000000001234567|\
     $                           12345.67   |
 ";
 
-#[test]
-fn zeros_suppressed_and_data_edited(rt: HostRuntime) -> Result<(), Fail> {
-    check::<Steps>(rt.alloc(), EDITS)
-}
-
 /// Control fields of one to seventeen characters, near position 15 and at the last that are edited
 /// at once; data that are longer and shorter; signs, commas and zeros at each place; data beside the
 /// control field, and in it.
-const CONTROLS: &str = "\
+pub(crate) const CONTROLS: &str = "\
 A 30 B 15|~E~|30 ~7|15 ~ | -> I 401 A 29 B 14 |~7|7|
 A 30 B 15|~E~|30 ~0|15 ~0| -> I 401 A 29 B 14 |~0| |
 A 30 B 15|~E~|30 ~8|15 ~,| -> I 401 A 29 B 14 |~8|,|
@@ -128,14 +114,9 @@ A 201 B 206|~E~|198 ~1234|202 ~   0C| -> I 401 A 197 B 201 |~1234|1234 |
 A 203 B 206|~E~|201 ~   ,0C| -> Stop(Overlap) I 400 A 203 B 206 |~   ,0C|
 ";
 
-#[test]
-fn controls_of_each_length(rt: HostRuntime) -> Result<(), Fail> {
-    check::<Steps>(rt.alloc(), CONTROLS)
-}
-
 /// Fields that are overwritten, positions outside the storage, and fields that would pass position
-/// 0.
-const CHECKS: &str = "\
+/// 0. At last the positions that are just inside, and fields that are overwritten just not.
+pub(crate) const CHECKS: &str = "\
 A 105 B 103|~L~|99 ~123 567| -> Stop(Address) I 400 A 105 B 103 |~123 567|
 A 105 B 103|~Z~|99 ~123 567| -> Stop(Overlap) I 400 A 105 B 103 |~123 567|
 A 105 B 105|~E~|99 ~123 567| -> Stop(Overlap) I 400 A 105 B 105 |~123 567|
@@ -156,10 +137,10 @@ A 3 B 8|~L~|0     ~     | -> Stop(Address) I 400 A 3 B 8 |    ~     |
 A 8 B 3|~Z~|0     ~     | -> Stop(Address) I 400 A 8 B 3 |    ~     |
 A 3 B 8|~Z~|0     ~     | -> Stop(Address) I 400 A 3 B 8 |    ~     |
 A 3 B 8|~E~|0     ~     | -> Stop(Address) I 400 A 3 B 8 |    ~     |
+A 0 B 1399|~D~|0 5|1399 7| -> I 401 A 15999 B 1398 |5|5|
+A 1400 B 0|~D~|0 7| -> Stop(Address) I 400 A 1400 B 0 |7|
+A 0 B 1400|~D~|0 5| -> Stop(Address) I 400 A 0 B 1400 |5|
+A 105 B 103|~Z~|101 12~567| -> Stop(Overlap) I 400 A 105 B 103 |12~567|
+A 105 B 103|~Z~|102 12~67| -> I 401 A 103 B 101 |67~67|
 A 8 B 3|~E~|0     ~     | -> Stop(Address) I 400 A 8 B 3 |    ~     |
 ";
-
-#[test]
-fn checks_change_nothing(rt: HostRuntime) -> Result<(), Fail> {
-    check::<Steps>(rt.alloc(), CHECKS)
-}

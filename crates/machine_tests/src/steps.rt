@@ -2,9 +2,10 @@
 
 use crate::machines::{deck_of, new_units};
 use crate::sheets::{Case, agreed, check, cut, number};
-use crate::storage::{at_places, lay, lay_places, registers_shown, size_of};
+use crate::storage::{lay, lay_places, push_places, push_registers, size_of};
+use crate::{addressing, arithmetic, moving};
 use bitflags::Flags;
-use core_store::{Compared, Core, FlagCore, PlaneCore, Registers, Size};
+use core_store::{Compared, Core, Registers};
 use machine::{Event, Machine, Meter, Parts, Standing};
 use std::alloc::{AllocError, Global};
 use std::test::Fail;
@@ -37,37 +38,15 @@ fn running<C: Core>(alloc: Global, core: C, registers: &str) -> Result<Machine<C
     Ok(Machine::from_parts(alloc, parts)?.ok_or("a picture in range")?)
 }
 
-/// A machine of this size before a program, with these registers and texts at some places.
-fn machine<C: Core>(
-    alloc: Global,
-    size: Size,
-    registers: &str,
-    program: &str,
-    places: &str,
-) -> Result<Machine<C>, Fail> {
-    let mut core = C::blank(alloc, size)?;
-    lay(&mut core, START, program);
-    lay_places(&mut core, places);
-    running(alloc, core, registers)
-}
-
-/// How the steps of a case are done.
-#[derive(Clone, Copy)]
-enum Way {
-    /// Each by itself, so that each instruction is read from storage.
-    Steps,
-    /// As one run, in which what the characters of an instruction say is kept.
-    Run,
-}
-
-/// The event of the last of `steps` steps.
+/// The event of the last of `steps` steps: each done by itself, so that its instruction is read from
+/// storage; or as one run, in which what the characters of an instruction say is kept.
 fn last_event<C: Core>(
     machine: &mut Machine<C>,
-    way: Way,
+    as_run: bool,
     steps: u16,
 ) -> Result<Event, AllocError> {
     let mut meter = Meter::new();
-    if let Way::Run = way {
+    if as_run {
         return Ok(machine.run(u32::from(steps), &mut meter)?.standing.event());
     }
     let mut event = Event::Next;
@@ -77,55 +56,62 @@ fn last_event<C: Core>(
     Ok(event)
 }
 
+/// The event, if it is not the next instruction, and a blank.
+fn event_text(alloc: Global, event: Event) -> Result<String, AllocError> {
+    match event {
+        Event::Next => Ok(String::new(alloc)),
+        _ => format!(in alloc; "{event:?} "),
+    }
+}
+
+/// The number before a word, and the rest of the text; without the word, this number and the whole
+/// text.
+fn before<'a>(text: &'a str, word: &str, otherwise: u16) -> (u16, &'a str) {
+    match text.split_once(word) {
+        Some((digits, rest)) => (number(digits), rest),
+        None => (otherwise, text),
+    }
+}
+
+/// A machine of this size before a program, with these registers and texts at some places.
+fn machine<C: Core>(
+    alloc: Global,
+    positions: u16,
+    registers: &str,
+    program: &str,
+    places: &str,
+) -> Result<Machine<C>, Fail> {
+    let mut core = C::blank(alloc, size_of(positions)?)?;
+    lay(&mut core, START, program);
+    lay_places(&mut core, places);
+    running(alloc, core, registers)
+}
+
 /// Does the steps, and returns the last event, the registers, and the texts at some places.
 fn stepped<C: Core>(
     alloc: Global,
     machine: &mut Machine<C>,
-    way: Way,
+    as_run: bool,
     steps: u16,
     places: &str,
 ) -> Result<String, Fail> {
-    let event = last_event(machine, way, steps)?;
+    let event = last_event(machine, as_run, steps)?;
+    let mut text = event_text(alloc, event)?;
     let parts = machine.parts();
-    let registers = registers_shown(alloc, &parts.registers)?;
-    let shown = at_places(alloc, &parts.core, places)?;
-    match event {
-        Event::Next => Ok(format!(in alloc; "{registers} {shown}")?),
-        _ => Ok(format!(in alloc; "{event:?} {registers} {shown}")?),
-    }
+    push_registers(&mut text, &parts.registers)?;
+    push_places(&mut text, &parts.core, places)?;
+    Ok(text)
 }
 
-/// The number of steps: as in `2 steps, `, and one if nothing is said.
-fn steps_of(text: &str) -> u16 {
-    match text.split_once(" steps") {
-        Some((count, _)) => number(count),
-        None => 1,
-    }
-}
-
-/// The size of the storage, as in `2000 positions, `, and the rest; 1400 if nothing is said.
-fn size_before(text: &str) -> Result<(Size, &str), Fail> {
-    match text.split_once(" positions, ") {
-        Some((positions, rest)) => Ok((size_of(positions)?, rest)),
-        None => Ok((Size::Positions1400, text)),
-    }
-}
-
-/// The output of a case of `Steps` with one kind of storage, both as steps and as a run.
-pub(crate) fn outcome<C: Core>(alloc: Global, given: &str) -> Result<String, Fail> {
-    let steps = done::<C>(alloc, given, Way::Steps)?;
-    let run = done::<C>(alloc, given, Way::Run)?;
-    agreed(alloc, steps, run)
-}
-
-/// The output of a case of `Steps` with one kind of storage, done in one way.
-fn done<C: Core>(alloc: Global, given: &str, way: Way) -> Result<String, Fail> {
-    let (size, given) = size_before(given)?;
+/// The outcome of a case of `Steps`, done in one way.
+fn done<C: Core>(alloc: Global, given: &str, as_run: bool) -> Result<String, Fail> {
+    let (positions, given) = before(given, " positions, ", 1400);
     let (order, given) = cut(given, "|");
     let (program, places) = cut(given, "|");
-    let (steps, registers) = order.split_once("A ").ok_or("registers")?;
-    let mut machine = machine::<C>(alloc, size, registers, program, places)?;
-    stepped(alloc, &mut machine, way, steps_of(steps), places)
+    let (steps, registers) = before(order, " steps, A ", 1);
+    let registers = registers.strip_prefix("A ").unwrap_or(registers);
+    let mut machine = machine::<C>(alloc, positions, registers, program, places)?;
+    stepped(alloc, &mut machine, as_run, steps, places)
 }
 
 /// Steps, of a machine whose comparison is low and whose overflow is off. Input: the size of the
@@ -135,10 +121,10 @@ fn done<C: Core>(alloc: Global, given: &str, way: Way) -> Result<String, Fail> {
 pub(crate) struct Steps;
 
 impl Case for Steps {
-    fn outcome(alloc: Global, given: &str) -> Result<String, Fail> {
-        let flags = outcome::<FlagCore>(alloc, given)?;
-        let planes = outcome::<PlaneCore>(alloc, given)?;
-        agreed(alloc, flags, planes)
+    fn outcome<C: Core>(alloc: Global, given: &str) -> Result<String, Fail> {
+        let steps = done::<C>(alloc, given, false)?;
+        let run = done::<C>(alloc, given, true)?;
+        agreed(alloc, steps, run)
     }
 }
 
@@ -175,11 +161,6 @@ A 10 B 20|~K4~|8 ~005|18 ~123| -> I 402 A 10 B 20 |~005|~123|
 A 10 B 20|~K1~|8 ~005|18 ~123| -> I 402 A 10 B 20 |~005|~123|
 ";
 
-#[test]
-fn operations(rt: HostRuntime) -> Result<(), Fail> {
-    check::<Steps>(rt.alloc(), OPERATIONS)
-}
-
 /// Instructions that are changed after they were read, and read again: one that writes over itself,
 /// and over the next one; by a mark within it, and by the mark behind it; two programs at positions
 /// 512 apart; an address whose index location is changed; and programs that begin at the last
@@ -205,11 +186,6 @@ const KEPT: &str = "\
     -> I 1392 A 7 B 17 |~001|~007|~A010020~B400|
 ";
 
-#[test]
-fn kept_shapes(rt: HostRuntime) -> Result<(), Fail> {
-    check::<Steps>(rt.alloc(), KEPT)
-}
-
 /// Fields, marks and instructions at the end of larger storages, and past it.
 const LARGE_STORAGES: &str = "\
 16000 positions, A 10 B 20|~A010I9I~|8 ~005|15997 ~123| -> I 407 A 7 B 15996 |~005|~128|
@@ -226,11 +202,6 @@ const LARGE_STORAGES: &str = "\
 12000 positions, A 10 B 20|~A01000?~|8 ~005|11997 ~123| \
     -> Stop(Address) I 400 A 10 B 20 |~005|~123|
 ";
-
-#[test]
-fn large_storages(rt: HostRuntime) -> Result<(), Fail> {
-    check::<Steps>(rt.alloc(), LARGE_STORAGES)
-}
 
 /// Branches on each condition, on a character, and on marks and zones.
 const BRANCHES: &str = "\
@@ -266,11 +237,6 @@ A 10 B 20|~B100020J~|8 AB|18 ~ZZJ| -> I 100 A 100 B 408 |AB|~ZZJ|
 A 10 B 20|~B100020K~|8 AB|18 ~ZZJ| -> I 408 A 100 B 19 |AB|~ZZJ|
 ";
 
-#[test]
-fn branches(rt: HostRuntime) -> Result<(), Fail> {
-    check::<Steps>(rt.alloc(), BRANCHES)
-}
-
 /// Instructions to which a check applies. If several apply, the first one counts.
 const CHECKS: &str = "\
 A 10 B 20|~B100H~|8 AB|18 ~123| -> Stop(Instruction) I 400 A 10 B 20 |AB|~123|
@@ -292,6 +258,29 @@ A 10 B 20|~K1000204~|8 AB|18 ~123| -> Stop(Instruction) I 400 A 10 B 20 |AB|~123
 ";
 
 #[test]
-fn checks_in_their_order(rt: HostRuntime) -> Result<(), Fail> {
-    check::<Steps>(rt.alloc(), CHECKS)
+fn single_steps(rt: HostRuntime) -> Result<(), Fail> {
+    for sheet in [
+        OPERATIONS,
+        KEPT,
+        LARGE_STORAGES,
+        BRANCHES,
+        CHECKS,
+        addressing::READ,
+        addressing::WRITTEN,
+        addressing::INDEXED,
+        addressing::OPERANDS,
+        addressing::STORED,
+        arithmetic::SUMS,
+        arithmetic::DIFFERENCES,
+        arithmetic::COPIES,
+        arithmetic::COMPARISONS,
+        arithmetic::CHECKS,
+        moving::MOVES,
+        moving::EDITS,
+        moving::CONTROLS,
+        moving::CHECKS,
+    ] {
+        check::<Steps>(rt.alloc(), sheet)?;
+    }
+    Ok(())
 }

@@ -15,11 +15,6 @@ pub(crate) fn code(glyph: u8) -> Code {
     Code::from_glyph(glyph).unwrap_or(Code::blank())
 }
 
-/// A blank storage of 1400 positions.
-pub(crate) fn blank<C: Core>(alloc: Global) -> Result<C, AllocError> {
-    C::blank(alloc, Size::Positions1400)
-}
-
 /// Each size of storage.
 pub(crate) const SIZES: [Size; 6] = [
     Size::Positions1400,
@@ -30,9 +25,9 @@ pub(crate) const SIZES: [Size; 6] = [
     Size::Positions16000,
 ];
 
-/// The size with a number of positions that a row gives.
-pub(crate) fn size_of(positions: &str) -> Result<Size, Fail> {
-    Ok(Size::of_positions(u32::from(number(positions))).ok_or("a size")?)
+/// The size with so many positions.
+pub(crate) fn size_of(positions: u16) -> Result<Size, Fail> {
+    Ok(Size::of_positions(u32::from(positions)).ok_or("a size")?)
 }
 
 /// Puts a text into storage from a position on, as far as there is storage.
@@ -60,7 +55,7 @@ pub(crate) fn lay_places<C: Core>(core: &mut C, places: &str) {
 }
 
 /// Adds the characters from a position on, as many as a text has, and a bar.
-pub(crate) fn push_place<C: Core>(
+fn push_place<C: Core>(
     shown: &mut String,
     core: &C,
     first: u16,
@@ -79,38 +74,33 @@ pub(crate) fn push_place<C: Core>(
     shown.push('|')
 }
 
-/// The texts at the places of a list, between bars.
-pub(crate) fn at_places<C: Core>(
-    alloc: Global,
+/// Adds the texts at the places of a list, between bars.
+pub(crate) fn push_places<C: Core>(
+    shown: &mut String,
     core: &C,
     places: &str,
-) -> Result<String, AllocError> {
-    let mut shown = String::from_str(alloc, "|")?;
+) -> Result<(), AllocError> {
+    shown.push('|')?;
     for place in places.split('|') {
         let (first, text) = cut(place, " ");
         if !text.is_empty() {
-            push_place(&mut shown, core, number(first), text)?;
+            push_place(shown, core, number(first), text)?;
         }
     }
-    Ok(shown)
+    Ok(())
 }
 
-/// The registers I, A and B, and the indicators that are set: `equal` or `high`, and `overflow`.
-pub(crate) fn registers_shown(alloc: Global, registers: &Registers) -> Result<String, AllocError> {
-    let Registers {
-        i,
-        a,
-        b,
-        compare,
-        overflow,
-    } = *registers;
-    let compared = match compare {
+/// Adds the registers I, A and B, and the indicators that are set: `equal` or `high`, and
+/// `overflow`.
+pub(crate) fn push_registers(shown: &mut String, registers: &Registers) -> Result<(), AllocError> {
+    let compared = match registers.compare {
         Compared::Low => "",
         Compared::Equal => " equal",
         Compared::High => " high",
     };
-    let overflow = if overflow { " overflow" } else { "" };
-    format!(in alloc; "I {i} A {a} B {b}{compared}{overflow}")
+    let overflow = if registers.overflow { " overflow" } else { "" };
+    let (i, a, b) = (registers.i, registers.a, registers.b);
+    write!(shown, "I {i} A {a} B {b}{compared}{overflow} ")
 }
 
 /// A card that begins with the text.
@@ -120,13 +110,4 @@ pub(crate) fn card_of(text: &str) -> Card {
         *column = code(*glyph);
     }
     Card(codes)
-}
-
-/// The text of some characters, without the blanks at its end.
-pub(crate) fn text_of(alloc: Global, codes: &[Code]) -> Result<String, AllocError> {
-    let mut text = String::new(alloc);
-    for code in codes {
-        text.push(code.glyph() as char)?;
-    }
-    String::from_str(alloc, text.trim_end())
 }
