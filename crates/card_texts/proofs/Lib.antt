@@ -1,0 +1,4 @@
+mod LineLemmas
+mod ColumnLemmas
+mod SignLemmas
+mod FaultLemmas
