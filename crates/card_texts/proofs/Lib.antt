@@ -2,3 +2,4 @@ mod LineLemmas
 mod ColumnLemmas
 mod SignLemmas
 mod FaultLemmas
+mod PunchingLemmas

@@ -1,22 +1,23 @@
 -- a text taken as a deck
-use Rattle.std.specs.Prelude.{ℕ, ◌+◌, ◌==◌, Bool, true, false, ◌&&◌, if◌then◌else◌, List, [], ◌∷◌, ◌++◌}
+use Rattle.std.specs.Prelude.{ℕ, ◌≡◌, ◌≢◌, ⊤, ◌+◌, ◌==◌, Bool, true, false, ◌&&◌, if◌then◌else◌, List, [], ◌∷◌, ◌++◌}
 use Rattle.card_texts.specs.declared.rules.Rules.{Rules}
 use Rattle.card_texts.specs.declared.rules.EmptyLine as line
 use Rattle.card_texts.specs.declared.rules.EmptyLine.TheVariants as empty
 use Rattle.card_texts.specs.declared.faults.TextError.TheVariants.{EmptyLine, TooManyCards}
 use Rattle.card_texts.specs.declared.faults.TextFault.{TextFault}
+use Rattle.std.specs.List.{list_all}
+use Rattle.card_texts.specs.declared.punching.Line.{Line}
+use Rattle.card_texts.specs.declared.punching.Taken.{Taken}
+use Rattle.card_texts.specs.declared.punching.Unpunched.{Unpunched}
+use Rattle.card_texts.specs.declared.punching.Unpunched.TheVariants.{NoMemory, Faults}
 use Rattle.card_texts.specs.Lines.{lines_of}
-use Rattle.card_texts.specs.Columns.{filled_up, is_blank}
+use Rattle.card_texts.specs.Columns.{blank, filled_up, is_blank}
 use Rattle.card_texts.specs.Faults.{faults_within}
 
 -- whether there is no fault
 abbrev pub are_none : List TextFault → Bool
 are_none [] = true
 are_none (fault ∷ faults) = false
-
--- whether a line has no character but blanks, and no fault
-abbrev pub is_empty : Rules → ℕ → List ℕ → Bool
-is_empty rules number l = are_none (faults_within rules number l) && is_blank rules l
 
 -- whether lines without a character are passed over
 abbrev pub drops : line.EmptyLine → Bool
@@ -27,6 +28,19 @@ drops other = false
 abbrev pub refuses : line.EmptyLine → Bool
 refuses empty.Fault = true
 refuses other = false
+
+-- whether a line of these columns and faults is empty
+abbrev pub is_empty_line : Line → Bool
+is_empty_line l = are_none l.faults.items && list_all (λ column. column == blank) l.columns.items
+
+-- the fault that a line is empty, if that is one
+abbrev pub empty_fault_of : line.EmptyLine → ℕ → Line → List TextFault
+empty_fault_of empty number l = if refuses empty && is_empty_line l
+    then record { line = number; column = 1; error = EmptyLine } ∷ [] else []
+
+-- whether a line has no character but blanks, and no fault
+abbrev pub is_empty : Rules → ℕ → List ℕ → Bool
+is_empty rules number l = are_none (faults_within rules number l) && is_blank rules l
 
 -- whether a line is no card, since it is empty and such lines are passed over
 abbrev pub is_passed_over : Rules → ℕ → List ℕ → Bool
@@ -66,3 +80,28 @@ faults_of rules text = faults_of_lines rules 1 0 (lines_of text)
 -- the deck text that a text without faults is taken as
 abbrev pub deck_text_of : Rules → List ℕ → List ℕ
 deck_text_of rules text = cards_of_lines rules 1 (lines_of text)
+
+-- why a text is no deck: want of memory, or its faults
+abbrev pub IsUnpunched : Rules → List ℕ → Unpunched → Type 0
+IsUnpunched rules text NoMemory = ⊤
+IsUnpunched rules text (Faults faults) = (faults.items ≡ faults_of rules text) × (faults.items ≢ [])
+
+-- what was taken behind a line, where the lines behind it are to be looked at: its card and its
+-- faults
+pub record HasCard (rules : Rules) (number : ℕ) (l : Line) (before after : Taken) : Type 0 where
+  pub room : before.cards ≢ 2000
+  pub text : after.text.items ≡ before.text.items ++ (l.columns.items ++ 10 ∷ [])
+  pub faults : after.faults.items
+    ≡ before.faults.items ++ (l.faults.items ++ empty_fault_of rules.empty number l)
+  pub cards : after.cards ≡ before.cards + 1
+
+-- what was taken behind a line that is one card more than a deck has
+pub record IsFull (number : ℕ) (before after : Taken) : Type 0 where
+  pub full : before.cards ≡ 2000
+  pub faults : after.faults.items
+    ≡ before.faults.items ++ record { line = number; column = 1; error = TooManyCards } ∷ []
+
+-- a line was added, or is one more than a deck has
+abbrev pub HasPushed : Rules → ℕ → Line → Taken → Taken → Bool → Type 0
+HasPushed rules number l before after true = HasCard rules number l before after
+HasPushed rules number l before after false = IsFull number before after

@@ -5,7 +5,9 @@ mod columns;
 mod faults;
 mod finding;
 mod lines;
+mod punching;
 mod rules;
 
 pub use faults::{TextError, TextFault};
+pub use punching::{Unpunched, punch};
 pub use rules::{EmptyLine, Rules, Signs};

@@ -12,7 +12,8 @@ const END: u8 = 0x1A;
 
 /// A text without the mark that some editors put at its front.
 fn after_front(text: &[u8]) -> &[u8]
-    ensures { result.now ≡ without_front text.now }
+    ensures body { result.now ≡ without_front text.now }
+    ensures length { length result.now ≤ length text.now }
 {
     match text {
         [0xEF, 0xBB, 0xBF, rest @ ..] => rest,
@@ -23,7 +24,8 @@ fn after_front(text: &[u8]) -> &[u8]
 /// A text without the bytes by which some systems end it.
 #[tactic(auto, using(crate::proofs::LineLemmas::end_passed_over, crate::proofs::LineLemmas::no_end_stays), unfolding(crate::specs::Lines::without_ends))]
 fn before_ends(text: &[u8]) -> &[u8]
-    ensures { result.now ≡ without_ends text.now }
+    ensures body { result.now ≡ without_ends text.now }
+    ensures length { length result.now ≤ length text.now }
 {
     let mut rest = text;
     while let Some((&byte, before)) = rest.split_last() {
@@ -37,7 +39,8 @@ fn before_ends(text: &[u8]) -> &[u8]
 
 /// What is read of a text.
 pub(crate) fn body(text: &[u8]) -> &[u8]
-    ensures { result.now ≡ without_ends (without_front text.now) }
+    ensures body { result.now ≡ without_ends (without_front text.now) }
+    ensures length { length result.now ≤ length text.now }
 {
     before_ends(after_front(text))
 }
