@@ -1,5 +1,5 @@
 -- a text taken as a deck
-use Rattle.std.specs.Prelude.{ℕ, ◌≡◌, ◌≢◌, ⊤, ◌+◌, ◌==◌, Bool, true, false, ◌&&◌, if◌then◌else◌, List, [], ◌∷◌, ◌++◌}
+use Rattle.std.specs.Prelude.{ℕ, ◌≡◌, ◌≢◌, ⊤, ◌⊎◌, ◌+◌, ◌==◌, Bool, true, false, ◌&&◌, if◌then◌else◌, List, [], ◌∷◌, ◌++◌}
 use Rattle.card_texts.specs.declared.rules.Rules.{Rules}
 use Rattle.card_texts.specs.declared.rules.EmptyLine as line
 use Rattle.card_texts.specs.declared.rules.EmptyLine.TheVariants as empty
@@ -105,3 +105,17 @@ pub record IsFull (number : ℕ) (before after : Taken) : Type 0 where
 abbrev pub HasPushed : Rules → ℕ → Line → Taken → Taken → Bool → Type 0
 HasPushed rules number l before after true = HasCard rules number l before after
 HasPushed rules number l before after false = IsFull number before after
+
+-- nothing was taken of a line that is passed over
+pub record IsPassed (rules : Rules) (l : Line) (before after : Taken) : Type 0 where
+  pub passed : (drops rules.empty && is_empty_line l) ≡ true
+  pub text : after.text.items ≡ before.text.items
+  pub faults : after.faults.items ≡ before.faults.items
+  pub cards : after.cards ≡ before.cards
+
+-- a line was taken, or passed over; or it is one more than a deck has
+abbrev pub HasTaken : Rules → ℕ → Line → Taken → Taken → Bool → Type 0
+HasTaken rules number l before after true = IsPassed rules l before after
+    ⊎ (((drops rules.empty && is_empty_line l) ≡ false) × HasCard rules number l before after)
+HasTaken rules number l before after false =
+    ((drops rules.empty && is_empty_line l) ≡ false) × IsFull number before after

@@ -4,7 +4,7 @@ ghost use Rattle.std.specs.Prelude.{◌≡◌, ◌≤◌, ◌<◌, ◌+◌, ◌+
 ghost use Rattle.std.specs.List.{list_all};
 ghost use Rattle.card_texts.specs.Columns.{blank, filled_up, is_blank};
 ghost use Rattle.card_texts.specs.Faults.{faults_within};
-ghost use Rattle.card_texts.specs.Punching.{are_none, deck_text_of, drops, empty_fault_of, faults_of, is_empty, refuses, HasPushed, is_empty_line, IsUnpunched};
+ghost use Rattle.card_texts.specs.Punching.{are_none, deck_text_of, drops, empty_fault_of, faults_of, is_empty, refuses, HasPushed, HasTaken, is_empty_line, IsUnpunched};
 
 ghost use Rattle.card_texts.specs.declared.punching.Unpunched.TheVariants.{NoMemory};
 
@@ -167,6 +167,22 @@ fn is_passed_over(rules: &Rules, line: &Line) -> bool
     rules.empty.drops() && line.is_empty()
 }
 
+/// Takes a line that was looked at. Returns whether the lines behind it are to be looked at.
+fn take_line(
+    taken: &mut Taken,
+    rules: &Rules,
+    number: usize,
+    line: &Line,
+) -> Result<bool, AllocError>
+    requires { taken.old.cards ≤ 2000 }
+    ensures { IfOk result (HasTaken rules.now number line.now taken.old taken.new) }
+{
+    if is_passed_over(rules, line) {
+        return Ok(true);
+    }
+    taken.push_line(rules, number, line)
+}
+
 /// Takes the lines of a text, as far as they are looked at.
 fn take_lines(
     alloc: Global,
@@ -190,7 +206,7 @@ fn take_lines(
     while !rest.is_empty() {
         let (first, behind) = split_line(rest);
         line.look(rules, number, first)?;
-        if !is_passed_over(rules, &line) && !taken.push_line(rules, number, &line)? {
+        if !take_line(taken, rules, number, &line)? {
             return Ok(());
         }
         rest = behind;
