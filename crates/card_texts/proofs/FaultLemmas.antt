@@ -1,5 +1,5 @@
 -- the faults of a line, byte by byte
-use Rattle.std.proofs.Common.{rules, arith, refl, sym, ap, ◌∙◌, ◌≡◌, ◌<◌, ◌≤◌, ◌+◌, ℕ, nat_lt, max, if◌then◌else◌, Bool, true, false, List, ◌∷◌, ◌++◌, length, append_assoc, Option}
+use Rattle.std.proofs.Common.{rules, arith, sym, ap, ◌∙◌, ◌≡◌, ◌<◌, ◌≤◌, ◌+◌, ℕ, nat_lt, max, if◌then◌else◌, Bool, true, false, List, ◌∷◌, ◌++◌, append_assoc}
 use Rattle.card_texts.specs.declared.rules.Rules.{Rules}
 use Rattle.card_texts.specs.declared.faults.TextFault.{TextFault}
 use Rattle.card_texts.specs.declared.finding.Met.{Met}
@@ -37,14 +37,14 @@ pub within_step : (rules : Rules) (number filled : ℕ) (met : Met) (byte : ℕ)
     → text ≡ byte ∷ rest
     → told ++ faults_from rules number filled met text ≡ found
     → (told ++ told_of number filled met (error_within rules byte rest))
-        ++ faults_from rules number (behind rules filled byte)
-          (met_behind met (error_within rules byte rest) byte) rest ≡ found
+    ++ faults_from rules number (behind rules filled byte)
+    (met_behind met (error_within rules byte rest) byte) rest ≡ found
 unfolding faults_from
 within_step rules number filled met byte rest text told found past inside below is before =
     let own : List TextFault = told_of number filled met (error_within rules byte rest) in
     let later : List TextFault = faults_from rules number (behind rules filled byte) (met_behind met (error_within rules byte rest) byte) rest in
     let step : faults_from rules number filled met (byte ∷ rest) ≡ own ++ later =
-        third (is_past rules.keeps filled) (is_inside met byte) (nat_lt filled 80) _ _ _ _ past inside (below_told filled 80 below) in
+    third (is_past rules.keeps filled) (is_inside met byte) (nat_lt filled 80) _ _ _ _ past inside (below_told filled 80 below) in
     append_assoc told own later
     ∙ ap (λ faults. told ++ faults) (sym (ap (faults_from rules number filled met) is ∙ step))
     ∙ before
@@ -59,8 +59,8 @@ pub bare_step : (rules : Rules) (number filled : ℕ) (met : Met) (byte : ℕ) (
 unfolding faults_from
 bare_step rules number filled met byte rest text told found past inside beyond bare is before =
     let step : faults_from rules number filled met (byte ∷ rest)
-        ≡ faults_from rules number (behind rules filled byte) met rest =
-        fourth (is_past rules.keeps filled) (is_inside met byte) (nat_lt filled 80) (is_bare rules byte) _ _ _ _ _ past inside (beyond_told filled 80 beyond) bare in
+    ≡ faults_from rules number (behind rules filled byte) met rest =
+    fourth (is_past rules.keeps filled) (is_inside met byte) (nat_lt filled 80) (is_bare rules byte) _ _ _ _ _ past inside (beyond_told filled 80 beyond) bare in
     ap (λ faults. told ++ faults) (sym (ap (faults_from rules number filled met) is ∙ step))
     ∙ before
 

@@ -1,5 +1,5 @@
 -- the lines of a text
-use Rattle.std.proofs.Common.{rules, arith, refl, sym, ap, ◌∙◌, ◌≡◌, ◌≢◌, ℕ, ◌==◌, Bool, true, false, ◌&&◌, if◌then◌else◌, List, [], ◌∷◌, ◌++◌, All, zero, suc, ◌+◌, ◌<◌, ◌≤◌, subst, add-one, length, take, drop, get_or}
+use Rattle.std.proofs.Common.{arith, refl, ap, ◌∙◌, ◌≡◌, ◌≢◌, ℕ, ◌==◌, true, false, ◌&&◌, List, [], ◌∷◌, ◌++◌, All, zero, suc, ◌+◌, ◌<◌, ◌≤◌, subst, add-one, length, take, drop, get_or}
 use Rattle.std.proofs.lemmas.List.{take_all}
 use Rattle.card_texts.specs.Lines.{are_ends, without_ends, with_byte, lines_from}
 
@@ -90,7 +90,7 @@ pub split_at_feed : (text : List ℕ) (place : ℕ) → place < length text → 
 split_at_feed text place below within feed =
     rw (add-one place)
     (ap (lines_from false) (at_place text place 0 below
-        ∙ ap (λ b. take place text ++ b ∷ drop (suc place) text) feed)
+    ∙ ap (λ b. take place text ++ b ∷ drop (suc place) text) feed)
     ∙ line_before_feed (take place text) (drop (suc place) text) within)
 
 -- the same of a carriage return
@@ -100,7 +100,7 @@ pub split_at_return : (text : List ℕ) (place : ℕ) → place < length text
 split_at_return text place below within feed =
     rw (add-one place)
     (ap (lines_from false) (at_place text place 0 below
-        ∙ ap (λ b. take place text ++ b ∷ drop (suc place) text) feed)
+    ∙ ap (λ b. take place text ++ b ∷ drop (suc place) text) feed)
     ∙ line_before_return (take place text) (drop (suc place) text) within)
 
 -- a text that no line end is in, is one line

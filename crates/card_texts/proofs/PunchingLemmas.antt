@@ -9,7 +9,7 @@ use Rattle.card_texts.specs.declared.punching.Line.{Line}
 use Rattle.card_texts.specs.declared.punching.Taken.{Taken}
 use Rattle.card_texts.specs.Columns.{blank, filled_up}
 use Rattle.card_texts.specs.Faults.{faults_within}
-use Rattle.card_texts.specs.Punching.{are_none, drops, empty_fault_of, is_empty_line, is_passed_over, refuses, line_faults, faults_of_lines, cards_of_lines, HasCard, IsFull, IsPassed, HasTaken}
+use Rattle.card_texts.specs.Punching.{are_none, drops, empty_fault_of, is_empty_line, is_passed_over, refuses, line_faults, faults_of_lines, cards_of_lines, HasTaken}
 
 -- the second of two values by a test
 later : (a : Bool) (x y : List TextFault) → a ≡ false → (if a then x else y) ≡ y
@@ -35,7 +35,7 @@ unequal m n other = grind (arith, other)
 pub passed_faults : (rules : Rules) (number cards : ℕ) (l : List ℕ) (lines : List (List ℕ))
     → is_passed_over rules number l ≡ true
     → faults_of_lines rules number cards (l ∷ lines)
-        ≡ faults_of_lines rules (number + 1) cards lines
+    ≡ faults_of_lines rules (number + 1) cards lines
 unfolding faults_of_lines
 passed_faults rules number cards l lines passed = earlier (is_passed_over rules number l) _ _ passed
 
@@ -50,7 +50,7 @@ passed_cards rules number l lines passed = earlier_text (is_passed_over rules nu
 pub full_faults : (rules : Rules) (number cards : ℕ) (l : List ℕ) (lines : List (List ℕ))
     → is_passed_over rules number l ≡ false → cards ≡ 2000
     → faults_of_lines rules number cards (l ∷ lines)
-        ≡ record { line = number; column = 1; error = TooManyCards } ∷ []
+    ≡ record { line = number; column = 1; error = TooManyCards } ∷ []
 unfolding faults_of_lines
 full_faults rules number cards l lines card full =
     later (is_passed_over rules number l) _ _ card
@@ -60,7 +60,7 @@ full_faults rules number cards l lines card full =
 pub card_faults : (rules : Rules) (number cards : ℕ) (l : List ℕ) (lines : List (List ℕ))
     → is_passed_over rules number l ≡ false → cards ≢ 2000
     → faults_of_lines rules number cards (l ∷ lines)
-        ≡ line_faults rules number l ++ faults_of_lines rules (number + 1) (cards + 1) lines
+    ≡ line_faults rules number l ++ faults_of_lines rules (number + 1) (cards + 1) lines
 unfolding faults_of_lines
 card_faults rules number cards l lines card room =
     later (is_passed_over rules number l) _ _ card
@@ -70,7 +70,7 @@ card_faults rules number cards l lines card room =
 pub card_cards : (rules : Rules) (number : ℕ) (l : List ℕ) (lines : List (List ℕ))
     → is_passed_over rules number l ≡ false
     → cards_of_lines rules number (l ∷ lines)
-        ≡ (filled_up rules l ++ 10 ∷ []) ++ cards_of_lines rules (number + 1) lines
+    ≡ (filled_up rules l ++ 10 ∷ []) ++ cards_of_lines rules (number + 1) lines
 unfolding cards_of_lines
 card_cards rules number l lines card = later_text (is_passed_over rules number l) _ _ card
 
@@ -93,9 +93,9 @@ pub looked_faults : (rules : Rules) (number : ℕ) (bytes : List ℕ) (l : Line)
     → l.faults.items ++ empty_fault_of rules.empty number l ≡ line_faults rules number bytes
 looked_faults rules number bytes l looked =
     ap (λ columns. l.faults.items ++ (if refuses rules.empty && (are_none l.faults.items && list_all (λ column. column == blank) columns)
-        then record { line = number; column = 1; error = EmptyLine } ∷ [] else [])) looked.columns
+    then record { line = number; column = 1; error = EmptyLine } ∷ [] else [])) looked.columns
     ∙ ap (λ faults. faults ++ (if refuses rules.empty && (are_none faults && list_all (λ column. column == blank) (filled_up rules bytes))
-        then record { line = number; column = 1; error = EmptyLine } ∷ [] else [])) looked.faults
+    then record { line = number; column = 1; error = EmptyLine } ∷ [] else [])) looked.faults
 
 -- the faults of a text after one line more
 pub faults_step : (rules : Rules) (number : ℕ) (bytes rest behind : List ℕ) (l : Line)
@@ -109,28 +109,28 @@ faults_step rules number bytes rest behind l before after found looked split tak
     let lines : List (List ℕ) = lines_from false behind in
     let same = looked_passed rules number bytes l looked in
     elim taken [
-      inl passed ↦
-        let step : faults_of_lines rules number before.cards (lines_from false rest)
-            ≡ faults_of_lines rules (number + 1) before.cards lines =
-            ap (faults_of_lines rules number before.cards) split
-            ∙ passed_faults rules number before.cards bytes lines (same ∙ passed.passed) in
-        ap (λ faults. faults ++ faults_of_lines rules (number + 1) after.cards lines) passed.faults
-        ∙ ap (λ cards. before.faults.items ++ faults_of_lines rules (number + 1) cards lines) passed.cards
-        ∙ ap (λ faults. before.faults.items ++ faults) (sym step)
-        ∙ known
+      | inl passed ↦
+          let step : faults_of_lines rules number before.cards (lines_from false rest)
+          ≡ faults_of_lines rules (number + 1) before.cards lines =
+          ap (faults_of_lines rules number before.cards) split
+          ∙ passed_faults rules number before.cards bytes lines (same ∙ passed.passed) in
+          ap (λ faults. faults ++ faults_of_lines rules (number + 1) after.cards lines) passed.faults
+          ∙ ap (λ cards. before.faults.items ++ faults_of_lines rules (number + 1) cards lines) passed.cards
+          ∙ ap (λ faults. before.faults.items ++ faults) (sym step)
+          ∙ known
       | inr card ↦
-        let step : faults_of_lines rules number before.cards (lines_from false rest)
-            ≡ line_faults rules number bytes ++ faults_of_lines rules (number + 1) (before.cards + 1) lines =
-            ap (faults_of_lines rules number before.cards) split
-            ∙ card_faults rules number before.cards bytes lines (same ∙ card.0) card.1.room in
-        let own : List TextFault = l.faults.items ++ empty_fault_of rules.empty number l in
-        let later : List TextFault = faults_of_lines rules (number + 1) (before.cards + 1) lines in
-        ap (λ faults. faults ++ faults_of_lines rules (number + 1) after.cards lines) card.1.faults
-        ∙ ap (λ cards. (before.faults.items ++ own) ++ faults_of_lines rules (number + 1) cards lines) card.1.cards
-        ∙ append_assoc before.faults.items own later
-        ∙ ap (λ faults. before.faults.items ++ (faults ++ later)) (looked_faults rules number bytes l looked)
-        ∙ ap (λ faults. before.faults.items ++ faults) (sym step)
-        ∙ known
+          let step : faults_of_lines rules number before.cards (lines_from false rest)
+          ≡ line_faults rules number bytes ++ faults_of_lines rules (number + 1) (before.cards + 1) lines =
+          ap (faults_of_lines rules number before.cards) split
+          ∙ card_faults rules number before.cards bytes lines (same ∙ card.0) card.1.room in
+          let own : List TextFault = l.faults.items ++ empty_fault_of rules.empty number l in
+          let later : List TextFault = faults_of_lines rules (number + 1) (before.cards + 1) lines in
+          ap (λ faults. faults ++ faults_of_lines rules (number + 1) after.cards lines) card.1.faults
+          ∙ ap (λ cards. (before.faults.items ++ own) ++ faults_of_lines rules (number + 1) cards lines) card.1.cards
+          ∙ append_assoc before.faults.items own later
+          ∙ ap (λ faults. before.faults.items ++ (faults ++ later)) (looked_faults rules number bytes l looked)
+          ∙ ap (λ faults. before.faults.items ++ faults) (sym step)
+          ∙ known
     ]
 
 -- its cards
@@ -146,23 +146,23 @@ cards_step rules number bytes rest behind l before after text looked split taken
     let same = looked_passed rules number bytes l looked in
     let later : List ℕ = cards_of_lines rules (number + 1) lines in
     elim taken [
-      inl passed ↦
-        let step : cards_of_lines rules number (lines_from false rest) ≡ later =
-            ap (cards_of_lines rules number) split
-            ∙ passed_cards rules number bytes lines (same ∙ passed.passed) in
-        ap (λ cards. cards ++ later) passed.text
-        ∙ ap (λ cards. before.text.items ++ cards) (sym step)
-        ∙ known
+      | inl passed ↦
+          let step : cards_of_lines rules number (lines_from false rest) ≡ later =
+          ap (cards_of_lines rules number) split
+          ∙ passed_cards rules number bytes lines (same ∙ passed.passed) in
+          ap (λ cards. cards ++ later) passed.text
+          ∙ ap (λ cards. before.text.items ++ cards) (sym step)
+          ∙ known
       | inr card ↦
-        let step : cards_of_lines rules number (lines_from false rest)
-            ≡ (filled_up rules bytes ++ 10 ∷ []) ++ later =
-            ap (cards_of_lines rules number) split
-            ∙ card_cards rules number bytes lines (same ∙ card.0) in
-        ap (λ cards. cards ++ later) card.1.text
-        ∙ append_assoc before.text.items (l.columns.items ++ 10 ∷ []) later
-        ∙ ap (λ columns. before.text.items ++ ((columns ++ 10 ∷ []) ++ later)) looked.columns
-        ∙ ap (λ cards. before.text.items ++ cards) (sym step)
-        ∙ known
+          let step : cards_of_lines rules number (lines_from false rest)
+          ≡ (filled_up rules bytes ++ 10 ∷ []) ++ later =
+          ap (cards_of_lines rules number) split
+          ∙ card_cards rules number bytes lines (same ∙ card.0) in
+          ap (λ cards. cards ++ later) card.1.text
+          ∙ append_assoc before.text.items (l.columns.items ++ 10 ∷ []) later
+          ∙ ap (λ columns. before.text.items ++ ((columns ++ 10 ∷ []) ++ later)) looked.columns
+          ∙ ap (λ cards. before.text.items ++ cards) (sym step)
+          ∙ known
     ]
 
 -- the faults of a text whose deck is full
@@ -177,8 +177,8 @@ full_step rules number bytes rest behind l before after found looked split taken
     let same = looked_passed rules number bytes l looked in
     taken.1.faults
     ∙ ap (λ faults. before.faults.items ++ faults)
-        (sym (ap (faults_of_lines rules number before.cards) split
-        ∙ full_faults rules number before.cards bytes (lines_from false behind) (same ∙ taken.0) taken.1.full))
+    (sym (ap (faults_of_lines rules number before.cards) split
+    ∙ full_faults rules number before.cards bytes (lines_from false behind) (same ∙ taken.0) taken.1.full))
     ∙ known
 
 -- a deck that was not full has room for the next card
@@ -186,7 +186,7 @@ pub room_step : (rules : Rules) (number : ℕ) (l : Line) (before after : Taken)
     → HasTaken rules number l before after true → before.cards ≤ 2000 → after.cards ≤ 2000
 room_step rules number l before after taken room =
     elim taken [
-      inl passed ↦ omega (arith, passed.cards, room)
+      | inl passed ↦ omega (arith, passed.cards, room)
       | inr card ↦ omega (arith, card.1.cards, card.1.room, room)
     ]
 

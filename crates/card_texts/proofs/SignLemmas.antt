@@ -1,5 +1,5 @@
 -- glyphs and bytes
-use Rattle.std.proofs.Common.{rules, arith, refl, sym, ap, subst, ◌≡◌, ◌≢◌, ◌<◌, ℕ, ◌==◌, Bool, true, false, length, get_or, slice_index}
+use Rattle.std.proofs.Common.{arith, subst, ◌≡◌, ◌≢◌, ◌<◌, ℕ, ◌==◌, true, false, get_or, slice_index}
 use Rattle.std.proofs.lemmas.List.Folds.{list_any_at, list_any_none}
 use Rattle.std.proofs.lemmas.List.{get_or_default}
 use Rattle.bcd.specs.Table.{glyphs, glyph_of}
@@ -24,4 +24,4 @@ pub glyph_missing : (byte : ℕ) → ((n : ℕ) → n < 64 → glyph_of n ≢ by
 unfolding is_glyph glyph_of
 glyph_missing byte missing =
     list_any_none (λ glyph. glyph == byte) glyphs (λ k d below.
-        unequal (get_or glyphs k d) byte (subst (λ glyph. glyph ≢ byte) (at_any_default k d below) (missing k below)))
+    unequal (get_or glyphs k d) byte (subst (λ glyph. glyph ≢ byte) (at_any_default k d below) (missing k below)))

@@ -1,5 +1,5 @@
 -- the columns of a card that a line fills, as glyphs
-use Rattle.std.specs.Prelude.{ℕ, ◌+◌, ◌-◌, ◌==◌, nat_lt, Bool, true, false, ◌&&◌, if◌then◌else◌, List, [], ◌∷◌, ◌++◌, length, take, replicate, Option, Some, None}
+use Rattle.std.specs.Prelude.{ℕ, ◌+◌, ◌-◌, ◌==◌, nat_lt, Bool, true, false, ◌&&◌, if◌then◌else◌, List, [], ◌∷◌, ◌++◌, take, replicate, Option, Some, None}
 use Rattle.std.specs.List.{list_all}
 use Rattle.card_texts.specs.declared.rules.Rules.{Rules}
 use Rattle.card_texts.specs.Signs.{glyph_by}

@@ -68,11 +68,11 @@ faults_from rules number filled met (byte ∷ rest) =
     if is_past rules.keeps filled then []
     else (if is_inside met byte then faults_from rules number filled met rest
     else (if nat_lt filled 80
-      then told_of number filled met (error_within rules byte rest)
-        ++ faults_from rules number (behind rules filled byte)
-          (met_behind met (error_within rules byte rest) byte) rest
+    then told_of number filled met (error_within rules byte rest)
+    ++ faults_from rules number (behind rules filled byte)
+    (met_behind met (error_within rules byte rest) byte) rest
     else (if is_bare rules byte
-      then faults_from rules number (behind rules filled byte) met rest
+    then faults_from rules number (behind rules filled byte) met rest
     else record { line = number; column = filled + 1; error = PastTheCard } ∷ [])))
 
 -- the faults of the characters of a line

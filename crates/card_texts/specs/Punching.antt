@@ -92,14 +92,14 @@ pub record HasCard (rules : Rules) (number : ℕ) (l : Line) (before after : Tak
   pub room : before.cards ≢ 2000
   pub text : after.text.items ≡ before.text.items ++ (l.columns.items ++ 10 ∷ [])
   pub faults : after.faults.items
-    ≡ before.faults.items ++ (l.faults.items ++ empty_fault_of rules.empty number l)
+      ≡ before.faults.items ++ (l.faults.items ++ empty_fault_of rules.empty number l)
   pub cards : after.cards ≡ before.cards + 1
 
 -- what was taken behind a line that is one card more than a deck has
 pub record IsFull (number : ℕ) (before after : Taken) : Type 0 where
   pub full : before.cards ≡ 2000
   pub faults : after.faults.items
-    ≡ before.faults.items ++ record { line = number; column = 1; error = TooManyCards } ∷ []
+      ≡ before.faults.items ++ record { line = number; column = 1; error = TooManyCards } ∷ []
 
 -- a line was added, or is one more than a deck has
 abbrev pub HasPushed : Rules → ℕ → Line → Taken → Taken → Bool → Type 0

@@ -2,7 +2,6 @@
 use Rattle.std.specs.Prelude.{ℕ, ◌-◌, nat_le, ◌==◌, Bool, ◌&&◌, if◌then◌else◌}
 use Rattle.std.specs.List.{list_any}
 use Rattle.bcd.specs.Table.{glyphs}
-use Rattle.card_texts.specs.declared.rules.Rules.{Rules}
 use Rattle.card_texts.specs.declared.rules.Signs.{Signs}
 use Rattle.card_texts.specs.declared.rules.Signs.TheVariants.{Bureau, Simh}
 
@@ -35,8 +34,3 @@ glyph_by Simh folds byte = simh_glyph byte
 -- whether a byte is the glyph of a character
 unfoldable pub is_glyph : ℕ → Bool
 is_glyph byte = list_any (λ glyph. glyph == byte) glyphs
-
--- the byte by which SimH writes the character of a glyph
-unfoldable pub simh_sign : ℕ → ℕ
-simh_sign glyph = if glyph == 34 then 123
-    else (if glyph == 61 then 126 else (if glyph == 43 then 34 else glyph))

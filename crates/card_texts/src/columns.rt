@@ -8,6 +8,7 @@ use crate::rules::Rules;
 use std::alloc::AllocError;
 
 const BLANK: u8 = b' ';
+
 const TAB: u8 = b'\t';
 /// The number of columns of a card.
 pub(crate) const COLUMNS: usize = 80;

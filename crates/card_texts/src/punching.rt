@@ -5,7 +5,6 @@ ghost use Rattle.std.specs.List.{list_all};
 ghost use Rattle.card_texts.specs.Columns.{blank, filled_up, is_blank};
 ghost use Rattle.card_texts.specs.Faults.{faults_within};
 ghost use Rattle.card_texts.specs.Punching.{are_none, deck_text_of, drops, empty_fault_of, faults_of, is_empty, refuses, HasPushed, HasTaken, is_empty_line, IsUnpunched};
-
 ghost use Rattle.card_texts.specs.declared.punching.Unpunched.TheVariants.{NoMemory};
 
 use crate::columns::fill_up;
@@ -80,7 +79,8 @@ impl Line {
     /// Looks at a line.
     fn look(&mut self, rules: &Rules, number: usize, line: &[u8]) -> Result<(), AllocError>
         ensures columns { OnOk result (self.new.columns.items ≡ filled_up rules.now line.now) }
-        ensures faults { OnOk result (self.new.faults.items ≡ faults_within rules.now number line.now) }
+        ensures faults { OnOk result
+            (self.new.faults.items ≡ faults_within rules.now number line.now) }
     {
         self.faults.clear();
         push_faults(&mut self.faults, rules, number, line)?;
@@ -89,7 +89,7 @@ impl Line {
 
     /// Whether it has no character but blanks, and no fault.
     fn is_empty(&self) -> bool
-        ensures { result ≡ (are_none self.now.faults.items && list_all (λ column. column == blank) self.now.columns.items) }
+        ensures { result ≡ is_empty_line self.now }
     {
         self.faults.is_empty() && are_blanks(&self.columns)
     }
@@ -140,12 +140,7 @@ impl Taken {
 
     /// Adds a line that was looked at, as a card or as one more than a deck has. Returns whether the
     /// lines behind it are to be looked at.
-    fn push_line(
-        &mut self,
-        rules: &Rules,
-        number: usize,
-        line: &Line,
-    ) -> Result<bool, AllocError>
+    fn push_line(&mut self, rules: &Rules, number: usize, line: &Line) -> Result<bool, AllocError>
         requires { self.old.cards ≤ 2000 }
         ensures pushed { IfOk result (HasPushed rules.now number line.now self.old self.new) }
     {

@@ -1,4 +1,4 @@
-use Rattle.std.proofs.Common.{rules, arith, ◌≡◌, ◌∙◌, ap, sym, [], ◌++◌, drop, length, add-one, append-nil}
+use Rattle.std.proofs.Common.{◌∙◌, ap, sym, ◌++◌, length, add-one, append-nil}
 use Rattle.std.proofs.lemmas.List.{drop_all}
 use Rattle.card_texts.specs.Columns.{columns_from}
 use Rattle.card_texts.proofs.ColumnLemmas.{spread_on}
@@ -15,5 +15,5 @@ unfolding columns_from
 returns c =
     sym (c.loop-byte.invariant
     ∙ ap (λ rest. c.loop-byte.columns.items ++ columns_from c.args.rules.now (length c.loop-byte.columns.items) rest)
-        (drop_all c.loop-byte.byte-index c.args.line.now c.loop-byte-test.false)
+    (drop_all c.loop-byte.byte-index c.args.line.now c.loop-byte-test.false)
     ∙ append-nil c.loop-byte.columns.items)

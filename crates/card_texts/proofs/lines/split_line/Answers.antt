@@ -1,4 +1,4 @@
-use Rattle.std.proofs.Common.{rules, arith, ◌≡◌, ◌<◌, ◌∙◌, ap, sym, length, take, drop, ◌∷◌, ◌+◌, false, true, length-drop}
+use Rattle.std.proofs.Common.{arith, ◌∙◌, ap, sym, length, take, ◌∷◌, ◌+◌, true, length-drop}
 use Rattle.std.proofs.lemmas.List.{take_rest}
 use Rattle.card_texts.specs.Lines.{lines_from}
 use Rattle.card_texts.proofs.LineLemmas.{split_at_feed, split_at_return, one_line}

@@ -1,5 +1,4 @@
-use Rattle.std.proofs.Common.{arith, refl, sym, ap, subst, ◌∙◌, ◌≡◌, append-nil, [], ◌++◌, length, true, false, Bool}
-use Rattle.card_texts.specs.Lines.{lines_from}
+use Rattle.std.proofs.Common.{arith, sym, ap, subst, ◌∙◌, ◌≡◌, append-nil, ◌++◌, length}
 use Rattle.card_texts.specs.Punching.{HasTaken, faults_of_lines, cards_of_lines, faults_of}
 use Rattle.card_texts.proofs.PunchingLemmas.{IsLooked, faults_step, cards_step, full_step, room_step, some_fault, is_zero, no_lines}
 use Rattle.card_texts.proofs.punching.take_lines.Goals as goal
@@ -8,7 +7,7 @@ full : (c : goal.After-drop-line-then-not-branch-2)
     → c.take_line.new.taken.faults.items ≡ faults_of c.args.rules.now c.args.text.now
 full c =
     let looked : IsLooked c.args.rules.now c.loop-rest.number c.split_line.result.0.now c.look.new.self =
-        record { columns = c.in_ok-look.ensures.columns; faults = c.in_ok-look.ensures.faults } in
+    record { columns = c.in_ok-look.ensures.columns; faults = c.in_ok-look.ensures.faults } in
     let taken = subst (λ more. HasTaken c.args.rules.now c.loop-rest.number c.look.new.self c.loop-rest.taken c.take_line.new.taken more) c.if-not-branch.true c.in_ok-take_line.ensures in
     full_step c.args.rules.now c.loop-rest.number c.split_line.result.0.now c.loop-rest.rest.now c.split_line.result.1.now c.look.new.self c.loop-rest.taken c.take_line.new.taken _ looked c.split_line.ensures.line taken c.loop-rest.invariant.faults
 
@@ -23,7 +22,7 @@ returns-then-not-branch-clause-text c = λ none.
 pub loop-rest-preserved : goal.loop-rest-preserved
 loop-rest-preserved c =
     let looked : IsLooked c.args.rules.now c.loop-rest.number c.split_line.result.0.now c.look.new.self =
-        record { columns = c.in_ok-look.ensures.columns; faults = c.in_ok-look.ensures.faults } in
+    record { columns = c.in_ok-look.ensures.columns; faults = c.in_ok-look.ensures.faults } in
     let taken = subst (λ more. HasTaken c.args.rules.now c.loop-rest.number c.look.new.self c.loop-rest.taken c.take_line.new.taken more) c.if-not-branch.false c.in_ok-take_line.ensures in
     let loop = c.loop-rest.invariant in
     record {
