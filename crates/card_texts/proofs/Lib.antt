@@ -1,0 +1,5 @@
+mod LineLemmas
+mod ColumnLemmas
+mod SignLemmas
+mod FaultLemmas
+mod PunchingLemmas

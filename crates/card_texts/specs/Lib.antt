@@ -1,0 +1,5 @@
+pub mod Signs
+pub mod Lines
+pub mod Columns
+pub mod Faults
+pub mod Punching
