@@ -22,6 +22,7 @@ mod decode;
 mod earlier;
 mod forms;
 mod instruction;
+mod kinds;
 mod meter;
 mod named;
 mod operations;
