@@ -1,132 +1,148 @@
-//! Commands to a bureau, and the replies to them.
+//! Commands as lines, and the replies to them.
 
-use crate::decks::script_of;
+use crate::decks::deck_named;
+use crate::replies::reply_text;
 use bitflags::Flags;
-use ledger::{Bureau, Fault, shift};
+use ledger::{Bureau, Fault};
 use machine::Meter;
-use office::{Command, JobCommand, Reply, Stacker};
-use scripts::{parse, write_reply};
+use office::{Command, Contents, JobCommand, Kind, Reply, Stacker};
 use sqlite::Alter;
 use std::alloc::Global;
-use std::io::Write;
 use std::test::Fail;
-use units::{Pocket, Switches, render};
+use units::{Pocket, Switches};
 
-/// The query for a customer's job 9: its lines, all its cards, or those of pocket 4.
-fn query_of(alloc: Global, text: &str) -> Result<Command, Fail> {
-    let (customer, what) = text.split_once(' ').ok_or("a query")?;
-    let command = match what {
-        "lines" => JobCommand::Lines,
-        "cards" => JobCommand::Cards { from: Stacker::All },
-        _ => JobCommand::Cards {
-            from: Stacker::Of(Pocket::Four),
-        },
-    };
-    Ok(Command::Job {
-        customer: String::from_str(alloc, customer)?,
-        number: 9,
-        command,
+/// The number in a field.
+fn number_of(field: &str) -> Result<u32, Fail> {
+    Ok(field.parse::<u32>().ok().ok_or("a number")?)
+}
+
+/// The switches in a field.
+fn switches_of(field: &str) -> Result<Switches, Fail> {
+    match field {
+        "A" => Ok(Switches::A),
+        "B" => Ok(Switches::B),
+        "-" => Ok(Switches::empty()),
+        "127" => Ok(Switches::from_bits_retain(127)),
+        "255" => Ok(Switches::from_bits_retain(255)),
+        _ => Err("switches")?,
+    }
+}
+
+/// The contents in these fields: a size, switches and the name of a deck.
+fn contents_of(alloc: Global, kind: Kind, fields: &str) -> Result<Contents, Fail> {
+    let (size, fields) = fields.split_once('|').ok_or("a size")?;
+    let (switches, deck) = fields.split_once('|').ok_or("switches")?;
+    Ok(Contents {
+        kind,
+        size: number_of(size)?,
+        switches: switches_of(switches)?,
+        deck: deck_named(alloc, deck)?,
     })
 }
 
-/// Makes a command one that no script has: with an eighth switch, or of a customer without a name.
-fn alter(alloc: Global, command: &mut Command, word: &str) {
-    match command {
-        Command::Submit { contents, .. } if word == "eight switches" => {
-            contents.switches = Switches::from_bits_retain(255);
-        }
-        Command::Submit { customer, .. }
-        | Command::Job { customer, .. }
-        | Command::Jobs { customer }
-            if word == "nobody" => {
-            *customer = String::new(alloc);
-        }
-        _ => {}
+/// The cards that a field asks for.
+fn stacker_of(field: &str) -> Stacker {
+    match field {
+        "" => Stacker::All,
+        "0" => Stacker::Of(Pocket::Normal),
+        "4" => Stacker::Of(Pocket::Four),
+        "8" => Stacker::Of(Pocket::Eight),
+        _ => Stacker::Unknown,
     }
 }
 
-/// The commands of a stage: those of a script, or a query.
-fn commands_of(alloc: Global, word: &str, text: &str) -> Result<Vec<Command>, Fail> {
-    if word == "query" {
-        let mut commands = Vec::new(alloc);
-        commands.push(query_of(alloc, text)?)?;
-        return Ok(commands);
+/// The command on a job with this word, and with its limit, switches or pocket.
+fn job_command_of(word: &str, field: &str) -> Result<JobCommand, Fail> {
+    match word {
+        "slice" => Ok(JobCommand::Slice {
+            limit: number_of(field)?,
+        }),
+        "start" => Ok(JobCommand::Start {
+            switches: switches_of(field)?,
+        }),
+        "hold" => Ok(JobCommand::Hold),
+        "release" => Ok(JobCommand::Release),
+        "collect" => Ok(JobCommand::Collect),
+        "standing" => Ok(JobCommand::Standing),
+        "cards" => Ok(JobCommand::Cards {
+            from: stacker_of(field),
+        }),
+        "lines" => Ok(JobCommand::Lines),
+        _ => Err("a word")?,
     }
-    let script = script_of(alloc, text)?;
-    let mut commands = parse(alloc, &script).ok().ok_or("a script")?;
-    for command in &mut commands {
-        alter(alloc, command, word);
-    }
-    Ok(commands)
 }
 
-/// What a query is answered: the number of cards, and the first columns of the first one; or the
-/// lines, with a stroke at the end of each. Other replies are as `apply` prints them.
-fn reply_text(alloc: Global, reply: &Reply) -> Result<String, Fail> {
-    let mut text = Vec::new(alloc);
-    match reply {
-        Reply::Lines(lines) => text = render(alloc, &lines.0)?,
-        Reply::Cards(cards) => {
-            write!(&mut text, "cards {} ", cards.0.len())?;
-            if let Some(card) = cards.0.first() {
-                for column in 0..5 {
-                    text.push(card.0[column].glyph())?;
-                }
-            }
-        }
-        other => write_reply(&mut text, &mut 0, other).ok().ok_or("a reply")?,
+/// The kind of deck that a word submits, if it is such a word.
+fn kind_of(word: &str) -> Option<Kind> {
+    match word {
+        "submit" => Some(Kind::Object),
+        "submit source" => Some(Kind::Autocoder),
+        _ => None,
     }
-    let mut found = String::new(alloc);
-    for line in str::from_utf8(&text).ok().ok_or("glyphs")?.lines() {
-        found.push_str(line)?;
-        found.push_str("/")?;
+}
+
+/// The command of a line: its word, the customer, the number, and the command's other values.
+pub(crate) fn command_of(alloc: Global, line: &str) -> Result<Command, Fail> {
+    let (word, fields) = line.split_once('|').ok_or("a word")?;
+    if word == "queue" {
+        return Ok(Command::Queue);
     }
-    Ok(found)
+    let (customer, fields) = fields.split_once('|').ok_or("a customer")?;
+    if word == "jobs" {
+        let customer = String::from_str(alloc, customer)?;
+        return Ok(Command::Jobs { customer });
+    }
+    let (number, fields) = fields.split_once('|').ok_or("a number")?;
+    let customer = String::from_str(alloc, customer)?;
+    let number = number_of(number)?;
+    match kind_of(word) {
+        Some(kind) => Ok(Command::Submit {
+            customer,
+            number,
+            contents: contents_of(alloc, kind, fields)?,
+        }),
+        None => Ok(Command::Job {
+            customer,
+            number,
+            command: job_command_of(word, fields)?,
+        }),
+    }
 }
 
 /// Applies a command.
 // It has no clause, so that the proof of a caller does not carry the state of each call.
-fn apply<S: Alter>(
+pub(crate) fn apply<S: Alter>(
     bureau: &mut Bureau<S>,
     command: &Command,
     meter: &mut Meter,
-) -> (Result<Reply, Fault>, bool) {
-    let result = bureau.apply(command, meter);
-    (result, bureau.broken())
+) -> Result<Reply, Fault> {
+    bureau.apply(command, meter)
 }
 
-/// The number of commands of a shift that are acknowledged.
-// It has no clause, as `apply`.
-fn shift_over<S: Alter>(
+/// The reply to the command of a line.
+pub(crate) fn reply_to<S: Alter>(
     alloc: Global,
     bureau: &mut Bureau<S>,
-    commands: &[Command],
     meter: &mut Meter,
-) -> usize {
-    shift(alloc, bureau, commands, meter).acknowledged
+    line: &str,
+) -> Result<String, Fail> {
+    let command = command_of(alloc, line)?;
+    reply_text(alloc, &apply(bureau, &command, meter))
 }
 
-/// Adds what a command or a shift is answered to a text. A fault comes with whether the bureau is
-/// then broken, and a reply must leave it whole.
-pub(crate) fn answer<S: Alter>(
+/// The first line of a sheet whose command gets another reply than the line gives before it; empty
+/// if there is none.
+pub(crate) fn misanswered<'a, S: Alter>(
     alloc: Global,
     bureau: &mut Bureau<S>,
-    (word, text): (&str, &str),
     meter: &mut Meter,
-    told: &mut String,
-) -> Result<(), Fail> {
-    let commands = commands_of(alloc, word, text)?;
-    if word == "shift" {
-        let acknowledged = shift_over(alloc, bureau, &commands, meter);
-        return Ok(write!(told, "{acknowledged}/")?);
-    }
-    for command in &commands {
-        match apply(bureau, command, meter) {
-            (Ok(reply), false) => told.push_str(reply_text(alloc, &reply)?.as_str())?,
-            (Ok(_), true) => Err("broken by a reply")?,
-            (Err(fault), true) => write!(told, "fault {} broken/", fault.number())?,
-            (Err(fault), false) => write!(told, "fault {}/", fault.number())?,
+    sheet: &'a str,
+) -> Result<&'a str, Fail> {
+    for line in sheet.lines() {
+        let (wanted, command) = line.split_once('|').ok_or("a reply")?;
+        if reply_to(alloc, bureau, meter, command)?.as_str() != wanted {
+            return Ok(line);
         }
     }
-    Ok(())
+    Ok("")
 }

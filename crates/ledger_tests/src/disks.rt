@@ -1,13 +1,11 @@
-//! A bureau's disks, kept in memory, which fail after some calls.
-//!
-//! The proof of a function that names a store in files takes many times as long as that of one over
-//! any store. `told_over` alone names one, and makes one call over it.
+//! A bureau's disks, kept in memory, some of which fail.
 
 ghost use Rattle.std.specs.Prelude.{IsTrue, IfOk};
 ghost use Rattle.sqlite_disk.specs.Memory.{memory_is_usable};
 
+use crate::connections::{Work, over_files};
 use crate::sessions::Session;
-use sqlite::{Connection, Files, Options};
+use sqlite::{Files, Options};
 use sqlite_disk::{Disk, Fuse, Memory};
 use std::alloc::Global;
 use std::test::Fail;
@@ -21,12 +19,38 @@ fn copy(alloc: Global, disk: &Memory) -> Result<Memory, Fail>
     Ok(copy)
 }
 
+/// What a session tells over copies of disks; the ticks of its commands; and the copies after it.
+pub(crate) fn told_on(
+    alloc: Global,
+    disks: &Files<Memory>,
+    stages: &str,
+) -> Result<(String, u64, Files<Memory>), Fail> {
+    let files = Files {
+        log: copy(alloc, &disks.log)?,
+        db: copy(alloc, &disks.db)?,
+    };
+    let mut session = Session::of(alloc, stages)?;
+    let (opened, files) = over_files(alloc, files, Options::new(1), &mut session)?;
+    if !opened {
+        return Err("not opened")?;
+    }
+    let ticks = session.meter.ticks();
+    let Session { told, .. } = session;
+    Ok((told, ticks, files))
+}
+
 /// Disks without a bureau.
 pub(crate) fn empty_disks(alloc: Global) -> Files<Memory> {
     Files {
         log: Memory::new(alloc),
         db: Memory::new(alloc),
     }
+}
+
+/// The disks of a bureau without jobs.
+pub(crate) fn new_disks(alloc: Global) -> Result<Files<Memory>, Fail> {
+    let (_, _, disks) = told_on(alloc, &empty_disks(alloc), "make|#")?;
+    Ok(disks)
 }
 
 /// The number of calls of each disk that do not fail.
@@ -59,48 +83,22 @@ impl Failing {
     }
 }
 
-/// What stages tell over copies of disks, which fail after these numbers of calls; the ticks of
-/// their commands; and the copies. Disks that cannot be opened tell nothing. The log is often copied
-/// into the database file.
-pub(crate) fn told_over(
+/// Does work over copies of disks, which fail after these numbers of calls, and returns the copies.
+/// If they cannot be opened, the work is not done. The log is often copied into the database file.
+pub(crate) fn over_failing<W: Work>(
     alloc: Global,
     disks: &Files<Memory>,
     calls: Calls,
-    stages: &str,
-) -> Result<(String, u64, Files<Memory>), Fail> {
+    work: &mut W,
+) -> Result<Files<Memory>, Fail> {
     let files = Files {
         log: Fuse::new(copy(alloc, &disks.log)?, calls.log),
         db: Fuse::new(copy(alloc, &disks.db)?, calls.db),
     };
     let mut options = Options::new(1);
     options.checkpoint_frames = 3;
-    let mut session = Session::new(alloc);
-    let files = match Connection::open_files(alloc, files, options) {
-        Ok(conn) => session.over(alloc, conn, stages)?.close(),
-        Err((_, left)) => left.into_files(),
-    };
+    let (_, files) = over_files(alloc, files, options, work)?;
     let log = copy(alloc, files.log.inner())?;
     let db = copy(alloc, files.db.inner())?;
-    let ticks = session.meter.ticks();
-    let Session { told, .. } = session;
-    Ok((told, ticks, Files { log, db }))
-}
-
-/// What stages tell over copies of disks that do not fail.
-pub(crate) fn told_on(alloc: Global, disks: &Files<Memory>, stages: &str) -> Result<String, Fail> {
-    let (told, _, _) = told_over(alloc, disks, ALL, stages)?;
-    Ok(told)
-}
-
-/// The disks after stages over empty ones, if the stages tell just this.
-pub(crate) fn disks_after(
-    alloc: Global,
-    stages: &str,
-    wanted: &str,
-) -> Result<Files<Memory>, Fail> {
-    let (told, _, disks) = told_over(alloc, &empty_disks(alloc), ALL, stages)?;
-    if told.as_str() != wanted {
-        return Err("another reply")?;
-    }
-    Ok(disks)
+    Ok(Files { log, db })
 }
