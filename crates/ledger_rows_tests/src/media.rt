@@ -92,3 +92,22 @@ fn what_only_a_machine_cannot_have(rt: HostRuntime) -> Result<(), Fail> {
     assert!(rt; again.as_slice() == [line].as_slice());
     Ok(())
 }
+
+/// A line of a late form, and its row.
+#[test]
+fn a_line_is_the_row_that_it_is(rt: HostRuntime) -> Result<(), Fail> {
+    let alloc = rt.alloc();
+    let code = Code::from_glyph(b'Z').ok_or("a glyph")?;
+    let line = Line {
+        form: 2_000_000_000,
+        line: 66,
+        codes: [code; 132],
+    };
+    let row = line_row(alloc, &line)?;
+    assert!(rt; row.form == 2_000_000_000);
+    assert!(rt; row.line == 66);
+    assert!(rt; row.image.as_slice() == [25u8; 132].as_slice());
+    let again = lines_again(alloc, &[line])?;
+    assert!(rt; again.as_slice() == [line].as_slice());
+    Ok(())
+}

@@ -5,7 +5,9 @@
 
 use crate::sheets::{Case, check, cut, number};
 use crate::storage::{SIZES, code, lay, lay_places, push_places, size_of};
-use core_store::{Core, FlagCore, PlaneCore, Size, changed_pages, cut_length, field_length};
+use core_store::{
+    Compared, Core, FlagCore, PlaneCore, Registers, Size, changed_pages, cut_length, field_length,
+};
 use std::alloc::{AllocError, Global};
 use std::test::Fail;
 
@@ -490,4 +492,19 @@ fn no_other_sizes(rt: HostRuntime) {
     for positions in [1399, 12_001, 20_000] {
         assert!(rt; Size::of_positions(positions).is_none());
     }
+}
+
+/// Registers A and B that are lowered by 5 and by 4, past position 0 too; the others stay.
+#[test]
+fn registers_are_lowered(rt: HostRuntime) {
+    let mut registers = Registers {
+        i: 400,
+        a: 105,
+        b: 3,
+        compare: Compared::High,
+        overflow: true,
+    };
+    registers.lower(5, 4);
+    assert!(rt; (registers.i, registers.a, registers.b) == (400, 100, 15999));
+    assert!(rt; registers.compare == Compared::High && registers.overflow);
 }
