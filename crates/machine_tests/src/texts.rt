@@ -57,12 +57,16 @@ fn rules_of(alloc: Global, words: &str) -> Result<Rules, AllocError> {
     Ok(rules)
 }
 
+/// A character without a code: its first two bytes.
+fn code_shown(alloc: Global, bytes: [u8; 4]) -> Result<String, Fail> {
+    let (first, second) = (bytes[0], bytes[1]);
+    Ok(format!(in alloc; "code {first} {second}")?)
+}
+
 /// What is wrong, in a word; of a character without a code its first two bytes.
 fn word_of(alloc: Global, error: TextError) -> Result<String, Fail> {
     let word = match error {
-        TextError::NoCode([first, second, ..]) => {
-            return Ok(format!(in alloc; "code {first} {second}")?);
-        }
+        TextError::NoCode(bytes) => return code_shown(alloc, bytes),
         TextError::SmallLetter => "small",
         TextError::Tab => "tab",
         TextError::PastTheCard => "past",
