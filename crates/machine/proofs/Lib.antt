@@ -9,4 +9,3 @@ pub mod BranchConditions
 pub mod DecodeLemmas
 pub mod KeptShapes
 pub mod ShapeDecoding
-pub mod KindLemmas

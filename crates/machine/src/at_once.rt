@@ -11,12 +11,10 @@ ghost use Rattle.machine.specs.declared.named.Operation.TheVariants.{OnFields};
 ghost use Rattle.machine.specs.declared.operations.Course.TheVariants.{GoesOn};
 ghost use Rattle.machine.specs.Effect.{effect, worked, works_of};
 ghost use Rattle.machine.specs.Instructions.{decoded_by};
-ghost use Rattle.machine.specs.Kinds.{first_of, is_near};
 ghost use Rattle.machine.specs.Word.{LooksInside};
 
 use crate::characters::{ADD, BRANCH, COMPARE, LOAD, MOVE, SUBTRACT};
 use crate::instruction::Instruction;
-use crate::kinds::Kind;
 use crate::operations::FieldOperation::{self, Add, Compare, Load, Move, Subtract};
 use crate::operations::branch;
 use arith::{add_at_once, compare_at_once, subtract_at_once};
@@ -44,8 +42,7 @@ fn work_at_once<C: Core>(core: &mut C, registers: &mut Registers, operation: Fie
     }
 }
 
-/// Does an operation on the fields at the addresses of its instruction, in the same way. The
-/// registers are in locals until it is done, which no write to storage touches.
+/// Does an operation on the fields at the addresses of its instruction, in the same way.
 #[inline(always)]
 #[tactic(auto, unfolding(crate::specs::Effect::effect))]
 fn work_on_fields_at_once<C: Core>(
@@ -62,16 +59,15 @@ fn work_on_fields_at_once<C: Core>(
     ensures unchanged { result ≡ false → (C.cells core.new ≡ C.cells core.old)
         × (registers.new ≡ registers.old) }
 {
-    let mut after = Registers {
-        a: instruction.a,
-        b: instruction.b,
-        ..*registers
-    };
-    if !work_at_once(core, &mut after, operation) {
+    let Registers { a, b, .. } = *registers;
+    registers.a = instruction.a;
+    registers.b = instruction.b;
+    if !work_at_once(core, registers, operation) {
+        registers.a = a;
+        registers.b = b;
         return false;
     }
-    after.i = next;
-    *registers = after;
+    registers.i = next;
     true
 }
 
@@ -106,41 +102,5 @@ pub fn execute_at_once<C: Core>(
             true
         }
         _ => false,
-    }
-}
-
-/// Executes an instruction of a kind, as `execute_at_once` does.
-#[inline(always)]
-pub fn execute_near<C: Core>(
-    core: &mut C,
-    registers: &mut Registers,
-    units: &Units,
-    kind: Kind,
-    instruction: Instruction,
-    next: u16,
-) -> bool
-    requires first { is_near kind ≡ true → instruction.first ≡ first_of kind }
-    requires inside { LooksInside (decoded_by instruction).modifier instruction.b
-        (length (C.cells core.old)) }
-    requires below { LooksInside (decoded_by instruction).modifier instruction.b largest_size }
-    ensures done { result ≡ true →
-        effect (decoded_by instruction).operation (decoded_by instruction) next
-        (works_of (C.cells core.old) registers.old units.now)
-        ≡ Ok (works_of (C.cells core.new) registers.new units.now, GoesOn) }
-    ensures unchanged { result ≡ false → (C.cells core.new ≡ C.cells core.old)
-        × (registers.new ≡ registers.old) }
-{
-    match kind {
-        Kind::Add => work_on_fields_at_once(core, registers, Add, instruction, next),
-        Kind::Subtract => work_on_fields_at_once(core, registers, Subtract, instruction, next),
-        Kind::Compare => work_on_fields_at_once(core, registers, Compare, instruction, next),
-        Kind::Move => work_on_fields_at_once(core, registers, Move, instruction, next),
-        Kind::Load => work_on_fields_at_once(core, registers, Load, instruction, next),
-        Kind::Branch => {
-            branch(core, registers, units, instruction, next);
-            true
-        }
-        Kind::Unused => false,
-        Kind::Any => false,
     }
 }

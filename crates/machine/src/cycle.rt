@@ -1,18 +1,15 @@
 //! The instruction cycle.
 
 ghost use Rattle.std.specs.Prelude.{◌≡◌, ◌+◌, ◌%◌, ◌<◌, ◌≤◌, ℕ, true, length, Ok, OnOk, IfOk, IfErr};
-ghost use Rattle.std.specs.Simd.Lanes.{mask_l};
-ghost use Rattle.core_store.specs.Storage.{largest_size, marks_from};
+ghost use Rattle.core_store.specs.Storage.{largest_size};
 ghost use Rattle.machine.specs.Effect.{attempt, works_of, Ends, next_of};
 ghost use Rattle.units.specs.Units.{areas_end};
-ghost use Rattle.machine.specs.Kinds.{StandsNear, first_of};
 ghost use Rattle.machine.specs.Shapes.{has_two, operands_at, shape_at};
 ghost use Rattle.machine.specs.Run.{after, attempts, is_running, running, IsWanting};
 
-use crate::at_once::{execute_at_once, execute_near};
-use crate::cache::{Cache, Entry};
+use crate::at_once::execute_at_once;
+use crate::cache::{Cache, LOOKED_AT};
 use crate::decode::{operands, read_shape};
-use crate::kinds::are_near;
 use crate::operations::{Course, execute};
 use crate::parts::Parts;
 use crate::shapes::Shape;
@@ -76,24 +73,13 @@ fn carry_out<C: Core>(
     execute_shape(core, registers, units, shape, a, b)
 }
 
-/// The word marks of nine positions as bits.
-#[inline(always)]
-fn marks_at<C: Core>(core: &C, i: u16) -> u16
-    requires { i + 16 ≤ length (C.cells core.now) }
-    ensures { result ≡ mask_l (marks_from (C.cells core.now) i 9) }
-{
-    core.nine_marks(i) as u16
-}
-
 /// Keeps the shape of the instruction at a position.
 fn keep<C: Core>(cache: &mut Cache, core: &C, i: u16, shape: Shape)
     requires size { areas_end ≤ length (C.cells core.now) }
-    requires cache { cache.old.size ≡ length (C.cells core.now) }
     requires shape { shape_at (C.cells core.now) i ≡ Ok shape }
-    ensures { cache.new.size ≡ cache.old.size }
 {
-    if cache.reaches(i) {
-        cache.keep(i, core.eight_codes(i), marks_at(core, i), shape);
+    if i <= core.size() - LOOKED_AT {
+        cache.keep(i, core.eight_codes(i), core.nine_marks(i), shape);
     }
 }
 
@@ -106,11 +92,9 @@ fn attempt_anew<C: Core>(
     units: &mut Units,
     cache: &mut Cache,
 ) -> Result<Course, Fault>
-    requires size { areas_end ≤ length (C.cells core.old) }
-    requires cache { cache.old.size ≡ length (C.cells core.old) }
-    ensures ends { Ends result (works_of (C.cells core.old) registers.old units.old)
+    requires { areas_end ≤ length (C.cells core.old) }
+    ensures { Ends result (works_of (C.cells core.old) registers.old units.old)
         (works_of (C.cells core.new) registers.new units.new) attempt }
-    ensures cache { cache.new.size ≡ cache.old.size }
 {
     let i = registers.i;
     if i >= core.size() {
@@ -124,107 +108,9 @@ fn attempt_anew<C: Core>(
     carry_out(core, registers, units, &shape)
 }
 
-/// Executes as `execute_shape` does, with a result of its own, which keeps that of the usual case
-/// out of memory.
-#[inline(always)]
-fn hand_on<C: Core>(
-    core: &mut C,
-    registers: &mut Registers,
-    units: &mut Units,
-    shape: &Shape,
-    a: u16,
-    b: u16,
-) -> Result<Course, Fault>
-    requires size { areas_end ≤ length (C.cells core.old) }
-    requires inside { registers.old.i < length (C.cells core.old) }
-    requires ends { registers.old.i + shape.now.length ≤ largest_size }
-    requires shape { shape_at (C.cells core.old) registers.old.i ≡ Ok shape.now }
-    requires operands { operands_at (C.cells core.old) registers.old shape.now.addresses
-        ≡ Ok (a, b) }
-    requires two { has_two shape.now.addresses ≡ true → b < length (C.cells core.old) }
-    requires below { has_two shape.now.addresses ≡ true → b < largest_size }
-    ensures { Ends result (works_of (C.cells core.old) registers.old units.old)
-        (works_of (C.cells core.new) registers.new units.new) attempt }
-{
-    match execute_shape(core, registers, units, shape, a, b) {
-        Ok(course) => Ok(course),
-        Err(fault) => Err(fault),
-    }
-}
-
-/// Executes as `attempt_anew` does, with a result of its own.
-#[inline(always)]
-fn hand_on_unread<C: Core>(
-    core: &mut C,
-    registers: &mut Registers,
-    units: &mut Units,
-    cache: &mut Cache,
-) -> Result<Course, Fault>
-    requires size { areas_end ≤ length (C.cells core.old) }
-    requires cache { cache.old.size ≡ length (C.cells core.old) }
-    ensures ends { Ends result (works_of (C.cells core.old) registers.old units.old)
-        (works_of (C.cells core.new) registers.new units.new) attempt }
-    ensures cache { cache.new.size ≡ cache.old.size }
-{
-    match attempt_anew(core, registers, units, cache) {
-        Ok(course) => Ok(course),
-        Err(fault) => Err(fault),
-    }
-}
-
-/// Executes the instruction at register I, which has this shape: at once if it can be done so, else
-/// out of line.
-#[inline(always)]
-fn attempt_kept<C: Core>(
-    core: &mut C,
-    registers: &mut Registers,
-    units: &mut Units,
-    shape: &Shape,
-) -> Result<Course, Fault>
-    requires size { areas_end ≤ length (C.cells core.old) }
-    requires inside { registers.old.i + 16 ≤ length (C.cells core.old) }
-    requires below { registers.old.i + 16 ≤ largest_size }
-    requires shape { shape_at (C.cells core.old) registers.old.i ≡ Ok shape.now }
-    ensures { Ends result (works_of (C.cells core.old) registers.old units.old)
-        (works_of (C.cells core.new) registers.new units.new) attempt }
-{
-    let (a, b) = match operands(core, registers, &shape.addresses) {
-        Ok(operands) => operands,
-        Err(check) => return Err(Fault::Stopped(check)),
-    };
-    let next = registers.i + shape.length;
-    if execute_at_once(core, registers, units, shape.working_at(a, b), next) {
-        return Ok(Course::GoesOn);
-    }
-    hand_on(core, registers, units, shape, a, b)
-}
-
-/// Executes the instruction at register I, which is of the kind of an entry: at once if it can be
-/// done so, else out of line.
-#[inline(always)]
-fn attempt_near<C: Core>(
-    core: &mut C,
-    registers: &mut Registers,
-    units: &mut Units,
-    entry: &Entry,
-) -> Result<Course, Fault>
-    requires size { areas_end ≤ length (C.cells core.old) }
-    requires near { StandsNear (C.cells core.old) registers.old.i entry.now }
-    requires first { entry.now.shape.first ≡ first_of entry.now.kind }
-    ensures { Ends result (works_of (C.cells core.old) registers.old units.old)
-        (works_of (C.cells core.new) registers.new units.new) attempt }
-{
-    let Entry { shape, a, b, .. } = entry;
-    are_near(*a, *b);
-    let next = registers.i + shape.length;
-    let instruction = shape.working_at(*a, *b);
-    if execute_near(core, registers, units, entry.kind, instruction, next) {
-        return Ok(Course::GoesOn);
-    }
-    hand_on(core, registers, units, shape, *a, *b)
-}
-
-/// Executes the instruction at register I, by its kind if its shape is kept.
+/// Executes the instruction at register I: at once if its shape is kept and it can be done so, else
+/// out of line. What is out of line has a result of its own, which keeps that of the usual case out
+/// of memory.
 #[inline(always)]
 fn attempt<C: Core>(
     core: &mut C,
@@ -232,24 +118,33 @@ fn attempt<C: Core>(
     units: &mut Units,
     cache: &mut Cache,
 ) -> Result<Course, Fault>
-    requires size { areas_end ≤ length (C.cells core.old) }
-    requires cache { cache.old.size ≡ length (C.cells core.old) }
-    ensures ends { Ends result (works_of (C.cells core.old) registers.old units.old)
+    requires { areas_end ≤ length (C.cells core.old) }
+    ensures { Ends result (works_of (C.cells core.old) registers.old units.old)
         (works_of (C.cells core.new) registers.new units.new) attempt }
-    ensures cache { cache.new.size ≡ cache.old.size }
 {
     let i = registers.i;
-    if cache.reaches(i) {
-        if let Some(entry) = cache.entry(i, core.eight_codes(i), marks_at(core, i)) {
-            if entry.kind.is_near() {
-                return attempt_near(core, registers, units, entry);
+    if i <= core.size() - LOOKED_AT {
+        let characters = core.eight_codes(i);
+        let marks = core.nine_marks(i);
+        if let Some(shape) = cache.shape(i, characters, marks) {
+            let (a, b) = match operands(core, registers, &shape.addresses) {
+                Ok(operands) => operands,
+                Err(check) => return Err(Fault::Stopped(check)),
+            };
+            let instruction = shape.working_at(a, b);
+            if execute_at_once(core, registers, units, instruction, i + shape.length) {
+                return Ok(Course::GoesOn);
             }
-            if entry.kind.is_used() {
-                return attempt_kept(core, registers, units, &entry.shape);
-            }
+            return match execute_shape(core, registers, units, shape, a, b) {
+                Ok(course) => Ok(course),
+                Err(fault) => Err(fault),
+            };
         }
     }
-    hand_on_unread(core, registers, units, cache)
+    match attempt_anew(core, registers, units, cache) {
+        Ok(course) => Ok(course),
+        Err(fault) => Err(fault),
+    }
 }
 
 /// The attempts of a run that came to its end.
@@ -291,7 +186,7 @@ fn execute_up_to<C: Core>(
         limit given_up.attempted) }
     ensures size { length (C.cells core.new) ≡ length (C.cells core.old) }
 {
-    let mut cache = Cache::new(core.size());
+    let mut cache = Cache::new();
     for attempted in 0..limit {
         match attempt(core, registers, units, &mut cache) {
             Ok(Course::GoesOn) => {}

@@ -22,7 +22,6 @@ mod decode;
 mod earlier;
 mod forms;
 mod instruction;
-mod kinds;
 mod meter;
 mod named;
 mod operations;
