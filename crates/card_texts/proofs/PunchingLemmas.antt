@@ -9,7 +9,7 @@ use Rattle.card_texts.specs.declared.punching.Line.{Line}
 use Rattle.card_texts.specs.declared.punching.Taken.{Taken}
 use Rattle.card_texts.specs.Columns.{blank, filled_up}
 use Rattle.card_texts.specs.Faults.{faults_within}
-use Rattle.card_texts.specs.Punching.{are_none, drops, empty_fault_of, is_empty_line, is_passed_over, refuses, line_faults, faults_of_lines, cards_of_lines, HasTaken}
+use Rattle.card_texts.specs.Punching.{are_none, drops, empty_fault, is_empty_line, is_passed_over, refuses, line_faults, faults_of_lines, cards_of_lines, HasTaken}
 
 -- the second of two values by a test
 later : (a : Bool) (x y : List TextFault) → a ≡ false → (if a then x else y) ≡ y
@@ -90,7 +90,7 @@ looked_passed rules number bytes l looked = sym
 -- its faults
 pub looked_faults : (rules : Rules) (number : ℕ) (bytes : List ℕ) (l : Line)
     → IsLooked rules number bytes l
-    → l.faults.items ++ empty_fault_of rules.empty number l ≡ line_faults rules number bytes
+    → l.faults.items ++ empty_fault rules.empty number (is_empty_line l) ≡ line_faults rules number bytes
 looked_faults rules number bytes l looked =
     ap (λ columns. l.faults.items ++ (if refuses rules.empty && (are_none l.faults.items && list_all (λ column. column == blank) columns)
     then record { line = number; column = 1; error = EmptyLine } ∷ [] else [])) looked.columns
@@ -123,7 +123,7 @@ faults_step rules number bytes rest behind l before after found looked split tak
           ≡ line_faults rules number bytes ++ faults_of_lines rules (number + 1) (before.cards + 1) lines =
           ap (faults_of_lines rules number before.cards) split
           ∙ card_faults rules number before.cards bytes lines (same ∙ card.0) card.1.room in
-          let own : List TextFault = l.faults.items ++ empty_fault_of rules.empty number l in
+          let own : List TextFault = l.faults.items ++ empty_fault rules.empty number (is_empty_line l) in
           let later : List TextFault = faults_of_lines rules (number + 1) (before.cards + 1) lines in
           ap (λ faults. faults ++ faults_of_lines rules (number + 1) after.cards lines) card.1.faults
           ∙ ap (λ cards. (before.faults.items ++ own) ++ faults_of_lines rules (number + 1) cards lines) card.1.cards

@@ -1,6 +1,5 @@
 -- the columns of a card that a line fills, as glyphs
 use Rattle.std.specs.Prelude.{ℕ, ◌+◌, ◌-◌, ◌==◌, nat_lt, Bool, true, false, ◌&&◌, if◌then◌else◌, List, [], ◌∷◌, ◌++◌, take, replicate, Option, Some, None}
-use Rattle.std.specs.List.{list_all}
 use Rattle.card_texts.specs.declared.rules.Rules.{Rules}
 use Rattle.card_texts.specs.Signs.{glyph_by}
 
@@ -57,7 +56,3 @@ columns_kept rules line = kept_of rules.keeps (columns_from rules 0 line)
 -- the columns of a line's card: those that are looked at, and blanks up to 80
 abbrev pub filled_up : Rules → List ℕ → List ℕ
 filled_up rules line = take 80 (columns_kept rules line ++ replicate 80 blank)
-
--- whether all columns of a line's card are blank
-abbrev pub is_blank : Rules → List ℕ → Bool
-is_blank rules line = list_all (λ column. column == blank) (filled_up rules line)

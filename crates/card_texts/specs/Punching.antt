@@ -11,7 +11,7 @@ use Rattle.card_texts.specs.declared.punching.Taken.{Taken}
 use Rattle.card_texts.specs.declared.punching.Unpunched.{Unpunched}
 use Rattle.card_texts.specs.declared.punching.Unpunched.TheVariants.{NoMemory, Faults}
 use Rattle.card_texts.specs.Lines.{lines_of}
-use Rattle.card_texts.specs.Columns.{blank, filled_up, is_blank}
+use Rattle.card_texts.specs.Columns.{blank, filled_up}
 use Rattle.card_texts.specs.Faults.{faults_within}
 
 -- whether there is no fault
@@ -29,32 +29,31 @@ abbrev pub refuses : line.EmptyLine → Bool
 refuses empty.Fault = true
 refuses other = false
 
--- whether a line of these columns and faults is empty
+-- whether a line with these faults and columns has no character but blanks, and no fault
+abbrev pub has_nothing : List TextFault → List ℕ → Bool
+has_nothing faults columns = are_none faults && list_all (λ column. column == blank) columns
+
+-- whether a line that was looked at is empty
 abbrev pub is_empty_line : Line → Bool
-is_empty_line l = are_none l.faults.items && list_all (λ column. column == blank) l.columns.items
+is_empty_line l = has_nothing l.faults.items l.columns.items
 
--- the fault that a line is empty, if that is one
-abbrev pub empty_fault_of : line.EmptyLine → ℕ → Line → List TextFault
-empty_fault_of empty number l = if refuses empty && is_empty_line l
-    then record { line = number; column = 1; error = EmptyLine } ∷ [] else []
-
--- whether a line has no character but blanks, and no fault
+-- whether a line is empty
 abbrev pub is_empty : Rules → ℕ → List ℕ → Bool
-is_empty rules number l = are_none (faults_within rules number l) && is_blank rules l
+is_empty rules number l = has_nothing (faults_within rules number l) (filled_up rules l)
+
+-- the fault that a line is empty, if it is and that is one
+abbrev pub empty_fault : line.EmptyLine → ℕ → Bool → List TextFault
+empty_fault empty number is_empty = if refuses empty && is_empty
+    then record { line = number; column = 1; error = EmptyLine } ∷ [] else []
 
 -- whether a line is no card, since it is empty and such lines are passed over
 abbrev pub is_passed_over : Rules → ℕ → List ℕ → Bool
 is_passed_over rules number l = drops rules.empty && is_empty rules number l
 
--- the fault that a line is empty, if that is one
-abbrev pub empty_fault : Rules → ℕ → List ℕ → List TextFault
-empty_fault rules number l =
-    if refuses rules.empty && is_empty rules number l
-    then record { line = number; column = 1; error = EmptyLine } ∷ [] else []
-
 -- the faults of a line
 abbrev pub line_faults : Rules → ℕ → List ℕ → List TextFault
-line_faults rules number l = faults_within rules number l ++ empty_fault rules number l
+line_faults rules number l =
+    faults_within rules number l ++ empty_fault rules.empty number (is_empty rules number l)
 
 -- the faults of lines, from the line of this number on, after so many cards. After 2,000 cards the
 -- next card is one, and the lines behind it are not looked at
@@ -92,7 +91,7 @@ pub record HasCard (rules : Rules) (number : ℕ) (l : Line) (before after : Tak
   pub room : before.cards ≢ 2000
   pub text : after.text.items ≡ before.text.items ++ (l.columns.items ++ 10 ∷ [])
   pub faults : after.faults.items
-      ≡ before.faults.items ++ (l.faults.items ++ empty_fault_of rules.empty number l)
+      ≡ before.faults.items ++ (l.faults.items ++ empty_fault rules.empty number (is_empty_line l))
   pub cards : after.cards ≡ before.cards + 1
 
 -- what was taken behind a line that is one card more than a deck has

@@ -2,9 +2,9 @@
 
 ghost use Rattle.std.specs.Prelude.{◌≡◌, ◌≤◌, ◌<◌, ◌+◌, ◌++◌, ◌∷◌, [], ◌==◌, ◌&&◌, true, false, length, IfOk, IfErr, OnOk};
 ghost use Rattle.std.specs.List.{list_all};
-ghost use Rattle.card_texts.specs.Columns.{blank, filled_up, is_blank};
+ghost use Rattle.card_texts.specs.Columns.{blank, filled_up};
 ghost use Rattle.card_texts.specs.Faults.{faults_within};
-ghost use Rattle.card_texts.specs.Punching.{are_none, deck_text_of, drops, empty_fault_of, faults_of, is_empty, refuses, HasPushed, HasTaken, is_empty_line, IsUnpunched};
+ghost use Rattle.card_texts.specs.Punching.{deck_text_of, drops, empty_fault, faults_of, refuses, HasPushed, HasTaken, is_empty_line, IsUnpunched};
 ghost use Rattle.card_texts.specs.declared.punching.Unpunched.TheVariants.{NoMemory};
 
 use crate::columns::fill_up;
@@ -127,7 +127,7 @@ impl Taken {
     /// Adds the faults of a line.
     fn push_faults(&mut self, rules: &Rules, number: usize, line: &Line) -> Result<(), AllocError>
         ensures faults { OnOk result (self.new.faults.items ≡ self.old.faults.items
-            ++ (line.now.faults.items ++ empty_fault_of rules.now.empty number line.now)) }
+            ++ (line.now.faults.items ++ empty_fault rules.now.empty number (is_empty_line line.now))) }
         ensures text { self.new.text.items ≡ self.old.text.items }
         ensures cards { self.new.cards ≡ self.old.cards }
     {
