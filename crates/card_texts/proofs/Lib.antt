@@ -3,3 +3,9 @@ mod ColumnLemmas
 mod SignLemmas
 mod FaultLemmas
 mod PunchingLemmas
+mod GlyphLemmas
+mod FaultlessColumns
+mod CardLines
+mod TakenLines
+mod DeckLaw
+mod SettlingLaw

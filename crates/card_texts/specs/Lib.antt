@@ -3,3 +3,4 @@ pub mod Lines
 pub mod Columns
 pub mod Faults
 pub mod Punching
+pub mod DeckTexts

@@ -3,6 +3,7 @@
 ghost use Rattle.std.specs.Prelude.{◌≡◌, ◌≤◌, ◌<◌, ◌+◌, ◌++◌, ◌∷◌, [], ◌==◌, ◌&&◌, true, false, length, IfOk, IfErr, OnOk};
 ghost use Rattle.std.specs.List.{list_all};
 ghost use Rattle.card_texts.specs.Columns.{blank, filled_up};
+ghost use Rattle.card_texts.specs.DeckTexts.{IsDeckText};
 ghost use Rattle.card_texts.specs.Faults.{faults_within};
 ghost use Rattle.card_texts.specs.Punching.{deck_text_of, drops, empty_fault, faults_of, refuses, HasPushed, HasTaken, is_empty_line, IsUnpunched};
 ghost use Rattle.card_texts.specs.declared.punching.Unpunched.TheVariants.{NoMemory};
@@ -216,6 +217,7 @@ fn take_lines(
 pub fn punch(alloc: Global, rules: &Rules, text: &[u8]) -> Result<Vec<u8>, Unpunched>
     ensures faultless { OnOk result (faults_of rules.now text.now ≡ []) }
     ensures deck { IfOk result (λ deck. deck.items ≡ deck_text_of rules.now text.now) }
+    ensures cards { IfOk result (λ deck. IsDeckText deck.items) }
     ensures faults { IfErr result (IsUnpunched rules.now text.now) }
 {
     let mut taken = Taken {
