@@ -1,0 +1,5 @@
+pub mod Rows
+pub mod Command
+pub mod Values
+pub mod Tasks
+pub mod Printed

@@ -1,0 +1,31 @@
+-- the values of the rows' arguments, as texts
+use Rattle.std.specs.Prelude.{ℕ, ◌≡◌, nat_lt, nat_le, Bool, true, ◌&&◌, List, [], ◌∷◌, ◌++◌, codes, decimal, flat_map}
+use Rattle.card_texts.specs.declared.Signs.{Signs}
+use Rattle.card_texts.specs.declared.Signs.TheVariants.{Bureau, Simh}
+use Rattle.card_texts.specs.declared.EmptyLine as line
+use Rattle.card_texts.specs.declared.EmptyLine.TheVariants as empty
+
+-- whether columns rise from behind this one, and end at 80 at most
+unfoldable pub rises : ℕ → List ℕ → Bool
+rises last [] = true
+rises last (stop ∷ stops) = (nat_lt last stop && nat_le stop 80) && rises stop stops
+
+-- columns in decimal, each with a comma behind it
+abbrev pub stops_text : List ℕ → List ℕ
+stops_text stops = flat_map (λ stop. decimal stop ++ 44 ∷ []) stops
+
+-- the text names these columns with commas between them; they rise, from 2 to 80
+pub record AreStops (text : List ℕ) (stops : List ℕ) : Type 0 where
+  pub rise : rises 1 stops ≡ true
+  pub named : stops_text stops ≡ text ++ 44 ∷ []
+
+-- the name of a table of signs
+abbrev pub word_of_signs : Signs → List ℕ
+word_of_signs Bureau = codes "glyphs"
+word_of_signs Simh = codes "simh"
+
+-- the name of what an empty line is
+abbrev pub word_of_empty : line.EmptyLine → List ℕ
+word_of_empty empty.Card = codes "card"
+word_of_empty empty.Dropped = codes "drop"
+word_of_empty empty.Fault = codes "fault"

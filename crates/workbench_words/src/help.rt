@@ -1,0 +1,190 @@
+//! The texts of the help and the version.
+
+ghost use Rattle.std.specs.Prelude.{◌≡◌};
+ghost use Rattle.workbench_words.specs.Printed.{page_of};
+
+use crate::rows::RowName;
+
+/// The text that `--help` prints.
+pub const HELP: &str = "\
+workbench: decks and sources as people have them, for a bureau on a verified IBM 1401.
+
+usage:
+  workbench punch IN OUT [OPTIONS]                takes a text of lines as a deck of cards
+  workbench list DECK [--ruler] [--punches]       prints the cards of a deck
+  workbench compare ONE OTHER                     prints the cards in which two decks differ
+  workbench sequence IN OUT IDENT FIRST STEP      numbers the cards in columns 73 to 80
+  workbench sequence IN                           prints where these numbers do not rise
+  workbench convert IN OUT FROM TO                makes a deck of one form one of another
+  workbench source IN                             prints a source with its code, or its faults
+  workbench manifest FILE.. [--check KNOWN]       prints a digest of each deck, or compares them
+  workbench ROW --help                            prints the help of a row, as punch --help (or -h)
+  workbench --help                                prints this text (or -h)
+  workbench --version                             prints the version, and the logic it is proved in
+
+IN, DECK, ONE, OTHER, FILE may be - for the standard input, OUT - for the standard output: so rows
+are joined by pipes. Where a value begins with a hyphen, put -- before it. No file is changed but
+OUT, which has all of what is written or stays as it was.
+
+A deck is a deck text (80 glyphs a line) or a punch file (240 hexadecimal digits a line), which is
+what `bureau export` writes; list, compare, sequence and manifest tell them by their width.
+
+exit status:
+  0  all was done, and nothing was found
+  1  something was found or refused, and printed
+  2  the words are not as above
+";
+
+/// The text that `punch --help` prints.
+pub const PUNCH_HELP: &str = "\
+workbench punch IN OUT [--fold] [--tabs LIST] [--signs TABLE] [--keep COLUMN] [--empty MODE]
+                       [--report]: takes a text of lines as a deck, and writes the deck's text.
+
+IN   a text of lines; a line is a card. It ends with LF, CR LF or CR, or with the text. A mark
+     EF BB BF at the front and bytes 1A at the end are passed over
+OUT  the deck's text: 80 glyphs and a line feed a card
+
+--fold          small letters are capitals
+--tabs LIST     a tab goes on at the next of these columns, as 6,16,21,41; behind the last of them
+                it is a blank
+--signs simh    the text has the signs of SimH's IBM 1401 and not the glyphs
+--keep COLUMN   columns behind this one are not looked at and become blank, as 72 for sequence
+                numbers
+--empty MODE    what a line without a character is: card (a blank card, as without it), drop (no
+                card) or fault
+--report        a line on standard error for each line that was changed
+
+example:
+  workbench punch mine.txt mine.source --fold --tabs 6,16,21,41
+
+Blanks at the end of a line are cut, and each card is filled up. Nothing else is forgiven: each
+fault is printed with its line and column, and then OUT is not written. One line on standard error
+says what was done:
+  cards 12 filled 10 folded 9 tabs 21 blank 1
+";
+
+/// The text that `list --help` prints.
+pub const LIST_HELP: &str = "\
+workbench list DECK [--ruler] [--punches]: prints the cards of a deck, each with its number.
+
+DECK       a deck text or a punch file
+--ruler    a ruler stands over the first card and over each fiftieth
+--punches  the rows 12, 11 and 0 to 9 stand under each card, with a mark for each hole
+
+example:
+  workbench list examples/two_lines.deck --ruler
+";
+
+/// The text that `compare --help` prints.
+pub const COMPARE_HELP: &str = "\
+workbench compare ONE OTHER: prints the cards in which two decks differ, and how many these are.
+
+ONE, OTHER  two deck texts or punch files, in any pair
+
+example:
+  workbench compare ACME-9.cards expected.deck
+
+Under two cards with one number stands a ^ for each column that differs. Status 0: the decks are
+the same. Status 1: they differ, or one cannot be read.
+";
+
+/// The text that `sequence --help` prints.
+pub const SEQUENCE_HELP: &str = "\
+workbench sequence IN OUT IDENT FIRST STEP: numbers the cards of a deck in columns 73 to 80.
+workbench sequence IN: prints where these numbers do not rise.
+
+IN     a deck text or a punch file
+OUT    the text of the numbered deck
+IDENT  0 to 5 glyphs that stand from column 73 on; the number fills the other columns
+FIRST  the number of the first card, 1 to 9 digits without a zero in front
+STEP   what each next number is more
+
+examples:
+  workbench sequence mine.source numbered.source PAY 10 10
+  workbench sequence numbered.source
+
+Columns 73 to 80 must be blank, or have been numbered with the same IDENT: nothing else is written
+over, and no other column is changed.
+";
+
+/// The text that `convert --help` prints.
+pub const CONVERT_HELP: &str = "\
+workbench convert IN OUT FROM TO: makes a deck of one form one of another.
+
+FROM, TO  text    80 glyphs and a line feed a card, as bureau reads it
+          punch   three hexadecimal digits a column and a line feed a card, as bureau export writes it
+          simh    a line of signs a card, as SimH's IBM 1401 reads and punches it
+          binary  column binary: two bytes a column, rows 12 to 3 and rows 4 to 9, and no line feed
+
+example:
+  workbench convert ACME-9.cards ACME-9.deck punch text
+
+The form is always named and never guessed: a text that holds \", = or + is a good deck both as
+glyphs and as SimH's signs, with another meaning.
+";
+
+/// The text that `source --help` prints.
+pub const SOURCE_HELP: &str = "\
+workbench source IN: prints an Autocoder source with its code and names, or its faults.
+
+IN  a deck text that begins with the source
+
+example:
+  workbench source examples/two_lines.source
+
+A source without faults is listed with the characters that each card places, and with the cards
+that use each name. Else each fault is printed with its card and a ^ under its place, and at the
+end how many there are; the status is 1 then. `bureau assemble` makes the deck.
+";
+
+/// The text that `manifest --help` prints.
+pub const MANIFEST_HELP: &str = "\
+workbench manifest FILE.. [--check KNOWN]: prints a digest of each deck.
+
+FILE   deck texts and punch files
+KNOWN  a file with lines that manifest printed: what is missing, new or different is printed in
+       place of the digests, and the status is 1 where anything is
+
+examples:
+  workbench manifest examples/two_lines.deck examples/two_lines.source > decks.manifest
+  workbench manifest examples/two_lines.deck examples/two_lines.source --check decks.manifest
+
+A line is the SHA-256 of the deck's text in hexadecimal, the number of its cards, and the name of
+the file. It does not depend on the form of the file, and sha256sum prints the same of a deck text.
+";
+
+/// The text that `--version` prints: the version, and the logic that the program is proved in.
+pub(crate) const VERSION: &str = "\
+workbench 1
+Rattle logic dac8208d650f15bf
+";
+
+/// The help of a row, or the whole help.
+pub(crate) fn page(row: Option<RowName>) -> &'static str
+    ensures { result.now ≡ page_of row }
+{
+    match row {
+        None => HELP,
+        Some(RowName::Punch) => PUNCH_HELP,
+        Some(RowName::List) => LIST_HELP,
+        Some(RowName::Compare) => COMPARE_HELP,
+        Some(RowName::Sequence) => SEQUENCE_HELP,
+        Some(RowName::Convert) => CONVERT_HELP,
+        Some(RowName::Source) => SOURCE_HELP,
+        Some(RowName::Manifest) => MANIFEST_HELP,
+    }
+}
+
+/// The words that belong after a row's name.
+pub(crate) fn usage(row: RowName) -> &'static str {
+    match row {
+        RowName::Punch => "punch IN OUT [--fold] [--tabs LIST] [--signs TABLE] [--keep COLUMN] \
+             [--empty MODE] [--report]",
+        RowName::List => "list DECK [--ruler] [--punches]",
+        RowName::Compare => "compare ONE OTHER",
+        RowName::Sequence => "sequence IN [OUT IDENT FIRST STEP]",
+        RowName::Convert => "convert IN OUT FROM TO",
+        RowName::Source => "source IN",
+        RowName::Manifest => "manifest FILE.. [--check KNOWN]",
+    }
+}

@@ -1,0 +1,381 @@
+//! The tasks that the words ask for.
+
+ghost use Rattle.std.specs.Prelude.{◌≡◌, ◌∷◌, [], IfOk, IfSome};
+ghost use Rattle.clap.specs.Words.{found_of, rows_of};
+ghost use Rattle.command_line.specs.Plain.{texts};
+ghost use Rattle.texts.specs.Numbers.{IsNumberOf};
+ghost use Rattle.workbench_words.specs.Tasks.{HasEmpty, HasKept, HasSigns, HasTabs, Wants, WantsCompare, WantsList, WantsManifest, WantsOption, WantsPunch, WantsSequence, WantsSource, WantsTask};
+ghost use Rattle.workbench_words.specs.declared.tasks.Misuse.TheVariants.{Memory};
+
+use crate::found::{has_flag, value, values};
+use crate::parsing::{Unread, parse};
+use crate::rows::RowName;
+use crate::values::{column_of, empty_of, signs_of, stops_of};
+use card_texts::{EmptyLine, Rules, Signs};
+use clap::ArgMatches;
+use std::alloc::{AllocError, Global};
+use std::io;
+use std::io::ErrorKind;
+use texts::number_of;
+
+/// What the program is to do. A path that is `-` stands for the standard input or output.
+#[derive(Drop)]
+pub enum Task<'a> {
+    /// Print the help of a row, or the whole help.
+    Help(Option<RowName>),
+    /// Print the version.
+    Version,
+    /// Take a text as a deck.
+    Punch {
+        /// The path of the text.
+        text: &'a str,
+        /// The path of the deck's text.
+        out: &'a str,
+        /// How the lines are taken.
+        rules: Rules,
+        /// Whether each line that was changed is told.
+        reports: bool,
+    },
+    /// Print the cards of a deck.
+    List {
+        /// The path of the deck.
+        deck: &'a str,
+        /// Whether a ruler stands over the cards.
+        ruler: bool,
+        /// Whether the punches stand under each card.
+        punches: bool,
+    },
+    /// Print the cards in which two decks differ.
+    Compare {
+        /// The path of the first deck.
+        one: &'a str,
+        /// The path of the second deck.
+        other: &'a str,
+    },
+    /// Number the cards of a deck in columns 73 to 80.
+    Number {
+        /// The path of the deck.
+        deck: &'a str,
+        /// The path of the numbered deck.
+        out: &'a str,
+        /// What stands before each number.
+        ident: &'a str,
+        /// The number of the first card.
+        first: u32,
+        /// What each next number is more.
+        step: u32,
+    },
+    /// Print where the numbers of a deck's cards do not rise.
+    CheckNumbers {
+        /// The path of the deck.
+        deck: &'a str,
+    },
+    /// Print a source with its code, or its faults.
+    Source {
+        /// The path of the source.
+        source: &'a str,
+    },
+    /// Print the digests of decks, or compare them with those of a file.
+    Manifest {
+        /// The paths of the decks.
+        decks: Vec<&'a str>,
+        /// The path of the digests to compare with.
+        known: Option<&'a str>,
+    },
+}
+
+/// Why words do not ask for a task.
+#[derive(Clone, Copy)]
+pub enum Misuse {
+    /// There is no memory to read them.
+    Memory,
+    /// A word is not valid text.
+    NoText,
+    /// The first word is not the name of a row.
+    Row,
+    /// The words after this row's name are not as the row has them.
+    Arguments(RowName),
+    /// The value of `--tabs` is no list of columns.
+    Tabs,
+    /// The value of `--signs` names no table.
+    Signs,
+    /// The value of `--keep` is no column.
+    Keep,
+    /// The value of `--empty` is none of three.
+    Empty,
+    /// FROM or TO names no form.
+    Form,
+    /// FIRST or STEP is no number.
+    Number,
+}
+
+impl From<AllocError> for Misuse {
+    ghost from_gives = { λ _ misuse. misuse ≡ Memory };
+
+    fn from(_error: AllocError) -> Misuse {
+        Misuse::Memory
+    }
+}
+
+/// The misuse of a process whose words cannot be read.
+impl From<io::Error> for Misuse {
+    fn from(error: io::Error) -> Misuse {
+        match error.kind() {
+            ErrorKind::OutOfMemory => Misuse::Memory,
+            _ => Misuse::NoText,
+        }
+    }
+}
+
+/// The columns of `--tabs`; none where it is not given.
+fn tabs_in(alloc: Global, found: &ArgMatches<'_>) -> Result<Vec<u8>, Misuse>
+    ensures { IfOk result (λ tabs. HasTabs (rows_of (found_of found.now)) tabs.items) }
+{
+    let Some(text) = value(found, "tabs") else {
+        return Ok(Vec::new(alloc));
+    };
+    match stops_of(alloc, text)? {
+        Some(tabs) => Ok(tabs),
+        None => Err(Misuse::Tabs),
+    }
+}
+
+/// The table of `--signs`; the glyphs of a deck text where it is not given.
+fn signs_in(found: &ArgMatches<'_>) -> Result<Signs, Misuse>
+    ensures { IfOk result (λ signs. HasSigns (rows_of (found_of found.now)) signs) }
+{
+    let Some(word) = value(found, "signs") else {
+        return Ok(Signs::Bureau);
+    };
+    match signs_of(word) {
+        Some(signs) => Ok(signs),
+        None => Err(Misuse::Signs),
+    }
+}
+
+/// The column of `--keep`, if it is given.
+fn kept_in(found: &ArgMatches<'_>) -> Result<Option<u8>, Misuse>
+    ensures { IfOk result (λ keeps. HasKept (rows_of (found_of found.now)) keeps) }
+{
+    let Some(text) = value(found, "keep") else {
+        return Ok(None);
+    };
+    match column_of(text) {
+        Some(column) => Ok(Some(column)),
+        None => Err(Misuse::Keep),
+    }
+}
+
+/// What an empty line is by `--empty`; a card where it is not given.
+fn empty_in(found: &ArgMatches<'_>) -> Result<EmptyLine, Misuse>
+    ensures { IfOk result (λ empty. HasEmpty (rows_of (found_of found.now)) empty) }
+{
+    let Some(word) = value(found, "empty") else {
+        return Ok(EmptyLine::Card);
+    };
+    match empty_of(word) {
+        Some(empty) => Ok(empty),
+        None => Err(Misuse::Empty),
+    }
+}
+
+/// The value of an argument that a row cannot lack.
+fn needed<'a>(found: &ArgMatches<'a>, name: &str, row: RowName) -> Result<&'a str, Misuse>
+    ensures { IfOk result (λ text. WantsOption name.now (rows_of (found_of found.now)) text.now) }
+{
+    match value(found, name) {
+        Some(text) => Ok(text),
+        None => Err(Misuse::Arguments(row)),
+    }
+}
+
+/// The task of a row `punch`.
+fn punch_task<'a>(alloc: Global, found: &ArgMatches<'a>) -> Result<Task<'a>, Misuse>
+    ensures { IfOk result (WantsPunch (rows_of (found_of found.now))) }
+{
+    let text = needed(found, "IN", RowName::Punch)?;
+    let out = needed(found, "OUT", RowName::Punch)?;
+    let rules = Rules {
+        folds: has_flag(found, "fold"),
+        tabs: tabs_in(alloc, found)?,
+        signs: signs_in(found)?,
+        keeps: kept_in(found)?,
+        empty: empty_in(found)?,
+    };
+    let reports = has_flag(found, "report");
+    Ok(Task::Punch {
+        text,
+        out,
+        rules,
+        reports,
+    })
+}
+
+/// The task of a row `list`.
+fn list_task<'a>(found: &ArgMatches<'a>) -> Result<Task<'a>, Misuse>
+    ensures { IfOk result (WantsList (rows_of (found_of found.now))) }
+{
+    let deck = needed(found, "DECK", RowName::List)?;
+    let ruler = has_flag(found, "ruler");
+    let punches = has_flag(found, "punches");
+    Ok(Task::List {
+        deck,
+        ruler,
+        punches,
+    })
+}
+
+/// The task of a row `compare`.
+fn compare_task<'a>(found: &ArgMatches<'a>) -> Result<Task<'a>, Misuse>
+    ensures { IfOk result (WantsCompare (rows_of (found_of found.now))) }
+{
+    let one = needed(found, "ONE", RowName::Compare)?;
+    let other = needed(found, "OTHER", RowName::Compare)?;
+    Ok(Task::Compare { one, other })
+}
+
+/// A number of 1 to 9 digits without a zero in front.
+fn number(text: &str) -> Result<u32, Misuse>
+    ensures { IfOk result (IsNumberOf text.now) }
+{
+    match number_of(text) {
+        Some(number) => Ok(number),
+        None => Err(Misuse::Number),
+    }
+}
+
+/// The task of a row `sequence`: with one value a check, with five a numbering.
+fn sequence_task<'a>(found: &ArgMatches<'a>) -> Result<Task<'a>, Misuse>
+    ensures { IfOk result (WantsSequence (rows_of (found_of found.now))) }
+{
+    let deck = needed(found, "IN", RowName::Sequence)?;
+    if value(found, "OUT").is_none() {
+        return Ok(Task::CheckNumbers { deck });
+    }
+    let out = needed(found, "OUT", RowName::Sequence)?;
+    let ident = needed(found, "IDENT", RowName::Sequence)?;
+    let first = number(needed(found, "FIRST", RowName::Sequence)?)?;
+    let step = number(needed(found, "STEP", RowName::Sequence)?)?;
+    Ok(Task::Number {
+        deck,
+        out,
+        ident,
+        first,
+        step,
+    })
+}
+
+/// The task of a row `source`.
+fn source_task<'a>(found: &ArgMatches<'a>) -> Result<Task<'a>, Misuse>
+    ensures { IfOk result (WantsSource (rows_of (found_of found.now))) }
+{
+    let source = needed(found, "IN", RowName::Source)?;
+    Ok(Task::Source { source })
+}
+
+/// The task of a row `manifest`.
+fn manifest_task<'a>(alloc: Global, found: &ArgMatches<'a>) -> Result<Task<'a>, Misuse>
+    ensures { IfOk result (WantsManifest (rows_of (found_of found.now))) }
+{
+    let decks = values(alloc, found, "FILE")?;
+    let known = value(found, "check");
+    Ok(Task::Manifest { decks, known })
+}
+
+/// The task of a row, by what clap found after its name.
+fn row_task<'a>(alloc: Global, row: RowName, found: &ArgMatches<'a>) -> Result<Task<'a>, Misuse>
+    ensures { IfOk result (WantsTask row (rows_of (found_of found.now))) }
+{
+    match row {
+        RowName::Punch => punch_task(alloc, found),
+        RowName::List => list_task(found),
+        RowName::Compare => compare_task(found),
+        RowName::Sequence => sequence_task(found),
+        RowName::Source => source_task(found),
+        RowName::Manifest => manifest_task(alloc, found),
+        RowName::Convert => Err(Misuse::Form),
+    }
+}
+
+/// The misuse of words that clap does not take.
+fn misuse_of(words: &[String]) -> Misuse {
+    match words.first() {
+        Some(word) => match RowName::of(word.as_str()) {
+            Some(row) => Misuse::Arguments(row),
+            None => Misuse::Row,
+        },
+        None => Misuse::Row,
+    }
+}
+
+/// The task of the words that clap takes.
+fn parsed_task<'a>(alloc: Global, words: &'a [String]) -> Result<Task<'a>, Misuse>
+    ensures { IfOk result (Wants (texts words.entry.now)) }
+{
+    let matches = match parse(alloc, words) {
+        Ok(matches) => matches,
+        Err(Unread::Memory) => return Err(Misuse::Memory),
+        Err(Unread::Words) => return Err(misuse_of(words)),
+    };
+    let Some((name, found)) = matches.subcommand() else {
+        return Err(Misuse::Row);
+    };
+    match RowName::of(name) {
+        Some(row) => row_task(alloc, row, found),
+        None => Err(Misuse::Row),
+    }
+}
+
+/// What two words ask for in place of a row: the help of the row that the first names.
+fn help_of<'a>(name: &str, word: &str) -> Option<Task<'a>>
+    ensures { IfSome result (Wants (name.now ∷ word.now ∷ [])) }
+{
+    let Some(row) = RowName::of(name) else {
+        return None;
+    };
+    if word == "--help" {
+        return Some(Task::Help(Some(row)));
+    }
+    if word == "-h" {
+        return Some(Task::Help(Some(row)));
+    }
+    None
+}
+
+/// What one word asks for in place of a row.
+fn option_of<'a>(word: &str) -> Option<Task<'a>>
+    ensures { IfSome result (Wants (word.now ∷ [])) }
+{
+    if word == "--help" {
+        return Some(Task::Help(None));
+    }
+    if word == "-h" {
+        return Some(Task::Help(None));
+    }
+    if word == "--version" {
+        return Some(Task::Version);
+    }
+    None
+}
+
+/// What words ask for in place of a row.
+fn option_in<'a>(words: &[String]) -> Option<Task<'a>>
+    ensures { IfSome result (Wants (texts words.now)) }
+{
+    match words {
+        [word] => option_of(word.as_str()),
+        [name, word] => help_of(name.as_str(), word.as_str()),
+        _ => None,
+    }
+}
+
+/// Returns the task that the words after the program's name ask for, or else what is wrong with
+/// them.
+pub fn task_of<'a>(alloc: Global, words: &'a [String]) -> Result<Task<'a>, Misuse>
+    ensures { IfOk result (Wants (texts words.entry.now)) }
+{
+    match option_in(words) {
+        Some(task) => Ok(task),
+        None => parsed_task(alloc, words),
+    }
+}
