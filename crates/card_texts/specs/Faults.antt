@@ -5,7 +5,8 @@ use Rattle.card_texts.specs.declared.faults.TextError.{TextError}
 use Rattle.card_texts.specs.declared.faults.TextError.TheVariants.{NoCode, SmallLetter, Tab, PastTheCard}
 use Rattle.card_texts.specs.declared.faults.TextFault.{TextFault}
 use Rattle.card_texts.specs.declared.finding.Met.{Met}
-use Rattle.card_texts.specs.Signs.{glyph_by, is_glyph, is_small}
+use Rattle.card_forms.specs.Signs.{is_small}
+use Rattle.card_texts.specs.Signs.{glyph_by, is_glyph}
 use Rattle.card_texts.specs.Columns.{blank, tab, behind, is_spread}
 
 -- nothing was met

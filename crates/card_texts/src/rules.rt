@@ -3,6 +3,8 @@
 ghost use Rattle.std.specs.Prelude.{◌≡◌};
 ghost use Rattle.card_texts.specs.Signs.{glyph_by};
 
+use card_forms::simh_glyph;
+
 /// Which signs stand for the 64 characters.
 #[derive(Clone, Copy)]
 pub enum Signs {
@@ -36,24 +38,6 @@ pub struct Rules {
     pub keeps: Option<u8>,
     /// What a line without a character is.
     pub empty: EmptyLine,
-}
-
-/// The glyph of SimH's sign for it; a byte that is no such sign is returned as it is.
-#[tactic(auto, unfolding(crate::specs::Signs::simh_glyph))]
-fn simh_glyph(byte: u8) -> u8
-    ensures { result ≡ Rattle.card_texts.specs.Signs.simh_glyph byte }
-{
-    match byte {
-        b'{' => b'"',
-        b'~' => b'=',
-        b'"' => b'+',
-        b'=' => b'#',
-        b'\'' => b'@',
-        b'(' => b'%',
-        b'+' => b'&',
-        b'`' => b' ',
-        _ => byte.to_ascii_uppercase(),
-    }
 }
 
 impl Rules {

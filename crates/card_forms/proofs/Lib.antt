@@ -1,0 +1,4 @@
+pub mod FilledColumns
+pub mod SimhLines
+pub mod BinaryColumns
+pub mod FormLaw
