@@ -7,7 +7,8 @@ use Rattle.card_texts.specs.declared.faults.TextError.{TextError}
 use Rattle.card_texts.specs.declared.faults.TextError.TheVariants.{NoCode, SmallLetter, Tab, PastTheCard, EmptyLine, TooManyCards}
 use Rattle.card_texts.specs.declared.faults.TextFault.{TextFault}
 use Rattle.card_texts.specs.declared.finding.Met.{Met}
-use Rattle.card_texts.specs.Signs.{glyph_by, is_glyph, is_small}
+use Rattle.card_forms.specs.Signs.{is_small}
+use Rattle.card_texts.specs.Signs.{glyph_by, is_glyph}
 use Rattle.card_texts.specs.Columns.{blank, tab, behind, behind_tab, columns_from, columns_kept, columns_of, filled_up, is_spread, kept_of, spreads}
 use Rattle.card_texts.specs.Faults.{error_within, faults_from, faults_within, four_bytes, is_past, met_behind, nothing_met, told_of}
 use Rattle.card_texts.proofs.ColumnLemmas.{length_of_columns}

@@ -9,7 +9,8 @@ use Rattle.bcd.proofs.Tables.{at_each}
 use Rattle.card_texts.specs.declared.rules.Signs.{Signs}
 use Rattle.card_texts.specs.declared.rules.Signs.TheVariants.{Bureau, Simh}
 use Rattle.card_texts.specs.Columns.{blank}
-use Rattle.card_texts.specs.Signs.{glyph_by, is_glyph, is_small, simh_glyph}
+use Rattle.card_forms.specs.Signs.{is_small, simh_glyph}
+use Rattle.card_texts.specs.Signs.{glyph_by, is_glyph}
 
 -- each of the bytes is a glyph
 abbrev pub are_glyphs : List ℕ → Bool
