@@ -9,3 +9,4 @@ mod CardLines
 mod TakenLines
 mod DeckLaw
 mod SettlingLaw
+mod ChangeLemmas

@@ -4,3 +4,4 @@ pub mod Columns
 pub mod Faults
 pub mod Punching
 pub mod DeckTexts
+pub mod Changes

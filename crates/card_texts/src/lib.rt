@@ -5,11 +5,12 @@
 //! Its contract: the deck text that it returns is the one that the rules make of the text
 //! (`specs/Punching.antt`): each line's bytes are read as glyphs (`specs/Signs.antt`), put into
 //! columns, cut and filled up (`specs/Columns.antt`); or else the faults are exactly those of the
-//! lines, in order (`specs/Faults.antt`). What the lines of a text are is in `specs/Lines.antt`. The
+//! lines, in order (`specs/Faults.antt`). [`changes`] says what was done to each line. What the lines of a text are is in `specs/Lines.antt`. The
 //! laws: what is returned is a deck's text ([`punching_makes_decks`]), a deck's own text stays as it
 //! is ([`punching_keeps_decks`]), and so does what was punched before ([`punching_settles`]).
 #![tactic(auto)]
 
+mod changing;
 mod columns;
 mod faults;
 mod finding;
@@ -18,6 +19,7 @@ mod lines;
 mod punching;
 mod rules;
 
+pub use changing::{Change, changes};
 pub use faults::{TextError, TextFault};
 pub use laws::{punching_keeps_decks, punching_makes_decks, punching_settles};
 pub use punching::{Unpunched, punch};

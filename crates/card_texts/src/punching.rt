@@ -64,21 +64,34 @@ struct Taken {
 
 /// The columns of a line's card, and the faults within the line.
 #[derive(Drop)]
-struct Line {
-    columns: Vec<u8>,
+pub(crate) struct Line {
+    pub(crate) columns: Vec<u8>,
     faults: Vec<TextFault>,
 }
 
 /// Whether all of these are blanks.
-fn are_blanks(columns: &[u8]) -> bool
+pub(crate) fn are_blanks(columns: &[u8]) -> bool
     ensures { result ≡ list_all (λ column. column == blank) columns.now }
 {
     columns.iter().all(|&column| column == b' ')
 }
 
 impl Line {
+    /// No line was looked at.
+    pub(crate) fn empty(alloc: Global) -> Self {
+        Line {
+            columns: Vec::new(alloc),
+            faults: Vec::new(alloc),
+        }
+    }
+
     /// Looks at a line.
-    fn look(&mut self, rules: &Rules, number: usize, line: &[u8]) -> Result<(), AllocError>
+    pub(crate) fn look(
+        &mut self,
+        rules: &Rules,
+        number: usize,
+        line: &[u8],
+    ) -> Result<(), AllocError>
         ensures columns { OnOk result (self.new.columns.items ≡ filled_up rules.now line.now) }
         ensures faults { OnOk result
             (self.new.faults.items ≡ faults_within rules.now number line.now) }
@@ -157,7 +170,7 @@ impl Taken {
 }
 
 /// Whether a line that was looked at is no card.
-fn is_passed_over(rules: &Rules, line: &Line) -> bool
+pub(crate) fn is_passed_over(rules: &Rules, line: &Line) -> bool
     ensures { result ≡ (drops rules.now.empty && is_empty_line line.now) }
 {
     rules.empty.drops() && line.is_empty()
@@ -193,10 +206,7 @@ fn take_lines(
     ensures text { OnOk result (faults_of rules.now text.now ≡ []
         → taken.new.text.items ≡ deck_text_of rules.now text.now) }
 {
-    let mut line = Line {
-        columns: Vec::new(alloc),
-        faults: Vec::new(alloc),
-    };
+    let mut line = Line::empty(alloc);
     let mut number = 1;
     let mut rest = body(text);
     while !rest.is_empty() {
