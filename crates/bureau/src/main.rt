@@ -7,19 +7,16 @@
 //! only if a deck was made.
 #![tactic(auto)]
 
-mod errors;
-
-ghost use Rattle.std.specs.Prelude.{◌≡◌, Option, IfOk, IfErr};
-ghost use Rattle.std.specs.Process.{exit_status};
-ghost use Rattle.command_line.specs.Printed.{IsTextShown, status_code, version_text};
+ghost use Rattle.std.specs.Prelude.{Option, IfOk};
+ghost use Rattle.command_line.specs.Printed.{IsTextShown, version_text};
 ghost use Rattle.command_line.specs.Asked.{IsHelp, IsVersion, page_of};
 ghost use Rattle.command_line.specs.Plain.{texts};
 ghost use Rattle.command_line.specs.declared.row_names.RowName.{RowName};
 ghost use Rattle.bureau.specs.Answers.{HasAnswered, HasAssembled, HasEndedMigration, HasEndedScript};
 
-use crate::errors::Unfailing;
 use command_line::{
-    Fault, Misuse, Status, Task, show_help, show_version, task_of, tell_fault, tell_misuse,
+    Fault, Misuse, Status, Task, Unfailing, exit_code, show_help, show_version, task_of, tell_fault,
+    tell_misuse,
 };
 use counter::{assemble_deck, run_input, write_out};
 use service::{apply, export, init, migrate, serve, show_outcome};
@@ -142,17 +139,6 @@ fn carry_out(rt: &HostRuntime) -> io::Result<Status> {
     let words = words.as_slice();
     let after_name = if words.is_empty() { words } else { &words[1..] };
     answer(rt, after_name, &mut output, &mut errors)
-}
-
-/// The exit status of an outcome. An error is one of [`Unfailing`], which has none.
-fn exit_code(outcome: io::Result<Status>) -> ExitCode
-    ensures ok { IfOk outcome (λ status. exit_status result ≡ status_code status) }
-    ensures err { IfErr outcome (λ _. exit_status result ≡ status_code Status.NotDone) }
-{
-    match outcome {
-        Ok(status) => ExitCode::from(status.code()),
-        Err(_) => ExitCode::from(Status::NotDone.code()),
-    }
 }
 
 fn main(rt: HostRuntime) -> ExitCode {

@@ -17,6 +17,7 @@
 
 mod asked;
 mod commands;
+mod errors;
 mod faults;
 mod found;
 mod help;
@@ -30,9 +31,10 @@ mod tasks;
 mod telling;
 
 pub use asked::{Words, WordsFault};
+pub use errors::Unfailing;
 pub use faults::Fault;
 pub use parsing::words;
 pub use row_names::RowName;
-pub use statuses::Status;
+pub use statuses::{Status, exit_code};
 pub use tasks::{Input, Misuse, Task, task_of};
 pub use telling::{put_out, show_help, show_version, tell_fault, tell_misuse};

@@ -1,7 +1,11 @@
 //! How the program ends.
 
-ghost use Rattle.std.specs.Prelude.{◌≡◌};
+ghost use Rattle.std.specs.Prelude.{◌≡◌, IfOk, IfErr};
+ghost use Rattle.std.specs.Process.{exit_status};
 ghost use Rattle.command_line.specs.Printed.{status_code};
+
+use std::io;
+use std::process::ExitCode;
 
 /// How the program ends. Its code is the exit status.
 #[derive(Clone, Copy, Debug, PartialEq, Eq)]
@@ -27,5 +31,16 @@ impl Status {
             Status::Misused => 2,
             Status::Unusable => 3,
         }
+    }
+}
+
+/// The exit status of an outcome. An error is one of [`Unfailing`](crate::Unfailing), which has none.
+pub fn exit_code(outcome: io::Result<Status>) -> ExitCode
+    ensures ok { IfOk outcome (λ status. exit_status result ≡ status_code status) }
+    ensures err { IfErr outcome (λ _. exit_status result ≡ status_code Status.NotDone) }
+{
+    match outcome {
+        Ok(status) => ExitCode::from(status.code()),
+        Err(_) => ExitCode::from(Status::NotDone.code()),
     }
 }

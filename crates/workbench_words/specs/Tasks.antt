@@ -2,6 +2,7 @@
 use Rattle.std.specs.Prelude.{ℕ, ◌≡◌, ◌≢◌, ◌<◌, ◌≤◌, ◌⊎◌, Bool, List, [], ◌∷◌, Option, Some, None, codes, decimal, map, option_map, unwrap_or}
 use Rattle.std.specs.Str.{bytes_eq}
 use Rattle.clap.specs.Words.{Row, Text, all_of, fault_of, first_of, subcommand_of}
+use Rattle.card_forms.specs.Forms.{word_of}
 use Rattle.texts.specs.Numbers.{IsNumberOf}
 use Rattle.card_texts.specs.declared.Rules.{Rules}
 use Rattle.card_texts.specs.declared.Signs.{Signs}
@@ -14,7 +15,7 @@ use Rattle.workbench_words.specs.Values.{AreStops, word_of_empty, word_of_signs}
 use Rattle.workbench_words.specs.declared.rows.RowName.{RowName}
 use Rattle.workbench_words.specs.declared.rows.RowName.TheVariants as name
 use Rattle.workbench_words.specs.declared.tasks.Task.{Task}
-use Rattle.workbench_words.specs.declared.tasks.Task.TheVariants.{Help, Version, Punch, List as ListCards, Compare, Number, CheckNumbers, Source, Manifest}
+use Rattle.workbench_words.specs.declared.tasks.Task.TheVariants.{Help, Version, Punch, List as ListCards, Compare, Convert, Number, CheckNumbers, Source, Manifest}
 
 -- whether an option without a value was given
 unfoldable pub has_flag : Text → List Row → Bool
@@ -99,6 +100,13 @@ WantsSequence found (CheckNumbers deck) =
     WantsOption (codes "IN") found deck.now × (first_of (codes "OUT") found ≡ None)
 WantsSequence found other = ⊥
 
+-- the task of `convert`
+abbrev pub WantsConvert : List Row → Task → Type 0
+WantsConvert found (Convert deck out reads writes) = WantsOption (codes "IN") found deck.now
+    × WantsOption (codes "OUT") found out.now × WantsOption (codes "FROM") found (word_of reads)
+    × WantsOption (codes "TO") found (word_of writes)
+WantsConvert found other = ⊥
+
 -- the task of `source`
 abbrev pub WantsSource : List Row → Task → Type 0
 WantsSource found (Source source) = WantsOption (codes "IN") found source.now
@@ -119,7 +127,7 @@ WantsTask name.Compare found task = WantsCompare found task
 WantsTask name.Sequence found task = WantsSequence found task
 WantsTask name.Source found task = WantsSource found task
 WantsTask name.Manifest found task = WantsManifest found task
-WantsTask name.Convert found task = ⊥
+WantsTask name.Convert found task = WantsConvert found task
 
 -- clap takes the words by the program's command, and the task is that of the row and the arguments
 -- that it finds

@@ -3,14 +3,16 @@
 ghost use Rattle.std.specs.Prelude.{◌≡◌, ◌∷◌, [], IfOk, IfSome};
 ghost use Rattle.clap.specs.Words.{found_of, rows_of};
 ghost use Rattle.command_line.specs.Plain.{texts};
+ghost use Rattle.card_forms.specs.Forms.{word_of};
 ghost use Rattle.texts.specs.Numbers.{IsNumberOf};
-ghost use Rattle.workbench_words.specs.Tasks.{HasEmpty, HasKept, HasSigns, HasTabs, Wants, WantsCompare, WantsList, WantsManifest, WantsOption, WantsPunch, WantsSequence, WantsSource, WantsTask};
+ghost use Rattle.workbench_words.specs.Tasks.{HasEmpty, HasKept, HasSigns, HasTabs, Wants, WantsCompare, WantsConvert, WantsList, WantsManifest, WantsOption, WantsPunch, WantsSequence, WantsSource, WantsTask};
 ghost use Rattle.workbench_words.specs.declared.tasks.Misuse.TheVariants.{Memory};
 
 use crate::found::{has_flag, value, values};
 use crate::parsing::{Unread, parse};
 use crate::rows::RowName;
 use crate::values::{column_of, empty_of, signs_of, stops_of};
+use card_forms::Form;
 use card_texts::{EmptyLine, Rules, Signs};
 use clap::ArgMatches;
 use std::alloc::{AllocError, Global};
@@ -69,6 +71,17 @@ pub enum Task<'a> {
     CheckNumbers {
         /// The path of the deck.
         deck: &'a str,
+    },
+    /// Make a deck of one form one of another.
+    Convert {
+        /// The path of the deck.
+        deck: &'a str,
+        /// The path of the deck in the other form.
+        out: &'a str,
+        /// The form that the deck has.
+        reads: Form,
+        /// The form that is written.
+        writes: Form,
     },
     /// Print a source with its code, or its faults.
     Source {
@@ -265,6 +278,33 @@ fn sequence_task<'a>(found: &ArgMatches<'a>) -> Result<Task<'a>, Misuse>
     })
 }
 
+/// The form that an argument names.
+fn form_in(found: &ArgMatches<'_>, name: &str) -> Result<Form, Misuse>
+    ensures { IfOk result (λ form.
+        WantsOption name.now (rows_of (found_of found.now)) (word_of form)) }
+{
+    match Form::of(needed(found, name, RowName::Convert)?) {
+        Some(form) => Ok(form),
+        None => Err(Misuse::Form),
+    }
+}
+
+/// The task of a row `convert`.
+fn convert_task<'a>(found: &ArgMatches<'a>) -> Result<Task<'a>, Misuse>
+    ensures { IfOk result (WantsConvert (rows_of (found_of found.now))) }
+{
+    let deck = needed(found, "IN", RowName::Convert)?;
+    let out = needed(found, "OUT", RowName::Convert)?;
+    let reads = form_in(found, "FROM")?;
+    let writes = form_in(found, "TO")?;
+    Ok(Task::Convert {
+        deck,
+        out,
+        reads,
+        writes,
+    })
+}
+
 /// The task of a row `source`.
 fn source_task<'a>(found: &ArgMatches<'a>) -> Result<Task<'a>, Misuse>
     ensures { IfOk result (WantsSource (rows_of (found_of found.now))) }
@@ -293,7 +333,7 @@ fn row_task<'a>(alloc: Global, row: RowName, found: &ArgMatches<'a>) -> Result<T
         RowName::Sequence => sequence_task(found),
         RowName::Source => source_task(found),
         RowName::Manifest => manifest_task(alloc, found),
-        RowName::Convert => Err(Misuse::Form),
+        RowName::Convert => convert_task(found),
     }
 }
 

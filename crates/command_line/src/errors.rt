@@ -6,14 +6,14 @@ use std::io::Write;
 /// A writer that goes on if nothing more can be printed, as on a full disk or a closed stream: how
 /// the program ends is told by its exit status then.
 #[derive(Drop)]
-pub(crate) struct Unfailing<W: Write> {
+pub struct Unfailing<W: Write> {
     inner: W,
     failed: bool,
 }
 
 impl<W: Write> Unfailing<W> {
     /// The writer over another one.
-    pub(crate) fn new(inner: W) -> Unfailing<W> {
+    pub fn new(inner: W) -> Unfailing<W> {
         Unfailing {
             inner,
             failed: false,

@@ -1,0 +1,106 @@
+//! The program: decks and sources as people have them, made ready for a bureau.
+//!
+//! What the words ask for is proved below (`workbench_words`), and so is what each row makes of the
+//! bytes that it is given (`card_texts`, `card_forms`, `card_tools`, `source_reports`). Here it is
+//! joined to the process's words, files and streams. The clauses of the kit do not mention these,
+//! so what is read and written where is tested by `cases/check-workbench`.
+#![tactic(auto)]
+
+mod converting;
+mod decks;
+mod files;
+mod listing;
+mod manifests;
+mod numbering;
+mod punching;
+mod sources;
+
+ghost use Rattle.std.specs.Prelude.{IfOk};
+ghost use Rattle.command_line.specs.Printed.{IsTextShown};
+ghost use Rattle.workbench_words.specs.Printed.{page_of, version_text};
+
+use crate::converting::convert;
+use crate::listing::{compare_decks, list_deck};
+use crate::manifests::manifest;
+use crate::numbering::{check_numbers, number_deck};
+use crate::punching::{Punching, punch_text};
+use crate::sources::show_source;
+use command_line::{Status, Unfailing, exit_code};
+use std::io::Write;
+use std::process::ExitCode;
+use std::{env, io};
+use workbench_words::{Misuse, Task, show_help, show_version, task_of, tell_misuse};
+
+/// The words of the process. The first is the program's name.
+fn words_given(rt: &HostRuntime) -> Result<Vec<String>, Misuse> {
+    Ok(env::args(rt)?.collect(rt.alloc())?)
+}
+
+/// Does a task.
+fn work<W: Write, E: Write>(
+    rt: &HostRuntime,
+    task: Task<'_>,
+    output: &mut W,
+    errors: &mut E,
+) -> io::Result<Status> {
+    match task {
+        Task::Help(row) => show_help(output, errors, row),
+        Task::Version => show_version(output, errors),
+        Task::Punch {
+            text,
+            out,
+            rules,
+            reports,
+        } => {
+            let punching = Punching {
+                text,
+                out,
+                rules: &rules,
+                reports,
+            };
+            punch_text(rt, punching, output, errors)
+        }
+        Task::List {
+            deck,
+            ruler,
+            punches,
+        } => list_deck(rt, deck, ruler, punches, output, errors),
+        Task::Compare { one, other } => compare_decks(rt, one, other, output, errors),
+        Task::Number {
+            deck,
+            out,
+            ident,
+            first,
+            step,
+        } => number_deck(rt, (deck, out), ident, (first, step), output, errors),
+        Task::CheckNumbers { deck } => check_numbers(rt, deck, output, errors),
+        Task::Convert {
+            deck,
+            out,
+            reads,
+            writes,
+        } => convert(rt, (deck, reads), (out, writes), output, errors),
+        Task::Source { source } => show_source(rt, source, output, errors),
+        Task::Manifest { decks, known } => manifest(rt, &decks, known, output, errors),
+    }
+}
+
+/// Does what the process's words ask for.
+fn carry_out(rt: &HostRuntime) -> io::Result<Status> {
+    let mut output = rt.stdout();
+    let mut errors = Unfailing::new(rt.stderr());
+    let words = match words_given(rt) {
+        Ok(words) => words,
+        Err(misuse) => return tell_misuse(&mut errors, misuse),
+    };
+    let words = words.as_slice();
+    let after_name = if words.is_empty() { words } else { &words[1..] };
+    match task_of(rt.alloc(), after_name) {
+        Ok(task) => work(rt, task, &mut output, &mut errors),
+        Err(misuse) => tell_misuse(&mut errors, misuse),
+    }
+}
+
+fn main(rt: HostRuntime) -> ExitCode {
+    exit_code(carry_out(&rt))
+}

@@ -1,0 +1,191 @@
+//! The row `punch`.
+
+ghost use Rattle.std.specs.Prelude.{◌≡◌, [], IfOk, IfSome};
+ghost use Rattle.card_texts.specs.Punching.{deck_text_of, faults_of};
+
+use crate::files::{read, tell_memory, write};
+use card_texts::{Change, Rules, TextError, TextFault, Unpunched, changes, punch};
+use command_line::Status;
+use std::alloc::Global;
+use std::io;
+use std::io::Write;
+
+/// How many faults are printed at most.
+const MOST_FAULTS: usize = 100;
+
+/// What is to be punched.
+pub(crate) struct Punching<'a> {
+    /// The path of the text.
+    pub text: &'a str,
+    /// The path of the deck's text.
+    pub out: &'a str,
+    /// How the lines are taken.
+    pub rules: &'a Rules,
+    /// Whether each line that was changed is told.
+    pub reports: bool,
+}
+
+/// The bytes of a character of UTF-8 that begins with these, or none where it is not one.
+fn character(bytes: &[u8; 4]) -> Option<&str> {
+    for length in 1..=4 {
+        if let Ok(text) = str::from_utf8(&bytes[..length]) {
+            return Some(text);
+        }
+    }
+    None
+}
+
+/// Whether a character can be shown as it is.
+fn is_shown(first: u8) -> bool {
+    first > 32 && first != 127
+}
+
+/// Says which character has no card code.
+fn tell_no_code<E: Write>(errors: &mut E, bytes: [u8; 4]) -> io::Result<()> {
+    let first = bytes[0];
+    match character(&bytes) {
+        Some(text) if is_shown(first) => {
+            writeln!(errors, "the character {text} has no card code")
+        }
+        _ => writeln!(errors, "the byte \\x{first:02X} has no card code"),
+    }
+}
+
+/// Says what is wrong with a line.
+fn tell_text_fault<E: Write>(errors: &mut E, fault: TextFault) -> io::Result<()> {
+    let line = fault.line;
+    let column = fault.column;
+    if let TextError::TooManyCards = fault.error {
+        return writeln!(errors, "line {line}: more than 2,000 cards; make two decks of it");
+    }
+    write!(errors, "line {line} column {column}: ")?;
+    match fault.error {
+        TextError::NoCode(bytes) => tell_no_code(errors, bytes),
+        TextError::SmallLetter => writeln!(errors, "a small letter; --fold makes it a capital"),
+        TextError::Tab => writeln!(errors, "a tab; give its columns with --tabs 6,16,21,41"),
+        TextError::PastTheCard => writeln!(
+            errors,
+            "the line is longer than a card; --keep 72 leaves sequence numbers out"
+        ),
+        TextError::EmptyLine => writeln!(errors, "an empty line; --empty drop leaves it out"),
+        TextError::TooManyCards => Ok(()),
+    }
+}
+
+/// Says what is wrong with the lines of a text.
+fn tell_text_faults<E: Write>(errors: &mut E, faults: &[TextFault]) -> io::Result<()> {
+    for fault in faults.iter().take(MOST_FAULTS) {
+        tell_text_fault(errors, *fault)?;
+    }
+    if faults.len() > MOST_FAULTS {
+        let more = faults.len() - MOST_FAULTS;
+        writeln!(errors, "and {more} more")?;
+    }
+    Ok(())
+}
+
+/// The deck's text of a text. Where it has faults, these are told, and there is none.
+fn punched<E: Write>(
+    alloc: Global,
+    rules: &Rules,
+    text: &[u8],
+    errors: &mut E,
+) -> io::Result<Option<Vec<u8>>>
+    ensures { IfOk result (λ found. IfSome found (λ deck. (faults_of rules.now text.now ≡ [])
+        × (deck.items ≡ deck_text_of rules.now text.now))) }
+{
+    match punch(alloc, rules, text) {
+        Ok(deck) => Ok(Some(deck)),
+        Err(Unpunched::Faults(faults)) => {
+            tell_text_faults(errors, &faults)?;
+            Ok(None)
+        }
+        Err(Unpunched::NoMemory) => {
+            tell_memory(errors)?;
+            Ok(None)
+        }
+    }
+}
+
+/// Prints a word and a number, unless the number is 0.
+fn tell_count<E: Write>(errors: &mut E, word: &str, count: usize) -> io::Result<()> {
+    if count == 0 {
+        return Ok(());
+    }
+    write!(errors, " {word} {count}")
+}
+
+/// Says what was done to a line, if anything was.
+fn tell_change<E: Write>(errors: &mut E, change: &Change) -> io::Result<()> {
+    if !change.filled && !change.folded && change.tabs == 0 {
+        return Ok(());
+    }
+    let line = change.line;
+    write!(errors, "line {line}:")?;
+    if change.filled {
+        errors.write_all(b" filled")?;
+    }
+    if change.folded {
+        errors.write_all(b" folded")?;
+    }
+    tell_count(errors, "tabs", change.tabs)?;
+    writeln!(errors)
+}
+
+/// Says what was done to the lines of a text.
+fn tell_sum<E: Write>(errors: &mut E, changes: &[Change]) -> io::Result<()> {
+    let cards = changes.len();
+    let filled = changes.iter().filter(|change| change.filled).count();
+    let folded = changes.iter().filter(|change| change.folded).count();
+    let mut tabs = 0usize;
+    for change in changes {
+        tabs = tabs.saturating_add(change.tabs);
+    }
+    let blank = changes.iter().filter(|change| change.blank).count();
+    write!(errors, "cards {cards}")?;
+    tell_count(errors, "filled", filled)?;
+    tell_count(errors, "folded", folded)?;
+    tell_count(errors, "tabs", tabs)?;
+    tell_count(errors, "blank", blank)?;
+    writeln!(errors)
+}
+
+/// Says what was done to the lines of a text: of each that was changed, if that is asked for, and
+/// their sum.
+fn tell_changes<E: Write>(
+    alloc: Global,
+    rules: &Rules,
+    text: &[u8],
+    reports: bool,
+    errors: &mut E,
+) -> io::Result<()> {
+    let Ok(changes) = changes(alloc, rules, text) else {
+        return Ok(());
+    };
+    if reports {
+        for change in &changes {
+            tell_change(errors, change)?;
+        }
+    }
+    tell_sum(errors, &changes)
+}
+
+/// Takes a text as a deck, and writes the deck's text.
+pub(crate) fn punch_text<W: Write, E: Write>(
+    rt: &HostRuntime,
+    punching: Punching<'_>,
+    output: &mut W,
+    errors: &mut E,
+) -> io::Result<Status> {
+    let Some(text) = read(rt, punching.text, errors)? else {
+        return Ok(Status::NotDone);
+    };
+    let Some(deck) = punched(rt.alloc(), punching.rules, &text, errors)? else {
+        return Ok(Status::NotDone);
+    };
+    let status = write(rt, punching.out, &deck, output, errors)?;
+    if let Status::Done = status {
+        tell_changes(rt.alloc(), punching.rules, &text, punching.reports, errors)?;
+    }
+    Ok(status)
+}
