@@ -1,0 +1,6 @@
+pub mod Words
+pub mod Places
+pub mod Names
+pub mod Hints
+pub mod Blocks
+pub mod Reports

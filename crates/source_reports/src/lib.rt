@@ -1,0 +1,13 @@
+//! The report of an Autocoder source for its author: the listing with code, or each fault in words,
+//! with its card and a caret under its place.
+#![tactic(auto)]
+
+mod blocks;
+mod hints;
+mod names;
+mod places;
+mod reports;
+mod words;
+
+pub use reports::Report;
+pub use words::words_of;
