@@ -75,8 +75,8 @@ usable_by line index slots = slots
 
 -- a name that is nearly the same as another one, and the card that defines it
 abbrev pub near_text : Known → List ℕ
-near_text known = codes "; did you mean " ++ name_text known.name ++ codes " (card "
-    ++ decimal known.card ++ codes ")?"
+near_text known = codes "; did you mean " ++ name_text known.name
+    ++ (codes " (card " ++ decimal known.card ++ codes ")?")
 
 -- the card that has a name too late, or else the name that is nearly the same, if there is one
 abbrev pub known_text : Option ℕ → Option Known → List ℕ
@@ -130,7 +130,7 @@ size_text size = codes "; the size is " ++ decimal size
 abbrev pub number_hint : ℕ → Adjustment → Option ℕ → List ℕ
 number_hint size adjustment None = size_text size
 number_hint size adjustment (Some number) = codes ": " ++ reached_text adjustment number
-    ++ codes ", and the size is " ++ decimal size
+    ++ (codes ", and the size is " ++ decimal size)
 
 -- the number of an expression, if there is one, and the size of the storage
 abbrev pub reached_hint : ℕ → List Slot → Option Expression → List ℕ

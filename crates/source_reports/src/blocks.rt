@@ -1,12 +1,13 @@
 //! The block of a fault, and the line of their sum.
 
-ghost use Rattle.std.specs.Prelude.{◌≡◌, ◌++◌, ◌-◌, ◌∷◌, [], codes, replicate, slice_index_or, option_copied, OnOk};
+ghost use Rattle.std.specs.Prelude.{◌≡◌, ◌++◌, ◌-◌, ◌∷◌, [], codes, replicate, slice_get, slice_index_or, option_copied, OnOk};
 ghost use Rattle.cards.specs.Files.{line_feed};
 ghost use Rattle.autocoder.specs.Listing.{blank, glyphs_of, line_text};
 ghost use Rattle.autocoder_layout.specs.Source.{AreInRange, IsInRange, silent};
 ghost use Rattle.source_reports.specs.Blocks.{told_of, margin, picture, shown_on, block, is_fault_of_card, cards_at_fault, plural, counted, sum_line};
 
 use crate::hints::push_hint;
+use crate::pieces::push_text;
 use crate::places::place_of;
 use crate::words::words_of;
 use autocoder::{push_fillers, push_glyphs, push_line};
@@ -27,8 +28,7 @@ fn push_told(alloc: Global, text: &mut Vec<u8>, fault: CardFault) -> Result<(), 
     let number = fault.fault.number();
     let words = words_of(fault.fault);
     let told = format!(in alloc; "card {card} fault {number}: {words}")?;
-    text.extend_from_slice(told.as_bytes())?;
-    Ok(())
+    push_text(text, told.as_str())
 }
 
 /// Adds a card.
@@ -80,6 +80,13 @@ fn line_at(lines: &[Line], index: usize) -> Line
     }
 }
 
+/// The card of this index, if there is one.
+fn card_at(source: &[Card], index: usize) -> Option<&Card>
+    ensures { option_copied result ≡ slice_get source.now index }
+{
+    source.get(index)
+}
+
 /// Adds the card of a fault with its caret, if there is a card.
 fn push_shown(
     alloc: Global,
@@ -118,7 +125,15 @@ pub(crate) fn push_block(
     push_told(alloc, text, fault)?;
     push_hint(alloc, text, layout, index, &line, fault.fault)?;
     text.push(LINE_FEED)?;
-    push_shown(alloc, text, layout, &line, fault.fault, source.get(index))
+    push_shown(
+        alloc,
+        text,
+        layout,
+        &line,
+        fault.fault,
+        card_at(source, index),
+    )?;
+    Ok(())
 }
 
 /// Whether a fault is one of a card.
@@ -156,8 +171,7 @@ fn push_counted(
 {
     let plural = plural(count);
     let told = format!(in alloc; "{count} {word}{plural}")?;
-    text.extend_from_slice(told.as_bytes())?;
-    Ok(())
+    push_text(text, told.as_str())
 }
 
 /// Adds the line of the sum: how many faults in how many of all cards of a source.
@@ -173,7 +187,7 @@ pub(crate) fn push_sum(
     push_counted(alloc, text, faults.len(), "fault")?;
     let at_fault = cards_at_fault(faults);
     let told = format!(in alloc; " in {at_fault} of ")?;
-    text.extend_from_slice(told.as_bytes())?;
+    push_text(text, told.as_str())?;
     push_counted(alloc, text, cards, "card")?;
     text.push(LINE_FEED)?;
     Ok(())

@@ -1,12 +1,13 @@
 //! What the layout of a source knows besides of a fault.
 
-ghost use Rattle.std.specs.Prelude.{◌≡◌, ◌++◌, ◌≤◌, take, IfSome, OnOk};
+ghost use Rattle.std.specs.Prelude.{◌≡◌, ◌++◌, ◌≤◌, take, IfSome, Some, OnOk};
 ghost use Rattle.autocoder_layout.specs.Bounds.{farthest};
 ghost use Rattle.autocoder_layout.specs.Source.{IsInRange};
 ghost use Rattle.autocoder_statements.specs.Ranges.{IsExpressionInRange, IsAdjustmentInRange};
-ghost use Rattle.source_reports.specs.Hints.{label_of, taken_hint, name_of_base, name_in, name_of_either, unknown_name, usable_by, near_text, known_text, unknown_hint, either_expression, outside_expression, number_text, reached_text, outside_hint, hint_of};
+ghost use Rattle.source_reports.specs.Hints.{label_of, taken_hint, name_of_base, name_in, name_of_either, unknown_name, usable_by, near_text, known_text, unknown_hint, either_expression, outside_expression, number_text, reached_text, size_text, number_hint, outside_hint, hint_of};
 
 use crate::names::{Known, first_card, near_name, push_name};
+use crate::pieces::push_text;
 use autocoder_layout::{Layout, Line, Slot, SourceFault, base_number, expressions_of};
 use autocoder_statements::{Adjustment, Base, Expression, Name, Statement};
 use std::alloc::{AllocError, Global};
@@ -40,8 +41,7 @@ fn push_taken(
         return Ok(());
     };
     let told = format!(in alloc; "; card {card} has it first")?;
-    text.extend_from_slice(told.as_bytes())?;
-    Ok(())
+    push_text(text, told.as_str())
 }
 
 /// The name of a base, if it is one.
@@ -123,10 +123,10 @@ fn push_near(alloc: Global, text: &mut Vec<u8>, known: &Known) -> Result<(), All
     ensures { OnOk result (text.new.items ≡ text.old.items ++ near_text known.now) }
 {
     let card = known.card;
-    text.extend_from_slice(b"; did you mean ")?;
+    push_text(text, "; did you mean ")?;
     push_name(text, &known.name)?;
     let told = format!(in alloc; " (card {card})?")?;
-    text.extend_from_slice(told.as_bytes())?;
+    push_text(text, told.as_str())?;
     Ok(())
 }
 
@@ -141,8 +141,7 @@ fn push_known(
 {
     if let Some(card) = late {
         let told = format!(in alloc; "; card {card} has it, which is too late")?;
-        text.extend_from_slice(told.as_bytes())?;
-        return Ok(());
+        return push_text(text, told.as_str());
     }
     match near {
         None => Ok(()),
@@ -165,7 +164,7 @@ fn push_unknown(
     let Some(name) = unknown_name(layout, line) else {
         return Ok(());
     };
-    text.extend_from_slice(b": ")?;
+    push_text(text, ": ")?;
     push_name(text, &name)?;
     let late = first_card(layout.slots(), &name);
     let near = near_name(usable_by(line, index, layout.slots()), &name);
@@ -220,8 +219,7 @@ fn push_number(
 {
     let sign = if is_negative { "-" } else { "" };
     let told = format!(in alloc; "{sign}{number}")?;
-    text.extend_from_slice(told.as_bytes())?;
-    Ok(())
+    push_text(text, told.as_str())
 }
 
 /// Adds the number of a base with an adjustment.
@@ -245,7 +243,35 @@ fn push_reached(
     }
 }
 
+/// Adds the size of the storage.
+fn push_size(alloc: Global, text: &mut Vec<u8>, size: u16) -> Result<(), AllocError>
+    ensures { OnOk result (text.new.items ≡ text.old.items ++ size_text size) }
+{
+    let told = format!(in alloc; "; the size is {size}")?;
+    push_text(text, told.as_str())
+}
+
 /// Adds the number of an address and the size of the storage.
+fn push_number_and_size(
+    alloc: Global,
+    text: &mut Vec<u8>,
+    size: u16,
+    number: u32,
+    adjustment: Adjustment,
+) -> Result<(), AllocError>
+    requires number { number ≤ farthest }
+    requires range { IsAdjustmentInRange adjustment }
+    ensures { OnOk result (text.new.items
+        ≡ text.old.items ++ number_hint size adjustment (Some number)) }
+{
+    push_text(text, ": ")?;
+    push_reached(alloc, text, number, adjustment)?;
+    let told = format!(in alloc; ", and the size is {size}")?;
+    push_text(text, told.as_str())?;
+    Ok(())
+}
+
+/// Adds the number of an address that is outside the storage, and the storage's size.
 fn push_outside(
     alloc: Global,
     text: &mut Vec<u8>,
@@ -256,18 +282,13 @@ fn push_outside(
     ensures { OnOk result (text.new.items ≡ text.old.items ++ outside_hint layout.now line.now) }
 {
     let size = layout.size();
-    if let Some(expression) = outside_expression(layout, line)
-        && let Some(number) = base_number(layout.slots(), expression.base)
-    {
-        text.extend_from_slice(b": ")?;
-        push_reached(alloc, text, number, expression.adjustment)?;
-        let told = format!(in alloc; ", and the size is {size}")?;
-        text.extend_from_slice(told.as_bytes())?;
-        return Ok(());
-    }
-    let told = format!(in alloc; "; the size is {size}")?;
-    text.extend_from_slice(told.as_bytes())?;
-    Ok(())
+    let Some(expression) = outside_expression(layout, line) else {
+        return push_size(alloc, text, size);
+    };
+    let Some(number) = base_number(layout.slots(), expression.base) else {
+        return push_size(alloc, text, size);
+    };
+    push_number_and_size(alloc, text, size, number, expression.adjustment)
 }
 
 /// Adds what follows the words of a card's fault, by the card's index.

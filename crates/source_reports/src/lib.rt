@@ -5,6 +5,7 @@
 mod blocks;
 mod hints;
 mod names;
+mod pieces;
 mod places;
 mod reports;
 mod words;

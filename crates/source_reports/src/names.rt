@@ -69,10 +69,7 @@ fn defines_near(slot: &Slot, name: &Name) -> bool
 fn count_near(slots: &[Slot], name: &Name) -> usize
     ensures { result ≡ count_by (defines_near name.now) slots.now }
 {
-    slots
-        .iter()
-        .filter(|slot| defines_near(slot, name))
-        .count()
+    slots.iter().filter(|slot| defines_near(slot, name)).count()
 }
 
 /// The index of the first of these cards that defines a name that differs from this one in one

@@ -40,11 +40,7 @@ fn push_blocks(
 
 /// The text of the faults of a deck's source: a block for each, and the line of their sum.
 #[tactic(auto, unfolding(crate::specs::Reports::text_of_faults))]
-fn text_of_faults(
-    alloc: Global,
-    deck: &Deck,
-    faults: &[CardFault],
-) -> Result<Vec<u8>, AllocError>
+fn text_of_faults(alloc: Global, deck: &Deck, faults: &[CardFault]) -> Result<Vec<u8>, AllocError>
     ensures { IfOk result (λ text. text.items ≡ text_of_faults (source_of deck.now) faults.now) }
 {
     let layout = Layout::of(alloc, Source::read(alloc, deck)?)?;
