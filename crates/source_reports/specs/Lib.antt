@@ -4,3 +4,4 @@ pub mod Names
 pub mod Hints
 pub mod Blocks
 pub mod Reports
+pub mod Carets

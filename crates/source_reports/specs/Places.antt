@@ -61,14 +61,16 @@ kind_of (Literal text) = Field
 unfoldable pub length_in : List ℕ → operand.Operand → ℕ
 length_in field first = option_map_or (λ found. found.1) (operand (kind_of first) field) 0
 
--- the column behind an operand and a comma
-abbrev pub column_after : Card → Option operand.Operand → ℕ
-column_after card None = operand_column
-column_after card (Some first) = operand_column + length_in (operand_field card) first + 1
+-- the column of the second of two operands, behind the first one and a comma
+abbrev pub column_of_second : Card → Option operand.Operand → Option operand.Operand → ℕ
+column_of_second card (Some first) (Some second) =
+    operand_column + (length_in (operand_field card) first + 1)
+column_of_second card first second = operand_column
 
--- the column of the second operand of a card
+-- the column of the second operand of a card, if it has two
 abbrev pub second_column : Card → Line → ℕ
-second_column card (Ok (statement.Instruction label spelled)) = column_after card spelled.first
+second_column card (Ok (statement.Instruction label spelled)) =
+    column_of_second card spelled.first spelled.second
 second_column card line = operand_column
 
 -- the column of an address: of the first one if that is at fault, or else of the second one if that

@@ -4,11 +4,13 @@
 
 mod blocks;
 mod hints;
+mod laws;
 mod names;
 mod pieces;
 mod places;
 mod reports;
 mod words;
 
+pub use laws::{carets_stand_in_the_field_at_fault, reports_follow_the_assembler};
 pub use reports::Report;
 pub use words::words_of;

@@ -5,7 +5,7 @@ ghost use Rattle.autocoder_statements.specs.Characters.{is_blank};
 ghost use Rattle.autocoder_statements.specs.Limits.{longest_text};
 ghost use Rattle.autocoder_statements.specs.Statements.{operand_field};
 ghost use Rattle.autocoder_layout.specs.Source.{IsInRange};
-ghost use Rattle.source_reports.specs.Places.{stray, broken_column, kind_of, length_in, column_after, second_column, address_column, unknown_column, place_column, outside_column, place_of};
+ghost use Rattle.source_reports.specs.Places.{stray, broken_column, kind_of, length_in, column_of_second, second_column, address_column, unknown_column, place_column, outside_column, place_of};
 
 use autocoder_layout::{Layout, Line, SourceFault, expressions_of};
 use autocoder_statements::{
@@ -82,22 +82,24 @@ fn length_on(card: &Card, first: &Operand) -> usize
     }
 }
 
-/// The column behind an operand and a comma.
-fn column_after(card: &Card, first: &Option<Operand>) -> usize
-    ensures { result ≡ column_after card.now first.now }
+/// The column of the second of two operands, behind the first one and a comma.
+fn column_of_second(card: &Card, first: &Option<Operand>, second: &Option<Operand>) -> usize
+    ensures { result ≡ column_of_second card.now first.now second.now }
 {
-    match first {
-        Some(first) => OPERAND + length_on(card, first) + 1,
-        None => OPERAND,
+    match (first, second) {
+        (Some(first), Some(_)) => OPERAND + (length_on(card, first) + 1),
+        _ => OPERAND,
     }
 }
 
-/// The column of the second operand of a card.
+/// The column of the second operand of a card, if it has two.
 fn second_column(card: &Card, line: &Line) -> usize
     ensures { result ≡ second_column card.now line.now }
 {
     match line {
-        Ok(Statement::Instruction { instruction, .. }) => column_after(card, &instruction.first),
+        Ok(Statement::Instruction { instruction, .. }) => {
+            column_of_second(card, &instruction.first, &instruction.second)
+        }
         _ => OPERAND,
     }
 }
