@@ -31,5 +31,5 @@ pub use laws::{layout_is_unique, literals_are_placed_once};
 pub use layout::Layout;
 pub use names::{Value, base_number};
 pub use passes::Judgement;
-pub use slots::{Definition, Role, Slot, first_instruction, place_after};
+pub use slots::{Definition, Role, Slot, first_instruction, is_closed, place_after};
 pub use source::{Line, Source, source_of};

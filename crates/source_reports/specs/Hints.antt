@@ -1,5 +1,5 @@
 -- what the layout of a source knows besides of a fault
-use Rattle.std.specs.Prelude.{ℕ, ◌+◌, ◌-◌, nat_lt, Bool, true, false, if◌then◌else◌, List, [], ◌++◌, take, Option, Some, None, Ok, codes, decimal}
+use Rattle.std.specs.Prelude.{ℕ, ◌+◌, ◌-◌, nat_lt, Bool, true, false, if◌then◌else◌, List, [], ◌++◌, length, take, Option, Some, None, Ok, codes, decimal}
 use Rattle.core_store.specs.Storage.{positions_of}
 use Rattle.autocoder_statements.specs.declared.names.Name as name
 use Rattle.autocoder_statements.specs.declared.expressions.Adjustment.{Adjustment}
@@ -13,9 +13,11 @@ use Rattle.autocoder_layout.specs.Layout.{Layout}
 use Rattle.autocoder_layout.specs.Names.{base_number}
 use Rattle.autocoder_layout.specs.Judging.{expressions_of, has_unknown_name, has_value_outside}
 use Rattle.autocoder_layout.specs.declared.slots.Slot.{Slot}
+use Rattle.autocoder.specs.Listing.{position_field}
 use Rattle.autocoder_layout.specs.declared.faults.SourceFault.{SourceFault}
-use Rattle.autocoder_layout.specs.declared.faults.SourceFault.TheVariants.{TakenLabel, UnknownName, Outside}
+use Rattle.autocoder_layout.specs.declared.faults.SourceFault.TheVariants.{TakenLabel, UnknownName, Outside, Filled}
 use Rattle.source_reports.specs.Names.{name_text, first_card, near_name}
+use Rattle.source_reports.specs.Overlaps.{meeting_place, first_filler}
 use Rattle.source_reports.specs.declared.names.Known.{Known}
 
 -- ---- a label that is taken
@@ -143,6 +145,24 @@ abbrev pub outside_hint : Layout → Line → List ℕ
 outside_hint layout line =
     reached_hint (positions_of layout.source.size) layout.slots (outside_expression layout line)
 
+-- ---- a position that is filled already
+
+-- the card of this number, from 0, which fills a position first
+abbrev pub filler_text : ℕ → ℕ → List ℕ
+filler_text earlier place = codes "; card " ++ decimal (earlier + 1) ++ codes " fills "
+    ++ position_field place ++ codes " first"
+
+-- the card that fills a position of a card first, if there is one
+abbrev pub filler_of : List Slot → ℕ → Option ℕ → List ℕ
+filler_of slots index None = []
+filler_of slots index (Some earlier) = filler_text earlier (meeting_place slots earlier index)
+
+-- of a card whose position is filled already: the earlier card that fills one of its positions, and
+-- the first such position
+abbrev pub filled_hint : Layout → ℕ → List ℕ
+filled_hint layout index = if nat_lt index (length layout.slots)
+    then filler_of layout.slots index (first_filler layout.slots index) else []
+
 -- ---- a fault
 
 -- what follows the words of a card's fault, by the card's number from 0
@@ -150,4 +170,5 @@ unfoldable pub hint_of : Layout → ℕ → Line → SourceFault → List ℕ
 hint_of layout index line TakenLabel = taken_hint layout line
 hint_of layout index line UnknownName = unknown_hint layout index line
 hint_of layout index line Outside = outside_hint layout line
+hint_of layout index line Filled = filled_hint layout index
 hint_of layout index line other = []

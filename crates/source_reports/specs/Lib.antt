@@ -1,6 +1,7 @@
 pub mod Words
 pub mod Places
 pub mod Names
+pub mod Overlaps
 pub mod Hints
 pub mod Blocks
 pub mod Reports

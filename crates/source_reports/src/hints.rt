@@ -1,13 +1,15 @@
 //! What the layout of a source knows besides of a fault.
 
-ghost use Rattle.std.specs.Prelude.{◌≡◌, ◌++◌, ◌≤◌, take, IfSome, Some, OnOk};
+ghost use Rattle.std.specs.Prelude.{◌≡◌, ◌++◌, ◌≤◌, ◌<◌, take, IfSome, Some, OnOk};
 ghost use Rattle.autocoder_layout.specs.Bounds.{farthest};
 ghost use Rattle.autocoder_layout.specs.Source.{IsInRange};
 ghost use Rattle.autocoder_statements.specs.Ranges.{IsExpressionInRange, IsAdjustmentInRange};
-ghost use Rattle.source_reports.specs.Hints.{label_of, taken_hint, name_of_base, name_in, name_of_either, unknown_name, usable_by, near_text, known_text, unknown_hint, either_expression, outside_expression, number_text, reached_text, size_text, number_hint, outside_hint, hint_of};
+ghost use Rattle.source_reports.specs.Hints.{label_of, taken_hint, name_of_base, name_in, name_of_either, unknown_name, usable_by, near_text, known_text, unknown_hint, either_expression, outside_expression, number_text, reached_text, size_text, number_hint, outside_hint, filler_text, filled_hint, hint_of};
 
 use crate::names::{Known, first_card, near_name, push_name};
+use crate::overlaps::{first_filler, meeting_place};
 use crate::pieces::push_text;
+use autocoder::push_number;
 use autocoder_layout::{Layout, Line, Slot, SourceFault, base_number, expressions_of};
 use autocoder_statements::{Adjustment, Base, Expression, Name, Statement};
 use std::alloc::{AllocError, Global};
@@ -209,7 +211,7 @@ fn outside_expression(layout: &Layout, line: &Line) -> Option<Expression>
 }
 
 /// Adds a number with its sign, if it is negative.
-fn push_number(
+fn push_signed(
     alloc: Global,
     text: &mut Vec<u8>,
     is_negative: bool,
@@ -234,11 +236,11 @@ fn push_reached(
     ensures { OnOk result (text.new.items ≡ text.old.items ++ reached_text adjustment number) }
 {
     match adjustment {
-        Adjustment::Nothing => push_number(alloc, text, false, number),
-        Adjustment::Plus(more) => push_number(alloc, text, false, number + more),
+        Adjustment::Nothing => push_signed(alloc, text, false, number),
+        Adjustment::Plus(more) => push_signed(alloc, text, false, number + more),
         Adjustment::Minus(less) => match number.checked_sub(less) {
-            Some(number) => push_number(alloc, text, false, number),
-            None => push_number(alloc, text, true, less - number),
+            Some(number) => push_signed(alloc, text, false, number),
+            None => push_signed(alloc, text, true, less - number),
         },
     }
 }
@@ -291,6 +293,43 @@ fn push_outside(
     push_number_and_size(alloc, text, size, number, expression.adjustment)
 }
 
+/// Adds the card that fills a position first, and the position.
+fn push_filler(
+    alloc: Global,
+    text: &mut Vec<u8>,
+    earlier: usize,
+    position: u32,
+) -> Result<(), AllocError>
+    requires { earlier < usize.MAX }
+    ensures { OnOk result (text.new.items ≡ text.old.items ++ filler_text earlier position) }
+{
+    let card = earlier + 1;
+    let told = format!(in alloc; "; card {card} fills ")?;
+    push_text(text, told.as_str())?;
+    push_number(text, b'0', 5, position as u64)?;
+    push_text(text, " first")?;
+    Ok(())
+}
+
+/// Adds the earlier card that fills a position of a card first, and the position.
+fn push_filled(
+    alloc: Global,
+    text: &mut Vec<u8>,
+    layout: &Layout,
+    index: usize,
+) -> Result<(), AllocError>
+    ensures { OnOk result (text.new.items ≡ text.old.items ++ filled_hint layout.now index) }
+{
+    let slots = layout.slots();
+    if index >= slots.len() {
+        return Ok(());
+    }
+    match first_filler(slots, index) {
+        None => Ok(()),
+        Some(earlier) => { push_filler(alloc, text, earlier, meeting_place(slots, earlier, index)) }
+    }
+}
+
 /// Adds what follows the words of a card's fault, by the card's index.
 #[tactic(auto, unfolding(crate::specs::Hints::hint_of))]
 pub(crate) fn push_hint(
@@ -309,6 +348,7 @@ pub(crate) fn push_hint(
         SourceFault::TakenLabel => push_taken(alloc, text, layout, line),
         SourceFault::UnknownName => push_unknown(alloc, text, layout, index, line),
         SourceFault::Outside => push_outside(alloc, text, layout, line),
+        SourceFault::Filled => push_filled(alloc, text, layout, index),
         _ => Ok(()),
     }
 }

@@ -6,6 +6,7 @@ mod blocks;
 mod hints;
 mod laws;
 mod names;
+mod overlaps;
 mod pieces;
 mod places;
 mod reports;
