@@ -19,6 +19,6 @@ mod program;
 
 pub use faults::Faults;
 pub use laws::faultless_sources_can_be_loaded;
-pub use lines::{card_line, push_fillers, push_glyphs, push_line, push_number};
+pub use lines::{card_line, fills, push_fillers, push_glyphs, push_line, push_number};
 pub use listings::listing;
 pub use program::{Program, assemble};

@@ -47,7 +47,7 @@ pub fn push_glyphs(line: &mut Vec<u8>, codes: &[Code]) -> Result<(), AllocError>
 }
 
 /// Whether a card fills positions.
-fn fills(role: Role) -> bool
+pub fn fills(role: Role) -> bool
     ensures { result ≡ fills role }
 {
     match role {

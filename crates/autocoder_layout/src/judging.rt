@@ -29,7 +29,7 @@ fn expression_in(operand: &Option<Operand>) -> Option<Expression>
 
 /// The expressions of a card whose names may be defined by any card.
 #[tactic(auto, unfolding(crate::specs::Judging::expressions_of))]
-fn expressions_of(line: &Line) -> (Option<Expression>, Option<Expression>)
+pub fn expressions_of(line: &Line) -> (Option<Expression>, Option<Expression>)
     requires { IsInRange line.now }
     ensures expressions { result ≡ expressions_of line.now }
     ensures first { IfSome result.0 IsExpressionInRange }
@@ -93,7 +93,7 @@ fn fills_reserved(cells: &[Cell]) -> bool
 
 impl Layout {
     /// Whether an expression has a name that is not defined.
-    fn has_unknown_name(&self, expression: Option<Expression>) -> bool
+    pub fn has_unknown_name(&self, expression: Option<Expression>) -> bool
         requires { IfSome expression IsExpressionInRange }
         ensures { result ≡ has_unknown_name (positions_of self.now.source.size) self.now.slots
             expression }
@@ -105,7 +105,7 @@ impl Layout {
     }
 
     /// Whether an expression is not a position of the storage.
-    fn has_value_outside(&self, expression: Option<Expression>) -> bool
+    pub fn has_value_outside(&self, expression: Option<Expression>) -> bool
         requires { IfSome expression IsExpressionInRange }
         ensures { result ≡ has_value_outside (positions_of self.now.source.size) self.now.slots
             expression }

@@ -21,7 +21,7 @@ pub enum Value {
 
 impl Slot {
     /// Whether the card defines a name.
-    fn defines(&self, name: &Name) -> bool
+    pub fn defines(&self, name: &Name) -> bool
         ensures { result ≡ defines name.now self.now }
     {
         match self.defines {
@@ -62,7 +62,7 @@ fn within(size: u16, number: u32) -> Value
 
 /// The number of a base, if its name is defined.
 #[tactic(auto, using(crate::proofs::SlotBounds::address_within))]
-fn base_number(slots: &[Slot], base: Base) -> Option<u32>
+pub fn base_number(slots: &[Slot], base: Base) -> Option<u32>
     requires names { IsWithin farthest slots.now }
     requires range { IsBaseInRange base }
     ensures number { result ≡ base_number slots.now base }

@@ -122,7 +122,7 @@ fn is_open(earlier: &[Slot]) -> bool
 
 /// Whether the next card that has a place ends an instruction before it.
 #[tactic(auto, unfolding(crate::specs::Slots::is_closed))]
-pub(crate) fn is_closed(later: &[Slot]) -> bool
+pub fn is_closed(later: &[Slot]) -> bool
     ensures { result ≡ is_closed later.now }
 {
     let Some(slot) = first_with_place(later) else {

@@ -27,7 +27,8 @@ mod operations;
 mod reading;
 mod texts;
 
-pub use columns::{is_comment, operation_of};
+pub use characters::{Class, is_blank};
+pub use columns::{is_comment, label_field, operand_field, operation_field, operation_of};
 pub use constants::Constant;
 pub use expressions::{Address, Adjustment, Base, Expression, NUMBER_LIMIT};
 pub use faults::StatementFault;
@@ -36,7 +37,7 @@ pub use modifiers::Modifiers;
 pub use names::{LONGEST_NAME, Name};
 pub use operand_forms::{OperandForm, OperandForms};
 pub use operand_kinds::OperandKind;
-pub use operands::Operand;
+pub use operands::{Operand, read_operand};
 pub use operations::{Instruction, Mnemonic, Operation};
 pub use reading::{Statement, read};
 pub use texts::{LONGEST_TEXT, Text};

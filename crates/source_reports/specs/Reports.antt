@@ -1,0 +1,43 @@
+-- the report of a source: its listing with code, or its faults
+use Rattle.std.specs.Prelude.{ℕ, ◌≡◌, ⊤, List, [], ◌∷◌, ◌++◌, length}
+use Rattle.std.specs.List.{flat_map}
+use Rattle.cards.specs.declared.decks.Card.{Card}
+use Rattle.autocoder_layout.specs.Source.{has_end, source_of, source_read}
+use Rattle.autocoder_layout.specs.Layout.{Layout, laid_out}
+use Rattle.autocoder_layout.specs.CardFaults.{faults_of}
+use Rattle.autocoder_layout.specs.declared.card_faults.CardFault.{CardFault}
+use Rattle.autocoder.specs.Programs.{layout_for}
+use Rattle.autocoder.specs.declared.faults.Faults.{Faults}
+use Rattle.autocoder.specs.declared.faults.Faults.TheVariants.{Source, NoMemory}
+use Rattle.autocoder_listings.specs.Listing.{listing_with_code_of}
+use Rattle.source_reports.specs.Blocks.{block, sum_line}
+
+-- the faults of a source, in the order of its cards: those for which it has no program
+abbrev pub faults_for : List Card → List CardFault
+faults_for source = faults_of (has_end source) (layout_for source)
+
+-- a source with the slots and literals of its one layout
+abbrev pub laid_for : List Card → Layout
+laid_for source = laid_out (source_read source)
+
+-- the blocks of these faults of a source
+abbrev pub blocks_of : List Card → List CardFault → List ℕ
+blocks_of source faults = flat_map (block (laid_for source) source) faults
+
+-- the text of these faults of a source: a block for each, and the line of their sum
+unfoldable pub text_of_faults : List Card → List CardFault → List ℕ
+text_of_faults source faults = blocks_of source faults ++ sum_line faults (length source)
+
+-- the text for a source with these faults: of a source without a fault its listing with code
+abbrev pub text_by : List Card → List CardFault → List ℕ
+text_by source [] = listing_with_code_of source
+text_by source (fault ∷ faults) = text_of_faults source (fault ∷ faults)
+
+-- the text of the report of a source
+unfoldable pub text_for : List Card → List ℕ
+text_for source = text_by source (faults_for source)
+
+-- the report of a source tells these faults, which the assembler returns for it
+abbrev pub Tells : List Card → Faults → Type 0
+Tells source (Source faults) = text_for source ≡ text_of_faults source faults.items
+Tells source NoMemory = ⊤

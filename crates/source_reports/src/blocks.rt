@@ -1,0 +1,194 @@
+//! The block of a fault, and the line of their sum.
+
+ghost use Rattle.std.specs.Prelude.{◌≡◌, ◌++◌, ◌-◌, ◌∷◌, [], codes, replicate, slice_get, slice_index_or, option_copied, OnOk};
+ghost use Rattle.cards.specs.Files.{line_feed};
+ghost use Rattle.autocoder.specs.Listing.{blank, glyphs_of, line_text};
+ghost use Rattle.autocoder_layout.specs.Source.{AreInRange, IsInRange, silent};
+ghost use Rattle.source_reports.specs.Blocks.{told_of, margin, picture, shown_on, block, is_fault_of_card, cards_at_fault, plural, counted, sum_line};
+
+use crate::hints::push_hint;
+use crate::pieces::push_text;
+use crate::places::place_of;
+use crate::words::words_of;
+use autocoder::{push_fillers, push_glyphs, push_line};
+use autocoder_layout::{CardFault, Layout, Line, SourceFault};
+use autocoder_statements::Statement;
+use cards::{Card, LINE_FEED};
+use std::alloc::{AllocError, Global};
+
+/// What stands before a card that is shown.
+const MARGIN: &[u8] = b"     |";
+
+/// Adds a fault with its card, its number and its words.
+#[tactic(auto, unfolding(crate::specs::Blocks::told_of))]
+fn push_told(alloc: Global, text: &mut Vec<u8>, fault: CardFault) -> Result<(), AllocError>
+    ensures { OnOk result (text.new.items ≡ text.old.items ++ told_of fault) }
+{
+    let card = fault.card;
+    let number = fault.fault.number();
+    let words = words_of(fault.fault);
+    let told = format!(in alloc; "card {card} fault {number}: {words}")?;
+    push_text(text, told.as_str())
+}
+
+/// Adds a card.
+fn push_card(alloc: Global, text: &mut Vec<u8>, card: &Card) -> Result<(), AllocError>
+    ensures { OnOk result (text.new.items
+        ≡ text.old.items ++ line_text (margin ++ glyphs_of card.now.0)) }
+{
+    let mut line = Vec::from_slice(alloc, MARGIN)?;
+    push_glyphs(&mut line, &card.0)?;
+    push_line(text, &line)
+}
+
+/// Adds a caret under a column.
+fn push_caret(text: &mut Vec<u8>, column: usize) -> Result<(), AllocError>
+    ensures { OnOk result (text.new.items ≡ text.old.items
+        ++ (margin ++ replicate (column - 1) blank) ++ codes "^" ++ line_feed ∷ []) }
+{
+    text.extend_from_slice(MARGIN)?;
+    push_fillers(text, b' ', column.saturating_sub(1))?;
+    text.push(b'^')?;
+    text.push(LINE_FEED)?;
+    Ok(())
+}
+
+/// Adds a card, and below it a caret under a column.
+#[tactic(auto, unfolding(crate::specs::Blocks::picture))]
+fn push_picture(
+    alloc: Global,
+    text: &mut Vec<u8>,
+    card: &Card,
+    column: usize,
+) -> Result<(), AllocError>
+    ensures { OnOk result (text.new.items ≡ text.old.items ++ picture card.now column) }
+{
+    push_card(alloc, text, card)?;
+    push_caret(text, column)
+}
+
+/// What a card says, or a comment for no card.
+fn line_at(lines: &[Line], index: usize) -> Line
+    requires { AreInRange lines.now }
+    ensures line { result ≡ slice_index_or lines.now index silent }
+    ensures range { IsInRange result }
+{
+    if index < lines.len() {
+        lines[index]
+    } else {
+        Ok(Statement::Comment)
+    }
+}
+
+/// The card of this index, if there is one.
+fn card_at(source: &[Card], index: usize) -> Option<&Card>
+    ensures { option_copied result ≡ slice_get source.now index }
+{
+    source.get(index)
+}
+
+/// Adds the card of a fault with its caret, if there is a card.
+fn push_shown(
+    alloc: Global,
+    text: &mut Vec<u8>,
+    layout: &Layout,
+    line: &Line,
+    fault: SourceFault,
+    card: Option<&Card>,
+) -> Result<(), AllocError>
+    requires { IsInRange line.now }
+    ensures { OnOk result (text.new.items ≡ text.old.items
+        ++ shown_on layout.now line.now fault (option_copied card.entry)) }
+{
+    let Some(card) = card else {
+        return Ok(());
+    };
+    let Some(column) = place_of(layout, card, line, fault) else {
+        return Ok(());
+    };
+    push_picture(alloc, text, card, column)
+}
+
+/// Adds the block of a fault: what it is, its card, and a caret under its place.
+#[tactic(auto, unfolding(crate::specs::Blocks::block))]
+pub(crate) fn push_block(
+    alloc: Global,
+    text: &mut Vec<u8>,
+    layout: &Layout,
+    source: &[Card],
+    fault: CardFault,
+) -> Result<(), AllocError>
+    ensures { OnOk result (text.new.items ≡ text.old.items ++ block layout.now source.now fault) }
+{
+    let index = (fault.card as usize).saturating_sub(1);
+    let line = line_at(layout.source().lines(), index);
+    push_told(alloc, text, fault)?;
+    push_hint(alloc, text, layout, index, &line, fault.fault)?;
+    text.push(LINE_FEED)?;
+    push_shown(
+        alloc,
+        text,
+        layout,
+        &line,
+        fault.fault,
+        card_at(source, index),
+    )?;
+    Ok(())
+}
+
+/// Whether a fault is one of a card.
+fn is_fault_of_card(fault: SourceFault) -> bool
+    ensures { result ≡ is_fault_of_card fault }
+{
+    !matches!(fault, SourceFault::NoEnd)
+}
+
+/// How many faults are of cards.
+fn cards_at_fault(faults: &[CardFault]) -> usize
+    ensures { result ≡ cards_at_fault faults.now }
+{
+    faults
+        .iter()
+        .filter(|fault| is_fault_of_card(fault.fault))
+        .count()
+}
+
+/// What follows a word for so many things.
+fn plural(count: usize) -> &'static str
+    ensures { result.now ≡ plural count }
+{
+    if count == 1 { "" } else { "s" }
+}
+
+/// Adds a number of things.
+fn push_counted(
+    alloc: Global,
+    text: &mut Vec<u8>,
+    count: usize,
+    word: &str,
+) -> Result<(), AllocError>
+    ensures { OnOk result (text.new.items ≡ text.old.items ++ counted count word.now) }
+{
+    let plural = plural(count);
+    let told = format!(in alloc; "{count} {word}{plural}")?;
+    push_text(text, told.as_str())
+}
+
+/// Adds the line of the sum: how many faults in how many of all cards of a source.
+#[tactic(auto, unfolding(crate::specs::Blocks::sum_line))]
+pub(crate) fn push_sum(
+    alloc: Global,
+    text: &mut Vec<u8>,
+    faults: &[CardFault],
+    cards: usize,
+) -> Result<(), AllocError>
+    ensures { OnOk result (text.new.items ≡ text.old.items ++ sum_line faults.now cards) }
+{
+    push_counted(alloc, text, faults.len(), "fault")?;
+    let at_fault = cards_at_fault(faults);
+    let told = format!(in alloc; " in {at_fault} of ")?;
+    push_text(text, told.as_str())?;
+    push_counted(alloc, text, cards, "card")?;
+    text.push(LINE_FEED)?;
+    Ok(())
+}

@@ -1,0 +1,17 @@
+//! The report of an Autocoder source for its author: the listing with code, or each fault in words,
+//! with its card and a caret under its place.
+#![tactic(auto)]
+
+mod blocks;
+mod hints;
+mod laws;
+mod names;
+mod overlaps;
+mod pieces;
+mod places;
+mod reports;
+mod words;
+
+pub use laws::{carets_stand_in_the_field_at_fault, reports_follow_the_assembler};
+pub use reports::Report;
+pub use words::words_of;
