@@ -14,6 +14,7 @@ use std::io::Write;
 const MOST_FAULTS: usize = 100;
 
 /// What is to be punched.
+#[derive(Clone, Copy)]
 pub(crate) struct Punching<'a> {
     /// The path of the text.
     pub text: &'a str,
