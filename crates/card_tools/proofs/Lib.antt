@@ -1,0 +1,4 @@
+pub mod CardMarks
+pub mod CardNumbers
+pub mod CardsShown
+pub mod NumberLaw

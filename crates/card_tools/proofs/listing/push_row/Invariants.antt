@@ -1,0 +1,6 @@
+use Rattle.std.proofs.Common.{◌≡◌, ◌++◌, map, take}
+use Rattle.card_tools.specs.Listing.{mark_of}
+use Rattle.card_tools.proofs.listing.push_row.Given as goal
+
+abbrev pub invariant-loop-code : goal.invariant-loop-code
+invariant-loop-code l = l.out.items ≡ l.initial.out.items ++ map (mark_of l.bit) (take l.code-index l.code-items)

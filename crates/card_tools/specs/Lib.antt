@@ -1,0 +1,5 @@
+pub mod Checking
+pub mod Comparing
+pub mod Lines
+pub mod Listing
+pub mod Numbering

@@ -1,0 +1,112 @@
+//! The cards of a deck whose numbers do not rise.
+
+ghost use Rattle.std.specs.Prelude.{◌≡◌, ◌≤◌, ◌<◌, ◌++◌, ◌∷◌, ◌^◌, IfOk, OnOk, length, decimal, is_some, unwrap_or};
+ghost use Rattle.card_tools.specs.Checking.{is_no_rise, last_of, no_rise_line, number_of, number_on, told, told_of};
+ghost use Rattle.card_tools.specs.Numbering.{is_digit};
+
+use crate::lines::{push_decimal, push_glyphs};
+use crate::numbering::number_columns;
+use bcd::Code;
+use cards::Card;
+use std::alloc::{AllocError, Global};
+
+/// Returns what is told of the cards whose numbers do not rise: `card 7: 00000060 after 00000070`,
+/// with the columns 73 to 80 of the card and of the last one before it that has a number. The number
+/// of a card is that with which these columns end; a card on which they end with no digit has none,
+/// and is passed over. Fails only if there is no memory.
+pub fn check_sequence(alloc: Global, cards: &[Card]) -> Result<Vec<u8>, AllocError>
+    ensures { IfOk result (λ text. text.items ≡ told cards.now) }
+{
+    let mut text = Vec::new(alloc);
+    let mut before: &[Code] = &[];
+    for (index, card) in cards.iter().enumerate() {
+        let columns = number_columns(card);
+        push_told(&mut text, before, index + 1, columns)?;
+        before = last_of(before, columns);
+    }
+    Ok(text)
+}
+
+/// The number that ends with this character, where this is the one that ends before it.
+fn number_on(number: Option<u64>, code: Code) -> Option<u64>
+    requires { unwrap_or number 0 < 10 ^ 8 }
+    ensures { result ≡ number_on number code }
+{
+    let digit = code.number();
+    if digit == 0 || digit > 10 {
+        return None;
+    }
+    Some(10 * number.unwrap_or(0) + u64::from(digit % 10))
+}
+
+/// The number with which columns end.
+fn number_of(columns: &[Code]) -> Option<u64>
+    requires { length columns.now ≤ 8 }
+    ensures { result ≡ number_of columns.now }
+{
+    let mut number = None;
+    for code in columns {
+        number = number_on(number, *code);
+    }
+    number
+}
+
+/// Whether there are two numbers, and the second is not higher.
+fn is_no_rise(before: Option<u64>, number: Option<u64>) -> bool
+    ensures { result ≡ is_no_rise before number }
+{
+    match (before, number) {
+        (Some(before), Some(number)) => number <= before,
+        _ => false,
+    }
+}
+
+/// Adds what is told of a card.
+fn push_told(
+    text: &mut Vec<u8>,
+    before: &[Code],
+    place: usize,
+    columns: &[Code],
+) -> Result<(), AllocError>
+    requires before { length before.now ≤ 8 }
+    requires columns { length columns.now ≤ 8 }
+    ensures { OnOk result (text.new.items
+        ≡ text.old.items ++ told_of before.now place columns.now) }
+{
+    if is_no_rise(number_of(before), number_of(columns)) {
+        return push_line(text, before, place, columns);
+    }
+    Ok(())
+}
+
+/// Adds the line of a card whose number does not rise.
+fn push_line(
+    text: &mut Vec<u8>,
+    before: &[Code],
+    place: usize,
+    columns: &[Code],
+) -> Result<(), AllocError>
+    ensures { OnOk result (text.new.items
+        ≡ text.old.items ++ no_rise_line before.now place columns.now) }
+{
+    text.extend_from_slice(b"card ")?;
+    push_decimal(text, place)?;
+    text.extend_from_slice(b": ")?;
+    push_glyphs(text, columns)?;
+    text.extend_from_slice(b" after ")?;
+    push_glyphs(text, before)?;
+    text.push(b'\n')?;
+    Ok(())
+}
+
+/// The columns with which the next card is compared.
+fn last_of<'a>(before: &'a [Code], columns: &'a [Code]) -> &'a [Code]
+    requires { length columns.now ≤ 8 }
+    ensures { result.now ≡ last_of before.now columns.now }
+{
+    if number_of(columns).is_some() {
+        columns
+    } else {
+        before
+    }
+}

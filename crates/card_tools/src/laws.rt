@@ -1,0 +1,14 @@
+//! The law of numbered decks.
+
+ghost use Rattle.std.specs.Prelude.{◌≡◌, ◌≤◌, [], ℕ, List};
+ghost use Rattle.cards.specs.Decks.{IsDeck};
+ghost use Rattle.cards.specs.declared.Card.{Card};
+ghost use Rattle.card_tools.specs.Checking.{told};
+ghost use Rattle.card_tools.specs.Numbering.{IsNumbered};
+
+/// The law of numbered decks: of a deck that was numbered by a step of at least 1 the check tells
+/// nothing.
+pub fn numbered_is_in_order()
+    ensures { (word : List ℕ) (first step : ℕ) (deck new : List Card) → IsDeck deck → 1 ≤ step →
+        IsNumbered word first step deck new → told new ≡ [] }
+{}

@@ -1,0 +1,24 @@
+//! What is printed of cards and done to them: a deck listed, two decks compared, and the numbers in
+//! the columns 73 to 80 of a deck's cards.
+//!
+//! The crate uses `cards`, and `card_forms` for the columns of a card that are filled. Its contract
+//! for the layers above: each printed text is exactly that of a definition (`specs/Listing.antt`,
+//! `specs/Comparing.antt`, `specs/Checking.antt`), and the deck that is numbered is that of
+//! `specs/Numbering.antt`, with the columns 1 to 72 of every card as they were.
+#![tactic(auto)]
+
+mod checking;
+mod comparing;
+mod laws;
+mod lines;
+mod listing;
+mod numbering;
+
+pub use checking::check_sequence;
+pub use comparing::{Comparison, compare};
+pub use laws::numbered_is_in_order;
+pub use listing::{ListOptions, list};
+pub use numbering::{SequenceError, SequenceFault, sequence};
+
+#[cfg(test)]
+mod tests;
