@@ -21,7 +21,10 @@ fn tell_sequence_fault<E: Write>(
         SequenceError::Held(glyphs) => {
             write!(errors, "{path}: card {card}: columns 73 to 80 hold \"")?;
             errors.write_all(&glyphs)?;
-            writeln!(errors, "\"; they are blank, or IDENT and digits, where a card is numbered")?;
+            writeln!(
+                errors,
+                "\"; they are blank, or IDENT and digits, where a card is numbered"
+            )?;
         }
         SequenceError::TooGreat => writeln!(
             errors,

@@ -57,7 +57,10 @@ fn tell_text_fault<E: Write>(errors: &mut E, fault: TextFault) -> io::Result<()>
     let line = fault.line;
     let column = fault.column;
     if let TextError::TooManyCards = fault.error {
-        return writeln!(errors, "line {line}: more than 2,000 cards; make two decks of it");
+        return writeln!(
+            errors,
+            "line {line}: more than 2,000 cards; make two decks of it"
+        );
     }
     write!(errors, "line {line} column {column}: ")?;
     match fault.error {
