@@ -9,7 +9,7 @@ use std::fmt;
 use std::fmt::{Display, Formatter};
 
 /// A row of the program's words. The values are any text; the layer above judges them.
-#[derive(Clone, Copy, Debug, PartialEq, Eq)]
+#[derive(Clone, Copy)]
 pub enum Words<'a> {
     /// No words: the deck is on standard input, and runs with the usual size and switches.
     Standard,
@@ -71,7 +71,7 @@ pub enum Words<'a> {
 }
 
 /// Why words are not accepted. Nothing was done. Its `Display` is a complaint to the caller.
-#[derive(Clone, Copy, Debug, PartialEq, Eq)]
+#[derive(Clone, Copy, Debug)]
 pub enum WordsFault<'a> {
     /// There was no memory to read the words.
     Memory,

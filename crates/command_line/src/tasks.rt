@@ -22,7 +22,7 @@ use texts::{number_or_zero, size_of, switches_of};
 use units::Switches;
 
 /// Where a deck's text is read from.
-#[derive(Clone, Copy, Debug, PartialEq, Eq)]
+#[derive(Clone, Copy)]
 pub enum Input<'a> {
     /// The standard input.
     Standard,
@@ -31,7 +31,7 @@ pub enum Input<'a> {
 }
 
 /// What the program is to do.
-#[derive(Clone, Copy, Debug, PartialEq, Eq)]
+#[derive(Clone, Copy)]
 pub enum Task<'a> {
     /// Print the help of a row, or the whole help.
     Help(Option<RowName>),
@@ -88,7 +88,7 @@ pub enum Task<'a> {
 }
 
 /// Why words do not ask for a task. Its `Display` is a complaint to the caller.
-#[derive(Clone, Copy, Debug, PartialEq, Eq)]
+#[derive(Clone, Copy, Debug)]
 pub enum Misuse<'a> {
     /// They are not the words of a row, or there was no memory to read them.
     Words(WordsFault<'a>),
