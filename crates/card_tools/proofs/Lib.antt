@@ -2,3 +2,4 @@ pub mod CardMarks
 pub mod CardNumbers
 pub mod CardsShown
 pub mod NumberLaw
+pub mod SameDecks

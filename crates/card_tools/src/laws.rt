@@ -1,9 +1,10 @@
-//! The law of numbered decks.
+//! The laws of numbered decks and of comparisons.
 
-ghost use Rattle.std.specs.Prelude.{◌≡◌, ◌≤◌, [], ℕ, List};
+ghost use Rattle.std.specs.Prelude.{◌≡◌, ◌≤◌, ◌↔◌, [], ℕ, List};
 ghost use Rattle.cards.specs.Decks.{IsDeck};
 ghost use Rattle.cards.specs.declared.Card.{Card};
 ghost use Rattle.card_tools.specs.Checking.{told};
+ghost use Rattle.card_tools.specs.Comparing.{differing};
 ghost use Rattle.card_tools.specs.Numbering.{IsNumbered};
 
 /// The law of numbered decks: of a deck that was numbered by a step of at least 1 the check tells
@@ -11,4 +12,10 @@ ghost use Rattle.card_tools.specs.Numbering.{IsNumbered};
 pub fn numbered_is_in_order()
     ensures { (word : List ℕ) (first step : ℕ) (deck new : List Card) → IsDeck deck → 1 ≤ step →
         IsNumbered word first step deck new → told new ≡ [] }
+{}
+
+/// The law of comparisons: no card differs exactly where the two decks are the same.
+pub fn same_decks_do_not_differ()
+    ensures { (first second : List Card) → IsDeck first → IsDeck second →
+        (differing first second ≡ 0) ↔ (first ≡ second) }
 {}

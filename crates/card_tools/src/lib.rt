@@ -16,7 +16,7 @@ mod numbering;
 
 pub use checking::check_sequence;
 pub use comparing::{Comparison, compare};
-pub use laws::numbered_is_in_order;
+pub use laws::{numbered_is_in_order, same_decks_do_not_differ};
 pub use listing::{ListOptions, list};
 pub use numbering::{SequenceError, SequenceFault, sequence};
 
