@@ -12,12 +12,14 @@ mod comparing;
 mod laws;
 mod lines;
 mod listing;
+mod manifests;
 mod numbering;
 
 pub use checking::check_sequence;
 pub use comparing::{Comparison, compare};
 pub use laws::{numbered_is_in_order, same_decks_do_not_differ};
 pub use listing::{ListOptions, list};
+pub use manifests::{ManifestEntry, manifest_line, read_manifest_line};
 pub use numbering::{SequenceError, SequenceFault, sequence};
 
 #[cfg(test)]
