@@ -17,8 +17,8 @@ pub field_found : (bytes : List ℕ) (place : ℕ) (rest : List ℕ) → positio
     → drop place bytes ≡ 32 ∷ 32 ∷ rest → BeginsWithField bytes (take place bytes) rest
 field_found bytes place rest at behind = (
   λ k d below. let within : k < place = omega (arith, below, length-take place bytes) in
-  let other = (position-Some is_blank bytes place d at).2 k within in
-  rw (get_or-take place bytes k d within) (grind (arith, other)),
+      let other = (position-Some is_blank bytes place d at).2 k within in
+      rw (get_or-take place bytes k d within) (grind (arith, other)),
   sym (take-append-drop place bytes) ∙ ap (λ behind. take place bytes ++ behind) behind,
 )
 
@@ -35,8 +35,8 @@ field_place bytes field rest begins =
     let first : position_or_len is_blank bytes ≡ length field =
     position_or_len_is is_blank bytes (length field) 0 (omega (arith, within))
     (λ k below.
-      let same : get_or bytes k 0 ≡ get_or field k 0 = ap (λ all. get_or all k 0) begins.1 ∙ get_or_append_left field (32 ∷ 32 ∷ rest) 0 k below in
-      rw same (unequal (get_or field k 0) 32 (begins.0 k 0 below)))
+    let same : get_or bytes k 0 ≡ get_or field k 0 = ap (λ all. get_or all k 0) begins.1 ∙ get_or_append_left field (32 ∷ 32 ∷ rest) 0 k below in
+    rw same (unequal (get_or field k 0) 32 (begins.0 k 0 below)))
     (λ _. rw blank refl) in
     rw (first, lt-ltb (length field) (length bytes) within) refl
 
@@ -127,3 +127,11 @@ no_number line field rest second behind digest cards name begins follows other e
     let number = field_once second cards behind name follows.0 (number_plain cards entry.cards_are) (sym follows.1 ∙ same.behind) in
     let both : true ≡ false = sym entry.cards_are ∙ ap may_be_number (sym number.field) ∙ other in
     absurd (cc)
+
+-- a line has the fields of one entry
+pub one_entry : (line digest cards name other count label : List ℕ) → IsEntry line digest cards name → IsEntry line other count label
+    → (digest ≡ other) × (cards ≡ count) × (name ≡ label)
+one_entry line digest cards name other count label one two =
+    let same = digest_read line digest (cards ++ 32 ∷ 32 ∷ name) other count label (digest_plain digest one.digest_is, one.fields_are) two in
+    let number = field_once cards count name label (number_plain cards one.cards_are) (number_plain count two.cards_are) same.behind in
+    (same.field, number.field, number.behind)
