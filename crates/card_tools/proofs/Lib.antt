@@ -1,4 +1,6 @@
 pub mod CardMarks
 pub mod CardNumbers
 pub mod CardsShown
+pub mod ManifestFields
 pub mod NumberLaw
+pub mod SameDecks

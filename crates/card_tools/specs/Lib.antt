@@ -2,4 +2,5 @@ pub mod Checking
 pub mod Comparing
 pub mod Lines
 pub mod Listing
+pub mod Manifests
 pub mod Numbering

@@ -1,9 +1,11 @@
-//! The law of numbered decks.
+//! The laws of numbered decks, of comparisons and of manifests.
 
-ghost use Rattle.std.specs.Prelude.{◌≡◌, ◌≤◌, [], ℕ, List};
+ghost use Rattle.std.specs.Prelude.{◌≡◌, ◌≤◌, ◌↔◌, [], ℕ, List};
 ghost use Rattle.cards.specs.Decks.{IsDeck};
 ghost use Rattle.cards.specs.declared.Card.{Card};
 ghost use Rattle.card_tools.specs.Checking.{told};
+ghost use Rattle.card_tools.specs.Comparing.{differing};
+ghost use Rattle.card_tools.specs.Manifests.{IsEntry};
 ghost use Rattle.card_tools.specs.Numbering.{IsNumbered};
 
 /// The law of numbered decks: of a deck that was numbered by a step of at least 1 the check tells
@@ -11,4 +13,17 @@ ghost use Rattle.card_tools.specs.Numbering.{IsNumbered};
 pub fn numbered_is_in_order()
     ensures { (word : List ℕ) (first step : ℕ) (deck new : List Card) → IsDeck deck → 1 ≤ step →
         IsNumbered word first step deck new → told new ≡ [] }
+{}
+
+/// The law of comparisons: no card differs exactly where the two decks are the same.
+pub fn same_decks_do_not_differ()
+    ensures { (first second : List Card) → IsDeck first → IsDeck second →
+        (differing first second ≡ 0) ↔ (first ≡ second) }
+{}
+
+/// The law of manifests: a line has the fields of one entry at most.
+pub fn manifest_lines_have_one_reading()
+    ensures { (line digest cards name other count label : List ℕ) →
+        IsEntry line digest cards name → IsEntry line other count label →
+        (digest ≡ other) × (cards ≡ count) × (name ≡ label) }
 {}

@@ -1,6 +1,9 @@
 //! What is printed of two small decks, and a deck that is numbered.
 
-use crate::{ListOptions, SequenceError, check_sequence, compare, list, sequence};
+use crate::{
+    ListOptions, SequenceError, check_sequence, compare, list, manifest_line, read_manifest_line,
+    sequence,
+};
 use card_forms::{Form, read};
 use std::test::Fail;
 
@@ -77,5 +80,22 @@ fn a_deck_is_numbered(rt: HostRuntime) -> Result<(), Fail> {
         .err()
         .ok_or("numbered")?;
     assert_eq!(rt; fault.error, SequenceError::Held(*b"X0000090"));
+    Ok(())
+}
+
+/// The line of a manifest for a deck of two cards, `AB` and `1`; the digest is that of sha256sum.
+const LINE: &[u8] =
+    b"161ccd11a063b48713900e9d266db12e9b8b727f8ab1c0223a3950bdc216cf30  2  two cards";
+
+#[test]
+fn a_line_of_a_manifest_is_read(rt: HostRuntime) -> Result<(), Fail> {
+    let deck = read(rt.alloc(), Form::Simh, b"AB\n1\n")?;
+    let line = manifest_line(rt.alloc(), &deck, b"two cards")?;
+    assert_eq!(rt; line.strip_suffix(b"\n"), Some(LINE));
+    let entry = read_manifest_line(LINE).ok_or("no entry")?;
+    assert_eq!(rt;
+        (entry.cards, entry.name),
+        (b"2".as_slice(), b"two cards".as_slice())
+    );
     Ok(())
 }
