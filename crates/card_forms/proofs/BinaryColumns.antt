@@ -1,12 +1,12 @@
 -- the columns of column binary, and the punch file for which they stand
-use Rattle.std.proofs.Common.{◌≡◌, ◌≢◌, ℕ, zero, suc, ◌+◌, ◌*◌, ◌/◌, ◌%◌, ◌-◌, ◌<◌, ◌≤◌, ◌==◌, ◌&&◌, Bool, true, false, not, List, [], ◌∷◌, ◌++◌, length, refl, ap, sym, ◌∙◌, arith, append_assoc, eqb, ltb}
+use Rattle.std.proofs.Common.{◌≡◌, ◌≢◌, ℕ, ◌+◌, ◌*◌, ◌/◌, ◌%◌, ◌<◌, ◌==◌, ◌&&◌, true, false, not, List, [], ◌∷◌, ◌++◌, length, refl, ap, sym, ◌∙◌, arith, append_assoc, ltb}
 use Rattle.std.specs.List.{flat_map, All}
-use Rattle.std.proofs.lemmas.Bool.{eqb-true, lt-ltb, ltb-true}
+use Rattle.std.proofs.lemmas.Bool.{lt-ltb, ltb-true}
 use Rattle.std.proofs.lemmas.List.Elements.{All-head, All-tail}
 use Rattle.bcd.proofs.Tables.{at_each}
 use Rattle.bcd.specs.Table.{punches_of}
 use Rattle.cards.proofs.FormColumns.{hexadecimal_differ, twelve_rows}
-use Rattle.cards.specs.Decks.{IsCard, IsDeck, AreCharacters}
+use Rattle.cards.specs.Decks.{IsCard, AreCharacters}
 use Rattle.cards.specs.declared.Card.{Card}
 use Rattle.cards.specs.Files.{column_of, digits_of, hexadecimal, punch_file_of}
 use Rattle.card_forms.specs.ColumnBinary.{binary_of, column_bytes, column_digits, digits_behind, punch_file_for}

@@ -1,19 +1,17 @@
 -- what is written in a form is read as the deck, and what is at fault is no deck's file
-use Rattle.std.proofs.Common.{◌≡◌, ℕ, ◌⊎◌, inl, inr, List, refl, ap, sym, ◌∙◌}
+use Rattle.std.proofs.Common.{◌≡◌, ℕ, List, refl, ap, sym, ◌∙◌}
 use Rattle.cards.proofs.ReadingLaw.{deck_once, no_deck}
 use Rattle.cards.specs.Decks.{IsDeck}
-use Rattle.cards.specs.Faults as cards
-use Rattle.cards.specs.Files.{file_of, punch_file_of, text_of}
+use Rattle.cards.specs.Files.{punch_file_of, text_of}
 use Rattle.cards.specs.declared.Card.{Card}
 use Rattle.cards.specs.declared.CardFault.{CardFault}
 use Rattle.card_forms.proofs.BinaryColumns.{deck_told}
 use Rattle.card_forms.proofs.SimhLines.{text_read}
-use Rattle.card_forms.specs.Faults.{IsFirstFault, IsPunchFault, IsTextFault, fault_as, out_of_memory}
+use Rattle.card_forms.specs.Faults.{IsFirstFault, IsPunchFault, IsTextFault}
 use Rattle.card_forms.specs.ColumnBinary.{punch_file_for}
 use Rattle.card_forms.specs.SimhTexts.{deck_text_of}
 use Rattle.card_forms.specs.Forms as forms
 use Rattle.card_forms.specs.Forms.{IsFileOf}
-use Rattle.card_forms.specs.declared.faults.FormError.{FormError}
 use Rattle.card_forms.specs.declared.faults.FormFault.{FormFault}
 use Rattle.card_forms.specs.declared.forms.Form.{Form}
 use Rattle.card_forms.specs.declared.forms.Form.TheVariants.{Text, Punch, Simh, Binary}

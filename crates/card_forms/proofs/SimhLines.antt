@@ -1,9 +1,9 @@
 -- the lines of a text of SimH, and the deck text for which they stand
-use Rattle.std.proofs.Common.{◌≡◌, ◌≢◌, ℕ, zero, suc, ◌+◌, ◌-◌, ◌<◌, ◌≤◌, ◌==◌, Bool, true, false, ◌&&◌, not, List, [], ◌∷◌, ◌++◌, length, map, take, drop, replicate, get_or, Option, Some, None, position, refl, ap, sym, ◌∙◌, arith, append_assoc, append-nil, eqb}
+use Rattle.std.proofs.Common.{◌≡◌, ◌≢◌, ℕ, zero, suc, ◌+◌, ◌-◌, ◌<◌, ◌≤◌, ◌==◌, Bool, true, false, ◌&&◌, not, List, [], ◌∷◌, ◌++◌, length, map, take, drop, replicate, Some, None, position, refl, ap, sym, ◌∙◌, arith, append_assoc, eqb}
 use Rattle.std.specs.List.{flat_map, All, slice_split}
 use Rattle.std.specs.Str.Lines.{lines, lines_of_parts, strip_carriage_return}
-use Rattle.std.proofs.lemmas.Bool.{eqb-true, lt-ltb}
-use Rattle.std.proofs.lemmas.List.{length-map, map-append, take_all, nil_from_length, get_or_default}
+use Rattle.std.proofs.lemmas.Bool.{eqb-true}
+use Rattle.std.proofs.lemmas.List.{length-map, map-append, take_all}
 use Rattle.std.proofs.lemmas.List.Elements.{All-head, All-tail, All-map}
 use Rattle.std.proofs.lemmas.List.Quantifiers.{position-Some}
 use Rattle.std.proofs.lemmas.List.Sums.{position_or_len_is, fails_before_first}
@@ -15,7 +15,7 @@ use Rattle.cards.specs.Decks.{IsCard, IsDeck, AreCharacters}
 use Rattle.cards.specs.declared.Card.{Card}
 use Rattle.cards.specs.Files.{text_of, column_of}
 use Rattle.card_forms.specs.Signs.{filled, simh_glyph, simh_sign}
-use Rattle.card_forms.specs.SimhTexts.{deck_line_of, deck_text_of, filled_up, simh_line_of, simh_text_of}
+use Rattle.card_forms.specs.SimhTexts.{deck_line_of, deck_text_of, simh_text_of}
 use Rattle.card_forms.proofs.FilledColumns.{filled_back, filled_characters}
 
 -- the number is a character's

@@ -14,8 +14,8 @@ column_bytes code = (punches_of code / 64 % 64) ∷ (punches_of code % 64) ∷ [
 abbrev pub binary_of : List Card → List ℕ
 binary_of deck = flat_map (λ card. flat_map column_bytes card.0) deck
 
--- what stands in a punch file for the column of two bytes: the three digits of its punches, or three
--- question marks if one of the two high bits of a byte is set
+-- what stands in a punch file for the column of two bytes: the three digits of its punches, or
+-- three question marks if one of the two high bits of a byte is set
 unfoldable pub column_digits : ℕ → ℕ → List ℕ
 column_digits upper lower = if nat_lt upper 64 && nat_lt lower 64
     then digits_of (64 * upper + lower) else codes "???"

@@ -18,8 +18,8 @@ simh_text_of deck = flat_map simh_line_of deck
 abbrev pub filled_up : List ℕ → List ℕ
 filled_up glyphs = glyphs ++ replicate (80 - length glyphs) 32
 
--- the line of a deck text for which a line stands: its signs as glyphs, filled up with blanks, and a
--- line feed
+-- the line of a deck text for which a line stands: its signs as glyphs, filled up with blanks, and
+-- a line feed
 abbrev pub deck_line_of : List ℕ → List ℕ
 deck_line_of line = filled_up (map simh_glyph line) ++ 10 ∷ []
 

@@ -3,6 +3,8 @@
 ghost use Rattle.std.specs.Prelude.{◌≡◌, ℕ, List};
 ghost use Rattle.cards.specs.Decks.{IsDeck};
 ghost use Rattle.cards.specs.declared.Card.{Card};
+ghost use Rattle.cards.specs.Files.{punch_file_of};
+ghost use Rattle.card_forms.specs.ColumnBinary.{binary_of, punch_file_for};
 ghost use Rattle.card_forms.specs.Faults.{IsFirstFault};
 ghost use Rattle.card_forms.specs.Forms.{IsFileOf, file_of};
 ghost use Rattle.card_forms.specs.declared.forms.Form.{Form};
@@ -10,7 +12,8 @@ ghost use Rattle.card_forms.specs.declared.faults.FormFault.{FormFault};
 
 /// The law of the forms: what is written of a deck in a form is a file of that form of that deck,
 /// and no file of a form is one of two decks, or of a deck and at fault. Hence a deck that is
-/// written in a form and read, and written in another and read, is the same deck.
+/// written in a form and read, and written in another and read, is the same deck. The column binary
+/// of a deck stands for the deck's punch file.
 pub fn forms_agree()
     ensures written { (form : Form) (deck : List Card) → IsDeck deck →
         IsFileOf form (file_of form deck) deck }
@@ -18,4 +21,6 @@ pub fn forms_agree()
         IsDeck two → IsFileOf form bytes one → IsFileOf form bytes two → one ≡ two }
     ensures not_both { (form : Form) (bytes : List ℕ) (deck : List Card) (fault : FormFault) →
         IsFirstFault form bytes fault → IsDeck deck → IsFileOf form bytes deck → ⊥ }
+    ensures binary { (deck : List Card) → IsDeck deck →
+        punch_file_for (binary_of deck) ≡ punch_file_of deck }
 {}

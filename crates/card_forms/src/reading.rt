@@ -35,7 +35,8 @@ pub fn read(alloc: Global, form: Form, bytes: &[u8]) -> Result<Deck, FormFault>
 ///
 /// The error is the first fault in reading order, or `OUT_OF_MEMORY`.
 pub fn read_either(alloc: Global, bytes: &[u8]) -> Result<Deck, FormFault>
-    ensures deck { IfOk result (λ deck. IsDeck deck × IsFileOf (form_told bytes.now) bytes.now deck) }
+    ensures deck { IfOk result (λ deck. IsDeck deck
+        × IsFileOf (form_told bytes.now) bytes.now deck) }
     ensures only { (deck : List Card) → IsDeck deck →
         IsFileOf (form_told bytes.now) bytes.now deck → IsRead result deck }
     ensures fault { IfErr result (λ fault. IsFault (form_told bytes.now) bytes.now fault) }

@@ -1,5 +1,5 @@
 -- cards that are numbered, one after the other
-use Rattle.std.proofs.Common.{◌≡◌, ◌≢◌, ℕ, zero, suc, ◌+◌, ◌-◌, ◌<◌, ◌≤◌, ◌⊎◌, inl, inr, Bool, true, false, Option, Some, None, Result, Ok, Err, IfOk, List, [], ◌∷◌, ◌++◌, length, take, drop, get_or, slice_index_or, refl, ap, sym, ◌∙◌, arith, leb, append_assoc, append-nil, length-take, length-append}
+use Rattle.std.proofs.Common.{◌≡◌, ◌≢◌, ℕ, zero, suc, ◌+◌, ◌<◌, ◌≤◌, inl, inr, true, false, Some, None, Result, Ok, Err, IfOk, List, [], ◌∷◌, ◌++◌, length, take, get_or, slice_index_or, refl, ap, sym, ◌∙◌, arith, leb, append_assoc, length-take}
 use Rattle.std.specs.List.{All}
 use Rattle.std.proofs.lemmas.List.{drop_at, take_at, get_or-map, length-map}
 use Rattle.std.proofs.lemmas.List.Elements.{All-head, All-tail}
@@ -8,7 +8,7 @@ use Rattle.cards.specs.Decks.{IsCard, IsDeck}
 use Rattle.cards.specs.declared.Card.{Card}
 use Rattle.card_tools.specs.Checking.{number_of, told, told_from}
 use Rattle.card_tools.specs.Lines.{glyphs_of}
-use Rattle.card_tools.specs.Numbering.{IsInTheWay, IsNumbered, KeepsColumns, MayBeNumbered, Spells, SpellsNone, columns_for, fault_from, fits, is_free, number_columns, numbered, numbered_from}
+use Rattle.card_tools.specs.Numbering.{IsInTheWay, IsNumbered, KeepsColumns, MayBeNumbered, SpellsNone, columns_for, fault_from, fits, is_free, number_columns, numbered, numbered_from}
 use Rattle.card_tools.specs.declared.numbering.SequenceError.TheVariants.{Held, TooGreat}
 use Rattle.card_tools.specs.declared.numbering.SequenceFault.{SequenceFault}
 use Rattle.card_tools.proofs.NumberLaw.{base_of, number_read}

@@ -1,12 +1,12 @@
 -- the fields of a line of a manifest
-use Rattle.std.proofs.Common.{◌≡◌, ◌≢◌, ℕ, ◌+◌, ◌<◌, ◌≤◌, ◌==◌, ◌&&◌, ◌||◌, Bool, true, false, Option, Some, None, List, [], ◌∷◌, ◌++◌, length, take, drop, get_or, position, refl, ap, sym, ◌∙◌, arith}
-use Rattle.std.specs.List.{All, list_all, position_or_len}
+use Rattle.std.proofs.Common.{◌≡◌, ◌≢◌, ℕ, ◌<◌, ◌==◌, Bool, true, false, Some, None, List, [], ◌∷◌, ◌++◌, length, take, drop, get_or, position, refl, ap, sym, ◌∙◌, arith}
+use Rattle.std.specs.List.{list_all, position_or_len}
 use Rattle.std.proofs.lemmas.Bool.{lt-ltb}
 use Rattle.std.proofs.lemmas.List.{drop_at, get_or_at, get_or_append_left, get_or-take, length-append, take-append-drop, length-take}
 use Rattle.std.proofs.lemmas.List.Elements.{All-head, All-tail, All-cons, All-nil}
 use Rattle.std.proofs.lemmas.List.Quantifiers.{position-Some}
 use Rattle.std.proofs.lemmas.List.Sums.{position_or_len_is}
-use Rattle.card_tools.specs.Manifests.{BeginsWithField, HasNoBlank, IsEntry, fields, is_decimal, is_hexadecimal, may_be_digest, may_be_number}
+use Rattle.card_tools.specs.Manifests.{BeginsWithField, HasNoBlank, IsEntry, is_decimal, is_hexadecimal, may_be_digest, may_be_number}
 
 -- whether a byte is a blank
 abbrev is_blank : ℕ → Bool

@@ -1,5 +1,5 @@
 -- the cards of a deck whose numbers do not rise
-use Rattle.std.specs.Prelude.{ℕ, ◌+◌, ◌*◌, ◌%◌, nat_le, Bool, true, false, if◌then◌else◌, List, [], ◌∷◌, ◌++◌, codes, decimal, fold, is_some, unwrap_or, Option, Some, None}
+use Rattle.std.specs.Prelude.{ℕ, ◌+◌, ◌*◌, ◌%◌, nat_le, Bool, false, if◌then◌else◌, List, [], ◌∷◌, ◌++◌, codes, decimal, fold, is_some, unwrap_or, Option, Some, None}
 use Rattle.cards.specs.declared.Card.{Card}
 use Rattle.card_tools.specs.Lines.{glyphs_of}
 use Rattle.card_tools.specs.Numbering.{is_digit, number_columns}

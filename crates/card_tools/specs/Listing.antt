@@ -9,8 +9,8 @@ use Rattle.card_tools.specs.declared.listing.ListOptions.{ListOptions}
 
 -- the ruler, with its first column under the bar's right neighbour
 abbrev pub ruler : List ℕ
-ruler = codes "     ....:....1....:....2....:....3....:....4....:....5....:....6....:....7....:....8"
-    ++ 10 ∷ []
+ruler = codes "     ....:....1....:....2....:....3....:....4"
+    ++ codes "....:....5....:....6....:....7....:....8" ++ 10 ∷ []
 
 -- the rows of a card from the top down: the name of each, and its bit in the punches of a column
 abbrev pub card_rows : List (ℕ × ℕ)

@@ -1,5 +1,5 @@
 -- lines of a manifest: a deck's digest, its number of cards, and a name
-use Rattle.std.specs.Prelude.{ℕ, ◌≡◌, ◌≢◌, ◌==◌, Bool, true, ◌&&◌, ◌||◌, nat_le, nat_lt, List, [], ◌∷◌, ◌++◌, length, codes, decimal}
+use Rattle.std.specs.Prelude.{ℕ, ◌≡◌, ◌≢◌, ◌==◌, Bool, true, ◌&&◌, ◌||◌, nat_le, nat_lt, List, [], ◌∷◌, ◌++◌, length, decimal}
 use Rattle.std.specs.List.{All, list_all}
 use Rattle.cards.specs.declared.Card.{Card}
 use Rattle.cards.specs.Files.{text_of}
@@ -32,7 +32,8 @@ may_be_digest bytes = length bytes == 64 && list_all is_hexadecimal bytes
 
 -- whether these bytes may be a number of cards: one to nine decimal digits
 abbrev pub may_be_number : List ℕ → Bool
-may_be_number bytes = (nat_lt 0 (length bytes) && nat_le (length bytes) 9) && list_all is_decimal bytes
+may_be_number bytes =
+    (nat_lt 0 (length bytes) && nat_le (length bytes) 9) && list_all is_decimal bytes
 
 -- a line of a manifest, without its line feed, has these fields
 pub record IsEntry (line digest cards name : List ℕ) : Type 0 where

@@ -11,9 +11,9 @@ use cards::Card;
 use std::alloc::{AllocError, Global};
 
 /// Returns what is told of the cards whose numbers do not rise: `card 7: 00000060 after 00000070`,
-/// with the columns 73 to 80 of the card and of the last one before it that has a number. The number
-/// of a card is that with which these columns end; a card on which they end with no digit has none,
-/// and is passed over. Fails only if there is no memory.
+/// with the columns 73 to 80 of the card and of the last one before it that has a number. The
+/// number of a card is that with which these columns end; a card on which they end with no digit
+/// has none, and is passed over. Fails only if there is no memory.
 pub fn check_sequence(alloc: Global, cards: &[Card]) -> Result<Vec<u8>, AllocError>
     ensures { IfOk result (λ text. text.items ≡ told cards.now) }
 {

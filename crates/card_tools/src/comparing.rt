@@ -19,9 +19,9 @@ pub struct Comparison {
     pub differing: usize,
 }
 
-/// Compares two decks card by card, and prints of each card that differs its number, both cards, and
-/// `^` under the columns in which they differ; then the cards that only one deck has, and in the
-/// last line how many cards there are and how many differ. Fails only if there is no memory.
+/// Compares two decks card by card, and prints of each card that differs its number, both cards,
+/// and `^` under the columns in which they differ; then the cards that only one deck has, and in
+/// the last line how many cards there are and how many differ. Fails only if there is no memory.
 pub fn compare(alloc: Global, first: &[Card], second: &[Card]) -> Result<Comparison, AllocError>
     ensures text { IfOk result (λ found. found.text.items ≡ compared first.now second.now) }
     ensures differing { IfOk result (λ found. found.differing ≡ differing first.now second.now) }

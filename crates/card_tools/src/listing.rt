@@ -38,8 +38,8 @@ const ROWS: [(u8, u16); 12] = [
     (9, 1),
 ];
 
-/// Returns the listing of cards, a line for each: its number at the right of four places, a bar, its
-/// glyphs up to the last column that is not blank, and a bar.
+/// Returns the listing of cards, a line for each: its number at the right of four places, a bar,
+/// its glyphs up to the last column that is not blank, and a bar.
 ///
 /// The rows of a card are twelve lines under it: the row's name at the right of four places, a bar,
 /// an asterisk under each column that is punched there, as far as the card's line goes, and a bar.

@@ -20,9 +20,9 @@ pub struct ManifestEntry<'a> {
     pub name: &'a [u8],
 }
 
-/// Returns the line of a manifest for a deck: the SHA-256 of its deck text in lower-case hexadecimal
-/// digits, the number of its cards, and the name, with two blanks between them. Fails only if there
-/// is no memory.
+/// Returns the line of a manifest for a deck: the SHA-256 of its deck text (FIPS 180-4) in
+/// lower-case hexadecimal digits, the number of its cards, and the name, with two blanks between
+/// them. Fails only if there is no memory.
 pub fn manifest_line(alloc: Global, deck: &Deck, name: &[u8]) -> Result<Vec<u8>, AllocError>
     ensures { IfOk result (λ line. line.items ≡ manifest_line deck.now name.now) }
 {

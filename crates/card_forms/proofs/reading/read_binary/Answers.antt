@@ -1,4 +1,4 @@
-use Rattle.std.proofs.Common.{◌≡◌, ◌∙◌, sym, ap, refl}
+use Rattle.std.proofs.Common.{◌∙◌, sym, ap, refl}
 use Rattle.card_forms.specs.ColumnBinary.{punch_file_for}
 use Rattle.card_forms.proofs.BinaryColumns.{deck_from, deck_told}
 use Rattle.card_forms.proofs.reading.read_binary.Goals as goal

@@ -1,4 +1,4 @@
-use Rattle.std.proofs.Common.{◌+◌, ◌∙◌, sym, ap, length, drop}
+use Rattle.std.proofs.Common.{◌+◌, ◌∙◌, sym}
 use Rattle.std.proofs.lemmas.List.{take_rest}
 use Rattle.card_forms.proofs.SimhLines.{line_ended, line_open}
 use Rattle.card_forms.proofs.simh_texts.split_line.Goals as goal

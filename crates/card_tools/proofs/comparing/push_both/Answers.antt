@@ -1,5 +1,4 @@
-use Rattle.std.proofs.Common.{◌+◌, ◌∙◌, drop, refl, arith}
-use Rattle.card_tools.specs.Comparing.{shown_from, differing_among}
+use Rattle.std.proofs.Common.{◌+◌, ◌∙◌, drop, arith}
 use Rattle.card_tools.proofs.CardMarks.{count_few}
 use Rattle.card_tools.proofs.CardsShown.{left_from, both_on, differing_on, both_done, count_done}
 use Rattle.card_tools.proofs.comparing.push_both.Goals as goal

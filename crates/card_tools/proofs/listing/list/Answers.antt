@@ -1,5 +1,5 @@
 use Rattle.std.proofs.Common.{◌+◌, ◌∙◌, drop, refl}
-use Rattle.card_tools.specs.Listing.{listing, listing_from}
+use Rattle.card_tools.specs.Listing.{listing_from}
 use Rattle.card_tools.proofs.CardsShown.{all_done, left_from, listed_on}
 use Rattle.card_tools.proofs.listing.list.Goals as goal
 

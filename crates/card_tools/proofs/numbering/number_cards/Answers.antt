@@ -1,4 +1,4 @@
-use Rattle.std.proofs.Common.{◌+◌, ◌∙◌, None, Some, inl, inr, sym, ap, arith, drop, refl}
+use Rattle.std.proofs.Common.{◌+◌, ◌∙◌, inl, inr, sym, ap, arith, drop, refl}
 use Rattle.std.proofs.lemmas.List.{drop_all}
 use Rattle.card_tools.specs.Numbering.{fault_from, numbered_from}
 use Rattle.card_tools.proofs.CardNumbers.{fault_found, fault_on, numbered_on}

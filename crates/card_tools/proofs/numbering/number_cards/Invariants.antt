@@ -1,4 +1,4 @@
-use Rattle.std.proofs.Common.{◌≡◌, ◌<◌, ◌+◌, ◌^◌, ◌++◌, drop, length}
+use Rattle.std.proofs.Common.{◌≡◌, ◌<◌, ◌+◌, ◌^◌, ◌++◌, drop}
 use Rattle.card_tools.specs.Numbering.{fault_from, numbered_from}
 use Rattle.card_tools.proofs.numbering.number_cards.Given as goal
 

@@ -1,6 +1,3 @@
-use Rattle.std.proofs.Common.{sym}
-use Rattle.std.proofs.lemmas.Result.{IfOk-weaker}
-use Rattle.card_tools.specs.Numbering.{KeepsColumns}
 use Rattle.card_tools.proofs.CardNumbers.{kept}
 use Rattle.card_tools.proofs.numbering.sequence.Goals as goal
 
