@@ -1,5 +1,5 @@
 -- a card that is an instruction, and where its second operand stands
-use Rattle.std.proofs.Common.{◌≡◌, ℕ, ◌+◌, ◌<◌, ◌≤◌, ◌==◌, Bool, true, false, ◌&&◌, ◌||◌, List, [], length, take, drop, Option, Some, None, Result, Ok, Err, if◌then◌else◌, refl, sym, ◌∙◌, ap, arith, length-take}
+use Rattle.std.proofs.Common.{◌≡◌, ℕ, ◌==◌, Bool, true, false, ◌&&◌, ◌||◌, List, Option, Some, None, Result, Ok, Err, if◌then◌else◌, refl, ◌∙◌, ap}
 use Rattle.cards.specs.declared.decks.Card.{Card}
 use Rattle.autocoder_statements.specs.Constants.{constant}
 use Rattle.autocoder_statements.specs.Expressions.{positive, expression}
@@ -9,7 +9,6 @@ use Rattle.autocoder_statements.specs.declared.faults.StatementFault.{StatementF
 use Rattle.autocoder_statements.specs.declared.faults.StatementFault.TheVariants as fault
 use Rattle.autocoder_statements.specs.declared.names.Name.{Name}
 use Rattle.autocoder_statements.specs.declared.operations.Instruction.{Instruction}
-use Rattle.autocoder_statements.specs.declared.operations.Mnemonic.{Mnemonic}
 use Rattle.autocoder_statements.specs.declared.operations.Operation.{Operation}
 use Rattle.autocoder_statements.specs.declared.operations.Operation.TheVariants as operation
 use Rattle.autocoder_statements.specs.declared.reading.Statement.{Statement}

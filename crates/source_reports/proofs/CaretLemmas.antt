@@ -1,11 +1,9 @@
 -- for the laws of carets: the columns at which they stand
-use Rattle.std.proofs.Common.{◌≡◌, ℕ, zero, suc, ◌+◌, ◌-◌, ◌<◌, ◌≤◌, ◌==◌, Bool, true, false, not, List, [], ◌∷◌, length, take, drop, get_or, Option, Some, None, Ok, Err, if◌then◌else◌, refl, sym, ◌∙◌, ap, subst, arith, length-drop}
-use Rattle.std.specs.Option.{option_map}
+use Rattle.std.proofs.Common.{◌≡◌, ℕ, zero, suc, ◌+◌, ◌<◌, ◌≤◌, Bool, true, false, not, List, [], ◌∷◌, length, drop, Option, Some, None, Ok, refl, subst, arith, length-drop}
 use Rattle.std.specs.List.{position}
-use Rattle.std.proofs.lemmas.List.{length-take, drop_all}
+use Rattle.std.proofs.lemmas.List.{length-take}
 use Rattle.std.proofs.lemmas.List.Quantifiers.{position-Some}
 use Rattle.cards.specs.declared.decks.Card.{Card}
-use Rattle.core_store.specs.Storage.{positions_of}
 use Rattle.autocoder_statements.specs.Characters.{is_blank}
 use Rattle.autocoder_statements.specs.Operands.{operand}
 use Rattle.autocoder_statements.specs.Statements.{word_run, label_field, operation_field, operand_field}
@@ -15,12 +13,11 @@ use Rattle.autocoder_statements.specs.declared.faults.StatementFault.TheVariants
 use Rattle.autocoder_statements.specs.declared.reading.Statement.TheVariants as statement
 use Rattle.autocoder_layout.specs.Source.{Line, line_on}
 use Rattle.autocoder_layout.specs.Layout.{Layout}
-use Rattle.autocoder_layout.specs.Judging.{expressions_of, has_unknown_name, has_value_outside}
 use Rattle.autocoder_layout.specs.declared.faults.SourceFault.{SourceFault}
 use Rattle.autocoder_layout.specs.declared.faults.SourceFault.TheVariants as fault
-use Rattle.source_reports.specs.Carets.{first_column, last_column, IsInField}
+use Rattle.source_reports.specs.Carets.{IsInField}
 use Rattle.source_reports.specs.Places.{stray, column_from, broken_column, length_in, column_of_second, second_column, address_column, place_column, unknown_column, outside_column, place_of}
-use Rattle.source_reports.proofs.OperandLemmas.{IsRead, IsBehind, no_text, mapped}
+use Rattle.source_reports.proofs.OperandLemmas.{IsRead, no_text, mapped}
 use Rattle.source_reports.proofs.CardLemmas.{by_line}
 
 -- ---- 40

@@ -1,15 +1,13 @@
 -- where the second operand of an instruction begins
-use Rattle.std.proofs.Common.{◌≡◌, ℕ, ◌+◌, ◌<◌, ◌≤◌, ◌==◌, Bool, true, false, List, [], ◌∷◌, length, drop, Option, Some, None, Result, Ok, Err, if◌then◌else◌, refl, sym, ◌∙◌, ap, subst, arith}
-use Rattle.std.specs.Option.{option_map, option_and_then}
+use Rattle.std.proofs.Common.{◌≡◌, ℕ, ◌+◌, Bool, true, false, List, [], ◌∷◌, drop, Option, Some, None, if◌then◌else◌, refl, sym, ◌∙◌, ap, subst}
+use Rattle.std.specs.Option.{option_map}
 use Rattle.std.proofs.lemmas.Option.{option_and_then_some}
-use Rattle.std.proofs.lemmas.List.{drop_all, drop-drop}
-use Rattle.cards.specs.declared.decks.Card.{Card}
+use Rattle.std.proofs.lemmas.List.{drop-drop}
 use Rattle.autocoder_statements.specs.Characters.{run, begins, begins_with_letter, is_ended}
 use Rattle.autocoder_statements.specs.Constants.{literal}
 use Rattle.autocoder_statements.specs.Expressions.{number, base, expression, address}
 use Rattle.autocoder_statements.specs.Mnemonics.{or_else, operands_if, operands_in, instruction, instruction_with}
 use Rattle.autocoder_statements.specs.Operands.{begins_literal, operand, next_operand, operands, with_modifier, without_modifier, modifier, next_modifier}
-use Rattle.autocoder_statements.specs.declared.modifiers.Modifiers.{Modifiers}
 use Rattle.autocoder_statements.specs.declared.operand_forms.OperandForm.{OperandForm}
 use Rattle.autocoder_statements.specs.declared.operand_forms.OperandForm.TheVariants.{Empty, Modifier, One, OneAndModifier, Two, TwoAndModifier}
 use Rattle.autocoder_statements.specs.declared.operand_forms.OperandForms.{OperandForms}

@@ -1,10 +1,5 @@
 -- where the caret of a fault may stand, and what stands over it
-use Rattle.std.specs.Prelude.{ℕ, ◌≡◌, ◌-◌, ◌<◌, ◌≤◌, true, false, List, length, take, drop, slice_index, Some}
-use Rattle.cards.specs.declared.decks.Card.{Card}
-use Rattle.autocoder_statements.specs.Characters.{is_blank}
-use Rattle.autocoder_statements.specs.Names.{name_run, name_of}
-use Rattle.autocoder_statements.specs.Statements.{label_field, operation_field, operand_field}
-use Rattle.autocoder_statements.specs.declared.names.Name.{Name}
+use Rattle.std.specs.Prelude.{ℕ, ◌≤◌}
 use Rattle.autocoder_statements.specs.declared.faults.StatementFault.TheVariants.{BrokenField, UnknownOperation, Operand, Label}
 use Rattle.autocoder_layout.specs.declared.faults.SourceFault.{SourceFault}
 use Rattle.autocoder_layout.specs.declared.faults.SourceFault.TheVariants.{NoMemory, Statement, TakenLabel, UnknownName, Outside, Reserved, Filled, NoEnd}

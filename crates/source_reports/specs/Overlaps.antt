@@ -1,5 +1,5 @@
 -- which earlier card fills a position of a card first
-use Rattle.std.specs.Prelude.{ℕ, ◌+◌, nat_lt, Bool, ◌&&◌, if◌then◌else◌, List, drop, max, min, Option, None, find, slice_index_or}
+use Rattle.std.specs.Prelude.{ℕ, ◌+◌, nat_lt, Bool, ◌&&◌, if◌then◌else◌, List, drop, max, min, Option, find, slice_index_or}
 use Rattle.std.specs.List.{range_with_len}
 use Rattle.autocoder_layout.specs.Slots.{origin, is_closed, is_instruction}
 use Rattle.autocoder_layout.specs.declared.slots.Slot.{Slot}
