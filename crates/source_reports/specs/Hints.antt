@@ -41,7 +41,7 @@ taken_by slots None = []
 taken_by slots (Some label) = first_text (first_card label slots)
 
 -- of a label that is taken: the card that has it first
-abbrev pub taken_hint : Layout → Line → List ℕ
+unfoldable pub taken_hint : Layout → Line → List ℕ
 taken_hint layout line = taken_by layout.slots (label_of line)
 
 -- ---- a name that is not defined
@@ -93,7 +93,7 @@ name_hint slots usable (Some wanted) = codes ": " ++ name_text wanted
     ++ known_text (first_card wanted slots) (near_name wanted usable)
 
 -- of a name that is not defined: the name, and what is known of it
-abbrev pub unknown_hint : Layout → ℕ → Line → List ℕ
+unfoldable pub unknown_hint : Layout → ℕ → Line → List ℕ
 unknown_hint layout index line =
     name_hint layout.slots (usable_by line index layout.slots) (unknown_name layout line)
 
@@ -141,7 +141,7 @@ reached_hint size slots (Some expression) =
     number_hint size expression.adjustment (base_number slots expression.base)
 
 -- of an address outside the storage: its number, and the size of the storage
-abbrev pub outside_hint : Layout → Line → List ℕ
+unfoldable pub outside_hint : Layout → Line → List ℕ
 outside_hint layout line =
     reached_hint (positions_of layout.source.size) layout.slots (outside_expression layout line)
 
@@ -159,7 +159,7 @@ filler_of slots index (Some earlier) = filler_text earlier (meeting_place slots 
 
 -- of a card whose position is filled already: the earlier card that fills one of its positions, and
 -- the first such position
-abbrev pub filled_hint : Layout → ℕ → List ℕ
+unfoldable pub filled_hint : Layout → ℕ → List ℕ
 filled_hint layout index = if nat_lt index (length layout.slots)
     then filler_of layout.slots index (first_filler layout.slots index) else []
 

@@ -28,6 +28,7 @@ fn label_of(line: &Line) -> Option<Name>
 }
 
 /// Adds the card that has a label first.
+#[tactic(auto, unfolding(crate::specs::Hints::taken_hint))]
 fn push_taken(
     alloc: Global,
     text: &mut Vec<u8>,
@@ -152,6 +153,7 @@ fn push_known(
 }
 
 /// Adds a name that is not defined, and what is known of it.
+#[tactic(auto, unfolding(crate::specs::Hints::unknown_hint))]
 fn push_unknown(
     alloc: Global,
     text: &mut Vec<u8>,
@@ -274,6 +276,7 @@ fn push_number_and_size(
 }
 
 /// Adds the number of an address that is outside the storage, and the storage's size.
+#[tactic(auto, unfolding(crate::specs::Hints::outside_hint))]
 fn push_outside(
     alloc: Global,
     text: &mut Vec<u8>,
@@ -312,6 +315,7 @@ fn push_filler(
 }
 
 /// Adds the earlier card that fills a position of a card first, and the position.
+#[tactic(auto, unfolding(crate::specs::Hints::filled_hint))]
 fn push_filled(
     alloc: Global,
     text: &mut Vec<u8>,
