@@ -12,6 +12,8 @@ mod places;
 mod reports;
 mod words;
 
-pub use laws::{carets_stand_in_the_field_at_fault, reports_follow_the_assembler};
+pub use laws::{
+    carets_stand_in_the_field_at_fault, names_told_are_not_defined, reports_follow_the_assembler,
+};
 pub use reports::Report;
 pub use words::words_of;
