@@ -29,7 +29,7 @@ use Rattle.autocoder_layout.specs.Source.{Line}
 use Rattle.autocoder_layout.specs.declared.names.Value.TheVariants.{Outside, At}
 use Rattle.autocoder_layout.specs.declared.slots.Slot.{Slot}
 use Rattle.source_reports.specs.Carets.{text_at, name_at, IsUnknownTold}
-use Rattle.source_reports.specs.Hints.{name_of_base, name_in, name_of_either, unknown_name, usable_by}
+use Rattle.source_reports.specs.UnknownNames.{name_of_base, name_in, name_of_either, unknown_name, usable_by}
 use Rattle.source_reports.specs.Places.{kind_of, length_in, column_of_second, second_column, address_column, unknown_column}
 use Rattle.source_reports.proofs.OperandLemmas.{IsOperand, AreRead, read_again}
 use Rattle.source_reports.proofs.CardLemmas.{IsExpression, IsLineFrom}

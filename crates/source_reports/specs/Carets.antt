@@ -10,7 +10,7 @@ use Rattle.autocoder_layout.specs.Names.{address_of}
 use Rattle.autocoder_layout.specs.Source.{Line}
 use Rattle.autocoder_layout.specs.declared.faults.SourceFault.{SourceFault}
 use Rattle.autocoder_layout.specs.declared.faults.SourceFault.TheVariants.{NoMemory, Statement, TakenLabel, UnknownName, Outside, Reserved, Filled, NoEnd}
-use Rattle.source_reports.specs.Hints.{unknown_name, usable_by}
+use Rattle.source_reports.specs.UnknownNames.{unknown_name, usable_by}
 use Rattle.source_reports.specs.Places.{unknown_column}
 
 -- ---- the field

@@ -4,12 +4,15 @@
 
 mod blocks;
 mod hints;
+mod labels;
 mod laws;
 mod names;
+mod outside_addresses;
 mod overlaps;
 mod pieces;
 mod places;
 mod reports;
+mod unknown_names;
 mod words;
 
 pub use laws::{
