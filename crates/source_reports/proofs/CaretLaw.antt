@@ -1,8 +1,8 @@
 -- for the law `carets_stand_in_the_field_at_fault`
-use Rattle.std.proofs.Common.{◌≡◌, ℕ, zero, suc, ◌-◌, Bool, false, ◌||◌, List, [], ◌∷◌, get_or, Option, Some, None, refl, sym, ◌∙◌, ap, subst}
+use Rattle.std.proofs.Common.{◌≡◌, ℕ, zero, suc, ◌-◌, Bool, false, ◌||◌, List, [], ◌∷◌, get_or, Some, sym, ◌∙◌, ap}
 use Rattle.std.specs.Prelude.{slice_get}
 use Rattle.cards.specs.declared.decks.Card.{Card}
-use Rattle.autocoder_layout.specs.Source.{Line, silent, is_control, line_on, lines_of}
+use Rattle.autocoder_layout.specs.Source.{silent, is_control, line_on, lines_of}
 use Rattle.autocoder_layout.specs.declared.card_faults.CardFault.{CardFault}
 use Rattle.source_reports.specs.Blocks.{line_at}
 use Rattle.source_reports.specs.Carets.{IsInField}

@@ -1,11 +1,9 @@
 -- for the laws of carets: the columns at which they stand
-use Rattle.std.proofs.Common.{◌≡◌, ℕ, zero, suc, ◌+◌, ◌-◌, ◌<◌, ◌≤◌, ◌==◌, Bool, true, false, not, List, [], ◌∷◌, length, take, drop, get_or, Option, Some, None, Ok, Err, if◌then◌else◌, refl, sym, ◌∙◌, ap, subst, arith, length-drop}
-use Rattle.std.specs.Option.{option_map}
+use Rattle.std.proofs.Common.{◌≡◌, ℕ, zero, suc, ◌+◌, ◌<◌, ◌≤◌, Bool, true, false, not, List, [], ◌∷◌, length, drop, Option, Some, None, Ok, refl, subst, arith, length-drop}
 use Rattle.std.specs.List.{position}
-use Rattle.std.proofs.lemmas.List.{length-take, drop_all}
+use Rattle.std.proofs.lemmas.List.{length-take}
 use Rattle.std.proofs.lemmas.List.Quantifiers.{position-Some}
 use Rattle.cards.specs.declared.decks.Card.{Card}
-use Rattle.core_store.specs.Storage.{positions_of}
 use Rattle.autocoder_statements.specs.Characters.{is_blank}
 use Rattle.autocoder_statements.specs.Operands.{operand}
 use Rattle.autocoder_statements.specs.Statements.{word_run, label_field, operation_field, operand_field}
@@ -15,12 +13,12 @@ use Rattle.autocoder_statements.specs.declared.faults.StatementFault.TheVariants
 use Rattle.autocoder_statements.specs.declared.reading.Statement.TheVariants as statement
 use Rattle.autocoder_layout.specs.Source.{Line, line_on}
 use Rattle.autocoder_layout.specs.Layout.{Layout}
-use Rattle.autocoder_layout.specs.Judging.{expressions_of, has_unknown_name, has_value_outside}
 use Rattle.autocoder_layout.specs.declared.faults.SourceFault.{SourceFault}
 use Rattle.autocoder_layout.specs.declared.faults.SourceFault.TheVariants as fault
-use Rattle.source_reports.specs.Carets.{first_column, last_column, IsInField}
+use Rattle.autocoder_statements.proofs.Found.{mapped}
+use Rattle.source_reports.specs.Carets.{IsInField}
 use Rattle.source_reports.specs.Places.{stray, column_from, broken_column, length_in, column_of_second, second_column, address_column, place_column, unknown_column, outside_column, place_of}
-use Rattle.source_reports.proofs.OperandLemmas.{IsRead, IsBehind, no_text, mapped}
+use Rattle.source_reports.proofs.OperandLemmas.{AreRead, no_text}
 use Rattle.source_reports.proofs.CardLemmas.{by_line}
 
 -- ---- 40
@@ -29,9 +27,8 @@ use Rattle.source_reports.proofs.CardLemmas.{by_line}
 stray_within : (field : List ℕ) (index : ℕ) → stray field ≡ Some index → index < length field
 unfolding stray
 stray_within field index is =
-    mapped (λ count. word_run field + count) (position (λ code. not (is_blank code)) (drop (word_run field) field)) index is
-    (λ count found same.
-    omega (arith, (position-Some (λ code. not (is_blank code)) (drop (word_run field) field) count 0 found).0, length-drop (word_run field) field, same))
+    let was = mapped (λ count. word_run field + count) (position (λ code. not (is_blank code)) (drop (word_run field) field)) index is in
+    omega (arith, (position-Some (λ code. not (is_blank code)) (drop (word_run field) field) was.0 0 was.1).0, length-drop (word_run field) field, was.2)
 
 length_label : (card : Card) → length (label_field card) ≤ 10
 length_label card = omega (arith, length-take 10 (drop 5 card.0))
@@ -72,17 +69,17 @@ before_end zero (code ∷ text) kind found read = omega arith
 before_end (suc n) (code ∷ text) kind found read = omega (arith, before_end n text kind found read)
 
 by_two : (card : Card) (first second : Option Operand)
-    → IsRead (operand_field card) first second
+    → AreRead (operand_field card) first second
     → (21 ≤ column_of_second card first second) × (column_of_second card first second ≤ 72)
 by_two card (Some first) (Some second) read =
-    let below = before_end (length_in (operand_field card) first + 1) (operand_field card) read.kind (second, read.count) read.read in
+    let below = before_end (length_in (operand_field card) first + 1) (operand_field card) read.1.kind (second, read.1.count) read.1.read in
     (omega arith, omega (arith, below, length_operands card))
 by_two card first second read = (omega arith, omega arith)
 
 second_within : (has_size : Bool) (card : Card) (line : Line) → line_on has_size card ≡ line
     → (21 ≤ second_column card line) × (second_column card line ≤ 72)
 second_within has_size card (Ok (statement.Instruction label spelled)) is =
-    by_two card spelled.first spelled.second (by_line has_size card label spelled is)
+    by_two card spelled.first spelled.second (by_line has_size card (Ok (statement.Instruction label spelled)) is)
 second_within has_size card line is = (omega arith, omega arith)
 
 -- ---- an address

@@ -1,12 +1,12 @@
 -- for the law `reports_follow_the_assembler`
-use Rattle.std.proofs.Common.{◌≡◌, ◌≢◌, ℕ, List, [], ◌∷◌, refl, sym, ◌∙◌, ap}
+use Rattle.std.proofs.Common.{◌≡◌, ◌≢◌, List, [], ◌∷◌, refl, sym, ◌∙◌, ap}
 use Rattle.cards.specs.declared.decks.Card.{Card}
 use Rattle.autocoder_layout.specs.declared.card_faults.CardFault.{CardFault}
 use Rattle.autocoder.specs.Programs.{IsFaultless, AreFaults}
 use Rattle.autocoder.specs.declared.faults.Faults.{Faults}
 use Rattle.autocoder.specs.declared.faults.Faults.TheVariants.{Source, NoMemory}
 use Rattle.autocoder_listings.specs.Listing.{listing_with_code_of}
-use Rattle.source_reports.specs.Reports.{faults_for, text_of_faults, text_by, text_for, Tells}
+use Rattle.source_reports.specs.Reports.{text_of_faults, text_by, text_for, Tells}
 
 pub faultless_listed : (source : List Card) → IsFaultless source
     → text_for source ≡ listing_with_code_of source

@@ -24,10 +24,17 @@ told_of f = codes "card " ++ decimal f.card ++ codes " fault " ++ decimal (fault
 abbrev pub margin : List ℕ
 margin = codes "     |"
 
+-- the line of a card
+unfoldable pub card_shown : Card → List ℕ
+card_shown card = line_text (margin ++ glyphs_of card.0)
+
+-- the line of a caret under this column
+unfoldable pub caret_line : ℕ → List ℕ
+caret_line column = (margin ++ replicate (column - 1) blank) ++ codes "^" ++ line_feed ∷ []
+
 -- a card, and below it a caret under this column
 unfoldable pub picture : Card → ℕ → List ℕ
-picture card column = line_text (margin ++ glyphs_of card.0)
-    ++ (margin ++ replicate (column - 1) blank) ++ codes "^" ++ line_feed ∷ []
+picture card column = card_shown card ++ caret_line column
 
 -- a card with a caret, if there is a column under which the caret stands
 abbrev pub picture_at : Card → Option ℕ → List ℕ

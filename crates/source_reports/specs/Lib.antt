@@ -1,6 +1,9 @@
 pub mod Words
 pub mod Places
 pub mod Names
+pub mod Labels
+pub mod UnknownNames
+pub mod OutsideAddresses
 pub mod Overlaps
 pub mod Hints
 pub mod Blocks

@@ -1,9 +1,10 @@
--- which earlier card fills a position of a card first
-use Rattle.std.specs.Prelude.{ℕ, ◌+◌, nat_lt, Bool, ◌&&◌, if◌then◌else◌, List, drop, max, min, Option, None, find, slice_index_or}
+-- a position that is filled already: the earlier card that fills it first
+use Rattle.std.specs.Prelude.{ℕ, ◌+◌, nat_lt, Bool, ◌&&◌, if◌then◌else◌, List, [], ◌++◌, length, drop, max, min, Option, Some, None, find, slice_index_or, codes, decimal}
 use Rattle.std.specs.List.{range_with_len}
+use Rattle.autocoder_layout.specs.Layout.{Layout}
 use Rattle.autocoder_layout.specs.Slots.{origin, is_closed, is_instruction}
 use Rattle.autocoder_layout.specs.declared.slots.Slot.{Slot}
-use Rattle.autocoder.specs.Listing.{fills}
+use Rattle.autocoder.specs.Listing.{fills, position_field}
 
 -- the card of this number, from 0
 abbrev pub slot_at : List Slot → ℕ → Slot
@@ -32,3 +33,21 @@ meet slots one other = (fills (slot_at slots one).role && fills (slot_at slots o
 -- the first of the cards before a card that fills a position of it
 unfoldable pub first_filler : List Slot → ℕ → Option ℕ
 first_filler slots index = find (λ earlier. meet slots earlier index) (range_with_len 0 index)
+
+-- ---- how it is told
+
+-- the card of this number, from 0, which fills a position first
+abbrev pub filler_text : ℕ → ℕ → List ℕ
+filler_text earlier place = codes "; card " ++ decimal (earlier + 1) ++ codes " fills "
+    ++ position_field place ++ codes " first"
+
+-- the card that fills a position of a card first, if there is one
+abbrev pub filler_of : List Slot → ℕ → Option ℕ → List ℕ
+filler_of slots index None = []
+filler_of slots index (Some earlier) = filler_text earlier (meeting_place slots earlier index)
+
+-- of a card whose position is filled already: the earlier card that fills one of its positions, and
+-- the first such position
+unfoldable pub filled_hint : Layout → ℕ → List ℕ
+filled_hint layout index = if nat_lt index (length layout.slots)
+    then filler_of layout.slots index (first_filler layout.slots index) else []

@@ -2,7 +2,7 @@
 use Rattle.std.specs.Prelude.{ℕ, ◌≡◌, ⊤, List, [], ◌∷◌, ◌++◌, length}
 use Rattle.std.specs.List.{flat_map}
 use Rattle.cards.specs.declared.decks.Card.{Card}
-use Rattle.autocoder_layout.specs.Source.{has_end, source_of, source_read}
+use Rattle.autocoder_layout.specs.Source.{has_end, source_read}
 use Rattle.autocoder_layout.specs.Layout.{Layout, laid_out}
 use Rattle.autocoder_layout.specs.CardFaults.{faults_of}
 use Rattle.autocoder_layout.specs.declared.card_faults.CardFault.{CardFault}

@@ -1,10 +1,8 @@
 //! The block of a fault, and the line of their sum.
 
-ghost use Rattle.std.specs.Prelude.{◌≡◌, ◌++◌, ◌-◌, ◌∷◌, [], codes, replicate, slice_get, slice_index_or, option_copied, OnOk};
-ghost use Rattle.cards.specs.Files.{line_feed};
-ghost use Rattle.autocoder.specs.Listing.{blank, glyphs_of, line_text};
+ghost use Rattle.std.specs.Prelude.{◌≡◌, ◌++◌, slice_get, slice_index_or, option_copied, OnOk};
 ghost use Rattle.autocoder_layout.specs.Source.{AreInRange, IsInRange, silent};
-ghost use Rattle.source_reports.specs.Blocks.{told_of, margin, picture, shown_on, block, is_fault_of_card, cards_at_fault, plural, counted, sum_line};
+ghost use Rattle.source_reports.specs.Blocks.{told_of, card_shown, caret_line, picture, shown_on, block, is_fault_of_card, cards_at_fault, plural, counted, sum_line};
 
 use crate::hints::push_hint;
 use crate::pieces::push_text;
@@ -32,9 +30,9 @@ fn push_told(alloc: Global, text: &mut Vec<u8>, fault: CardFault) -> Result<(), 
 }
 
 /// Adds a card.
+#[tactic(auto, unfolding(crate::specs::Blocks::card_shown))]
 fn push_card(alloc: Global, text: &mut Vec<u8>, card: &Card) -> Result<(), AllocError>
-    ensures { OnOk result (text.new.items
-        ≡ text.old.items ++ line_text (margin ++ glyphs_of card.now.0)) }
+    ensures { OnOk result (text.new.items ≡ text.old.items ++ card_shown card.now) }
 {
     let mut line = Vec::from_slice(alloc, MARGIN)?;
     push_glyphs(&mut line, &card.0)?;
@@ -42,9 +40,9 @@ fn push_card(alloc: Global, text: &mut Vec<u8>, card: &Card) -> Result<(), Alloc
 }
 
 /// Adds a caret under a column.
+#[tactic(auto, unfolding(crate::specs::Blocks::caret_line))]
 fn push_caret(text: &mut Vec<u8>, column: usize) -> Result<(), AllocError>
-    ensures { OnOk result (text.new.items ≡ text.old.items
-        ++ (margin ++ replicate (column - 1) blank) ++ codes "^" ++ line_feed ∷ []) }
+    ensures { OnOk result (text.new.items ≡ text.old.items ++ caret_line column) }
 {
     text.extend_from_slice(MARGIN)?;
     push_fillers(text, b' ', column.saturating_sub(1))?;

@@ -1,12 +1,13 @@
-//! Which earlier card fills a position of a card first.
+//! A position that is filled already: the earlier card that fills it first.
 
-ghost use Rattle.std.specs.Prelude.{◌≡◌, ◌<◌, length, find, IfSome, ◌&&◌};
-ghost use Rattle.std.specs.List.{range_with_len};
+ghost use Rattle.std.specs.Prelude.{◌≡◌, ◌<◌, ◌++◌, ◌&&◌, length, IfSome, OnOk};
 ghost use Rattle.autocoder.specs.Listing.{fills};
-ghost use Rattle.source_reports.specs.Overlaps.{end_of_fill, first_filler, has_blank, meet, meeting_place};
+ghost use Rattle.source_reports.specs.Overlaps.{end_of_fill, first_filler, has_blank, meet, meeting_place, filler_text, filled_hint};
 
-use autocoder::fills;
-use autocoder_layout::{Slot, is_closed};
+use crate::pieces::push_text;
+use autocoder::{fills, push_number};
+use autocoder_layout::{Layout, Slot, is_closed};
+use std::alloc::{AllocError, Global};
 
 /// Whether a card is an instruction behind which a marked blank is placed.
 fn has_blank(slots: &[Slot], index: usize) -> bool
@@ -30,7 +31,7 @@ fn end_of_fill(slots: &[Slot], index: usize) -> u64
 }
 
 /// The first position that two cards fill, if they fill the same one.
-pub(crate) fn meeting_place(slots: &[Slot], one: usize, other: usize) -> u32
+fn meeting_place(slots: &[Slot], one: usize, other: usize) -> u32
     requires one { one < length slots.now }
     requires other { other < length slots.now }
     ensures { result ≡ meeting_place slots.now one other }
@@ -58,10 +59,48 @@ fn both_fill(one: &Slot, other: &Slot) -> bool
 
 /// The first of the cards before a card that fills a position of it.
 #[tactic(auto, unfolding(crate::specs::Overlaps::first_filler))]
-pub(crate) fn first_filler(slots: &[Slot], index: usize) -> Option<usize>
+fn first_filler(slots: &[Slot], index: usize) -> Option<usize>
     requires { index < length slots.now }
     ensures first { result ≡ first_filler slots.now index }
     ensures earlier { IfSome result (λ earlier. earlier < index) }
 {
     (0..index).find(|earlier| meet(slots, *earlier, index))
+}
+
+/// Adds the card that fills a position first, and the position.
+fn push_filler(
+    alloc: Global,
+    text: &mut Vec<u8>,
+    earlier: usize,
+    position: u32,
+) -> Result<(), AllocError>
+    requires { earlier < usize.MAX }
+    ensures { OnOk result (text.new.items ≡ text.old.items ++ filler_text earlier position) }
+{
+    let card = earlier + 1;
+    let told = format!(in alloc; "; card {card} fills ")?;
+    push_text(text, told.as_str())?;
+    push_number(text, b'0', 5, position as u64)?;
+    push_text(text, " first")?;
+    Ok(())
+}
+
+/// Adds the earlier card that fills a position of a card first, and the position.
+#[tactic(auto, unfolding(crate::specs::Overlaps::filled_hint))]
+pub(crate) fn push_filled(
+    alloc: Global,
+    text: &mut Vec<u8>,
+    layout: &Layout,
+    index: usize,
+) -> Result<(), AllocError>
+    ensures { OnOk result (text.new.items ≡ text.old.items ++ filled_hint layout.now index) }
+{
+    let slots = layout.slots();
+    if index >= slots.len() {
+        return Ok(());
+    }
+    match first_filler(slots, index) {
+        None => Ok(()),
+        Some(earlier) => { push_filler(alloc, text, earlier, meeting_place(slots, earlier, index)) }
+    }
 }

@@ -2,7 +2,7 @@ use Rattle.std.proofs.Common.{◌∙◌, ◌++◌, ap}
 use Rattle.std.specs.Prelude.{codes, decimal}
 use Rattle.source_reports.specs.Names.{name_text}
 use Rattle.source_reports.proofs.PieceLemmas.{three_pieces}
-use Rattle.source_reports.proofs.hints.push_near.Goals as goal
+use Rattle.source_reports.proofs.unknown_names.push_near.Goals as goal
 
 pub returns : goal.returns
 returns c =

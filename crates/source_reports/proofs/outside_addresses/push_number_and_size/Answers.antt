@@ -1,8 +1,8 @@
 use Rattle.std.proofs.Common.{◌∙◌, ◌++◌, ap}
 use Rattle.std.specs.Prelude.{codes, decimal}
-use Rattle.source_reports.specs.Hints.{reached_text}
+use Rattle.source_reports.specs.OutsideAddresses.{reached_text}
 use Rattle.source_reports.proofs.PieceLemmas.{three_pieces}
-use Rattle.source_reports.proofs.hints.push_number_and_size.Goals as goal
+use Rattle.source_reports.proofs.outside_addresses.push_number_and_size.Goals as goal
 
 pub returns : goal.returns
 returns c =

@@ -2,7 +2,7 @@ use Rattle.std.proofs.Common.{◌∙◌, ◌+◌, ◌++◌, ap}
 use Rattle.std.specs.Prelude.{codes, decimal}
 use Rattle.autocoder.specs.Listing.{position_field}
 use Rattle.source_reports.proofs.PieceLemmas.{three_pieces}
-use Rattle.source_reports.proofs.hints.push_filler.Goals as goal
+use Rattle.source_reports.proofs.overlaps.push_filler.Goals as goal
 
 pub returns : goal.returns
 returns c =
