@@ -1,5 +1,7 @@
 //! The row `manifest`.
 
+ghost use Rattle.std.specs.Prelude.{◌<◌, length};
+
 use crate::decks::deck_at;
 use crate::files::{print, read, tell_memory};
 use card_tools::{ManifestEntry, manifest_line, read_manifest_line};
@@ -47,7 +49,10 @@ fn lines_at<E: Write>(rt: &HostRuntime, paths: &[&str], errors: &mut E) -> io::R
 }
 
 /// The first line of a text, without its end, and the bytes behind it.
-fn split_line(text: &[u8]) -> (&[u8], &[u8]) {
+fn split_line(text: &[u8]) -> (&[u8], &[u8])
+    requires { 0 < length text.now }
+    ensures { length result.1.now < length text.now }
+{
     for (place, &byte) in text.iter().enumerate() {
         if byte == b'\n' {
             return (&text[..place], &text[place + 1..]);
@@ -56,17 +61,26 @@ fn split_line(text: &[u8]) -> (&[u8], &[u8]) {
     (text, &[])
 }
 
-/// The entry of this name among lines of a manifest.
-fn entry_named<'a>(text: &'a [u8], name: &[u8]) -> Option<ManifestEntry<'a>> {
+/// The lines of a text, without their ends.
+fn lines_of(alloc: Global, text: &[u8]) -> Result<Vec<&[u8]>, AllocError> {
+    let mut lines = Vec::new(alloc);
     let mut rest = text;
     while !rest.is_empty() {
         let (line, behind) = split_line(rest);
-        if let Some(entry) = read_manifest_line(line) {
+        lines.push(line)?;
+        rest = behind;
+    }
+    Ok(lines)
+}
+
+/// The entry of this name among lines of a manifest.
+fn entry_named<'a>(lines: &[&'a [u8]], name: &[u8]) -> Option<ManifestEntry<'a>> {
+    for line in lines {
+        if let Some(entry) = read_manifest_line(*line) {
             if entry.name == name {
                 return Some(entry);
             }
         }
-        rest = behind;
     }
     None
 }
@@ -79,61 +93,58 @@ fn push_told(told: &mut Vec<u8>, word: &[u8], name: &[u8]) -> Result<(), AllocEr
     Ok(())
 }
 
-/// What has become of the decks that a manifest knows: those that are missing or different.
-fn push_changed(told: &mut Vec<u8>, known: &[u8], found: &[u8]) -> Result<(), AllocError> {
-    let mut rest = known;
-    while !rest.is_empty() {
-        let (line, behind) = split_line(rest);
-        if let Some(entry) = read_manifest_line(line) {
-            match entry_named(found, entry.name) {
-                None => push_told(told, b"missing ", entry.name)?,
-                Some(other) if other.digest != entry.digest => {
-                    push_told(told, b"different ", entry.name)?
-                }
-                Some(_) => {}
-            }
+/// What has become of a deck that a manifest knows: whether it is missing or different.
+fn push_changed(
+    told: &mut Vec<u8>,
+    entry: ManifestEntry<'_>,
+    found: &[&[u8]],
+) -> Result<(), AllocError> {
+    match entry_named(found, entry.name) {
+        None => push_told(told, b"missing ", entry.name),
+        Some(other) if other.digest != entry.digest => {
+            push_told(told, b"different ", entry.name)
         }
-        rest = behind;
+        Some(_) => Ok(()),
     }
-    Ok(())
 }
 
-/// The decks that a manifest does not know.
-fn push_new(told: &mut Vec<u8>, known: &[u8], found: &[u8]) -> Result<(), AllocError> {
-    let mut rest = found;
-    while !rest.is_empty() {
-        let (line, behind) = split_line(rest);
-        if let Some(entry) = read_manifest_line(line) {
-            if entry_named(known, entry.name).is_none() {
-                push_told(told, b"new ", entry.name)?;
-            }
-        }
-        rest = behind;
+/// Adds a deck that a manifest does not know.
+fn push_new(
+    told: &mut Vec<u8>,
+    entry: ManifestEntry<'_>,
+    known: &[&[u8]],
+) -> Result<(), AllocError> {
+    match entry_named(known, entry.name) {
+        None => push_told(told, b"new ", entry.name),
+        Some(_) => Ok(()),
     }
-    Ok(())
 }
 
-/// In what decks differ from those that a manifest knows.
-fn differences(alloc: Global, known: &[u8], found: &[u8]) -> Result<Vec<u8>, AllocError> {
+/// In what decks differ from those that a manifest knows, by their lines.
+fn differences(alloc: Global, known: &[&[u8]], found: &[&[u8]]) -> Result<Vec<u8>, AllocError> {
     let mut told = Vec::new(alloc);
-    push_changed(&mut told, known, found)?;
-    push_new(&mut told, known, found)?;
+    for line in known {
+        if let Some(entry) = read_manifest_line(*line) {
+            push_changed(&mut told, entry, found)?;
+        }
+    }
+    for line in found {
+        if let Some(entry) = read_manifest_line(*line) {
+            push_new(&mut told, entry, known)?;
+        }
+    }
     Ok(told)
 }
 
 /// Says which lines of a manifest's file are none. Returns whether all are.
-fn tell_odd_lines<E: Write>(errors: &mut E, path: &str, known: &[u8]) -> io::Result<bool> {
-    let mut rest = known;
-    let mut number = 0u64;
+fn tell_odd_lines<E: Write>(errors: &mut E, path: &str, known: &[&[u8]]) -> io::Result<bool> {
     let mut are_all = true;
-    while !rest.is_empty() {
-        let (line, behind) = split_line(rest);
-        number = number.saturating_add(1);
-        if read_manifest_line(line).is_none() {
+    for (place, line) in known.iter().enumerate() {
+        if read_manifest_line(*line).is_none() {
+            let number = place + 1;
             writeln!(errors, "{path}: line {number} is none that manifest prints")?;
             are_all = false;
         }
-        rest = behind;
     }
     Ok(are_all)
 }
@@ -158,8 +169,10 @@ fn check_manifest<W: Write, E: Write>(
     let Some(known) = read(rt, path, errors)? else {
         return Ok(Status::NotDone);
     };
+    let known = lines_of(rt.alloc(), &known)?;
+    let found = lines_of(rt.alloc(), &lines.text)?;
     let are_all = tell_odd_lines(errors, path, &known)?;
-    match differences(rt.alloc(), &known, &lines.text) {
+    match differences(rt.alloc(), &known, &found) {
         Ok(told) => {
             let status = status_of(&told, lines.whole && are_all);
             print(&told, status, output, errors)
