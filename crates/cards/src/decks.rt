@@ -1,11 +1,11 @@
 //! A card, and a deck of them.
 
-ghost use Rattle.std.specs.Prelude.{◌≡◌, ◌≤◌, ◌↔◌, [], ◌∷◌, ◌++◌, length, OnOk, OnErr, IsErrOf};
+ghost use Rattle.std.specs.Prelude.{◌≡◌, ◌≤◌, ◌↔◌, [], ◌∷◌, ◌++◌, length, IfOk, OnOk, OnErr, IsErrOf};
 ghost use Rattle.cards.specs.Decks.{largest_deck};
 
 use crate::faults::DeckFault;
 use bcd::Code;
-use std::alloc::Global;
+use std::alloc::{AllocError, Global};
 use std::marker::Model;
 
 /// The number of columns of a card.
@@ -44,6 +44,15 @@ impl Deck {
         Deck {
             cards: Vec::new(alloc),
         }
+    }
+
+    /// Returns a deck without cards, with room for so many or for all that a deck may have. Fails
+    /// only if there is no memory.
+    pub fn with_room(alloc: Global, cards: usize) -> Result<Self, AllocError>
+        ensures { IfOk result (λ deck. deck ≡ []) }
+    {
+        let cards = Vec::with_capacity(alloc, cards.min(LARGEST_DECK))?;
+        Ok(Deck { cards })
     }
 
     /// The deck of these cards.

@@ -64,15 +64,15 @@ pub fn deck_bytes(alloc: Global, deck: &Deck) -> Result<Vec<u8>, AllocError>
     Ok(bytes)
 }
 
-/// Returns the deck of these bytes, or `None` if they are not a deck's. Fails only if there is no
-/// memory.
+/// Returns the deck of these bytes, or `None` if they are not a deck's. Memory is taken once, for as
+/// many cards as have room in the bytes. Fails only if there is no memory.
 pub fn read_deck(alloc: Global, bytes: &[u8]) -> Result<Option<Deck>, AllocError>
     ensures all { IfOk result (λ read. (deck : List Card) → IsDeck deck
         → bytes.now ≡ deck_bytes deck → read ≡ Some deck) }
     ensures only { IfOk result (λ read.
         IfSome read (λ deck. (deck_bytes deck ≡ bytes.now) × IsDeck deck)) }
 {
-    let mut deck = Deck::empty(alloc);
+    let mut deck = Deck::with_room(alloc, bytes.len() / COLUMNS)?;
     let mut rest = bytes;
     while !rest.is_empty() {
         let Some((card, behind)) = split_card(rest) else {
