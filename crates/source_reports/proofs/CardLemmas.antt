@@ -1,5 +1,5 @@
 -- what a card says, and the texts that it was read from
-use Rattle.std.proofs.Common.{◌≡◌, ℕ, ◌==◌, Bool, true, false, ◌&&◌, ◌||◌, List, drop, Option, Some, None, Result, Ok, Err, if◌then◌else◌, refl, ◌∙◌, ap, subst}
+use Rattle.std.proofs.Common.{◌≡◌, ℕ, ◌==◌, Bool, true, false, ◌&&◌, ◌||◌, List, drop, Option, Some, None, Result, Ok, Err, if◌then◌else◌, ◌∙◌, ap, subst}
 use Rattle.std.specs.Option.{option_map}
 use Rattle.cards.specs.declared.decks.Card.{Card}
 use Rattle.autocoder_statements.specs.Characters.{is_ended}

@@ -1,16 +1,12 @@
 -- for the law `names_told_are_not_defined`
-use Rattle.std.proofs.Common.{◌≡◌, ℕ, zero, suc, ◌+◌, ◌<◌, Bool, true, false, ◌||◌, ◌⊎◌, inl, inr, List, [], ◌∷◌, ◌++◌, length, take, drop, get_or, Option, Some, None, Ok, Err, if◌then◌else◌, refl, sym, ◌∙◌, ap, subst, arith}
+use Rattle.std.proofs.Common.{◌≡◌, ℕ, zero, suc, ◌+◌, ◌<◌, Bool, true, false, ◌⊎◌, inl, inr, List, [], ◌∷◌, length, take, drop, get_or, Option, Some, None, Ok, Err, if◌then◌else◌, refl, sym, ◌∙◌, ap, subst, arith}
 use Rattle.std.specs.Prelude.{is_some, slice_get}
 use Rattle.std.proofs.lemmas.List.{take-map}
-use Rattle.std.proofs.lemmas.Option.{same_Some}
 use Rattle.cards.specs.declared.decks.Card.{Card}
 use Rattle.autocoder_statements.specs.Statements.{operand_field}
-use Rattle.autocoder_statements.specs.Constants.{constant_length}
-use Rattle.autocoder_statements.specs.Mnemonics.{instruction_length}
 use Rattle.autocoder_statements.specs.declared.faults.StatementFault.{StatementFault}
 use Rattle.autocoder_statements.specs.declared.names.Name.{Name}
 use Rattle.autocoder_statements.specs.declared.reading.Statement.TheVariants as statement
-use Rattle.autocoder_layout.specs.CardFaults.{faults_of}
 use Rattle.autocoder_layout.specs.Judging.{is_unknown, is_beyond, names_unknown, fills_reserved, is_overlapping, fault_or, fault_by, fault_of}
 use Rattle.autocoder_layout.specs.Layout.{Laid, Satisfies, slots_of, fills_of, nothing}
 use Rattle.autocoder_layout.specs.Literals.{literals_of}

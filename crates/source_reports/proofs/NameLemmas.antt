@@ -1,6 +1,6 @@
 -- for the law of unknown names: what is told of a card that names what is not defined
-use Rattle.std.proofs.Common.{◌≡◌, ℕ, ◌+◌, ◌-◌, Bool, true, false, ◌||◌, ◌⊎◌, inl, inr, List, [], take, drop, Option, Some, None, Ok, Err, if◌then◌else◌, refl, sym, ◌∙◌, ap, subst, arith}
-use Rattle.std.specs.Prelude.{nat_lt, is_some}
+use Rattle.std.proofs.Common.{◌≡◌, ℕ, ◌+◌, ◌-◌, Bool, true, false, ◌||◌, List, take, drop, Option, Some, None, Ok, if◌then◌else◌, refl, ◌∙◌, ap, subst, arith}
+use Rattle.std.specs.Prelude.{nat_lt}
 use Rattle.std.specs.Option.{option_map}
 use Rattle.std.proofs.lemmas.Option.{option_and_then_some, same_Some}
 use Rattle.cards.specs.declared.decks.Card.{Card}
@@ -29,8 +29,8 @@ use Rattle.autocoder_layout.specs.Source.{Line}
 use Rattle.autocoder_layout.specs.declared.names.Value.TheVariants.{Outside, At}
 use Rattle.autocoder_layout.specs.declared.slots.Slot.{Slot}
 use Rattle.source_reports.specs.Carets.{text_at, name_at, IsUnknownTold}
-use Rattle.source_reports.specs.UnknownNames.{name_of_base, name_in, name_of_either, unknown_name, usable_by}
-use Rattle.source_reports.specs.Places.{kind_of, length_in, column_of_second, second_column, address_column, unknown_column}
+use Rattle.source_reports.specs.UnknownNames.{name_of_base, name_in, name_of_either, unknown_name}
+use Rattle.source_reports.specs.Places.{length_in, column_of_second, address_column, unknown_column}
 use Rattle.source_reports.proofs.OperandLemmas.{IsOperand, AreRead, read_again}
 use Rattle.source_reports.proofs.CardLemmas.{IsExpression, IsLineFrom}
 

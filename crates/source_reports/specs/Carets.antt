@@ -1,6 +1,7 @@
 -- where the caret of a fault may stand, and what stands over it
-use Rattle.std.specs.Prelude.{ℕ, ◌≡◌, ◌-◌, ◌≤◌, List, take, drop, Option, Some, None}
+use Rattle.std.specs.Prelude.{ℕ, ◌≡◌, ◌+◌, ◌-◌, ◌<◌, ◌≤◌, true, false, List, length, take, drop, slice_index, slice_index_or, Option, Some, None}
 use Rattle.cards.specs.declared.decks.Card.{Card}
+use Rattle.autocoder_statements.specs.Characters.{is_blank}
 use Rattle.autocoder_statements.specs.Names.{name_run, name_of}
 use Rattle.autocoder_statements.specs.Statements.{operand_field}
 use Rattle.autocoder_statements.specs.declared.names.Name.{Name}
@@ -10,6 +11,11 @@ use Rattle.autocoder_layout.specs.Names.{address_of}
 use Rattle.autocoder_layout.specs.Source.{Line}
 use Rattle.autocoder_layout.specs.declared.faults.SourceFault.{SourceFault}
 use Rattle.autocoder_layout.specs.declared.faults.SourceFault.TheVariants.{NoMemory, Statement, TakenLabel, UnknownName, Outside, Reserved, Filled, NoEnd}
+use Rattle.autocoder_layout.specs.Slots.{origin}
+use Rattle.autocoder_layout.specs.declared.slots.Definition.{Definition}
+use Rattle.autocoder_layout.specs.declared.slots.Slot.{Slot}
+use Rattle.source_reports.specs.Names.{differences, defines_near}
+use Rattle.source_reports.specs.declared.names.Known.{Known}
 use Rattle.source_reports.specs.UnknownNames.{unknown_name, usable_by}
 use Rattle.source_reports.specs.Places.{unknown_column}
 
@@ -49,6 +55,20 @@ last_column NoEnd = 0
 abbrev pub IsInField : SourceFault → ℕ → Type 0
 IsInField fault column = (first_column fault ≤ column) × (column ≤ last_column fault)
 
+-- ---- a character behind a blank
+
+-- a character of a field that is no blank, and stands behind one
+pub record IsBehindBlank (field : List ℕ) (index : ℕ) : Type 0 where
+  pub gap : ℕ
+  pub order : gap < index
+  pub within : index < length field
+  pub blank : is_blank (slice_index field gap) ≡ true
+  pub filled : is_blank (slice_index field index) ≡ false
+
+-- the column of such a character in a field that begins with this column
+abbrev pub IsStrayAt : List ℕ → ℕ → ℕ → Type 0
+IsStrayAt field first column = (index : ℕ) × (column ≡ first + index) × IsBehindBlank field index
+
 -- ---- a name that is not defined
 
 -- what a card has from a column of its operands on
@@ -66,3 +86,18 @@ pub record IsUnknownTold (layout : Layout) (index : ℕ) (card : Card) (line : L
   pub told : unknown_name layout line ≡ Some name
   pub over_caret : name_at card (unknown_column layout card line) ≡ Some name
   pub undefined : address_of name (usable_by line index layout.slots) ≡ None
+
+-- ---- a name that is nearly the same
+
+-- a name that the card of this number, from 1, defines, which differs from another one in one
+-- character; no other card defines such a name
+pub record IsOnlyNear (wanted : Name) (slots : List Slot) (known : Known) : Type 0 where
+  pub index : ℕ
+  pub card : known.card ≡ index + 1
+  pub within : index < length slots
+  pub definition : Definition
+  pub defined : (slice_index_or slots index origin).defines ≡ Some definition
+  pub name : definition.name ≡ known.name
+  pub near : differences known.name.characters wanted.characters ≡ 1
+  pub only : (k : ℕ) → k < length slots →
+      defines_near wanted (slice_index_or slots k origin) ≡ true → k ≡ index

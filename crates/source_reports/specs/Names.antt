@@ -33,7 +33,8 @@ defines_near wanted slot = is_of_near wanted slot.defines
 
 -- a name that the card of this number, from 0, defines, if it defines one
 abbrev pub known_at : List Slot → ℕ → Option Known
-known_at slots index = option_map (λ definition. record { name = definition.name; card = index + 1 })
+known_at slots index =
+    option_map (λ definition. record { name = definition.name; card = index + 1 })
     (slice_index_or slots index origin).defines
 
 -- the defined name that differs from this one in one character, if there is exactly one

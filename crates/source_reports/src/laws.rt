@@ -1,16 +1,21 @@
 //! The laws of the report of a source.
 
-ghost use Rattle.std.specs.Prelude.{◌≡◌, ◌-◌, List, ℕ, Some, slice_get, slice_index_or};
+ghost use Rattle.std.specs.Prelude.{◌≡◌, ◌-◌, ◌⊎◌, ◌||◌, true, List, ℕ, Some, slice_get, slice_index_or};
 ghost use Rattle.cards.specs.declared.decks.Card.{Card};
 ghost use Rattle.autocoder_layout.specs.declared.card_faults.CardFault.{CardFault};
 ghost use Rattle.autocoder_layout.specs.declared.faults.SourceFault.TheVariants.{UnknownName};
+ghost use Rattle.autocoder_statements.specs.Statements.{is_broken, label_field, operation_field};
+ghost use Rattle.autocoder_statements.specs.declared.names.Name.{Name};
 ghost use Rattle.autocoder_layout.specs.Layout.{nothing};
+ghost use Rattle.autocoder_layout.specs.declared.slots.Slot.{Slot};
 ghost use Rattle.autocoder.specs.Programs.{IsFaultless, AreFaults, layout_for};
 ghost use Rattle.autocoder.specs.declared.faults.Faults.{Faults};
 ghost use Rattle.autocoder_listings.specs.Listing.{listing_with_code_of};
 ghost use Rattle.source_reports.specs.Blocks.{line_at};
-ghost use Rattle.source_reports.specs.Carets.{IsInField, IsUnknownTold};
-ghost use Rattle.source_reports.specs.Places.{place_of};
+ghost use Rattle.source_reports.specs.Carets.{IsInField, IsStrayAt, IsUnknownTold, IsOnlyNear};
+ghost use Rattle.source_reports.specs.Names.{near_name};
+ghost use Rattle.source_reports.specs.declared.names.Known.{Known};
+ghost use Rattle.source_reports.specs.Places.{broken_column, place_of};
 ghost use Rattle.source_reports.specs.Reports.{laid_for, text_for, Tells};
 
 /// The law of reports: the report of a source without faults is its listing with code, and that of
@@ -41,4 +46,21 @@ pub fn names_told_are_not_defined()
     ensures { (source : List Card) (k : ℕ) (card : Card) → slice_get source k ≡ Some card →
         (slice_index_or (layout_for source) k nothing).fault ≡ Some UnknownName →
         IsUnknownTold (laid_for source) k card (line_at (laid_for source) k) }
+{}
+
+/// The law of broken fields: where the label or the operation has a character behind a blank, the
+/// caret stands under such a character, which has a blank before it in its field.
+pub fn carets_stand_behind_a_blank()
+    ensures { (card : Card) →
+        (is_broken (label_field card) || is_broken (operation_field card)) ≡ true →
+        IsStrayAt (label_field card) 6 (broken_column card)
+        ⊎ IsStrayAt (operation_field card) 16 (broken_column card) }
+{}
+
+/// The law of names that are nearly the same: such a name is defined by the card that is told,
+/// differs in one character, and no other card defines one that does.
+#[tactic(auto, using(crate::proofs::NearLaw::near_is_only))]
+pub fn near_names_are_the_only_ones()
+    ensures { (wanted : Name) (slots : List Slot) (known : Known) →
+        near_name wanted slots ≡ Some known → IsOnlyNear wanted slots known }
 {}
