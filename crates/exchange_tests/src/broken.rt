@@ -1,5 +1,5 @@
-//! Both doors of a bureau whose store fails: what was answered before stands, the command that meets
-//! the failure is answered by fault 2, and so is all after it. And what the meter counts.
+//! Both doors of a bureau whose store fails: what was answered before stands, the command that
+//! meets the failure is answered by fault 2, and so is all after it. And what the meter counts.
 
 use crate::doors::{request_of, script_of, told_by};
 use std::alloc::Global;
@@ -16,7 +16,8 @@ const FAULT_2: &str = "Answered { status: 503, sent: 118 }: HTTP/1.1 503 Service
     \r\n\
     {\"fault\":2}, 0 left\n";
 
-/// The text of a submission in a script and the card of the job: it prints a line and punches a card.
+/// The text of a submission in a script and the card of the job: it prints a line and punches a
+/// card.
 fn submitted(alloc: Global) -> Result<String, Fail> {
     Ok(format!(in alloc;
         "submit ACME 9 object 1400 - 1\n{:80}\n",

@@ -11,11 +11,12 @@ use sqlite::{Alter, Connection};
 use std::alloc::Global;
 use std::test::Fail;
 
-/// A request or a script: the bytes that the reader gives, one a call, and whether it fails then; and
-/// of the writer the number of bytes that it takes, at most so many a call, and whether it fails then.
+/// A request or a script: the bytes that the reader gives, one a call, and whether it fails then;
+/// and of the writer the number of bytes that it takes, at most so many a call, and whether it
+/// fails then.
 #[derive(Clone, Copy)]
 pub(crate) struct Call<'a> {
-    is_request: bool,
+    pub(crate) is_request: bool,
     pub(crate) bytes: &'a [u8],
     pub(crate) is_torn: bool,
     pub(crate) room: usize,
@@ -73,8 +74,8 @@ fn tell<S: Alter>(
     Ok(write!(told, ", {} left\n", reader.rest.len())?)
 }
 
-/// Makes calls of a new bureau in turn, and tells of each; and at the end how many instructions were
-/// attempted.
+/// Makes calls of a new bureau in turn, and tells of each; and at the end how many instructions
+/// were attempted.
 fn tell_all<S: Alter + Drop>(
     alloc: Global,
     mut conn: Connection<S>,

@@ -3,7 +3,7 @@
 use crate::decks::script_of;
 use crate::sessions::Session;
 use bitflags::Flags;
-use cards::{Card, read_text};
+use cards::read_text;
 use ledger::{Bureau, Fault, shift};
 use office::{Command, Contents, JobCommand, Kind, Reply, Stacker};
 use scripts::{parse, write_reply};
@@ -29,7 +29,7 @@ fn eight_switches() -> Switches {
 
 /// The submission of a customer's job 9 that prints two lines, with eight switches on.
 fn submission(alloc: Global, customer: &str) -> Result<Command, Fail> {
-    let deck = read_text(alloc, &script_of(alloc, "two lines")?)?;
+    let deck = read_text(alloc, script_of(alloc, "two lines")?.as_str().as_bytes())?;
     Ok(Command::Submit {
         customer: String::from_str(alloc, customer)?,
         number: 9,
@@ -42,63 +42,65 @@ fn submission(alloc: Global, customer: &str) -> Result<Command, Fail> {
     })
 }
 
-/// The command that these words name, which is no line of a script: a query for what job 9 of ACME
-/// has made, a command with eight switches on, or one of a customer without a name.
-fn command_named(alloc: Global, words: &str) -> Result<Option<Command>, Fail> {
-    let (customer, command) = match words {
-        "lines" => ("ACME", JobCommand::Lines),
-        "cards" => ("ACME", JobCommand::Cards { from: Stacker::All }),
+/// The customer of the job and the command on it that these words name, which no script has: a
+/// query for what the job has made, a start with eight switches on, or a query of nobody.
+fn job_command_named(words: &str) -> Option<(&'static str, JobCommand)> {
+    match words {
+        "lines" => Some(("ACME", JobCommand::Lines)),
+        "cards" => Some(("ACME", JobCommand::Cards { from: Stacker::All })),
         "cards of pocket 4" => {
             let from = Stacker::Of(Pocket::Four);
-            ("ACME", JobCommand::Cards { from })
+            Some(("ACME", JobCommand::Cards { from }))
         }
         "start with eight switches" => {
             let switches = eight_switches();
-            ("ACME", JobCommand::Start { switches })
+            Some(("ACME", JobCommand::Start { switches }))
         }
-        "standing of nobody" => ("", JobCommand::Standing),
-        "jobs of nobody" => {
-            let customer = String::new(alloc);
-            return Ok(Some(Command::Jobs { customer }));
-        }
-        "submission with eight switches" => return Ok(Some(submission(alloc, "ACME")?)),
-        "submission of nobody" => return Ok(Some(submission(alloc, "")?)),
-        _ => return Ok(None),
-    };
-    Ok(Some(on_nine(alloc, customer, command)?))
+        "standing of nobody" => Some(("", JobCommand::Standing)),
+        _ => None,
+    }
+}
+
+/// The command that these words name, which no script has: on a job, a submission with eight
+/// switches on, or one of a customer without a name.
+fn command_named(alloc: Global, words: &str) -> Result<Option<Command>, Fail> {
+    if let Some((customer, command)) = job_command_named(words) {
+        return Ok(Some(on_nine(alloc, customer, command)?));
+    }
+    match words {
+        "submission with eight switches" => Ok(Some(submission(alloc, "ACME")?)),
+        "submission of nobody" => Ok(Some(submission(alloc, "")?)),
+        "jobs of nobody" => Ok(Some(Command::Jobs {
+            customer: String::new(alloc),
+        })),
+        _ => Ok(None),
+    }
 }
 
 /// The commands of a stage: those of a script, or the one that its words name.
-pub(crate) fn commands_of(alloc: Global, text: &str) -> Result<Vec<Command>, Fail> {
+fn commands_of(alloc: Global, text: &str) -> Result<Vec<Command>, Fail> {
     if let Some(command) = command_named(alloc, text)? {
         return Ok(vec![in alloc; command]?);
     }
     let script = script_of(alloc, text)?;
-    Ok(parse(alloc, &script).ok().ok_or("a script")?)
+    Ok(
+        parse(alloc, script.as_str().as_bytes())
+            .ok()
+            .ok_or("a script")?,
+    )
 }
 
-/// Tells cards: their number, and the first five columns of each.
-fn tell_cards(cards: &[Card], told: &mut Vec<u8>) -> Result<(), Fail> {
-    write!(told, "cards {}", cards.len())?;
-    for card in cards {
-        told.push(b' ')?;
-        for column in 0..5 {
-            told.push(card.0[column].glyph())?;
-        }
-    }
-    Ok(told.push(b'\n')?)
-}
-
-/// Tells a reply: cards, lines as they are listed, or the line of a script.
+/// Tells a reply: how many cards, lines as they are listed, or the line of a script.
 fn tell_reply(alloc: Global, reply: &Reply, told: &mut Vec<u8>) -> Result<(), Fail> {
     match reply {
-        Reply::Cards(cards) => tell_cards(&cards.0, told),
+        Reply::Cards(cards) => Ok(write!(told, "cards {}\n", cards.0.len())?),
         Reply::Lines(lines) => Ok(told.extend_from_slice(&render(alloc, &lines.0)?)?),
         other => Ok(write_reply(told, &mut 0, other).ok().ok_or("a line")?),
     }
 }
 
-/// Whether a bureau that is broken answers none of these commands, right or wrong, and does nothing.
+/// Whether a bureau that is broken answers none of these commands, right or wrong, and does
+/// nothing.
 fn is_at_rest<S: Alter>(
     alloc: Global,
     bureau: &mut Bureau<S>,
@@ -115,25 +117,33 @@ fn is_at_rest<S: Alter>(
     bureau.broken() && session.meter.ticks() == ticks
 }
 
-/// Works off commands in a shift, and tells each reply, or the fault that ended it.
+/// Tells the replies of a shift.
+fn tell_replies(alloc: Global, replies: &[Reply], told: &mut Vec<u8>) -> Result<(), Fail> {
+    for reply in replies {
+        tell_reply(alloc, reply, told)?;
+    }
+    Ok(())
+}
+
+/// Works off the commands of a stage in a shift, and tells each reply, and the fault that ended it.
+/// The stage `adopt` has none.
 pub(crate) fn work<S: Alter>(
     alloc: Global,
     bureau: &mut Bureau<S>,
-    commands: &[Command],
+    stage: &str,
     session: &mut Session,
 ) -> Result<(), Fail> {
-    let done = shift(alloc, bureau, commands, &mut session.meter);
-    for reply in &done.replies {
-        tell_reply(alloc, reply, &mut session.told)?;
+    if stage == "adopt" {
+        return Ok(session.told.extend_from_slice(b"done\n")?);
     }
-    if done.replies.len() != done.acknowledged {
-        return Err("another number of replies")?;
+    let commands = commands_of(alloc, stage)?;
+    let done = shift(alloc, bureau, &commands, &mut session.meter);
+    tell_replies(alloc, &done.replies, &mut session.told)?;
+    match done.fault {
+        None => Ok(()),
+        Some(Fault::Store) if !is_at_rest(alloc, bureau, &commands, session) => {
+            Err("a bureau that goes on after fault 2")?
+        }
+        Some(fault) => session.tell_fault(fault.number()),
     }
-    let Some(fault) = done.fault else {
-        return Ok(());
-    };
-    if fault == Fault::Store && !is_at_rest(alloc, bureau, commands, session) {
-        return Err("a bureau that goes on after fault 2")?;
-    }
-    session.tell_fault(fault.number())
 }

@@ -67,8 +67,21 @@ pub(crate) struct Ended {
     pub(crate) disks: Files<Memory>,
 }
 
-/// The end of a session of these stages over copies of disks that fail after these numbers of calls.
-/// Disks that cannot be opened tell nothing. The log is often copied into the database file.
+/// The end of a session that left these disks.
+fn ended(alloc: Global, session: &Session, files: &Files<Fuse<Memory>>) -> Result<Ended, Fail> {
+    let told = str::from_utf8(&session.told).ok().ok_or("a text")?;
+    let told = told.replace(alloc, "\n", "/")?;
+    let log = copy(alloc, files.log.inner())?;
+    let db = copy(alloc, files.db.inner())?;
+    Ok(Ended {
+        told,
+        ticks: session.meter.ticks(),
+        disks: Files { log, db },
+    })
+}
+
+/// The end of a session of these stages over copies of disks that fail after these numbers of
+/// calls. Disks that cannot be opened tell nothing. The log is often copied into the database file.
 pub(crate) fn session_over(
     alloc: Global,
     disks: &Files<Memory>,
@@ -86,14 +99,7 @@ pub(crate) fn session_over(
         Ok(conn) => session.over(alloc, conn, stages)?.close(),
         Err((_, left)) => left.into_files(),
     };
-    let log = copy(alloc, files.log.inner())?;
-    let db = copy(alloc, files.db.inner())?;
-    let told = str::from_utf8(&session.told).ok().ok_or("a text")?;
-    Ok(Ended {
-        told: told.replace(alloc, "\n", "/")?,
-        ticks: session.meter.ticks(),
-        disks: Files { log, db },
-    })
+    ended(alloc, &session, &files)
 }
 
 /// What stages tell over copies of disks that do not fail.
@@ -102,13 +108,14 @@ pub(crate) fn told_on(alloc: Global, disks: &Files<Memory>, stages: &str) -> Res
     Ok(told)
 }
 
-/// The disks after stages over empty ones, if the stages tell just this.
+/// The disks after stages over copies of disks that do not fail, if the stages tell just this.
 pub(crate) fn disks_after(
     alloc: Global,
+    disks: &Files<Memory>,
     stages: &str,
     wanted: &str,
 ) -> Result<Files<Memory>, Fail> {
-    let Ended { told, disks, .. } = session_over(alloc, &empty_disks(alloc), ALL, stages)?;
+    let Ended { told, disks, .. } = session_over(alloc, disks, ALL, stages)?;
     if told.as_str() != wanted {
         return Err("another reply")?;
     }

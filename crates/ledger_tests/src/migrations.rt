@@ -1,9 +1,9 @@
-//! Tables of older versions that are raised while a disk fails from some call on, each call in turn.
-//! They go on as if they had never been old.
+//! Tables of older versions that are raised while a disk fails from some call on, each call in
+//! turn. They go on as if they had never been old.
 
-use crate::disks::{ALL, Ended, Failing, disks_after, session_over, told_on};
+use crate::disks::{ALL, Ended, Failing, disks_after, empty_disks, session_over, told_on};
 use crate::old_tables::{FIRST_TABLES, made_old};
-use crate::trials::{NONE, Stops, Trial, steps_of, stop_each};
+use crate::trials::{NONE, Step, Stops, Trial, stop_each};
 use sqlite::Files;
 use sqlite_disk::Memory;
 use std::alloc::Global;
@@ -21,78 +21,74 @@ const TAKEN: &str = "taken 6/ran 34 running/taken 1/ran 8 halted next 33/";
 const AT_LAST: &str = "adopt#rows#queue~slice ACME 9 2000~standing ZETA 9#lines#rows";
 
 /// The disks of the two jobs as those of a version.
-fn old_disks(alloc: Global, version: &str) -> Result<Files<Memory>, Fail> {
+fn old_disks(alloc: Global, version: u32) -> Result<Files<Memory>, Fail> {
     let old = made_old(alloc, version)?;
     let stages = format!(in alloc; "sql {FIRST_TABLES}#{TWO_JOBS}#sql {old}")?;
-    disks_after(alloc, stages.as_str(), TAKEN)
+    disks_after(alloc, &empty_disks(alloc), stages.as_str(), TAKEN)
 }
 
-/// The disks of the two jobs in a bureau that was never old, where each has the profile of those that
-/// were made before version 4.
+/// The disks of the two jobs in a bureau that was never old, where each has the profile of those
+/// that were made before version 4.
 fn never_old(alloc: Global) -> Result<Files<Memory>, Fail> {
-    let stages = format!(in alloc; "create#{TWO_JOBS}#sql UPDATE profiles SET profile = 1")?;
-    let wanted = format!(in alloc; "done/{TAKEN}")?;
-    disks_after(alloc, stages.as_str(), wanted.as_str())
+    let bureau = disks_after(alloc, &empty_disks(alloc), "create", "done/")?;
+    let stages = format!(in alloc; "{TWO_JOBS}#sql UPDATE profiles SET profile = 1")?;
+    disks_after(alloc, &bureau, stages.as_str(), TAKEN)
 }
 
-/// The stops of a migration of these disks, after which the jobs are told of so at last.
-fn stops_of(
-    alloc: Global,
-    disks: &Files<Memory>,
-    step: &str,
-    told: &str,
-    failing: Failing,
-) -> Result<Stops, Fail> {
-    let steps = steps_of(alloc, step)?;
+/// The step that raises the tables of a version.
+fn migration_from(version: u32) -> Step {
+    match version {
+        1 => ("version 1/", "version 4/", "migrate"),
+        2 => ("version 2/", "version 4/", "migrate"),
+        _ => ("version 3/", "version 4/", "migrate"),
+    }
+}
+
+/// The stops of a migration from a version.
+fn stops_of(alloc: Global, version: u32, failing: Failing) -> Result<Stops, Fail> {
+    let told = told_on(alloc, &never_old(alloc)?, AT_LAST)?;
+    let disks = old_disks(alloc, version)?;
     let trial = Trial {
-        disks,
-        steps: &steps,
+        disks: &disks,
+        steps: &[migration_from(version)],
         last: AT_LAST,
-        told,
+        told: told.as_str(),
     };
     let mut stops = NONE;
     stop_each(alloc, &trial, failing, &mut stops)?;
     Ok(stops)
 }
 
-/// The stops of each version, first those of the log and then those of the database file.
 #[test]
 fn a_disk_fails_in_a_migration(rt: HostRuntime) -> Result<(), Fail> {
-    let alloc = rt.alloc();
-    let told = told_on(alloc, &never_old(alloc)?, AT_LAST)?;
-    let mut found = String::new(alloc);
-    for version in ["1", "2", "3"] {
-        let disks = old_disks(alloc, version)?;
-        let step = format!(in alloc; "version {version}/|version 4/|migrate")?;
-        for failing in [Failing::Log, Failing::Database] {
-            let Stops { lost, kept } = stops_of(
-                alloc,
-                &disks,
-                step.as_str(),
-                told.as_str(),
-                failing,
-            )?;
-            write!(&mut found, "{lost} lost, {kept} kept; ")?;
-        }
+    for (version, failing, lost, kept) in [
+        (1, Failing::Log, 0, 0),
+        (1, Failing::Database, 0, 0),
+        (2, Failing::Log, 0, 0),
+        (2, Failing::Database, 0, 0),
+        (3, Failing::Log, 0, 0),
+        (3, Failing::Database, 0, 0),
+    ] {
+        let stops = stops_of(rt.alloc(), version, failing)?;
+        assert_eq!(rt; (stops.lost, stops.kept), (lost, kept), "version {version}");
     }
-    assert_eq!(rt; found.as_str(), "");
     Ok(())
 }
 
-/// In a transaction that is open nothing is raised. It is given up when the connection is closed.
+/// Whether nothing is raised in a transaction that is open. It is given up when the connection is
+/// closed.
+fn is_left_alone(alloc: Global, disks: &Files<Memory>) -> Result<bool, Fail> {
+    let rows = told_on(alloc, disks, "rows")?;
+    let Ended { told, disks, .. } = session_over(alloc, disks, ALL, "sql BEGIN#migrate")?;
+    Ok(told.as_str() == "fault 2/" && told_on(alloc, &disks, "rows")? == rows)
+}
+
 #[test]
 fn an_open_transaction_is_left_alone(rt: HostRuntime) -> Result<(), Fail> {
     let alloc = rt.alloc();
-    for (disks, version) in [
-        (never_old(alloc)?, "4"),
-        (old_disks(alloc, "1")?, "1"),
-        (old_disks(alloc, "2")?, "2"),
-        (old_disks(alloc, "3")?, "3"),
-    ] {
-        let rows = told_on(alloc, &disks, "rows")?;
-        let Ended { told, disks, .. } = session_over(alloc, &disks, ALL, "sql BEGIN#migrate")?;
-        assert_eq!(rt; told.as_str(), "fault 2/", "{version}");
-        assert!(rt; told_on(alloc, &disks, "rows")? == rows, "{version}");
+    assert!(rt; is_left_alone(alloc, &never_old(alloc)?)?);
+    for version in 1..=3 {
+        assert!(rt; is_left_alone(alloc, &old_disks(alloc, version)?)?);
     }
     Ok(())
 }

@@ -44,85 +44,70 @@ pub(crate) const FIRST_TABLES: &str = "\
     INSERT INTO bureau (id, version) VALUES (1, 4);
     COMMIT";
 
-/// Adds blank positions without a mark to a storage, up to this number of positions. Each has two
-/// hexadecimal digits.
-fn pad(storage: &mut String, positions: usize) -> Result<(), Fail> {
-    for _ in storage.len() / 2..positions {
-        storage.push_str("00")?;
-    }
-    Ok(())
-}
+/// Makes the tables those of version 1. Each job has its storage as a whole in `pictures`: two
+/// hexadecimal digits for each of 1400 positions, and `~` for 50 that are blank.
+const MADE_FIRST: &str = "\
+    BEGIN;
+    DROP TABLE pockets;
+    DROP TABLE profiles;
+    INSERT INTO pictures SELECT customer, number, x'\
+    005626292334~~~00000000000000000000000000000000000000000000000000000000000000000000000000000\
+    00000000000001626292334~~00000000000000000000000000000000000000000000000000000051030302515B0\
+    A0A0141640A080A02080A427203060A31720304027B40~~~~~~~~~~~~~~~~~~~~000000000000000000000000000\
+    0000000000000000000000000000000000000000000000000\
+    ', i, a, b, compare, overflow, channel, waiting, form, line, taken, cards, lines, standing \
+    FROM states WHERE customer = 'ACME';
+    INSERT INTO pictures SELECT customer, number, x'\
+    005B0A0A080A01055B0A02020A02095B0A030A0A03015B0A03020A03034444447B40~~~~~~~~~~~~~~~~~~~~~~~~\
+    ~~~00000000000000000000000000000000\
+    ', i, a, b, compare, overflow, channel, waiting, form, line, taken, cards, lines, standing \
+    FROM states WHERE customer = 'ZETA';
+    DROP TABLE pages;
+    DROP TABLE states;
+    UPDATE bureau SET version = 1;
+    COMMIT";
 
-/// The storages of the two jobs, which have 1400 positions: the customer of each, the characters and
-/// marks that are not blank, and the positions where they begin.
-const STORAGES: [(&str, &[(usize, &str)]); 2] = [
-    (
-        "ACME",
-        &[
-            (1, "5626292334"),
-            (201, "1626292334"),
-            (
-                333,
-                "51030302515B0A0A0141640A080A02080A427203060A31720304027B40",
-            ),
-        ],
-    ),
-    (
-        "ZETA",
-        &[(
-            1,
-            "5B0A0A080A01055B0A02020A02095B0A030A0A03015B0A03020A03034444447B40",
-        )],
-    ),
-];
+/// Makes the tables those of version 2, where each page has a row, also one that is blank. The
+/// first job has rows of pages 0, 2 and 3, and the second one of page 0.
+const MADE_SECOND: &str = "\
+    BEGIN;
+    DROP TABLE pockets;
+    DROP TABLE profiles;
+    DROP TABLE pictures;
+    INSERT INTO pages SELECT customer, number, 1, x'~~' FROM jobs;
+    INSERT INTO pages SELECT customer, number, 4, storage FROM pages WHERE page = 1;
+    INSERT INTO pages SELECT customer, number, 5, storage FROM pages WHERE page = 1;
+    INSERT INTO pages SELECT customer, number, 6, storage FROM pages WHERE page = 1;
+    INSERT INTO pages SELECT customer, number, 7, storage FROM pages WHERE page = 1;
+    INSERT INTO pages SELECT customer, number, 8, storage FROM pages WHERE page = 1;
+    INSERT INTO pages SELECT customer, number, 9, storage FROM pages WHERE page = 1;
+    INSERT INTO pages SELECT customer, number, 10, storage FROM pages WHERE page = 1;
+    INSERT INTO pages SELECT customer, number, 11, storage FROM pages WHERE page = 1;
+    INSERT INTO pages SELECT customer, number, 12, storage FROM pages WHERE page = 1;
+    INSERT INTO pages SELECT customer, number, 13, storage FROM pages WHERE page = 1;
+    INSERT INTO pages SELECT customer, number, 2, storage FROM pages WHERE page = 1 AND \
+    customer = 'ZETA';
+    INSERT INTO pages SELECT customer, number, 3, storage FROM pages WHERE page = 1 AND \
+    customer = 'ZETA';
+    UPDATE bureau SET version = 2;
+    COMMIT";
 
-/// Gives each of the two jobs a row in `pictures`, as version 1 has: its storage as a whole.
-fn all_pictures(alloc: Global) -> Result<String, Fail> {
-    let mut sql = String::new(alloc);
-    for (customer, parts) in STORAGES {
-        let mut storage = String::new(alloc);
-        for (position, cells) in parts {
-            pad(&mut storage, *position)?;
-            storage.push_str(cells)?;
-        }
-        pad(&mut storage, 1400)?;
-        write!(
-            &mut sql,
-            "INSERT INTO pictures SELECT customer, number, x'{storage}', i, a, b, compare, \
-            overflow, channel, waiting, form, line, taken, cards, lines, standing FROM states \
-            WHERE customer = '{customer}'; "
-        )?;
-    }
-    Ok(sql)
-}
-
-/// Gives each page of the two jobs a row, as version 2 has. The first one has rows of pages 0, 2 and
-/// 3, the second one of page 0.
-fn all_pages(alloc: Global) -> Result<String, Fail> {
-    let mut blank = String::new(alloc);
-    pad(&mut blank, 100)?;
-    let mut sql = String::new(alloc);
-    for page in 1..14 {
-        let least = if page == 2 || page == 3 { "ZETA" } else { "" };
-        write!(
-            &mut sql,
-            "INSERT INTO pages SELECT customer, number, {page}, x'{blank}' FROM jobs \
-            WHERE customer >= '{least}'; "
-        )?;
-    }
-    Ok(sql)
-}
+/// Makes the tables those of version 3.
+const MADE_THIRD: &str = "\
+    BEGIN;
+    DROP TABLE pockets;
+    DROP TABLE profiles;
+    DROP TABLE pictures;
+    UPDATE bureau SET version = 3;
+    COMMIT";
 
 /// The statements that make the tables of the two jobs those of an older version. None of them had
 /// profiles.
-pub(crate) fn made_old(alloc: Global, version: &str) -> Result<String, Fail> {
-    let (rows, dropped) = match version {
-        "1" => (all_pictures(alloc)?, "DROP TABLE pages; DROP TABLE states"),
-        "2" => (all_pages(alloc)?, "DROP TABLE pictures"),
-        _ => (String::new(alloc), "DROP TABLE pictures"),
+pub(crate) fn made_old(alloc: Global, version: u32) -> Result<String, Fail> {
+    let statements = match version {
+        1 => MADE_FIRST,
+        2 => MADE_SECOND,
+        _ => MADE_THIRD,
     };
-    Ok(format!(in alloc;
-        "BEGIN; DROP TABLE pockets; DROP TABLE profiles; {rows}{dropped}; \
-        UPDATE bureau SET version = {version}; COMMIT"
-    )?)
+    Ok(statements.replace(alloc, "~", &"00".repeat(alloc, 50)?)?)
 }

@@ -5,16 +5,16 @@
 //! - `rows` tells every row of every table, also of tables that only older versions have.
 //! - `tables` makes calls of tables that the bureau does not.
 //! - `sql` and statements executes these.
-//! - All others are commands, in a shift of a bureau that is opened for them: the lines of a script,
+//! - All others are commands, in a shift of a bureau that is opened for them: lines of a script,
 //!   or words that name a command.
 //!
 //! In what is told `/` ends a line.
 
-use crate::commands::{commands_of, work};
+use crate::commands::work;
 use crate::sessions::Session;
 use crate::unasked::ask_tables;
 use ledger::{Bureau, migrate};
-use sqlite::{Alter, Connection, Error};
+use sqlite::{Alter, Connection};
 use std::alloc::Global;
 use std::io::Write;
 use std::test::Fail;
@@ -46,11 +46,7 @@ fn opened<S: Alter + Drop>(
 ) -> Result<Connection<S>, Fail> {
     match Bureau::adopt(alloc, conn) {
         Ok(mut bureau) => {
-            if stage == "adopt" {
-                session.told.extend_from_slice(b"done\n")?;
-            } else {
-                work(alloc, &mut bureau, &commands_of(alloc, stage)?, session)?;
-            }
+            work(alloc, &mut bureau, stage, session)?;
             Ok(bureau.into_connection())
         }
         Err((fault, conn)) => {
@@ -87,19 +83,28 @@ const TABLES: [&str; 10] = [
     "pockets ORDER BY customer, number, place",
 ];
 
+/// Tells every row of a table.
+fn show<S: Alter>(
+    alloc: Global,
+    conn: &mut Connection<S>,
+    table: &str,
+    told: &mut Vec<u8>,
+) -> Result<(), Fail> {
+    let sql = format!(in alloc; "SELECT * FROM {table}")?;
+    match conn.query_all(sql.as_str(), &[]) {
+        Ok(rows) => Ok(write!(told, "{rows:?}\n")?),
+        Err(_) => Ok(told.extend_from_slice(b"no table\n")?),
+    }
+}
+
 /// The stage `rows`.
-fn shown<S: Alter>(
+fn show_all<S: Alter>(
     alloc: Global,
     conn: &mut Connection<S>,
     told: &mut Vec<u8>,
 ) -> Result<(), Fail> {
     for table in TABLES {
-        let sql = format!(in alloc; "SELECT * FROM {table}")?;
-        match conn.query_all(sql.as_str(), &[]) {
-            Ok(rows) => write!(told, "{rows:?}\n")?,
-            Err(Error::SqlInputError(_)) => told.extend_from_slice(b"no table\n")?,
-            Err(error) => Err(error)?,
-        }
+        show(alloc, conn, table, told)?;
     }
     Ok(())
 }
@@ -113,7 +118,7 @@ fn is_done<S: Alter>(
 ) -> Result<bool, Fail> {
     match stage {
         "migrate" => migrated(alloc, conn, session)?,
-        "rows" => shown(alloc, conn, &mut session.told)?,
+        "rows" => show_all(alloc, conn, &mut session.told)?,
         "tables" => ask_tables(alloc, conn, &mut session.told)?,
         _ => match stage.strip_prefix("sql ") {
             Some(statements) => conn.execute_batch(statements)?,

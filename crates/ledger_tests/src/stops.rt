@@ -1,116 +1,153 @@
 //! A bureau that is stopped at each call of a disk: single commands, and shifts.
 
-use crate::disks::{ALL, Failing, disks_after, empty_disks, told_on};
-use crate::trials::{NONE, Stops, Trial, steps_of, stop_each};
+use crate::disks::{Failing, disks_after, empty_disks, told_on};
+use crate::trials::{NONE, Step, Stops, Trial, stop_each};
 use sqlite::Files;
 use sqlite_disk::Memory;
 use std::alloc::Global;
 use std::test::Fail;
 
-/// A bureau that is created, and commands to it.
-const ONE_JOB: &str = "\
-done/|fault 2/|create
-done/||adopt
-refused 20/||hold ACME 9
-taken 6/||submit ACME 9 object 4000 A 6~two lines
-taken 6/||submit ACME 9 object 4000 A 6~two lines
-queue ACME/9/||queue
-held/|refused 25/|hold ACME 9
-released/|refused 26/|release ACME 9
-ran 34 running/|ran 1 halted next 361/|slice ACME 9 34
-standing running held 0 collected 0 granted 34 cards 0 lines 2/||standing ACME 9
-ran 1 halted next 361/|refused 23/|slice ACME 9 2000
-started/|refused 24/|start ACME 9 -
-ran 0 check INSTRUCTION at 361/|refused 23/|slice ACME 9 10
-HELLO/WORLD/||lines
-collected 0 2/|refused 27/|collect ACME 9
-jobs 9/||jobs ACME
-";
+/// A bureau is created and opened.
+const CREATION: &[Step] = &[("done/", "fault 2/", "create"), ("done/", "done/", "adopt")];
 
-/// A job of which a source is handed in.
-const OF_A_SOURCE: &str = "\
-refused 16 1:49/||submit ACME 9 autocoder 1400 - 1~source without END
-taken 4/||submit ACME 9 autocoder 1400 - 7~source
-taken 4/||submit ACME 9 autocoder 1400 - 7~source
-ran 22 halted next 347/|refused 23/|slice ACME 9 2000
-cards 1 HELLO/||cards
-";
+const SUBMIT: &str = "submit ACME 9 object 4000 A 6~two lines";
 
-/// A job that punches a card into each pocket, and stops first where a pocket is chosen and nothing
-/// is punched.
-const WITH_CARDS: &str = "\
-taken 1/||submit ACME 9 object 1400 - 1~three pockets
-ran 7 running/|ran 5 halted next 51/|slice ACME 9 7
-ran 5 halted next 51/|refused 23/|slice ACME 9 2000
-cards 1      /||cards of pocket 4
-";
+const STANDING: &str = "standing running held 0 collected 0 granted 34 cards 0 lines 2/";
+
+/// Commands on a job that prints two lines.
+const ONE_JOB: &[Step] = &[
+    ("refused 20/", "refused 20/", "hold ACME 9"),
+    ("taken 6/", "taken 6/", SUBMIT),
+    ("taken 6/", "taken 6/", SUBMIT),
+    ("queue ACME/9/", "queue ACME/9/", "queue"),
+    ("held/", "refused 25/", "hold ACME 9"),
+    ("released/", "refused 26/", "release ACME 9"),
+    (
+        "ran 34 running/",
+        "ran 1 halted next 361/",
+        "slice ACME 9 34",
+    ),
+    (STANDING, STANDING, "standing ACME 9"),
+    ("ran 1 halted next 361/", "refused 23/", "slice ACME 9 2000"),
+    ("started/", "refused 24/", "start ACME 9 -"),
+    (
+        "ran 0 check INSTRUCTION at 361/",
+        "refused 23/",
+        "slice ACME 9 10",
+    ),
+    ("HELLO/WORLD/", "HELLO/WORLD/", "lines"),
+    ("collected 0 2/", "refused 27/", "collect ACME 9"),
+    ("jobs 9/", "jobs 9/", "jobs ACME"),
+];
+
+const SUBMIT_SOURCE: &str = "submit ACME 9 autocoder 1400 - 7~source";
+
+/// Commands on a job of which a source is handed in.
+const OF_A_SOURCE: &[Step] = &[
+    (
+        "refused 16 1:49/",
+        "refused 16 1:49/",
+        "submit ACME 9 autocoder 1400 - 1~source without END",
+    ),
+    ("taken 4/", "taken 4/", SUBMIT_SOURCE),
+    ("taken 4/", "taken 4/", SUBMIT_SOURCE),
+    (
+        "ran 22 halted next 347/",
+        "refused 23/",
+        "slice ACME 9 2000",
+    ),
+    ("cards 1/", "cards 1/", "cards"),
+];
+
+const SUBMIT_POCKETS: &str = "submit ACME 9 object 1400 - 1~three pockets";
+
+/// Commands on a job that punches a card into each pocket, and stops first where a pocket is chosen
+/// and nothing is punched.
+const WITH_CARDS: &[Step] = &[
+    ("taken 1/", "taken 1/", SUBMIT_POCKETS),
+    ("ran 7 running/", "ran 5 halted next 51/", "slice ACME 9 7"),
+    ("ran 5 halted next 51/", "refused 23/", "slice ACME 9 2000"),
+    ("cards 1/", "cards 1/", "cards of pocket 4"),
+];
 
 /// The disks of a bureau without jobs.
 fn new_disks(alloc: Global) -> Result<Files<Memory>, Fail> {
-    disks_after(alloc, "create", "done/")
+    disks_after(alloc, &empty_disks(alloc), "create", "done/")
 }
 
-/// The stops of each step of a sheet alone, of which the first is over these disks, and each other
-/// one over those that the step before left.
+/// The stops of each step alone: the first one over these disks, and each other one over those that
+/// the step before left.
 fn stops_of_each(
     alloc: Global,
     mut disks: Files<Memory>,
-    sheet: &str,
+    steps: &[Step],
     failing: Failing,
 ) -> Result<Stops, Fail> {
     let mut stops = NONE;
-    for step in &steps_of(alloc, sheet)? {
+    for (reply, again, stage) in steps {
         let trial = Trial {
             disks: &disks,
-            steps: &[*step],
+            steps: &[(*reply, *again, *stage)],
             last: "",
             told: "",
         };
-        disks = stop_each(alloc, &trial, failing, &mut stops)?;
+        stop_each(alloc, &trial, failing, &mut stops)?;
+        disks = disks_after(alloc, &disks, stage, reply)?;
     }
     Ok(stops)
 }
 
-/// The stops of each sheet, first those of the log and then those of the database file.
+#[test]
+fn a_disk_fails_at_a_creation(rt: HostRuntime) -> Result<(), Fail> {
+    let alloc = rt.alloc();
+    for (failing, lost, kept) in [(Failing::Log, 0, 0), (Failing::Database, 0, 0)] {
+        let stops = stops_of_each(alloc, empty_disks(alloc), CREATION, failing)?;
+        assert_eq!(rt; (stops.lost, stops.kept), (lost, kept));
+    }
+    Ok(())
+}
+
 #[test]
 fn a_disk_fails_in_a_command(rt: HostRuntime) -> Result<(), Fail> {
     let alloc = rt.alloc();
-    let mut found = String::new(alloc);
-    for sheet in [ONE_JOB, OF_A_SOURCE, WITH_CARDS] {
-        for failing in [Failing::Log, Failing::Database] {
-            let disks = if sheet == ONE_JOB {
-                empty_disks(alloc)
-            } else {
-                new_disks(alloc)?
-            };
-            let Stops { lost, kept } = stops_of_each(alloc, disks, sheet, failing)?;
-            write!(&mut found, "{lost} lost, {kept} kept; ")?;
-        }
+    for (steps, failing, lost, kept) in [
+        (ONE_JOB, Failing::Log, 0, 0),
+        (ONE_JOB, Failing::Database, 0, 0),
+        (OF_A_SOURCE, Failing::Log, 0, 0),
+        (OF_A_SOURCE, Failing::Database, 0, 0),
+        (WITH_CARDS, Failing::Log, 0, 0),
+        (WITH_CARDS, Failing::Database, 0, 0),
+    ] {
+        let stops = stops_of_each(alloc, new_disks(alloc)?, steps, failing)?;
+        assert_eq!(rt; (stops.lost, stops.kept), (lost, kept));
     }
-    assert_eq!(rt; found.as_str(), "");
     Ok(())
 }
 
 /// A shift on a job that prints two lines, and at its end a wrong command.
-const TWO_LINES: &str = "\
-taken 6/||submit ACME 9 object 4000 A 6~two lines
-ran 34 running/|ran 1 halted next 361/|slice ACME 9 34
-ran 1 halted next 361/|refused 23/|slice ACME 9 2000
-refused 10/||slice acme 0 0
-";
+const TWO_LINES: &[Step] = &[
+    ("taken 6/", "taken 6/", SUBMIT),
+    (
+        "ran 34 running/",
+        "ran 1 halted next 361/",
+        "slice ACME 9 34",
+    ),
+    ("ran 1 halted next 361/", "refused 23/", "slice ACME 9 2000"),
+    ("refused 10/", "refused 10/", "slice acme 0 0"),
+];
 
 /// A shift on a job that punches a card into each pocket.
-const THREE_POCKETS: &str = "\
-taken 1/||submit ACME 9 object 1400 - 1~three pockets
-ran 12 halted next 51/|refused 23/|slice ACME 9 2000
-";
+const THREE_POCKETS: &[Step] = &[
+    ("taken 1/", "taken 1/", SUBMIT_POCKETS),
+    ("ran 12 halted next 51/", "refused 23/", "slice ACME 9 2000"),
+];
 
-/// The stops of the shift of a sheet.
-fn stops_of_shift(alloc: Global, sheet: &str, failing: Failing) -> Result<Stops, Fail> {
-    let (disks, steps) = (new_disks(alloc)?, steps_of(alloc, sheet)?);
+/// The stops of a shift.
+fn stops_of_shift(alloc: Global, steps: &[Step], failing: Failing) -> Result<Stops, Fail> {
+    let disks = new_disks(alloc)?;
     let trial = Trial {
         disks: &disks,
-        steps: &steps,
+        steps,
         last: "",
         told: "",
     };
@@ -119,18 +156,17 @@ fn stops_of_shift(alloc: Global, sheet: &str, failing: Failing) -> Result<Stops,
     Ok(stops)
 }
 
-/// The stops of each sheet, first those of the log and then those of the database file.
 #[test]
 fn a_disk_fails_in_a_shift(rt: HostRuntime) -> Result<(), Fail> {
-    let alloc = rt.alloc();
-    let mut found = String::new(alloc);
-    for sheet in [TWO_LINES, THREE_POCKETS] {
-        for failing in [Failing::Log, Failing::Database] {
-            let Stops { lost, kept } = stops_of_shift(alloc, sheet, failing)?;
-            write!(&mut found, "{lost} lost, {kept} kept; ")?;
-        }
+    for (steps, failing, lost, kept) in [
+        (TWO_LINES, Failing::Log, 0, 0),
+        (TWO_LINES, Failing::Database, 0, 0),
+        (THREE_POCKETS, Failing::Log, 0, 0),
+        (THREE_POCKETS, Failing::Database, 0, 0),
+    ] {
+        let stops = stops_of_shift(rt.alloc(), steps, failing)?;
+        assert_eq!(rt; (stops.lost, stops.kept), (lost, kept));
     }
-    assert_eq!(rt; found.as_str(), "");
     Ok(())
 }
 

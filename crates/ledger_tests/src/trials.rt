@@ -1,119 +1,26 @@
 //! Trials: steps over disks of which one fails from some call on, each call in turn, and what is
 //! found on the disks opened again.
 
-use crate::disks::{Ended, Failing, session_over, told_on};
+use crate::disks::{Calls, Ended, Failing, disks_after, session_over, told_on};
 use sqlite::Files;
 use sqlite_disk::Memory;
 use std::alloc::Global;
 use std::test::Fail;
 
 /// A step: the reply to it, the reply if it was carried out before, and its stage.
-#[derive(Clone, Copy)]
-pub(crate) struct Step<'a> {
-    reply: &'a str,
-    again: &'a str,
-    stage: &'a str,
-}
-
-/// The steps of the lines of a sheet, each `REPLY|AGAIN|STAGE`; without `AGAIN` it is `REPLY` too.
-pub(crate) fn steps_of<'a>(alloc: Global, sheet: &'a str) -> Result<Vec<Step<'a>>, Fail> {
-    let mut steps = Vec::new(alloc);
-    for line in sheet.lines() {
-        let (reply, rest) = line.split_once('|').ok_or("a reply")?;
-        let (again, stage) = rest.split_once('|').ok_or("a stage")?;
-        let again = if again.is_empty() { reply } else { again };
-        steps.push(Step {
-            reply,
-            again,
-            stage,
-        })?;
-    }
-    Ok(steps)
-}
+pub(crate) type Step = (&'static str, &'static str, &'static str);
 
 /// Steps that are done in one session over disks; and stages for the end, with what they then tell.
 #[derive(Clone, Copy)]
 pub(crate) struct Trial<'a> {
     pub(crate) disks: &'a Files<Memory>,
-    pub(crate) steps: &'a [Step<'a>],
+    pub(crate) steps: &'a [Step],
     pub(crate) last: &'a str,
     pub(crate) told: &'a str,
 }
 
-/// What must be found after a stop in a step.
-#[derive(Drop)]
-struct Case {
-    /// The stages that are done over the disks, opened again.
-    stages: String,
-    /// What they tell if the step was lost.
-    lost: String,
-    /// What they tell if it was kept.
-    kept: String,
-}
-
-/// The cases of the steps: how the bureau is opened and each of its rows, the reply to the step done
-/// again, and what is told at the end.
-fn cases_of(alloc: Global, trial: &Trial<'_>) -> Result<Vec<Case>, Fail> {
-    let (last, told) = (trial.last, trial.told);
-    let mut cases = Vec::new(alloc);
-    let (mut stages, mut replies) = (String::new(alloc), String::new(alloc));
-    let mut office = told_on(alloc, trial.disks, "adopt#rows")?;
-    for step in trial.steps {
-        let Step {
-            reply,
-            again,
-            stage,
-        } = *step;
-        stages.push_str(if stages.is_empty() { "" } else { "~" })?;
-        stages.push_str(stage)?;
-        replies.push_str(reply)?;
-        let found = told_on(
-            alloc,
-            trial.disks,
-            format!(in alloc; "{stages}#adopt#rows")?.as_str(),
-        )?;
-        let next = found
-            .as_str()
-            .strip_prefix(replies.as_str())
-            .ok_or("another reply")?;
-        cases.push(Case {
-            stages: format!(in alloc; "adopt#rows#{stage}#{last}")?,
-            lost: format!(in alloc; "{office}{reply}{told}")?,
-            kept: format!(in alloc; "{next}{again}{told}")?,
-        })?;
-        office = next.to_string(alloc)?;
-    }
-    Ok(cases)
-}
-
-/// The number of steps that a session acknowledged before it was stopped.
-fn acknowledged(steps: &[Step<'_>], told: &str) -> Result<usize, Fail> {
-    let (mut count, mut rest) = (0usize, told);
-    for step in steps {
-        match rest.strip_prefix(step.reply) {
-            Some(more) => {
-                count = count.saturating_add(1);
-                rest = more;
-            }
-            None if rest.is_empty() || rest == "fault 2/" => return Ok(count),
-            None => Err("another reply")?,
-        }
-    }
-    Ok(count)
-}
-
-/// The stages of steps in one session: a shift, if there are some.
-fn stages_of(alloc: Global, steps: &[Step<'_>]) -> Result<String, Fail> {
-    let mut stages = String::new(alloc);
-    for step in steps {
-        stages.push_str(if stages.is_empty() { "" } else { "~" })?;
-        stages.push_str(step.stage)?;
-    }
-    Ok(stages)
-}
-
-/// The number of stops after which the step that was not acknowledged was lost, and the number after
-/// which it was kept.
+/// The number of stops after which the step that was not acknowledged was lost, and the number
+/// after which it was kept.
 #[derive(Clone, Copy)]
 pub(crate) struct Stops {
     pub(crate) lost: u32,
@@ -123,35 +30,125 @@ pub(crate) struct Stops {
 /// No stop.
 pub(crate) const NONE: Stops = Stops { lost: 0, kept: 0 };
 
-/// Stops a trial at each call of a disk in turn, until all steps are acknowledged, and adds the stops
-/// to those before. Returns the disks then.
+/// How the bureau is opened, and every row: before the first step, and after each.
+fn offices_of(alloc: Global, trial: &Trial<'_>) -> Result<Vec<String>, Fail> {
+    let mut offices = Vec::new(alloc);
+    let mut disks = disks_after(alloc, trial.disks, "", "")?;
+    for (reply, _, stage) in trial.steps {
+        offices.push(told_on(alloc, &disks, "adopt#rows")?)?;
+        disks = disks_after(alloc, &disks, stage, reply)?;
+    }
+    offices.push(told_on(alloc, &disks, "adopt#rows")?)?;
+    Ok(offices)
+}
+
+/// The stages of steps in one session: a shift, if there are some.
+fn stages_of(alloc: Global, steps: &[Step]) -> Result<String, Fail> {
+    let mut stages = String::new(alloc);
+    for (place, (_, _, stage)) in steps.iter().enumerate() {
+        stages.push_str(if place == 0 { "" } else { "~" })?;
+        stages.push_str(stage)?;
+    }
+    Ok(stages)
+}
+
+/// The number of steps that a session acknowledged before it was stopped.
+fn acknowledged(steps: &[Step], told: &str) -> Option<usize> {
+    let mut rest = told;
+    for (place, (reply, _, _)) in steps.iter().enumerate() {
+        match rest.strip_prefix(*reply) {
+            Some(more) => rest = more,
+            None if rest.is_empty() || rest == "fault 2/" => return Some(place),
+            None => return None,
+        }
+    }
+    Some(steps.len())
+}
+
+/// Whether a text is these in turn.
+fn is_made_of(text: &str, parts: [&str; 3]) -> bool {
+    let mut rest = text;
+    for part in parts {
+        match rest.strip_prefix(part) {
+            Some(more) => rest = more,
+            None => return false,
+        }
+    }
+    rest.is_empty()
+}
+
+/// What is left after a stop.
+#[derive(Clone, Copy)]
+enum Left {
+    Lost,
+    Kept,
+    /// All steps were acknowledged.
+    Ended,
+}
+
+/// What is left after so many acknowledged steps, if this is found: how the bureau is opened and
+/// every row, the reply to the next step, or to the last one again, and what is told at the end.
+fn left_by(trial: &Trial<'_>, offices: &[String], count: usize, found: &str) -> Option<Left> {
+    let old = offices.get(count)?.as_str();
+    let Some((reply, again, _)) = trial.steps.get(count) else {
+        let (_, again, _) = trial.steps.last()?;
+        return is_made_of(found, [old, again, trial.told]).then_some(Left::Ended);
+    };
+    if is_made_of(found, [old, reply, trial.told]) {
+        return Some(Left::Lost);
+    }
+    let next = offices.get(count.saturating_add(1))?.as_str();
+    is_made_of(found, [next, again, trial.told]).then_some(Left::Kept)
+}
+
+/// What is found on disks that a stop left after so many acknowledged steps.
+fn found_on(
+    alloc: Global,
+    trial: &Trial<'_>,
+    disks: &Files<Memory>,
+    count: usize,
+) -> Result<String, Fail> {
+    let step = trial.steps.get(count).or(trial.steps.last());
+    let (_, _, stage) = step.ok_or("a step")?;
+    let stages = format!(in alloc; "adopt#rows#{stage}#{}", trial.last)?;
+    told_on(alloc, disks, stages.as_str())
+}
+
+/// Stops a trial after these numbers of calls.
+fn stop(
+    alloc: Global,
+    trial: &Trial<'_>,
+    offices: &[String],
+    stages: &str,
+    calls: Calls,
+) -> Result<Left, Fail> {
+    let Ended { told, disks, .. } = session_over(alloc, trial.disks, calls, stages)?;
+    let count = acknowledged(trial.steps, told.as_str()).ok_or("another reply")?;
+    let found = found_on(alloc, trial, &disks, count)?;
+    Ok(left_by(trial, offices, count, found.as_str()).ok_or("another office")?)
+}
+
+/// Stops a trial at each call of a disk in turn, until all steps are acknowledged. Adds the stops
+/// to those before.
 pub(crate) fn stop_each(
     alloc: Global,
     trial: &Trial<'_>,
     failing: Failing,
     stops: &mut Stops,
-) -> Result<Files<Memory>, Fail> {
-    let cases = cases_of(alloc, trial)?;
+) -> Result<(), Fail> {
+    let offices = offices_of(alloc, trial)?;
     let stages = stages_of(alloc, trial.steps)?;
     for calls in 0..1000 {
-        let Ended { told, disks, .. } = session_over(
+        match stop(
             alloc,
-            trial.disks,
-            failing.after(calls),
+            trial,
+            &offices,
             stages.as_str(),
-        )?;
-        let place = acknowledged(trial.steps, told.as_str())?;
-        let is_end = place == trial.steps.len();
-        let case = cases.get(place).or(cases.last()).ok_or("a step")?;
-        let found = told_on(alloc, &disks, case.stages.as_str())?;
-        if is_end && found == case.kept {
-            return Ok(disks);
-        } else if !is_end && found == case.lost {
-            stops.lost = stops.lost.saturating_add(1);
-        } else if !is_end && found == case.kept {
-            stops.kept = stops.kept.saturating_add(1);
-        } else {
-            return Err("another office")?;
+            failing.after(calls),
+        )? {
+            Left::Lost => stops.lost = stops.lost.saturating_add(1),
+            Left::Kept => stops.kept = stops.kept.saturating_add(1),
+            Left::Ended => return Ok(()),
         }
     }
     Err("no end")?
