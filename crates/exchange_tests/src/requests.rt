@@ -15,7 +15,7 @@ const NO_JOB: &str = "HTTP/1.1 404 Not Found\r\n\
 
 /// Each request is read to its end, and nothing is carried out if the reader fails before.
 #[test]
-fn nothing_is_carried_out_before_a_request_is_request_of(rt: HostRuntime) -> Result<(), Fail> {
+fn nothing_is_carried_out_before_a_request_is_whole(rt: HostRuntime) -> Result<(), Fail> {
     let alloc = rt.alloc();
     let submission = format!(in alloc;
         "PUT /c/ACME/j/9/object/4000/A HTTP/1.1\r\nContent-Length: 81\r\n\r\n{:80}\n",

@@ -68,7 +68,7 @@ pub(crate) struct Ended {
 }
 
 /// The end of a session that left these disks.
-fn ended(alloc: Global, session: &Session, files: &Files<Fuse<Memory>>) -> Result<Ended, Fail> {
+fn end_of(alloc: Global, session: &Session, files: &Files<Fuse<Memory>>) -> Result<Ended, Fail> {
     let told = str::from_utf8(&session.told).ok().ok_or("a text")?;
     let told = told.replace(alloc, "\n", "/")?;
     let log = copy(alloc, files.log.inner())?;
@@ -99,7 +99,7 @@ pub(crate) fn session_over(
         Ok(conn) => session.over(alloc, conn, stages)?.close(),
         Err((_, left)) => left.into_files(),
     };
-    ended(alloc, &session, &files)
+    end_of(alloc, &session, &files)
 }
 
 /// What stages tell over copies of disks that do not fail.

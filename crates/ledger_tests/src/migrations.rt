@@ -59,19 +59,22 @@ fn stops_of(alloc: Global, version: u32, failing: Failing) -> Result<Stops, Fail
     Ok(stops)
 }
 
+/// The stops of each migration: those after which it was lost, and those after which it was kept.
 #[test]
 fn a_disk_fails_in_a_migration(rt: HostRuntime) -> Result<(), Fail> {
-    for (version, failing, lost, kept) in [
-        (1, Failing::Log, 0, 0),
-        (1, Failing::Database, 0, 0),
-        (2, Failing::Log, 0, 0),
-        (2, Failing::Database, 0, 0),
-        (3, Failing::Log, 0, 0),
-        (3, Failing::Database, 0, 0),
+    let mut found = Vec::new(rt.alloc());
+    for (version, failing) in [
+        (1, Failing::Log),
+        (1, Failing::Database),
+        (2, Failing::Log),
+        (2, Failing::Database),
+        (3, Failing::Log),
+        (3, Failing::Database),
     ] {
         let stops = stops_of(rt.alloc(), version, failing)?;
-        assert_eq!(rt; (stops.lost, stops.kept), (lost, kept), "version {version}");
+        found.push((stops.lost, stops.kept))?;
     }
+    assert_eq!(rt; found.as_slice(), [(0u32, 0u32), (0, 0)].as_slice());
     Ok(())
 }
 

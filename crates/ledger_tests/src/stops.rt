@@ -97,30 +97,35 @@ fn stops_of_each(
     Ok(stops)
 }
 
+/// The stops of each call: those after which the step was lost, and those after which it was kept.
 #[test]
 fn a_disk_fails_at_a_creation(rt: HostRuntime) -> Result<(), Fail> {
     let alloc = rt.alloc();
-    for (failing, lost, kept) in [(Failing::Log, 0, 0), (Failing::Database, 0, 0)] {
+    let mut found = Vec::new(alloc);
+    for failing in [Failing::Log, Failing::Database] {
         let stops = stops_of_each(alloc, empty_disks(alloc), CREATION, failing)?;
-        assert_eq!(rt; (stops.lost, stops.kept), (lost, kept));
+        found.push((stops.lost, stops.kept))?;
     }
+    assert_eq!(rt; found.as_slice(), [(0u32, 0u32), (0, 0)].as_slice());
     Ok(())
 }
 
 #[test]
 fn a_disk_fails_in_a_command(rt: HostRuntime) -> Result<(), Fail> {
     let alloc = rt.alloc();
-    for (steps, failing, lost, kept) in [
-        (ONE_JOB, Failing::Log, 0, 0),
-        (ONE_JOB, Failing::Database, 0, 0),
-        (OF_A_SOURCE, Failing::Log, 0, 0),
-        (OF_A_SOURCE, Failing::Database, 0, 0),
-        (WITH_CARDS, Failing::Log, 0, 0),
-        (WITH_CARDS, Failing::Database, 0, 0),
+    let mut found = Vec::new(alloc);
+    for (steps, failing) in [
+        (ONE_JOB, Failing::Log),
+        (ONE_JOB, Failing::Database),
+        (OF_A_SOURCE, Failing::Log),
+        (OF_A_SOURCE, Failing::Database),
+        (WITH_CARDS, Failing::Log),
+        (WITH_CARDS, Failing::Database),
     ] {
         let stops = stops_of_each(alloc, new_disks(alloc)?, steps, failing)?;
-        assert_eq!(rt; (stops.lost, stops.kept), (lost, kept));
+        found.push((stops.lost, stops.kept))?;
     }
+    assert_eq!(rt; found.as_slice(), [(0u32, 0u32), (0, 0)].as_slice());
     Ok(())
 }
 
@@ -158,15 +163,17 @@ fn stops_of_shift(alloc: Global, steps: &[Step], failing: Failing) -> Result<Sto
 
 #[test]
 fn a_disk_fails_in_a_shift(rt: HostRuntime) -> Result<(), Fail> {
-    for (steps, failing, lost, kept) in [
-        (TWO_LINES, Failing::Log, 0, 0),
-        (TWO_LINES, Failing::Database, 0, 0),
-        (THREE_POCKETS, Failing::Log, 0, 0),
-        (THREE_POCKETS, Failing::Database, 0, 0),
+    let mut found = Vec::new(rt.alloc());
+    for (steps, failing) in [
+        (TWO_LINES, Failing::Log),
+        (TWO_LINES, Failing::Database),
+        (THREE_POCKETS, Failing::Log),
+        (THREE_POCKETS, Failing::Database),
     ] {
         let stops = stops_of_shift(rt.alloc(), steps, failing)?;
-        assert_eq!(rt; (stops.lost, stops.kept), (lost, kept));
+        found.push((stops.lost, stops.kept))?;
     }
+    assert_eq!(rt; found.as_slice(), [(0u32, 0u32), (0, 0)].as_slice());
     Ok(())
 }
 

@@ -65,16 +65,12 @@ fn acknowledged(steps: &[Step], told: &str) -> Option<usize> {
     Some(steps.len())
 }
 
-/// Whether a text is these in turn.
-fn is_made_of(text: &str, parts: [&str; 3]) -> bool {
-    let mut rest = text;
-    for part in parts {
-        match rest.strip_prefix(part) {
-            Some(more) => rest = more,
-            None => return false,
-        }
-    }
-    rest.is_empty()
+/// Whether a text is what is told of an office, then a reply, and then what is told at the end.
+fn is_made_of(text: &str, office: &str, reply: &str, told: &str) -> bool {
+    let Some(rest) = text.strip_prefix(office) else {
+        return false;
+    };
+    rest.strip_prefix(reply) == Some(told)
 }
 
 /// What is left after a stop.
@@ -92,13 +88,13 @@ fn left_by(trial: &Trial<'_>, offices: &[String], count: usize, found: &str) -> 
     let old = offices.get(count)?.as_str();
     let Some((reply, again, _)) = trial.steps.get(count) else {
         let (_, again, _) = trial.steps.last()?;
-        return is_made_of(found, [old, again, trial.told]).then_some(Left::Ended);
+        return is_made_of(found, old, again, trial.told).then_some(Left::Ended);
     };
-    if is_made_of(found, [old, reply, trial.told]) {
+    if is_made_of(found, old, reply, trial.told) {
         return Some(Left::Lost);
     }
     let next = offices.get(count.saturating_add(1))?.as_str();
-    is_made_of(found, [next, again, trial.told]).then_some(Left::Kept)
+    is_made_of(found, next, again, trial.told).then_some(Left::Kept)
 }
 
 /// What is found on disks that a stop left after so many acknowledged steps.
