@@ -1,148 +1,149 @@
-//! Commands as lines, and the replies to them.
+//! Commands to a bureau, and the replies to them.
 
-use crate::decks::deck_named;
-use crate::replies::reply_text;
+use crate::decks::script_of;
+use crate::sessions::Session;
 use bitflags::Flags;
-use ledger::{Bureau, Fault};
-use machine::Meter;
+use cards::read_text;
+use ledger::{Bureau, Fault, shift};
 use office::{Command, Contents, JobCommand, Kind, Reply, Stacker};
+use scripts::{parse, write_reply};
 use sqlite::Alter;
 use std::alloc::Global;
+use std::io::Write;
 use std::test::Fail;
-use units::{Pocket, Switches};
+use units::{Pocket, Switches, render};
 
-/// The number in a field.
-fn number_of(field: &str) -> Result<u32, Fail> {
-    Ok(field.parse::<u32>().ok().ok_or("a number")?)
-}
-
-/// The switches in a field.
-fn switches_of(field: &str) -> Result<Switches, Fail> {
-    match field {
-        "A" => Ok(Switches::A),
-        "B" => Ok(Switches::B),
-        "-" => Ok(Switches::empty()),
-        "127" => Ok(Switches::from_bits_retain(127)),
-        "255" => Ok(Switches::from_bits_retain(255)),
-        _ => Err("switches")?,
-    }
-}
-
-/// The contents in these fields: a size, switches and the name of a deck.
-fn contents_of(alloc: Global, kind: Kind, fields: &str) -> Result<Contents, Fail> {
-    let (size, fields) = fields.split_once('|').ok_or("a size")?;
-    let (switches, deck) = fields.split_once('|').ok_or("switches")?;
-    Ok(Contents {
-        kind,
-        size: number_of(size)?,
-        switches: switches_of(switches)?,
-        deck: deck_named(alloc, deck)?,
+/// A command on job 9 of a customer.
+fn on_nine(alloc: Global, customer: &str, command: JobCommand) -> Result<Command, Fail> {
+    Ok(Command::Job {
+        customer: String::from_str(alloc, customer)?,
+        number: 9,
+        command,
     })
 }
 
-/// The cards that a field asks for.
-fn stacker_of(field: &str) -> Stacker {
-    match field {
-        "" => Stacker::All,
-        "0" => Stacker::Of(Pocket::Normal),
-        "4" => Stacker::Of(Pocket::Four),
-        "8" => Stacker::Of(Pocket::Eight),
-        _ => Stacker::Unknown,
-    }
+/// All switches, and an eighth one, which there is not.
+fn eight_switches() -> Switches {
+    Switches::from_bits_retain(255)
 }
 
-/// The command on a job with this word, and with its limit, switches or pocket.
-fn job_command_of(word: &str, field: &str) -> Result<JobCommand, Fail> {
-    match word {
-        "slice" => Ok(JobCommand::Slice {
-            limit: number_of(field)?,
-        }),
-        "start" => Ok(JobCommand::Start {
-            switches: switches_of(field)?,
-        }),
-        "hold" => Ok(JobCommand::Hold),
-        "release" => Ok(JobCommand::Release),
-        "collect" => Ok(JobCommand::Collect),
-        "standing" => Ok(JobCommand::Standing),
-        "cards" => Ok(JobCommand::Cards {
-            from: stacker_of(field),
-        }),
-        "lines" => Ok(JobCommand::Lines),
-        _ => Err("a word")?,
-    }
+/// The submission of a customer's job 9 that prints two lines, with eight switches on.
+fn submission(alloc: Global, customer: &str) -> Result<Command, Fail> {
+    let deck = read_text(alloc, script_of(alloc, "two lines")?.as_str().as_bytes())?;
+    Ok(Command::Submit {
+        customer: String::from_str(alloc, customer)?,
+        number: 9,
+        contents: Contents {
+            kind: Kind::Object,
+            size: 4000,
+            switches: eight_switches(),
+            deck,
+        },
+    })
 }
 
-/// The kind of deck that a word submits, if it is such a word.
-fn kind_of(word: &str) -> Option<Kind> {
-    match word {
-        "submit" => Some(Kind::Object),
-        "submit source" => Some(Kind::Autocoder),
+/// The customer of the job and the command on it that these words name, which no script has: a
+/// query for what the job has made, a start with eight switches on, or a query of nobody.
+fn job_command_named(words: &str) -> Option<(&'static str, JobCommand)> {
+    match words {
+        "lines" => Some(("ACME", JobCommand::Lines)),
+        "cards" => Some(("ACME", JobCommand::Cards { from: Stacker::All })),
+        "cards of pocket 4" => {
+            let from = Stacker::Of(Pocket::Four);
+            Some(("ACME", JobCommand::Cards { from }))
+        }
+        "start with eight switches" => {
+            let switches = eight_switches();
+            Some(("ACME", JobCommand::Start { switches }))
+        }
+        "standing of nobody" => Some(("", JobCommand::Standing)),
         _ => None,
     }
 }
 
-/// The command of a line: its word, the customer, the number, and the command's other values.
-pub(crate) fn command_of(alloc: Global, line: &str) -> Result<Command, Fail> {
-    let (word, fields) = line.split_once('|').ok_or("a word")?;
-    if word == "queue" {
-        return Ok(Command::Queue);
+/// The command that these words name, which no script has: on a job, a submission with eight
+/// switches on, or one of a customer without a name.
+fn command_named(alloc: Global, words: &str) -> Result<Option<Command>, Fail> {
+    if let Some((customer, command)) = job_command_named(words) {
+        return Ok(Some(on_nine(alloc, customer, command)?));
     }
-    let (customer, fields) = fields.split_once('|').ok_or("a customer")?;
-    if word == "jobs" {
-        let customer = String::from_str(alloc, customer)?;
-        return Ok(Command::Jobs { customer });
-    }
-    let (number, fields) = fields.split_once('|').ok_or("a number")?;
-    let customer = String::from_str(alloc, customer)?;
-    let number = number_of(number)?;
-    match kind_of(word) {
-        Some(kind) => Ok(Command::Submit {
-            customer,
-            number,
-            contents: contents_of(alloc, kind, fields)?,
-        }),
-        None => Ok(Command::Job {
-            customer,
-            number,
-            command: job_command_of(word, fields)?,
-        }),
+    match words {
+        "submission with eight switches" => Ok(Some(submission(alloc, "ACME")?)),
+        "submission of nobody" => Ok(Some(submission(alloc, "")?)),
+        "jobs of nobody" => Ok(Some(Command::Jobs {
+            customer: String::new(alloc),
+        })),
+        _ => Ok(None),
     }
 }
 
-/// Applies a command.
-// It has no clause, so that the proof of a caller does not carry the state of each call.
-pub(crate) fn apply<S: Alter>(
-    bureau: &mut Bureau<S>,
-    command: &Command,
-    meter: &mut Meter,
-) -> Result<Reply, Fault> {
-    bureau.apply(command, meter)
+/// The commands of a stage: those of a script, or the one that its words name.
+fn commands_of(alloc: Global, text: &str) -> Result<Vec<Command>, Fail> {
+    if let Some(command) = command_named(alloc, text)? {
+        return Ok(vec![in alloc; command]?);
+    }
+    let script = script_of(alloc, text)?;
+    Ok(
+        parse(alloc, script.as_str().as_bytes())
+            .ok()
+            .ok_or("a script")?,
+    )
 }
 
-/// The reply to the command of a line.
-pub(crate) fn reply_to<S: Alter>(
+/// Tells a reply: how many cards, lines as they are listed, or the line of a script.
+fn tell_reply(alloc: Global, reply: &Reply, told: &mut Vec<u8>) -> Result<(), Fail> {
+    match reply {
+        Reply::Cards(cards) => Ok(write!(told, "cards {}\n", cards.0.len())?),
+        Reply::Lines(lines) => Ok(told.extend_from_slice(&render(alloc, &lines.0)?)?),
+        other => Ok(write_reply(told, &mut 0, other).ok().ok_or("a line")?),
+    }
+}
+
+/// Whether a bureau that is broken answers none of these commands, right or wrong, and does
+/// nothing.
+fn is_at_rest<S: Alter>(
     alloc: Global,
     bureau: &mut Bureau<S>,
-    meter: &mut Meter,
-    line: &str,
-) -> Result<String, Fail> {
-    let command = command_of(alloc, line)?;
-    reply_text(alloc, &apply(bureau, &command, meter))
-}
-
-/// The first line of a sheet whose command gets another reply than the line gives before it; empty
-/// if there is none.
-pub(crate) fn misanswered<'a, S: Alter>(
-    alloc: Global,
-    bureau: &mut Bureau<S>,
-    meter: &mut Meter,
-    sheet: &'a str,
-) -> Result<&'a str, Fail> {
-    for line in sheet.lines() {
-        let (wanted, command) = line.split_once('|').ok_or("a reply")?;
-        if reply_to(alloc, bureau, meter, command)?.as_str() != wanted {
-            return Ok(line);
+    commands: &[Command],
+    session: &mut Session,
+) -> bool {
+    let ticks = session.meter.ticks();
+    for place in 0..commands.len() {
+        let next = shift(alloc, bureau, &commands[place..], &mut session.meter);
+        if next.fault != Some(Fault::Store) || next.acknowledged != 0 {
+            return false;
         }
     }
-    Ok("")
+    bureau.broken() && session.meter.ticks() == ticks
+}
+
+/// Tells the replies of a shift.
+fn tell_replies(alloc: Global, replies: &[Reply], told: &mut Vec<u8>) -> Result<(), Fail> {
+    for reply in replies {
+        tell_reply(alloc, reply, told)?;
+    }
+    Ok(())
+}
+
+/// Works off the commands of a stage in a shift, and tells each reply, and the fault that ended it.
+/// The stage `adopt` has none.
+pub(crate) fn work<S: Alter>(
+    alloc: Global,
+    bureau: &mut Bureau<S>,
+    stage: &str,
+    session: &mut Session,
+) -> Result<(), Fail> {
+    if stage == "adopt" {
+        return Ok(session.told.extend_from_slice(b"done\n")?);
+    }
+    let commands = commands_of(alloc, stage)?;
+    let done = shift(alloc, bureau, &commands, &mut session.meter);
+    tell_replies(alloc, &done.replies, &mut session.told)?;
+    match done.fault {
+        None => Ok(()),
+        Some(Fault::Store) if !is_at_rest(alloc, bureau, &commands, session) => {
+            Err("a bureau that goes on after fault 2")?
+        }
+        Some(fault) => session.tell_fault(fault.number()),
+    }
 }

@@ -1,11 +1,13 @@
-//! A bureau's disks, kept in memory, some of which fail.
+//! A bureau's disks, kept in memory, of which one fails after some calls.
+//!
+//! The proof of a function that names a store in files takes many times as long as that of one over
+//! any store. `session_over` alone names one, and makes one call over it.
 
 ghost use Rattle.std.specs.Prelude.{IsTrue, IfOk};
 ghost use Rattle.sqlite_disk.specs.Memory.{memory_is_usable};
 
-use crate::connections::{Work, over_files};
 use crate::sessions::Session;
-use sqlite::{Files, Options};
+use sqlite::{Connection, Files, Options};
 use sqlite_disk::{Disk, Fuse, Memory};
 use std::alloc::Global;
 use std::test::Fail;
@@ -19,26 +21,6 @@ fn copy(alloc: Global, disk: &Memory) -> Result<Memory, Fail>
     Ok(copy)
 }
 
-/// What a session tells over copies of disks; the ticks of its commands; and the copies after it.
-pub(crate) fn told_on(
-    alloc: Global,
-    disks: &Files<Memory>,
-    stages: &str,
-) -> Result<(String, u64, Files<Memory>), Fail> {
-    let files = Files {
-        log: copy(alloc, &disks.log)?,
-        db: copy(alloc, &disks.db)?,
-    };
-    let mut session = Session::of(alloc, stages)?;
-    let (opened, files) = over_files(alloc, files, Options::new(1), &mut session)?;
-    if !opened {
-        return Err("not opened")?;
-    }
-    let ticks = session.meter.ticks();
-    let Session { told, .. } = session;
-    Ok((told, ticks, files))
-}
-
 /// Disks without a bureau.
 pub(crate) fn empty_disks(alloc: Global) -> Files<Memory> {
     Files {
@@ -47,17 +29,11 @@ pub(crate) fn empty_disks(alloc: Global) -> Files<Memory> {
     }
 }
 
-/// The disks of a bureau without jobs.
-pub(crate) fn new_disks(alloc: Global) -> Result<Files<Memory>, Fail> {
-    let (_, _, disks) = told_on(alloc, &empty_disks(alloc), "make|#")?;
-    Ok(disks)
-}
-
 /// The number of calls of each disk that do not fail.
-#[derive(Clone, Copy, Drop)]
+#[derive(Clone, Copy)]
 pub(crate) struct Calls {
-    pub(crate) log: u64,
-    pub(crate) db: u64,
+    log: u64,
+    db: u64,
 }
 
 /// No call fails.
@@ -67,7 +43,7 @@ pub(crate) const ALL: Calls = Calls {
 };
 
 /// The disk that fails.
-#[derive(Clone, Copy, Drop)]
+#[derive(Clone, Copy)]
 pub(crate) enum Failing {
     Log,
     Database,
@@ -83,22 +59,65 @@ impl Failing {
     }
 }
 
-/// Does work over copies of disks, which fail after these numbers of calls, and returns the copies.
-/// If they cannot be opened, the work is not done. The log is often copied into the database file.
-pub(crate) fn over_failing<W: Work>(
+/// What a session told, the ticks of its commands, and the disks after it.
+#[derive(Drop)]
+pub(crate) struct Ended {
+    pub(crate) told: String,
+    pub(crate) ticks: u64,
+    pub(crate) disks: Files<Memory>,
+}
+
+/// The end of a session that left these disks.
+fn end_of(alloc: Global, session: &Session, files: &Files<Fuse<Memory>>) -> Result<Ended, Fail> {
+    let told = str::from_utf8(&session.told).ok().ok_or("a text")?;
+    let told = told.replace(alloc, "\n", "/")?;
+    let log = copy(alloc, files.log.inner())?;
+    let db = copy(alloc, files.db.inner())?;
+    Ok(Ended {
+        told,
+        ticks: session.meter.ticks(),
+        disks: Files { log, db },
+    })
+}
+
+/// The end of a session of these stages over copies of disks that fail after these numbers of
+/// calls. Disks that cannot be opened tell nothing. The log is often copied into the database file.
+pub(crate) fn session_over(
     alloc: Global,
     disks: &Files<Memory>,
     calls: Calls,
-    work: &mut W,
-) -> Result<Files<Memory>, Fail> {
+    stages: &str,
+) -> Result<Ended, Fail> {
     let files = Files {
         log: Fuse::new(copy(alloc, &disks.log)?, calls.log),
         db: Fuse::new(copy(alloc, &disks.db)?, calls.db),
     };
     let mut options = Options::new(1);
     options.checkpoint_frames = 3;
-    let (_, files) = over_files(alloc, files, options, work)?;
-    let log = copy(alloc, files.log.inner())?;
-    let db = copy(alloc, files.db.inner())?;
-    Ok(Files { log, db })
+    let mut session = Session::new(alloc);
+    let files = match Connection::open_files(alloc, files, options) {
+        Ok(conn) => session.over(alloc, conn, stages)?.close(),
+        Err((_, left)) => left.into_files(),
+    };
+    end_of(alloc, &session, &files)
+}
+
+/// What stages tell over copies of disks that do not fail.
+pub(crate) fn told_on(alloc: Global, disks: &Files<Memory>, stages: &str) -> Result<String, Fail> {
+    let Ended { told, .. } = session_over(alloc, disks, ALL, stages)?;
+    Ok(told)
+}
+
+/// The disks after stages over copies of disks that do not fail, if the stages tell just this.
+pub(crate) fn disks_after(
+    alloc: Global,
+    disks: &Files<Memory>,
+    stages: &str,
+    wanted: &str,
+) -> Result<Files<Memory>, Fail> {
+    let Ended { told, disks, .. } = session_over(alloc, disks, ALL, stages)?;
+    if told.as_str() != wanted {
+        return Err("another reply")?;
+    }
+    Ok(disks)
 }

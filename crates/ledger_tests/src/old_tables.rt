@@ -1,207 +1,113 @@
-//! Tables of older versions, made of those of this version.
+//! Statements that make a bureau's tables those of an older version, with the same two jobs.
 
-use sqlite::{Alter, Connection, params};
 use std::alloc::Global;
 use std::test::Fail;
 
-/// The statements that create the tables of version 1, and beside them those that version 4 has
-/// besides or in place of `pictures`.
-const FIRST_TABLES: [&str; 13] = [
-    "BEGIN",
-    "CREATE TABLE bureau (id INTEGER NOT NULL PRIMARY KEY, version INTEGER NOT NULL) STRICT",
-    "CREATE TABLE jobs (customer TEXT NOT NULL, number INTEGER NOT NULL, kind INTEGER NOT NULL, \
+/// Creates the tables of version 1, and beside them those that version 4 has besides or in place of
+/// `pictures`.
+pub(crate) const FIRST_TABLES: &str = "\
+    BEGIN;
+    CREATE TABLE bureau (id INTEGER NOT NULL PRIMARY KEY, version INTEGER NOT NULL) STRICT;
+    CREATE TABLE jobs (customer TEXT NOT NULL, number INTEGER NOT NULL, kind INTEGER NOT NULL, \
     size INTEGER NOT NULL, deck BLOB NOT NULL, loaded BLOB NOT NULL, held INTEGER NOT NULL, \
-    collected INTEGER NOT NULL, PRIMARY KEY (customer, number)) STRICT",
-    "CREATE TABLE stretches (customer TEXT NOT NULL, number INTEGER NOT NULL, \
-    place INTEGER NOT NULL, switches INTEGER NOT NULL, granted INTEGER NOT NULL, \
-    PRIMARY KEY (customer, number, place), \
-    FOREIGN KEY (customer, number) REFERENCES jobs (customer, number)) STRICT",
-    "CREATE TABLE pictures (customer TEXT NOT NULL, number INTEGER NOT NULL, \
-    storage BLOB NOT NULL, i INTEGER NOT NULL, a INTEGER NOT NULL, b INTEGER NOT NULL, \
-    compare INTEGER NOT NULL, overflow INTEGER NOT NULL, channel INTEGER NOT NULL, \
-    waiting INTEGER NOT NULL, form INTEGER NOT NULL, line INTEGER NOT NULL, \
-    taken INTEGER NOT NULL, cards INTEGER NOT NULL, lines INTEGER NOT NULL, \
-    standing INTEGER NOT NULL, PRIMARY KEY (customer, number), \
-    FOREIGN KEY (customer, number) REFERENCES jobs (customer, number)) STRICT",
-    "CREATE TABLE cards (customer TEXT NOT NULL, number INTEGER NOT NULL, \
-    place INTEGER NOT NULL, card BLOB NOT NULL, PRIMARY KEY (customer, number, place), \
-    FOREIGN KEY (customer, number) REFERENCES jobs (customer, number)) STRICT",
-    "CREATE TABLE lines (customer TEXT NOT NULL, number INTEGER NOT NULL, \
-    place INTEGER NOT NULL, form INTEGER NOT NULL, line INTEGER NOT NULL, image BLOB NOT NULL, \
-    PRIMARY KEY (customer, number, place), \
-    FOREIGN KEY (customer, number) REFERENCES jobs (customer, number)) STRICT",
-    "CREATE TABLE states (customer TEXT NOT NULL, number INTEGER NOT NULL, i INTEGER NOT NULL, \
-    a INTEGER NOT NULL, b INTEGER NOT NULL, compare INTEGER NOT NULL, overflow INTEGER NOT NULL, \
-    channel INTEGER NOT NULL, waiting INTEGER NOT NULL, form INTEGER NOT NULL, \
-    line INTEGER NOT NULL, taken INTEGER NOT NULL, cards INTEGER NOT NULL, \
-    lines INTEGER NOT NULL, standing INTEGER NOT NULL, PRIMARY KEY (customer, number), \
-    FOREIGN KEY (customer, number) REFERENCES jobs (customer, number)) STRICT",
-    "CREATE TABLE pages (customer TEXT NOT NULL, number INTEGER NOT NULL, \
-    page INTEGER NOT NULL, storage BLOB NOT NULL, PRIMARY KEY (customer, number, page), \
-    FOREIGN KEY (customer, number) REFERENCES jobs (customer, number)) STRICT",
-    "CREATE TABLE profiles (customer TEXT NOT NULL, number INTEGER NOT NULL, \
-    profile INTEGER NOT NULL, chosen INTEGER NOT NULL, PRIMARY KEY (customer, number), \
-    FOREIGN KEY (customer, number) REFERENCES jobs (customer, number)) STRICT",
-    "CREATE TABLE pockets (customer TEXT NOT NULL, number INTEGER NOT NULL, \
-    place INTEGER NOT NULL, pocket INTEGER NOT NULL, PRIMARY KEY (customer, number, place), \
-    FOREIGN KEY (customer, number, place) REFERENCES cards (customer, number, place)) STRICT",
-    "INSERT INTO bureau (id, version) VALUES (1, 4)",
-    "COMMIT",
-];
+    collected INTEGER NOT NULL, PRIMARY KEY (customer, number)) STRICT;
+    CREATE TABLE stretches (customer TEXT NOT NULL, number INTEGER NOT NULL, place INTEGER NOT \
+    NULL, switches INTEGER NOT NULL, granted INTEGER NOT NULL, PRIMARY KEY (customer, number, \
+    place), FOREIGN KEY (customer, number) REFERENCES jobs (customer, number)) STRICT;
+    CREATE TABLE pictures (customer TEXT NOT NULL, number INTEGER NOT NULL, storage BLOB NOT \
+    NULL, i INTEGER NOT NULL, a INTEGER NOT NULL, b INTEGER NOT NULL, compare INTEGER NOT NULL, \
+    overflow INTEGER NOT NULL, channel INTEGER NOT NULL, waiting INTEGER NOT NULL, form INTEGER \
+    NOT NULL, line INTEGER NOT NULL, taken INTEGER NOT NULL, cards INTEGER NOT NULL, lines \
+    INTEGER NOT NULL, standing INTEGER NOT NULL, PRIMARY KEY (customer, number), FOREIGN KEY \
+    (customer, number) REFERENCES jobs (customer, number)) STRICT;
+    CREATE TABLE cards (customer TEXT NOT NULL, number INTEGER NOT NULL, place INTEGER NOT NULL, \
+    card BLOB NOT NULL, PRIMARY KEY (customer, number, place), FOREIGN KEY (customer, number) \
+    REFERENCES jobs (customer, number)) STRICT;
+    CREATE TABLE lines (customer TEXT NOT NULL, number INTEGER NOT NULL, place INTEGER NOT NULL, \
+    form INTEGER NOT NULL, line INTEGER NOT NULL, image BLOB NOT NULL, PRIMARY KEY (customer, \
+    number, place), FOREIGN KEY (customer, number) REFERENCES jobs (customer, number)) STRICT;
+    CREATE TABLE states (customer TEXT NOT NULL, number INTEGER NOT NULL, i INTEGER NOT NULL, a \
+    INTEGER NOT NULL, b INTEGER NOT NULL, compare INTEGER NOT NULL, overflow INTEGER NOT NULL, \
+    channel INTEGER NOT NULL, waiting INTEGER NOT NULL, form INTEGER NOT NULL, line INTEGER NOT \
+    NULL, taken INTEGER NOT NULL, cards INTEGER NOT NULL, lines INTEGER NOT NULL, standing \
+    INTEGER NOT NULL, PRIMARY KEY (customer, number), FOREIGN KEY (customer, number) REFERENCES \
+    jobs (customer, number)) STRICT;
+    CREATE TABLE pages (customer TEXT NOT NULL, number INTEGER NOT NULL, page INTEGER NOT NULL, \
+    storage BLOB NOT NULL, PRIMARY KEY (customer, number, page), FOREIGN KEY (customer, number) \
+    REFERENCES jobs (customer, number)) STRICT;
+    CREATE TABLE profiles (customer TEXT NOT NULL, number INTEGER NOT NULL, profile INTEGER NOT \
+    NULL, chosen INTEGER NOT NULL, PRIMARY KEY (customer, number), FOREIGN KEY (customer, \
+    number) REFERENCES jobs (customer, number)) STRICT;
+    CREATE TABLE pockets (customer TEXT NOT NULL, number INTEGER NOT NULL, place INTEGER NOT \
+    NULL, pocket INTEGER NOT NULL, PRIMARY KEY (customer, number, place), FOREIGN KEY (customer, \
+    number, place) REFERENCES cards (customer, number, place)) STRICT;
+    INSERT INTO bureau (id, version) VALUES (1, 4);
+    COMMIT";
 
-/// Executes statements.
-fn execute_all<S: Alter>(conn: &mut Connection<S>, statements: &[&str]) -> Result<(), Fail> {
-    for sql in statements {
-        conn.execute(sql, &[])?;
-    }
-    Ok(())
-}
+/// Makes the tables those of version 1. Each job has its storage as a whole in `pictures`: two
+/// hexadecimal digits for each of 1400 positions, and `~` for 50 that are blank.
+const MADE_FIRST: &str = "\
+    BEGIN;
+    DROP TABLE pockets;
+    DROP TABLE profiles;
+    INSERT INTO pictures SELECT customer, number, x'\
+    005626292334~~~00000000000000000000000000000000000000000000000000000000000000000000000000000\
+    00000000000001626292334~~00000000000000000000000000000000000000000000000000000051030302515B0\
+    A0A0141640A080A02080A427203060A31720304027B40~~~~~~~~~~~~~~~~~~~~000000000000000000000000000\
+    0000000000000000000000000000000000000000000000000\
+    ', i, a, b, compare, overflow, channel, waiting, form, line, taken, cards, lines, standing \
+    FROM states WHERE customer = 'ACME';
+    INSERT INTO pictures SELECT customer, number, x'\
+    005B0A0A080A01055B0A02020A02095B0A030A0A03015B0A03020A03034444447B40~~~~~~~~~~~~~~~~~~~~~~~~\
+    ~~~00000000000000000000000000000000\
+    ', i, a, b, compare, overflow, channel, waiting, form, line, taken, cards, lines, standing \
+    FROM states WHERE customer = 'ZETA';
+    DROP TABLE pages;
+    DROP TABLE states;
+    UPDATE bureau SET version = 1;
+    COMMIT";
 
-/// Creates the tables of version 1, and beside them those that a bureau has in their place now.
-pub(crate) fn lay_first<S: Alter + Drop>(mut conn: Connection<S>) -> Result<Connection<S>, Fail> {
-    execute_all(&mut conn, &FIRST_TABLES)?;
-    Ok(conn)
-}
-
-/// A job whose storage is written anew.
-#[derive(Drop)]
-struct Stored {
-    customer: String,
-    number: i64,
-    /// How many pages its storage has.
-    pages: i64,
-}
-
-/// All jobs.
-fn jobs_of<S: Alter>(alloc: Global, conn: &mut Connection<S>) -> Result<Vec<Stored>, Fail> {
-    let mut jobs = Vec::new(alloc);
-    for row in &conn.query_all("SELECT customer, number, size / 100 FROM jobs", &[])? {
-        jobs.push(Stored {
-            customer: row.get(0)?,
-            number: row.get(1)?,
-            pages: row.get(2)?,
-        })?;
-    }
-    Ok(jobs)
-}
-
-/// The bytes of a page, if it has a row.
-fn page_of<S: Alter>(
-    conn: &mut Connection<S>,
-    job: &Stored,
-    page: i64,
-) -> Result<Option<Vec<u8>>, Fail> {
-    let rows = conn.query_all(
-        "SELECT storage FROM pages WHERE customer = ?1 AND number = ?2 AND page = ?3",
-        params![&job.customer, job.number, page],
-    )?;
-    match rows.first() {
-        Some(row) => Ok(Some(row.get(0)?)),
-        None => Ok(None),
-    }
-}
-
-/// Adds the bytes of a page to those of the pages before it.
-fn push_page<S: Alter>(
-    conn: &mut Connection<S>,
-    job: &Stored,
-    page: i64,
-    storage: &mut Vec<u8>,
-) -> Result<(), Fail> {
-    match page_of(conn, job, page)? {
-        Some(bytes) => storage.extend_from_slice(&bytes)?,
-        None => storage.extend_from_slice(&[0; 100])?,
-    }
-    Ok(())
-}
-
-/// Inserts the row of a job in `pictures`.
-fn insert_picture<S: Alter>(
-    conn: &mut Connection<S>,
-    job: &Stored,
-    storage: &Vec<u8>,
-) -> Result<(), Fail> {
-    conn.execute(
-        "INSERT INTO pictures SELECT customer, number, ?1, i, a, b, compare, overflow, channel, \
-        waiting, form, line, taken, cards, lines, standing FROM states \
-        WHERE customer = ?2 AND number = ?3",
-        params![storage, &job.customer, job.number],
-    )?;
-    Ok(())
-}
-
-/// Joins the pages of a job in its row in `pictures`.
-fn join_pages<S: Alter>(alloc: Global, conn: &mut Connection<S>, job: &Stored) -> Result<(), Fail> {
-    let mut storage = Vec::new(alloc);
-    for page in 0..job.pages {
-        push_page(conn, job, page, &mut storage)?;
-    }
-    insert_picture(conn, job, &storage)
-}
-
-/// Adds the row of a blank page of a job.
-fn insert_blank<S: Alter>(conn: &mut Connection<S>, job: &Stored, page: i64) -> Result<(), Fail> {
-    conn.execute(
-        "INSERT INTO pages (customer, number, page, storage) VALUES (?1, ?2, ?3, ?4)",
-        params![&job.customer, job.number, page, &[0u8; 100][..]],
-    )?;
-    Ok(())
-}
-
-/// Adds the rows of all blank pages of a job.
-fn add_blanks<S: Alter>(conn: &mut Connection<S>, job: &Stored) -> Result<(), Fail> {
-    for page in 0..job.pages {
-        if page_of(conn, job, page)?.is_none() {
-            insert_blank(conn, job, page)?;
-        }
-    }
-    Ok(())
-}
-
-/// Makes the tables those of version 1, which are there already.
-fn make_first<S: Alter>(alloc: Global, conn: &mut Connection<S>) -> Result<(), Fail> {
-    for job in &jobs_of(alloc, conn)? {
-        join_pages(alloc, conn, job)?;
-    }
-    execute_all(
-        conn,
-        &[
-            "DROP TABLE pages",
-            "DROP TABLE states",
-            "UPDATE bureau SET version = 1",
-        ],
-    )
-}
-
-/// Makes the tables those of version 2.
-fn make_second<S: Alter>(alloc: Global, conn: &mut Connection<S>) -> Result<(), Fail> {
-    for job in &jobs_of(alloc, conn)? {
-        add_blanks(conn, job)?;
-    }
-    execute_all(conn, &["UPDATE bureau SET version = 2"])
-}
+/// Makes the tables those of version 2, where each page has a row, also one that is blank. The
+/// first job has rows of pages 0, 2 and 3, and the second one of page 0.
+const MADE_SECOND: &str = "\
+    BEGIN;
+    DROP TABLE pockets;
+    DROP TABLE profiles;
+    DROP TABLE pictures;
+    INSERT INTO pages SELECT customer, number, 1, x'~~' FROM jobs;
+    INSERT INTO pages SELECT customer, number, 4, storage FROM pages WHERE page = 1;
+    INSERT INTO pages SELECT customer, number, 5, storage FROM pages WHERE page = 1;
+    INSERT INTO pages SELECT customer, number, 6, storage FROM pages WHERE page = 1;
+    INSERT INTO pages SELECT customer, number, 7, storage FROM pages WHERE page = 1;
+    INSERT INTO pages SELECT customer, number, 8, storage FROM pages WHERE page = 1;
+    INSERT INTO pages SELECT customer, number, 9, storage FROM pages WHERE page = 1;
+    INSERT INTO pages SELECT customer, number, 10, storage FROM pages WHERE page = 1;
+    INSERT INTO pages SELECT customer, number, 11, storage FROM pages WHERE page = 1;
+    INSERT INTO pages SELECT customer, number, 12, storage FROM pages WHERE page = 1;
+    INSERT INTO pages SELECT customer, number, 13, storage FROM pages WHERE page = 1;
+    INSERT INTO pages SELECT customer, number, 2, storage FROM pages WHERE page = 1 AND \
+    customer = 'ZETA';
+    INSERT INTO pages SELECT customer, number, 3, storage FROM pages WHERE page = 1 AND \
+    customer = 'ZETA';
+    UPDATE bureau SET version = 2;
+    COMMIT";
 
 /// Makes the tables those of version 3.
-fn make_third<S: Alter>(conn: &mut Connection<S>) -> Result<(), Fail> {
-    execute_all(conn, &["UPDATE bureau SET version = 3"])
-}
+const MADE_THIRD: &str = "\
+    BEGIN;
+    DROP TABLE pockets;
+    DROP TABLE profiles;
+    DROP TABLE pictures;
+    UPDATE bureau SET version = 3;
+    COMMIT";
 
-/// Makes the tables those of an older version, of the same jobs; none of them had profiles.
-pub(crate) fn make_old<S: Alter + Drop>(
-    alloc: Global,
-    mut conn: Connection<S>,
-    version: &str,
-) -> Result<Connection<S>, Fail> {
-    execute_all(
-        &mut conn,
-        &["BEGIN", "DROP TABLE pockets", "DROP TABLE profiles"],
-    )?;
-    match version {
-        "1" => make_first(alloc, &mut conn)?,
-        "2" => make_second(alloc, &mut conn)?,
-        "3" => make_third(&mut conn)?,
-        _ => Err("an older version")?,
-    }
-    execute_all(&mut conn, &["COMMIT"])?;
-    Ok(conn)
+/// The statements that make the tables of the two jobs those of an older version. None of them had
+/// profiles.
+pub(crate) fn made_old(alloc: Global, version: u32) -> Result<String, Fail> {
+    let statements = match version {
+        1 => MADE_FIRST,
+        2 => MADE_SECOND,
+        _ => MADE_THIRD,
+    };
+    Ok(statements.replace(alloc, "~", &"00".repeat(alloc, 50)?)?)
 }

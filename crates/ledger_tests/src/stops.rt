@@ -1,230 +1,186 @@
-//! A bureau with one disk that fails from some call on, each call in turn, and its files opened
-//! again.
+//! A bureau that is stopped at each call of a disk: single commands, and shifts.
 
-use crate::disks::{ALL, Calls, Failing, empty_disks, new_disks, over_failing, told_on};
-use crate::sessions::Session;
+use crate::disks::{Failing, disks_after, empty_disks, told_on};
+use crate::trials::{NONE, Step, Stops, Trial, stop_each};
 use sqlite::Files;
 use sqlite_disk::Memory;
 use std::alloc::Global;
 use std::test::Fail;
 
-/// The number of stops after which the office was the old one, and the number after which it was
-/// the next.
-#[derive(Clone, Copy, Drop)]
-struct Stops {
-    old: u32,
-    next: u32,
+/// A bureau is created and opened.
+const CREATION: &[Step] = &[("done/", "fault 2/", "create"), ("done/", "done/", "adopt")];
+
+const SUBMIT: &str = "submit ACME 9 object 4000 A 6~two lines";
+
+const STANDING: &str = "standing running held 0 collected 0 granted 34 cards 0 lines 2/";
+
+/// Commands on a job that prints two lines.
+const ONE_JOB: &[Step] = &[
+    ("refused 20/", "refused 20/", "hold ACME 9"),
+    ("taken 6/", "taken 6/", SUBMIT),
+    ("taken 6/", "taken 6/", SUBMIT),
+    ("queue ACME/9/", "queue ACME/9/", "queue"),
+    ("held/", "refused 25/", "hold ACME 9"),
+    ("released/", "refused 26/", "release ACME 9"),
+    (
+        "ran 34 running/",
+        "ran 1 halted next 361/",
+        "slice ACME 9 34",
+    ),
+    (STANDING, STANDING, "standing ACME 9"),
+    ("ran 1 halted next 361/", "refused 23/", "slice ACME 9 2000"),
+    ("started/", "refused 24/", "start ACME 9 -"),
+    (
+        "ran 0 check INSTRUCTION at 361/",
+        "refused 23/",
+        "slice ACME 9 10",
+    ),
+    ("HELLO/WORLD/", "HELLO/WORLD/", "lines"),
+    ("collected 0 2/", "refused 27/", "collect ACME 9"),
+    ("jobs 9/", "jobs 9/", "jobs ACME"),
+];
+
+const SUBMIT_SOURCE: &str = "submit ACME 9 autocoder 1400 - 7~source";
+
+/// Commands on a job of which a source is handed in.
+const OF_A_SOURCE: &[Step] = &[
+    (
+        "refused 16 1:49/",
+        "refused 16 1:49/",
+        "submit ACME 9 autocoder 1400 - 1~source without END",
+    ),
+    ("taken 4/", "taken 4/", SUBMIT_SOURCE),
+    ("taken 4/", "taken 4/", SUBMIT_SOURCE),
+    (
+        "ran 22 halted next 347/",
+        "refused 23/",
+        "slice ACME 9 2000",
+    ),
+    ("cards 1/", "cards 1/", "cards"),
+];
+
+const SUBMIT_POCKETS: &str = "submit ACME 9 object 1400 - 1~three pockets";
+
+/// Commands on a job that punches a card into each pocket, and stops first where a pocket is chosen
+/// and nothing is punched.
+const WITH_CARDS: &[Step] = &[
+    ("taken 1/", "taken 1/", SUBMIT_POCKETS),
+    ("ran 7 running/", "ran 5 halted next 51/", "slice ACME 9 7"),
+    ("ran 5 halted next 51/", "refused 23/", "slice ACME 9 2000"),
+    ("cards 1/", "cards 1/", "cards of pocket 4"),
+];
+
+/// The disks of a bureau without jobs.
+fn new_disks(alloc: Global) -> Result<Files<Memory>, Fail> {
+    disks_after(alloc, &empty_disks(alloc), "create", "done/")
 }
 
-/// What a run over failing disks leaves.
-#[derive(Clone, Copy, Drop)]
-enum Left {
-    /// There was no reply, and the office is the old one.
-    Old,
-    /// There was no reply, and the office is the next one.
-    Next,
-    /// There was a reply, and the office is the next one.
-    Replied,
-}
-
-/// A stage over some disks, such as a command to their bureau: the reply to it, the reply if it was
-/// carried out before, and the rows before and after it.
-#[derive(Drop)]
-struct Trial<'a> {
-    disks: &'a Files<Memory>,
-    stage: &'a str,
-    reply: &'a str,
-    again: &'a str,
-    old: String,
-    next: String,
-}
-
-/// Every row of the bureau on these disks, or that there is none.
-fn office_on(alloc: Global, disks: &Files<Memory>) -> Result<String, Fail> {
-    let (rows, _, _) = told_on(alloc, disks, "office|#")?;
-    Ok(rows)
-}
-
-/// The reply of a stage in words, a fault or nothing if there was no reply, and the disks after it;
-/// over disks that fail after these numbers of calls.
-fn run(
-    alloc: Global,
-    disks: &Files<Memory>,
-    calls: Calls,
-    stage: &str,
-) -> Result<(String, Files<Memory>), Fail> {
-    let stages = format!(in alloc; "{stage}#")?;
-    let mut session = Session::of(alloc, stages.as_str())?;
-    let disks = over_failing(alloc, disks, calls, &mut session)?;
-    let Session { told, .. } = session;
-    Ok((told, disks))
-}
-
-/// Does the stage of a trial again, over disks that do not fail.
-fn repeat(alloc: Global, trial: &Trial, disks: &Files<Memory>, left: Left) -> Result<(), Fail> {
-    let stages = format!(in alloc; "{}#", trial.stage)?;
-    let (reply, _, _) = told_on(alloc, disks, stages.as_str())?;
-    let wanted = match left {
-        Left::Old => trial.reply,
-        Left::Next | Left::Replied => trial.again,
-    };
-    if reply.as_str() != wanted {
-        return Err("another reply to the repeat")?;
-    }
-    Ok(())
-}
-
-/// What is left if this was the reply and these are the rows. A stage that changes none leaves the
-/// old ones.
-fn left_by(trial: &Trial, reply: &str, office: &str) -> Result<Left, Fail> {
-    if reply == trial.reply && office == trial.next.as_str() {
-        return Ok(Left::Replied);
-    }
-    if !reply.is_empty() && reply != "fault Store" {
-        return Err("another reply")?;
-    }
-    if office == trial.old.as_str() {
-        return Ok(Left::Old);
-    }
-    if office != trial.next.as_str() {
-        return Err("another office")?;
-    }
-    Ok(Left::Next)
-}
-
-/// What is left after a trial in which this number of calls does not fail.
-fn left_after(alloc: Global, trial: &Trial, calls: Calls) -> Result<Left, Fail> {
-    let (reply, disks) = run(alloc, trial.disks, calls, trial.stage)?;
-    let office = office_on(alloc, &disks)?;
-    let left = left_by(trial, reply.as_str(), office.as_str())?;
-    repeat(alloc, trial, &disks, left)?;
-    Ok(left)
-}
-
-/// Stops a trial at each call of a disk in turn.
-fn stop_each(
-    alloc: Global,
-    trial: &Trial,
-    failing: Failing,
-    mut stops: Stops,
-) -> Result<Stops, Fail> {
-    for calls in 0..1000 {
-        match left_after(alloc, trial, failing.after(calls))? {
-            Left::Old => stops.old = stops.old.saturating_add(1),
-            Left::Next => stops.next = stops.next.saturating_add(1),
-            Left::Replied => return Ok(stops),
-        }
-    }
-    Err("no end")?
-}
-
-/// The stops of a line's stage over these disks, and the disks after it.
-fn stop_line(
-    alloc: Global,
-    disks: &Files<Memory>,
-    line: &str,
-    failing: Failing,
-    stops: Stops,
-) -> Result<(Stops, Files<Memory>), Fail> {
-    let (wanted, line) = line.split_once('|').ok_or("a reply")?;
-    let (again, stage) = line.split_once('|').ok_or("a reply")?;
-    let (reply, after) = run(alloc, disks, ALL, stage)?;
-    if reply.as_str() != wanted {
-        return Err("another reply")?;
-    }
-    let trial = Trial {
-        disks,
-        stage,
-        reply: wanted,
-        again,
-        old: office_on(alloc, disks)?,
-        next: office_on(alloc, &after)?,
-    };
-    Ok((stop_each(alloc, &trial, failing, stops)?, after))
-}
-
-/// The stops of the stages of a sheet, which begin over these disks.
-fn stops_of(
+/// The stops of each step alone: the first one over these disks, and each other one over those that
+/// the step before left.
+fn stops_of_each(
     alloc: Global,
     mut disks: Files<Memory>,
-    sheet: &str,
+    steps: &[Step],
     failing: Failing,
 ) -> Result<Stops, Fail> {
-    let mut stops = Stops { old: 0, next: 0 };
-    for line in sheet.lines() {
-        let (more, after) = stop_line(alloc, &disks, line, failing, stops)?;
-        stops = more;
-        disks = after;
+    let mut stops = NONE;
+    for (reply, again, stage) in steps {
+        let trial = Trial {
+            disks: &disks,
+            steps: &[(*reply, *again, *stage)],
+            last: "",
+            told: "",
+        };
+        stop_each(alloc, &trial, failing, &mut stops)?;
+        disks = disks_after(alloc, &disks, stage, reply)?;
     }
     Ok(stops)
 }
 
-/// A bureau that is created, and commands to it, each after the reply to it and the reply if it was
-/// carried out before.
-const ONE_JOB: &str = "\
-done|fault Store|create|
-done|done|adopt|
-refused 20|refused 20|commands|hold|ACME|9|
-taken 6|taken 6|commands|submit|ACME|9|4000|A|two lines
-taken 6|taken 6|commands|submit|ACME|9|4000|A|two lines
-queue ACME/9|queue ACME/9|commands|queue|
-held|refused 25|commands|hold|ACME|9|
-released|refused 26|commands|release|ACME|9|
-ran 34, running|ran 1, halted, next 361|commands|slice|ACME|9|34
-running, false false 34 0 2|running, false false 34 0 2|commands|standing|ACME|9|
-ran 1, halted, next 361|refused 23|commands|slice|ACME|9|2000
-started|refused 24|commands|start|ACME|9|-
-ran 0, Instruction at 361|refused 23|commands|slice|ACME|9|10
-lines 2 HELLO/WORLD/|lines 2 HELLO/WORLD/|commands|lines|ACME|9|
-collected 0 2|refused 27|commands|collect|ACME|9|
-jobs; 9 false true Instruction at 361|jobs; 9 false true Instruction at 361|commands|jobs|ACME|
-";
-
-/// The same for a job of which a source is handed in.
-const OF_A_SOURCE: &str = "\
-refused 16 1:49|refused 16 1:49|commands|submit source|ACME|9|1400|-|source without END
-taken 4|taken 4|commands|submit source|ACME|9|1400|-|source
-taken 4|taken 4|commands|submit source|ACME|9|1400|-|source
-ran 22, halted, next 347|refused 23|commands|slice|ACME|9|2000
-cards 1 [HELLO]|cards 1 [HELLO]|commands|cards|ACME|9|
-";
-
-/// The same for a job that punches a card into each pocket, and stops first where a pocket is chosen
-/// and nothing is punched.
-const WITH_CARDS: &str = "\
-taken 1|taken 1|commands|submit|ACME|9|1400|-|three pockets
-ran 7, running|ran 5, halted, next 51|commands|slice|ACME|9|7
-ran 5, halted, next 51|refused 23|commands|slice|ACME|9|2000
-cards 1 [     ]|cards 1 [     ]|commands|cards|ACME|9|4
-";
-
+/// The stops of each call: those after which the step was lost, and those after which it was kept.
 #[test]
-fn the_log_fails_from_each_call_on(rt: HostRuntime) -> Result<(), Fail> {
+fn a_disk_fails_at_a_creation(rt: HostRuntime) -> Result<(), Fail> {
     let alloc = rt.alloc();
-    let Stops { old, next } = stops_of(alloc, empty_disks(alloc), ONE_JOB, Failing::Log)?;
-    assert!(rt; old >= 300 && next >= 4, "{old} old, {next} next");
-    Ok(())
-}
-
-#[test]
-fn the_database_fails_from_each_call_on(rt: HostRuntime) -> Result<(), Fail> {
-    let alloc = rt.alloc();
-    let Stops { old, next } = stops_of(alloc, empty_disks(alloc), ONE_JOB, Failing::Database)?;
-    assert!(rt; old >= 150, "{old} old, {next} next");
-    Ok(())
-}
-
-#[test]
-fn a_disk_fails_at_a_source_and_at_cards(rt: HostRuntime) -> Result<(), Fail> {
-    let alloc = rt.alloc();
-    for (sheet, failing, least) in [
-        (OF_A_SOURCE, Failing::Log, 50),
-        (WITH_CARDS, Failing::Log, 70),
-        (OF_A_SOURCE, Failing::Database, 20),
-        (WITH_CARDS, Failing::Database, 20),
-    ] {
-        let Stops { old, next } = stops_of(alloc, new_disks(alloc)?, sheet, failing)?;
-        assert!(rt; old >= least, "{old} old, {next} next");
+    let mut found = Vec::new(alloc);
+    for failing in [Failing::Log, Failing::Database] {
+        let stops = stops_of_each(alloc, empty_disks(alloc), CREATION, failing)?;
+        found.push((stops.lost, stops.kept))?;
     }
+    assert_eq!(rt; found.as_slice(), [(0u32, 0u32), (0, 0)].as_slice());
+    Ok(())
+}
+
+#[test]
+fn a_disk_fails_in_a_command(rt: HostRuntime) -> Result<(), Fail> {
+    let alloc = rt.alloc();
+    let mut found = Vec::new(alloc);
+    for (steps, failing) in [
+        (ONE_JOB, Failing::Log),
+        (ONE_JOB, Failing::Database),
+        (OF_A_SOURCE, Failing::Log),
+        (OF_A_SOURCE, Failing::Database),
+        (WITH_CARDS, Failing::Log),
+        (WITH_CARDS, Failing::Database),
+    ] {
+        let stops = stops_of_each(alloc, new_disks(alloc)?, steps, failing)?;
+        found.push((stops.lost, stops.kept))?;
+    }
+    assert_eq!(rt; found.as_slice(), [(0u32, 0u32), (0, 0)].as_slice());
+    Ok(())
+}
+
+/// A shift on a job that prints two lines, and at its end a wrong command.
+const TWO_LINES: &[Step] = &[
+    ("taken 6/", "taken 6/", SUBMIT),
+    (
+        "ran 34 running/",
+        "ran 1 halted next 361/",
+        "slice ACME 9 34",
+    ),
+    ("ran 1 halted next 361/", "refused 23/", "slice ACME 9 2000"),
+    ("refused 10/", "refused 10/", "slice acme 0 0"),
+];
+
+/// A shift on a job that punches a card into each pocket.
+const THREE_POCKETS: &[Step] = &[
+    ("taken 1/", "taken 1/", SUBMIT_POCKETS),
+    ("ran 12 halted next 51/", "refused 23/", "slice ACME 9 2000"),
+];
+
+/// The stops of a shift.
+fn stops_of_shift(alloc: Global, steps: &[Step], failing: Failing) -> Result<Stops, Fail> {
+    let disks = new_disks(alloc)?;
+    let trial = Trial {
+        disks: &disks,
+        steps,
+        last: "",
+        told: "",
+    };
+    let mut stops = NONE;
+    stop_each(alloc, &trial, failing, &mut stops)?;
+    Ok(stops)
+}
+
+#[test]
+fn a_disk_fails_in_a_shift(rt: HostRuntime) -> Result<(), Fail> {
+    let mut found = Vec::new(rt.alloc());
+    for (steps, failing) in [
+        (TWO_LINES, Failing::Log),
+        (TWO_LINES, Failing::Database),
+        (THREE_POCKETS, Failing::Log),
+        (THREE_POCKETS, Failing::Database),
+    ] {
+        let stops = stops_of_shift(rt.alloc(), steps, failing)?;
+        found.push((stops.lost, stops.kept))?;
+    }
+    assert_eq!(rt; found.as_slice(), [(0u32, 0u32), (0, 0)].as_slice());
+    Ok(())
+}
+
+#[test]
+fn a_shift_of_many_commands(rt: HostRuntime) -> Result<(), Fail> {
+    let alloc = rt.alloc();
+    let told = told_on(alloc, &new_disks(alloc)?, &"queue~".repeat(alloc, 300)?)?;
+    assert!(rt; told == "queue/".repeat(alloc, 300)?);
     Ok(())
 }

@@ -1,7 +1,8 @@
-//! Lines for what the program's own scripts do not come to.
+//! Lines for what the program's own scripts do not come to, and a script without an end.
 
 use office::{Refusal, SourceFaults};
-use scripts::{ScriptFault, write_bad, write_fault, write_refusal};
+use scripts::{ScriptFault, read_script, write_bad, write_fault, write_refusal};
+use std::io::repeat;
 use std::test::Fail;
 
 /// The lines for the last line that can be bad, for want of memory, for both faults, and for a
@@ -21,5 +22,13 @@ fn faults_have_their_lines(rt: HostRuntime) -> Result<(), Fail> {
     assert!(rt; last.is_ok() && memory.is_ok() && source.is_ok());
     assert!(rt; first.is_ok() && second.is_ok());
     assert!(rt; writer.as_slice() == LINES && sent == 7 + LINES.len());
+    Ok(())
+}
+
+/// One byte more is read than a script may have.
+#[test]
+fn a_script_without_an_end_is_read_in_part(rt: HostRuntime) -> Result<(), Fail> {
+    let bytes = read_script(rt.alloc(), repeat(b'\n')).ok().ok_or("bytes")?;
+    assert!(rt; bytes.len() == 4_000_001);
     Ok(())
 }
