@@ -15,8 +15,8 @@ ghost use Rattle.command_line.specs.declared.row_names.RowName.{RowName};
 ghost use Rattle.bureau.specs.Answers.{HasAnswered, HasAssembled, HasEndedMigration, HasEndedScript};
 
 use command_line::{
-    Fault, Misuse, Status, Task, Unfailing, exit_code, show_help, show_version, task_of, tell_fault,
-    tell_misuse,
+    Fault, Misuse, Status, Task, Unfailing, exit_code, show_help, show_version, task_of,
+    tell_fault, tell_misuse,
 };
 use counter::{assemble_deck, run_input, write_out};
 use service::{apply, export, init, migrate, serve, show_outcome};
