@@ -12,4 +12,4 @@ mod doors;
 #[cfg(test)]
 mod requests;
 #[cfg(test)]
-mod scripts;
+mod script_ends;
