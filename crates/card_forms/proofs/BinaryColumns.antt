@@ -145,7 +145,7 @@ columns_from (code ∷ next ∷ codes) columns (upper ∷ lower ∷ rest) more e
     let others = columns_from (next ∷ codes) (columns + 1) rest more (All-tail IsNumber code (next ∷ codes) each) (omega arith) (omega arith) column.behind in
     record {
       rest = others.rest;
-      columns = bytes_of upper lower code rest column.upper_rows column.lower_rows ∙ ap (λ bytes. column_bytes code ++ bytes) others.columns;
+      columns = bytes_of upper lower code rest column.upper_rows column.lower_rows ∙ ap (λ (bytes : List ℕ). column_bytes code ++ bytes) others.columns;
       stands = others.stands;
     }
 
