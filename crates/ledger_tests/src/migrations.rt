@@ -74,7 +74,10 @@ fn a_disk_fails_in_a_migration(rt: HostRuntime) -> Result<(), Fail> {
         let stops = stops_of(rt.alloc(), version, failing)?;
         found.push((stops.lost, stops.kept))?;
     }
-    assert_eq!(rt; found.as_slice(), [(0u32, 0u32), (0, 0)].as_slice());
+    assert_eq!(rt;
+        found.as_slice(),
+        [(69u32, 1u32), (44, 0), (69, 1), (48, 0), (55, 1), (52, 0)].as_slice()
+    );
     Ok(())
 }
 

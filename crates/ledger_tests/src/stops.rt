@@ -106,7 +106,7 @@ fn a_disk_fails_at_a_creation(rt: HostRuntime) -> Result<(), Fail> {
         let stops = stops_of_each(alloc, empty_disks(alloc), CREATION, failing)?;
         found.push((stops.lost, stops.kept))?;
     }
-    assert_eq!(rt; found.as_slice(), [(0u32, 0u32), (0, 0)].as_slice());
+    assert_eq!(rt; found.as_slice(), [(167u32, 1u32), (22, 0)].as_slice());
     Ok(())
 }
 
@@ -114,9 +114,19 @@ fn a_disk_fails_at_a_creation(rt: HostRuntime) -> Result<(), Fail> {
 fn a_disk_fails_in_a_command(rt: HostRuntime) -> Result<(), Fail> {
     let alloc = rt.alloc();
     let mut found = Vec::new(alloc);
+    for failing in [Failing::Log, Failing::Database] {
+        let stops = stops_of_each(alloc, new_disks(alloc)?, ONE_JOB, failing)?;
+        found.push((stops.lost, stops.kept))?;
+    }
+    assert_eq!(rt; found.as_slice(), [(1056u32, 8u32), (684, 0)].as_slice());
+    Ok(())
+}
+
+#[test]
+fn a_disk_fails_at_a_source_and_at_cards(rt: HostRuntime) -> Result<(), Fail> {
+    let alloc = rt.alloc();
+    let mut found = Vec::new(alloc);
     for (steps, failing) in [
-        (ONE_JOB, Failing::Log),
-        (ONE_JOB, Failing::Database),
         (OF_A_SOURCE, Failing::Log),
         (OF_A_SOURCE, Failing::Database),
         (WITH_CARDS, Failing::Log),
@@ -125,7 +135,10 @@ fn a_disk_fails_in_a_command(rt: HostRuntime) -> Result<(), Fail> {
         let stops = stops_of_each(alloc, new_disks(alloc)?, steps, failing)?;
         found.push((stops.lost, stops.kept))?;
     }
-    assert_eq!(rt; found.as_slice(), [(0u32, 0u32), (0, 0)].as_slice());
+    assert_eq!(rt;
+        found.as_slice(),
+        [(571u32, 2u32), (167, 0), (412, 3), (181, 0)].as_slice()
+    );
     Ok(())
 }
 
@@ -173,7 +186,10 @@ fn a_disk_fails_in_a_shift(rt: HostRuntime) -> Result<(), Fail> {
         let stops = stops_of_shift(rt.alloc(), steps, failing)?;
         found.push((stops.lost, stops.kept))?;
     }
-    assert_eq!(rt; found.as_slice(), [(0u32, 0u32), (0, 0)].as_slice());
+    assert_eq!(rt;
+        found.as_slice(),
+        [(216u32, 3u32), (51, 0), (198, 2), (42, 0)].as_slice()
+    );
     Ok(())
 }
 
