@@ -23,6 +23,3 @@ pub use laws::forms_agree;
 pub use reading::{read, read_either};
 pub use signs::{filled, simh_glyph};
 pub use writing::write;
-
-#[cfg(test)]
-mod tests;

@@ -21,6 +21,3 @@ pub use laws::{manifest_lines_have_one_reading, numbered_is_in_order, same_decks
 pub use listing::{ListOptions, list};
 pub use manifests::{ManifestEntry, manifest_line, read_manifest_line};
 pub use numbering::{SequenceError, SequenceFault, sequence};
-
-#[cfg(test)]
-mod tests;
