@@ -111,8 +111,7 @@ pub(crate) fn write<W: Write, E: Write>(
         Err(_) => {
             writeln!(
                 errors,
-                "{path}: it cannot be written, and is as it was; look at its permissions, \
-                 and for a full disk"
+                "{path}: it cannot be written; look at its permissions, and for a full disk"
             )?;
             Ok(Status::NotDone)
         }

@@ -24,7 +24,8 @@ usage:
 
 IN, DECK, ONE, OTHER, FILE may be - for the standard input, OUT - for the standard output: so rows
 are joined by pipes. Where a value begins with a hyphen, put -- before it. No file is changed but
-OUT, which has all of what is written or stays as it was.
+OUT. A file there has all of what is written or stays as it was; a link or a device is written
+straight, and a full disk may leave a part.
 
 A deck is a deck text (80 glyphs a line) or a punch file (240 hexadecimal digits a line), which is
 what `bureau export` writes; list, compare, sequence and manifest tell them by their width.
