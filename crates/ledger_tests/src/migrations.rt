@@ -1,9 +1,8 @@
 //! Tables of older versions that are raised while a disk fails from some call on, each call in
 //! turn. They go on as if they had never been old.
 
-use crate::disks::{ALL, Ended, Failing, disks_after, empty_disks, session_over, told_on};
 use crate::old_tables::{FIRST_TABLES, made_old};
-use crate::trials::{NONE, Step, Stops, Trial, stop_each};
+use ledger_trials::{ALL, Ended, Failing, NONE, Step, Stops, Trial, disks_after, empty_disks, session_over, stop_each, told_on};
 use sqlite::Files;
 use sqlite_disk::Memory;
 use std::alloc::Global;

@@ -1,7 +1,6 @@
 //! A bureau that is stopped at each call of a disk: single commands, and shifts.
 
-use crate::disks::{Failing, disks_after, empty_disks, told_on};
-use crate::trials::{NONE, Step, Stops, Trial, stop_each};
+use ledger_trials::{Failing, NONE, Step, Stops, Trial, disks_after, empty_disks, stop_each, told_on};
 use sqlite::Files;
 use sqlite_disk::Memory;
 use std::alloc::Global;

@@ -22,7 +22,7 @@ fn copy(alloc: Global, disk: &Memory) -> Result<Memory, Fail>
 }
 
 /// Disks without a bureau.
-pub(crate) fn empty_disks(alloc: Global) -> Files<Memory> {
+pub fn empty_disks(alloc: Global) -> Files<Memory> {
     Files {
         log: Memory::new(alloc),
         db: Memory::new(alloc),
@@ -31,27 +31,27 @@ pub(crate) fn empty_disks(alloc: Global) -> Files<Memory> {
 
 /// The number of calls of each disk that do not fail.
 #[derive(Clone, Copy)]
-pub(crate) struct Calls {
+pub struct Calls {
     log: u64,
     db: u64,
 }
 
 /// No call fails.
-pub(crate) const ALL: Calls = Calls {
+pub const ALL: Calls = Calls {
     log: u64::MAX,
     db: u64::MAX,
 };
 
 /// The disk that fails.
 #[derive(Clone, Copy)]
-pub(crate) enum Failing {
+pub enum Failing {
     Log,
     Database,
 }
 
 impl Failing {
     /// This disk fails after `calls` calls, the other one never.
-    pub(crate) fn after(self, calls: u64) -> Calls {
+    pub fn after(self, calls: u64) -> Calls {
         match self {
             Failing::Log => Calls { log: calls, ..ALL },
             Failing::Database => Calls { db: calls, ..ALL },
@@ -61,10 +61,10 @@ impl Failing {
 
 /// What a session told, the ticks of its commands, and the disks after it.
 #[derive(Drop)]
-pub(crate) struct Ended {
-    pub(crate) told: String,
-    pub(crate) ticks: u64,
-    pub(crate) disks: Files<Memory>,
+pub struct Ended {
+    pub told: String,
+    pub ticks: u64,
+    pub disks: Files<Memory>,
 }
 
 /// The end of a session that left these disks.
@@ -82,7 +82,7 @@ fn end_of(alloc: Global, session: &Session, files: &Files<Fuse<Memory>>) -> Resu
 
 /// The end of a session of these stages over copies of disks that fail after these numbers of
 /// calls. Disks that cannot be opened tell nothing. The log is often copied into the database file.
-pub(crate) fn session_over(
+pub fn session_over(
     alloc: Global,
     disks: &Files<Memory>,
     calls: Calls,
@@ -103,13 +103,13 @@ pub(crate) fn session_over(
 }
 
 /// What stages tell over copies of disks that do not fail.
-pub(crate) fn told_on(alloc: Global, disks: &Files<Memory>, stages: &str) -> Result<String, Fail> {
+pub fn told_on(alloc: Global, disks: &Files<Memory>, stages: &str) -> Result<String, Fail> {
     let Ended { told, .. } = session_over(alloc, disks, ALL, stages)?;
     Ok(told)
 }
 
 /// The disks after stages over copies of disks that do not fail, if the stages tell just this.
-pub(crate) fn disks_after(
+pub fn disks_after(
     alloc: Global,
     disks: &Files<Memory>,
     stages: &str,

@@ -10,9 +10,9 @@
 //!
 //! In what is told `/` ends a line.
 
+use crate::asking::ask_tables;
 use crate::commands::work;
 use crate::sessions::Session;
-use crate::unasked::ask_tables;
 use ledger::{Bureau, migrate};
 use sqlite::{Alter, Connection};
 use std::alloc::Global;

@@ -8,27 +8,27 @@ use std::alloc::Global;
 use std::test::Fail;
 
 /// A step: the reply to it, the reply if it was carried out before, and its stage.
-pub(crate) type Step = (&'static str, &'static str, &'static str);
+pub type Step = (&'static str, &'static str, &'static str);
 
 /// Steps that are done in one session over disks; and stages for the end, with what they then tell.
 #[derive(Clone, Copy)]
-pub(crate) struct Trial<'a> {
-    pub(crate) disks: &'a Files<Memory>,
-    pub(crate) steps: &'a [Step],
-    pub(crate) last: &'a str,
-    pub(crate) told: &'a str,
+pub struct Trial<'a> {
+    pub disks: &'a Files<Memory>,
+    pub steps: &'a [Step],
+    pub last: &'a str,
+    pub told: &'a str,
 }
 
 /// The number of stops after which the step that was not acknowledged was lost, and the number
 /// after which it was kept.
 #[derive(Clone, Copy)]
-pub(crate) struct Stops {
-    pub(crate) lost: u32,
-    pub(crate) kept: u32,
+pub struct Stops {
+    pub lost: u32,
+    pub kept: u32,
 }
 
 /// No stop.
-pub(crate) const NONE: Stops = Stops { lost: 0, kept: 0 };
+pub const NONE: Stops = Stops { lost: 0, kept: 0 };
 
 /// How the bureau is opened, and every row: before the first step, and after each.
 fn offices_of(alloc: Global, trial: &Trial<'_>) -> Result<Vec<String>, Fail> {
@@ -126,7 +126,7 @@ fn stop(
 
 /// Stops a trial at each call of a disk in turn, until all steps are acknowledged. Adds the stops
 /// to those before.
-pub(crate) fn stop_each(
+pub fn stop_each(
     alloc: Global,
     trial: &Trial<'_>,
     failing: Failing,
