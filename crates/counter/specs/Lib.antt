@@ -1,4 +1,4 @@
-pub mod Reports
+pub mod Statuses
 pub mod Runs
 pub mod Endings
 pub mod Assembling

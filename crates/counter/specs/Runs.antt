@@ -12,14 +12,14 @@ use Rattle.units.specs.declared.switches.Switches.{Switches}
 use Rattle.units.specs.Listing.{rendered}
 use Rattle.units.specs.declared.profiles.Profile.TheVariants.{Selecting}
 use Rattle.machine.specs.Run.{State, after, lines_of, loaded}
-use Rattle.machine.specs.Standings.{standing_of}
+use Rattle.machine.specs.Reports.{report_of, report_words}
+use Rattle.machine.specs.declared.reports.Report.{Report}
 use Rattle.command_line.specs.declared.faults.Fault.{Fault}
 use Rattle.command_line.specs.declared.faults.Fault.TheVariants as fault
-use Rattle.counter.specs.declared.reports.Report.{Report}
 use Rattle.command_line.specs.declared.statuses.Status.{Status}
 use Rattle.command_line.specs.declared.statuses.Status.TheVariants as status
 use Rattle.command_line.specs.Printed.{fault_words}
-use Rattle.counter.specs.Reports.{report_words, status_at}
+use Rattle.counter.specs.Statuses.{status_at}
 
 -- the most bytes that are read of a deck's text: one more than the longest such text has
 abbrev pub most_bytes : ℕ
@@ -32,14 +32,6 @@ most_instructions = 1000000
 -- these are the bytes that are read of a reader's, if those are known
 abbrev pub Reads : Option (List ℕ) → List ℕ → Type 0
 Reads remaining text = IfSome remaining (λ bytes. text ≡ take most_bytes bytes)
-
--- the report of a machine: its counts of cards and lines, and its standing
-abbrev pub report_of : State → Report
-report_of m = record {
-  cards = length m.works.units.punch.cards;
-  lines = length (lines_of m);
-  standing = standing_of m;
-}
 
 -- what a run gives: the listing of its lines, and the report
 pub record Shown : Type 0 where

@@ -19,10 +19,10 @@ mod assembling;
 mod deck_files;
 mod out_files;
 mod replacing;
-mod reports;
 mod running;
 mod showing;
 mod source_faults;
+mod statuses;
 
 pub use assembling::assemble_deck;
 pub use deck_files::run_input;

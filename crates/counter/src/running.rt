@@ -9,13 +9,13 @@ ghost use Rattle.cards.specs.Files.{text_of};
 ghost use Rattle.cards.specs.declared.Card.{Card};
 ghost use Rattle.units.specs.declared.profiles.Profile.TheVariants.{Selecting};
 ghost use Rattle.units.specs.Listing.{rendered};
-ghost use Rattle.counter.specs.Runs.{IsListingFault, IsRunOf, IsShown, Reads, Refuses, Tells, report_of, shown_by, most_bytes, most_instructions};
+ghost use Rattle.counter.specs.Runs.{IsListingFault, IsRunOf, IsShown, Reads, Refuses, Tells, shown_by, most_bytes, most_instructions};
 
-use crate::reports::Report;
+use crate::statuses::status_at;
 use cards::{Deck, OUT_OF_MEMORY, read_text};
 use command_line::{Fault, Status, tell_fault};
 use core_store::{PlaneCore, Size};
-use machine::{Machine, Meter};
+use machine::{Machine, Meter, Report};
 use std::alloc::{AllocError, Global};
 use std::io;
 use std::io::{Read, Write};
@@ -100,18 +100,6 @@ fn put_listing<W: Write>(
     }
 }
 
-/// The report of a machine.
-fn report_of(machine: &Machine<PlaneCore>) -> Report
-    ensures { result ≡ report_of machine.now }
-{
-    let parts = machine.parts();
-    Report {
-        cards: parts.units.punch.cards.len(),
-        lines: parts.units.printer.lines.len(),
-        standing: parts.standing_at(),
-    }
-}
-
 /// Writes the listing of a machine that has run, and then prints its report.
 fn show<W: Write, E: Write>(
     alloc: Global,
@@ -127,9 +115,9 @@ fn show<W: Write, E: Write>(
         Ok(()) => {}
         Err(fault) => return tell_fault(errors, fault),
     }
-    let report = report_of(machine);
+    let report = Report::of(machine.parts());
     writeln!(errors, "{report}")?;
-    Ok(report.status())
+    Ok(status_at(report.standing))
 }
 
 /// Runs the deck whose text a reader has, and returns how the program ends.

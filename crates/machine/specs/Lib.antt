@@ -9,3 +9,4 @@ pub mod Run
 pub mod Earlier
 pub mod Standings
 pub mod Ranges
+pub mod Reports

@@ -1,10 +1,11 @@
 //! Sense switches as texts.
 
-ghost use Rattle.std.specs.Prelude.{◌≡◌, IfSome, IfNone};
+ghost use Rattle.std.specs.Prelude.{◌≡◌, ◌++◌, IfSome, IfNone, OnOk};
 ghost use Rattle.units.specs.declared.Switches.{Switches};
-ghost use Rattle.texts.specs.Switches.{AreSwitchesOf, letter_bit, risen};
+ghost use Rattle.texts.specs.Switches.{AreSwitchesOf, letter_bit, letter_of, letters_of, risen, text_of};
 
 use bitflags::Flags;
+use std::alloc::AllocError;
 use units::Switches;
 
 /// The bit of a letter from A to G.
@@ -58,4 +59,41 @@ pub fn switches_of(text: &str) -> Option<Switches>
         return None;
     }
     Some(Switches::from_bits_retain(bits))
+}
+
+/// Adds the letter of the switch with this bit, if the bit is set.
+fn push_letter(text: &mut Vec<u8>, bits: u8, bit: u8, letter: u8) -> Result<(), AllocError>
+    ensures { OnOk result (text.new.items ≡ text.old.items ++ letter_of bits bit letter) }
+{
+    if bits & bit == bit {
+        text.push(letter)?;
+    }
+    Ok(())
+}
+
+/// Adds the letters of the switches whose bits are set.
+#[tactic(auto, unfolding(crate::specs::Switches::letters_of))]
+fn push_letters(text: &mut Vec<u8>, bits: u8) -> Result<(), AllocError>
+    ensures { OnOk result (text.new.items ≡ text.old.items ++ letters_of bits) }
+{
+    push_letter(text, bits, 1, b'A')?;
+    push_letter(text, bits, 2, b'B')?;
+    push_letter(text, bits, 4, b'C')?;
+    push_letter(text, bits, 8, b'D')?;
+    push_letter(text, bits, 16, b'E')?;
+    push_letter(text, bits, 32, b'F')?;
+    push_letter(text, bits, 64, b'G')
+}
+
+/// Adds the text of switches: the letters of those that are on, or `-` if none is. Fails only if
+/// there is no memory.
+pub fn push_switches(text: &mut Vec<u8>, switches: Switches) -> Result<(), AllocError>
+    ensures { OnOk result (text.new.items ≡ text.old.items ++ text_of switches) }
+{
+    let bits = switches.bits();
+    if bits == 0 {
+        text.push(b'-')?;
+        return Ok(());
+    }
+    push_letters(text, bits)
 }

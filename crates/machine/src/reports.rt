@@ -1,10 +1,11 @@
-//! The standing of a machine after its run.
+//! The report of a machine.
 
 ghost use Rattle.std.specs.Prelude.{◌≡◌, Some};
-ghost use Rattle.counter.specs.Reports.{report_words, status_at};
+ghost use Rattle.machine.specs.Reports.{report_of, report_words};
 
-use command_line::Status;
-use machine::StandingAt;
+use crate::parts::Parts;
+use crate::standings::StandingAt;
+use core_store::Core;
 use std::fmt;
 use std::fmt::{Display, Formatter};
 
@@ -20,13 +21,14 @@ pub struct Report {
 }
 
 impl Report {
-    /// How the program ends after this report.
-    pub fn status(&self) -> Status
-        ensures { result ≡ status_at self.now.standing }
+    /// The report of a machine that has all of its cards and lines.
+    pub fn of<C: Core>(parts: &Parts<C>) -> Report
+        ensures { result ≡ report_of parts.now }
     {
-        match self.standing {
-            StandingAt::Halted { .. } => Status::Done,
-            StandingAt::Running | StandingAt::Checked { .. } => Status::NotDone,
+        Report {
+            cards: parts.units.punch.cards.len(),
+            lines: parts.units.printer.lines.len(),
+            standing: parts.standing_at(),
         }
     }
 }

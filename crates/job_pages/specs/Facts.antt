@@ -1,0 +1,61 @@
+-- the table of a page: what was run, how it ended, and the digests
+use Rattle.std.specs.Prelude.{ℕ, List, ◌++◌, length, codes, decimal}
+use Rattle.hex.specs.Hex.{encode_lower}
+use Rattle.sha2.specs.Sha256.{sha256}
+use Rattle.cards.specs.declared.Card.{Card}
+use Rattle.cards.specs.Files.{punch_file_of, text_of}
+use Rattle.core_store.specs.declared.sizes.Size.{Size}
+use Rattle.core_store.specs.Storage.{positions_of}
+use Rattle.units.specs.declared.switches.Switches.{Switches}
+use Rattle.units.specs.Listing.{rendered}
+use Rattle.machine.specs.Run.{State, lines_of}
+use Rattle.machine.specs.Reports.{report_of, report_words}
+use Rattle.texts.specs.Switches as switches
+use Rattle.pictures.specs.Escapes.{escaped}
+use Rattle.job_pages.specs.Jobs.{cards_punched, ran}
+
+-- the digest of bytes: their SHA-256, in lower-case hexadecimal digits
+abbrev pub digest_of : List ℕ → List ℕ
+digest_of bytes = encode_lower (sha256 bytes)
+
+-- how many there are of something, what it is, and the digest of its bytes, at the end of a row
+abbrev pub counted : ℕ → List ℕ → List ℕ → List ℕ
+counted count what bytes = decimal count ++ what ++ codes ", SHA-256 <code>" ++ digest_of bytes
+    ++ codes "</code></td></tr>\n"
+
+-- the row of a deck, with the digest of its deck text
+abbrev pub deck_fact : List ℕ → List Card → List ℕ
+deck_fact name deck = codes "<tr><th>" ++ name ++ codes "</th><td>"
+    ++ counted (length deck) (codes " cards") (text_of deck)
+
+-- the row of the machine
+abbrev pub machine_fact : Size → Switches → List ℕ
+machine_fact size on = codes "<tr><th>machine</th><td>" ++ decimal (positions_of size)
+    ++ codes " positions, switches " ++ switches.text_of on ++ codes "</td></tr>\n"
+
+-- the row of how the run ended: the line that a run prints
+abbrev pub end_fact : State → List ℕ
+end_fact m = codes "<tr><th>end</th><td>" ++ report_words (report_of m) ++ codes "</td></tr>\n"
+
+-- the row of the listing, with its digest
+abbrev pub listing_fact : ℕ → List ℕ → List ℕ
+listing_fact lines listing =
+    codes "<tr><th>listing</th><td>" ++ counted lines (codes " lines") listing
+
+-- the row of the punched cards, with the digest of their punch file
+abbrev pub punched_fact : List Card → List ℕ
+punched_fact cards = codes "<tr><th>punch file</th><td>"
+    ++ counted (length cards) (codes " cards") (punch_file_of cards)
+
+-- the row of what made the page
+abbrev pub maker_fact : List ℕ → List ℕ
+maker_fact version =
+    codes "<tr><th>made by</th><td>" ++ escaped version ++ codes "</td></tr>\n"
+
+-- the rows of a source that was run on a machine of this size with these switches
+unfoldable pub facts : List Card → List Card → State → Size → Switches → List ℕ → List ℕ
+facts source deck m size on version = codes "<table>\n"
+    ++ deck_fact (codes "source and data") source ++ deck_fact (codes "deck that was run") deck
+    ++ machine_fact size on ++ end_fact m
+    ++ listing_fact (length (lines_of m)) (rendered (lines_of m))
+    ++ punched_fact (cards_punched m) ++ maker_fact version ++ codes "</table>\n"

@@ -1,0 +1,3 @@
+pub mod Jobs
+pub mod Facts
+pub mod Pages

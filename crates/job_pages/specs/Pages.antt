@@ -1,0 +1,55 @@
+-- the page of a job
+use Rattle.std.specs.Prelude.{ℕ, ◌+◌, ◌==◌, if◌then◌else◌, List, [], ◌∷◌, ◌++◌, length, codes}
+use Rattle.cards.specs.declared.Card.{Card}
+use Rattle.core_store.specs.declared.sizes.Size.{Size}
+use Rattle.units.specs.declared.switches.Switches.{Switches}
+use Rattle.units.specs.Listing.{rendered}
+use Rattle.machine.specs.Run.{State, lines_of}
+use Rattle.autocoder_listings.specs.Listing.{listing_with_code_for}
+use Rattle.loader.specs.Decks.{runnable_deck}
+use Rattle.pictures.specs.Decks.{figures_from, stock_definition}
+use Rattle.pictures.specs.Escapes.{escaped}
+use Rattle.pictures.specs.Forms.{forms_shown}
+use Rattle.pictures.specs.declared.styles.TheConstants.{CARD_STYLE, FIGURE_STYLE, FORM_STYLE}
+use Rattle.job_pages.specs.declared.styles.TheConstants.{JOB_STYLE}
+use Rattle.job_pages.specs.Jobs.{cards_punched, ran}
+use Rattle.job_pages.specs.Facts.{facts}
+
+-- the style of a page
+abbrev pub style : List ℕ
+style = codes "<style>" ++ JOB_STYLE.now ++ FIGURE_STYLE.now ++ CARD_STYLE.now ++ FORM_STYLE.now
+    ++ codes "</style>\n"
+
+-- the head of a page, with the name of the job
+abbrev pub job_head : List ℕ → List ℕ
+job_head name = codes "<!DOCTYPE html><html lang=en><meta charset=utf-8><title>" ++ escaped name
+    ++ codes "</title>" ++ style ++ codes "<h1>" ++ escaped name ++ codes "</h1>\n"
+
+-- the source with its code
+abbrev pub code_shown : List ℕ → List ℕ
+code_shown code =
+    codes "<h2>Source</h2><pre class=\"code\">\n" ++ escaped code ++ codes "</pre>\n"
+
+-- the listing on its forms
+abbrev pub listing_shown : List ℕ → List ℕ
+listing_shown listing = codes "<h2>Listing</h2>\n"
+    ++ (if length listing == 0 then codes "<p>Nothing was printed.</p>\n" else forms_shown listing)
+
+-- the punched cards
+abbrev pub cards_shown : List Card → List ℕ
+cards_shown cards = codes "<h2>Punched cards</h2>\n" ++ (if length cards == 0
+    then codes "<p>No card was punched.</p>\n"
+    else stock_definition ++ figures_from 1 cards)
+
+-- the page of a source, its deck, and the machine that has run it
+unfoldable pub page_by : List ℕ → List ℕ → List Card → List Card → State → Size → Switches →
+    List ℕ → List ℕ
+page_by name code source deck m size switches version = job_head name
+    ++ facts source deck m size switches version ++ code_shown code
+    ++ listing_shown (rendered (lines_of m)) ++ cards_shown (cards_punched m)
+
+-- the page of a job with a name: of its source, which is assembled and run on a machine of this
+-- size with these switches
+abbrev pub page_of : List ℕ → List Card → Size → Switches → List ℕ → List ℕ
+page_of name source size switches version = page_by name (listing_with_code_for source) source
+    (runnable_deck source) (ran source size switches) size switches version

@@ -1,0 +1,117 @@
+//! The page of a job.
+
+ghost use Rattle.std.specs.Prelude.{◌≡◌, ◌++◌, ◌<◌, ◌≤◌, length, IfErr, IfOk, OnOk};
+ghost use Rattle.cards.specs.Decks.{largest_deck};
+ghost use Rattle.autocoder_layout.specs.Source.{source_of};
+ghost use Rattle.autocoder.specs.Programs.{IsFaultless};
+ghost use Rattle.loader.specs.Decks.{runnable_deck};
+ghost use Rattle.machine.specs.Run.{lines_of};
+ghost use Rattle.units.specs.Listing.{rendered};
+ghost use Rattle.job_pages.specs.Facts.{facts};
+ghost use Rattle.job_pages.specs.Jobs.{Hinders, cards_punched};
+ghost use Rattle.job_pages.specs.Pages.{page_by, page_of};
+ghost use Rattle.job_pages.specs.declared.pages.JobPageError.TheVariants.{NoMemory};
+
+use crate::facts::{push_deck, push_end, push_listing, push_machine, push_maker, push_punched};
+use crate::jobs::{Job, cards_of};
+use crate::parts;
+use cards::{Card, Deck};
+use core_store::Size;
+use std::alloc::{AllocError, Global};
+use units::{Switches, render};
+
+/// Why there is no page of a job.
+#[derive(Clone, Copy, Debug)]
+pub enum JobPageError {
+    /// The source has faults.
+    Faults,
+    /// The loading cards and the data are over 2,000.
+    TooManyCards,
+    /// There is no memory.
+    NoMemory,
+}
+
+impl From<AllocError> for JobPageError {
+    ghost from_gives = { λ _ error. error ≡ NoMemory };
+
+    fn from(_error: AllocError) -> JobPageError {
+        JobPageError::NoMemory
+    }
+}
+
+/// What a page is about: its name, its source, the machine, and what makes the page.
+#[derive(Clone, Copy)]
+pub struct Subject<'a> {
+    /// The name of the job, for its heading.
+    pub name: &'a str,
+    /// The source, with its data behind it.
+    pub source: &'a Deck,
+    /// The size of the machine's storage.
+    pub size: Size,
+    /// The sense switches that are on.
+    pub switches: Switches,
+    /// The version of the program that makes the page.
+    pub version: &'a str,
+}
+
+/// Adds the table of a job with this listing and these punched cards.
+#[tactic(auto, unfolding(crate::specs::Facts::facts))]
+fn push_facts(
+    alloc: Global,
+    out: &mut Vec<u8>,
+    subject: &Subject<'_>,
+    job: &Job,
+    listing: &[u8],
+    cards: &[Card],
+) -> Result<(), AllocError>
+    requires listing { listing.now ≡ rendered (lines_of job.now.machine) }
+    requires cards { cards.now ≡ cards_punched job.now.machine }
+    ensures { OnOk result (out.new.items ≡ out.old.items ++ facts subject.now.source.now
+        job.now.deck job.now.machine subject.now.size subject.now.switches
+        subject.now.version.now) }
+{
+    let lines = job.machine.parts().units.printer.lines.len();
+    out.extend_from_slice(b"<table>\n")?;
+    push_deck(alloc, out, b"source and data", subject.source)?;
+    push_deck(alloc, out, b"deck that was run", &job.deck)?;
+    push_machine(out, subject.size, subject.switches)?;
+    push_end(alloc, out, &job.machine)?;
+    push_listing(alloc, out, lines, listing)?;
+    push_punched(alloc, out, cards)?;
+    push_maker(out, subject.version)?;
+    out.extend_from_slice(b"</table>\n")
+}
+
+/// The page of a job that was run.
+#[tactic(auto, unfolding(crate::specs::Pages::page_by))]
+fn page_for(alloc: Global, subject: &Subject<'_>, job: &Job) -> Result<Vec<u8>, AllocError>
+    ensures { IfOk result (λ page. page.items ≡ page_by subject.now.name.now job.now.code.items
+        subject.now.source.now job.now.deck job.now.machine subject.now.size
+        subject.now.switches subject.now.version.now) }
+{
+    let units = &job.machine.parts().units;
+    let listing = render(alloc, &units.printer.lines)?;
+    let cards = cards_of(alloc, &units.punch.cards)?;
+    let mut out = Vec::new(alloc);
+    parts::push_head(&mut out, subject.name)?;
+    push_facts(alloc, &mut out, subject, job, &listing, &cards)?;
+    parts::push_code(&mut out, &job.code)?;
+    parts::push_listing(&mut out, &listing)?;
+    parts::push_cards(&mut out, &cards)?;
+    Ok(out)
+}
+
+/// Returns the page of a job, an HTML file that stands alone: its source is assembled, loaded and
+/// run as `bureau` does it.
+///
+/// Fails where the source has faults or too many cards, and if there is no memory.
+pub fn job_page(alloc: Global, subject: &Subject<'_>) -> Result<Vec<u8>, JobPageError>
+    ensures page { IfOk result (λ page. page.items ≡ page_of subject.now.name.now
+        subject.now.source.now subject.now.size subject.now.switches subject.now.version.now) }
+    ensures faultless { OnOk result (IsFaultless (source_of subject.now.source.now)) }
+    ensures fits { OnOk result (length (runnable_deck subject.now.source.now) ≤ largest_deck) }
+    ensures hinders { IfErr result (Hinders subject.now.source.now) }
+{
+    let job = Job::of(alloc, subject.source, subject.size, subject.switches)?;
+    Ok(page_for(alloc, subject, &job)?)
+}

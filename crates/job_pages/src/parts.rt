@@ -1,0 +1,80 @@
+//! The parts of a page behind its table.
+
+ghost use Rattle.std.specs.Prelude.{◌≡◌, ◌++◌, OnOk};
+ghost use Rattle.job_pages.specs.Pages.{cards_shown, code_shown, job_head, listing_shown, style};
+ghost use Rattle.pictures.specs.Decks.{figures_from};
+
+use crate::styles::JOB_STYLE;
+use cards::Card;
+use pictures::{
+    CARD_STYLE, FIGURE_STYLE, FORM_STYLE, push_card_figure, push_escaped, push_listing_forms,
+    push_stock_definition,
+};
+use std::alloc::AllocError;
+
+/// Adds the style of the page.
+fn push_style(out: &mut Vec<u8>) -> Result<(), AllocError>
+    ensures { OnOk result (out.new.items ≡ out.old.items ++ style) }
+{
+    out.extend_from_slice(b"<style>")?;
+    out.extend_from_slice(JOB_STYLE.as_bytes())?;
+    out.extend_from_slice(FIGURE_STYLE.as_bytes())?;
+    out.extend_from_slice(CARD_STYLE.as_bytes())?;
+    out.extend_from_slice(FORM_STYLE.as_bytes())?;
+    out.extend_from_slice(b"</style>\n")
+}
+
+/// Adds the head of a page, with the name of the job.
+pub(crate) fn push_head(out: &mut Vec<u8>, name: &str) -> Result<(), AllocError>
+    ensures { OnOk result (out.new.items ≡ out.old.items ++ job_head name.now) }
+{
+    out.extend_from_slice(b"<!DOCTYPE html><html lang=en><meta charset=utf-8><title>")?;
+    push_escaped(out, name.as_bytes())?;
+    out.extend_from_slice(b"</title>")?;
+    push_style(out)?;
+    out.extend_from_slice(b"<h1>")?;
+    push_escaped(out, name.as_bytes())?;
+    out.extend_from_slice(b"</h1>\n")
+}
+
+/// Adds the source with its code.
+pub(crate) fn push_code(out: &mut Vec<u8>, code: &[u8]) -> Result<(), AllocError>
+    ensures { OnOk result (out.new.items ≡ out.old.items ++ code_shown code.now) }
+{
+    out.extend_from_slice(b"<h2>Source</h2><pre class=\"code\">\n")?;
+    push_escaped(out, code)?;
+    out.extend_from_slice(b"</pre>\n")
+}
+
+/// Adds the listing on its forms.
+pub(crate) fn push_listing(out: &mut Vec<u8>, listing: &[u8]) -> Result<(), AllocError>
+    ensures { OnOk result (out.new.items ≡ out.old.items ++ listing_shown listing.now) }
+{
+    out.extend_from_slice(b"<h2>Listing</h2>\n")?;
+    if listing.is_empty() {
+        return out.extend_from_slice(b"<p>Nothing was printed.</p>\n");
+    }
+    push_listing_forms(out, listing)
+}
+
+/// Adds the figures of cards, each with its number.
+fn push_figures(out: &mut Vec<u8>, cards: &[Card]) -> Result<(), AllocError>
+    ensures { OnOk result (out.new.items ≡ out.old.items ++ figures_from 1 cards.now) }
+{
+    for (index, card) in cards.iter().enumerate() {
+        push_card_figure(out, index + 1, card)?;
+    }
+    Ok(())
+}
+
+/// Adds the punched cards.
+pub(crate) fn push_cards(out: &mut Vec<u8>, cards: &[Card]) -> Result<(), AllocError>
+    ensures { OnOk result (out.new.items ≡ out.old.items ++ cards_shown cards.now) }
+{
+    out.extend_from_slice(b"<h2>Punched cards</h2>\n")?;
+    if cards.is_empty() {
+        return out.extend_from_slice(b"<p>No card was punched.</p>\n");
+    }
+    push_stock_definition(out)?;
+    push_figures(out, cards)
+}
