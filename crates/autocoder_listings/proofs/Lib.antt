@@ -3,3 +3,4 @@ pub mod LineLemmas
 pub mod ListingLemmas
 pub mod ReadingLemmas
 pub mod CodeLaw
+mod WidthLaw

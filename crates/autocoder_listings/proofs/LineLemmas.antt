@@ -8,7 +8,8 @@ use Rattle.autocoder_layout.specs.Source.{Line, silent}
 use Rattle.autocoder_layout.specs.Layout.{Laid, nothing}
 use Rattle.autocoder_layout.specs.declared.cells.Cell.{Cell}
 use Rattle.autocoder_layout.specs.declared.slots.Slot.{Slot}
-use Rattle.autocoder_listings.specs.Coded.{lines_with_code, cards_with_code}
+use Rattle.autocoder_listings.specs.Listing.{lines_in, cards_in}
+use Rattle.autocoder_listings.specs.declared.widths.Width.{Width}
 use Rattle.autocoder_listings.specs.Names.{uses}
 
 -- ---- numbers in turn
@@ -29,22 +30,22 @@ number_past f old n end h =
 
 -- ---- cards
 
-pub cards_step : (old new more : List ℕ) (cards : List Card) (layout : List Laid) (i : ℕ) (card d : Card) (slot : Slot) (cells : List Cell) → i < length cards → i < length layout →
-    card ≡ get_or cards i d → slot ≡ (get_or layout i nothing).slot → cells ≡ (get_or layout i nothing).fills → more ≡ lines_with_code (i + 1) slot card cells → new ≡ old ++ more →
-    new ++ cards_with_code (i + 1 + 1) (drop (i + 1) cards) (drop (i + 1) layout) ≡ old ++ cards_with_code (i + 1) (drop i cards) (drop i layout)
-unfolding cards_with_code
-cards_step old new more cards layout i card d slot cells h k c s f m n =
-    let rest : List ℕ = cards_with_code (i + 1 + 1) (drop (i + 1) cards) (drop (i + 1) layout) in
+pub cards_step : (width : Width) (old new more : List ℕ) (cards : List Card) (layout : List Laid) (i : ℕ) (card d : Card) (slot : Slot) (cells : List Cell) → i < length cards → i < length layout →
+    card ≡ get_or cards i d → slot ≡ (get_or layout i nothing).slot → cells ≡ (get_or layout i nothing).fills → more ≡ lines_in width (i + 1) slot card cells → new ≡ old ++ more →
+    new ++ cards_in width (i + 1 + 1) (drop (i + 1) cards) (drop (i + 1) layout) ≡ old ++ cards_in width (i + 1) (drop i cards) (drop i layout)
+unfolding cards_in
+cards_step width old new more cards layout i card d slot cells h k c s f m n =
+    let rest : List ℕ = cards_in width (i + 1 + 1) (drop (i + 1) cards) (drop (i + 1) layout) in
     let laid : Laid = get_or layout i nothing in
-    let more_is : more ≡ lines_with_code (i + 1) laid.slot (get_or cards i d) laid.fills =
-    m ∙ ap (λ x. lines_with_code (i + 1) x card cells) s ∙ ap (λ x. lines_with_code (i + 1) laid.slot x cells) c ∙ ap (lines_with_code (i + 1) laid.slot (get_or cards i d)) f in
+    let more_is : more ≡ lines_in width (i + 1) laid.slot (get_or cards i d) laid.fills =
+    m ∙ ap (λ x. lines_in width (i + 1) x card cells) s ∙ ap (λ x. lines_in width (i + 1) laid.slot x cells) c ∙ ap (lines_in width (i + 1) laid.slot (get_or cards i d)) f in
     ap (λ t. t ++ rest) (n ∙ ap (λ x. old ++ x) more_is)
-    ∙ append_assoc old (lines_with_code (i + 1) laid.slot (get_or cards i d) laid.fills) rest
-    ∙ ap (λ t. old ++ t) (sym (at_drop_more (λ x. cards_with_code (i + 1) x (drop i layout)) cards i d h ∙ at_drop_more (λ x. cards_with_code (i + 1) (get_or cards i d ∷ drop (i + 1) cards) x) layout i nothing k))
+    ∙ append_assoc old (lines_in width (i + 1) laid.slot (get_or cards i d) laid.fills) rest
+    ∙ ap (λ t. old ++ t) (sym (at_drop_more (λ x. cards_in width (i + 1) x (drop i layout)) cards i d h ∙ at_drop_more (λ x. cards_in width (i + 1) (get_or cards i d ∷ drop (i + 1) cards) x) layout i nothing k))
 
-pub cards_past : (old : List ℕ) (cards : List Card) (layout : List Laid) (i first : ℕ) → length cards ≤ i → old ≡ old ++ cards_with_code first (drop i cards) layout
-unfolding cards_with_code
-cards_past old cards layout i first h = sym (append-nil old) ∙ ap (λ t. old ++ t) (sym (at_drop_all (λ x. cards_with_code first x layout) cards i h))
+pub cards_past : (width : Width) (old : List ℕ) (cards : List Card) (layout : List Laid) (i first : ℕ) → length cards ≤ i → old ≡ old ++ cards_in width first (drop i cards) layout
+unfolding cards_in
+cards_past width old cards layout i first h = sym (append-nil old) ∙ ap (λ t. old ++ t) (sym (at_drop_all (λ x. cards_in width first x layout) cards i h))
 
 -- ---- the cards that use a name
 

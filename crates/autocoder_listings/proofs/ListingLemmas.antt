@@ -1,4 +1,4 @@
--- for `listing_with_code` of `listings`: the whole listing of a source
+-- for `listing_in` of `listings`: the whole listing of a source
 use Rattle.std.proofs.Common.{◌≡◌, ℕ, List, [], ◌++◌, length, None, sym, ◌∙◌, ap, subst, false}
 use Rattle.std.specs.List.{All}
 use Rattle.cards.specs.declared.decks.Card.{Card}
@@ -8,9 +8,9 @@ use Rattle.autocoder_layout.specs.Layout.{Layout, layout_of, layout_in}
 use Rattle.autocoder_layout.proofs.SourceLemmas.{length-lines_of}
 use Rattle.autocoder.specs.Assembly.{Assembly}
 use Rattle.autocoder.specs.Programs.{size_for, layout_for, IsProgramOf, IsFaultless}
-use Rattle.autocoder_listings.specs.Coded.{cards_with_code}
-use Rattle.autocoder_listings.specs.Names.{table_of_names}
-use Rattle.autocoder_listings.specs.Listing.{listing_with_code_of, listing_with_code_for}
+use Rattle.autocoder_listings.specs.Names.{table_of_names, users_on_line}
+use Rattle.autocoder_listings.specs.Listing.{cards_in, listing_in}
+use Rattle.autocoder_listings.specs.declared.widths.Width.{Width}
 use Rattle.autocoder_layout.proofs.FaultLemmas.{no_faults_of}
 
 module _ (deck : List Card) (program : Assembly) (is_program : IsProgramOf (source_of deck) program)
@@ -27,11 +27,11 @@ module _ (deck : List Card) (program : Assembly) (is_program : IsProgramOf (sour
   pub no_faults : IsFaultless (source_of deck) → All (λ laid. laid.fault ≡ None) (layout_in layout.source)
   no_faults faultless = subst (λ l. All (λ laid. laid.fault ≡ None) l) (sym layout_is) (no_faults_of (has_end (source_of deck)) (layout_for (source_of deck)) faultless)
 
-  pub listing_is : (source : List Card) (old cards whole : List ℕ) → source ≡ source_of deck → layout.slots ≡ program.slots → old ≡ [] → cards ≡ old ++ cards_with_code 1 source (layout_in layout.source) →
-      whole ≡ cards ++ table_of_names layout.source.lines layout.slots → whole ≡ listing_with_code_for deck
-  unfolding listing_with_code_of
-  listing_is source old cards whole e slots_are o c w =
+  pub listing_is : (width : Width) (source : List Card) (old cards whole : List ℕ) → source ≡ source_of deck → layout.slots ≡ program.slots → old ≡ [] → cards ≡ old ++ cards_in width 1 source (layout_in layout.source) →
+      whole ≡ cards ++ table_of_names (users_on_line width) layout.source.lines layout.slots → whole ≡ listing_in width (source_of deck)
+  unfolding listing_in
+  listing_is width source old cards whole e slots_are o c w =
       w
-      ∙ ap (λ x. x ++ table_of_names layout.source.lines layout.slots) (c ∙ ap (λ x. x ++ cards_with_code 1 source (layout_in layout.source)) o ∙ ap (cards_with_code 1 source) layout_is ∙ ap (λ x. cards_with_code 1 x (layout_for (source_of deck))) e)
-      ∙ ap (λ l. cards_with_code 1 (source_of deck) (layout_for (source_of deck)) ++ table_of_names l layout.slots) lines_is
-      ∙ ap (λ s. cards_with_code 1 (source_of deck) (layout_for (source_of deck)) ++ table_of_names (lines_of false (source_of deck)) s) (slots_are ∙ is_program.slots)
+      ∙ ap (λ x. x ++ table_of_names (users_on_line width) layout.source.lines layout.slots) (c ∙ ap (λ x. x ++ cards_in width 1 source (layout_in layout.source)) o ∙ ap (cards_in width 1 source) layout_is ∙ ap (λ x. cards_in width 1 x (layout_for (source_of deck))) e)
+      ∙ ap (λ l. cards_in width 1 (source_of deck) (layout_for (source_of deck)) ++ table_of_names (users_on_line width) l layout.slots) lines_is
+      ∙ ap (λ s. cards_in width 1 (source_of deck) (layout_for (source_of deck)) ++ table_of_names (users_on_line width) (lines_of false (source_of deck)) s) (slots_are ∙ is_program.slots)

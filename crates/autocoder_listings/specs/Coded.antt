@@ -1,8 +1,7 @@
 -- the cards of a source with the code of each
-use Rattle.std.specs.Prelude.{ℕ, ◌-◌, List, [], ◌∷◌, ◌++◌, length, flat_map, replicate, zip}
+use Rattle.std.specs.Prelude.{ℕ, ◌-◌, List, [], ◌∷◌, ◌++◌, length, flat_map, replicate}
 use Rattle.std.specs.List.{range_with_len}
 use Rattle.cards.specs.declared.decks.Card.{Card}
-use Rattle.autocoder_layout.specs.Layout.{Laid}
 use Rattle.autocoder_layout.specs.declared.cells.Cell.{Cell}
 use Rattle.autocoder_layout.specs.declared.slots.Slot.{Slot}
 use Rattle.autocoder.specs.Listing.{blank, right, line_text, card_line}
@@ -34,9 +33,3 @@ further_lines cells =
 unfoldable pub lines_with_code : ℕ → Slot → Card → List Cell → List ℕ
 lines_with_code number slot card cells =
     line_text (first_line number slot card cells) ++ further_lines cells
-
--- the lines of cards, each with its number, from the first number on, and its part of the layout
-unfoldable pub cards_with_code : ℕ → List Card → List Laid → List ℕ
-cards_with_code first cards layout =
-    flat_map (λ entry. lines_with_code entry.0 entry.1.1.slot entry.1.0 entry.1.1.fills)
-    (zip (range_with_len first (length cards)) (zip cards layout))

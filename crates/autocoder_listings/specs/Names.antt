@@ -11,7 +11,9 @@ use Rattle.autocoder_layout.specs.Source.{Line}
 use Rattle.autocoder_layout.specs.declared.slots.Definition.{Definition}
 use Rattle.autocoder_layout.specs.declared.slots.Slot.{Slot}
 use Rattle.autocoder.specs.Listing.{blank, right, position_field, glyphs_of, line_text}
-use Rattle.autocoder_listings.specs.Rows.{rows_for, row_at}
+use Rattle.autocoder_listings.specs.Rows.{rows_of, row_of}
+use Rattle.autocoder_listings.specs.declared.widths.Width.{Width}
+use Rattle.autocoder_listings.specs.declared.widths.Width.TheVariants.{Wide, Narrow}
 
 -- ---- which cards use a name
 
@@ -41,40 +43,48 @@ users wanted lines = items_where_true (map (uses wanted) lines) (range_with_len 
 
 -- ---- the table
 
+-- how many cards that use a name stand on a line
+abbrev pub users_on_line : Width → ℕ
+users_on_line Wide = 20
+users_on_line Narrow = 10
+
 -- numbers of cards, each in five places
 abbrev pub numbers_of : List ℕ → List ℕ
 numbers_of row = flat_map (right blank 5) row
 
 -- the line of a name: its six characters, its address, and the first row of the cards that use it
-unfoldable pub name_line : Definition → List ℕ → List ℕ
-name_line definition cards =
+unfoldable pub name_line : ℕ → Definition → List ℕ → List ℕ
+name_line many definition cards =
     ((glyphs_of definition.name.characters ++ blank ∷ []) ++ position_field definition.address)
-    ++ numbers_of (row_at cards 0)
+    ++ numbers_of (row_of many cards 0)
 
 -- the line of a further row of cards, below the first one
-unfoldable pub users_line : List ℕ → ℕ → List ℕ
-users_line cards number = replicate 12 blank ++ numbers_of (row_at cards number)
+unfoldable pub users_line : ℕ → List ℕ → ℕ → List ℕ
+users_line many cards number = replicate 12 blank ++ numbers_of (row_of many cards number)
 
 -- the lines of the further rows
-unfoldable pub users_lines : List ℕ → List ℕ
-users_lines cards =
-    flat_map (λ number. line_text (users_line cards number))
-    (range_with_len 1 (rows_for (length cards) - 1))
+unfoldable pub users_lines : ℕ → List ℕ → List ℕ
+users_lines many cards =
+    flat_map (λ number. line_text (users_line many cards number))
+    (range_with_len 1 (rows_of many (length cards) - 1))
 
 -- the lines of a name with the cards that use it
-unfoldable pub lines_of_name : Definition → List ℕ → List ℕ
-lines_of_name definition cards = line_text (name_line definition cards) ++ users_lines cards
+unfoldable pub lines_of_name : ℕ → Definition → List ℕ → List ℕ
+lines_of_name many definition cards =
+    line_text (name_line many definition cards) ++ users_lines many cards
 
 -- the lines of the name that a card defines, if it defines one
-unfoldable pub lines_of_defined : List Line → Option Definition → List ℕ
-lines_of_defined lines None = []
-lines_of_defined lines (Some definition) = lines_of_name definition (users definition.name lines)
+unfoldable pub lines_of_defined : ℕ → List Line → Option Definition → List ℕ
+lines_of_defined many lines None = []
+lines_of_defined many lines (Some definition) =
+    lines_of_name many definition (users definition.name lines)
 
 -- the line above the names
 abbrev pub heading : List ℕ
 heading = codes "NAME   PLACE CARDS"
 
--- the table of the names of a source, in the order of the cards that define them
-unfoldable pub table_of_names : List Line → List Slot → List ℕ
-table_of_names lines slots =
-    line_text heading ++ flat_map (λ slot. lines_of_defined lines slot.defines) slots
+-- the table of the names of a source, in the order of the cards that define them, with so many
+-- users on a line
+unfoldable pub table_of_names : ℕ → List Line → List Slot → List ℕ
+table_of_names many lines slots =
+    line_text heading ++ flat_map (λ slot. lines_of_defined many lines slot.defines) slots

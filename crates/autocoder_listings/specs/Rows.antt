@@ -13,13 +13,21 @@ mark_sign = byte (codes "'")
 abbrev pub glyphs_shown : Cell → List ℕ
 glyphs_shown c = if c.marked then mark_sign ∷ glyph_of c.code ∷ [] else glyph_of c.code ∷ []
 
--- how many rows of twenty so many things take
-abbrev pub rows_for : ℕ → ℕ
-rows_for count = div_ceil count 20
+-- how many rows of this length so many things take
+abbrev pub rows_of : ℕ → ℕ → ℕ
+rows_of many count = div_ceil count many
 
--- the row of this number, from 0 on: twenty things, or those that are left
+-- the row of this number, from 0 on: so many things, or those that are left
+abbrev pub row_of : {X : Type 0} → ℕ → List X → ℕ → List X
+row_of many things number = take many (drop (many * number) things)
+
+-- how many rows of twenty so many characters take
+abbrev pub rows_for : ℕ → ℕ
+rows_for count = rows_of 20 count
+
+-- the row of this number: twenty characters, or those that are left
 abbrev pub row_at : {X : Type 0} → List X → ℕ → List X
-row_at things number = take 20 (drop (20 * number) things)
+row_at things number = row_of 20 things number
 
 -- the address of a row: its first position
 abbrev pub address_of : List Cell → ℕ

@@ -2,9 +2,12 @@
 
 ghost use Rattle.std.specs.Prelude.{◌≡◌, ◌++◌, length, None, IfOk, OnOk, All};
 ghost use Rattle.autocoder_layout.specs.Layout.{layout_in};
-ghost use Rattle.autocoder_listings.specs.Coded.{counted_line, first_line, lines_with_code, cards_with_code};
+ghost use Rattle.autocoder_listings.specs.Coded.{counted_line, first_line, lines_with_code};
+ghost use Rattle.autocoder_listings.specs.Listing.{cards_in, lines_in};
 
+use crate::narrow::push_narrow;
 use crate::rows::{push_further_lines, push_row, row_at};
+use crate::widths::Width;
 use autocoder::{card_line, push_line, push_number};
 use autocoder_layout::{Cell, Layout, Slot};
 use cards::Card;
@@ -30,7 +33,7 @@ fn counted_line(
 
 /// The line of a card, with the first row of the code that it places.
 #[tactic(auto, unfolding(crate::specs::Coded::first_line))]
-fn first_line(
+pub(crate) fn first_line(
     alloc: Global,
     number: u64,
     slot: &Slot,
@@ -47,9 +50,9 @@ fn first_line(
     Ok(line)
 }
 
-/// Adds the lines of a card.
+/// Adds the lines of a card, with the code behind it.
 #[tactic(auto, unfolding(crate::specs::Coded::lines_with_code))]
-fn push_card(
+fn push_wide(
     alloc: Global,
     text: &mut Vec<u8>,
     number: u64,
@@ -65,22 +68,51 @@ fn push_card(
     push_further_lines(alloc, text, cells)
 }
 
+/// Adds the lines of a card.
+#[tactic(auto, unfolding(crate::specs::Listing::lines_in))]
+fn push_card(
+    alloc: Global,
+    text: &mut Vec<u8>,
+    width: Width,
+    number: u64,
+    slot: &Slot,
+    card: &Card,
+    cells: &[Cell],
+) -> Result<(), AllocError>
+    ensures { OnOk result (text.new.items
+        ≡ text.old.items ++ lines_in width number slot.now card.now cells.now) }
+{
+    match width {
+        Width::Wide => push_wide(alloc, text, number, slot, card, cells),
+        Width::Narrow => push_narrow(alloc, text, number, slot, card, cells),
+    }
+}
+
 /// Adds the lines of the cards of a source without faults.
 pub(crate) fn push_cards(
     alloc: Global,
     text: &mut Vec<u8>,
+    width: Width,
     source: &[Card],
     layout: &Layout,
 ) -> Result<(), AllocError>
     requires one_each { length source.now ≡ length layout.now.source.lines }
     requires faultless { All (λ laid. laid.fault ≡ None) (layout_in layout.now.source) }
     ensures { OnOk result (text.new.items
-        ≡ text.old.items ++ cards_with_code 1 source.now (layout_in layout.now.source)) }
+        ≡ text.old.items ++ cards_in width 1 source.now (layout_in layout.now.source)) }
 {
     let slots = layout.slots();
     for i in 0..source.len() {
         let cells = layout.cells(alloc, i)?;
-        push_card(alloc, text, i as u64 + 1, &slots[i], &source[i], &cells)?;
+        push_card(
+            alloc,
+            text,
+            width,
+            i as u64 + 1,
+            &slots[i],
+            &source[i],
+            &cells,
+        )?;
     }
     Ok(())
 }

@@ -1,12 +1,12 @@
 //! The names of a source: their addresses, and the cards that use them.
 
-ghost use Rattle.std.specs.Prelude.{◌≡◌, ◌*◌, ◌≤◌, ◌++◌, ◌∷◌, ◌||◌, [], length, codes, flat_map, IfOk, OnOk};
+ghost use Rattle.std.specs.Prelude.{◌≡◌, ◌*◌, ◌<◌, ◌≤◌, ◌++◌, ◌∷◌, ◌||◌, [], length, codes, flat_map, IfOk, OnOk};
 ghost use Rattle.std.specs.List.{items_where_true};
 ghost use Rattle.cards.specs.Decks.{largest_deck};
-ghost use Rattle.autocoder_listings.specs.Rows.{row_at};
-ghost use Rattle.autocoder_listings.specs.Names.{is_name, has_name, uses, users, numbers_of, name_line, users_line, users_lines, lines_of_name, lines_of_defined, heading, table_of_names};
+ghost use Rattle.autocoder_listings.specs.Rows.{row_of, rows_of};
+ghost use Rattle.autocoder_listings.specs.Names.{is_name, has_name, uses, users, numbers_of, name_line, users_line, users_lines, lines_of_name, lines_of_defined, heading, table_of_names, users_on_line};
 
-use crate::rows::{ROW_LENGTH, rows_for};
+use crate::widths::Width;
 use autocoder::{push_fillers, push_glyphs, push_line, push_number};
 use autocoder_layout::{Definition, Layout, Line, Slot};
 use autocoder_statements::{Base, Name, Operand, Statement};
@@ -86,13 +86,21 @@ fn users(alloc: Global, wanted: &Name, lines: &[Line]) -> Result<Vec<u64>, Alloc
     Ok(cards)
 }
 
-/// The row with this number.
-fn row_at(cards: &[u64], number: usize) -> &[u64]
-    requires { 20 * number ≤ length cards.now }
-    ensures { result.now ≡ row_at cards.now number }
+/// The number of rows of this length that `count` cards take.
+fn rows_of(many: usize, count: usize) -> usize
+    requires { 0 < many }
+    ensures { result ≡ rows_of many count }
 {
-    let rest = &cards[ROW_LENGTH * number..];
-    &rest[..rest.len().min(ROW_LENGTH)]
+    count.div_ceil(many)
+}
+
+/// The row with this number.
+fn row_of(many: usize, cards: &[u64], number: usize) -> &[u64]
+    requires { many * number ≤ length cards.now }
+    ensures { result.now ≡ row_of many cards.now number }
+{
+    let rest = &cards[many * number..];
+    &rest[..rest.len().min(many)]
 }
 
 /// Adds the numbers of a row.
@@ -107,35 +115,51 @@ fn push_numbers(line: &mut Vec<u8>, row: &[u64]) -> Result<(), AllocError>
 
 /// The line of a name, with the first row of the cards that use it.
 #[tactic(auto, unfolding(crate::specs::Names::name_line))]
-fn name_line(alloc: Global, definition: &Definition, cards: &[u64]) -> Result<Vec<u8>, AllocError>
-    ensures { IfOk result (λ line. line.items ≡ name_line definition.now cards.now) }
+fn name_line(
+    alloc: Global,
+    many: usize,
+    definition: &Definition,
+    cards: &[u64],
+) -> Result<Vec<u8>, AllocError>
+    ensures { IfOk result (λ line. line.items ≡ name_line many definition.now cards.now) }
 {
     let mut line = Vec::new(alloc);
     push_glyphs(&mut line, &definition.name.characters)?;
     line.push(b' ')?;
     push_number(&mut line, b'0', 5, definition.address as u64)?;
-    push_numbers(&mut line, row_at(cards, 0))?;
+    push_numbers(&mut line, row_of(many, cards, 0))?;
     Ok(line)
 }
 
 /// The line of a further row of cards.
 #[tactic(auto, unfolding(crate::specs::Names::users_line))]
-fn users_line(alloc: Global, cards: &[u64], number: usize) -> Result<Vec<u8>, AllocError>
-    requires { 20 * number ≤ length cards.now }
-    ensures { IfOk result (λ line. line.items ≡ users_line cards.now number) }
+fn users_line(
+    alloc: Global,
+    many: usize,
+    cards: &[u64],
+    number: usize,
+) -> Result<Vec<u8>, AllocError>
+    requires { many * number ≤ length cards.now }
+    ensures { IfOk result (λ line. line.items ≡ users_line many cards.now number) }
 {
     let mut line = Vec::new(alloc);
     push_fillers(&mut line, b' ', MARGIN)?;
-    push_numbers(&mut line, row_at(cards, number))?;
+    push_numbers(&mut line, row_of(many, cards, number))?;
     Ok(line)
 }
 
 /// Adds the lines of the rows of cards after the first.
-fn push_users_lines(alloc: Global, text: &mut Vec<u8>, cards: &[u64]) -> Result<(), AllocError>
-    ensures { OnOk result (text.new.items ≡ text.old.items ++ users_lines cards.now) }
+fn push_users_lines(
+    alloc: Global,
+    text: &mut Vec<u8>,
+    many: usize,
+    cards: &[u64],
+) -> Result<(), AllocError>
+    requires { 0 < many }
+    ensures { OnOk result (text.new.items ≡ text.old.items ++ users_lines many cards.now) }
 {
-    for number in 1..rows_for(cards.len()) {
-        let line = users_line(alloc, cards, number)?;
+    for number in 1..rows_of(many, cards.len()) {
+        let line = users_line(alloc, many, cards, number)?;
         push_line(text, &line)?;
     }
     Ok(())
@@ -146,15 +170,17 @@ fn push_users_lines(alloc: Global, text: &mut Vec<u8>, cards: &[u64]) -> Result<
 fn push_name(
     alloc: Global,
     text: &mut Vec<u8>,
+    many: usize,
     definition: &Definition,
     cards: &[u64],
 ) -> Result<(), AllocError>
+    requires { 0 < many }
     ensures { OnOk result (text.new.items
-        ≡ text.old.items ++ lines_of_name definition.now cards.now) }
+        ≡ text.old.items ++ lines_of_name many definition.now cards.now) }
 {
-    let line = name_line(alloc, definition, cards)?;
+    let line = name_line(alloc, many, definition, cards)?;
     push_line(text, &line)?;
-    push_users_lines(alloc, text, cards)
+    push_users_lines(alloc, text, many, cards)
 }
 
 /// Adds the lines of the name that a card defines, if it defines one.
@@ -162,33 +188,37 @@ fn push_name(
 fn push_defined(
     alloc: Global,
     text: &mut Vec<u8>,
+    many: usize,
     lines: &[Line],
     slot: &Slot,
 ) -> Result<(), AllocError>
-    requires { length lines.now ≤ largest_deck }
+    requires some { 0 < many }
+    requires deck { length lines.now ≤ largest_deck }
     ensures { OnOk result (text.new.items
-        ≡ text.old.items ++ lines_of_defined lines.now slot.now.defines) }
+        ≡ text.old.items ++ lines_of_defined many lines.now slot.now.defines) }
 {
     let Some(definition) = slot.defines else {
         return Ok(());
     };
     let cards = users(alloc, &definition.name, lines)?;
-    push_name(alloc, text, &definition, &cards)
+    push_name(alloc, text, many, &definition, &cards)
 }
 
 /// Adds the lines of the names that cards define.
 fn push_defined_names(
     alloc: Global,
     text: &mut Vec<u8>,
+    many: usize,
     lines: &[Line],
     slots: &[Slot],
 ) -> Result<(), AllocError>
-    requires { length lines.now ≤ largest_deck }
+    requires some { 0 < many }
+    requires deck { length lines.now ≤ largest_deck }
     ensures { OnOk result (text.new.items ≡ text.old.items
-        ++ flat_map (λ slot. lines_of_defined lines.now slot.defines) slots.now) }
+        ++ flat_map (λ slot. lines_of_defined many lines.now slot.defines) slots.now) }
 {
     for slot in slots {
-        push_defined(alloc, text, lines, slot)?;
+        push_defined(alloc, text, many, lines, slot)?;
     }
     Ok(())
 }
@@ -198,12 +228,14 @@ fn push_defined_names(
 pub(crate) fn push_names(
     alloc: Global,
     text: &mut Vec<u8>,
+    width: Width,
     layout: &Layout,
 ) -> Result<(), AllocError>
-    ensures { OnOk result (text.new.items
-        ≡ text.old.items ++ table_of_names layout.now.source.lines layout.now.slots) }
+    ensures { OnOk result (text.new.items ≡ text.old.items
+        ++ table_of_names (users_on_line width) layout.now.source.lines layout.now.slots) }
 {
     push_line(text, b"NAME   PLACE CARDS")?;
-    push_defined_names(alloc, text, layout.source().lines(), layout.slots())?;
+    let many = width.users_on_line();
+    push_defined_names(alloc, text, many, layout.source().lines(), layout.slots())?;
     Ok(())
 }

@@ -8,13 +8,13 @@ use autocoder::{push_fillers, push_line, push_number};
 use autocoder_layout::Cell;
 use std::alloc::{AllocError, Global};
 
-/// The greatest number of characters, or cards, in a row.
-pub(crate) const ROW_LENGTH: usize = 20;
+/// The greatest number of characters in a row.
+const ROW_LENGTH: usize = 20;
 
 /// The width of the part of a line before its row.
 const MARGIN: usize = 98;
 
-/// The number of rows that `count` characters, or cards, take.
+/// The number of rows that `count` characters take.
 pub(crate) fn rows_for(count: usize) -> usize
     ensures { result ≡ rows_for count }
 {
@@ -73,7 +73,11 @@ pub(crate) fn push_row(line: &mut Vec<u8>, row: &[Cell]) -> Result<(), AllocErro
 
 /// The line of a further row.
 #[tactic(auto, unfolding(crate::specs::Coded::further_line))]
-fn further_line(alloc: Global, cells: &[Cell], number: usize) -> Result<Vec<u8>, AllocError>
+pub(crate) fn further_line(
+    alloc: Global,
+    cells: &[Cell],
+    number: usize,
+) -> Result<Vec<u8>, AllocError>
     requires { 20 * number ≤ length cells.now }
     ensures { IfOk result (λ line. line.items ≡ further_line cells.now number) }
 {

@@ -18,6 +18,6 @@ mod numbering;
 pub use checking::check_sequence;
 pub use comparing::{Comparison, compare};
 pub use laws::{manifest_lines_have_one_reading, numbered_is_in_order, same_decks_do_not_differ};
-pub use listing::{ListOptions, list};
+pub use listing::{ListOptions, list, list_from};
 pub use manifests::{ManifestEntry, manifest_line, read_manifest_line};
 pub use numbering::{SequenceError, SequenceFault, sequence};

@@ -1,7 +1,7 @@
 //! The listing of cards.
 
-ghost use Rattle.std.specs.Prelude.{◌≡◌, ◌++◌, IfOk, OnOk};
-ghost use Rattle.card_tools.specs.Listing.{card_shown, listing, mark_of, row_line, row_lines, rows_under, ruler_above};
+ghost use Rattle.std.specs.Prelude.{◌≡◌, ◌+◌, ◌<◌, ◌^◌, ◌++◌, length, IfOk, OnOk};
+ghost use Rattle.card_tools.specs.Listing.{card_shown, listing, listing_from, mark_of, row_line, row_lines, rows_under, ruler_above};
 
 use crate::lines::{push_in_four, push_numbered};
 use bcd::Code;
@@ -47,9 +47,22 @@ const ROWS: [(u8, u16); 12] = [
 pub fn list(alloc: Global, cards: &[Card], options: ListOptions) -> Result<Vec<u8>, AllocError>
     ensures { IfOk result (λ text. text.items ≡ listing options cards.now) }
 {
+    list_from(alloc, 1, cards, options)
+}
+
+/// Returns the same where the first of the cards has this number.
+pub fn list_from(
+    alloc: Global,
+    first: usize,
+    cards: &[Card],
+    options: ListOptions,
+) -> Result<Vec<u8>, AllocError>
+    requires { first + length cards.now < 2 ^ 64 }
+    ensures { IfOk result (λ text. text.items ≡ listing_from options first cards.now) }
+{
     let mut out = Vec::new(alloc);
     for (index, card) in cards.iter().enumerate() {
-        push_shown(&mut out, options, index + 1, card)?;
+        push_shown(&mut out, options, first + index, card)?;
     }
     Ok(out)
 }

@@ -9,7 +9,8 @@ use Rattle.autocoder_layout.specs.declared.card_faults.CardFault.{CardFault}
 use Rattle.autocoder.specs.Programs.{layout_for}
 use Rattle.autocoder.specs.declared.faults.Faults.{Faults}
 use Rattle.autocoder.specs.declared.faults.Faults.TheVariants.{Source, NoMemory}
-use Rattle.autocoder_listings.specs.Listing.{listing_with_code_of}
+use Rattle.autocoder_listings.specs.Listing.{listing_in}
+use Rattle.autocoder_listings.specs.declared.widths.Width.{Width}
 use Rattle.source_reports.specs.Blocks.{block, sum_line}
 
 -- the faults of a source, in the order of its cards: those for which it has no program
@@ -28,16 +29,18 @@ blocks_of source faults = flat_map (block (laid_for source) source) faults
 unfoldable pub text_of_faults : List Card → List CardFault → List ℕ
 text_of_faults source faults = blocks_of source faults ++ sum_line faults (length source)
 
--- the text for a source with these faults: of a source without a fault its listing with code
-abbrev pub text_by : List Card → List CardFault → List ℕ
-text_by source [] = listing_with_code_of source
-text_by source (fault ∷ faults) = text_of_faults source (fault ∷ faults)
+-- the text for a source with these faults: of a source without a fault its listing with code in a
+-- width
+abbrev pub text_by : Width → List Card → List CardFault → List ℕ
+text_by width source [] = listing_in width source
+text_by width source (fault ∷ faults) = text_of_faults source (fault ∷ faults)
 
--- the text of the report of a source
-unfoldable pub text_for : List Card → List ℕ
-text_for source = text_by source (faults_for source)
+-- the text of the report of a source in a width
+unfoldable pub text_for : Width → List Card → List ℕ
+text_for width source = text_by width source (faults_for source)
 
--- the report of a source tells these faults, which the assembler returns for it
+-- the report of a source tells these faults, which the assembler returns for it, in both widths
 abbrev pub Tells : List Card → Faults → Type 0
-Tells source (Source faults) = text_for source ≡ text_of_faults source faults.items
+Tells source (Source faults) =
+    (width : Width) → text_for width source ≡ text_of_faults source faults.items
 Tells source NoMemory = ⊤

@@ -10,7 +10,8 @@ ghost use Rattle.autocoder_layout.specs.Layout.{nothing};
 ghost use Rattle.autocoder_layout.specs.declared.slots.Slot.{Slot};
 ghost use Rattle.autocoder.specs.Programs.{IsFaultless, AreFaults, layout_for};
 ghost use Rattle.autocoder.specs.declared.faults.Faults.{Faults};
-ghost use Rattle.autocoder_listings.specs.Listing.{listing_with_code_of};
+ghost use Rattle.autocoder_listings.specs.Listing.{listing_in};
+ghost use Rattle.autocoder_listings.specs.declared.widths.Width.{Width};
 ghost use Rattle.source_reports.specs.Blocks.{line_at};
 ghost use Rattle.source_reports.specs.Carets.{IsInField, IsStrayAt, IsUnknownTold, IsOnlyNear};
 ghost use Rattle.source_reports.specs.Names.{near_name};
@@ -19,11 +20,12 @@ ghost use Rattle.source_reports.specs.Places.{broken_column, place_of};
 ghost use Rattle.source_reports.specs.Reports.{laid_for, text_for, Tells};
 
 /// The law of reports: the report of a source without faults is its listing with code, and that of
-/// a source for which the assembler returns faults tells these, each in a block, in their order.
+/// a source for which the assembler returns faults tells these, each in a block, in their order,
+/// whatever the width.
 #[tactic(auto, using(crate::proofs::ReportLaw::faultless_listed, crate::proofs::ReportLaw::faults_told))]
 pub fn reports_follow_the_assembler()
-    ensures listed { (source : List Card) → IsFaultless source →
-        text_for source ≡ listing_with_code_of source }
+    ensures listed { (width : Width) (source : List Card) → IsFaultless source →
+        text_for width source ≡ listing_in width source }
     ensures told { (source : List Card) (faults : Faults) → AreFaults source faults →
         Tells source faults }
 {}

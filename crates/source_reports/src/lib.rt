@@ -2,11 +2,12 @@
 //! in words, with the card and a caret under the fault's place.
 //!
 //! The contract for the layer above: [`Report::of`] returns exactly the text of
-//! `specs/Reports.antt`. Of a source without faults that is the listing with code; else it has a
-//! block for each fault that `autocoder::assemble` returns, in the same order, and a line with
-//! their sum ([`reports_follow_the_assembler`]). A block has the fault's number and words
-//! (`specs/Words.antt`), what the layout knows besides (`specs/Hints.antt`), the card, and a caret
-//! under the place of the fault (`specs/Places.antt`). Fails only if there is no memory.
+//! `specs/Reports.antt`. Of a source without faults that is the listing with code in the width that
+//! is asked for; else it has a block for each fault that `autocoder::assemble` returns, in the same
+//! order, and a line with their sum ([`reports_follow_the_assembler`]). A block has the fault's
+//! number and words (`specs/Words.antt`), what the layout knows besides (`specs/Hints.antt`), the
+//! card, and a caret under the place of the fault (`specs/Places.antt`). Fails only if there is no
+//! memory.
 //!
 //! Laws: a caret stands in the field that its fault is about
 //! ([`carets_stand_in_the_field_at_fault`]); of text after a blank it stands under a character

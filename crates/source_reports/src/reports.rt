@@ -8,7 +8,7 @@ ghost use Rattle.source_reports.specs.Reports.{faults_for, text_of_faults, text_
 use crate::blocks::{push_block, push_sum};
 use autocoder::{Faults, assemble};
 use autocoder_layout::{CardFault, Layout, Source, source_of};
-use autocoder_listings::listing_with_code;
+use autocoder_listings::{Width, listing_in};
 use cards::{Card, Deck};
 use std::alloc::{AllocError, Global};
 
@@ -52,17 +52,18 @@ fn text_of_faults(alloc: Global, deck: &Deck, faults: &[CardFault]) -> Result<Ve
 }
 
 impl Report {
-    /// Returns the report of the source that a deck begins with: its listing with code, or else
-    /// each of its faults in words. Fails only if there is no memory.
+    /// Returns the report of the source that a deck begins with: its listing with code in a width,
+    /// or else each of its faults in words. Fails only if there is no memory.
     #[tactic(auto, unfolding(crate::specs::Reports::text_for))]
-    pub fn of(alloc: Global, deck: &Deck) -> Result<Report, AllocError>
-        ensures text { IfOk result (λ report. report.text.items ≡ text_for (source_of deck.now)) }
+    pub fn of(alloc: Global, deck: &Deck, width: Width) -> Result<Report, AllocError>
+        ensures text { IfOk result (λ report.
+            report.text.items ≡ text_for width (source_of deck.now)) }
         ensures faults { IfOk result (λ report.
             report.faults ≡ length (faults_for (source_of deck.now))) }
     {
         match assemble(alloc, deck) {
             Ok(program) => {
-                let text = listing_with_code(alloc, deck, &program)?;
+                let text = listing_in(alloc, deck, &program, width)?;
                 Ok(Report { text, faults: 0 })
             }
             Err(Faults::Source(faults)) => {

@@ -1,0 +1,2 @@
+pub mod Decks
+pub mod Sources

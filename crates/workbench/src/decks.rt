@@ -1,15 +1,52 @@
 //! The decks that rows read.
 
-ghost use Rattle.std.specs.Prelude.{◌≡◌, IfOk, IfSome};
+ghost use Rattle.std.specs.Prelude.{◌≡◌, Option, IfOk, IfSome};
 ghost use Rattle.cards.specs.Decks.{IsDeck};
-ghost use Rattle.card_forms.specs.Forms.{IsFileOf, form_told};
+ghost use Rattle.card_forms.specs.Forms.{IsFileOf};
+ghost use Rattle.workbench.specs.Decks.{form_of};
 
 use crate::files::read;
-use card_forms::{FormError, FormFault, read_either};
+use card_forms::{Form, FormError, FormFault, read_either};
 use cards::Deck;
 use std::alloc::Global;
 use std::io;
 use std::io::Write;
+
+/// What is wrong with a file of a deck, behind the bytes that are at fault, if any are told.
+fn words_of(fault: FormFault) -> &'static str {
+    match fault.error {
+        FormError::NoMemory => "there is not enough memory\n",
+        FormError::Length if fault.column > 80 => {
+            "the line is longer than a card, or has no end; workbench punch takes such texts\n"
+        }
+        FormError::Length => { "the card ends before column 80; workbench punch fills lines up\n" }
+        FormError::Sign(_) => " is no sign of this form\n",
+        FormError::Punches(_) => " is no character\n",
+        FormError::TooManyCards => "more than 2,000 cards; make two decks of it\n",
+    }
+}
+
+/// Writes a byte: the character that it is, or else its number.
+fn tell_byte<E: Write>(errors: &mut E, byte: u8) -> io::Result<()> {
+    if !(b' '..127).contains(&byte) {
+        return write!(errors, "the byte {byte}");
+    }
+    let sign = [byte];
+    errors.write_all(b"the character ")?;
+    errors.write_all(&sign)
+}
+
+/// Writes the bytes that are at fault, if any are told.
+fn tell_bytes<E: Write>(errors: &mut E, error: FormError) -> io::Result<()> {
+    match error {
+        FormError::Sign(byte) => tell_byte(errors, byte),
+        FormError::Punches(digits) => {
+            errors.write_all(b"the pattern ")?;
+            errors.write_all(&digits)
+        }
+        _ => Ok(()),
+    }
+}
 
 /// Says what is wrong with a file of a deck.
 pub(crate) fn tell_form_fault<E: Write>(
@@ -20,43 +57,33 @@ pub(crate) fn tell_form_fault<E: Write>(
     let card = fault.card;
     let column = fault.column;
     write!(errors, "{path}: card {card} column {column}: ")?;
-    match fault.error {
-        FormError::NoMemory => writeln!(errors, "there is not enough memory"),
-        FormError::Length if column > 80 => writeln!(
-            errors,
-            "the line is longer than a card, or has no end; workbench punch takes such texts"
-        ),
-        FormError::Length => writeln!(
-            errors,
-            "the card ends before column 80; workbench punch fills lines up"
-        ),
-        FormError::Sign(byte) if (b' '..127).contains(&byte) => {
-            let sign = [byte];
-            errors.write_all(b"the character ")?;
-            errors.write_all(&sign)?;
-            writeln!(errors, " is no sign of this form")
-        }
-        FormError::Sign(byte) => writeln!(errors, "the byte {byte} is no sign of this form"),
-        FormError::Punches(digits) => {
-            errors.write_all(b"the pattern ")?;
-            errors.write_all(&digits)?;
-            writeln!(errors, " is no character")
-        }
-        FormError::TooManyCards => writeln!(errors, "more than 2,000 cards; make two decks of it"),
+    tell_bytes(errors, fault.error)?;
+    errors.write_all(words_of(fault).as_bytes())
+}
+
+/// Reads a deck from a file in a form, or from one that its first line tells.
+fn read_as(alloc: Global, form: Option<Form>, bytes: &[u8]) -> Result<Deck, FormFault>
+    ensures { IfOk result (λ deck. IsDeck deck × IsFileOf (form_of form bytes.now) bytes.now deck) }
+{
+    match form {
+        Some(form) => card_forms::read(alloc, form, bytes),
+        None => read_either(alloc, bytes),
     }
 }
 
-/// The deck of a text or a punch file, told by its width. Where it is none, that is told.
+/// The deck of a file, in the form that is named or in that which its first line tells. Where it is
+/// none, that is told.
 pub(crate) fn deck_of<E: Write>(
     alloc: Global,
     path: &str,
+    form: Option<Form>,
     bytes: &[u8],
     errors: &mut E,
 ) -> io::Result<Option<Deck>>
     ensures { IfOk result (λ found. IfSome found (λ deck.
-        IsDeck deck × IsFileOf (form_told bytes.now) bytes.now deck)) }
+        IsDeck deck × IsFileOf (form_of form bytes.now) bytes.now deck)) }
 {
-    match read_either(alloc, bytes) {
+    match read_as(alloc, form, bytes) {
         Ok(deck) => Ok(Some(deck)),
         Err(fault) => {
             tell_form_fault(errors, path, fault)?;
@@ -65,14 +92,16 @@ pub(crate) fn deck_of<E: Write>(
     }
 }
 
-/// The deck in the file at a path. Where there is none, that is told.
+/// The deck in the file at a path, in the form that is named or in that which its first line tells.
+/// Where there is none, that is told.
 pub(crate) fn deck_at<E: Write>(
     rt: &HostRuntime,
     path: &str,
+    form: Option<Form>,
     errors: &mut E,
 ) -> io::Result<Option<Deck>> {
     match read(rt, path, errors)? {
-        Some(bytes) => deck_of(rt.alloc(), path, &bytes, errors),
+        Some(bytes) => deck_of(rt.alloc(), path, form, &bytes, errors),
         None => Ok(None),
     }
 }

@@ -9,6 +9,7 @@
 mod converting;
 mod decks;
 mod files;
+mod folders;
 mod listing;
 mod manifests;
 mod numbering;
@@ -20,11 +21,12 @@ ghost use Rattle.command_line.specs.Printed.{IsTextShown};
 ghost use Rattle.workbench_words.specs.Printed.{page_of, version_text};
 
 use crate::converting::convert;
+use crate::files::tell_memory;
 use crate::listing::{compare_decks, list_deck};
 use crate::manifests::manifest;
 use crate::numbering::{check_numbers, number_deck};
 use crate::punching::{Punching, punch_text};
-use crate::sources::show_source;
+use crate::sources::{Showing, show_source};
 use command_line::{Status, Unfailing, exit_code};
 use std::io::Write;
 use std::process::ExitCode;
@@ -80,12 +82,19 @@ fn work<W: Write, E: Write>(
             reads,
             writes,
         } => convert(rt, (deck, reads), (out, writes), output, errors),
-        Task::Source { source } => show_source(rt, source, output, errors),
-        Task::Manifest { decks, known } => manifest(rt, &decks, known, output, errors),
+        Task::Source {
+            source,
+            narrow,
+            with_data,
+        } => show_source(rt, source, Showing::of(narrow, with_data), output, errors),
+        Task::Manifest { decks, form, known } => {
+            manifest(rt, &decks, form, known, output, errors)
+        }
     }
 }
 
-/// Does what the process's words ask for.
+/// Does what the process's words ask for. Nothing but want of memory is an error of a task, since
+/// the second output has none.
 fn carry_out(rt: &HostRuntime) -> io::Result<Status> {
     let mut output = rt.stdout();
     let mut errors = Unfailing::new(rt.stderr());
@@ -96,7 +105,10 @@ fn carry_out(rt: &HostRuntime) -> io::Result<Status> {
     let words = words.as_slice();
     let after_name = if words.is_empty() { words } else { &words[1..] };
     match task_of(rt.alloc(), after_name) {
-        Ok(task) => work(rt, task, &mut output, &mut errors),
+        Ok(task) => match work(rt, task, &mut output, &mut errors) {
+            Ok(status) => Ok(status),
+            Err(_) => tell_memory(&mut errors),
+        },
         Err(misuse) => tell_misuse(&mut errors, misuse),
     }
 }

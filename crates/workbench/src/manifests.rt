@@ -1,26 +1,55 @@
 //! The row `manifest`.
 
-ghost use Rattle.std.specs.Prelude.{◌<◌, length};
+ghost use Rattle.std.specs.Prelude.{◌≡◌, ◌<◌, List, length, IfOk, IfSome};
+ghost use Rattle.cards.specs.Decks.{IsDeck};
+ghost use Rattle.cards.specs.declared.Card.{Card};
+ghost use Rattle.card_forms.specs.Forms.{IsFileOf};
+ghost use Rattle.card_tools.specs.Manifests.{manifest_line};
+ghost use Rattle.workbench.specs.Decks.{form_of};
 
-use crate::decks::deck_at;
-use crate::files::{print, read, tell_memory};
+use crate::decks::deck_of;
+use crate::files::{print, read};
+use crate::folders::{Found, files_of};
+use card_forms::Form;
 use card_tools::{ManifestEntry, manifest_line, read_manifest_line};
 use command_line::Status;
 use std::alloc::{AllocError, Global};
 use std::io;
 use std::io::Write;
 
-/// The line of a deck, as it is printed. Where there is none, that is told.
-fn line_at<E: Write>(rt: &HostRuntime, path: &str, errors: &mut E) -> io::Result<Option<Vec<u8>>> {
-    let Some(deck) = deck_at(rt, path, errors)? else {
+/// The line of a deck in a file. Where it is none, that is told.
+fn line_of<E: Write>(
+    alloc: Global,
+    path: &str,
+    form: Option<Form>,
+    bytes: &[u8],
+    errors: &mut E,
+) -> io::Result<Option<Vec<u8>>>
+    ensures { IfOk result (λ found. IfSome found (λ line. (cards : List Card) × IsDeck cards
+        × IsFileOf (form_of form bytes.now) bytes.now cards
+        × (line.items ≡ manifest_line cards path.now))) }
+{
+    let Some(deck) = deck_of(alloc, path, form, bytes, errors)? else {
         return Ok(None);
     };
-    match manifest_line(rt.alloc(), &deck, path.as_bytes()) {
-        Ok(line) => Ok(Some(line)),
-        Err(_) => {
-            tell_memory(errors)?;
-            Ok(None)
-        }
+    let line = manifest_line(alloc, &deck, path.as_bytes())?;
+    Ok(Some(line))
+}
+
+/// The line of the deck in the file at a path. Where there is none, that is told.
+fn line_at<E: Write>(
+    rt: &HostRuntime,
+    path: &str,
+    form: Option<Form>,
+    errors: &mut E,
+) -> io::Result<Option<Vec<u8>>> {
+    if path.as_bytes().contains(&b'\n') {
+        writeln!(errors, "{path}: its name has a line feed; rename it")?;
+        return Ok(None);
+    }
+    match read(rt, path, errors)? {
+        Some(bytes) => line_of(rt.alloc(), path, form, &bytes, errors),
+        None => Ok(None),
     }
 }
 
@@ -33,14 +62,30 @@ struct Lines {
     whole: bool,
 }
 
-/// The lines of the decks at these paths.
-fn lines_at<E: Write>(rt: &HostRuntime, paths: &[&str], errors: &mut E) -> io::Result<Lines> {
+/// Whether a path of sorted ones is the one before it.
+fn comes_again(paths: &[String], place: usize) -> bool
+    requires { place < length paths.now }
+{
+    place > 0 && paths[place - 1].as_str() == paths[place].as_str()
+}
+
+/// The lines of the decks in files, one for each path.
+fn lines_at<E: Write>(
+    rt: &HostRuntime,
+    files: &Found,
+    form: Option<Form>,
+    errors: &mut E,
+) -> io::Result<Lines> {
+    let paths = files.paths.as_slice();
     let mut lines = Lines {
         text: Vec::new(rt.alloc()),
-        whole: true,
+        whole: files.whole,
     };
-    for path in paths {
-        match line_at(rt, path, errors)? {
+    for place in 0..paths.len() {
+        if comes_again(paths, place) {
+            continue;
+        }
+        match line_at(rt, paths[place].as_str(), form, errors)? {
             Some(line) => lines.text.extend_from_slice(&line)?,
             None => lines.whole = false,
         }
@@ -172,27 +217,23 @@ fn check_manifest<W: Write, E: Write>(
     let known = lines_of(rt.alloc(), &known)?;
     let found = lines_of(rt.alloc(), &lines.text)?;
     let are_all = tell_odd_lines(errors, path, &known)?;
-    match differences(rt.alloc(), &known, &found) {
-        Ok(told) => {
-            let status = status_of(&told, lines.whole && are_all);
-            print(&told, status, output, errors)
-        }
-        Err(_) => tell_memory(errors),
-    }
+    let told = differences(rt.alloc(), &known, &found)?;
+    let status = status_of(&told, lines.whole && are_all);
+    print(&told, status, output, errors)
 }
 
 /// Prints the digests of decks in the order of their names, or compares them with those of a file.
+/// The decks are in files of a form, if one is named; a path may be that of a folder.
 pub(crate) fn manifest<W: Write, E: Write>(
     rt: &HostRuntime,
-    decks: &[&str],
+    paths: &[&str],
+    form: Option<Form>,
     known: Option<&str>,
     output: &mut W,
     errors: &mut E,
 ) -> io::Result<Status> {
-    let mut paths = Vec::new(rt.alloc());
-    paths.extend_from_slice(decks)?;
-    paths.sort()?;
-    let lines = lines_at(rt, &paths, errors)?;
+    let files = files_of(rt, paths, errors)?;
+    let lines = lines_at(rt, &files, form, errors)?;
     match known {
         Some(path) => check_manifest(rt, &lines, path, output, errors),
         None => print(&lines.text, status_of(&[], lines.whole), output, errors),

@@ -28,8 +28,12 @@ line_of name.Convert = (
   (codes "IN", Value) ∷ (codes "OUT", Value)
       ∷ (codes "FROM", Value) ∷ (codes "TO", Value) ∷ [],
 )
-line_of name.Source = (codes "source", (codes "IN", Value) ∷ [])
-line_of name.Manifest = (codes "manifest", (codes "FILE", Several) ∷ (codes "check", Setting) ∷ [])
+line_of name.Source =
+    (codes "source", (codes "IN", Value) ∷ (codes "data", Flag) ∷ (codes "width", Setting) ∷ [])
+line_of name.Manifest = (
+  codes "manifest",
+  (codes "FILE", Several) ∷ (codes "form", Setting) ∷ (codes "check", Setting) ∷ [],
+)
 
 -- all rows
 abbrev pub rows : List RowName

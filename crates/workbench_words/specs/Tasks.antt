@@ -1,8 +1,9 @@
 -- the tasks that words ask for
-use Rattle.std.specs.Prelude.{ℕ, ◌≡◌, ◌≢◌, ◌<◌, ◌≤◌, ◌⊎◌, Bool, List, [], ◌∷◌, Option, Some, None, codes, decimal, map, option_map, unwrap_or}
+use Rattle.std.specs.Prelude.{ℕ, ◌≡◌, ◌≢◌, ◌<◌, ◌≤◌, ◌⊎◌, Bool, false, List, [], ◌∷◌, Option, Some, None, codes, decimal, map, option_map, unwrap_or}
 use Rattle.std.specs.Str.{bytes_eq}
 use Rattle.clap.specs.Words.{Row, Text, all_of, fault_of, first_of, subcommand_of}
 use Rattle.card_forms.specs.Forms.{word_of}
+use Rattle.card_forms.specs.declared.forms.Form.{Form}
 use Rattle.texts.specs.Numbers.{IsNumberOf}
 use Rattle.card_texts.specs.declared.Rules.{Rules}
 use Rattle.card_texts.specs.declared.Signs.{Signs}
@@ -11,7 +12,7 @@ use Rattle.card_texts.specs.declared.EmptyLine as line
 use Rattle.card_texts.specs.declared.EmptyLine.TheVariants.{Card}
 use Rattle.workbench_words.specs.Command.{workbench}
 use Rattle.workbench_words.specs.Rows.{name_of}
-use Rattle.workbench_words.specs.Values.{AreStops, word_of_empty, word_of_signs}
+use Rattle.workbench_words.specs.Values.{AreStops, word_of_empty, word_of_signs, word_of_width}
 use Rattle.workbench_words.specs.declared.rows.RowName.{RowName}
 use Rattle.workbench_words.specs.declared.rows.RowName.TheVariants as name
 use Rattle.workbench_words.specs.declared.tasks.Task.{Task}
@@ -107,15 +108,34 @@ WantsConvert found (Convert deck out reads writes) = WantsOption (codes "IN") fo
     × WantsOption (codes "TO") found (word_of writes)
 WantsConvert found other = ⊥
 
+-- this is whether `--width` asks for 80 columns; without it the listing has 120 and more
+abbrev pub IsNarrowOf : Option Text → Bool → Type 0
+IsNarrowOf None narrow = narrow ≡ false
+IsNarrowOf (Some word) narrow = word ≡ word_of_width narrow
+
+abbrev pub IsNarrow : List Row → Bool → Type 0
+IsNarrow found narrow = IsNarrowOf (first_of (codes "width") found) narrow
+
 -- the task of `source`
 abbrev pub WantsSource : List Row → Task → Type 0
-WantsSource found (Source source) = WantsOption (codes "IN") found source.now
+WantsSource found (Source source narrow with_data) = WantsOption (codes "IN") found source.now
+    × IsNarrow found narrow × (with_data ≡ has_flag (codes "data") found)
 WantsSource found other = ⊥
+
+-- this is the form that `--form` names, if it is given
+abbrev pub IsFormOf : Option Text → Option Form → Type 0
+IsFormOf None form = form ≡ None
+IsFormOf (Some word) None = ⊥
+IsFormOf (Some word) (Some form) = word ≡ word_of form
+
+abbrev pub HasForm : List Row → Option Form → Type 0
+HasForm found form = IsFormOf (first_of (codes "form") found) form
 
 -- the task of `manifest`
 abbrev pub WantsManifest : List Row → Task → Type 0
-WantsManifest found (Manifest decks known) =
+WantsManifest found (Manifest decks form known) =
     (map (λ deck. deck.now) decks.items ≡ unwrap_or (all_of (codes "FILE") found) [])
+    × HasForm found form
     × (option_map (λ text. text.now) known ≡ first_of (codes "check") found)
 WantsManifest found other = ⊥
 

@@ -1,5 +1,5 @@
 -- the values of the rows' arguments, as texts
-use Rattle.std.specs.Prelude.{ℕ, ◌≡◌, nat_lt, nat_le, Bool, true, ◌&&◌, List, [], ◌∷◌, ◌++◌, codes, decimal, flat_map}
+use Rattle.std.specs.Prelude.{ℕ, ◌≡◌, nat_lt, nat_le, Bool, true, false, ◌&&◌, List, [], ◌∷◌, ◌++◌, codes, decimal, flat_map}
 use Rattle.card_texts.specs.declared.Signs.{Signs}
 use Rattle.card_texts.specs.declared.Signs.TheVariants.{Bureau, Simh}
 use Rattle.card_texts.specs.declared.EmptyLine as line
@@ -29,3 +29,8 @@ abbrev pub word_of_empty : line.EmptyLine → List ℕ
 word_of_empty empty.Card = codes "card"
 word_of_empty empty.Dropped = codes "drop"
 word_of_empty empty.Fault = codes "fault"
+
+-- the columns of the narrow listing of a source, or of the wide one
+abbrev pub word_of_width : Bool → List ℕ
+word_of_width true = codes "80"
+word_of_width false = codes "120"

@@ -16,8 +16,8 @@ usage:
   workbench sequence IN OUT IDENT FIRST STEP      numbers the cards in columns 73 to 80
   workbench sequence IN                           prints where these numbers do not rise
   workbench convert IN OUT FROM TO                makes a deck of one form one of another
-  workbench source IN                             prints a source with its code, or its faults
-  workbench manifest FILE.. [--check KNOWN]       prints a digest of each deck, or compares them
+  workbench source IN [--data] [--width WIDTH]    prints a source with its code, or its faults
+  workbench manifest FILE.. [OPTIONS]             prints a digest of each deck, or compares them
   workbench ROW --help                            prints the help of a row, as punch --help (or -h)
   workbench --help                                prints this text (or -h)
   workbench --version                             prints the version, and the logic it is proved in
@@ -126,12 +126,17 @@ glyphs and as SimH's signs, with another meaning.
 
 /// The text that `source --help` prints.
 pub const SOURCE_HELP: &str = "\
-workbench source IN: prints an Autocoder source with its code and names, or its faults.
+workbench source IN [--data] [--width 80|120]: prints an Autocoder source with its code and names,
+                                               or its faults.
 
-IN  a deck text that begins with the source
+IN           a deck text or a punch file that begins with the source
+--data       behind a source without faults the cards after its END card are listed, with their
+             numbers, as list prints them
+--width 80   the code of a card stands below it, and the listing has 80 columns
+--width 120  the code stands behind the card, which takes 120 columns and more (as without it)
 
 example:
-  workbench source examples/two_lines.source
+  workbench source examples/two_lines.source --width 80
 
 A source without faults is listed with the characters that each card places, and with the cards
 that use each name. Else each fault is printed with its card and a ^ under its place, and at the
@@ -140,18 +145,25 @@ end how many there are; the status is 1 then. `bureau assemble` makes the deck.
 
 /// The text that `manifest --help` prints.
 pub const MANIFEST_HELP: &str = "\
-workbench manifest FILE.. [--check KNOWN]: prints a digest of each deck.
+workbench manifest FILE.. [--form FORM] [--check KNOWN]: prints a digest of each deck.
 
-FILE   deck texts and punch files
+FILE   files of decks, and folders: of a folder all files in it and in the folders below it. A link
+       to a file is taken as that file; links to folders are not followed, and devices are passed
+       over. A folder that cannot be read is told, and so is a name that is no UTF-8 text or has a
+       line feed. An empty folder has no lines, and a name that comes twice has one
+FORM   the form of all files: text, punch, simh or binary, as convert --help has them; without it
+       text and punch are told by the width of the first line
 KNOWN  a file with lines that manifest printed: what is missing, new or different is printed in
        place of the digests, and the status is 1 where anything is
 
 examples:
-  workbench manifest examples/two_lines.deck examples/two_lines.source > decks.manifest
-  workbench manifest examples/two_lines.deck examples/two_lines.source --check decks.manifest
+  workbench manifest examples/two_lines.deck archive > decks.manifest
+  workbench manifest examples/two_lines.deck archive --check decks.manifest
 
 A line is the SHA-256 of the deck's text in hexadecimal, the number of its cards, and the name of
-the file. It does not depend on the form of the file, and sha256sum prints the same of a deck text.
+the file; the lines are sorted by the bytes of the names. The digest does not depend on the form of
+the file, and sha256sum prints the same of a deck text. A file that is no deck is told with its
+fault, the status is 1 then, and the others go on.
 ";
 
 /// The text that `--version` prints: the version, and the logic that the program is proved in.
@@ -185,7 +197,7 @@ pub(crate) fn usage(row: RowName) -> &'static str {
         RowName::Compare => "compare ONE OTHER",
         RowName::Sequence => "sequence IN [OUT IDENT FIRST STEP]",
         RowName::Convert => "convert IN OUT FROM TO",
-        RowName::Source => "source IN",
-        RowName::Manifest => "manifest FILE.. [--check KNOWN]",
+        RowName::Source => "source IN [--data] [--width 80|120]",
+        RowName::Manifest => "manifest FILE.. [--form FORM] [--check KNOWN]",
     }
 }

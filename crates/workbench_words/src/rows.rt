@@ -89,11 +89,23 @@ pub(crate) const ROWS: [(RowName, &str, &[(&str, Kind)]); 7] = [
             ("TO", Kind::Value),
         ],
     ),
-    (RowName::Source, "source", &[("IN", Kind::Value)]),
+    (
+        RowName::Source,
+        "source",
+        &[
+            ("IN", Kind::Value),
+            ("data", Kind::Flag),
+            ("width", Kind::Setting),
+        ],
+    ),
     (
         RowName::Manifest,
         "manifest",
-        &[("FILE", Kind::Several), ("check", Kind::Setting)],
+        &[
+            ("FILE", Kind::Several),
+            ("form", Kind::Setting),
+            ("check", Kind::Setting),
+        ],
     ),
 ];
 

@@ -5,13 +5,13 @@ ghost use Rattle.clap.specs.Words.{found_of, rows_of};
 ghost use Rattle.command_line.specs.Plain.{texts};
 ghost use Rattle.card_forms.specs.Forms.{word_of};
 ghost use Rattle.texts.specs.Numbers.{IsNumberOf};
-ghost use Rattle.workbench_words.specs.Tasks.{HasEmpty, HasKept, HasSigns, HasTabs, Wants, WantsCompare, WantsConvert, WantsList, WantsManifest, WantsOption, WantsPunch, WantsSequence, WantsSource, WantsTask};
+ghost use Rattle.workbench_words.specs.Tasks.{HasEmpty, HasForm, HasKept, HasSigns, HasTabs, IsNarrow, Wants, WantsCompare, WantsConvert, WantsList, WantsManifest, WantsOption, WantsPunch, WantsSequence, WantsSource, WantsTask};
 ghost use Rattle.workbench_words.specs.declared.tasks.Misuse.TheVariants.{Memory};
 
 use crate::found::{has_flag, value, values};
 use crate::parsing::{Unread, parse};
 use crate::rows::RowName;
-use crate::values::{column_of, empty_of, signs_of, stops_of};
+use crate::values::{column_of, empty_of, narrow_of, signs_of, stops_of};
 use card_forms::Form;
 use card_texts::{EmptyLine, Rules, Signs};
 use clap::ArgMatches;
@@ -87,11 +87,17 @@ pub enum Task<'a> {
     Source {
         /// The path of the source.
         source: &'a str,
+        /// Whether its listing has 80 columns.
+        narrow: bool,
+        /// Whether the cards behind it are listed too.
+        with_data: bool,
     },
     /// Print the digests of decks, or compare them with those of a file.
     Manifest {
-        /// The paths of the decks.
+        /// The paths of the decks, and of folders with decks.
         decks: Vec<&'a str>,
+        /// The form that all of their files have, if it is named.
+        form: Option<Form>,
         /// The path of the digests to compare with.
         known: Option<&'a str>,
     },
@@ -116,8 +122,10 @@ pub enum Misuse {
     Keep,
     /// The value of `--empty` is none of three.
     Empty,
-    /// FROM or TO names no form.
+    /// FROM, TO or the value of `--form` names no form.
     Form,
+    /// The value of `--width` is none of two.
+    Width,
     /// FIRST or STEP is no number.
     Number,
 }
@@ -305,12 +313,44 @@ fn convert_task<'a>(found: &ArgMatches<'a>) -> Result<Task<'a>, Misuse>
     })
 }
 
+/// Whether `--width` asks for 80 columns; not where it is not given.
+fn narrow_in(found: &ArgMatches<'_>) -> Result<bool, Misuse>
+    ensures { IfOk result (λ narrow. IsNarrow (rows_of (found_of found.now)) narrow) }
+{
+    let Some(word) = value(found, "width") else {
+        return Ok(false);
+    };
+    match narrow_of(word) {
+        Some(narrow) => Ok(narrow),
+        None => Err(Misuse::Width),
+    }
+}
+
 /// The task of a row `source`.
 fn source_task<'a>(found: &ArgMatches<'a>) -> Result<Task<'a>, Misuse>
     ensures { IfOk result (WantsSource (rows_of (found_of found.now))) }
 {
     let source = needed(found, "IN", RowName::Source)?;
-    Ok(Task::Source { source })
+    let narrow = narrow_in(found)?;
+    let with_data = has_flag(found, "data");
+    Ok(Task::Source {
+        source,
+        narrow,
+        with_data,
+    })
+}
+
+/// The form that `--form` names, if it is given.
+fn option_form_in(found: &ArgMatches<'_>) -> Result<Option<Form>, Misuse>
+    ensures { IfOk result (λ form. HasForm (rows_of (found_of found.now)) form) }
+{
+    let Some(word) = value(found, "form") else {
+        return Ok(None);
+    };
+    match Form::of(word) {
+        Some(form) => Ok(Some(form)),
+        None => Err(Misuse::Form),
+    }
 }
 
 /// The task of a row `manifest`.
@@ -318,8 +358,9 @@ fn manifest_task<'a>(alloc: Global, found: &ArgMatches<'a>) -> Result<Task<'a>, 
     ensures { IfOk result (WantsManifest (rows_of (found_of found.now))) }
 {
     let decks = values(alloc, found, "FILE")?;
+    let form = option_form_in(found)?;
     let known = value(found, "check");
-    Ok(Task::Manifest { decks, known })
+    Ok(Task::Manifest { decks, form, known })
 }
 
 /// The task of a row, by what clap found after its name.

@@ -58,7 +58,8 @@ fn complaint(misuse: Misuse) -> &'static str {
         Misuse::Signs => "--signs must be simh, or glyphs",
         Misuse::Keep => "--keep must be a column from 1 to 80",
         Misuse::Empty => "--empty must be card, drop or fault",
-        Misuse::Form => "FROM and TO must be text, punch, simh or binary",
+        Misuse::Form => "FROM, TO and --form must be text, punch, simh or binary",
+        Misuse::Width => "--width must be 80 or 120",
         Misuse::Number => {
             "FIRST and STEP must be numbers of 1 to 9 digits without a zero in front"
         }

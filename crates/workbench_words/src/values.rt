@@ -1,7 +1,7 @@
 //! The values of the rows' arguments.
 
 ghost use Rattle.std.specs.Prelude.{◌≡◌, ◌≤◌, ◌<◌, ◌++◌, ◌∷◌, [], true, IfSome, IfOk, decimal};
-ghost use Rattle.workbench_words.specs.Values.{AreStops, rises, stops_text, word_of_empty, word_of_signs};
+ghost use Rattle.workbench_words.specs.Values.{AreStops, rises, stops_text, word_of_empty, word_of_signs, word_of_width};
 
 use card_texts::{EmptyLine, Signs};
 use itoa::Buffer;
@@ -123,6 +123,19 @@ pub(crate) fn empty_of(word: &str) -> Option<EmptyLine>
     }
     if word == "fault" {
         return Some(EmptyLine::Fault);
+    }
+    None
+}
+
+/// Whether a width is that of the narrow listing: `80`, and not `120`.
+pub(crate) fn narrow_of(word: &str) -> Option<bool>
+    ensures { IfSome result (λ narrow. word.now ≡ word_of_width narrow) }
+{
+    if word == "80" {
+        return Some(true);
+    }
+    if word == "120" {
+        return Some(false);
     }
     None
 }

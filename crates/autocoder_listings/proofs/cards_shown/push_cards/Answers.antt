@@ -7,7 +7,7 @@ use Rattle.autocoder_layout.specs.Literals.{literals_of}
 use Rattle.autocoder_layout.specs.Layout.{Layout, layout_in}
 use Rattle.autocoder_layout.specs.declared.slots.Slot.{Slot}
 use Rattle.autocoder_layout.proofs.LayoutLemmas.{length-layout_of}
-use Rattle.autocoder_listings.specs.Coded.{lines_with_code}
+use Rattle.autocoder_listings.specs.Listing.{lines_in}
 use Rattle.autocoder_listings.proofs.CardLemmas.{slot_at, built_at}
 use Rattle.autocoder_listings.proofs.LineLemmas.{cards_step, cards_past}
 use Rattle.autocoder_listings.proofs.cards_shown.push_cards.Goals as goal
@@ -33,10 +33,10 @@ loop-i-preserved c =
     let slot_is : c.index-slots-i.result ≡ slot = c.index-slots-i.is ∙ get_or_default c.slots-slots.result.now i _ origin h ∙ ap (λ s. get_or s i origin) c.slots-slots.ensures.slots in
     let at = slot_at size lines slots slots_are literals literals_are i line slot (drop (i + 1) slots) cells k refl refl refl c.in_ok-cells.ensures c.requires.faultless in
     let filled = built_at size lines slots slots_are literals literals_are i line slot (drop (i + 1) slots) cells k refl refl refl c.in_ok-cells.ensures c.requires.faultless in
-    let more_is = ap (λ (s : Slot). lines_with_code (i + 1) s card c.deref.result.now) slot_is ∙ ap (lines_with_code (i + 1) slot card) c.deref.ensures.value in
-    cards_step c.loop-i.text.items c.push_card.new.text.items (lines_with_code (i + 1) c.index-slots-i.result card c.deref.result.now) c.args.source.now (layout_in layout.source) i card _ slot cells c.loop-i-test.true l
+    let more_is = ap (λ (s : Slot). lines_in c.args.width (i + 1) s card c.deref.result.now) slot_is ∙ ap (lines_in c.args.width (i + 1) slot card) c.deref.ensures.value in
+    cards_step c.args.width c.loop-i.text.items c.push_card.new.text.items (lines_in c.args.width (i + 1) c.index-slots-i.result card c.deref.result.now) c.args.source.now (layout_in layout.source) i card _ slot cells c.loop-i-test.true l
     c.index-source-i.is at filled more_is c.in_ok-push_card.ensures
     ∙ c.loop-i.invariant
 
 pub returns : goal.returns
-returns c = cards_past c.loop-i.text.items c.args.source.now _ c.loop-i.i (c.loop-i.i + 1) c.loop-i-test.false ∙ c.loop-i.invariant
+returns c = cards_past c.args.width c.loop-i.text.items c.args.source.now _ c.loop-i.i (c.loop-i.i + 1) c.loop-i-test.false ∙ c.loop-i.invariant
