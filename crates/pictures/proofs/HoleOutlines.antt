@@ -1,0 +1,48 @@
+-- the outlines of the holes of a card, column by column
+use Rattle.std.proofs.Common.{◌≡◌, ℕ, ◌+◌, ◌-◌, ◌<◌, ◌≤◌, ◌==◌, Bool, true, false, not, if◌then◌else◌, bit_and, List, [], ◌∷◌, ◌++◌, map, filter, take, get_or, refl, ap, sym, ◌∙◌, arith, append_assoc, append-nil}
+use Rattle.std.specs.List.{flat_map}
+use Rattle.std.proofs.lemmas.List.{flat_map_more, take_all, take_more}
+use Rattle.std.proofs.lemmas.List.Concat.{flat_map-append}
+use Rattle.bcd.specs.Table.{punches_of, row}
+use Rattle.pictures.specs.Cards.{column_outlines, hole_if_punched, holes_from, holes_in, is_punched, outline, outlines}
+use Rattle.pictures.specs.Places.{column_middle, corner, row_middle, rows}
+use Rattle.pictures.specs.declared.holes.TheConstants.{ROWS}
+
+-- a row by its bit and the upper edge of its holes
+abbrev edge_of : ℕ → ℕ × ℕ
+edge_of number = (row number, row_middle number - 62)
+
+-- the outlines of the holes among rows
+among : (column code : ℕ) (numbers : List ℕ)
+    → flat_map (hole_if_punched (column_middle column - 27) (punches_of code)) (map edge_of numbers)
+    ≡ outlines (map (λ number. (column, number)) (filter (is_punched code) numbers))
+among column code [] = refl
+among column code (number ∷ numbers) =
+    (elim (bit_and (punches_of code) (row number) == 0) as (λ b. (bit_and (punches_of code) (row number) == 0) ≡ b
+    → hole_if_punched (column_middle column - 27) (punches_of code) (edge_of number) ++ flat_map (hole_if_punched (column_middle column - 27) (punches_of code)) (map edge_of numbers)
+    ≡ outlines (map (λ number. (column, number)) (filter (is_punched code) (number ∷ numbers)))) [
+      | true ↦ λ blank. rw blank (among column code numbers)
+      | false ↦ λ hole. rw hole (ap (λ rest. outline (corner (column, number)) ++ rest) (among column code numbers))
+    ]) refl
+
+-- one row more of the code's table
+pub row_on : (f : ℕ × ℕ → List ℕ) (start out new : List ℕ) (i : ℕ) → i < 12
+    → out ≡ start ++ flat_map f (take i ROWS) → new ≡ out ++ f (get_or ROWS i (0, 0)) → new ≡ start ++ flat_map f (take (i + 1) ROWS)
+row_on f start out new i within before added =
+    added ∙ ap (λ all. all ++ f (get_or ROWS i (0, 0))) before
+    ∙ flat_map_more f start (take i ROWS) (get_or ROWS i (0, 0))
+    ∙ ap (λ numbers. start ++ flat_map f numbers) (sym (take_more ROWS i (0, 0) within))
+
+-- all rows of the code's table
+pub all_rows : (column code : ℕ) (start out : List ℕ) (i left punches : ℕ) → 12 ≤ i → left ≡ column_middle column → punches ≡ punches_of code
+    → out ≡ start ++ flat_map (hole_if_punched (left - 27) punches) (take i ROWS) → out ≡ start ++ column_outlines column code
+all_rows column code start out i left punches end is_left is_punches before =
+    before ∙ rw (take_all i ROWS end, is_left, is_punches) (ap (λ text. start ++ text) (among column code rows))
+
+-- one column more
+pub holes_on : (column code : ℕ) (rest all done : List ℕ) → all ≡ code ∷ rest
+    → (done ++ column_outlines column code) ++ outlines (holes_from (column + 1) rest) ≡ done ++ outlines (holes_from column all)
+unfolding holes_from
+holes_on column code rest all done first =
+    rw first (append_assoc done (column_outlines column code) (outlines (holes_from (column + 1) rest))
+    ∙ ap (λ r. done ++ r) (sym (flat_map-append (λ hole. outline (corner hole)) (holes_in column code) (holes_from (column + 1) rest))))

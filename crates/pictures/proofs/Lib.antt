@@ -1,0 +1,4 @@
+pub mod CountedPieces
+pub mod FormParts
+pub mod HoleOutlines
+pub mod ListingPlaces

@@ -1,0 +1,92 @@
+//! The page of a deck.
+
+ghost use Rattle.std.specs.Prelude.{◌≡◌, ◌++◌, IfOk, OnOk};
+ghost use Rattle.pictures.specs.Decks.{captioned, deck_head, deck_page_of, figure, stock_definition, titled_by_number};
+
+use crate::card_pictures::push_marks;
+use crate::escapes::{push_card_glyphs, push_decimal};
+use crate::stocks::push_stock;
+use crate::styles::{CARD_STYLE, DECK_STYLE, FIGURE_STYLE};
+use cards::Card;
+use std::alloc::{AllocError, Global};
+
+/// Adds the stock of the cards, which shows nothing and which each figure of a card uses.
+pub fn push_stock_definition(out: &mut Vec<u8>) -> Result<(), AllocError>
+    ensures { OnOk result (out.new.items ≡ out.old.items ++ stock_definition) }
+{
+    out.extend_from_slice(
+        b"<svg width=\"0\" height=\"0\" style=\"position:absolute\"><defs><g id=\"stock\">",
+    )?;
+    push_stock(out)?;
+    out.extend_from_slice(b"</g></defs></svg>\n")?;
+    Ok(())
+}
+
+/// Adds the title of the figure of a card: its number and its glyphs.
+fn push_title(out: &mut Vec<u8>, number: usize, card: &Card) -> Result<(), AllocError>
+    ensures { OnOk result (out.new.items ≡ out.old.items ++ titled_by_number number card.now) }
+{
+    out.extend_from_slice(b"<title>card ")?;
+    push_decimal(out, number)?;
+    out.extend_from_slice(b": ")?;
+    push_card_glyphs(out, card)?;
+    out.extend_from_slice(b"</title>")?;
+    Ok(())
+}
+
+/// Adds the number under the figure of a card.
+fn push_caption(out: &mut Vec<u8>, number: usize) -> Result<(), AllocError>
+    ensures { OnOk result (out.new.items ≡ out.old.items ++ captioned number) }
+{
+    out.extend_from_slice(b"<figcaption>")?;
+    push_decimal(out, number)?;
+    out.extend_from_slice(b"</figcaption>")?;
+    Ok(())
+}
+
+/// Adds the figure of a card with its number under it, for a page that has the stock already
+/// ([`push_stock_definition`]).
+pub fn push_card_figure(out: &mut Vec<u8>, number: usize, card: &Card) -> Result<(), AllocError>
+    ensures { OnOk result (out.new.items ≡ out.old.items ++ figure number card.now) }
+{
+    out.extend_from_slice(
+        b"<figure><svg xmlns=\"http://www.w3.org/2000/svg\" viewBox=\"0 0 7375 3250\">",
+    )?;
+    push_title(out, number, card)?;
+    out.extend_from_slice(b"<use href=\"#stock\"/>")?;
+    push_marks(out, card)?;
+    out.extend_from_slice(b"</svg>")?;
+    push_caption(out, number)?;
+    out.extend_from_slice(b"</figure>\n")?;
+    Ok(())
+}
+
+/// Adds the head of the page of a deck.
+fn push_head(out: &mut Vec<u8>) -> Result<(), AllocError>
+    ensures { OnOk result (out.new.items ≡ out.old.items ++ deck_head) }
+{
+    out.extend_from_slice(
+        b"<!DOCTYPE html><html lang=en><meta charset=utf-8><title>Deck</title><style>",
+    )?;
+    out.extend_from_slice(DECK_STYLE)?;
+    out.extend_from_slice(FIGURE_STYLE)?;
+    out.extend_from_slice(CARD_STYLE)?;
+    out.extend_from_slice(b"</style>\n")?;
+    Ok(())
+}
+
+/// Returns the page of a deck, an HTML file that stands alone: all its cards, with the number of
+/// each under it.
+///
+/// Fails only if there is no memory.
+pub fn deck_page(alloc: Global, deck: &[Card]) -> Result<Vec<u8>, AllocError>
+    ensures { IfOk result (λ page. page.items ≡ deck_page_of deck.now) }
+{
+    let mut out = Vec::new(alloc);
+    push_head(&mut out)?;
+    push_stock_definition(&mut out)?;
+    for (index, card) in deck.iter().enumerate() {
+        push_card_figure(&mut out, index + 1, card)?;
+    }
+    Ok(out)
+}

@@ -1,0 +1,58 @@
+//! Texts as they stand in a page.
+
+ghost use Rattle.std.specs.Prelude.{◌≡◌, ◌++◌, decimal, OnOk};
+ghost use Rattle.pictures.specs.Escapes.{card_glyphs, escape_of, escaped, glyphs_shown};
+
+use bcd::Code;
+use card_forms::filled;
+use cards::Card;
+use itoa::Buffer;
+use std::alloc::AllocError;
+
+/// Adds a number in digits.
+pub(crate) fn push_decimal(out: &mut Vec<u8>, number: usize) -> Result<(), AllocError>
+    ensures { OnOk result (out.new.items ≡ out.old.items ++ decimal number) }
+{
+    let mut buffer = Buffer::new();
+    out.extend_from_slice(buffer.format(number).as_bytes())
+}
+
+/// Adds a byte as it stands in a page.
+#[tactic(auto, unfolding(crate::specs::Escapes::escape_of))]
+pub(crate) fn push_escape(out: &mut Vec<u8>, byte: u8) -> Result<(), AllocError>
+    ensures { OnOk result (out.new.items ≡ out.old.items ++ escape_of byte) }
+{
+    match byte {
+        b'&' => out.extend_from_slice(b"&amp;"),
+        b'<' => out.extend_from_slice(b"&lt;"),
+        b'>' => out.extend_from_slice(b"&gt;"),
+        _ => Ok(out.push(byte)?),
+    }
+}
+
+/// Adds a text as it stands in a page.
+pub(crate) fn push_escaped(out: &mut Vec<u8>, text: &[u8]) -> Result<(), AllocError>
+    ensures { OnOk result (out.new.items ≡ out.old.items ++ escaped text.now) }
+{
+    for byte in text {
+        push_escape(out, *byte)?;
+    }
+    Ok(())
+}
+
+/// Adds the glyphs of characters as they stand in a page.
+fn push_glyphs(out: &mut Vec<u8>, codes: &[Code]) -> Result<(), AllocError>
+    ensures { OnOk result (out.new.items ≡ out.old.items ++ glyphs_shown codes.now) }
+{
+    for code in codes {
+        push_escape(out, code.glyph())?;
+    }
+    Ok(())
+}
+
+/// Adds the glyphs of a card, up to the last column that is not blank, as they stand in a page.
+pub(crate) fn push_card_glyphs(out: &mut Vec<u8>, card: &Card) -> Result<(), AllocError>
+    ensures { OnOk result (out.new.items ≡ out.old.items ++ card_glyphs card.now) }
+{
+    push_glyphs(out, filled(card))
+}
