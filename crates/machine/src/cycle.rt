@@ -1,11 +1,12 @@
 //! The instruction cycle.
 
-ghost use Rattle.std.specs.Prelude.{◌≡◌, ◌+◌, ◌%◌, ◌<◌, ◌≤◌, ℕ, true, length, Ok, OnOk, IfOk, IfErr};
+ghost use Rattle.std.specs.Prelude.{◌≡◌, ◌+◌, ◌%◌, ◌<◌, ◌≤◌, ℕ, true, length, Ok, Err, OnOk, OnErr, IfOk, IfErr};
 ghost use Rattle.core_store.specs.Storage.{largest_size};
 ghost use Rattle.machine.specs.Effect.{attempt, works_of, Ends, next_of};
-ghost use Rattle.units.specs.Units.{areas_end};
+ghost use Rattle.units.specs.Units.{areas_end, Makes};
+ghost use Rattle.units.specs.declared.units.Units.{Units};
 ghost use Rattle.machine.specs.Shapes.{has_two, operands_at, shape_at};
-ghost use Rattle.machine.specs.Run.{after, attempts, is_running, running, IsWanting};
+ghost use Rattle.machine.specs.Run.{after, attempts, is_running, running, step, IsWanting};
 
 use crate::at_once::execute_at_once;
 use crate::cache::{Cache, LOOKED_AT};
@@ -15,6 +16,7 @@ use crate::parts::Parts;
 use crate::shapes::Shape;
 use crate::standings::Standing;
 use core_store::{Check, Core, LARGEST_SIZE, Registers};
+use std::alloc::AllocError;
 use units::{Fault, Units};
 
 /// The position after an instruction of `count` characters, modulo 16000.
@@ -83,9 +85,28 @@ fn keep<C: Core>(cache: &mut Cache, core: &C, i: u16, shape: Shape)
     }
 }
 
+/// Reads the shape of the instruction at register I.
+#[inline(always)]
+#[tactic(auto, unfolding(crate::specs::Effect::attempt))]
+fn read_here<C: Core>(core: &C, registers: &Registers) -> Result<Shape, Check>
+    ensures inside { IfOk result (λ _. registers.now.i < length (C.cells core.now)) }
+    ensures shape { IfOk result (λ shape.
+        shape_at (C.cells core.now) registers.now.i ≡ Ok shape) }
+    ensures below { IfOk result (λ shape. registers.now.i + shape.length ≤ largest_size) }
+    ensures check { IfErr result (λ check. (units : Units) →
+        attempt (works_of (C.cells core.now) registers.now units) ≡ Err check) }
+{
+    if registers.i >= core.size() {
+        return Err(Check::Address);
+    }
+    match read_shape(core, registers.i) {
+        Ok(shape) => Ok(shape),
+        Err(check) => Err(check),
+    }
+}
+
 /// Reads the instruction at register I and executes it. Its shape is kept.
 #[inline(never)]
-#[tactic(auto, unfolding(crate::specs::Effect::attempt))]
 fn attempt_anew<C: Core>(
     core: &mut C,
     registers: &mut Registers,
@@ -96,15 +117,28 @@ fn attempt_anew<C: Core>(
     ensures { Ends result (works_of (C.cells core.old) registers.old units.old)
         (works_of (C.cells core.new) registers.new units.new) attempt }
 {
-    let i = registers.i;
-    if i >= core.size() {
-        return Err(Fault::Stopped(Check::Address));
-    }
-    let shape = match read_shape(core, i) {
+    let shape = match read_here(core, registers) {
         Ok(shape) => shape,
         Err(check) => return Err(Fault::Stopped(check)),
     };
-    keep(cache, core, i, shape);
+    keep(cache, core, registers.i, shape);
+    carry_out(core, registers, units, &shape)
+}
+
+/// Reads the instruction at register I and executes it. No shape is kept.
+fn attempt_alone<C: Core>(
+    core: &mut C,
+    registers: &mut Registers,
+    units: &mut Units,
+) -> Result<Course, Fault>
+    requires { areas_end ≤ length (C.cells core.old) }
+    ensures { Ends result (works_of (C.cells core.old) registers.old units.old)
+        (works_of (C.cells core.new) registers.new units.new) attempt }
+{
+    let shape = match read_here(core, registers) {
+        Ok(shape) => shape,
+        Err(check) => return Err(Fault::Stopped(check)),
+    };
     carry_out(core, registers, units, &shape)
 }
 
@@ -213,12 +247,57 @@ fn execute_up_to<C: Core>(
     })
 }
 
+/// Executes one instruction of a running machine. Returns the standing after it. Only one that
+/// punches or prints may fail, if there is no memory; then nothing is changed.
+fn execute_one<C: Core>(
+    core: &mut C,
+    registers: &mut Registers,
+    units: &mut Units,
+) -> Result<Standing, AllocError>
+    requires { areas_end ≤ length (C.cells core.old) }
+    ensures machine { IfOk result (λ standing.
+        record {
+          works = works_of (C.cells core.new) registers.new units.new;
+          standing = standing;
+        }
+        ≡ step (running (works_of (C.cells core.old) registers.old units.old))) }
+    ensures unchanged { OnErr result (works_of (C.cells core.new) registers.new units.new
+        ≡ works_of (C.cells core.old) registers.old units.old) }
+    ensures memory { OnErr result (Makes units.old
+        (step (running (works_of (C.cells core.old) registers.old units.old))).works.units) }
+    ensures size { length (C.cells core.new) ≡ length (C.cells core.old) }
+{
+    match attempt_alone(core, registers, units) {
+        Ok(Course::GoesOn) => Ok(Standing::Running),
+        Ok(Course::Halts) => Ok(Standing::Halted),
+        Err(Fault::Stopped(check)) => Ok(Standing::Checked(check)),
+        Err(Fault::NoMemory) => Err(AllocError),
+    }
+}
+
 impl<C: Core> Parts<C> {
     /// Whether the machine is running.
     pub(crate) fn is_running(&self) -> bool
         ensures { result ≡ is_running self.now.standing }
     {
         self.standing.is_running()
+    }
+
+    /// Does one instruction if the machine is running. Returns the number of instructions
+    /// attempted. Only one that punches or prints may fail, if there is no memory; then nothing is
+    /// changed.
+    pub(crate) fn work_once(&mut self) -> Result<u32, AllocError>
+        ensures machine { OnOk result (self.new ≡ step self.old) }
+        ensures attempted { IfOk result (λ attempted. attempted ≡ attempts self.old 1) }
+        ensures unchanged { OnErr result (self.new ≡ self.old) }
+        ensures memory { OnErr result
+            (Makes self.old.works.units (step self.old).works.units) }
+    {
+        if !self.is_running() {
+            return Ok(0);
+        }
+        self.standing = execute_one(&mut self.core, &mut self.registers, &mut self.units)?;
+        Ok(1)
     }
 
     /// Runs until the limit, a halt or a check. Returns the number of instructions attempted. Only

@@ -178,7 +178,7 @@ impl<C: Core> Machine<C> {
         ensures memory { OnErr result (Makes self.old.works.units (step self.old).works.units) }
         ensures unticked { OnErr result (meter.new ≡ meter.old) }
     {
-        let attempted = match self.parts.work(1) {
+        let attempted = match self.parts.work_once() {
             Ok(attempted) => attempted,
             Err(_) => return Err(AllocError),
         };
