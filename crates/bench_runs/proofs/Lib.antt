@@ -1,0 +1,4 @@
+mod EndLemmas
+mod EndLaw
+mod LineLemmas
+mod ShownLemmas

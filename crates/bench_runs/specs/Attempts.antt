@@ -1,0 +1,65 @@
+-- the line of an attempt
+use Rattle.std.specs.Prelude.{ℕ, List, [], ◌∷◌, ◌++◌, Bool, true, false, if◌then◌else◌, codes, Option}
+use Rattle.core_store.specs.Checks.{check_name}
+use Rattle.core_store.specs.declared.checks.Check.{Check}
+use Rattle.core_store.specs.declared.registers.Compared.{Compared}
+use Rattle.core_store.specs.declared.registers.Compared.TheVariants.{Equal, Low, High}
+use Rattle.core_store.specs.declared.registers.Registers.{Registers}
+use Rattle.autocoder.specs.Listing.{blank, line_text, position_field, right}
+use Rattle.machine.specs.Run.{State, step}
+use Rattle.machine.specs.declared.standings.Standing.{Standing}
+use Rattle.machine.specs.declared.standings.Standing.TheVariants.{Running, Halted, Checked}
+use Rattle.bench_runs.specs.Causes.{cause_shown}
+use Rattle.bench_runs.specs.Deeds.{deeds_since, made_by}
+use Rattle.bench_runs.specs.Shown.{characters_next, left}
+use Rattle.bench_runs.specs.declared.causes.Cause.{Cause}
+use Rattle.bench_runs.specs.declared.deeds.Made.{Made}
+
+-- the sign of a comparison: how the second operand compares with the first
+abbrev pub compared_sign : Compared → List ℕ
+compared_sign Equal = codes "="
+compared_sign Low = codes "<"
+compared_sign High = codes ">"
+
+-- `O` for overflow
+abbrev pub overflow_sign : Bool → List ℕ
+overflow_sign overflow = if overflow then codes " O" else codes "  "
+
+-- `12` for channel 12
+abbrev pub channel_sign : Bool → List ℕ
+channel_sign channel_12 = if channel_12 then codes " 12" else codes "   "
+
+-- the registers A and B, and the indicators
+abbrev pub registers_shown : Registers → Bool → List ℕ
+registers_shown r channel_12 = codes "A " ++ position_field r.a ++ codes " B " ++ position_field r.b
+    ++ codes " " ++ compared_sign r.compare ++ overflow_sign r.overflow ++ channel_sign channel_12
+
+-- what an attempt did that left this machine, which had made so much before
+abbrev pub effect_shown : Made → State → List ℕ
+effect_shown before m =
+    registers_shown m.works.registers m.works.units.printer.carriage.channel_12
+    ++ codes "   " ++ deeds_since before m
+
+-- a check with its cause
+abbrev pub check_shown : Option Cause → Check → List ℕ
+check_shown cause check = codes "check " ++ check_name check ++ cause_shown cause
+
+-- what came of an attempt, by the standing after it
+abbrev pub outcome_by : Option Cause → Made → State → Standing → List ℕ
+outcome_by cause before m Running = effect_shown before m
+outcome_by cause before m Halted = effect_shown before m
+outcome_by cause before m (Checked check) = check_shown cause check
+
+-- what came of an attempt that left this machine, which had made so much before
+unfoldable pub outcome : Option Cause → Made → State → List ℕ
+outcome cause before m = outcome_by cause before m m.standing
+
+-- the attempt with this number, where it begins, and the characters of its instruction
+unfoldable pub beginning : ℕ → State → List ℕ
+beginning number m = right blank 7 number ++ blank ∷ [] ++ position_field m.works.registers.i
+    ++ blank ∷ [] ++ left 9 (characters_next m)
+
+-- the line of the attempt with this number that a machine makes next
+unfoldable pub attempt_line : Option Cause → ℕ → State → List ℕ
+attempt_line cause number m =
+    line_text (beginning number m ++ outcome cause (made_by m) (step m))

@@ -1,0 +1,149 @@
+//! The line of an attempt.
+
+ghost use Rattle.std.specs.Prelude.{◌≡◌, ◌++◌, IfOk, OnOk};
+ghost use Rattle.machine.specs.Run.{step};
+ghost use Rattle.bench_runs.specs.Attempts.{attempt_line, beginning, channel_sign, check_shown, compared_sign, effect_shown, outcome, overflow_sign, registers_shown};
+ghost use Rattle.bench_runs.specs.Shown.{characters_next, left};
+
+use crate::causes::{Cause, push_cause};
+use crate::deeds::{Made, deeds_since, made_by};
+use crate::shown::{push_characters, push_padding};
+use autocoder::{push_line, push_number};
+use core_store::{Check, Compared, Core, Registers};
+use machine::{Machine, Meter, Parts, Standing};
+use std::alloc::{AllocError, Global};
+
+/// The sign of a comparison.
+fn compared_sign(compared: Compared) -> &'static [u8]
+    ensures { result.now ≡ compared_sign compared }
+{
+    match compared {
+        Compared::Equal => b"=",
+        Compared::Low => b"<",
+        Compared::High => b">",
+    }
+}
+
+/// The sign of overflow.
+fn overflow_sign(overflow: bool) -> &'static [u8]
+    ensures { result.now ≡ overflow_sign overflow }
+{
+    if overflow { b" O" } else { b"  " }
+}
+
+/// The sign of channel 12.
+fn channel_sign(channel_12: bool) -> &'static [u8]
+    ensures { result.now ≡ channel_sign channel_12 }
+{
+    if channel_12 { b" 12" } else { b"   " }
+}
+
+/// Adds the registers A and B, and the indicators.
+fn push_registers(
+    line: &mut Vec<u8>,
+    registers: &Registers,
+    channel_12: bool,
+) -> Result<(), AllocError>
+    ensures { OnOk result (line.new.items
+        ≡ line.old.items ++ registers_shown registers.now channel_12) }
+{
+    line.extend_from_slice(b"A ")?;
+    push_number(line, b'0', 5, u64::from(registers.a))?;
+    line.extend_from_slice(b" B ")?;
+    push_number(line, b'0', 5, u64::from(registers.b))?;
+    line.extend_from_slice(b" ")?;
+    line.extend_from_slice(compared_sign(registers.compare))?;
+    line.extend_from_slice(overflow_sign(registers.overflow))?;
+    line.extend_from_slice(channel_sign(channel_12))
+}
+
+/// Adds what an attempt did that left this machine.
+fn push_effect<C: Core>(
+    alloc: Global,
+    line: &mut Vec<u8>,
+    before: Made,
+    parts: &Parts<C>,
+) -> Result<(), AllocError>
+    ensures { OnOk result (line.new.items ≡ line.old.items ++ effect_shown before parts.now) }
+{
+    let channel_12 = parts.units.printer.carriage.channel_12;
+    push_registers(line, &parts.registers, channel_12)?;
+    line.extend_from_slice(b"   ")?;
+    let deeds = deeds_since(alloc, before, parts)?;
+    line.extend_from_slice(&deeds)
+}
+
+/// Adds a check with its cause.
+fn push_check(
+    alloc: Global,
+    line: &mut Vec<u8>,
+    check: Check,
+    cause: Option<Cause>,
+) -> Result<(), AllocError>
+    ensures { OnOk result (line.new.items ≡ line.old.items ++ check_shown cause check) }
+{
+    line.extend_from_slice(b"check ")?;
+    line.extend_from_slice(check.name().as_bytes())?;
+    push_cause(alloc, line, cause)
+}
+
+/// Adds what came of an attempt that left this machine.
+#[tactic(auto, unfolding(crate::specs::Attempts::outcome))]
+fn push_outcome<C: Core>(
+    alloc: Global,
+    line: &mut Vec<u8>,
+    cause: Option<Cause>,
+    before: Made,
+    parts: &Parts<C>,
+) -> Result<(), AllocError>
+    ensures { OnOk result (line.new.items ≡ line.old.items ++ outcome cause before parts.now) }
+{
+    match parts.standing {
+        Standing::Checked(check) => push_check(alloc, line, check, cause),
+        Standing::Running | Standing::Halted => push_effect(alloc, line, before, parts),
+    }
+}
+
+/// The characters of the instruction that a machine attempts next, at the left of nine places.
+fn push_next<C: Core>(line: &mut Vec<u8>, parts: &Parts<C>) -> Result<(), AllocError>
+    ensures { OnOk result (line.new.items
+        ≡ line.old.items ++ left 9 (characters_next parts.now)) }
+{
+    let start = line.len();
+    push_characters(line, &parts.core, parts.registers.i)?;
+    push_padding(line, 9, line.len() - start)
+}
+
+/// The beginning of the line of an attempt.
+#[tactic(auto, unfolding(crate::specs::Attempts::beginning))]
+fn beginning<C: Core>(alloc: Global, number: u32, parts: &Parts<C>) -> Result<Vec<u8>, AllocError>
+    ensures { IfOk result (λ line. line.items ≡ beginning number parts.now) }
+{
+    let mut line = Vec::new(alloc);
+    push_number(&mut line, b' ', 7, u64::from(number))?;
+    line.push(b' ')?;
+    push_number(&mut line, b'0', 5, u64::from(parts.registers.i))?;
+    line.push(b' ')?;
+    push_next(&mut line, parts)?;
+    Ok(line)
+}
+
+/// Makes the next attempt of a machine, and adds its line.
+#[tactic(auto, unfolding(crate::specs::Attempts::attempt_line))]
+pub(crate) fn push_attempt<C: Core>(
+    alloc: Global,
+    text: &mut Vec<u8>,
+    machine: &mut Machine<C>,
+    cause: Option<Cause>,
+    number: u32,
+) -> Result<(), AllocError>
+    ensures machine { OnOk result (machine.new ≡ step machine.old) }
+    ensures line { OnOk result (text.new.items
+        ≡ text.old.items ++ attempt_line cause number machine.old) }
+{
+    let mut line = beginning(alloc, number, machine.parts())?;
+    let before = made_by(machine.parts());
+    machine.step(&mut Meter::new())?;
+    push_outcome(alloc, &mut line, cause, before, machine.parts())?;
+    push_line(text, &line)
+}

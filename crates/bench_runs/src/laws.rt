@@ -1,0 +1,25 @@
+//! The laws of the end of a run.
+
+ghost use Rattle.std.specs.Prelude.{◌≡◌, ℕ, Option, None};
+ghost use Rattle.machine.specs.Run.{State, after, attempts};
+ghost use Rattle.bench_runs.specs.Ends.{IsEnd, end_of};
+
+/// The law of the end: a run ends after its last attempt, or at the first stop that it comes to;
+/// and there is no other number of attempts after which it ends.
+#[tactic(auto, using(crate::proofs::EndLaw::end_is, crate::proofs::EndLaw::one_end))]
+pub fn runs_end_at_the_first_stop()
+    ensures end { (m : State) (limit : ℕ) (stop : Option ℕ) →
+        IsEnd m limit stop (end_of m limit stop) }
+    ensures only { (m : State) (limit n : ℕ) (stop : Option ℕ) → IsEnd m limit stop n →
+        n ≡ end_of m limit stop }
+{}
+
+/// The law of runs without a stop: they end after all attempts, and the machine is then the one
+/// after the whole run.
+#[tactic(auto, using(crate::proofs::EndLemmas::whole_end, crate::proofs::EndLemmas::whole_run))]
+pub fn runs_without_stop_are_whole()
+    ensures attempts { (m : State) (limit : ℕ) →
+        end_of m limit None ≡ attempts m limit }
+    ensures machine { (m : State) (limit : ℕ) →
+        after m (end_of m limit None) ≡ after m limit }
+{}
