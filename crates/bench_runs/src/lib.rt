@@ -16,10 +16,12 @@ mod deeds;
 mod ends;
 mod laws;
 mod reports;
+mod running;
 mod shown;
 mod tracing;
 
 pub use causes::Cause;
 pub use ends::MOST_ATTEMPTS;
 pub use laws::{runs_end_at_the_first_stop, runs_without_stop_are_whole};
+pub use running::machine_after;
 pub use tracing::{TraceOptions, trace};

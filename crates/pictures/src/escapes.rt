@@ -10,7 +10,7 @@ use itoa::Buffer;
 use std::alloc::AllocError;
 
 /// Adds a number in digits.
-pub(crate) fn push_decimal(out: &mut Vec<u8>, number: usize) -> Result<(), AllocError>
+pub fn push_decimal(out: &mut Vec<u8>, number: usize) -> Result<(), AllocError>
     ensures { OnOk result (out.new.items ≡ out.old.items ++ decimal number) }
 {
     let mut buffer = Buffer::new();
@@ -31,7 +31,7 @@ pub(crate) fn push_escape(out: &mut Vec<u8>, byte: u8) -> Result<(), AllocError>
 }
 
 /// Adds a text as it stands in a page.
-pub(crate) fn push_escaped(out: &mut Vec<u8>, text: &[u8]) -> Result<(), AllocError>
+pub fn push_escaped(out: &mut Vec<u8>, text: &[u8]) -> Result<(), AllocError>
     ensures { OnOk result (out.new.items ≡ out.old.items ++ escaped text.now) }
 {
     for byte in text {

@@ -25,6 +25,7 @@ mod styles;
 
 pub use card_pictures::card_picture;
 pub use deck_pages::{deck_page, push_card_figure, push_stock_definition};
+pub use escapes::{push_decimal, push_escaped};
 pub use faults::{ListingError, ListingFault};
 pub use forms::push_listing_forms;
 pub use laws::{holes_are_the_punches, listing_is_read, pictures_differ, print_is_read};
