@@ -47,7 +47,6 @@ fn deck_for(alloc: Global, source: &Deck, program: &Program) -> Result<Deck, Job
 }
 
 /// The job of a source and its program.
-#[tactic(auto, unfolding(Rattle.loader.specs.Decks::runnable_deck))]
 fn job_of(
     alloc: Global,
     source: &Deck,

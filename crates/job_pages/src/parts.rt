@@ -17,10 +17,10 @@ fn push_style(out: &mut Vec<u8>) -> Result<(), AllocError>
     ensures { OnOk result (out.new.items ≡ out.old.items ++ style) }
 {
     out.extend_from_slice(b"<style>")?;
-    out.extend_from_slice(JOB_STYLE.as_bytes())?;
-    out.extend_from_slice(FIGURE_STYLE.as_bytes())?;
-    out.extend_from_slice(CARD_STYLE.as_bytes())?;
-    out.extend_from_slice(FORM_STYLE.as_bytes())?;
+    out.extend_from_slice(JOB_STYLE)?;
+    out.extend_from_slice(FIGURE_STYLE)?;
+    out.extend_from_slice(CARD_STYLE)?;
+    out.extend_from_slice(FORM_STYLE)?;
     out.extend_from_slice(b"</style>\n")
 }
 

@@ -1,7 +1,7 @@
 //! The style of the page of a job, as a text of CSS.
 
 /// The page: its head with a table, its listing with code, and behind these forms and cards.
-pub(crate) const JOB_STYLE: &str = "\
+pub(crate) const JOB_STYLE: &[u8] = b"\
 body{background:#fff;color:#222;margin:1em;font:15px/1.4 sans-serif}\
 table{border-collapse:collapse}\
 th{text-align:left;font-weight:normal;color:#666;padding:.15em 1.5em .15em 0;vertical-align:top}\
