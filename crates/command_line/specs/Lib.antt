@@ -1,5 +1,6 @@
 pub mod Plain
 pub mod Rows
+pub mod Tables
 pub mod Command
 pub mod Asked
 pub mod Printed

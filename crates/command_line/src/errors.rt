@@ -1,5 +1,7 @@
 //! The standard error, where what went wrong is printed.
 
+ghost use Rattle.std.specs.Prelude.{◌≡◌, false};
+
 use std::io;
 use std::io::Write;
 
@@ -12,8 +14,11 @@ pub struct Unfailing<W: Write> {
 }
 
 impl<W: Write> Unfailing<W> {
-    /// The writer over another one.
-    pub fn new(inner: W) -> Unfailing<W> {
+    /// The writer over another one, which has not failed.
+    pub fn new(inner: W) -> Unfailing<W>
+        ensures over { result.inner ≡ inner }
+        ensures works { result.failed ≡ false }
+    {
         Unfailing {
             inner,
             failed: false,

@@ -27,6 +27,7 @@ mod parsing;
 mod ports;
 mod row_names;
 mod statuses;
+mod tables;
 mod tasks;
 mod telling;
 
@@ -36,5 +37,6 @@ pub use faults::Fault;
 pub use parsing::words;
 pub use row_names::RowName;
 pub use statuses::{Status, exit_code};
+pub use tables::{Kind, Unread, named_command, parse, with_row};
 pub use tasks::{Input, Misuse, Task, task_of};
-pub use telling::{put_out, show_help, show_version, tell_fault, tell_misuse};
+pub use telling::{put_out, show_help, show_text, show_version, tell_fault, tell_misuse};

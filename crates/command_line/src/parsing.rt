@@ -14,8 +14,8 @@ use crate::found::row_in;
 use crate::misreading::fault_of_words;
 use crate::options::{is_clear, option_in};
 use crate::row_names::RowName;
+use crate::tables::Unread;
 use clap::ArgMatches;
-use clap::error::ErrorKind;
 use std::alloc::Global;
 
 /// The result of clap on the words.
@@ -29,15 +29,10 @@ fn parse<'a>(alloc: Global, words: &'a [String]) -> Result<ArgMatches<'a>, Words
     let Ok(command) = bureau_command(alloc) else {
         return Err(WordsFault::Memory);
     };
-    match command.try_get_matches_from(words) {
+    match crate::tables::parse(command, words) {
         Ok(matches) => Ok(matches),
-        Err(error) => {
-            if error.kind() == ErrorKind::OutOfMemory {
-                Err(WordsFault::Memory)
-            } else {
-                Err(fault_of_words(words))
-            }
-        }
+        Err(Unread::Memory) => Err(WordsFault::Memory),
+        Err(Unread::Words) => Err(fault_of_words(words)),
     }
 }
 

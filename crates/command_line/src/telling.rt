@@ -49,7 +49,11 @@ pub fn tell_misuse<E: Write>(errors: &mut E, misuse: Misuse<'_>) -> io::Result<S
 }
 
 /// Writes a text. An error is the second writer's, on which nothing can be printed.
-fn show_text<W: Write, E: Write>(text: &str, output: &mut W, errors: &mut E) -> io::Result<Status>
+pub fn show_text<W: Write, E: Write>(
+    text: &str,
+    output: &mut W,
+    errors: &mut E,
+) -> io::Result<Status>
     ensures { IfOk result (λ status. IsTextShown text.now status
         (W.contents output.old) (W.contents output.new)
         (E.contents errors.old) (E.contents errors.new)) }

@@ -1,5 +1,5 @@
 -- What the result of clap says of words for the program's command.
-use Rattle.std.proofs.Common.{◌≡◌, ◌∙◌, true, refl, ap, subst}
+use Rattle.std.proofs.Common.{◌≡◌, ◌∙◌, true, refl, ap}
 use Rattle.clap.specs.Simple.{App, is_simple}
 use Rattle.clap.specs.Words.{is_simple_and_free}
 use Rattle.clap.proofs.OnLiterals.{clap_on_literals}
@@ -13,9 +13,9 @@ free : is_simple_and_free workbench ≡ true
 unfolding clap_on_literals
 free = refl
 
--- what holds of a command that is simple holds of the program's
-pub of_simple : (P : App → Type 0) (a : App) → a ≡ workbench → (is_simple a ≡ true → P a) → P workbench
-of_simple P a same it = subst P same (it (ap is_simple same ∙ simple))
+-- a command that is the program's is simple
+pub is_simple_by : (a : App) → a ≡ workbench → is_simple a ≡ true
+is_simple_by a same = ap is_simple same ∙ simple
 
-pub of_free : (P : App → Type 0) (a : App) → a ≡ workbench → (is_simple_and_free a ≡ true → P a) → P workbench
-of_free P a same it = subst P same (it (ap is_simple_and_free same ∙ free))
+pub is_free_by : (a : App) → a ≡ workbench → is_simple_and_free a ≡ true
+is_free_by a same = ap is_simple_and_free same ∙ free

@@ -1,44 +1,10 @@
 -- the program's command, as clap reads it
-use Rattle.std.specs.Prelude.{◌≡◌, List, true, false, Some, codes, fold}
-use Rattle.clap.specs.Words.{App, Rule, Text, new_app, new_rule, with_rule, with_subcommand}
-use Rattle.clap.specs.Simple.{on_top}
-use Rattle.clap.specs.Lexer.{usize_max}
-use Rattle.clap.specs.declared.builder.ArgAction.TheVariants.{Append, Set, SetTrue}
-use Rattle.clap.specs.declared.builder.command.Command.{Command}
-use Rattle.clap.specs.declared.builder.command.Command.TheViews.{out-Command}
+use Rattle.std.specs.Prelude.{codes, fold}
+use Rattle.clap.specs.Words.{App}
+use Rattle.command_line.specs.Tables.{named, with_row}
 use Rattle.workbench_words.specs.Rows.{arguments_of, name_of, rows}
-use Rattle.workbench_words.specs.declared.rows.Kind.{Kind}
-use Rattle.workbench_words.specs.declared.rows.Kind.TheVariants.{Value, Further, Several, Flag, Setting}
-
--- the rule of an argument with this name
-abbrev pub rule_for : Text → Kind → Rule
-rule_for id Value = record (new_rule id) { required = true; action = Some Set }
-rule_for id Further = record (new_rule id) { action = Some Set }
-rule_for id Several = record (new_rule id) { required = true; action = Some Append }
-rule_for id Flag = record (new_rule id) { long = Some id; action = Some SetTrue }
-rule_for id Setting = record (new_rule id) { long = Some id; action = Some Set }
-
--- the command of a row: its name, and its arguments in order
-abbrev pub row_app : Text → List (Text × Kind) → App
-row_app name arguments =
-    fold (λ a argument. with_rule a (rule_for argument.0 argument.1)) (new_app name) arguments
-
--- the command with one more row
-abbrev pub with_row : App → Text → List (Text × Kind) → App
-with_row a name arguments = with_subcommand a (row_app name arguments).top
-
--- the command hands none of its own arguments down to its rows
-abbrev pub IsLocal : Command → Type 0
-IsLocal c = (out-Command c).has_globals ≡ false
-
--- the command before it has rows, without clap's own help and without the program's name in front
-abbrev pub named : App
-named = on_top (λ s. record s {
-  no_binary_name = true;
-  disable_help_flag = true;
-  disable_help_subcommand = true;
-}) (new_app (codes "workbench"))
 
 -- the program's whole command: with each row, and the row's arguments
 abbrev pub workbench : App
-workbench = fold (λ a row. with_row a (name_of row) (arguments_of row)) named rows
+workbench = fold (λ a row. with_row a (name_of row) (arguments_of row))
+    (named (codes "workbench")) rows

@@ -1,5 +1,5 @@
 -- what the program prints of itself, and its exit status for words that ask for nothing
-use Rattle.std.specs.Prelude.{List, ℕ, Option, Some, None, codes, ◌++◌}
+use Rattle.std.specs.Prelude.{List, ℕ, Option, Some, None, codes}
 use Rattle.command_line.specs.declared.Status.{Status}
 use Rattle.command_line.specs.declared.Status.TheVariants.{NotDone, Misused}
 use Rattle.workbench_words.specs.declared.rows.RowName.{RowName}

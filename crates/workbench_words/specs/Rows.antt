@@ -4,8 +4,8 @@ use Rattle.std.specs.Str.{bytes_eq}
 use Rattle.clap.specs.Words.{Text}
 use Rattle.workbench_words.specs.declared.rows.RowName.{RowName}
 use Rattle.workbench_words.specs.declared.rows.RowName.TheVariants as name
-use Rattle.workbench_words.specs.declared.rows.Kind.{Kind}
-use Rattle.workbench_words.specs.declared.rows.Kind.TheVariants.{Value, Further, Several, Flag, Setting}
+use Rattle.command_line.specs.declared.tables.Kind.{Kind}
+use Rattle.command_line.specs.declared.tables.Kind.TheVariants.{Value, Further, Several, Flag, Setting}
 
 -- the table of the rows: the word that is a row's name, and its arguments in order, each by its name
 abbrev pub line_of : RowName → Text × List (Text × Kind)

@@ -4,6 +4,8 @@ ghost use Rattle.std.specs.Prelude.{◌≡◌, find, map, option_map};
 ghost use Rattle.std.specs.Str.{bytes_eq};
 ghost use Rattle.workbench_words.specs.Rows.{arguments_of, name_of, row_named};
 
+use command_line::Kind;
+
 /// The name of a row.
 #[derive(Clone, Copy)]
 pub enum RowName {
@@ -21,21 +23,6 @@ pub enum RowName {
     Source,
     /// `manifest`.
     Manifest,
-}
-
-/// What an argument of a row is.
-#[derive(Clone, Copy)]
-pub enum Kind {
-    /// A value at its place.
-    Value,
-    /// A value at its place that may be left out with those behind it.
-    Further,
-    /// One value or more, at the last place.
-    Several,
-    /// An option without a value.
-    Flag,
-    /// An option with a value.
-    Setting,
 }
 
 /// The rows, in the order of [`RowName`]: each with its name, and with its arguments.

@@ -9,12 +9,13 @@ ghost use Rattle.workbench_words.specs.Tasks.{HasEmpty, HasForm, HasKept, HasSig
 ghost use Rattle.workbench_words.specs.declared.tasks.Misuse.TheVariants.{Memory};
 
 use crate::found::{has_flag, value, values};
-use crate::parsing::{Unread, parse};
+use crate::parsing::parse;
 use crate::rows::RowName;
 use crate::values::{column_of, empty_of, narrow_of, signs_of, stops_of};
 use card_forms::Form;
 use card_texts::{EmptyLine, Rules, Signs};
 use clap::ArgMatches;
+use command_line::Unread;
 use std::alloc::{AllocError, Global};
 use std::io;
 use std::io::ErrorKind;

@@ -7,21 +7,9 @@ ghost use Rattle.workbench_words.specs.Printed.{misuse_status, page_of, version_
 use crate::help::{VERSION, page, usage};
 use crate::rows::RowName;
 use crate::tasks::Misuse;
-use command_line::{Fault, Status, put_out, tell_fault};
+use command_line::{Fault, Status, show_text, tell_fault};
 use std::io;
 use std::io::Write;
-
-/// Writes a text. An error is the second writer's, on which nothing can be printed.
-fn show_text<W: Write, E: Write>(text: &str, output: &mut W, errors: &mut E) -> io::Result<Status>
-    ensures { IfOk result (λ status. IsTextShown text.now status
-        (W.contents output.old) (W.contents output.new)
-        (E.contents errors.old) (E.contents errors.new)) }
-{
-    if put_out(output, text.as_bytes()).is_err() {
-        return tell_fault(errors, Fault::Device);
-    }
-    Ok(Status::Done)
-}
 
 /// Writes the help of a row, or the whole help. An error is the second writer's, on which nothing
 /// can be printed.

@@ -2,8 +2,8 @@ use Rattle.std.proofs.Common.{◌≡◌, ◌∙◌, [], ap, sym, Bor, take_all}
 use Rattle.std.proofs.lemmas.List.Sums.{fold_more}
 use Rattle.std.specs.Prelude.{fold, get_or, List, map}
 use Rattle.clap.specs.Words.{App, Text, app_of}
-use Rattle.workbench_words.specs.Command.{with_row}
-use Rattle.workbench_words.specs.declared.rows.Kind.{Kind}
+use Rattle.command_line.specs.Tables.{with_row}
+use Rattle.command_line.specs.declared.tables.Kind.{Kind}
 use Rattle.workbench_words.specs.declared.rows.RowName.{RowName}
 use Rattle.workbench_words.specs.declared.rows.RowName.TheVariants.{Punch}
 use Rattle.workbench_words.proofs.commands.with_rows.Goals as goal

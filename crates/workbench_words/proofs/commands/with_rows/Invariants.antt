@@ -1,7 +1,7 @@
 use Rattle.std.proofs.Common.{◌≡◌, take}
 use Rattle.std.specs.Prelude.{fold, map}
 use Rattle.clap.specs.Words.{app_of}
-use Rattle.workbench_words.specs.Command.{with_row}
+use Rattle.command_line.specs.Tables.{with_row}
 use Rattle.workbench_words.proofs.commands.with_rows.Given as goal
 
 abbrev pub invariant-loop-row : goal.invariant-loop-row

@@ -1,12 +1,12 @@
-use Rattle.std.proofs.Common.{◌∙◌, ap, ap₂, sym, Bor, ◌||◌, take_all, List, []}
+use Rattle.std.proofs.Common.{◌∙◌, ap, ap₂, sym, Bor, ◌||◌, take_all, []}
 use Rattle.std.proofs.lemmas.List.Sums.{fold_more}
 use Rattle.std.proofs.lemmas.List.Folds.{fold-map}
 use Rattle.std.specs.Prelude.{fold}
 use Rattle.clap.specs.Words.{App, Text, new_app, with_rule}
-use Rattle.workbench_words.specs.Command.{rule_for}
-use Rattle.workbench_words.specs.declared.rows.Kind.{Kind}
-use Rattle.workbench_words.specs.declared.rows.Kind.TheVariants.{Value}
-use Rattle.workbench_words.proofs.commands.row.Goals as goal
+use Rattle.command_line.specs.Tables.{rule_for}
+use Rattle.command_line.specs.declared.tables.Kind.{Kind}
+use Rattle.command_line.specs.declared.tables.Kind.TheVariants.{Value}
+use Rattle.command_line.proofs.tables.row.Goals as goal
 
 abbrev with_argument : App → Text × Kind → App
 with_argument a g = with_rule a (rule_for g.0 g.1)
