@@ -1,4 +1,11 @@
+pub mod CardLaw
 pub mod CountedPieces
 pub mod FormParts
 pub mod HoleOutlines
+pub mod HolesLaw
+pub mod HolesRead
+pub mod ListingLaw
 pub mod ListingPlaces
+pub mod PictureTexts
+pub mod PiecesRead
+pub mod TextsRead

@@ -1,8 +1,7 @@
 -- the line and the column of each byte of a listing, byte by byte
-use Rattle.std.proofs.Common.{◌≡◌, ℕ, ◌+◌, ◌-◌, ◌<◌, ◌≤◌, ◌==◌, Bool, true, false, not, None, if◌then◌else◌, List, length, take, get_or, refl, ap, sym, ◌∙◌, arith, below_more}
-use Rattle.std.specs.List.{count_by, suffix_len}
+use Rattle.std.proofs.Common.{◌≡◌, ℕ, ◌+◌, ◌-◌, ◌<◌, ◌==◌, Bool, true, false, not, None, if◌then◌else◌, List, length, get_or, refl, ap, ◌∙◌, arith, below_more}
 use Rattle.std.proofs.lemmas.List.Sums.{count_by_more_yes, count_by_more_no, suffix_len-take_yes, suffix_len-take_no}
-use Rattle.pictures.specs.Faults.{AreRightBelow, column_at, ends_line, error_at, error_in, line_at, next_column, next_line}
+use Rattle.pictures.specs.Faults.{AreRightBelow, column_at, ends_line, error_at, line_at, next_column, next_line}
 
 is_feed : ℕ → Bool
 is_feed byte = byte == 10

@@ -1,5 +1,5 @@
 -- the first fault of a text that is to be shown as a listing: where it is, and what is wrong there
-use Rattle.std.specs.Prelude.{ℕ, ◌≡◌, ◌≤◌, ◌<◌, ◌⊎◌, ◌+◌, ◌==◌, nat_le, nat_lt, Bool, ◌&&◌, ◌||◌, not, if◌then◌else◌, List, length, take, slice_index, count_by, Option, Some, None}
+use Rattle.std.specs.Prelude.{ℕ, ◌≡◌, ◌<◌, ◌⊎◌, ◌+◌, ◌==◌, nat_le, nat_lt, Bool, ◌&&◌, ◌||◌, not, if◌then◌else◌, List, length, take, slice_index, count_by, Option, Some, None}
 use Rattle.std.specs.List.{suffix_len}
 use Rattle.pictures.specs.declared.faults.ListingError.{ListingError}
 use Rattle.pictures.specs.declared.faults.ListingError.TheVariants.{NoMemory, Sign, Length}

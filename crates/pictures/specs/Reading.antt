@@ -1,5 +1,5 @@
 -- how pictures and pages are read back: the texts in them, and the holes
-use Rattle.std.specs.Prelude.{ℕ, ◌≡◌, ◌≢◌, ◌≤◌, nat_eq, ◌==◌, ◌-◌, bit_and, if◌then◌else◌, List, [], ◌∷◌, ◌++◌, length, map, filter, drop, slice_index, codes}
+use Rattle.std.specs.Prelude.{ℕ, ◌≢◌, ◌≤◌, nat_eq, ◌==◌, ◌-◌, bit_and, if◌then◌else◌, List, [], ◌∷◌, ◌++◌, length, map, filter, drop, slice_index, codes}
 use Rattle.std.specs.List.{Contains, flat_map, slice_split, starts_with, before_first, after_first, join_with_byte}
 use Rattle.std.specs.Str.Parse.{digits_value}
 use Rattle.bcd.specs.Table.{punches_of, row}

@@ -13,12 +13,7 @@ const OPENING: &[u8] = b"<section class=\"form\"><div class=\"band\"></div>\
     <div class=\"strip\"></div><div class=\"strip r\"></div><pre>\n";
 
 /// Adds the section of a form, with its number and the number of forms.
-fn push_form(
-    out: &mut Vec<u8>,
-    number: usize,
-    count: usize,
-    form: &[u8],
-) -> Result<(), AllocError>
+fn push_form(out: &mut Vec<u8>, number: usize, count: usize, form: &[u8]) -> Result<(), AllocError>
     ensures { OnOk result (out.new.items ≡ out.old.items ++ form_section number count form.now) }
 {
     out.extend_from_slice(OPENING)?;

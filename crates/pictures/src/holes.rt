@@ -1,7 +1,7 @@
 //! The holes of a card, as one path.
 
-ghost use Rattle.std.specs.Prelude.{◌≡◌, ◌≤◌, ◌<◌, ◌++◌, OnOk};
-ghost use Rattle.pictures.specs.Cards.{column_outlines, hole_if_punched, holes_path, outline};
+ghost use Rattle.std.specs.Prelude.{◌≡◌, ◌≤◌, ◌<◌, ◌++◌, length, OnOk};
+ghost use Rattle.pictures.specs.Cards.{column_outlines, hole_if_punched, holes_from, holes_path, outline, outlines};
 
 use crate::escapes::push_decimal;
 use crate::stocks::column_middle;
@@ -67,12 +67,20 @@ fn push_column(out: &mut Vec<u8>, column: usize, code: Code) -> Result<(), Alloc
     Ok(())
 }
 
-/// Adds the outlines of the holes of a card, column by column, each from row 12 down.
-pub(crate) fn push_holes(out: &mut Vec<u8>, card: &Card) -> Result<(), AllocError>
-    ensures { OnOk result (out.new.items ≡ out.old.items ++ holes_path card.now) }
+/// Adds the outlines of the holes of characters, column by column, each from row 12 down.
+fn push_columns(out: &mut Vec<u8>, codes: &[Code]) -> Result<(), AllocError>
+    requires { length codes.now ≤ 80 }
+    ensures { OnOk result (out.new.items ≡ out.old.items ++ outlines (holes_from 1 codes.now)) }
 {
-    for (index, code) in card.0.iter().enumerate() {
+    for (index, code) in codes.iter().enumerate() {
         push_column(out, index + 1, *code)?;
     }
     Ok(())
+}
+
+/// Adds the outlines of the holes of a card.
+pub(crate) fn push_holes(out: &mut Vec<u8>, card: &Card) -> Result<(), AllocError>
+    ensures { OnOk result (out.new.items ≡ out.old.items ++ holes_path card.now) }
+{
+    push_columns(out, &card.0)
 }

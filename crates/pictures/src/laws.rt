@@ -15,7 +15,7 @@ ghost use Rattle.pictures.specs.Reading.{HasHole, IsPunched, listing_read, print
 pub fn holes_are_the_punches()
     ensures { (card : Card) (place : ℕ × ℕ) → IsCard card → HasHole (picture card) place
         ↔ ((column : ℕ) × (number : ℕ) × (place ≡ corner (column, number))
-            × IsPunched card column number) }
+        × IsPunched card column number) }
 {}
 
 /// The law of print: what stands at the upper edge of a card's picture is the card's glyphs up to

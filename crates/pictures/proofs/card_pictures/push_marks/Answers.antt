@@ -1,4 +1,4 @@
-use Rattle.std.proofs.Common.{◌≡◌, ◌==◌, ◌++◌, ◌∙◌, true, false, length, sym, ap, append-nil, refl}
+use Rattle.std.proofs.Common.{◌≡◌, ◌==◌, ◌∙◌, true, false, length, sym, ap, append-nil}
 use Rattle.card_forms.specs.Signs.{filled}
 use Rattle.pictures.specs.Cards.{marks}
 use Rattle.pictures.proofs.CountedPieces.{more}

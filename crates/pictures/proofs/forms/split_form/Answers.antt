@@ -1,6 +1,5 @@
-use Rattle.std.proofs.Common.{◌+◌, ◌∙◌, sym, ap, refl}
+use Rattle.std.proofs.Common.{◌+◌, ◌∙◌, sym}
 use Rattle.std.proofs.lemmas.List.{take_rest}
-use Rattle.pictures.specs.Forms.{parts}
 use Rattle.pictures.proofs.FormParts.{part_ended, part_open}
 use Rattle.pictures.proofs.forms.split_form.Goals as goal
 
