@@ -13,13 +13,16 @@
 mod attempts;
 mod causes;
 mod deeds;
+mod dumping;
 mod ends;
 mod laws;
 mod reports;
+mod rows;
 mod shown;
 mod tracing;
 
 pub use causes::Cause;
+pub use dumping::{DumpOptions, dump};
 pub use ends::MOST_ATTEMPTS;
 pub use laws::{runs_end_at_the_first_stop, runs_without_stop_are_whole};
 pub use tracing::{TraceOptions, trace};
