@@ -2,3 +2,4 @@ mod EndLemmas
 mod EndLaw
 mod LineLemmas
 mod ShownLemmas
+mod RowLemmas

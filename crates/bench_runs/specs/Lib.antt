@@ -5,3 +5,5 @@ pub mod Shown
 pub mod Deeds
 pub mod Attempts
 pub mod Traces
+pub mod Rows
+pub mod Dumps

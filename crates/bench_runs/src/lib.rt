@@ -13,14 +13,17 @@
 mod attempts;
 mod causes;
 mod deeds;
+mod dumping;
 mod ends;
 mod laws;
 mod reports;
+mod rows;
 mod running;
 mod shown;
 mod tracing;
 
 pub use causes::Cause;
+pub use dumping::{DumpOptions, dump};
 pub use ends::MOST_ATTEMPTS;
 pub use laws::{runs_end_at_the_first_stop, runs_without_stop_are_whole};
 pub use running::machine_after;
