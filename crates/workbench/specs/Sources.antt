@@ -1,5 +1,5 @@
 -- what is printed of a source
-use Rattle.std.specs.Prelude.{ℕ, ◌+◌, Bool, true, false, List, [], ◌∷◌, ◌++◌, length, drop}
+use Rattle.std.specs.Prelude.{ℕ, ◌+◌, Bool, true, false, List, [], ◌++◌, length, drop}
 use Rattle.cards.specs.declared.Card.{Card}
 use Rattle.autocoder_layout.specs.Source.{source_of}
 use Rattle.autocoder_layout.specs.declared.card_faults.CardFault.{CardFault}

@@ -1,13 +1,14 @@
 //! The decks that rows read.
 
-ghost use Rattle.std.specs.Prelude.{◌≡◌, Option, IfOk, IfSome};
+ghost use Rattle.std.specs.Prelude.{◌≡◌, Option, IfOk};
 ghost use Rattle.cards.specs.Decks.{IsDeck};
 ghost use Rattle.card_forms.specs.Forms.{IsFileOf};
 ghost use Rattle.workbench.specs.Decks.{form_of};
 
-use crate::files::read;
+use crate::files::{read, tell_memory};
 use card_forms::{Form, FormError, FormFault, read_either};
 use cards::Deck;
+use command_line::Status;
 use std::alloc::Global;
 use std::io;
 use std::io::Write;
@@ -15,7 +16,7 @@ use std::io::Write;
 /// What is wrong with a file of a deck, behind the bytes that are at fault, if any are told.
 fn words_of(fault: FormFault) -> &'static str {
     match fault.error {
-        FormError::NoMemory => "there is not enough memory\n",
+        FormError::NoMemory => "",
         FormError::Length if fault.column > 80 => {
             "the line is longer than a card, or has no end; workbench punch takes such texts\n"
         }
@@ -53,16 +54,20 @@ pub(crate) fn tell_form_fault<E: Write>(
     errors: &mut E,
     path: &str,
     fault: FormFault,
-) -> io::Result<()> {
+) -> io::Result<Status> {
+    if let FormError::NoMemory = fault.error {
+        return tell_memory(errors);
+    }
     let card = fault.card;
     let column = fault.column;
     write!(errors, "{path}: card {card} column {column}: ")?;
     tell_bytes(errors, fault.error)?;
-    errors.write_all(words_of(fault).as_bytes())
+    errors.write_all(words_of(fault).as_bytes())?;
+    Ok(Status::NotDone)
 }
 
-/// Reads a deck from a file in a form, or from one that its first line tells.
-fn read_as(alloc: Global, form: Option<Form>, bytes: &[u8]) -> Result<Deck, FormFault>
+/// Reads a deck from a file in a form, or in that which its first line tells.
+pub(crate) fn read_as(alloc: Global, form: Option<Form>, bytes: &[u8]) -> Result<Deck, FormFault>
     ensures { IfOk result (λ deck. IsDeck deck × IsFileOf (form_of form bytes.now) bytes.now deck) }
 {
     match form {
@@ -71,37 +76,20 @@ fn read_as(alloc: Global, form: Option<Form>, bytes: &[u8]) -> Result<Deck, Form
     }
 }
 
-/// The deck of a file, in the form that is named or in that which its first line tells. Where it is
-/// none, that is told.
-pub(crate) fn deck_of<E: Write>(
-    alloc: Global,
+/// The deck in the file at a path: a text or a punch file. Where there is none, that is told.
+pub(crate) fn deck_at<E: Write>(
+    rt: &HostRuntime,
     path: &str,
-    form: Option<Form>,
-    bytes: &[u8],
     errors: &mut E,
-) -> io::Result<Option<Deck>>
-    ensures { IfOk result (λ found. IfSome found (λ deck.
-        IsDeck deck × IsFileOf (form_of form bytes.now) bytes.now deck)) }
-{
-    match read_as(alloc, form, bytes) {
+) -> io::Result<Option<Deck>> {
+    let Some(bytes) = read(rt, path, errors)? else {
+        return Ok(None);
+    };
+    match read_as(rt.alloc(), None, &bytes) {
         Ok(deck) => Ok(Some(deck)),
         Err(fault) => {
             tell_form_fault(errors, path, fault)?;
             Ok(None)
         }
-    }
-}
-
-/// The deck in the file at a path, in the form that is named or in that which its first line tells.
-/// Where there is none, that is told.
-pub(crate) fn deck_at<E: Write>(
-    rt: &HostRuntime,
-    path: &str,
-    form: Option<Form>,
-    errors: &mut E,
-) -> io::Result<Option<Deck>> {
-    match read(rt, path, errors)? {
-        Some(bytes) => deck_of(rt.alloc(), path, form, &bytes, errors),
-        None => Ok(None),
     }
 }

@@ -14,8 +14,8 @@ pub(crate) struct Found {
     pub whole: bool,
 }
 
-/// Says of a folder why not all of its files are found.
-fn tell_folder<E: Write>(errors: &mut E, path: &str, why: &str) -> io::Result<()> {
+/// Says why a folder or a file is not taken.
+pub(crate) fn tell_path<E: Write>(errors: &mut E, path: &str, why: &str) -> io::Result<()> {
     writeln!(errors, "{path}: {why}")
 }
 
@@ -89,7 +89,7 @@ fn take_folder<E: Write>(
 ) -> io::Result<()> {
     let Ok(entries) = fs::read_dir(rt, path) else {
         found.whole = false;
-        return tell_folder(errors, path, "the folder cannot be read; may it be read?");
+        return tell_path(errors, path, "the folder cannot be read; may it be read?");
     };
     for entry in entries {
         match entry {
@@ -107,13 +107,13 @@ fn take_folder<E: Write>(
 fn tell_entry<E: Write>(errors: &mut E, path: &str, kind: ErrorKind) -> io::Result<()> {
     match kind {
         ErrorKind::InvalidFilename => {
-            tell_folder(
+            tell_path(
                 errors,
                 path,
                 "a name in it is no UTF-8 text; rename the file",
             )
         }
-        _ => tell_folder(errors, path, "not all of the folder can be read"),
+        _ => tell_path(errors, path, "not all of the folder can be read"),
     }
 }
 
@@ -135,8 +135,8 @@ fn take_folders<E: Write>(
     Ok(())
 }
 
-/// The files that paths name, sorted by their names: of a folder all files in it and below it. What
-/// cannot be read of a folder is told.
+/// The files that paths name, each once and sorted by their names: of a folder all files in it and
+/// below it. What cannot be read of a folder is told.
 pub(crate) fn files_of<E: Write>(
     rt: &HostRuntime,
     paths: &[&str],
@@ -154,5 +154,6 @@ pub(crate) fn files_of<E: Write>(
         }
     }
     found.paths.sort()?;
+    found.paths.dedup();
     Ok(found)
 }

@@ -16,7 +16,7 @@ pub(crate) fn list_deck<W: Write, E: Write>(
     output: &mut W,
     errors: &mut E,
 ) -> io::Result<Status> {
-    let Some(deck) = deck_at(rt, path, None, errors)? else {
+    let Some(deck) = deck_at(rt, path, errors)? else {
         return Ok(Status::NotDone);
     };
     let options = ListOptions { ruler, punches };
@@ -43,10 +43,10 @@ pub(crate) fn compare_decks<W: Write, E: Write>(
     output: &mut W,
     errors: &mut E,
 ) -> io::Result<Status> {
-    let Some(first) = deck_at(rt, one, None, errors)? else {
+    let Some(first) = deck_at(rt, one, errors)? else {
         return Ok(Status::NotDone);
     };
-    let Some(second) = deck_at(rt, other, None, errors)? else {
+    let Some(second) = deck_at(rt, other, errors)? else {
         return Ok(Status::NotDone);
     };
     match compare(rt.alloc(), first.cards(), second.cards()) {

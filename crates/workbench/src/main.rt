@@ -41,12 +41,12 @@ fn words_given(rt: &HostRuntime) -> Result<Vec<String>, Misuse> {
 /// Does a task.
 fn work<W: Write, E: Write>(
     rt: &HostRuntime,
-    task: Task<'_>,
+    task: &Task<'_>,
     output: &mut W,
     errors: &mut E,
 ) -> io::Result<Status> {
     match task {
-        Task::Help(row) => show_help(output, errors, row),
+        Task::Help(row) => show_help(output, errors, *row),
         Task::Version => show_version(output, errors),
         Task::Punch {
             text,
@@ -54,10 +54,11 @@ fn work<W: Write, E: Write>(
             rules,
             reports,
         } => {
+            let reports = *reports;
             let punching = Punching {
                 text,
                 out,
-                rules: &rules,
+                rules,
                 reports,
             };
             punch_text(rt, punching, output, errors)
@@ -66,7 +67,7 @@ fn work<W: Write, E: Write>(
             deck,
             ruler,
             punches,
-        } => list_deck(rt, deck, ruler, punches, output, errors),
+        } => list_deck(rt, deck, *ruler, *punches, output, errors),
         Task::Compare { one, other } => compare_decks(rt, one, other, output, errors),
         Task::Number {
             deck,
@@ -74,21 +75,21 @@ fn work<W: Write, E: Write>(
             ident,
             first,
             step,
-        } => number_deck(rt, (deck, out), ident, (first, step), output, errors),
+        } => number_deck(rt, (deck, out), ident, (*first, *step), output, errors),
         Task::CheckNumbers { deck } => check_numbers(rt, deck, output, errors),
         Task::Convert {
             deck,
             out,
             reads,
             writes,
-        } => convert(rt, (deck, reads), (out, writes), output, errors),
+        } => convert(rt, (deck, *reads), (out, *writes), output, errors),
         Task::Source {
             source,
             narrow,
             with_data,
-        } => show_source(rt, source, Showing::of(narrow, with_data), output, errors),
+        } => show_source(rt, source, Showing::of(*narrow, *with_data), output, errors),
         Task::Manifest { decks, form, known } => {
-            manifest(rt, &decks, form, known, output, errors)
+            manifest(rt, decks, *form, *known, output, errors)
         }
     }
 }
@@ -105,7 +106,7 @@ fn carry_out(rt: &HostRuntime) -> io::Result<Status> {
     let words = words.as_slice();
     let after_name = if words.is_empty() { words } else { &words[1..] };
     match task_of(rt.alloc(), after_name) {
-        Ok(task) => match work(rt, task, &mut output, &mut errors) {
+        Ok(task) => match work(rt, &task, &mut output, &mut errors) {
             Ok(status) => Ok(status),
             Err(_) => tell_memory(&mut errors),
         },

@@ -1,39 +1,38 @@
 //! The row `manifest`.
 
-ghost use Rattle.std.specs.Prelude.{◌≡◌, ◌<◌, List, length, IfOk, IfSome};
+ghost use Rattle.std.specs.Prelude.{◌≡◌, ◌<◌, List, length, IfOk};
 ghost use Rattle.cards.specs.Decks.{IsDeck};
 ghost use Rattle.cards.specs.declared.Card.{Card};
 ghost use Rattle.card_forms.specs.Forms.{IsFileOf};
 ghost use Rattle.card_tools.specs.Manifests.{manifest_line};
 ghost use Rattle.workbench.specs.Decks.{form_of};
 
-use crate::decks::deck_of;
+use crate::decks::{read_as, tell_form_fault};
 use crate::files::{print, read};
-use crate::folders::{Found, files_of};
-use card_forms::Form;
+use crate::folders::{Found, files_of, tell_path};
+use card_forms::{Form, FormFault, OUT_OF_MEMORY};
 use card_tools::{ManifestEntry, manifest_line, read_manifest_line};
 use command_line::Status;
 use std::alloc::{AllocError, Global};
 use std::io;
 use std::io::Write;
 
-/// The line of a deck in a file. Where it is none, that is told.
-fn line_of<E: Write>(
+/// The line of the deck in a file with this name.
+fn line_of(
     alloc: Global,
-    path: &str,
+    name: &str,
     form: Option<Form>,
     bytes: &[u8],
-    errors: &mut E,
-) -> io::Result<Option<Vec<u8>>>
-    ensures { IfOk result (λ found. IfSome found (λ line. (cards : List Card) × IsDeck cards
+) -> Result<Vec<u8>, FormFault>
+    ensures { IfOk result (λ line. (cards : List Card) × IsDeck cards
         × IsFileOf (form_of form bytes.now) bytes.now cards
-        × (line.items ≡ manifest_line cards path.now))) }
+        × (line.items ≡ manifest_line cards name.now)) }
 {
-    let Some(deck) = deck_of(alloc, path, form, bytes, errors)? else {
-        return Ok(None);
-    };
-    let line = manifest_line(alloc, &deck, path.as_bytes())?;
-    Ok(Some(line))
+    let deck = read_as(alloc, form, bytes)?;
+    match manifest_line(alloc, &deck, name.as_bytes()) {
+        Ok(line) => Ok(line),
+        Err(_) => Err(OUT_OF_MEMORY),
+    }
 }
 
 /// The line of the deck in the file at a path. Where there is none, that is told.
@@ -44,12 +43,18 @@ fn line_at<E: Write>(
     errors: &mut E,
 ) -> io::Result<Option<Vec<u8>>> {
     if path.as_bytes().contains(&b'\n') {
-        writeln!(errors, "{path}: its name has a line feed; rename it")?;
+        tell_path(errors, path, "its name has a line feed; rename it")?;
         return Ok(None);
     }
-    match read(rt, path, errors)? {
-        Some(bytes) => line_of(rt.alloc(), path, form, &bytes, errors),
-        None => Ok(None),
+    let Some(bytes) = read(rt, path, errors)? else {
+        return Ok(None);
+    };
+    match line_of(rt.alloc(), path, form, &bytes) {
+        Ok(line) => Ok(Some(line)),
+        Err(fault) => {
+            tell_form_fault(errors, path, fault)?;
+            Ok(None)
+        }
     }
 }
 
@@ -62,13 +67,6 @@ struct Lines {
     whole: bool,
 }
 
-/// Whether a path of sorted ones is the one before it.
-fn comes_again(paths: &[String], place: usize) -> bool
-    requires { place < length paths.now }
-{
-    place > 0 && paths[place - 1].as_str() == paths[place].as_str()
-}
-
 /// The lines of the decks in files, one for each path.
 fn lines_at<E: Write>(
     rt: &HostRuntime,
@@ -76,16 +74,12 @@ fn lines_at<E: Write>(
     form: Option<Form>,
     errors: &mut E,
 ) -> io::Result<Lines> {
-    let paths = files.paths.as_slice();
     let mut lines = Lines {
         text: Vec::new(rt.alloc()),
         whole: files.whole,
     };
-    for place in 0..paths.len() {
-        if comes_again(paths, place) {
-            continue;
-        }
-        match line_at(rt, paths[place].as_str(), form, errors)? {
+    for path in &files.paths {
+        match line_at(rt, path.as_str(), form, errors)? {
             Some(line) => lines.text.extend_from_slice(&line)?,
             None => lines.whole = false,
         }

@@ -44,7 +44,7 @@ pub(crate) fn number_deck<W: Write, E: Write>(
     output: &mut W,
     errors: &mut E,
 ) -> io::Result<Status> {
-    let Some(deck) = deck_at(rt, paths.0, None, errors)? else {
+    let Some(deck) = deck_at(rt, paths.0, errors)? else {
         return Ok(Status::NotDone);
     };
     let numbered = match sequence(rt.alloc(), &deck, ident, numbers.0, numbers.1) {
@@ -64,7 +64,7 @@ pub(crate) fn check_numbers<W: Write, E: Write>(
     output: &mut W,
     errors: &mut E,
 ) -> io::Result<Status> {
-    let Some(deck) = deck_at(rt, path, None, errors)? else {
+    let Some(deck) = deck_at(rt, path, errors)? else {
         return Ok(Status::NotDone);
     };
     match check_sequence(rt.alloc(), deck.cards()) {

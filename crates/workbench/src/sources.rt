@@ -96,7 +96,7 @@ pub(crate) fn show_source<W: Write, E: Write>(
     output: &mut W,
     errors: &mut E,
 ) -> io::Result<Status> {
-    let Some(deck) = deck_at(rt, path, None, errors)? else {
+    let Some(deck) = deck_at(rt, path, errors)? else {
         return Ok(Status::NotDone);
     };
     match shown(rt.alloc(), &deck, showing) {

@@ -4,7 +4,6 @@ use Rattle.std.specs.Str.{bytes_eq}
 use Rattle.clap.specs.Words.{Row, Text, all_of, fault_of, first_of, subcommand_of}
 use Rattle.card_forms.specs.Forms.{word_of}
 use Rattle.card_forms.specs.declared.forms.Form.{Form}
-use Rattle.texts.specs.Numbers.{IsNumberOf}
 use Rattle.card_texts.specs.declared.Rules.{Rules}
 use Rattle.card_texts.specs.declared.Signs.{Signs}
 use Rattle.card_texts.specs.declared.Signs.TheVariants.{Bureau}
@@ -12,7 +11,7 @@ use Rattle.card_texts.specs.declared.EmptyLine as line
 use Rattle.card_texts.specs.declared.EmptyLine.TheVariants.{Card}
 use Rattle.workbench_words.specs.Command.{workbench}
 use Rattle.workbench_words.specs.Rows.{name_of}
-use Rattle.workbench_words.specs.Values.{AreStops, word_of_empty, word_of_signs, word_of_width}
+use Rattle.workbench_words.specs.Values.{AreStops, IsNumeral, word_of_empty, word_of_signs, word_of_width}
 use Rattle.workbench_words.specs.declared.rows.RowName.{RowName}
 use Rattle.workbench_words.specs.declared.rows.RowName.TheVariants as name
 use Rattle.workbench_words.specs.declared.tasks.Task.{Task}
@@ -86,11 +85,11 @@ WantsCompare found (Compare one other) =
     WantsOption (codes "ONE") found one.now × WantsOption (codes "OTHER") found other.now
 WantsCompare found task = ⊥
 
--- an argument is the decimal text of a number of 1 to 9 digits
+-- this is the number of an argument
 pub record WantsNumber (id : Text) (found : List Row) (number : ℕ) : Type 0 where
   pub text : Text
   pub given : WantsOption id found text
-  pub is : IsNumberOf text number
+  pub is : IsNumeral text number
 
 -- the task of `sequence`: a numbering where all of its values are given, or with IN alone a check
 abbrev pub WantsSequence : List Row → Task → Type 0

@@ -1,9 +1,13 @@
 -- the values of the rows' arguments, as texts
-use Rattle.std.specs.Prelude.{ℕ, ◌≡◌, nat_lt, nat_le, Bool, true, false, ◌&&◌, List, [], ◌∷◌, ◌++◌, codes, decimal, flat_map}
+use Rattle.std.specs.Prelude.{ℕ, ◌≡◌, ◌<◌, ◌^◌, nat_lt, nat_le, Bool, true, false, ◌&&◌, List, [], ◌∷◌, ◌++◌, codes, decimal, flat_map}
 use Rattle.card_texts.specs.declared.Signs.{Signs}
 use Rattle.card_texts.specs.declared.Signs.TheVariants.{Bureau, Simh}
 use Rattle.card_texts.specs.declared.EmptyLine as line
 use Rattle.card_texts.specs.declared.EmptyLine.TheVariants as empty
+
+-- the text is that of a number of 1 to 9 digits, without a zero in front
+abbrev pub IsNumeral : List ℕ → ℕ → Type 0
+IsNumeral text number = (0 < number) × (number < 10 ^ 9) × (text ≡ decimal number)
 
 -- whether columns rise from behind this one, and end at 80 at most
 unfoldable pub rises : ℕ → List ℕ → Bool

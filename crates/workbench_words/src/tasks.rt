@@ -4,8 +4,8 @@ ghost use Rattle.std.specs.Prelude.{◌≡◌, ◌∷◌, [], IfOk, IfSome};
 ghost use Rattle.clap.specs.Words.{found_of, rows_of};
 ghost use Rattle.command_line.specs.Plain.{texts};
 ghost use Rattle.card_forms.specs.Forms.{word_of};
-ghost use Rattle.texts.specs.Numbers.{IsNumberOf};
 ghost use Rattle.workbench_words.specs.Tasks.{HasEmpty, HasForm, HasKept, HasSigns, HasTabs, IsNarrow, Wants, WantsCompare, WantsConvert, WantsList, WantsManifest, WantsOption, WantsPunch, WantsSequence, WantsSource, WantsTask};
+ghost use Rattle.workbench_words.specs.Values.{IsNumeral};
 ghost use Rattle.workbench_words.specs.declared.tasks.Misuse.TheVariants.{Memory};
 
 use crate::found::{has_flag, value, values};
@@ -258,7 +258,7 @@ fn compare_task<'a>(found: &ArgMatches<'a>) -> Result<Task<'a>, Misuse>
 
 /// A number of 1 to 9 digits without a zero in front.
 fn number(text: &str) -> Result<u32, Misuse>
-    ensures { IfOk result (IsNumberOf text.now) }
+    ensures { IfOk result (IsNumeral text.now) }
 {
     match number_of(text) {
         Some(number) => Ok(number),
