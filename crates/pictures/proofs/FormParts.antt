@@ -1,11 +1,9 @@
--- the forms of a listing and the figures of cards, one after the other
+-- the forms of a listing, one after the other
 use Rattle.std.proofs.Common.{◌≡◌, ℕ, ◌+◌, ◌≤◌, Some, None, List, [], ◌∷◌, ◌++◌, length, take, drop, position, refl, ap, sym, ◌∙◌, arith, append_assoc, append-nil}
 use Rattle.std.specs.List.{count_by, position_or_len}
 use Rattle.std.proofs.lemmas.List.Quantifiers.{position-Some}
 use Rattle.std.proofs.lemmas.List.Splits.{slice_split_first, slice_split_none, length-slice_split}
 use Rattle.std.proofs.lemmas.List.Sums.{position_or_len_is, fails_before_first}
-use Rattle.cards.specs.declared.Card.{Card}
-use Rattle.pictures.specs.Decks.{figure, figures_from}
 use Rattle.pictures.specs.Forms.{form_section, is_form_feed, parts, sections, sections_from}
 
 -- the first part ends at the first form feed
@@ -42,10 +40,3 @@ pub counted : (text : List ℕ) (feeds : ℕ) (done : List ℕ) → feeds ≡ co
     → done ++ sections_from 1 (feeds + 1) (parts text) ≡ done ++ sections (parts text)
 counted text feeds done is =
     ap (λ count. done ++ sections_from 1 count (parts text)) (ap (λ n. n + 1) is ∙ sym (length-slice_split is_form_feed text))
-
--- one figure more
-pub figure_on : (number : ℕ) (card : Card) (rest all : List Card) (done : List ℕ) → all ≡ card ∷ rest
-    → (done ++ figure number card) ++ figures_from (number + 1) rest ≡ done ++ figures_from number all
-unfolding figures_from
-figure_on number card rest all done first =
-    rw first (append_assoc done (figure number card) (figures_from (number + 1) rest))

@@ -1,15 +1,14 @@
 -- the outlines of the holes of a card, column by column
-use Rattle.std.proofs.Common.{◌≡◌, ℕ, ◌+◌, ◌-◌, ◌<◌, ◌≤◌, ◌==◌, true, false, bit_and, List, [], ◌∷◌, ◌++◌, map, filter, take, get_or, refl, ap, sym, ◌∙◌, append_assoc}
+use Rattle.std.proofs.Common.{◌≡◌, ℕ, ◌+◌, ◌-◌, ◌<◌, ◌≤◌, ◌==◌, true, false, bit_and, List, [], ◌∷◌, ◌++◌, length, map, filter, take, get_or, refl, ap, sym, ◌∙◌, append_assoc}
 use Rattle.std.specs.List.{flat_map}
 use Rattle.std.proofs.lemmas.List.{flat_map_more, take_all, take_more}
 use Rattle.std.proofs.lemmas.List.Concat.{flat_map-append}
 use Rattle.bcd.specs.Table.{punches_of, row}
 use Rattle.pictures.specs.Cards.{column_outlines, hole_if_punched, holes_from, holes_in, is_punched, outline, outlines}
 use Rattle.pictures.specs.Places.{column_middle, corner, row_middle, rows}
-use Rattle.pictures.specs.declared.holes.TheConstants.{ROWS}
 
 -- a row by its bit and the upper edge of its holes
-abbrev edge_of : ℕ → ℕ × ℕ
+abbrev pub edge_of : ℕ → ℕ × ℕ
 edge_of number = (row number, row_middle number - 62)
 
 -- the outlines of the holes among rows
@@ -25,19 +24,20 @@ among column code (number ∷ numbers) =
       | false ↦ λ hole. rw hole (ap (λ rest. outline (corner (column, number)) ++ rest) (among column code numbers))
     ]) refl
 
--- one row more of the code's table
-pub row_on : (f : ℕ × ℕ → List ℕ) (start out new : List ℕ) (i : ℕ) → i < 12
-    → out ≡ start ++ flat_map f (take i ROWS) → new ≡ out ++ f (get_or ROWS i (0, 0)) → new ≡ start ++ flat_map f (take (i + 1) ROWS)
-row_on f start out new i within before added =
-    added ∙ ap (λ all. all ++ f (get_or ROWS i (0, 0))) before
-    ∙ flat_map_more f start (take i ROWS) (get_or ROWS i (0, 0))
-    ∙ ap (λ numbers. start ++ flat_map f numbers) (sym (take_more ROWS i (0, 0) within))
+-- one row more of a table
+pub row_on : (f : ℕ × ℕ → List ℕ) (table : List (ℕ × ℕ)) (start out new : List ℕ) (i : ℕ) → i < length table
+    → out ≡ start ++ flat_map f (take i table) → new ≡ out ++ f (get_or table i (0, 0)) → new ≡ start ++ flat_map f (take (i + 1) table)
+row_on f table start out new i within before added =
+    added ∙ ap (λ all. all ++ f (get_or table i (0, 0))) before
+    ∙ flat_map_more f start (take i table) (get_or table i (0, 0))
+    ∙ ap (λ places. start ++ flat_map f places) (sym (take_more table i (0, 0) within))
 
--- all rows of the code's table
-pub all_rows : (column code : ℕ) (start out : List ℕ) (i left punches : ℕ) → 12 ≤ i → left ≡ column_middle column → punches ≡ punches_of code
-    → out ≡ start ++ flat_map (hole_if_punched (left - 27) punches) (take i ROWS) → out ≡ start ++ column_outlines column code
-all_rows column code start out i left punches end is_left is_punches before =
-    before ∙ rw (take_all i ROWS end, is_left, is_punches) (ap (λ text. start ++ text) (among column code rows))
+-- all rows of the table of rows
+pub all_rows : (table : List (ℕ × ℕ)) (column code : ℕ) (start out : List ℕ) (i left punches : ℕ) → table ≡ map edge_of rows → length table ≤ i
+    → left ≡ column_middle column → punches ≡ punches_of code
+    → out ≡ start ++ flat_map (hole_if_punched (left - 27) punches) (take i table) → out ≡ start ++ column_outlines column code
+all_rows table column code start out i left punches is_table end is_left is_punches before =
+    before ∙ rw (take_all i table end, is_table, is_left, is_punches) (ap (λ text. start ++ text) (among column code rows))
 
 -- one column more
 pub holes_on : (column code : ℕ) (rest all done : List ℕ) → all ≡ code ∷ rest

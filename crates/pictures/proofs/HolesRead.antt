@@ -42,13 +42,26 @@ none_in_body mark digits ends place small =
     let numbers = none_in_both mark (decimal place.1) (codes "h55v125h-55z") (none_in_decimal mark digits place.1 small.1) (second_of_both (not (32 == mark)) (has_none mark (codes "h55v125h-55z")) ends) in
     none_in_both mark (decimal place.0) (32 ∷ (decimal place.1 ++ codes "h55v125h-55z")) (none_in_decimal mark digits place.0 small.0) (rw (first_of_both (not (32 == mark)) (has_none mark (codes "h55v125h-55z")) ends, numbers) refl)
 
--- outlines hold no tag
-pub none_in_outlines : (places : List (ℕ × ℕ)) → All IsSmall places → has_none 60 (flat_map outline places) ≡ true
-none_in_outlines [] small = refl
-none_in_outlines (place ∷ places) small =
-    none_in_both 60 (outline place) (flat_map outline places)
-    (ap (has_none 60) (outline_is place) ∙ none_in_body 60 no_tag refl place (All-head IsSmall place places small))
-    (none_in_outlines places (All-tail IsSmall place places small))
+-- outlines hold none of some bytes
+none_in_outlines : (mark : ℕ) → ((d : ℕ) → d < 10 → not (48 + d == mark) ≡ true) → has_none mark (77 ∷ 32 ∷ codes "h55v125h-55z") ≡ true
+    → (places : List (ℕ × ℕ)) → All IsSmall places → has_none mark (flat_map outline places) ≡ true
+none_in_outlines mark digits ends [] small = refl
+none_in_outlines mark digits ends (place ∷ places) small =
+    let first = first_of_both (not (77 == mark)) (has_none mark (32 ∷ codes "h55v125h-55z")) ends in
+    let others = second_of_both (not (77 == mark)) (has_none mark (32 ∷ codes "h55v125h-55z")) ends in
+    let in_body = none_in_body mark digits others place (All-head IsSmall place places small) in
+    none_in_both mark (outline place) (flat_map outline places)
+    (ap (has_none mark) (outline_is place) ∙ rw (first, in_body) refl)
+    (none_in_outlines mark digits ends places (All-tail IsSmall place places small))
+
+no_feed : (d : ℕ) → d < 10 → not (48 + d == 10) ≡ true
+no_feed d small = grind (arith, small)
+
+pub no_tag_in_outlines : (places : List (ℕ × ℕ)) → All IsSmall places → has_none 60 (flat_map outline places) ≡ true
+no_tag_in_outlines places small = none_in_outlines 60 no_tag refl places small
+
+pub no_feed_in_outlines : (places : List (ℕ × ℕ)) → All IsSmall places → has_none 10 (flat_map outline places) ≡ true
+no_feed_in_outlines places small = none_in_outlines 10 no_feed refl places small
 
 -- an outline without its first byte is read as its corner, whatever follows
 body_read : (place : ℕ × ℕ) (rest : List ℕ) → IsSmall place → corner_read (body place ++ rest) ≡ place

@@ -9,3 +9,5 @@ pub mod ListingPlaces
 pub mod PictureTexts
 pub mod PiecesRead
 pub mod TextsRead
+pub mod MarksRead
+pub mod DeckLaw

@@ -1,5 +1,5 @@
 -- what stands behind the tags of a card's picture
-use Rattle.std.proofs.Common.{◌≡◌, ℕ, ◌==◌, true, false, List, [], ◌∷◌, ◌++◌, length, map, codes, refl, ap, ◌∙◌, append_assoc, append-nil}
+use Rattle.std.proofs.Common.{◌≡◌, ℕ, ◌==◌, true, false, List, [], ◌∷◌, ◌++◌, length, map, codes, refl, ap, ◌∙◌, append_assoc}
 use Rattle.std.specs.Fmt.{digits}
 use Rattle.bcd.specs.Table.{glyph_of}
 use Rattle.cards.specs.declared.Card.{Card}
@@ -8,7 +8,7 @@ use Rattle.pictures.specs.Cards.{marks, picture, places, print, stock, titled}
 use Rattle.pictures.specs.Escapes.{card_glyphs}
 use Rattle.pictures.specs.Reading.{behind_tags, hole_tag, print_tag}
 use Rattle.pictures.specs.declared.styles.TheConstants.{CARD_STYLE}
-use Rattle.pictures.proofs.PiecesRead.{IsTagged, behind_both, has_none, none_in_both, one_piece, tag_shown}
+use Rattle.pictures.proofs.PiecesRead.{IsTagged, behind_both, between, has_none, in_neither, none_in_both, one_piece, tag_shown}
 use Rattle.pictures.proofs.TextsRead.{none_in_escaped}
 
 -- the two tags without their first byte
@@ -35,7 +35,7 @@ none_in_print_tag : has_none 60 print_tag ≡ true
 unfolding digits places
 none_in_print_tag = refl
 
-tagged_marks : (card : Card) → IsTagged (marks card)
+pub tagged_marks : (card : Card) → IsTagged (marks card)
 unfolding marks
 tagged_marks card =
     (elim (length (filled card.0) == 0) as (λ t. (length (filled card.0) == 0) ≡ t → IsTagged (marks card)) [
@@ -62,13 +62,11 @@ behind_marks : (byte : ℕ) (tag : List ℕ) (card : Card) → behind_tags (byte
     → behind_tags (byte ∷ tag) (picture card) ≡ behind_tags (byte ∷ tag) (marks card)
 unfolding picture
 behind_marks byte tag card no_opening no_title no_style no_stock no_end =
-    let shown = behind_tags (byte ∷ tag) in
-    let front : shown (titled card) ≡ [] =
-    ap (λ text. shown (text ++ stock)) (regroup (title card) (codes "</title><style>") CARD_STYLE.now (codes "</style>"))
-    ∙ behind_both byte tag (title card ++ style) stock tagged_stock
-    ∙ rw (behind_both byte tag (title card) style refl, no_title, no_style, no_stock) refl in
-    behind_both byte tag ((opening ++ titled card) ++ marks card) (codes "</svg>\n") refl
-    ∙ rw (behind_both byte tag (opening ++ titled card) (marks card) (tagged_marks card), behind_both byte tag opening (titled card) refl, no_opening, front, no_end) (append-nil (shown (marks card)))
+    let front : behind_tags (byte ∷ tag) (titled card) ≡ [] =
+    ap (λ text. behind_tags (byte ∷ tag) (text ++ stock)) (regroup (title card) (codes "</title><style>") CARD_STYLE.now (codes "</style>"))
+    ∙ in_neither byte tag (title card ++ style) stock tagged_stock (in_neither byte tag (title card) style refl no_title no_style) no_stock in
+    between byte tag (opening ++ titled card) (marks card) (codes "</svg>\n") (tagged_marks card) refl
+    (in_neither byte tag opening (titled card) refl no_opening front) no_end
 
 title_alone : (card : Card) → has_none 60 (codes "title>" ++ card_glyphs card) ≡ true
 title_alone card = none_in_escaped (map glyph_of (filled card.0))

@@ -86,6 +86,16 @@ behind_both byte tag a (x ∷ b) tagged =
     ∙ ap (map (drop (length (byte ∷ tag)))) (filter-append test front back)
     ∙ map-append (drop (length (byte ∷ tag))) (filter test front) (filter test back))
 
+-- a tag that is in neither of two texts, and one that is only between two
+pub in_neither : (byte : ℕ) (tag a b : List ℕ) → IsTagged b → behind_tags (byte ∷ tag) a ≡ [] → behind_tags (byte ∷ tag) b ≡ []
+    → behind_tags (byte ∷ tag) (a ++ b) ≡ []
+in_neither byte tag a b tagged front back = rw (behind_both byte tag a b tagged, front, back) refl
+
+pub between : (byte : ℕ) (tag a m b : List ℕ) → IsTagged m → IsTagged b → behind_tags (byte ∷ tag) a ≡ [] → behind_tags (byte ∷ tag) b ≡ []
+    → behind_tags (byte ∷ tag) ((a ++ m) ++ b) ≡ behind_tags (byte ∷ tag) m
+between byte tag a m b tagged ended front back =
+    rw (behind_both byte tag (a ++ m) b ended, behind_both byte tag a m tagged, front, back) (append-nil (behind_tags (byte ∷ tag) m))
+
 -- the first place of a mark
 pub first_place : (mark : ℕ) (a b : List ℕ) → has_none mark a ≡ true → position_or_len (λ byte. byte == mark) (a ++ mark ∷ b) ≡ length a
 first_place mark [] b none = rw (equal_to_itself mark) refl

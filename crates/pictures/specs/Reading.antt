@@ -1,11 +1,12 @@
 -- how pictures and pages are read back: the texts in them, and the holes
-use Rattle.std.specs.Prelude.{ℕ, ◌≢◌, ◌≤◌, nat_eq, ◌==◌, ◌-◌, bit_and, if◌then◌else◌, List, [], ◌∷◌, ◌++◌, length, map, filter, drop, slice_index, codes}
+use Rattle.std.specs.Prelude.{ℕ, ◌≡◌, ◌≢◌, ◌≤◌, ◌↔◌, nat_eq, ◌==◌, ◌-◌, bit_and, if◌then◌else◌, List, [], ◌∷◌, ◌++◌, length, map, filter, drop, slice_index, codes}
 use Rattle.std.specs.List.{Contains, flat_map, slice_split, starts_with, before_first, after_first, join_with_byte}
 use Rattle.std.specs.Str.Parse.{digits_value}
-use Rattle.bcd.specs.Table.{punches_of, row}
+use Rattle.bcd.specs.Table.{glyph_of, punches_of, row}
 use Rattle.cards.specs.declared.Card.{Card}
+use Rattle.card_forms.specs.Signs.{filled}
 use Rattle.pictures.specs.Cards.{places}
-use Rattle.pictures.specs.Places.{rows}
+use Rattle.pictures.specs.Places.{corner, rows}
 
 -- the pieces of a text between the bytes that are this mark
 abbrev pub pieces : ℕ → List ℕ → List (List ℕ)
@@ -80,6 +81,24 @@ pub record IsPunched (card : Card) (column number : ℕ) : Type 0 where
   pub is_row : Contains rows number
   pub punched : bit_and (punches_of (slice_index card.0 (column - 1))) (row number) ≢ 0
 
--- a picture has a hole whose upper left corner is this one
+-- an image has a hole whose upper left corner is this one
 abbrev pub HasHole : List ℕ → ℕ × ℕ → Type 0
 HasHole image place = Contains (corners_read image) place
+
+-- the holes of an image are the punches of a card: the corners are those of the columns and rows in
+-- which the card is punched, and no others
+abbrev pub HasThePunches : List ℕ → Card → Type 0
+HasThePunches image card = (place : ℕ × ℕ) → HasHole image place
+    ↔ ((column : ℕ) × (number : ℕ) × (place ≡ corner (column, number)) × IsPunched card column number)
+
+-- the print of an image is the glyphs of a card up to the last column that is not blank
+abbrev pub HasThePrint : List ℕ → Card → Type 0
+HasThePrint image card = print_read image ≡ map glyph_of (filled card.0)
+
+-- an image shows a card
+abbrev pub Shows : List ℕ → Card → Type 0
+Shows image card = HasThePunches image card × HasThePrint image card
+
+-- the figures of a page: its lines that begin with the tag of a figure
+unfoldable pub figures_read : List ℕ → List (List ℕ)
+figures_read page = filter (λ line. starts_with nat_eq line (codes "<figure>")) (pieces 10 page)

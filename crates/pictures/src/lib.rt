@@ -7,8 +7,9 @@
 //! with a byte that no page shows, or with a line of over 132 columns, is refused with the first
 //! such place (`specs/Faults.antt`). The laws read the texts back (`specs/Reading.antt`): the holes
 //! in a picture are the punches of its card ([`holes_are_the_punches`]), its print is the card's
-//! glyphs ([`print_is_read`]), no two cards have one picture ([`pictures_differ`]), and the forms on
-//! the pages are the listing ([`listing_is_read`]).
+//! glyphs ([`print_is_read`]), no two cards have one picture ([`pictures_differ`]), the figures on
+//! the page of a deck show its cards ([`figures_are_the_cards`]), and the forms on the pages are the
+//! listing ([`listing_is_read`]).
 #![tactic(auto)]
 
 mod card_pictures;
@@ -28,6 +29,8 @@ pub use deck_pages::{deck_page, push_card_figure, push_stock_definition};
 pub use escapes::{push_decimal, push_escaped};
 pub use faults::{ListingError, ListingFault};
 pub use forms::push_listing_forms;
-pub use laws::{holes_are_the_punches, listing_is_read, pictures_differ, print_is_read};
+pub use laws::{
+    figures_are_the_cards, holes_are_the_punches, listing_is_read, pictures_differ, print_is_read,
+};
 pub use listings::listing_pages;
 pub use styles::{CARD_STYLE, FIGURE_STYLE, FORM_STYLE};

@@ -1,7 +1,6 @@
 use Rattle.std.proofs.Common.{◌+◌, ◌∙◌, ◌++◌, ap, drop, refl}
 use Rattle.pictures.specs.Decks.{deck_head, figures_from}
-use Rattle.pictures.proofs.CountedPieces.{all_done, left_from, onto}
-use Rattle.pictures.proofs.FormParts.{figure_on}
+use Rattle.pictures.proofs.CountedPieces.{all_done, figure_on, left_from, onto}
 use Rattle.pictures.proofs.deck_pages.deck_page.Goals as goal
 
 pub loop-index-preserved : goal.loop-index-preserved

@@ -1,5 +1,5 @@
-use Rattle.pictures.proofs.CardLaw.{print_back}
+use Rattle.pictures.proofs.CardLaw.{picture_print}
 use Rattle.pictures.proofs.laws.print_is_read.Goals as goal
 
 pub returns : goal.returns
-returns c = print_back
+returns c = picture_print
