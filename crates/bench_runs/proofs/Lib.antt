@@ -3,3 +3,4 @@ mod EndLaw
 mod LineLemmas
 mod ShownLemmas
 mod RowLemmas
+mod CountLemmas

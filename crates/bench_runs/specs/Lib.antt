@@ -7,3 +7,4 @@ pub mod Attempts
 pub mod Traces
 pub mod Rows
 pub mod Dumps
+pub mod Profiles

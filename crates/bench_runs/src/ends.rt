@@ -25,7 +25,7 @@ fn stands_at<C: Core>(parts: &Parts<C>, stop: Option<u16>) -> bool
 }
 
 /// Whether a machine goes on.
-fn goes_on<C: Core>(parts: &Parts<C>, stop: Option<u16>) -> bool
+pub(crate) fn goes_on<C: Core>(parts: &Parts<C>, stop: Option<u16>) -> bool
     ensures { result ≡ goes_on stop parts.now }
 {
     parts.standing.is_running() && !stands_at(parts, stop)

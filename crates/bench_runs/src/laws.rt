@@ -1,8 +1,11 @@
-//! The laws of the end of a run.
+//! The laws of the end of a run, and of the counts of its attempts.
 
-ghost use Rattle.std.specs.Prelude.{◌≡◌, ℕ, Option, None};
+ghost use Rattle.std.specs.Prelude.{◌≡◌, ◌≤◌, ℕ, Option, None};
+ghost use Rattle.core_store.specs.Storage.{largest_size};
+ghost use Rattle.machine.specs.Ranges.{IsInRange};
 ghost use Rattle.machine.specs.Run.{State, after, attempts};
 ghost use Rattle.bench_runs.specs.Ends.{IsEnd, end_of};
+ghost use Rattle.bench_runs.specs.Profiles.{began_at, sum_below};
 
 /// The law of the end: a run ends after its last attempt, or at the first stop that it comes to;
 /// and there is no other number of attempts after which it ends.
@@ -22,4 +25,12 @@ pub fn runs_without_stop_are_whole()
         end_of m limit None ≡ attempts m limit }
     ensures machine { (m : State) (limit : ℕ) →
         after m (end_of m limit None) ≡ after m limit }
+{}
+
+/// The law of the profile: each attempt of a machine in range is counted at one address, so the
+/// counts at all addresses add up to the number of attempts.
+#[tactic(auto, using(crate::proofs::CountLemmas::adds_up))]
+pub fn counts_add_up()
+    ensures { (m : State) (attempts addresses : ℕ) → IsInRange m → largest_size ≤ addresses →
+        sum_below (began_at m attempts) addresses ≡ attempts }
 {}

@@ -12,10 +12,12 @@
 
 mod attempts;
 mod causes;
+mod counting;
 mod deeds;
 mod dumping;
 mod ends;
 mod laws;
+mod profiling;
 mod reports;
 mod rows;
 mod running;
@@ -25,6 +27,7 @@ mod tracing;
 pub use causes::Cause;
 pub use dumping::{DumpOptions, dump};
 pub use ends::MOST_ATTEMPTS;
-pub use laws::{runs_end_at_the_first_stop, runs_without_stop_are_whole};
+pub use laws::{counts_add_up, runs_end_at_the_first_stop, runs_without_stop_are_whole};
+pub use profiling::profile;
 pub use running::machine_after;
 pub use tracing::{TraceOptions, trace};

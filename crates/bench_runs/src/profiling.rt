@@ -1,0 +1,149 @@
+//! The profile of a run.
+
+ghost use Rattle.std.specs.Prelude.{◌≡◌, ◌<◌, ◌≤◌, ◌++◌, length, string_bytes, None, IfOk, OnOk};
+ghost use Rattle.core_store.specs.Storage.{largest_size};
+ghost use Rattle.machine.specs.Run.{State, loaded};
+ghost use Rattle.units.specs.declared.profiles.Profile.TheVariants.{Selecting};
+ghost use Rattle.bench_runs.specs.Ends.{most_attempts};
+ghost use Rattle.bench_runs.specs.Profiles.{IsCounted, attempts_line, began_at, first_at, place_line, place_shown, places_shown, profiled, right_text, tenths_of_percent, tenths_words};
+ghost use Rattle.bench_runs.specs.Shown.{left};
+
+use crate::counting::{Begun, count_run, none_begun};
+use crate::ends::load;
+use crate::reports::push_report;
+use crate::shown::push_padding;
+use autocoder::{push_fillers, push_line, push_number};
+use cards::Deck;
+use core_store::{LARGEST_SIZE, Size};
+use std::alloc::{AllocError, Global};
+use units::Switches;
+
+/// A part of all in tenths of a percent, rounded down.
+fn tenths_of_percent(part: u32, all: u32) -> u64
+    requires { 0 < all }
+    ensures { result ≡ tenths_of_percent part all }
+{
+    u64::from(part) * 1000 / u64::from(all)
+}
+
+/// A number of tenths with its last digit behind a point.
+fn tenths_words(alloc: Global, tenths: u64) -> Result<String, AllocError>
+    ensures { IfOk result (λ words. string_bytes words ≡ tenths_words tenths) }
+{
+    let whole = tenths / 10;
+    let tenth = tenths % 10;
+    let words = format!(in alloc; "{whole}.{tenth}")?;
+    Ok(words)
+}
+
+/// Adds a text at the right of a field of this width.
+fn push_right(line: &mut Vec<u8>, width: usize, text: &str) -> Result<(), AllocError>
+    ensures { OnOk result (line.new.items ≡ line.old.items ++ right_text width text.now) }
+{
+    push_fillers(line, b' ', width.saturating_sub(text.len()))?;
+    line.extend_from_slice(text.as_bytes())
+}
+
+/// Adds a text at the left of a field of this width.
+fn push_left(line: &mut Vec<u8>, width: usize, text: &[u8]) -> Result<(), AllocError>
+    ensures { OnOk result (line.new.items ≡ line.old.items ++ left width text.now) }
+{
+    line.extend_from_slice(text)?;
+    push_padding(line, width, text.len())
+}
+
+/// Adds the line of an address at which attempts began.
+fn push_place(
+    alloc: Global,
+    text: &mut Vec<u8>,
+    address: u16,
+    place: &Begun,
+    attempts: u32,
+) -> Result<(), AllocError>
+    requires { 0 < attempts }
+    ensures { OnOk result (text.new.items ≡ text.old.items
+        ++ place_line address place.now.characters.items place.now.count attempts) }
+{
+    let mut line = Vec::new(alloc);
+    push_number(&mut line, b'0', 5, u64::from(address))?;
+    line.push(b' ')?;
+    push_left(&mut line, 9, &place.characters)?;
+    push_number(&mut line, b' ', 8, u64::from(place.count))?;
+    line.push(b' ')?;
+    let share = tenths_words(alloc, tenths_of_percent(place.count, attempts))?;
+    push_right(&mut line, 5, share.as_str())?;
+    push_line(text, &line)
+}
+
+/// Adds what is shown of an address.
+#[tactic(auto, unfolding(crate::specs::Profiles::place_shown))]
+fn push_shown(
+    alloc: Global,
+    text: &mut Vec<u8>,
+    address: u16,
+    place: &Begun,
+    attempts: u32,
+) -> Result<(), AllocError>
+    requires { place.now.count ≤ attempts }
+    ensures { OnOk result ((m : State) → place.now.count ≡ began_at m attempts address →
+        place.now.characters.items ≡ first_at m attempts address →
+        text.new.items ≡ text.old.items ++ place_shown m attempts address) }
+{
+    if place.count == 0 {
+        return Ok(());
+    }
+    push_place(alloc, text, address, place, attempts)
+}
+
+/// Adds what is shown of all addresses.
+fn push_places(
+    alloc: Global,
+    text: &mut Vec<u8>,
+    places: &[Begun],
+    attempts: u32,
+) -> Result<(), AllocError>
+    requires { (m : State) × IsCounted m attempts places.now }
+    ensures { OnOk result ((m : State) → IsCounted m attempts places.now →
+        text.new.items ≡ text.old.items ++ places_shown m attempts largest_size) }
+{
+    for address in 0..LARGEST_SIZE {
+        push_shown(alloc, text, address, &places[address as usize], attempts)?;
+    }
+    Ok(())
+}
+
+/// Adds the line of the number of attempts.
+fn push_attempts(alloc: Global, text: &mut Vec<u8>, attempts: u32) -> Result<(), AllocError>
+    ensures { OnOk result (text.new.items ≡ text.old.items ++ attempts_line attempts) }
+{
+    let words = format!(in alloc; "attempts {attempts}\n")?;
+    text.extend_from_slice(words.as_bytes())
+}
+
+/// Returns the profile of a deck's run, on a machine with stacker selection: a line for each
+/// address at which attempts began, the number of attempts, and the report of the machine at the end
+/// of the run.
+///
+/// A line has the address, the characters of the instruction as it was the first time, how many
+/// attempts began there, and what part of all they are, in tenths of a percent. Fails only if there
+/// is no memory.
+#[tactic(auto, unfolding(crate::specs::Profiles::profiled))]
+pub fn profile(
+    alloc: Global,
+    deck: &Deck,
+    size: Size,
+    switches: Switches,
+) -> Result<Vec<u8>, AllocError>
+    requires { 0 < length deck.now }
+    ensures { IfOk result (λ text.
+        text.items ≡ profiled (loaded deck.now size switches Selecting)) }
+{
+    let mut machine = load(alloc, deck, size, switches)?;
+    let mut places = none_begun(alloc)?;
+    let attempts = count_run(alloc, &mut machine, &mut places)?;
+    let mut text = Vec::new(alloc);
+    push_places(alloc, &mut text, &places, attempts)?;
+    push_attempts(alloc, &mut text, attempts)?;
+    push_report(alloc, &mut text, machine.parts())?;
+    Ok(text)
+}
