@@ -1,4 +1,5 @@
--- where the columns and the rows of a card are, in thousandths of an inch from its upper left corner
+-- where the columns and the rows of a card are, in thousandths of an inch from its upper left
+-- corner
 use Rattle.std.specs.Prelude.{ℕ, ◌+◌, ◌-◌, ◌*◌, ◌==◌, if◌then◌else◌, List, [], ◌∷◌}
 
 -- the middle of a column

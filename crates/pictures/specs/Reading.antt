@@ -89,7 +89,8 @@ HasHole image place = Contains (corners_read image) place
 -- which the card is punched, and no others
 abbrev pub HasThePunches : List ℕ → Card → Type 0
 HasThePunches image card = (place : ℕ × ℕ) → HasHole image place
-    ↔ ((column : ℕ) × (number : ℕ) × (place ≡ corner (column, number)) × IsPunched card column number)
+    ↔ ((column : ℕ) × (number : ℕ) × (place ≡ corner (column, number))
+    × IsPunched card column number)
 
 -- the print of an image is the glyphs of a card up to the last column that is not blank
 abbrev pub HasThePrint : List ℕ → Card → Type 0
