@@ -29,6 +29,7 @@ counted_none m places size none = record {
   size = size;
   counts = λ address other below. (All-get_or (λ begun. (begun.count ≡ 0) × (begun.characters.items ≡ [])) places address other (rw size below) none).0;
   firsts = λ address other below. (All-get_or (λ begun. (begun.count ≡ 0) × (begun.characters.items ≡ [])) places address other (rw size below) none).1;
+  beyond = λ address above. refl;
 }
 
 module _ (m : State) (count address : ℕ) where
@@ -64,7 +65,7 @@ module _ (m : State) (count address : ℕ) where
       none false = refl
 
 -- one attempt more is counted
-module _ (m now : State) (count : ℕ) (old new : List Begun) (counted : IsCounted m count old) (reached : now ≡ after m count) (next : CountsNext now old new) where
+module _ (m now : State) (count : ℕ) (old new : List Begun) (counted : IsCounted m count old) (reached : now ≡ after m count) (next : CountsNext now old new) (inside : now.works.registers.i < largest_size) where
   at_register : (after m count).works.registers.i ≡ now.works.registers.i
   at_register = ap (λ (x : State). x.works.registers.i) (sym reached)
 
@@ -98,6 +99,7 @@ module _ (m now : State) (count : ℕ) (old new : List Begun) (counted : IsCount
         size = next.size ∙ counted.size;
         counts = λ address other below. counts_more address other below (cases_eq address now.works.registers.i);
         firsts = λ address other below. firsts_more address other below (cases_eq address now.works.registers.i);
+        beyond = λ address above. elsewhere_count m count address (λ same. absurd (omega (arith, inside, above, at_register, same))) ∙ counted.beyond address above;
       })
 
 -- ---- the sum of the counts

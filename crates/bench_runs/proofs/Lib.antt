@@ -4,3 +4,4 @@ mod LineLemmas
 mod ShownLemmas
 mod RowLemmas
 mod CountLemmas
+mod CardCountLemmas

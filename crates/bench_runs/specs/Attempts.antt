@@ -11,6 +11,7 @@ use Rattle.machine.specs.declared.standings.Standing.{Standing}
 use Rattle.machine.specs.declared.standings.Standing.TheVariants.{Running, Halted, Checked}
 use Rattle.bench_runs.specs.Causes.{cause_shown}
 use Rattle.bench_runs.specs.Deeds.{deeds_since, made_by}
+use Rattle.bench_runs.specs.Names.{Named, name_field}
 use Rattle.bench_runs.specs.Shown.{characters_next, left}
 use Rattle.bench_runs.specs.declared.causes.Cause.{Cause}
 use Rattle.bench_runs.specs.declared.deeds.Made.{Made}
@@ -54,12 +55,13 @@ outcome_by cause before m (Checked check) = check_shown cause check
 unfoldable pub outcome : Option Cause → Made → State → List ℕ
 outcome cause before m = outcome_by cause before m m.standing
 
--- the attempt with this number, where it begins, and the characters of its instruction
-unfoldable pub beginning : ℕ → State → List ℕ
-beginning number m = right blank 7 number ++ blank ∷ [] ++ position_field m.works.registers.i
-    ++ blank ∷ [] ++ left 9 (characters_next m)
+-- the attempt with this number, where it begins, also by a name where there are names, and the
+-- characters of its instruction
+unfoldable pub beginning : Option Named → ℕ → State → List ℕ
+beginning names number m = right blank 7 number ++ blank ∷ [] ++ position_field m.works.registers.i
+    ++ blank ∷ [] ++ name_field names m.works.registers.i ++ left 9 (characters_next m)
 
 -- the line of the attempt with this number that a machine makes next
-unfoldable pub attempt_line : Option Cause → ℕ → State → List ℕ
-attempt_line cause number m =
-    line_text (beginning number m ++ outcome cause (made_by m) (step m))
+unfoldable pub attempt_line : Option Named → Option Cause → ℕ → State → List ℕ
+attempt_line names cause number m =
+    line_text (beginning names number m ++ outcome cause (made_by m) (step m))

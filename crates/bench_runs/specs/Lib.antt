@@ -2,9 +2,11 @@ pub mod Reports
 pub mod Ends
 pub mod Causes
 pub mod Shown
+pub mod Names
 pub mod Deeds
 pub mod Attempts
 pub mod Traces
 pub mod Rows
 pub mod Dumps
+pub mod CountedCards
 pub mod Profiles

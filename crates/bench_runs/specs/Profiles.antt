@@ -1,8 +1,10 @@
 -- the profile of a run
-use Rattle.std.specs.Prelude.{ℕ, zero, suc, ◌+◌, ◌-◌, ◌*◌, ◌/◌, ◌%◌, ◌<◌, ◌≡◌, ◌≢◌, ◌==◌, ◌&&◌, nat_lt, if◌then◌else◌, List, [], ◌∷◌, ◌++◌, length, replicate, codes, decimal, slice_index_or, None}
+use Rattle.std.specs.Prelude.{ℕ, zero, suc, ◌+◌, ◌-◌, ◌*◌, ◌/◌, ◌%◌, ◌<◌, ◌≤◌, ◌≡◌, ◌≢◌, ◌==◌, ◌&&◌, nat_lt, if◌then◌else◌, List, [], ◌∷◌, ◌++◌, length, replicate, codes, decimal, slice_index_or, Option, Some, None}
 use Rattle.core_store.specs.Storage.{largest_size}
 use Rattle.autocoder.specs.Listing.{blank, line_text, position_field, right}
 use Rattle.machine.specs.Run.{State, after}
+use Rattle.bench_runs.specs.CountedCards.{cards_counted}
+use Rattle.bench_runs.specs.Names.{Named}
 use Rattle.bench_runs.specs.Ends.{end_of, ended, most_attempts}
 use Rattle.bench_runs.specs.Reports.{report_line}
 use Rattle.bench_runs.specs.Shown.{characters_next, left}
@@ -22,13 +24,14 @@ first_at m (suc count) address =
     then characters_next (after m count) else first_at m count address
 
 -- at each address these are how many of so many attempts began there, and the characters of the
--- first of them
+-- first of them; none began at a greater number
 pub record IsCounted (m : State) (attempts : ℕ) (places : List Begun) : Type 0 where
   pub size : length places ≡ largest_size
   pub counts : (address : ℕ) (other : Begun) → address < largest_size →
       (slice_index_or places address other).count ≡ began_at m attempts address
   pub firsts : (address : ℕ) (other : Begun) → address < largest_size →
       (slice_index_or places address other).characters.items ≡ first_at m attempts address
+  pub beyond : (address : ℕ) → largest_size ≤ address → began_at m attempts address ≡ 0
 
 -- the attempt that a machine makes next was counted where it begins, and nothing elsewhere
 pub record CountsNext (m : State) (old new : List Begun) : Type 0 where
@@ -81,8 +84,15 @@ places_shown m attempts (suc address) =
 abbrev pub attempts_line : ℕ → List ℕ
 attempts_line attempts = codes "attempts " ++ decimal attempts ++ 10 ∷ []
 
--- the profile of a machine's run: the addresses at which attempts began, the number of attempts,
--- and the report of the machine at its end
-unfoldable pub profiled : State → List ℕ
-profiled m = places_shown m (end_of m most_attempts None) largest_size
+-- how often each place was attempted: the lines of the addresses at which attempts began, or where
+-- there is a source those of its cards
+unfoldable pub counts_shown : Option Named → State → ℕ → List ℕ
+counts_shown None m attempts = places_shown m attempts largest_size
+counts_shown (Some names) m attempts =
+    cards_counted (began_at m attempts) 1 names.cards names.slots
+
+-- the profile of a machine's run: how often each place was attempted, the number of attempts, and
+-- the report of the machine at its end
+unfoldable pub profiled : Option Named → State → List ℕ
+profiled names m = counts_shown names m (end_of m most_attempts None)
     ++ attempts_line (end_of m most_attempts None) ++ report_line (ended m None)

@@ -1,12 +1,13 @@
 //! The line of an attempt.
 
-ghost use Rattle.std.specs.Prelude.{◌≡◌, ◌++◌, IfOk, OnOk};
+ghost use Rattle.std.specs.Prelude.{◌≡◌, ◌++◌, option_copied, IfOk, OnOk};
 ghost use Rattle.machine.specs.Run.{step};
 ghost use Rattle.bench_runs.specs.Attempts.{attempt_line, beginning, channel_sign, check_shown, compared_sign, effect_shown, outcome, overflow_sign, registers_shown};
 ghost use Rattle.bench_runs.specs.Shown.{characters_next, left};
 
 use crate::causes::{Cause, push_cause};
 use crate::deeds::{Made, deeds_since, made_by};
+use crate::names::{Names, push_name_field};
 use crate::shown::{push_characters, push_padding};
 use autocoder::{push_line, push_number};
 use core_store::{Check, Compared, Core, Registers};
@@ -116,14 +117,21 @@ fn push_next<C: Core>(line: &mut Vec<u8>, parts: &Parts<C>) -> Result<(), AllocE
 
 /// The beginning of the line of an attempt.
 #[tactic(auto, unfolding(crate::specs::Attempts::beginning))]
-fn beginning<C: Core>(alloc: Global, number: u32, parts: &Parts<C>) -> Result<Vec<u8>, AllocError>
-    ensures { IfOk result (λ line. line.items ≡ beginning number parts.now) }
+fn beginning<C: Core>(
+    alloc: Global,
+    names: Option<&Names>,
+    number: u32,
+    parts: &Parts<C>,
+) -> Result<Vec<u8>, AllocError>
+    ensures { IfOk result (λ line.
+        line.items ≡ beginning (option_copied names.entry) number parts.now) }
 {
     let mut line = Vec::new(alloc);
     push_number(&mut line, b' ', 7, u64::from(number))?;
     line.push(b' ')?;
     push_number(&mut line, b'0', 5, u64::from(parts.registers.i))?;
     line.push(b' ')?;
+    push_name_field(alloc, &mut line, names, parts.registers.i)?;
     push_next(&mut line, parts)?;
     Ok(line)
 }
@@ -134,14 +142,16 @@ pub(crate) fn push_attempt<C: Core>(
     alloc: Global,
     text: &mut Vec<u8>,
     machine: &mut Machine<C>,
+    names: Option<&Names>,
     cause: Option<Cause>,
     number: u32,
 ) -> Result<(), AllocError>
     ensures machine { OnOk result (machine.new ≡ step machine.old) }
     ensures line { OnOk result (text.new.items
-        ≡ text.old.items ++ attempt_line cause number machine.old) }
+        ≡ text.old.items
+        ++ attempt_line (option_copied names.entry) cause number machine.old) }
 {
-    let mut line = beginning(alloc, number, machine.parts())?;
+    let mut line = beginning(alloc, names, number, machine.parts())?;
     let before = made_by(machine.parts());
     machine.step(&mut Meter::new())?;
     push_outcome(alloc, &mut line, cause, before, machine.parts())?;

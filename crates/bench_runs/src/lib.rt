@@ -12,11 +12,13 @@
 
 mod attempts;
 mod causes;
+mod counted_cards;
 mod counting;
 mod deeds;
 mod dumping;
 mod ends;
 mod laws;
+mod names;
 mod profiling;
 mod reports;
 mod rows;
@@ -28,6 +30,7 @@ pub use causes::Cause;
 pub use dumping::{DumpOptions, dump};
 pub use ends::MOST_ATTEMPTS;
 pub use laws::{counts_add_up, runs_end_at_the_first_stop, runs_without_stop_are_whole};
+pub use names::Names;
 pub use profiling::profile;
 pub use running::machine_after;
 pub use tracing::{TraceOptions, trace};

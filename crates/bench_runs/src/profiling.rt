@@ -1,15 +1,17 @@
 //! The profile of a run.
 
-ghost use Rattle.std.specs.Prelude.{◌≡◌, ◌<◌, ◌≤◌, ◌++◌, length, string_bytes, None, IfOk, OnOk};
+ghost use Rattle.std.specs.Prelude.{◌≡◌, ◌<◌, ◌≤◌, ◌++◌, length, string_bytes, option_copied, None, IfOk, OnOk};
 ghost use Rattle.core_store.specs.Storage.{largest_size};
 ghost use Rattle.machine.specs.Run.{State, loaded};
 ghost use Rattle.units.specs.declared.profiles.Profile.TheVariants.{Selecting};
 ghost use Rattle.bench_runs.specs.Ends.{most_attempts};
-ghost use Rattle.bench_runs.specs.Profiles.{IsCounted, attempts_line, began_at, first_at, place_line, place_shown, places_shown, profiled, right_text, tenths_of_percent, tenths_words};
+ghost use Rattle.bench_runs.specs.Profiles.{IsCounted, attempts_line, began_at, counts_shown, first_at, place_line, place_shown, places_shown, profiled, right_text, tenths_of_percent, tenths_words};
 ghost use Rattle.bench_runs.specs.Shown.{left};
 
+use crate::counted_cards::push_source;
 use crate::counting::{Begun, count_run, none_begun};
 use crate::ends::load;
+use crate::names::Names;
 use crate::reports::push_report;
 use crate::shown::push_padding;
 use autocoder::{push_fillers, push_line, push_number};
@@ -112,6 +114,26 @@ fn push_places(
     Ok(())
 }
 
+/// Adds how often each place was attempted.
+#[tactic(auto, unfolding(crate::specs::Profiles::counts_shown))]
+fn push_counts(
+    alloc: Global,
+    text: &mut Vec<u8>,
+    names: Option<&Names>,
+    places: &[Begun],
+    attempts: u32,
+) -> Result<(), AllocError>
+    requires { (m : State) × IsCounted m attempts places.now }
+    ensures { OnOk result ((m : State) → IsCounted m attempts places.now →
+        text.new.items
+        ≡ text.old.items ++ counts_shown (option_copied names.entry) m attempts) }
+{
+    match names {
+        None => push_places(alloc, text, places, attempts),
+        Some(names) => push_source(text, places, names),
+    }
+}
+
 /// Adds the line of the number of attempts.
 fn push_attempts(alloc: Global, text: &mut Vec<u8>, attempts: u32) -> Result<(), AllocError>
     ensures { OnOk result (text.new.items ≡ text.old.items ++ attempts_line attempts) }
@@ -125,24 +147,27 @@ fn push_attempts(alloc: Global, text: &mut Vec<u8>, attempts: u32) -> Result<(),
 /// of the run.
 ///
 /// A line has the address, the characters of the instruction as it was the first time, how many
-/// attempts began there, and what part of all they are, in tenths of a percent. Fails only if there
-/// is no memory.
+/// attempts began there, and what part of all they are, in tenths of a percent. If the names of a
+/// source are given, the lines are those of its cards instead, each with how many attempts began at
+/// its place, if it is an instruction. Fails only if there is no memory.
 #[tactic(auto, unfolding(crate::specs::Profiles::profiled))]
 pub fn profile(
     alloc: Global,
     deck: &Deck,
     size: Size,
     switches: Switches,
+    names: Option<&Names>,
 ) -> Result<Vec<u8>, AllocError>
     requires { 0 < length deck.now }
     ensures { IfOk result (λ text.
-        text.items ≡ profiled (loaded deck.now size switches Selecting)) }
+        text.items
+        ≡ profiled (option_copied names.entry) (loaded deck.now size switches Selecting)) }
 {
     let mut machine = load(alloc, deck, size, switches)?;
     let mut places = none_begun(alloc)?;
     let attempts = count_run(alloc, &mut machine, &mut places)?;
     let mut text = Vec::new(alloc);
-    push_places(alloc, &mut text, &places, attempts)?;
+    push_counts(alloc, &mut text, names, &places, attempts)?;
     push_attempts(alloc, &mut text, attempts)?;
     push_report(alloc, &mut text, machine.parts())?;
     Ok(text)

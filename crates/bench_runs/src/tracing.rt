@@ -1,6 +1,6 @@
 //! The trace of a run.
 
-ghost use Rattle.std.specs.Prelude.{◌≡◌, ◌+◌, ◌-◌, ◌<◌, ◌≤◌, ◌++◌, ◌&&◌, ◌||◌, ℕ, List, [], nat_le, nat_lt, false, length, None, if◌then◌else◌, IfOk, OnOk};
+ghost use Rattle.std.specs.Prelude.{◌≡◌, ◌+◌, ◌-◌, ◌<◌, ◌≤◌, ◌++◌, ◌&&◌, ◌||◌, ℕ, List, [], nat_le, nat_lt, false, length, None, if◌then◌else◌, option_copied, IfOk, OnOk};
 ghost use Rattle.machine.specs.Run.{after, is_checked, loaded, step};
 ghost use Rattle.units.specs.declared.profiles.Profile.TheVariants.{Selecting};
 ghost use Rattle.bench_runs.specs.Attempts.{attempt_line};
@@ -11,6 +11,7 @@ ghost use Rattle.bench_runs.specs.Traces.{IsTrace, is_shown, lines_shown};
 use crate::attempts::push_attempt;
 use crate::causes::Cause;
 use crate::ends::{MOST_ATTEMPTS, advance, load, run_to_end};
+use crate::names::Names;
 use crate::reports::push_report;
 use cards::Deck;
 use core_store::{Core, Size};
@@ -124,6 +125,7 @@ fn push_if_shown<C: Core>(
     alloc: Global,
     text: &mut Vec<u8>,
     machine: &mut Machine<C>,
+    names: Option<&Names>,
     sheet: Sheet,
     number: u32,
 ) -> Result<(), AllocError>
@@ -131,10 +133,10 @@ fn push_if_shown<C: Core>(
     ensures machine { OnOk result (machine.new ≡ step machine.old) }
     ensures line { OnOk result (text.new.items ≡ text.old.items
         ++ (if is_shown sheet.options sheet.ending number
-        then attempt_line sheet.cause number machine.old else [])) }
+        then attempt_line (option_copied names.entry) sheet.cause number machine.old else [])) }
 {
     if sheet.options.shows(sheet.ending, number) {
-        return push_attempt(alloc, text, machine, sheet.cause, number);
+        return push_attempt(alloc, text, machine, names, sheet.cause, number);
     }
     machine.step(&mut Meter::new())?;
     Ok(())
@@ -146,6 +148,7 @@ fn push_lines<C: Core>(
     alloc: Global,
     text: &mut Vec<u8>,
     machine: &mut Machine<C>,
+    names: Option<&Names>,
     sheet: Sheet,
     first: u32,
     end: u32,
@@ -156,12 +159,12 @@ fn push_lines<C: Core>(
     requires before { (number : ℕ) → 1 ≤ number → number < first →
         is_shown sheet.options sheet.ending number ≡ false }
     ensures { OnOk result (text.new.items ≡ text.old.items
-        ++ lines_shown (is_shown sheet.options sheet.ending) (attempt_line sheet.cause)
+        ++ lines_shown (is_shown sheet.options sheet.ending) (attempt_line (option_copied names.entry) sheet.cause)
         machine.old (end - 1)) }
 {
     advance(machine, first - 1)?;
     for number in first..end {
-        push_if_shown(alloc, text, machine, sheet, number)?;
+        push_if_shown(alloc, text, machine, names, sheet, number)?;
     }
     Ok(())
 }
@@ -172,12 +175,13 @@ fn lines_shown(
     deck: &Deck,
     size: Size,
     switches: Switches,
+    names: Option<&Names>,
     sheet: Sheet,
 ) -> Result<Vec<u8>, AllocError>
     requires some { 0 < length deck.now }
     requires most { sheet.ending.attempts ≤ most_attempts }
     ensures { IfOk result (λ text. text.items
-        ≡ lines_shown (is_shown sheet.options sheet.ending) (attempt_line sheet.cause)
+        ≡ lines_shown (is_shown sheet.options sheet.ending) (attempt_line (option_copied names.entry) sheet.cause)
         (loaded deck.now size switches Selecting) sheet.ending.attempts) }
 {
     let mut text = Vec::new(alloc);
@@ -187,7 +191,7 @@ fn lines_shown(
         return Ok(text);
     }
     let mut machine = load(alloc, deck, size, switches)?;
-    push_lines(alloc, &mut text, &mut machine, sheet, first, end)?;
+    push_lines(alloc, &mut text, &mut machine, names, sheet, first, end)?;
     Ok(text)
 }
 
@@ -208,8 +212,8 @@ fn ending_of<C: Core>(parts: &Parts<C>, attempts: u32) -> Ending
 /// that is shown, and then the report of the machine at the end of the run.
 ///
 /// Shown are the attempts that the options ask for, and of a run that ends in a check the last
-/// twenty. A line has the attempt's number, the address at which it begins, and the characters of
-/// its instruction; then the registers A and B and the indicators after it and what the units did,
+/// twenty. A line has the attempt's number, the address at which it begins, also by the nearest
+/// name where names are given, and the characters of its instruction; then the registers A and B and the indicators after it and what the units did,
 /// or the check with its cause, where that can be told. Without a stop the report is that of a
 /// whole run. Fails only if there is no memory.
 #[tactic(auto, unfolding(crate::specs::Traces::traced))]
@@ -218,11 +222,13 @@ pub fn trace(
     deck: &Deck,
     size: Size,
     switches: Switches,
+    names: Option<&Names>,
     options: TraceOptions,
 ) -> Result<Vec<u8>, AllocError>
     requires { 0 < length deck.now }
     ensures trace { IfOk result (λ text.
-        IsTrace options (loaded deck.now size switches Selecting) text.items) }
+        IsTrace options (option_copied names.entry)
+        (loaded deck.now size switches Selecting) text.items) }
     ensures report { options.stop ≡ None → IfOk result (λ text. (lines : List ℕ)
         × (text.items ≡ lines
         ++ report_line (after (loaded deck.now size switches Selecting) most_attempts))) }
@@ -234,7 +240,7 @@ pub fn trace(
         ending: ending_of(machine.parts(), attempts),
         cause: None,
     };
-    let mut text = lines_shown(alloc, deck, size, switches, sheet)?;
+    let mut text = lines_shown(alloc, deck, size, switches, names, sheet)?;
     push_report(alloc, &mut text, machine.parts())?;
     Ok(text)
 }

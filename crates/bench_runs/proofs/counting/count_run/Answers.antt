@@ -1,4 +1,5 @@
 use Rattle.std.proofs.Common.{◌≡◌, ◌<◌, ◌∙◌, ap, arith, get_or, None, subst, sym}
+use Rattle.core_store.specs.Storage.{largest_size}
 use Rattle.machine.specs.Run.{State, after}
 use Rattle.bench_runs.specs.Ends.{end_of, goes_on, most_attempts}
 use Rattle.bench_runs.specs.Profiles.{IsCounted}
@@ -14,7 +15,7 @@ loop-made-preserved g c =
     let on = sym (c.goes_on.ensures ∙ ap (goes_on None) c.parts.ensures.picture) ∙ c.if-not-goes_on.false in
     record {
       comes = comes_on _ _ _ most_attempts None _ c.loop-made.invariant.comes (omega arith) on c.in_ok-step.ensures.machine;
-      counted = counted_on c.args.machine.now c.parts-in-loop-made.result.now c.loop-made.made c.loop-made.places.items c.count_attempt.new.places.items c.loop-made.invariant.counted (c.parts-in-loop-made.ensures.picture ∙ c.loop-made.invariant.comes.machine) c.in_ok-count_attempt.ensures;
+      counted = counted_on c.args.machine.now c.parts-in-loop-made.result.now c.loop-made.made c.loop-made.places.items c.count_attempt.new.places.items c.loop-made.invariant.counted (c.parts-in-loop-made.ensures.picture ∙ c.loop-made.invariant.comes.machine) c.in_ok-count_attempt.ensures (subst (λ (m : State). m.works.registers.i < largest_size) (sym c.parts-in-loop-made.ensures.picture) c.parts-in-loop-made.ensures.in_range.registers.i);
     }
 
 pub count_attempt-requires-clause-few : goal.count_attempt-requires-clause-few
