@@ -31,11 +31,11 @@ cards_punched m = map (λ (p : Punched). p.card) m.works.units.punch.cards
 -- a source without faults, whose loading cards and data fit in a deck, with what was made of it
 pub record IsJobOf (source : List Card) (size : Size) (switches : Switches) (job : Job) : Type 0
   where
-  pub faultless : IsFaultless (source_of source)
-  pub fits : length (runnable_deck source) ≤ largest_deck
-  pub code : job.code.items ≡ listing_with_code_for source
-  pub deck : job.deck ≡ runnable_deck source
-  pub machine : job.machine ≡ ran source size switches
+    pub faultless : IsFaultless (source_of source)
+    pub fits : length (runnable_deck source) ≤ largest_deck
+    pub code : job.code.items ≡ listing_with_code_for source
+    pub deck : job.deck ≡ runnable_deck source
+    pub machine : job.machine ≡ ran source size switches
 
 -- why a source is not run: it has faults, its deck would have too many cards, or there is no memory
 abbrev pub Hinders : List Card → JobPageError → Type 0

@@ -9,7 +9,7 @@ use Rattle.autocoder_listings.specs.Listing.{listing_with_code_for}
 use Rattle.loader.specs.Decks.{runnable_deck}
 use Rattle.pictures.specs.Decks.{figures_from, stock_definition}
 use Rattle.pictures.specs.Escapes.{escaped}
-use Rattle.pictures.specs.Forms.{forms_shown}
+use Rattle.pictures.specs.Forms.{forms_of, sections}
 use Rattle.pictures.specs.declared.styles.TheConstants.{CARD_STYLE, FIGURE_STYLE, FORM_STYLE}
 use Rattle.job_pages.specs.declared.styles.TheConstants.{JOB_STYLE}
 use Rattle.job_pages.specs.Jobs.{cards_punched, ran}
@@ -33,7 +33,7 @@ code_shown code =
 -- the listing on its forms
 abbrev pub listing_shown : List ℕ → List ℕ
 listing_shown listing = codes "<h2>Listing</h2>\n"
-    ++ (if length listing == 0 then codes "<p>Nothing was printed.</p>\n" else forms_shown listing)
+    ++ (if length listing == 0 then codes "<p>Nothing was printed.</p>\n" else sections (forms_of listing))
 
 -- the punched cards
 abbrev pub cards_shown : List Card → List ℕ

@@ -33,7 +33,8 @@ fn push_counted(
     let digest = Sha256::digest(bytes);
     let digits = hex::encode(alloc, &digest)?;
     out.extend_from_slice(digits.as_bytes())?;
-    out.extend_from_slice(b"</code></td></tr>\n")
+    out.extend_from_slice(b"</code></td></tr>\n")?;
+    Ok(())
 }
 
 /// Adds the row of a deck, under this name.
@@ -49,7 +50,8 @@ pub(crate) fn push_deck(
     out.extend_from_slice(b"<tr><th>")?;
     out.extend_from_slice(name)?;
     out.extend_from_slice(b"</th><td>")?;
-    push_counted(alloc, out, deck.cards().len(), b" cards", &text)
+    push_counted(alloc, out, deck.cards().len(), b" cards", &text)?;
+    Ok(())
 }
 
 /// Adds the row of the machine: its size and its switches.
@@ -64,7 +66,8 @@ pub(crate) fn push_machine(
     push_decimal(out, size.positions() as usize)?;
     out.extend_from_slice(b" positions, switches ")?;
     push_switches(out, switches)?;
-    out.extend_from_slice(b"</td></tr>\n")
+    out.extend_from_slice(b"</td></tr>\n")?;
+    Ok(())
 }
 
 /// Adds the row of how the run ended.
@@ -79,7 +82,8 @@ pub(crate) fn push_end(
     let words = report.to_string(alloc)?;
     out.extend_from_slice(b"<tr><th>end</th><td>")?;
     out.extend_from_slice(words.as_bytes())?;
-    out.extend_from_slice(b"</td></tr>\n")
+    out.extend_from_slice(b"</td></tr>\n")?;
+    Ok(())
 }
 
 /// Adds the row of the listing of so many lines.
@@ -92,7 +96,8 @@ pub(crate) fn push_listing(
     ensures { OnOk result (out.new.items ≡ out.old.items ++ listing_fact lines listing.now) }
 {
     out.extend_from_slice(b"<tr><th>listing</th><td>")?;
-    push_counted(alloc, out, lines, b" lines", listing)
+    push_counted(alloc, out, lines, b" lines", listing)?;
+    Ok(())
 }
 
 /// Adds the row of the punched cards.
@@ -105,7 +110,8 @@ pub(crate) fn push_punched(
 {
     let file = write_punched_cards(alloc, cards)?;
     out.extend_from_slice(b"<tr><th>punch file</th><td>")?;
-    push_counted(alloc, out, cards.len(), b" cards", &file)
+    push_counted(alloc, out, cards.len(), b" cards", &file)?;
+    Ok(())
 }
 
 /// Adds the row of what made the page.
@@ -114,5 +120,6 @@ pub(crate) fn push_maker(out: &mut Vec<u8>, version: &str) -> Result<(), AllocEr
 {
     out.extend_from_slice(b"<tr><th>made by</th><td>")?;
     push_escaped(out, version.as_bytes())?;
-    out.extend_from_slice(b"</td></tr>\n")
+    out.extend_from_slice(b"</td></tr>\n")?;
+    Ok(())
 }

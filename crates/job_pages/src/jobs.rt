@@ -94,7 +94,7 @@ pub(crate) fn cards_of(alloc: Global, punched: &[Punched]) -> Result<Vec<Card>, 
 {
     let mut cards = Vec::with_capacity(alloc, punched.len())?;
     for one in punched {
-        cards.push(one.card)?;
+        cards.push(Card(one.card.0))?;
     }
     Ok(cards)
 }

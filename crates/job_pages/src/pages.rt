@@ -79,7 +79,8 @@ fn push_facts(
     push_listing(alloc, out, lines, listing)?;
     push_punched(alloc, out, cards)?;
     push_maker(out, subject.version)?;
-    out.extend_from_slice(b"</table>\n")
+    out.extend_from_slice(b"</table>\n")?;
+    Ok(())
 }
 
 /// The page of a job that was run.

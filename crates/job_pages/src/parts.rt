@@ -2,12 +2,11 @@
 
 ghost use Rattle.std.specs.Prelude.{◌≡◌, ◌++◌, OnOk};
 ghost use Rattle.job_pages.specs.Pages.{cards_shown, code_shown, job_head, listing_shown, style};
-ghost use Rattle.pictures.specs.Decks.{figures_from};
 
 use crate::styles::JOB_STYLE;
 use cards::Card;
 use pictures::{
-    CARD_STYLE, FIGURE_STYLE, FORM_STYLE, push_card_figure, push_escaped, push_listing_forms,
+    CARD_STYLE, FIGURE_STYLE, FORM_STYLE, push_card_figures, push_escaped, push_listing_forms,
     push_stock_definition,
 };
 use std::alloc::AllocError;
@@ -21,7 +20,8 @@ fn push_style(out: &mut Vec<u8>) -> Result<(), AllocError>
     out.extend_from_slice(FIGURE_STYLE)?;
     out.extend_from_slice(CARD_STYLE)?;
     out.extend_from_slice(FORM_STYLE)?;
-    out.extend_from_slice(b"</style>\n")
+    out.extend_from_slice(b"</style>\n")?;
+    Ok(())
 }
 
 /// Adds the head of a page, with the name of the job.
@@ -34,7 +34,8 @@ pub(crate) fn push_head(out: &mut Vec<u8>, name: &str) -> Result<(), AllocError>
     push_style(out)?;
     out.extend_from_slice(b"<h1>")?;
     push_escaped(out, name.as_bytes())?;
-    out.extend_from_slice(b"</h1>\n")
+    out.extend_from_slice(b"</h1>\n")?;
+    Ok(())
 }
 
 /// Adds the source with its code.
@@ -43,7 +44,8 @@ pub(crate) fn push_code(out: &mut Vec<u8>, code: &[u8]) -> Result<(), AllocError
 {
     out.extend_from_slice(b"<h2>Source</h2><pre class=\"code\">\n")?;
     push_escaped(out, code)?;
-    out.extend_from_slice(b"</pre>\n")
+    out.extend_from_slice(b"</pre>\n")?;
+    Ok(())
 }
 
 /// Adds the listing on its forms.
@@ -54,16 +56,7 @@ pub(crate) fn push_listing(out: &mut Vec<u8>, listing: &[u8]) -> Result<(), Allo
     if listing.is_empty() {
         return out.extend_from_slice(b"<p>Nothing was printed.</p>\n");
     }
-    push_listing_forms(out, listing)
-}
-
-/// Adds the figures of cards, each with its number.
-fn push_figures(out: &mut Vec<u8>, cards: &[Card]) -> Result<(), AllocError>
-    ensures { OnOk result (out.new.items ≡ out.old.items ++ figures_from 1 cards.now) }
-{
-    for (index, card) in cards.iter().enumerate() {
-        push_card_figure(out, index + 1, card)?;
-    }
+    push_listing_forms(out, listing)?;
     Ok(())
 }
 
@@ -76,5 +69,6 @@ pub(crate) fn push_cards(out: &mut Vec<u8>, cards: &[Card]) -> Result<(), AllocE
         return out.extend_from_slice(b"<p>No card was punched.</p>\n");
     }
     push_stock_definition(out)?;
-    push_figures(out, cards)
+    push_card_figures(out, cards)?;
+    Ok(())
 }

@@ -1,7 +1,7 @@
 //! The page of a deck.
 
 ghost use Rattle.std.specs.Prelude.{◌≡◌, ◌++◌, IfOk, OnOk};
-ghost use Rattle.pictures.specs.Decks.{captioned, deck_head, deck_page_of, figure, stock_definition, titled_by_number};
+ghost use Rattle.pictures.specs.Decks.{captioned, deck_head, deck_page_of, figure, figures_from, stock_definition, titled_by_number};
 
 use crate::card_pictures::push_marks;
 use crate::escapes::{push_card_glyphs, push_decimal};
@@ -44,9 +44,8 @@ fn push_caption(out: &mut Vec<u8>, number: usize) -> Result<(), AllocError>
     Ok(())
 }
 
-/// Adds the figure of a card with its number under it, for a page that has the stock already
-/// ([`push_stock_definition`]).
-pub fn push_card_figure(out: &mut Vec<u8>, number: usize, card: &Card) -> Result<(), AllocError>
+/// Adds the figure of a card with its number under it.
+fn push_card_figure(out: &mut Vec<u8>, number: usize, card: &Card) -> Result<(), AllocError>
     ensures { OnOk result (out.new.items ≡ out.old.items ++ figure number card.now) }
 {
     out.extend_from_slice(
@@ -75,6 +74,17 @@ fn push_head(out: &mut Vec<u8>) -> Result<(), AllocError>
     Ok(())
 }
 
+/// Adds the figures of cards, each with its number under it, for a page that has the stock already
+/// ([`push_stock_definition`]).
+pub fn push_card_figures(out: &mut Vec<u8>, cards: &[Card]) -> Result<(), AllocError>
+    ensures { OnOk result (out.new.items ≡ out.old.items ++ figures_from 1 cards.now) }
+{
+    for (index, card) in cards.iter().enumerate() {
+        push_card_figure(out, index + 1, card)?;
+    }
+    Ok(())
+}
+
 /// Returns the page of a deck, an HTML file that stands alone: all its cards, with the number of
 /// each under it.
 ///
@@ -85,8 +95,6 @@ pub fn deck_page(alloc: Global, deck: &[Card]) -> Result<Vec<u8>, AllocError>
     let mut out = Vec::new(alloc);
     push_head(&mut out)?;
     push_stock_definition(&mut out)?;
-    for (index, card) in deck.iter().enumerate() {
-        push_card_figure(&mut out, index + 1, card)?;
-    }
+    push_card_figures(&mut out, deck)?;
     Ok(out)
 }

@@ -1,0 +1,124 @@
+//! The rows `trace`, `dump` and `profile`.
+
+use crate::decks::deck_at;
+use crate::files::{print, tell_memory};
+use bench_runs::{Account, DumpOptions, Names, TraceOptions, dump, profile, trace};
+use cards::Deck;
+use command_line::Status;
+use counter::status_at;
+use std::alloc::AllocError;
+use std::io;
+use std::io::Write;
+use workbench_words::Setup;
+
+/// The deck in the file at a path, with a card at least. Where there is none, that is told.
+fn deck_to_run<E: Write>(
+    rt: &HostRuntime,
+    path: &str,
+    errors: &mut E,
+) -> io::Result<Option<Deck>> {
+    let Some(deck) = deck_at(rt, path, errors)? else {
+        return Ok(None);
+    };
+    if deck.cards().is_empty() {
+        writeln!(errors, "{path}: the deck has no card; is it the right file?")?;
+        return Ok(None);
+    }
+    Ok(Some(deck))
+}
+
+/// The names of the source in the file at a path. Where there are none, that is told.
+fn names_at<E: Write>(
+    rt: &HostRuntime,
+    path: &str,
+    errors: &mut E,
+) -> io::Result<Option<Names>> {
+    let Some(deck) = deck_at(rt, path, errors)? else {
+        return Ok(None);
+    };
+    match Names::of(rt.alloc(), deck) {
+        Ok(Some(names)) => Ok(Some(names)),
+        Ok(None) => {
+            writeln!(errors, "{path}: the source has faults; workbench source shows them")?;
+            Ok(None)
+        }
+        Err(_) => {
+            tell_memory(errors)?;
+            Ok(None)
+        }
+    }
+}
+
+/// Prints what is shown of a run; the status is that of the run.
+fn print_account<W: Write, E: Write>(
+    account: Result<Account, AllocError>,
+    output: &mut W,
+    errors: &mut E,
+) -> io::Result<Status> {
+    match account {
+        Ok(account) => print(&account.text, status_at(account.standing), output, errors),
+        Err(_) => tell_memory(errors),
+    }
+}
+
+/// Prints the trace of a run.
+pub(crate) fn trace_deck<W: Write, E: Write>(
+    rt: &HostRuntime,
+    setup: Setup<'_>,
+    names: Option<&str>,
+    options: TraceOptions,
+    output: &mut W,
+    errors: &mut E,
+) -> io::Result<Status> {
+    let Some(deck) = deck_to_run(rt, setup.input, errors)? else {
+        return Ok(Status::NotDone);
+    };
+    let Some(path) = names else {
+        let account = trace(rt.alloc(), &deck, setup.size, setup.switches, None, options);
+        return print_account(account, output, errors);
+    };
+    let Some(names) = names_at(rt, path, errors)? else {
+        return Ok(Status::NotDone);
+    };
+    let account = trace(rt.alloc(), &deck, setup.size, setup.switches, Some(&names), options);
+    print_account(account, output, errors)
+}
+
+/// Prints how often a run did each instruction.
+pub(crate) fn profile_deck<W: Write, E: Write>(
+    rt: &HostRuntime,
+    setup: Setup<'_>,
+    names: Option<&str>,
+    output: &mut W,
+    errors: &mut E,
+) -> io::Result<Status> {
+    let Some(deck) = deck_to_run(rt, setup.input, errors)? else {
+        return Ok(Status::NotDone);
+    };
+    let Some(path) = names else {
+        let account = profile(rt.alloc(), &deck, setup.size, setup.switches, None);
+        return print_account(account, output, errors);
+    };
+    let Some(names) = names_at(rt, path, errors)? else {
+        return Ok(Status::NotDone);
+    };
+    let account = profile(rt.alloc(), &deck, setup.size, setup.switches, Some(&names));
+    print_account(account, output, errors)
+}
+
+/// Prints a machine after a run.
+pub(crate) fn dump_deck<W: Write, E: Write>(
+    rt: &HostRuntime,
+    setup: Setup<'_>,
+    options: DumpOptions,
+    output: &mut W,
+    errors: &mut E,
+) -> io::Result<Status> {
+    let Some(deck) = deck_to_run(rt, setup.input, errors)? else {
+        return Ok(Status::NotDone);
+    };
+    match dump(rt.alloc(), &deck, setup.size, setup.switches, options) {
+        Ok(text) => print(&text, Status::Done, output, errors),
+        Err(_) => tell_memory(errors),
+    }
+}
