@@ -21,7 +21,8 @@ line_at text place = count_by (λ byte. byte == 10) (take place text) + 1
 abbrev pub column_at : List ℕ → ℕ → ℕ
 column_at text place = suffix_len (λ byte. not (ends_line byte)) (take place text) + 1
 
--- what is wrong with a byte in a column: it is no sign and ends no line, or a line has at most 132
+-- what is wrong with a byte in a column, if anything: it is no sign and ends no line, or it is
+-- behind column 132
 unfoldable pub error_in : ℕ → ℕ → Option ListingError
 error_in column byte = if ends_line byte then None
     else (if is_sign byte then (if nat_lt 132 column then Some Length else None)
