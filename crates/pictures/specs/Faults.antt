@@ -32,10 +32,11 @@ error_in column byte = if ends_line byte then None
 abbrev pub error_at : List ℕ → ℕ → Option ListingError
 error_at text place = error_in (column_at text place) (slice_index text place)
 
--- the line and the column of what stands behind a byte, where its own are these
+-- the line of what stands behind a byte of a line
 abbrev pub next_line : ℕ → ℕ → ℕ
 next_line line byte = if byte == 10 then line + 1 else line
 
+-- the column of what stands behind a byte in a column
 abbrev pub next_column : ℕ → ℕ → ℕ
 next_column column byte = if ends_line byte then 1 else column + 1
 
