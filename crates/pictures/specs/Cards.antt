@@ -69,8 +69,8 @@ outlines holes = flat_map (λ hole. outline (corner hole)) holes
 abbrev pub column_outlines : ℕ → ℕ → List ℕ
 column_outlines column code = outlines (holes_in column code)
 
--- the outline of a hole with this left edge in a row, where the row, by its bit and the upper edge
--- of its holes, is one of these punches
+-- the outline of a hole with this left edge in a row, which is named by its bit and the upper edge
+-- of its holes; nothing where the punches have not that bit
 abbrev pub hole_if_punched : ℕ → ℕ → ℕ × ℕ → List ℕ
 hole_if_punched left punches place =
     if bit_and punches place.0 == 0 then [] else outline (left, place.1)

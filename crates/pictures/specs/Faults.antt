@@ -21,7 +21,8 @@ line_at text place = count_by (λ byte. byte == 10) (take place text) + 1
 abbrev pub column_at : List ℕ → ℕ → ℕ
 column_at text place = suffix_len (λ byte. not (ends_line byte)) (take place text) + 1
 
--- what is wrong with a byte in a column: it is no sign and ends no line, or a line has at most 132
+-- what is wrong with a byte in a column, if anything: it is no sign and ends no line, or it is
+-- behind column 132
 unfoldable pub error_in : ℕ → ℕ → Option ListingError
 error_in column byte = if ends_line byte then None
     else (if is_sign byte then (if nat_lt 132 column then Some Length else None)
@@ -31,10 +32,11 @@ error_in column byte = if ends_line byte then None
 abbrev pub error_at : List ℕ → ℕ → Option ListingError
 error_at text place = error_in (column_at text place) (slice_index text place)
 
--- the line and the column of what stands behind a byte, where its own are these
+-- the line of what stands behind a byte of a line
 abbrev pub next_line : ℕ → ℕ → ℕ
 next_line line byte = if byte == 10 then line + 1 else line
 
+-- the column of what stands behind a byte in a column
 abbrev pub next_column : ℕ → ℕ → ℕ
 next_column column byte = if ends_line byte then 1 else column + 1
 
