@@ -35,11 +35,15 @@ abbrev pub listing_shown : List ℕ → List ℕ
 listing_shown listing = codes "<h2>Listing</h2>\n"
     ++ (if length listing == 0 then codes "<p>Nothing was printed.</p>\n" else sections (forms_of listing))
 
+-- the stock of cards, and the figure of each
+abbrev pub figures : List Card → List ℕ
+figures cards = stock_definition ++ figures_from 1 cards
+
 -- the punched cards
 abbrev pub cards_shown : List Card → List ℕ
 cards_shown cards = codes "<h2>Punched cards</h2>\n" ++ (if length cards == 0
     then codes "<p>No card was punched.</p>\n"
-    else stock_definition ++ figures_from 1 cards)
+    else figures cards)
 
 -- the page of a source, its deck, and the machine that has run it
 unfoldable pub page_by : List ℕ → List ℕ → List Card → List Card → State → Size → Switches →

@@ -1,11 +1,9 @@
 //! The table of a page: what was run, how it ended, and the digests.
 
-ghost use Rattle.std.specs.Prelude.{◌≡◌, ◌++◌, codes, map, OnOk};
-ghost use Rattle.cards.specs.Files.{text_of};
-ghost use Rattle.units.specs.declared.punch.Punched.{Punched};
-ghost use Rattle.units.specs.Listing.{rendered};
-ghost use Rattle.machine.specs.Run.{lines_of};
-ghost use Rattle.job_pages.specs.Facts.{counted, deck_fact, end_fact, listing_fact, machine_fact, maker_fact, punched_fact};
+ghost use Rattle.std.specs.Prelude.{◌≡◌, ◌++◌, decimal, OnOk};
+ghost use Rattle.core_store.specs.Storage.{positions_of};
+ghost use Rattle.machine.specs.Reports.{report_of, report_words};
+ghost use Rattle.job_pages.specs.Facts.{digest_of, counted, deck_fact, end_fact, listing_fact, machine_fact, maker_fact, punched_fact};
 
 use cards::{Card, Deck, write_punched_cards, write_text};
 use core_store::{PlaneCore, Size};
@@ -16,8 +14,17 @@ use std::alloc::{AllocError, Global};
 use texts::push_switches;
 use units::Switches;
 
-/// Adds how many there are of something, what it is, and the SHA-256 of its bytes (FIPS 180-4) in
-/// lower-case hexadecimal digits.
+/// Adds the SHA-256 of bytes (FIPS 180-4) in lower-case hexadecimal digits.
+fn push_digest(alloc: Global, out: &mut Vec<u8>, bytes: &[u8]) -> Result<(), AllocError>
+    ensures { OnOk result (out.new.items ≡ out.old.items ++ digest_of bytes.now) }
+{
+    let digest = Sha256::digest(bytes);
+    let digits = hex::encode(alloc, &digest)?;
+    out.extend_from_slice(digits.as_bytes())?;
+    Ok(())
+}
+
+/// Adds how many there are of something, what it is, and the digest of its bytes.
 fn push_counted(
     alloc: Global,
     out: &mut Vec<u8>,
@@ -30,9 +37,7 @@ fn push_counted(
     push_decimal(out, count)?;
     out.extend_from_slice(what)?;
     out.extend_from_slice(b", SHA-256 <code>")?;
-    let digest = Sha256::digest(bytes);
-    let digits = hex::encode(alloc, &digest)?;
-    out.extend_from_slice(digits.as_bytes())?;
+    push_digest(alloc, out, bytes)?;
     out.extend_from_slice(b"</code></td></tr>\n")?;
     Ok(())
 }
@@ -54,6 +59,14 @@ pub(crate) fn push_deck(
     Ok(())
 }
 
+/// Adds how many positions of storage there are.
+fn push_positions(out: &mut Vec<u8>, size: Size) -> Result<(), AllocError>
+    ensures { OnOk result (out.new.items ≡ out.old.items ++ decimal (positions_of size)) }
+{
+    push_decimal(out, size.positions() as usize)?;
+    Ok(())
+}
+
 /// Adds the row of the machine: its size and its switches.
 pub(crate) fn push_machine(
     out: &mut Vec<u8>,
@@ -63,10 +76,23 @@ pub(crate) fn push_machine(
     ensures { OnOk result (out.new.items ≡ out.old.items ++ machine_fact size switches) }
 {
     out.extend_from_slice(b"<tr><th>machine</th><td>")?;
-    push_decimal(out, size.positions() as usize)?;
+    push_positions(out, size)?;
     out.extend_from_slice(b" positions, switches ")?;
     push_switches(out, switches)?;
     out.extend_from_slice(b"</td></tr>\n")?;
+    Ok(())
+}
+
+/// Adds the report of a machine.
+fn push_report(
+    alloc: Global,
+    out: &mut Vec<u8>,
+    machine: &Machine<PlaneCore>,
+) -> Result<(), AllocError>
+    ensures { OnOk result (out.new.items ≡ out.old.items ++ report_words (report_of machine.now)) }
+{
+    let words = Report::of(machine.parts()).to_string(alloc)?;
+    out.extend_from_slice(words.as_bytes())?;
     Ok(())
 }
 
@@ -78,10 +104,8 @@ pub(crate) fn push_end(
 ) -> Result<(), AllocError>
     ensures { OnOk result (out.new.items ≡ out.old.items ++ end_fact machine.now) }
 {
-    let report = Report::of(machine.parts());
-    let words = report.to_string(alloc)?;
     out.extend_from_slice(b"<tr><th>end</th><td>")?;
-    out.extend_from_slice(words.as_bytes())?;
+    push_report(alloc, out, machine)?;
     out.extend_from_slice(b"</td></tr>\n")?;
     Ok(())
 }
@@ -115,11 +139,11 @@ pub(crate) fn push_punched(
 }
 
 /// Adds the row of what made the page.
-pub(crate) fn push_maker(out: &mut Vec<u8>, version: &str) -> Result<(), AllocError>
+pub(crate) fn push_maker(out: &mut Vec<u8>, version: &[u8]) -> Result<(), AllocError>
     ensures { OnOk result (out.new.items ≡ out.old.items ++ maker_fact version.now) }
 {
     out.extend_from_slice(b"<tr><th>made by</th><td>")?;
-    push_escaped(out, version.as_bytes())?;
+    push_escaped(out, version)?;
     out.extend_from_slice(b"</td></tr>\n")?;
     Ok(())
 }

@@ -43,7 +43,7 @@ impl From<AllocError> for JobPageError {
 #[derive(Clone, Copy)]
 pub struct Subject<'a> {
     /// The name of the job, for its heading.
-    pub name: &'a str,
+    pub name: &'a [u8],
     /// The source, with its data behind it.
     pub source: &'a Deck,
     /// The size of the machine's storage.
@@ -51,7 +51,7 @@ pub struct Subject<'a> {
     /// The sense switches that are on.
     pub switches: Switches,
     /// The version of the program that makes the page.
-    pub version: &'a str,
+    pub version: &'a [u8],
 }
 
 /// Adds the table of a job with this listing and these punched cards.

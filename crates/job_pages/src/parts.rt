@@ -1,7 +1,7 @@
 //! The parts of a page behind its table.
 
 ghost use Rattle.std.specs.Prelude.{◌≡◌, ◌++◌, OnOk};
-ghost use Rattle.job_pages.specs.Pages.{cards_shown, code_shown, job_head, listing_shown, style};
+ghost use Rattle.job_pages.specs.Pages.{cards_shown, code_shown, figures, job_head, listing_shown, style};
 
 use crate::styles::JOB_STYLE;
 use cards::Card;
@@ -25,15 +25,15 @@ fn push_style(out: &mut Vec<u8>) -> Result<(), AllocError>
 }
 
 /// Adds the head of a page, with the name of the job.
-pub(crate) fn push_head(out: &mut Vec<u8>, name: &str) -> Result<(), AllocError>
+pub(crate) fn push_head(out: &mut Vec<u8>, name: &[u8]) -> Result<(), AllocError>
     ensures { OnOk result (out.new.items ≡ out.old.items ++ job_head name.now) }
 {
     out.extend_from_slice(b"<!DOCTYPE html><html lang=en><meta charset=utf-8><title>")?;
-    push_escaped(out, name.as_bytes())?;
+    push_escaped(out, name)?;
     out.extend_from_slice(b"</title>")?;
     push_style(out)?;
     out.extend_from_slice(b"<h1>")?;
-    push_escaped(out, name.as_bytes())?;
+    push_escaped(out, name)?;
     out.extend_from_slice(b"</h1>\n")?;
     Ok(())
 }
@@ -54,9 +54,19 @@ pub(crate) fn push_listing(out: &mut Vec<u8>, listing: &[u8]) -> Result<(), Allo
 {
     out.extend_from_slice(b"<h2>Listing</h2>\n")?;
     if listing.is_empty() {
-        return out.extend_from_slice(b"<p>Nothing was printed.</p>\n");
+        out.extend_from_slice(b"<p>Nothing was printed.</p>\n")?;
+        return Ok(());
     }
     push_listing_forms(out, listing)?;
+    Ok(())
+}
+
+/// Adds the stock of the cards, and the figure of each.
+fn push_figures(out: &mut Vec<u8>, cards: &[Card]) -> Result<(), AllocError>
+    ensures { OnOk result (out.new.items ≡ out.old.items ++ figures cards.now) }
+{
+    push_stock_definition(out)?;
+    push_card_figures(out, cards)?;
     Ok(())
 }
 
@@ -66,9 +76,9 @@ pub(crate) fn push_cards(out: &mut Vec<u8>, cards: &[Card]) -> Result<(), AllocE
 {
     out.extend_from_slice(b"<h2>Punched cards</h2>\n")?;
     if cards.is_empty() {
-        return out.extend_from_slice(b"<p>No card was punched.</p>\n");
+        out.extend_from_slice(b"<p>No card was punched.</p>\n")?;
+        return Ok(());
     }
-    push_stock_definition(out)?;
-    push_card_figures(out, cards)?;
+    push_figures(out, cards)?;
     Ok(())
 }

@@ -20,6 +20,8 @@ mod cores;
 #[cfg(test)]
 mod decks;
 #[cfg(test)]
+mod drawings;
+#[cfg(test)]
 mod draws;
 #[cfg(test)]
 mod listings;
