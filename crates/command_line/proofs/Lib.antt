@@ -6,3 +6,4 @@ pub mod RowNameLemmas
 pub mod CommandRows
 pub mod CommandWords
 pub mod AskedWays
+pub mod FoundRows

@@ -38,5 +38,5 @@ pub use parsing::words;
 pub use row_names::RowName;
 pub use statuses::{Status, exit_code};
 pub use tables::{Kind, Unread, named_command, parse, with_row};
-pub use tasks::{Input, Misuse, Task, task_of};
+pub use tasks::{Input, Misuse, SIZE_COMPLAINT, SWITCHES_COMPLAINT, Task, task_of};
 pub use telling::{put_out, show_help, show_text, show_version, tell_fault, tell_misuse};

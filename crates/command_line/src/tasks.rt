@@ -104,6 +104,12 @@ pub enum Misuse<'a> {
     Count,
 }
 
+/// What is said of a text that is no size of storage.
+pub const SIZE_COMPLAINT: &str = "SIZE must be 1400, 2000, 4000, 8000, 12000 or 16000";
+
+/// What is said of a text that does not name a set of sense switches.
+pub const SWITCHES_COMPLAINT: &str = "SWITCHES must be rising letters of ABCDEFG, or - for none";
+
 impl<'a> Misuse<'a> {
     /// Whether there was no memory to read the words, which is a fault and not a misuse.
     pub(crate) fn is_want_of_memory(&self) -> bool
@@ -133,12 +139,8 @@ impl<'a> Display for Misuse<'a> {
         match self {
             Misuse::Words(fault) => write!(formatter, "{fault}"),
             Misuse::NoText => formatter.write_str("a word is not UTF-8 text"),
-            Misuse::Size => formatter.write_str(
-                "SIZE must be 1400, 2000, 4000, 8000, 12000 or 16000",
-            ),
-            Misuse::Switches => {
-                formatter.write_str("SWITCHES must be rising letters of ABCDEFG, or - for none")
-            }
+            Misuse::Size => formatter.write_str(SIZE_COMPLAINT),
+            Misuse::Switches => formatter.write_str(SWITCHES_COMPLAINT),
             Misuse::Port => formatter.write_str("PORT must be a number from 1 to 65535"),
             Misuse::Count => formatter.write_str("COUNT must be a number from 1 to 1000000"),
         }

@@ -38,6 +38,12 @@ fn words_given(rt: &HostRuntime) -> Result<Vec<String>, Misuse> {
     Ok(env::args(rt)?.collect(rt.alloc())?)
 }
 
+/// Says that a row is not there yet.
+fn tell_left_out<E: Write>(errors: &mut E) -> io::Result<Status> {
+    errors.write_all(b"this row is not yet part of the program\n")?;
+    Ok(Status::NotDone)
+}
+
 /// Does a task.
 fn work<W: Write, E: Write>(
     rt: &HostRuntime,
@@ -91,6 +97,13 @@ fn work<W: Write, E: Write>(
         Task::Manifest { decks, form, known } => {
             manifest(rt, decks, *form, *known, output, errors)
         }
+        Task::Trace { .. }
+        | Task::Dump { .. }
+        | Task::Profile { .. }
+        | Task::Card { .. }
+        | Task::Deck { .. }
+        | Task::Pages { .. }
+        | Task::Page { .. } => tell_left_out(errors),
     }
 }
 

@@ -6,7 +6,7 @@ use Rattle.workbench_words.specs.declared.rows.RowName.{RowName}
 use Rattle.workbench_words.specs.declared.rows.RowName.TheVariants as name
 use Rattle.workbench_words.specs.declared.tasks.Misuse.{Misuse}
 use Rattle.workbench_words.specs.declared.tasks.Misuse.TheVariants.{Memory}
-use Rattle.workbench_words.specs.declared.help.TheConstants.{COMPARE_HELP, CONVERT_HELP, HELP, LIST_HELP, MANIFEST_HELP, PUNCH_HELP, SEQUENCE_HELP, SOURCE_HELP}
+use Rattle.workbench_words.specs.declared.help.TheConstants.{CARD_HELP, COMPARE_HELP, CONVERT_HELP, DECK_HELP, DUMP_HELP, HELP, LIST_HELP, MANIFEST_HELP, PAGE_HELP, PAGES_HELP, PROFILE_HELP, PUNCH_HELP, SEQUENCE_HELP, SOURCE_HELP, TRACE_HELP}
 
 -- the text of the help of a row, or of the whole help
 abbrev pub page_of : Option RowName → List ℕ
@@ -18,6 +18,13 @@ page_of (Some name.Sequence) = SEQUENCE_HELP.now
 page_of (Some name.Convert) = CONVERT_HELP.now
 page_of (Some name.Source) = SOURCE_HELP.now
 page_of (Some name.Manifest) = MANIFEST_HELP.now
+page_of (Some name.Trace) = TRACE_HELP.now
+page_of (Some name.Dump) = DUMP_HELP.now
+page_of (Some name.Profile) = PROFILE_HELP.now
+page_of (Some name.Card) = CARD_HELP.now
+page_of (Some name.Deck) = DECK_HELP.now
+page_of (Some name.Pages) = PAGES_HELP.now
+page_of (Some name.Page) = PAGE_HELP.now
 
 -- the text of the version, with the logic that the program is proved in
 abbrev pub version_text : List ℕ

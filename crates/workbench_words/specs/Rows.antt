@@ -34,11 +34,38 @@ line_of name.Manifest = (
   codes "manifest",
   (codes "FILE", Several) ∷ (codes "form", Setting) ∷ (codes "check", Setting) ∷ [],
 )
+line_of name.Trace = (
+  codes "trace",
+  (codes "DECK", Value) ∷ (codes "SIZE", Value) ∷ (codes "SWITCHES", Value)
+      ∷ (codes "from", Setting) ∷ (codes "count", Setting) ∷ (codes "stop", Setting)
+      ∷ (codes "names", Setting) ∷ (codes "fields", Flag) ∷ [],
+)
+line_of name.Dump = (
+  codes "dump",
+  (codes "DECK", Value) ∷ (codes "SIZE", Value) ∷ (codes "SWITCHES", Value)
+      ∷ (codes "after", Setting) ∷ (codes "stop", Setting) ∷ (codes "names", Setting)
+      ∷ (codes "first", Setting) ∷ (codes "last", Setting) ∷ [],
+)
+line_of name.Profile = (
+  codes "profile",
+  (codes "DECK", Value) ∷ (codes "SIZE", Value) ∷ (codes "SWITCHES", Value)
+      ∷ (codes "names", Setting) ∷ [],
+)
+line_of name.Card =
+    (codes "card", (codes "DECK", Value) ∷ (codes "N", Value) ∷ (codes "OUT", Value) ∷ [])
+line_of name.Deck = (codes "deck", (codes "DECK", Value) ∷ (codes "OUT", Value) ∷ [])
+line_of name.Pages = (codes "pages", (codes "LISTING", Value) ∷ (codes "OUT", Value) ∷ [])
+line_of name.Page = (
+  codes "page",
+  (codes "SOURCE", Value) ∷ (codes "SIZE", Value) ∷ (codes "SWITCHES", Value)
+      ∷ (codes "OUT", Value) ∷ [],
+)
 
 -- all rows
 abbrev pub rows : List RowName
 rows = name.Punch ∷ name.List ∷ name.Compare ∷ name.Sequence ∷ name.Convert ∷ name.Source
-    ∷ name.Manifest ∷ []
+    ∷ name.Manifest ∷ name.Trace ∷ name.Dump ∷ name.Profile ∷ name.Card ∷ name.Deck ∷ name.Pages
+    ∷ name.Page ∷ []
 
 -- the word that is the name of a row
 abbrev pub name_of : RowName → Text

@@ -1,21 +1,26 @@
 -- the tasks that words ask for
 use Rattle.std.specs.Prelude.{ℕ, ◌≡◌, ◌<◌, ◌≤◌, ◌⊎◌, Bool, false, List, [], ◌∷◌, Option, Some, None, codes, decimal, map, option_map, unwrap_or}
 use Rattle.std.specs.Str.{bytes_eq}
+use Rattle.std.specs.Borrow.{Bor}
 use Rattle.clap.specs.Words.{Row, Text, all_of, fault_of, first_of, subcommand_of}
+use Rattle.core_store.specs.Storage.{positions_of}
+use Rattle.units.specs.Switches.{AreSeven}
+use Rattle.texts.specs.Switches.{text_of}
 use Rattle.card_forms.specs.Forms.{word_of}
 use Rattle.card_forms.specs.declared.forms.Form.{Form}
 use Rattle.card_texts.specs.declared.Rules.{Rules}
 use Rattle.card_texts.specs.declared.Signs.{Signs}
 use Rattle.card_texts.specs.declared.Signs.TheVariants.{Bureau}
 use Rattle.card_texts.specs.declared.EmptyLine as line
-use Rattle.card_texts.specs.declared.EmptyLine.TheVariants.{Card}
+use Rattle.card_texts.specs.declared.EmptyLine.TheVariants as empty
 use Rattle.workbench_words.specs.Command.{workbench}
 use Rattle.workbench_words.specs.Rows.{name_of}
-use Rattle.workbench_words.specs.Values.{AreStops, IsNumeral, word_of_empty, word_of_signs, word_of_width}
+use Rattle.workbench_words.specs.Values.{AreStops, IsCount, IsNumeral, word_of_empty, word_of_signs, word_of_width}
 use Rattle.workbench_words.specs.declared.rows.RowName.{RowName}
 use Rattle.workbench_words.specs.declared.rows.RowName.TheVariants as name
+use Rattle.workbench_words.specs.declared.tasks.Setup.{Setup}
 use Rattle.workbench_words.specs.declared.tasks.Task.{Task}
-use Rattle.workbench_words.specs.declared.tasks.Task.TheVariants.{Help, Version, Punch, List as ListCards, Compare, Convert, Number, CheckNumbers, Source, Manifest}
+use Rattle.workbench_words.specs.declared.tasks.Task.TheVariants.{Help, Version, Punch, List as ListCards, Compare, Convert, Number, CheckNumbers, Source, Manifest, Trace, Dump, Profile, Card, Deck, Pages, Page}
 
 -- whether an option without a value was given
 unfoldable pub has_flag : Text → List Row → Bool
@@ -52,8 +57,8 @@ HasKept found keeps = IsKeptOf (first_of (codes "keep") found) keeps
 
 -- this is what an empty line is by `--empty`, or a card where it is not given
 abbrev pub IsEmptyOf : Option Text → line.EmptyLine → Type 0
-IsEmptyOf None empty = empty ≡ Card
-IsEmptyOf (Some word) empty = word ≡ word_of_empty empty
+IsEmptyOf None is = is ≡ empty.Card
+IsEmptyOf (Some word) is = word ≡ word_of_empty is
 
 abbrev pub HasEmpty : List Row → line.EmptyLine → Type 0
 HasEmpty found empty = IsEmptyOf (first_of (codes "empty") found) empty
@@ -138,6 +143,98 @@ WantsManifest found (Manifest decks form known) =
     × (option_map (λ text. text.now) known ≡ first_of (codes "check") found)
 WantsManifest found other = ⊥
 
+-- this is what a machine begins with: the file of its deck or source in an argument, and the size
+-- and the switches that `bureau run` has
+pub record IsSetup (id : Text) (found : List Row) (setup : Setup) : Type 0 where
+  pub input : WantsOption id found setup.input.now
+  pub size : WantsOption (codes "SIZE") found (decimal (positions_of setup.size))
+  pub seven : AreSeven setup.switches
+  pub switches : WantsOption (codes "SWITCHES") found (text_of setup.switches)
+
+-- this is the number of an option, or this other one where it is not given
+abbrev pub NumeralOr : ℕ → Option Text → ℕ → Type 0
+NumeralOr other None number = number ≡ other
+NumeralOr other (Some text) number = IsNumeral text number
+
+abbrev pub HasNumber : Text → ℕ → List Row → ℕ → Type 0
+HasNumber id other found number = NumeralOr other (first_of id found) number
+
+-- the same of one that may be 0
+abbrev pub CountOr : ℕ → Option Text → ℕ → Type 0
+CountOr other None number = number ≡ other
+CountOr other (Some text) number = IsCount text number
+
+abbrev pub HasCount : Text → ℕ → List Row → ℕ → Type 0
+HasCount id other found number = CountOr other (first_of id found) number
+
+-- this is the text of an option, if it is given
+abbrev pub HasText : Text → List Row → Option (Bor Text) → Type 0
+HasText id found text = option_map (λ t. t.now) text ≡ first_of id found
+
+-- the task of `trace`: without `--from` and `--count` the instructions 1 to 1,000
+abbrev pub WantsTrace : List Row → Task → Type 0
+WantsTrace found (Trace setup from count stop names fields) = IsSetup (codes "DECK") found setup
+    × HasNumber (codes "from") 1 found from × HasCount (codes "count") 1000 found count
+    × HasText (codes "stop") found stop × HasText (codes "names") found names
+    × (fields ≡ has_flag (codes "fields") found)
+WantsTrace found other = ⊥
+
+-- this is the number of an option that may be 0, if it is given
+abbrev pub CountOf : Option Text → Option ℕ → Type 0
+CountOf None count = count ≡ None
+CountOf (Some text) None = ⊥
+CountOf (Some text) (Some count) = IsCount text count
+
+abbrev pub GivesCount : Text → List Row → Option ℕ → Type 0
+GivesCount id found count = CountOf (first_of id found) count
+
+-- the same of one that may not be 0
+abbrev pub NumeralOf : Option Text → Option ℕ → Type 0
+NumeralOf None number = number ≡ None
+NumeralOf (Some text) None = ⊥
+NumeralOf (Some text) (Some number) = IsNumeral text number
+
+abbrev pub GivesNumber : Text → List Row → Option ℕ → Type 0
+GivesNumber id found number = NumeralOf (first_of id found) number
+
+-- the task of `dump`
+abbrev pub WantsDump : List Row → Task → Type 0
+WantsDump found (Dump setup after stop names first last) = IsSetup (codes "DECK") found setup
+    × GivesCount (codes "after") found after
+    × HasText (codes "stop") found stop × HasText (codes "names") found names
+    × GivesCount (codes "first") found first × GivesNumber (codes "last") found last
+WantsDump found other = ⊥
+
+-- the task of `profile`
+abbrev pub WantsProfile : List Row → Task → Type 0
+WantsProfile found (Profile setup names) =
+    IsSetup (codes "DECK") found setup × HasText (codes "names") found names
+WantsProfile found other = ⊥
+
+-- the task of `card`
+abbrev pub WantsCard : List Row → Task → Type 0
+WantsCard found (Card deck number out) = WantsOption (codes "DECK") found deck.now
+    × WantsNumber (codes "N") found number × WantsOption (codes "OUT") found out.now
+WantsCard found other = ⊥
+
+-- the task of `deck`
+abbrev pub WantsDeck : List Row → Task → Type 0
+WantsDeck found (Deck deck out) =
+    WantsOption (codes "DECK") found deck.now × WantsOption (codes "OUT") found out.now
+WantsDeck found other = ⊥
+
+-- the task of `pages`
+abbrev pub WantsPages : List Row → Task → Type 0
+WantsPages found (Pages listing out) =
+    WantsOption (codes "LISTING") found listing.now × WantsOption (codes "OUT") found out.now
+WantsPages found other = ⊥
+
+-- the task of `page`
+abbrev pub WantsPage : List Row → Task → Type 0
+WantsPage found (Page setup out) =
+    IsSetup (codes "SOURCE") found setup × WantsOption (codes "OUT") found out.now
+WantsPage found other = ⊥
+
 -- the task of a row, by what was found after its name
 abbrev pub WantsTask : RowName → List Row → Task → Type 0
 WantsTask name.Punch found task = WantsPunch found task
@@ -147,6 +244,13 @@ WantsTask name.Sequence found task = WantsSequence found task
 WantsTask name.Source found task = WantsSource found task
 WantsTask name.Manifest found task = WantsManifest found task
 WantsTask name.Convert found task = WantsConvert found task
+WantsTask name.Trace found task = WantsTrace found task
+WantsTask name.Dump found task = WantsDump found task
+WantsTask name.Profile found task = WantsProfile found task
+WantsTask name.Card found task = WantsCard found task
+WantsTask name.Deck found task = WantsDeck found task
+WantsTask name.Pages found task = WantsPages found task
+WantsTask name.Page found task = WantsPage found task
 
 -- clap takes the words by the program's command, and the task is that of the row and the arguments
 -- that it finds

@@ -9,6 +9,10 @@ use Rattle.card_texts.specs.declared.EmptyLine.TheVariants as empty
 abbrev pub IsNumeral : List ℕ → ℕ → Type 0
 IsNumeral text number = (0 < number) × (number < 10 ^ 9) × (text ≡ decimal number)
 
+-- the same, or 0 alone
+abbrev pub IsCount : List ℕ → ℕ → Type 0
+IsCount text number = (number < 10 ^ 9) × (text ≡ decimal number)
+
 -- whether columns rise from behind this one, and end at 80 at most
 unfoldable pub rises : ℕ → List ℕ → Bool
 rises last [] = true

@@ -18,17 +18,24 @@ usage:
   workbench convert IN OUT FROM TO                makes a deck of one form one of another
   workbench source IN [--data] [--width WIDTH]    prints a source with its code, or its faults
   workbench manifest FILE.. [OPTIONS]             prints a digest of each deck, or compares them
+  workbench trace DECK SIZE SWITCHES [OPTIONS]    prints the instructions of a run
+  workbench dump DECK SIZE SWITCHES [OPTIONS]     prints the storage after a run, or within it
+  workbench profile DECK SIZE SWITCHES [OPTIONS]  prints how often a run did each instruction
+  workbench card DECK N OUT                       draws a card
+  workbench deck DECK OUT                         draws the cards of a deck on a page
+  workbench pages LISTING OUT                     draws a listing as pages of paper
+  workbench page SOURCE SIZE SWITCHES OUT         draws a job: its source, its run, what came out
   workbench ROW --help                            prints the help of a row, as punch --help (or -h)
   workbench --help                                prints this text (or -h)
   workbench --version                             prints the version, and the logic it is proved in
 
-IN, DECK, ONE, OTHER, FILE may be - for the standard input, OUT - for the standard output: so rows
-are joined by pipes. Where a value begins with a hyphen, put -- before it. No file is changed but
-OUT. A file there has all of what is written or stays as it was; a link or a device is written
-straight, and a full disk may leave a part.
+IN, DECK, ONE, OTHER, FILE, LISTING, SOURCE may be - for the standard input, OUT - for the standard
+output: so rows are joined by pipes. Where a value begins with a hyphen, put -- before it. No file
+is changed but OUT. A file there has all of what is written or stays as it was; a link or a device
+is written straight, and a full disk may leave a part.
 
 A deck is a deck text (80 glyphs a line) or a punch file (240 hexadecimal digits a line), which is
-what `bureau export` writes; list, compare, sequence and manifest tell them by their width.
+what `bureau export` writes; rows with no other form tell them by their width.
 
 exit status:
   0  all was done, and nothing was found
@@ -166,6 +173,124 @@ the file, and sha256sum prints the same of a deck text. A file that is no deck i
 fault, the status is 1 then, and the others go on.
 ";
 
+/// The text that `trace --help` prints.
+pub const TRACE_HELP: &str = "\
+workbench trace DECK SIZE SWITCHES [--from N] [--count N] [--stop ADDRESS] [--names SOURCE]
+                [--fields]: prints the instructions of a run, one a line.
+
+DECK            a deck that loads itself, as bureau run takes it
+SIZE            positions of storage: 1400, 2000, 4000, 8000, 12000 or 16000
+SWITCHES        rising letters of ABCDEFG, the sense switches that are on, or - for none
+--from N        the number of the first instruction that is printed; without it 1
+--count N       how many are printed at most; without it 1,000
+--stop ADDRESS  the run ends before the instruction at this address: a number, or with --names an
+                address as an operand has it
+--names SOURCE  the Autocoder source of the deck, whose names are shown beside addresses
+--fields        the fields at both addresses, before and after each instruction
+
+example:
+  workbench trace examples/two_lines.deck 4000 A --count 20
+  workbench trace examples/two_lines.deck 4000 A --names examples/two_lines.source --stop DONE
+
+A line has the number of the instruction, its address, its characters, the registers A and B and
+what the units did. The last 20 instructions before a check are always printed. The end is the line
+of bureau run; no option changes what the run does. Status 0: the machine stands at a halt.
+";
+
+/// The text that `dump --help` prints.
+pub const DUMP_HELP: &str = "\
+workbench dump DECK SIZE SWITCHES [--after N] [--stop ADDRESS] [--names SOURCE] [--first N]
+               [--last N]: prints the storage after a run, or within it.
+
+DECK, SIZE, SWITCHES  as trace --help has them
+--after N             the machine does N instructions; without it it goes on to its end
+--stop ADDRESS        it stops before the instruction at this address: a number, or with --names an
+                      address as an operand has it
+--names SOURCE        the Autocoder source of the deck
+--first N, --last N   positions of the first and of the last row that are printed
+
+example:
+  workbench dump examples/two_lines.deck 4000 A --after 30
+  workbench dump examples/two_lines.deck 4000 A --first 333 --last 380
+
+A row has 50 positions, with an apostrophe under each that has a word mark; (blank) stands for rows
+that are blank and have none. Behind them come the registers, the reader, the punch and the printer.
+";
+
+/// The text that `profile --help` prints.
+pub const PROFILE_HELP: &str = "\
+workbench profile DECK SIZE SWITCHES [--names SOURCE]: prints how often a run did each instruction.
+
+DECK, SIZE, SWITCHES  as trace --help has them
+--names SOURCE        the Autocoder source of the deck: it is listed, with the count of each card
+
+example:
+  workbench profile examples/primes.deck 4000 A
+  workbench profile examples/primes.deck 4000 A --names examples/primes.source
+
+Without --names there is a line for each address at which an instruction began. The counts add up to
+the instructions that the run did.
+";
+
+/// The text that `card --help` prints.
+pub const CARD_HELP: &str = "\
+workbench card DECK N OUT: draws a card, as a picture of its own (SVG).
+
+DECK  a deck text or a punch file
+N     the number of the card, from 1
+OUT   the picture
+
+example:
+  workbench card examples/two_lines.deck 5 hello.svg
+  workbench card ACME-9.cards 1 first.svg
+
+The picture has the holes of the card, and its glyphs at the upper edge. It needs no other file.
+";
+
+/// The text that `deck --help` prints.
+pub const DECK_HELP: &str = "\
+workbench deck DECK OUT: draws the cards of a deck on one page (HTML).
+
+DECK  a deck text or a punch file
+OUT   the page
+
+example:
+  workbench deck examples/two_lines.deck two_lines.html
+  workbench deck ACME-9.cards ACME-9.html
+
+The page has no script and needs no other file.
+";
+
+/// The text that `pages --help` prints.
+pub const PAGES_HELP: &str = "\
+workbench pages LISTING OUT: draws a listing as pages of paper with bars (HTML).
+
+LISTING  the lines of a job, as bureau run and bureau export write them
+OUT      the pages
+
+example:
+  bureau run examples/primes.deck 4000 A > primes.lines
+  workbench pages primes.lines primes.html
+
+A form is a page of 66 lines and 132 columns. The pages have no script and need no other file.
+";
+
+/// The text that `page --help` prints.
+pub const PAGE_HELP: &str = "\
+workbench page SOURCE SIZE SWITCHES OUT: draws a job on one page (HTML).
+
+SOURCE          a deck text that begins with the source; the cards behind it are the job's data
+SIZE, SWITCHES  as trace --help has them
+OUT             the page
+
+example:
+  workbench page examples/two_lines.source 4000 A two_lines.html
+  workbench page mine.source 8000 - mine.html
+
+The page has the source with its code and names, the end of its run, what it printed and punched,
+and the SHA-256 of each. It has no script and needs no other file.
+";
+
 /// The text that `--version` prints: the version, and the logic that the program is proved in.
 pub(crate) const VERSION: &str = "\
 workbench 1
@@ -185,6 +310,13 @@ pub(crate) fn page(row: Option<RowName>) -> &'static str
         Some(RowName::Convert) => CONVERT_HELP,
         Some(RowName::Source) => SOURCE_HELP,
         Some(RowName::Manifest) => MANIFEST_HELP,
+        Some(RowName::Trace) => TRACE_HELP,
+        Some(RowName::Dump) => DUMP_HELP,
+        Some(RowName::Profile) => PROFILE_HELP,
+        Some(RowName::Card) => CARD_HELP,
+        Some(RowName::Deck) => DECK_HELP,
+        Some(RowName::Pages) => PAGES_HELP,
+        Some(RowName::Page) => PAGE_HELP,
     }
 }
 
@@ -199,5 +331,14 @@ pub(crate) fn usage(row: RowName) -> &'static str {
         RowName::Convert => "convert IN OUT FROM TO",
         RowName::Source => "source IN [--data] [--width 80|120]",
         RowName::Manifest => "manifest FILE.. [--form FORM] [--check KNOWN]",
+        RowName::Trace => "trace DECK SIZE SWITCHES [--from N] [--count N] [--stop ADDRESS] \
+             [--names SOURCE] [--fields]",
+        RowName::Dump => "dump DECK SIZE SWITCHES [--after N] [--stop ADDRESS] [--names SOURCE] \
+             [--first N] [--last N]",
+        RowName::Profile => "profile DECK SIZE SWITCHES [--names SOURCE]",
+        RowName::Card => "card DECK N OUT",
+        RowName::Deck => "deck DECK OUT",
+        RowName::Pages => "pages LISTING OUT",
+        RowName::Page => "page SOURCE SIZE SWITCHES OUT",
     }
 }

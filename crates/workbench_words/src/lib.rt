@@ -7,15 +7,17 @@
 //! [`task_of`] returns a task only if the words ask for it (`specs/Tasks.antt`).
 #![tactic(auto)]
 
+mod bench_tasks;
 mod commands;
 mod found;
 mod help;
 mod parsing;
+mod picture_tasks;
 mod rows;
 mod tasks;
 mod telling;
 mod values;
 
 pub use rows::RowName;
-pub use tasks::{Misuse, Task, task_of};
+pub use tasks::{Misuse, Setup, Task, task_of};
 pub use telling::{show_help, show_version, tell_misuse};

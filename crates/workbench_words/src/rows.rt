@@ -23,10 +23,24 @@ pub enum RowName {
     Source,
     /// `manifest`.
     Manifest,
+    /// `trace`.
+    Trace,
+    /// `dump`.
+    Dump,
+    /// `profile`.
+    Profile,
+    /// `card`.
+    Card,
+    /// `deck`.
+    Deck,
+    /// `pages`.
+    Pages,
+    /// `page`.
+    Page,
 }
 
 /// The rows, in the order of [`RowName`]: each with its name, and with its arguments.
-pub(crate) const ROWS: [(RowName, &str, &[(&str, Kind)]); 7] = [
+pub(crate) const ROWS: [(RowName, &str, &[(&str, Kind)]); 14] = [
     (
         RowName::Punch,
         "punch",
@@ -94,17 +108,96 @@ pub(crate) const ROWS: [(RowName, &str, &[(&str, Kind)]); 7] = [
             ("check", Kind::Setting),
         ],
     ),
+    (
+        RowName::Trace,
+        "trace",
+        &[
+            ("DECK", Kind::Value),
+            ("SIZE", Kind::Value),
+            ("SWITCHES", Kind::Value),
+            ("from", Kind::Setting),
+            ("count", Kind::Setting),
+            ("stop", Kind::Setting),
+            ("names", Kind::Setting),
+            ("fields", Kind::Flag),
+        ],
+    ),
+    (
+        RowName::Dump,
+        "dump",
+        &[
+            ("DECK", Kind::Value),
+            ("SIZE", Kind::Value),
+            ("SWITCHES", Kind::Value),
+            ("after", Kind::Setting),
+            ("stop", Kind::Setting),
+            ("names", Kind::Setting),
+            ("first", Kind::Setting),
+            ("last", Kind::Setting),
+        ],
+    ),
+    (
+        RowName::Profile,
+        "profile",
+        &[
+            ("DECK", Kind::Value),
+            ("SIZE", Kind::Value),
+            ("SWITCHES", Kind::Value),
+            ("names", Kind::Setting),
+        ],
+    ),
+    (
+        RowName::Card,
+        "card",
+        &[
+            ("DECK", Kind::Value),
+            ("N", Kind::Value),
+            ("OUT", Kind::Value),
+        ],
+    ),
+    (
+        RowName::Deck,
+        "deck",
+        &[("DECK", Kind::Value), ("OUT", Kind::Value)],
+    ),
+    (
+        RowName::Pages,
+        "pages",
+        &[("LISTING", Kind::Value), ("OUT", Kind::Value)],
+    ),
+    (
+        RowName::Page,
+        "page",
+        &[
+            ("SOURCE", Kind::Value),
+            ("SIZE", Kind::Value),
+            ("SWITCHES", Kind::Value),
+            ("OUT", Kind::Value),
+        ],
+    ),
 ];
 
-/// The first row of a table with this name.
-fn row_in<'a>(
+/// The first line of a table with this name.
+fn line_in<'a>(
     table: &'a [(RowName, &'a str, &'a [(&'a str, Kind)])],
     word: &str,
 ) -> Option<&'a (RowName, &'a str, &'a [(&'a str, Kind)])>
-    ensures { option_map (λ row. row.now) result
-        ≡ find (λ row. bytes_eq row.1.now word.now) table.entry.now }
+    ensures { option_map (λ line. line.now) result
+        ≡ find (λ line. bytes_eq line.1.now word.now) table.entry.now }
 {
-    table.iter().find(|row| row.1 == word)
+    table.iter().find(|line| line.1 == word)
+}
+
+/// The first row with this name, by a table that has their names.
+fn row_in(table: &[(RowName, &str, &[(&str, Kind)])], word: &str) -> Option<RowName>
+    requires { map (λ line. line.1.now) table.now ≡ map (λ line. name_of line.0) table.now }
+    ensures { result
+        ≡ find (λ row. bytes_eq (name_of row) word.now) (map (λ line. line.0) table.now) }
+{
+    match line_in(table, word) {
+        Some(line) => Some(line.0),
+        None => None,
+    }
 }
 
 impl RowName {
@@ -112,7 +205,6 @@ impl RowName {
     pub(crate) fn of(word: &str) -> Option<RowName>
         ensures { result ≡ row_named word.now }
     {
-        let row = row_in(&ROWS, word)?;
-        Some(row.0)
+        row_in(&ROWS, word)
     }
 }

@@ -8,18 +8,33 @@ ghost use Rattle.workbench_words.specs.Tasks.{HasEmpty, HasForm, HasKept, HasSig
 ghost use Rattle.workbench_words.specs.Values.{IsNumeral};
 ghost use Rattle.workbench_words.specs.declared.tasks.Misuse.TheVariants.{Memory};
 
+use crate::bench_tasks::{dump_task, profile_task, trace_task};
 use crate::found::{has_flag, value, values};
 use crate::parsing::parse;
+use crate::picture_tasks::{card_task, deck_task, page_task, pages_task};
 use crate::rows::RowName;
 use crate::values::{column_of, empty_of, narrow_of, signs_of, stops_of};
 use card_forms::Form;
 use card_texts::{EmptyLine, Rules, Signs};
 use clap::ArgMatches;
 use command_line::Unread;
+use core_store::Size;
 use std::alloc::{AllocError, Global};
 use std::io;
 use std::io::ErrorKind;
 use texts::number_of;
+use units::Switches;
+
+/// What a machine begins with.
+#[derive(Clone, Copy)]
+pub struct Setup<'a> {
+    /// The path of its deck, or of the source of its deck.
+    pub input: &'a str,
+    /// How many positions of storage it has.
+    pub size: Size,
+    /// The sense switches that are on.
+    pub switches: Switches,
+}
 
 /// What the program is to do. A path that is `-` stands for the standard input or output.
 #[derive(Drop)]
@@ -102,6 +117,73 @@ pub enum Task<'a> {
         /// The path of the digests to compare with.
         known: Option<&'a str>,
     },
+    /// Print the instructions of a run.
+    Trace {
+        /// What the machine begins with.
+        setup: Setup<'a>,
+        /// The number of the first instruction that is printed.
+        from: u32,
+        /// How many are printed.
+        count: u32,
+        /// The address before whose instruction the run ends, as it is given.
+        stop: Option<&'a str>,
+        /// The path of the source that has the names.
+        names: Option<&'a str>,
+        /// Whether the fields at both addresses are printed.
+        fields: bool,
+    },
+    /// Print the storage after a run.
+    Dump {
+        /// What the machine begins with.
+        setup: Setup<'a>,
+        /// How many instructions it does, if it does not go on to its end.
+        after: Option<u32>,
+        /// The address before whose instruction the run ends, as it is given.
+        stop: Option<&'a str>,
+        /// The path of the source that has the names.
+        names: Option<&'a str>,
+        /// The first position that is asked for.
+        first: Option<u32>,
+        /// The last position that is asked for.
+        last: Option<u32>,
+    },
+    /// Print how often a run did each instruction.
+    Profile {
+        /// What the machine begins with.
+        setup: Setup<'a>,
+        /// The path of the source that has the names.
+        names: Option<&'a str>,
+    },
+    /// Draw a card.
+    Card {
+        /// The path of the deck.
+        deck: &'a str,
+        /// The number of the card.
+        number: u32,
+        /// The path of the picture.
+        out: &'a str,
+    },
+    /// Draw the cards of a deck on a page.
+    Deck {
+        /// The path of the deck.
+        deck: &'a str,
+        /// The path of the page.
+        out: &'a str,
+    },
+    /// Draw a listing as pages of paper.
+    Pages {
+        /// The path of the listing.
+        listing: &'a str,
+        /// The path of the pages.
+        out: &'a str,
+    },
+    /// Draw a job on a page.
+    Page {
+        /// The source of the job, and what the machine begins with.
+        setup: Setup<'a>,
+        /// The path of the page.
+        out: &'a str,
+    },
 }
 
 /// Why words do not ask for a task.
@@ -127,8 +209,12 @@ pub enum Misuse {
     Form,
     /// The value of `--width` is none of two.
     Width,
-    /// FIRST or STEP is no number.
+    /// A number is none.
     Number,
+    /// SIZE is no size of storage.
+    Size,
+    /// SWITCHES does not name a set of sense switches.
+    Switches,
 }
 
 impl From<AllocError> for Misuse {
@@ -202,7 +288,11 @@ fn empty_in(found: &ArgMatches<'_>) -> Result<EmptyLine, Misuse>
 }
 
 /// The value of an argument that a row cannot lack.
-fn needed<'a>(found: &ArgMatches<'a>, name: &str, row: RowName) -> Result<&'a str, Misuse>
+pub(crate) fn needed<'a>(
+    found: &ArgMatches<'a>,
+    name: &str,
+    row: RowName,
+) -> Result<&'a str, Misuse>
     ensures { IfOk result (λ text. WantsOption name.now (rows_of (found_of found.now)) text.now) }
 {
     match value(found, name) {
@@ -257,7 +347,7 @@ fn compare_task<'a>(found: &ArgMatches<'a>) -> Result<Task<'a>, Misuse>
 }
 
 /// A number of 1 to 9 digits without a zero in front.
-fn number(text: &str) -> Result<u32, Misuse>
+pub(crate) fn number(text: &str) -> Result<u32, Misuse>
     ensures { IfOk result (IsNumeral text.now) }
 {
     match number_of(text) {
@@ -376,6 +466,13 @@ fn row_task<'a>(alloc: Global, row: RowName, found: &ArgMatches<'a>) -> Result<T
         RowName::Source => source_task(found),
         RowName::Manifest => manifest_task(alloc, found),
         RowName::Convert => convert_task(found),
+        RowName::Trace => trace_task(found),
+        RowName::Dump => dump_task(found),
+        RowName::Profile => profile_task(found),
+        RowName::Card => card_task(found),
+        RowName::Deck => deck_task(found),
+        RowName::Pages => pages_task(found),
+        RowName::Page => page_task(found),
     }
 }
 

@@ -7,7 +7,7 @@ ghost use Rattle.workbench_words.specs.Printed.{misuse_status, page_of, version_
 use crate::help::{VERSION, page, usage};
 use crate::rows::RowName;
 use crate::tasks::Misuse;
-use command_line::{Fault, Status, show_text, tell_fault};
+use command_line::{Fault, SIZE_COMPLAINT, SWITCHES_COMPLAINT, Status, show_text, tell_fault};
 use std::io;
 use std::io::Write;
 
@@ -49,8 +49,11 @@ fn complaint(misuse: Misuse) -> &'static str {
         Misuse::Form => "FROM, TO and --form must be text, punch, simh or binary",
         Misuse::Width => "--width must be 80 or 120",
         Misuse::Number => {
-            "FIRST and STEP must be numbers of 1 to 9 digits without a zero in front"
+            "a number must have 1 to 9 digits without a zero in front; --count, --after and --first \
+             may be 0"
         }
+        Misuse::Size => SIZE_COMPLAINT,
+        Misuse::Switches => SWITCHES_COMPLAINT,
     }
 }
 

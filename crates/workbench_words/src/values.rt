@@ -1,7 +1,7 @@
 //! The values of the rows' arguments.
 
 ghost use Rattle.std.specs.Prelude.{◌≡◌, ◌≤◌, ◌<◌, ◌++◌, ◌∷◌, [], true, IfSome, IfOk, decimal};
-ghost use Rattle.workbench_words.specs.Values.{AreStops, rises, stops_text, word_of_empty, word_of_signs, word_of_width};
+ghost use Rattle.workbench_words.specs.Values.{AreStops, IsCount, rises, stops_text, word_of_empty, word_of_signs, word_of_width};
 
 use card_texts::{EmptyLine, Signs};
 use itoa::Buffer;
@@ -22,6 +22,16 @@ pub(crate) fn column_of(text: &str) -> Option<u8>
         return None;
     }
     Some(number as u8)
+}
+
+/// The number of a text, which may also be 0 alone.
+pub(crate) fn count_of(text: &str) -> Option<u32>
+    ensures { IfSome result (IsCount text.now) }
+{
+    if text == "0" {
+        return Some(0);
+    }
+    number_of(text)
 }
 
 /// Whether columns rise from behind one, and end at 80 at most.

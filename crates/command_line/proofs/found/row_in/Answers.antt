@@ -1,22 +1,14 @@
 use Rattle.std.proofs.Common.{◌∙◌, ◌≡◌, sym, subst, Some, None, ap, List}
-use Rattle.std.specs.Prelude.{Option, option_map}
+use Rattle.std.specs.Prelude.{Option}
 use Rattle.clap.specs.Words.{Row, Text}
 use Rattle.clap.specs.declared.parser.matches.ArgMatches.TheViews.{out-ArgMatches}
 use Rattle.command_line.specs.declared.asked.Words.{Words}
 use Rattle.command_line.specs.declared.row_names.RowName.{RowName}
 use Rattle.command_line.specs.Asked.{IsRow, row_of, values_found}
 use Rattle.command_line.specs.Rows.{row_named}
+use Rattle.command_line.proofs.FoundRows.{found_is}
 use Rattle.command_line.proofs.RowNameLemmas.{name_is, named_name}
 use Rattle.command_line.proofs.found.row_in.Goals as goal
-
--- where a name and rows were found, they are what was found
-abbrev both : {X : Type 0} → (X → Text) → (X → List Row) → X → Text × List Row
-both f g x = (f x, g x)
-
-found_is : {X : Type 0} (f : X → Text) (g : X → List Row) {name : Text} {rows : List Row} (o : Option X) → Some name ≡ option_map f o
-    → Some rows ≡ option_map (λ (p : Text × List Row). p.1) (option_map (both f g) o) → option_map (both f g) o ≡ Some (name, rows)
-found_is f g None e k = cc
-found_is f g (Some x) e k = cc
 
 -- what was found under a name that no row has is no row
 no_row : (name : Text) (rows : List Row) (asked : Words) → row_named name ≡ None → IsRow (Some (name, rows)) asked → ⊥
