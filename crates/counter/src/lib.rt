@@ -30,3 +30,4 @@ pub use out_files::write_out;
 pub use replacing::put_file;
 pub use running::{no_deck_is_cut_off, run_deck};
 pub use showing::Assembled;
+pub use statuses::status_at;

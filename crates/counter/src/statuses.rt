@@ -7,7 +7,7 @@ use command_line::Status;
 use machine::StandingAt;
 
 /// How the program ends after a run that ended with this standing.
-pub(crate) fn status_at(standing: StandingAt) -> Status
+pub fn status_at(standing: StandingAt) -> Status
     ensures { result ≡ status_at standing }
 {
     match standing {

@@ -8,11 +8,11 @@ use Rattle.core_store.specs.declared.sizes.Size.{Size}
 use Rattle.core_store.specs.Storage.{positions_of}
 use Rattle.units.specs.declared.switches.Switches.{Switches}
 use Rattle.units.specs.Listing.{rendered}
+use Rattle.units.specs.declared.printer.Line.{Line}
 use Rattle.machine.specs.Run.{State, lines_of}
 use Rattle.machine.specs.Reports.{report_of, report_words}
 use Rattle.texts.specs.Switches as switches
 use Rattle.pictures.specs.Escapes.{escaped}
-use Rattle.job_pages.specs.Jobs.{cards_punched, ran}
 
 -- the digest of bytes: their SHA-256, in lower-case hexadecimal digits
 abbrev pub digest_of : List ℕ → List ℕ
@@ -37,10 +37,10 @@ machine_fact size on = codes "<tr><th>machine</th><td>" ++ decimal (positions_of
 abbrev pub end_fact : State → List ℕ
 end_fact m = codes "<tr><th>end</th><td>" ++ report_words (report_of m) ++ codes "</td></tr>\n"
 
--- the row of the listing, with its digest
-abbrev pub listing_fact : ℕ → List ℕ → List ℕ
-listing_fact lines listing =
-    codes "<tr><th>listing</th><td>" ++ counted lines (codes " lines") listing
+-- the row of the listing of printed lines, with its digest
+abbrev pub listing_fact : List Line → List ℕ
+listing_fact lines = codes "<tr><th>listing</th><td>"
+    ++ counted (length lines) (codes " lines") (rendered lines)
 
 -- the row of the punched cards, with the digest of their punch file
 abbrev pub punched_fact : List Card → List ℕ
@@ -52,10 +52,12 @@ abbrev pub maker_fact : List ℕ → List ℕ
 maker_fact version =
     codes "<tr><th>made by</th><td>" ++ escaped version ++ codes "</td></tr>\n"
 
--- the rows of a source that was run on a machine of this size with these switches
-unfoldable pub facts : List Card → List Card → State → Size → Switches → List ℕ → List ℕ
-facts source deck m size on version = codes "<table>\n"
+-- the rows of a source that was run on a machine of this size with these switches, which has punched
+-- these cards
+unfoldable pub facts : List Card → List Card → State → List Card → Size → Switches → List ℕ →
+    List ℕ
+facts source deck m cards size on version = codes "<table>\n"
     ++ deck_fact (codes "source and data") source ++ deck_fact (codes "deck that was run") deck
     ++ machine_fact size on ++ end_fact m
-    ++ listing_fact (length (lines_of m)) (rendered (lines_of m))
-    ++ punched_fact (cards_punched m) ++ maker_fact version ++ codes "</table>\n"
+    ++ listing_fact (lines_of m)
+    ++ punched_fact cards ++ maker_fact version ++ codes "</table>\n"

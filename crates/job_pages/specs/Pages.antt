@@ -45,15 +45,22 @@ cards_shown cards = codes "<h2>Punched cards</h2>\n" ++ (if length cards == 0
     then codes "<p>No card was punched.</p>\n"
     else figures cards)
 
--- the page of a source, its deck, and the machine that has run it
-unfoldable pub page_by : List ℕ → List ℕ → List Card → List Card → State → Size → Switches →
-    List ℕ → List ℕ
-page_by name code source deck m size switches version = job_head name
-    ++ facts source deck m size switches version ++ code_shown code
-    ++ listing_shown (rendered (lines_of m)) ++ cards_shown (cards_punched m)
+-- the page of a source, its deck, and the machine that has run it, with its listing and the cards
+-- that it has punched
+abbrev pub page_by : List ℕ → List ℕ → List Card → List Card → State → List ℕ → List Card → Size →
+    Switches → List ℕ → List ℕ
+page_by name code source deck m listing cards size switches version = job_head name
+    ++ facts source deck m cards size switches version ++ code_shown code
+    ++ listing_shown listing ++ cards_shown cards
+
+-- the page of a source that this machine has run
+abbrev pub page_after : List ℕ → List Card → State → Size → Switches → List ℕ → List ℕ
+page_after name source m size switches version =
+    page_by name (listing_with_code_for source) source (runnable_deck source) m
+    (rendered (lines_of m)) (cards_punched m) size switches version
 
 -- the page of a job with a name: of its source, which is assembled and run on a machine of this
 -- size with these switches
 abbrev pub page_of : List ℕ → List Card → Size → Switches → List ℕ → List ℕ
-page_of name source size switches version = page_by name (listing_with_code_for source) source
-    (runnable_deck source) (ran source size switches) size switches version
+page_of name source size switches version =
+    page_after name source (ran source size switches) size switches version

@@ -1,10 +1,14 @@
 //! The table of a page: what was run, how it ended, and the digests.
 
-ghost use Rattle.std.specs.Prelude.{◌≡◌, ◌++◌, decimal, OnOk};
+ghost use Rattle.std.specs.Prelude.{◌≡◌, ◌++◌, codes, decimal, length, OnOk};
+ghost use Rattle.cards.specs.Files.{punch_file_of, text_of};
 ghost use Rattle.core_store.specs.Storage.{positions_of};
 ghost use Rattle.machine.specs.Reports.{report_of, report_words};
+ghost use Rattle.machine.specs.Run.{lines_of};
+ghost use Rattle.units.specs.Listing.{rendered};
 ghost use Rattle.job_pages.specs.Facts.{digest_of, counted, deck_fact, end_fact, listing_fact, machine_fact, maker_fact, punched_fact};
 
+use crate::jobs::listing_of;
 use cards::{Card, Deck, write_punched_cards, write_text};
 use core_store::{PlaneCore, Size};
 use machine::{Machine, Report};
@@ -42,6 +46,15 @@ fn push_counted(
     Ok(())
 }
 
+/// Adds how many cards a deck has, and the digest of its text.
+fn push_deck_counted(alloc: Global, out: &mut Vec<u8>, deck: &Deck) -> Result<(), AllocError>
+    ensures { OnOk result (out.new.items
+        ≡ out.old.items ++ counted (length deck.now) (codes " cards") (text_of deck.now)) }
+{
+    let text = write_text(alloc, deck)?;
+    push_counted(alloc, out, deck.cards().len(), b" cards", &text)
+}
+
 /// Adds the row of a deck, under this name.
 pub(crate) fn push_deck(
     alloc: Global,
@@ -51,11 +64,10 @@ pub(crate) fn push_deck(
 ) -> Result<(), AllocError>
     ensures { OnOk result (out.new.items ≡ out.old.items ++ deck_fact name.now deck.now) }
 {
-    let text = write_text(alloc, deck)?;
     out.extend_from_slice(b"<tr><th>")?;
     out.extend_from_slice(name)?;
     out.extend_from_slice(b"</th><td>")?;
-    push_counted(alloc, out, deck.cards().len(), b" cards", &text)?;
+    push_deck_counted(alloc, out, deck)?;
     Ok(())
 }
 
@@ -110,18 +122,40 @@ pub(crate) fn push_end(
     Ok(())
 }
 
-/// Adds the row of the listing of so many lines.
+/// Adds how many lines a machine has printed, and the digest of its listing.
+fn push_lines_counted(
+    alloc: Global,
+    out: &mut Vec<u8>,
+    machine: &Machine<PlaneCore>,
+) -> Result<(), AllocError>
+    ensures { OnOk result (out.new.items ≡ out.old.items ++ counted
+        (length (lines_of machine.now)) (codes " lines") (rendered (lines_of machine.now))) }
+{
+    let listing = listing_of(alloc, machine)?;
+    let lines = machine.parts().units.printer.lines.len();
+    push_counted(alloc, out, lines, b" lines", &listing)
+}
+
+/// Adds the row of the listing.
 pub(crate) fn push_listing(
     alloc: Global,
     out: &mut Vec<u8>,
-    lines: usize,
-    listing: &[u8],
+    machine: &Machine<PlaneCore>,
 ) -> Result<(), AllocError>
-    ensures { OnOk result (out.new.items ≡ out.old.items ++ listing_fact lines listing.now) }
+    ensures { OnOk result (out.new.items ≡ out.old.items ++ listing_fact (lines_of machine.now)) }
 {
     out.extend_from_slice(b"<tr><th>listing</th><td>")?;
-    push_counted(alloc, out, lines, b" lines", listing)?;
+    push_lines_counted(alloc, out, machine)?;
     Ok(())
+}
+
+/// Adds how many cards there are, and the digest of their punch file.
+fn push_cards_counted(alloc: Global, out: &mut Vec<u8>, cards: &[Card]) -> Result<(), AllocError>
+    ensures { OnOk result (out.new.items
+        ≡ out.old.items ++ counted (length cards.now) (codes " cards") (punch_file_of cards.now)) }
+{
+    let file = write_punched_cards(alloc, cards)?;
+    push_counted(alloc, out, cards.len(), b" cards", &file)
 }
 
 /// Adds the row of the punched cards.
@@ -132,9 +166,8 @@ pub(crate) fn push_punched(
 ) -> Result<(), AllocError>
     ensures { OnOk result (out.new.items ≡ out.old.items ++ punched_fact cards.now) }
 {
-    let file = write_punched_cards(alloc, cards)?;
     out.extend_from_slice(b"<tr><th>punch file</th><td>")?;
-    push_counted(alloc, out, cards.len(), b" cards", &file)?;
+    push_cards_counted(alloc, out, cards)?;
     Ok(())
 }
 

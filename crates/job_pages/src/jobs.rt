@@ -6,8 +6,10 @@ ghost use Rattle.autocoder_layout.specs.Source.{source_of};
 ghost use Rattle.autocoder.specs.Programs.{IsFaultless, IsProgramOf};
 ghost use Rattle.autocoder_listings.specs.Listing.{listing_with_code_for};
 ghost use Rattle.loader.specs.Decks.{runnable_deck};
+ghost use Rattle.machine.specs.Run.{lines_of};
+ghost use Rattle.units.specs.Listing.{rendered};
 ghost use Rattle.units.specs.declared.punch.Punched.{Punched};
-ghost use Rattle.job_pages.specs.Jobs.{Hinders, IsJobOf, ran};
+ghost use Rattle.job_pages.specs.Jobs.{Hinders, IsJobOf, cards_punched, ran};
 
 use crate::pages::JobPageError;
 use autocoder::{Faults, Program, assemble};
@@ -18,7 +20,7 @@ use core_store::{PlaneCore, Size};
 use loader::runnable_deck;
 use machine::Machine;
 use std::alloc::{AllocError, Global};
-use units::{Punched, Switches};
+use units::{Punched, Switches, render};
 
 /// A source with its code, the deck that runs it, and the machine that has run that deck.
 #[derive(Drop)]
@@ -89,7 +91,7 @@ impl Job {
 }
 
 /// The cards of a punch, without their pockets.
-pub(crate) fn cards_of(alloc: Global, punched: &[Punched]) -> Result<Vec<Card>, AllocError>
+fn cards_of(alloc: Global, punched: &[Punched]) -> Result<Vec<Card>, AllocError>
     ensures { IfOk result (λ cards. cards.items ≡ map (λ (p : Punched). p.card) punched.now) }
 {
     let mut cards = Vec::with_capacity(alloc, punched.len())?;
@@ -97,4 +99,21 @@ pub(crate) fn cards_of(alloc: Global, punched: &[Punched]) -> Result<Vec<Card>, 
         cards.push(Card(one.card.0))?;
     }
     Ok(cards)
+}
+
+/// The listing of the lines that a machine has printed.
+pub(crate) fn listing_of(alloc: Global, machine: &Machine<PlaneCore>) -> Result<Vec<u8>, AllocError>
+    ensures { IfOk result (λ text. text.items ≡ rendered (lines_of machine.now)) }
+{
+    render(alloc, &machine.parts().units.printer.lines)
+}
+
+/// The cards that a machine has punched.
+pub(crate) fn punched_by(
+    alloc: Global,
+    machine: &Machine<PlaneCore>,
+) -> Result<Vec<Card>, AllocError>
+    ensures { IfOk result (λ cards. cards.items ≡ cards_punched machine.now) }
+{
+    cards_of(alloc, &machine.parts().units.punch.cards)
 }

@@ -13,12 +13,12 @@ ghost use Rattle.job_pages.specs.Pages.{page_by, page_of};
 ghost use Rattle.job_pages.specs.declared.pages.JobPageError.TheVariants.{NoMemory};
 
 use crate::facts::{push_deck, push_end, push_listing, push_machine, push_maker, push_punched};
-use crate::jobs::{Job, cards_of};
+use crate::jobs::{Job, listing_of, punched_by};
 use crate::parts;
 use cards::{Card, Deck};
 use core_store::Size;
 use std::alloc::{AllocError, Global};
-use units::{Switches, render};
+use units::Switches;
 
 /// Why there is no page of a job.
 #[derive(Clone, Copy, Debug)]
@@ -54,9 +54,33 @@ pub struct Subject<'a> {
     pub version: &'a [u8],
 }
 
-/// Adds the table of a job with this listing and these punched cards.
+/// Adds the table of a job that has punched these cards.
 #[tactic(auto, unfolding(crate::specs::Facts::facts))]
 fn push_facts(
+    alloc: Global,
+    out: &mut Vec<u8>,
+    subject: &Subject<'_>,
+    job: &Job,
+    cards: &[Card],
+) -> Result<(), AllocError>
+    ensures { OnOk result (out.new.items ≡ out.old.items ++ facts subject.now.source.now
+        job.now.deck job.now.machine cards.now subject.now.size subject.now.switches
+        subject.now.version.now) }
+{
+    out.extend_from_slice(b"<table>\n")?;
+    push_deck(alloc, out, b"source and data", subject.source)?;
+    push_deck(alloc, out, b"deck that was run", &job.deck)?;
+    push_machine(out, subject.size, subject.switches)?;
+    push_end(alloc, out, &job.machine)?;
+    push_listing(alloc, out, &job.machine)?;
+    push_punched(alloc, out, cards)?;
+    push_maker(out, subject.version)?;
+    out.extend_from_slice(b"</table>\n")?;
+    Ok(())
+}
+
+/// Adds all of a page, of a job with this listing that has punched these cards.
+fn push_page(
     alloc: Global,
     out: &mut Vec<u8>,
     subject: &Subject<'_>,
@@ -64,41 +88,29 @@ fn push_facts(
     listing: &[u8],
     cards: &[Card],
 ) -> Result<(), AllocError>
-    requires listing { listing.now ≡ rendered (lines_of job.now.machine) }
-    requires cards { cards.now ≡ cards_punched job.now.machine }
-    ensures { OnOk result (out.new.items ≡ out.old.items ++ facts subject.now.source.now
-        job.now.deck job.now.machine subject.now.size subject.now.switches
-        subject.now.version.now) }
+    ensures { OnOk result (out.new.items ≡ out.old.items ++ page_by subject.now.name.now
+        job.now.code.items subject.now.source.now job.now.deck job.now.machine listing.now
+        cards.now subject.now.size subject.now.switches subject.now.version.now) }
 {
-    let lines = job.machine.parts().units.printer.lines.len();
-    out.extend_from_slice(b"<table>\n")?;
-    push_deck(alloc, out, b"source and data", subject.source)?;
-    push_deck(alloc, out, b"deck that was run", &job.deck)?;
-    push_machine(out, subject.size, subject.switches)?;
-    push_end(alloc, out, &job.machine)?;
-    push_listing(alloc, out, lines, listing)?;
-    push_punched(alloc, out, cards)?;
-    push_maker(out, subject.version)?;
-    out.extend_from_slice(b"</table>\n")?;
+    parts::push_head(out, subject.name)?;
+    push_facts(alloc, out, subject, job, cards)?;
+    parts::push_code(out, &job.code)?;
+    parts::push_listing(out, listing)?;
+    parts::push_cards(out, cards)?;
     Ok(())
 }
 
 /// The page of a job that was run.
-#[tactic(auto, unfolding(crate::specs::Pages::page_by))]
 fn page_for(alloc: Global, subject: &Subject<'_>, job: &Job) -> Result<Vec<u8>, AllocError>
     ensures { IfOk result (λ page. page.items ≡ page_by subject.now.name.now job.now.code.items
-        subject.now.source.now job.now.deck job.now.machine subject.now.size
-        subject.now.switches subject.now.version.now) }
+        subject.now.source.now job.now.deck job.now.machine (rendered (lines_of job.now.machine))
+        (cards_punched job.now.machine) subject.now.size subject.now.switches
+        subject.now.version.now) }
 {
-    let units = &job.machine.parts().units;
-    let listing = render(alloc, &units.printer.lines)?;
-    let cards = cards_of(alloc, &units.punch.cards)?;
+    let listing = listing_of(alloc, &job.machine)?;
+    let cards = punched_by(alloc, &job.machine)?;
     let mut out = Vec::new(alloc);
-    parts::push_head(&mut out, subject.name)?;
-    push_facts(alloc, &mut out, subject, job, &listing, &cards)?;
-    parts::push_code(&mut out, &job.code)?;
-    parts::push_listing(&mut out, &listing)?;
-    parts::push_cards(&mut out, &cards)?;
+    push_page(alloc, &mut out, subject, job, &listing, &cards)?;
     Ok(out)
 }
 

@@ -5,11 +5,60 @@ use crate::files::{print, tell_memory};
 use bench_runs::{Account, DumpOptions, Names, TraceOptions, dump, profile, trace};
 use cards::Deck;
 use command_line::Status;
+use core_store::LARGEST_SIZE;
 use counter::status_at;
 use std::alloc::AllocError;
 use std::io;
 use std::io::Write;
+use texts::number_of;
 use workbench_words::Setup;
+
+/// What is asked for of a trace.
+#[derive(Clone, Copy)]
+pub(crate) struct TraceWanted<'a> {
+    pub from: u32,
+    pub count: u32,
+    pub stop: Option<&'a str>,
+    pub names: Option<&'a str>,
+}
+
+/// What is asked for of a dump.
+#[derive(Clone, Copy)]
+pub(crate) struct DumpWanted<'a> {
+    pub after: Option<u32>,
+    pub stop: Option<&'a str>,
+    pub first: Option<u32>,
+    pub last: Option<u32>,
+}
+
+/// The address that a number is.
+fn address_at(number: u32) -> Option<u16> {
+    if number < u32::from(LARGEST_SIZE) {
+        Some(number as u16)
+    } else {
+        None
+    }
+}
+
+/// The address that a text names. Where it names none, that is told.
+fn address_in<E: Write>(text: &str, errors: &mut E) -> io::Result<Option<u16>> {
+    let address = match number_of(text) {
+        Some(number) => address_at(number),
+        None => None,
+    };
+    if address.is_none() {
+        writeln!(errors, "--stop {text}: that is no address; one is a number from 1 to 15999")?;
+    }
+    Ok(address)
+}
+
+/// The position that a number is; past the largest storage its last one.
+fn position_at(number: u32) -> u16 {
+    match address_at(number) {
+        Some(address) => address,
+        None => LARGEST_SIZE - 1,
+    }
+}
 
 /// The deck in the file at a path, with a card at least. Where there is none, that is told.
 fn deck_to_run<E: Write>(
@@ -61,8 +110,8 @@ fn print_account<W: Write, E: Write>(
     }
 }
 
-/// Prints the trace of a run.
-pub(crate) fn trace_deck<W: Write, E: Write>(
+/// Prints the trace of a run up to a stop, if there is one.
+fn trace_to<W: Write, E: Write>(
     rt: &HostRuntime,
     setup: Setup<'_>,
     names: Option<&str>,
@@ -82,6 +131,28 @@ pub(crate) fn trace_deck<W: Write, E: Write>(
     };
     let account = trace(rt.alloc(), &deck, setup.size, setup.switches, Some(&names), options);
     print_account(account, output, errors)
+}
+
+/// Prints the trace of a run.
+pub(crate) fn trace_deck<W: Write, E: Write>(
+    rt: &HostRuntime,
+    setup: Setup<'_>,
+    wanted: TraceWanted<'_>,
+    output: &mut W,
+    errors: &mut E,
+) -> io::Result<Status> {
+    let mut options = TraceOptions {
+        from: wanted.from,
+        count: wanted.count,
+        stop: None,
+    };
+    if let Some(text) = wanted.stop {
+        options.stop = address_in(text, errors)?;
+        if options.stop.is_none() {
+            return Ok(Status::Misused);
+        }
+    }
+    trace_to(rt, setup, wanted.names, options, output, errors)
 }
 
 /// Prints how often a run did each instruction.
@@ -106,8 +177,8 @@ pub(crate) fn profile_deck<W: Write, E: Write>(
     print_account(account, output, errors)
 }
 
-/// Prints a machine after a run.
-pub(crate) fn dump_deck<W: Write, E: Write>(
+/// Prints a machine after a run up to a stop, if there is one.
+fn dump_at<W: Write, E: Write>(
     rt: &HostRuntime,
     setup: Setup<'_>,
     options: DumpOptions,
@@ -121,4 +192,27 @@ pub(crate) fn dump_deck<W: Write, E: Write>(
         Ok(text) => print(&text, Status::Done, output, errors),
         Err(_) => tell_memory(errors),
     }
+}
+
+/// Prints a machine after a run.
+pub(crate) fn dump_deck<W: Write, E: Write>(
+    rt: &HostRuntime,
+    setup: Setup<'_>,
+    wanted: DumpWanted<'_>,
+    output: &mut W,
+    errors: &mut E,
+) -> io::Result<Status> {
+    let mut options = DumpOptions {
+        after: wanted.after,
+        stop: None,
+        first: wanted.first.map(position_at),
+        last: wanted.last.map(position_at),
+    };
+    if let Some(text) = wanted.stop {
+        options.stop = address_in(text, errors)?;
+        if options.stop.is_none() {
+            return Ok(Status::Misused);
+        }
+    }
+    dump_at(rt, setup, options, output, errors)
 }

@@ -6,9 +6,12 @@
 //! so what is read and written where is tested by `cases/check-workbench`.
 #![tactic(auto)]
 
+mod benching;
 mod converting;
 mod decks;
+mod drawing;
 mod files;
+mod filing;
 mod folders;
 mod listing;
 mod manifests;
@@ -20,7 +23,10 @@ ghost use Rattle.std.specs.Prelude.{IfOk};
 ghost use Rattle.command_line.specs.Printed.{IsTextShown};
 ghost use Rattle.workbench_words.specs.Printed.{page_of, version_text};
 
+use crate::benching::{DumpWanted, TraceWanted, dump_deck, profile_deck, trace_deck};
 use crate::converting::convert;
+use crate::drawing::{draw_card, draw_deck, draw_pages};
+use crate::filing::write_page;
 use crate::files::tell_memory;
 use crate::listing::{compare_decks, list_deck};
 use crate::manifests::manifest;
@@ -36,12 +42,6 @@ use workbench_words::{Misuse, Task, show_help, show_version, task_of, tell_misus
 /// The words of the process. The first is the program's name.
 fn words_given(rt: &HostRuntime) -> Result<Vec<String>, Misuse> {
     Ok(env::args(rt)?.collect(rt.alloc())?)
-}
-
-/// Says that a row is not there yet.
-fn tell_left_out<E: Write>(errors: &mut E) -> io::Result<Status> {
-    errors.write_all(b"this row is not yet part of the program\n")?;
-    Ok(Status::NotDone)
 }
 
 /// Does a task.
@@ -97,13 +97,41 @@ fn work<W: Write, E: Write>(
         Task::Manifest { decks, form, known } => {
             manifest(rt, decks, *form, *known, output, errors)
         }
-        Task::Trace { .. }
-        | Task::Dump { .. }
-        | Task::Profile { .. }
-        | Task::Card { .. }
-        | Task::Deck { .. }
-        | Task::Pages { .. }
-        | Task::Page { .. } => tell_left_out(errors),
+        Task::Trace {
+            setup,
+            from,
+            count,
+            stop,
+            names,
+        } => {
+            let wanted = TraceWanted {
+                from: *from,
+                count: *count,
+                stop: *stop,
+                names: *names,
+            };
+            trace_deck(rt, *setup, wanted, output, errors)
+        }
+        Task::Dump {
+            setup,
+            after,
+            stop,
+            first,
+            last,
+        } => {
+            let wanted = DumpWanted {
+                after: *after,
+                stop: *stop,
+                first: *first,
+                last: *last,
+            };
+            dump_deck(rt, *setup, wanted, output, errors)
+        }
+        Task::Profile { setup, names } => profile_deck(rt, *setup, *names, output, errors),
+        Task::Card { deck, number, out } => draw_card(rt, (deck, out), *number, output, errors),
+        Task::Deck { deck, out } => draw_deck(rt, (deck, out), output, errors),
+        Task::Pages { listing, out } => draw_pages(rt, (listing, out), output, errors),
+        Task::Page { setup, out } => write_page(rt, *setup, out, output, errors),
     }
 }
 

@@ -38,13 +38,13 @@ line_of name.Trace = (
   codes "trace",
   (codes "DECK", Value) ∷ (codes "SIZE", Value) ∷ (codes "SWITCHES", Value)
       ∷ (codes "from", Setting) ∷ (codes "count", Setting) ∷ (codes "stop", Setting)
-      ∷ (codes "names", Setting) ∷ (codes "fields", Flag) ∷ [],
+      ∷ (codes "names", Setting) ∷ [],
 )
 line_of name.Dump = (
   codes "dump",
   (codes "DECK", Value) ∷ (codes "SIZE", Value) ∷ (codes "SWITCHES", Value)
-      ∷ (codes "after", Setting) ∷ (codes "stop", Setting) ∷ (codes "names", Setting)
-      ∷ (codes "first", Setting) ∷ (codes "last", Setting) ∷ [],
+      ∷ (codes "after", Setting) ∷ (codes "stop", Setting) ∷ (codes "first", Setting)
+      ∷ (codes "last", Setting) ∷ [],
 )
 line_of name.Profile = (
   codes "profile",

@@ -173,10 +173,9 @@ HasText id found text = option_map (λ t. t.now) text ≡ first_of id found
 
 -- the task of `trace`: without `--from` and `--count` the instructions 1 to 1,000
 abbrev pub WantsTrace : List Row → Task → Type 0
-WantsTrace found (Trace setup from count stop names fields) = IsSetup (codes "DECK") found setup
+WantsTrace found (Trace setup from count stop names) = IsSetup (codes "DECK") found setup
     × HasNumber (codes "from") 1 found from × HasCount (codes "count") 1000 found count
     × HasText (codes "stop") found stop × HasText (codes "names") found names
-    × (fields ≡ has_flag (codes "fields") found)
 WantsTrace found other = ⊥
 
 -- this is the number of an option that may be 0, if it is given
@@ -199,9 +198,9 @@ GivesNumber id found number = NumeralOf (first_of id found) number
 
 -- the task of `dump`
 abbrev pub WantsDump : List Row → Task → Type 0
-WantsDump found (Dump setup after stop names first last) = IsSetup (codes "DECK") found setup
+WantsDump found (Dump setup after stop first last) = IsSetup (codes "DECK") found setup
     × GivesCount (codes "after") found after
-    × HasText (codes "stop") found stop × HasText (codes "names") found names
+    × HasText (codes "stop") found stop
     × GivesCount (codes "first") found first × GivesNumber (codes "last") found last
 WantsDump found other = ⊥
 

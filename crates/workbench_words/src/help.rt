@@ -175,22 +175,20 @@ fault, the status is 1 then, and the others go on.
 
 /// The text that `trace --help` prints.
 pub const TRACE_HELP: &str = "\
-workbench trace DECK SIZE SWITCHES [--from N] [--count N] [--stop ADDRESS] [--names SOURCE]
-                [--fields]: prints the instructions of a run, one a line.
+workbench trace DECK SIZE SWITCHES [--from N] [--count N] [--stop ADDRESS] [--names SOURCE]:
+prints the instructions of a run, one a line.
 
 DECK            a deck that loads itself, as bureau run takes it
 SIZE            positions of storage: 1400, 2000, 4000, 8000, 12000 or 16000
 SWITCHES        rising letters of ABCDEFG, the sense switches that are on, or - for none
 --from N        the number of the first instruction that is printed; without it 1
 --count N       how many are printed at most; without it 1,000
---stop ADDRESS  the run ends before the instruction at this address: a number, or with --names an
-                address as an operand has it
+--stop ADDRESS  the run ends before the instruction at this address, a number from 1 to 15999
 --names SOURCE  the Autocoder source of the deck, whose names are shown beside addresses
---fields        the fields at both addresses, before and after each instruction
 
 example:
   workbench trace examples/two_lines.deck 4000 A --count 20
-  workbench trace examples/two_lines.deck 4000 A --names examples/two_lines.source --stop DONE
+  workbench trace examples/two_lines.deck 4000 A --names examples/two_lines.source --stop 360
 
 A line has the number of the instruction, its address, its characters, the registers A and B and
 what the units did. The last 20 instructions before a check are always printed. The end is the line
@@ -199,14 +197,12 @@ of bureau run; no option changes what the run does. Status 0: the machine stands
 
 /// The text that `dump --help` prints.
 pub const DUMP_HELP: &str = "\
-workbench dump DECK SIZE SWITCHES [--after N] [--stop ADDRESS] [--names SOURCE] [--first N]
-               [--last N]: prints the storage after a run, or within it.
+workbench dump DECK SIZE SWITCHES [--after N] [--stop ADDRESS] [--first N] [--last N]:
+prints the storage after a run, or within it.
 
 DECK, SIZE, SWITCHES  as trace --help has them
 --after N             the machine does N instructions; without it it goes on to its end
---stop ADDRESS        it stops before the instruction at this address: a number, or with --names an
-                      address as an operand has it
---names SOURCE        the Autocoder source of the deck
+--stop ADDRESS        it stops before the instruction at this address, a number from 1 to 15999
 --first N, --last N   positions of the first and of the last row that are printed
 
 example:
@@ -292,7 +288,7 @@ and the SHA-256 of each. It has no script and needs no other file.
 ";
 
 /// The text that `--version` prints: the version, and the logic that the program is proved in.
-pub(crate) const VERSION: &str = "\
+pub const VERSION: &str = "\
 workbench 1
 Rattle logic dac8208d650f15bf
 ";
@@ -332,9 +328,9 @@ pub(crate) fn usage(row: RowName) -> &'static str {
         RowName::Source => "source IN [--data] [--width 80|120]",
         RowName::Manifest => "manifest FILE.. [--form FORM] [--check KNOWN]",
         RowName::Trace => "trace DECK SIZE SWITCHES [--from N] [--count N] [--stop ADDRESS] \
-             [--names SOURCE] [--fields]",
-        RowName::Dump => "dump DECK SIZE SWITCHES [--after N] [--stop ADDRESS] [--names SOURCE] \
-             [--first N] [--last N]",
+             [--names SOURCE]",
+        RowName::Dump => "dump DECK SIZE SWITCHES [--after N] [--stop ADDRESS] [--first N] \
+             [--last N]",
         RowName::Profile => "profile DECK SIZE SWITCHES [--names SOURCE]",
         RowName::Card => "card DECK N OUT",
         RowName::Deck => "deck DECK OUT",

@@ -18,6 +18,7 @@ mod tasks;
 mod telling;
 mod values;
 
+pub use help::VERSION;
 pub use rows::RowName;
 pub use tasks::{Misuse, Setup, Task, task_of};
 pub use telling::{show_help, show_version, tell_misuse};

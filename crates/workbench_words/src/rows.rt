@@ -119,7 +119,6 @@ pub(crate) const ROWS: [(RowName, &str, &[(&str, Kind)]); 14] = [
             ("count", Kind::Setting),
             ("stop", Kind::Setting),
             ("names", Kind::Setting),
-            ("fields", Kind::Flag),
         ],
     ),
     (
@@ -131,7 +130,6 @@ pub(crate) const ROWS: [(RowName, &str, &[(&str, Kind)]); 14] = [
             ("SWITCHES", Kind::Value),
             ("after", Kind::Setting),
             ("stop", Kind::Setting),
-            ("names", Kind::Setting),
             ("first", Kind::Setting),
             ("last", Kind::Setting),
         ],

@@ -129,8 +129,6 @@ pub enum Task<'a> {
         stop: Option<&'a str>,
         /// The path of the source that has the names.
         names: Option<&'a str>,
-        /// Whether the fields at both addresses are printed.
-        fields: bool,
     },
     /// Print the storage after a run.
     Dump {
@@ -140,8 +138,6 @@ pub enum Task<'a> {
         after: Option<u32>,
         /// The address before whose instruction the run ends, as it is given.
         stop: Option<&'a str>,
-        /// The path of the source that has the names.
-        names: Option<&'a str>,
         /// The first position that is asked for.
         first: Option<u32>,
         /// The last position that is asked for.

@@ -4,4 +4,4 @@ use Rattle.job_pages.proofs.facts.push_deck.Goals as goal
 pub returns : goal.returns
 returns c =
     let o = c.args.out.now.items in
-    more o _ _ _ _ (more o _ _ _ _ (more o _ _ _ _ c.in_ok-extend_from_slice.ensures.items c.in_ok-extend_from_slice-2.ensures.items) c.in_ok-extend_from_slice-3.ensures.items) c.in_ok-push_counted.ensures
+    more o _ _ _ _ (more o _ _ _ _ (more o _ _ _ _ c.in_ok-extend_from_slice.ensures.items c.in_ok-extend_from_slice-2.ensures.items) c.in_ok-extend_from_slice-3.ensures.items) c.in_ok-push_deck_counted.ensures
