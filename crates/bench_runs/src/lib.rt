@@ -17,6 +17,7 @@ mod counting;
 mod deeds;
 mod dumping;
 mod ends;
+mod hints;
 mod laws;
 mod names;
 mod profiling;

@@ -46,7 +46,7 @@ fn ending_in<C: Core>(core: &C, i: u16, count: u16) -> Option<u16>
 
 /// The number of characters of the instruction at a position, if one begins and ends there.
 #[tactic(auto, unfolding(machine::specs::Word::word_length))]
-fn word_length<C: Core>(core: &C, i: u16) -> Option<u16>
+pub(crate) fn word_length<C: Core>(core: &C, i: u16) -> Option<u16>
     ensures count { result ≡ word_length (C.cells core.now) i }
     ensures within { IfSome result (λ count. i + count ≤ length (C.cells core.now)) }
 {

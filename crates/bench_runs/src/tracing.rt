@@ -11,6 +11,7 @@ ghost use Rattle.bench_runs.specs.Traces.{IsTrace, is_shown, lines_shown};
 use crate::attempts::push_attempt;
 use crate::causes::Cause;
 use crate::ends::{MOST_ATTEMPTS, advance, load, run_to_end};
+use crate::hints::cause_of;
 use crate::names::Names;
 use crate::reports::push_report;
 use cards::Deck;
@@ -238,7 +239,7 @@ pub fn trace(
     let sheet = Sheet {
         options,
         ending: ending_of(machine.parts(), attempts),
-        cause: None,
+        cause: cause_of(machine.parts()),
     };
     let mut text = lines_shown(alloc, deck, size, switches, names, sheet)?;
     push_report(alloc, &mut text, machine.parts())?;
