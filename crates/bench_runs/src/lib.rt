@@ -10,6 +10,7 @@
 //! By [`runs_end_at_the_first_stop`] a run ends at the first stop that it comes to.
 #![tactic(auto)]
 
+mod accounts;
 mod attempts;
 mod causes;
 mod counted_cards;
@@ -27,6 +28,7 @@ mod running;
 mod shown;
 mod tracing;
 
+pub use accounts::Account;
 pub use causes::Cause;
 pub use dumping::{DumpOptions, dump};
 pub use ends::MOST_ATTEMPTS;

@@ -3,11 +3,13 @@
 ghost use Rattle.std.specs.Prelude.{◌≡◌, ◌<◌, ◌≤◌, ◌++◌, length, string_bytes, option_copied, None, IfOk, OnOk};
 ghost use Rattle.core_store.specs.Storage.{largest_size};
 ghost use Rattle.machine.specs.Run.{State, loaded};
+ghost use Rattle.machine.specs.Standings.{standing_of};
 ghost use Rattle.units.specs.declared.profiles.Profile.TheVariants.{Selecting};
-ghost use Rattle.bench_runs.specs.Ends.{most_attempts};
+ghost use Rattle.bench_runs.specs.Ends.{ended, most_attempts};
 ghost use Rattle.bench_runs.specs.Profiles.{IsCounted, attempts_line, began_at, counts_shown, first_at, place_line, place_shown, places_shown, profiled, right_text, tenths_of_percent, tenths_words};
 ghost use Rattle.bench_runs.specs.Shown.{left};
 
+use crate::accounts::Account;
 use crate::counted_cards::push_source;
 use crate::counting::{Begun, count_run, none_begun};
 use crate::ends::load;
@@ -157,11 +159,12 @@ pub fn profile(
     size: Size,
     switches: Switches,
     names: Option<&Names>,
-) -> Result<Vec<u8>, AllocError>
+) -> Result<Account, AllocError>
     requires { 0 < length deck.now }
-    ensures { IfOk result (λ text.
-        text.items
+    ensures profile { IfOk result (λ account. account.text.items
         ≡ profiled (option_copied names.entry) (loaded deck.now size switches Selecting)) }
+    ensures standing { IfOk result (λ account. account.standing
+        ≡ standing_of (ended (loaded deck.now size switches Selecting) None)) }
 {
     let mut machine = load(alloc, deck, size, switches)?;
     let mut places = none_begun(alloc)?;
@@ -170,5 +173,6 @@ pub fn profile(
     push_counts(alloc, &mut text, names, &places, attempts)?;
     push_attempts(alloc, &mut text, attempts)?;
     push_report(alloc, &mut text, machine.parts())?;
-    Ok(text)
+    let standing = machine.parts().standing_at();
+    Ok(Account { text, standing })
 }

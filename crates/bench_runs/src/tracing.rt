@@ -2,12 +2,14 @@
 
 ghost use Rattle.std.specs.Prelude.{◌≡◌, ◌+◌, ◌-◌, ◌<◌, ◌≤◌, ◌++◌, ◌&&◌, ◌||◌, ℕ, List, [], nat_le, nat_lt, false, length, None, if◌then◌else◌, option_copied, IfOk, OnOk};
 ghost use Rattle.machine.specs.Run.{after, is_checked, loaded, step};
+ghost use Rattle.machine.specs.Standings.{standing_of};
 ghost use Rattle.units.specs.declared.profiles.Profile.TheVariants.{Selecting};
 ghost use Rattle.bench_runs.specs.Attempts.{attempt_line};
-ghost use Rattle.bench_runs.specs.Ends.{most_attempts};
+ghost use Rattle.bench_runs.specs.Ends.{ended, most_attempts};
 ghost use Rattle.bench_runs.specs.Reports.{report_line};
 ghost use Rattle.bench_runs.specs.Traces.{IsTrace, is_shown, lines_shown};
 
+use crate::accounts::Account;
 use crate::attempts::push_attempt;
 use crate::causes::Cause;
 use crate::ends::{MOST_ATTEMPTS, advance, load, run_to_end};
@@ -214,9 +216,9 @@ fn ending_of<C: Core>(parts: &Parts<C>, attempts: u32) -> Ending
 ///
 /// Shown are the attempts that the options ask for, and of a run that ends in a check the last
 /// twenty. A line has the attempt's number, the address at which it begins, also by the nearest
-/// name where names are given, and the characters of its instruction; then the registers A and B and the indicators after it and what the units did,
-/// or the check with its cause, where that can be told. Without a stop the report is that of a
-/// whole run. Fails only if there is no memory.
+/// name where names are given, and the characters of its instruction; then the registers A and B and
+/// the indicators after it and what the units did, or the check with its cause, where that can be
+/// told. Without a stop the report is that of a whole run. Fails only if there is no memory.
 #[tactic(auto, unfolding(crate::specs::Traces::traced))]
 pub fn trace(
     alloc: Global,
@@ -225,13 +227,15 @@ pub fn trace(
     switches: Switches,
     names: Option<&Names>,
     options: TraceOptions,
-) -> Result<Vec<u8>, AllocError>
+) -> Result<Account, AllocError>
     requires { 0 < length deck.now }
-    ensures trace { IfOk result (λ text.
+    ensures trace { IfOk result (λ account.
         IsTrace options (option_copied names.entry)
-        (loaded deck.now size switches Selecting) text.items) }
-    ensures report { options.stop ≡ None → IfOk result (λ text. (lines : List ℕ)
-        × (text.items ≡ lines
+        (loaded deck.now size switches Selecting) account.text.items) }
+    ensures standing { IfOk result (λ account. account.standing
+        ≡ standing_of (ended (loaded deck.now size switches Selecting) options.stop)) }
+    ensures report { options.stop ≡ None → IfOk result (λ account. (lines : List ℕ)
+        × (account.text.items ≡ lines
         ++ report_line (after (loaded deck.now size switches Selecting) most_attempts))) }
 {
     let mut machine = load(alloc, deck, size, switches)?;
@@ -243,5 +247,6 @@ pub fn trace(
     };
     let mut text = lines_shown(alloc, deck, size, switches, names, sheet)?;
     push_report(alloc, &mut text, machine.parts())?;
-    Ok(text)
+    let standing = machine.parts().standing_at();
+    Ok(Account { text, standing })
 }

@@ -9,7 +9,7 @@ ghost use Rattle.machine.specs.Run.{lines_of};
 ghost use Rattle.units.specs.Listing.{rendered};
 ghost use Rattle.job_pages.specs.Facts.{facts};
 ghost use Rattle.job_pages.specs.Jobs.{Hinders, cards_punched};
-ghost use Rattle.job_pages.specs.Pages.{page_by, page_of};
+ghost use Rattle.job_pages.specs.Pages.{code_shown, page_by, page_of};
 ghost use Rattle.job_pages.specs.declared.pages.JobPageError.TheVariants.{NoMemory};
 
 use crate::facts::{push_deck, push_end, push_listing, push_machine, push_maker, push_punched};
@@ -79,6 +79,13 @@ fn push_facts(
     Ok(())
 }
 
+/// Adds the source of a job with its code.
+fn push_code(out: &mut Vec<u8>, job: &Job) -> Result<(), AllocError>
+    ensures { OnOk result (out.new.items ≡ out.old.items ++ code_shown job.now.code.items) }
+{
+    parts::push_code(out, &job.code)
+}
+
 /// Adds all of a page, of a job with this listing that has punched these cards.
 fn push_page(
     alloc: Global,
@@ -94,7 +101,7 @@ fn push_page(
 {
     parts::push_head(out, subject.name)?;
     push_facts(alloc, out, subject, job, cards)?;
-    parts::push_code(out, &job.code)?;
+    push_code(out, job)?;
     parts::push_listing(out, listing)?;
     parts::push_cards(out, cards)?;
     Ok(())
