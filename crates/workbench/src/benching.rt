@@ -47,7 +47,10 @@ fn address_in<E: Write>(text: &str, errors: &mut E) -> io::Result<Option<u16>> {
         None => None,
     };
     if address.is_none() {
-        writeln!(errors, "--stop {text}: that is no address; one is a number from 1 to 15999")?;
+        writeln!(
+            errors,
+            "--stop {text}: that is no address; one is a number from 1 to 15999"
+        )?;
     }
     Ok(address)
 }
@@ -61,34 +64,32 @@ fn position_at(number: u32) -> u16 {
 }
 
 /// The deck in the file at a path, with a card at least. Where there is none, that is told.
-fn deck_to_run<E: Write>(
-    rt: &HostRuntime,
-    path: &str,
-    errors: &mut E,
-) -> io::Result<Option<Deck>> {
+fn deck_to_run<E: Write>(rt: &HostRuntime, path: &str, errors: &mut E) -> io::Result<Option<Deck>> {
     let Some(deck) = deck_at(rt, path, errors)? else {
         return Ok(None);
     };
     if deck.cards().is_empty() {
-        writeln!(errors, "{path}: the deck has no card; is it the right file?")?;
+        writeln!(
+            errors,
+            "{path}: the deck has no card; is it the right file?"
+        )?;
         return Ok(None);
     }
     Ok(Some(deck))
 }
 
 /// The names of the source in the file at a path. Where there are none, that is told.
-fn names_at<E: Write>(
-    rt: &HostRuntime,
-    path: &str,
-    errors: &mut E,
-) -> io::Result<Option<Names>> {
+fn names_at<E: Write>(rt: &HostRuntime, path: &str, errors: &mut E) -> io::Result<Option<Names>> {
     let Some(deck) = deck_at(rt, path, errors)? else {
         return Ok(None);
     };
     match Names::of(rt.alloc(), deck) {
         Ok(Some(names)) => Ok(Some(names)),
         Ok(None) => {
-            writeln!(errors, "{path}: the source has faults; workbench source shows them")?;
+            writeln!(
+                errors,
+                "{path}: the source has faults; workbench source shows them"
+            )?;
             Ok(None)
         }
         Err(_) => {
@@ -129,7 +130,14 @@ fn trace_to<W: Write, E: Write>(
     let Some(names) = names_at(rt, path, errors)? else {
         return Ok(Status::NotDone);
     };
-    let account = trace(rt.alloc(), &deck, setup.size, setup.switches, Some(&names), options);
+    let account = trace(
+        rt.alloc(),
+        &deck,
+        setup.size,
+        setup.switches,
+        Some(&names),
+        options,
+    );
     print_account(account, output, errors)
 }
 
