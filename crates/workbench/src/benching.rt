@@ -1,5 +1,7 @@
 //! The rows `trace`, `dump` and `profile`.
 
+ghost use Rattle.std.specs.Prelude.{◌<◌, length, IfOk, IfSome};
+
 use crate::decks::deck_at;
 use crate::files::{print, tell_memory};
 use bench_runs::{Account, DumpOptions, Names, TraceOptions, dump, profile, trace};
@@ -64,7 +66,9 @@ fn position_at(number: u32) -> u16 {
 }
 
 /// The deck in the file at a path, with a card at least. Where there is none, that is told.
-fn deck_to_run<E: Write>(rt: &HostRuntime, path: &str, errors: &mut E) -> io::Result<Option<Deck>> {
+fn deck_to_run<E: Write>(rt: &HostRuntime, path: &str, errors: &mut E) -> io::Result<Option<Deck>>
+    ensures { IfOk result (λ found. IfSome found (λ deck. 0 < length deck)) }
+{
     let Some(deck) = deck_at(rt, path, errors)? else {
         return Ok(None);
     };
