@@ -13,7 +13,5 @@ mod sessions;
 mod stages;
 mod trials;
 
-pub use disks::{
-    ALL, Calls, Ended, Failing, disks_after, empty_disks, session_over, told_on,
-};
+pub use disks::{ALL, Calls, Ended, Failing, disks_after, empty_disks, session_over, told_on};
 pub use trials::{NONE, Step, Stops, Trial, stop_each};
