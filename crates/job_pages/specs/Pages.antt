@@ -1,5 +1,5 @@
 -- the page of a job
-use Rattle.std.specs.Prelude.{ℕ, ◌+◌, ◌==◌, if◌then◌else◌, List, [], ◌∷◌, ◌++◌, length, codes}
+use Rattle.std.specs.Prelude.{ℕ, ◌==◌, if◌then◌else◌, List, ◌++◌, length, codes}
 use Rattle.cards.specs.declared.Card.{Card}
 use Rattle.core_store.specs.declared.sizes.Size.{Size}
 use Rattle.units.specs.declared.switches.Switches.{Switches}

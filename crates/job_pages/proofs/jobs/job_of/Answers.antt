@@ -1,4 +1,4 @@
-use Rattle.std.proofs.Common.{◌<◌, ◌≡◌, ◌++◌, length, ap, sym, subst, arith}
+use Rattle.std.proofs.Common.{arith}
 use Rattle.loader.specs.Cards.{loading_cards}
 use Rattle.loader.specs.Decks.{runnable_deck}
 use Rattle.job_pages.proofs.jobs.job_of.Goals as goal
