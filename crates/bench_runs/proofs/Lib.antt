@@ -5,3 +5,5 @@ mod ShownLemmas
 mod RowLemmas
 mod CountLemmas
 mod CardCountLemmas
+mod LinesRead
+mod DumpLaw

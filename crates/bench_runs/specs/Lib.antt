@@ -7,6 +7,7 @@ pub mod Deeds
 pub mod Attempts
 pub mod Traces
 pub mod Rows
+pub mod Reading
 pub mod Dumps
 pub mod CountedCards
 pub mod Profiles

@@ -1,7 +1,9 @@
 //! The laws of the end of a run, and of the counts of its attempts.
 
-ghost use Rattle.std.specs.Prelude.{◌≡◌, ◌≤◌, ℕ, Option, None};
-ghost use Rattle.core_store.specs.Storage.{largest_size};
+ghost use Rattle.std.specs.Prelude.{◌≡◌, ◌*◌, ◌<◌, ◌≤◌, ℕ, All, Option, None, length};
+ghost use Rattle.bench_runs.specs.Reading.{storage_read};
+ghost use Rattle.bench_runs.specs.Rows.{row_length, rows_shown};
+ghost use Rattle.core_store.specs.Storage.{Storage, largest_size};
 ghost use Rattle.machine.specs.Ranges.{IsInRange};
 ghost use Rattle.machine.specs.Run.{State, after, attempts};
 ghost use Rattle.bench_runs.specs.Ends.{IsEnd, end_of};
@@ -33,4 +35,11 @@ pub fn runs_without_stop_are_whole()
 pub fn counts_add_up()
     ensures { (m : State) (attempts addresses : ℕ) → IsInRange m → largest_size ≤ addresses →
         sum_below (began_at m attempts) addresses ≡ attempts }
+{}
+
+/// The law of the dump: a storage of whole rows is what is read of its rows as they are shown, each
+/// position with its character and its word mark.
+pub fn dump_is_read()
+    ensures { (s : Storage) (rows : ℕ) → length s ≡ row_length * rows → length s ≤ largest_size →
+        All (λ cell. cell.0 < 64) s → storage_read rows 0 (rows_shown s 0 rows) ≡ s }
 {}

@@ -1,13 +1,18 @@
-//! A machine at work on the bench: the trace of a run.
+//! A machine at work on the bench: the trace of a run, its profile, and the dump of a machine.
 //!
-//! Everything that is shown is a function of the machine that is loaded and of the number of steps:
-//! after so many steps of a run the machine is `after` of `machine`, so no option of the bench
-//! changes what a program does. A run has at most [`MOST_ATTEMPTS`] attempts, and may end at a stop
-//! before (`specs/Ends.antt`). The contract for the layer above: [`trace`] returns exactly the text
-//! of `specs/Traces.antt`, and fails only if there is no memory. Its last line is the report of the
-//! machine at its end (`specs/Reports.antt`); without a stop that is the machine of a whole run.
+//! All that is shown is a function of the machine that is loaded and of a number of steps: after so
+//! many steps it is `after` of `machine`, so no option of the bench changes what a program does. A
+//! run has at most [`MOST_ATTEMPTS`] attempts, and may end at a stop before (`specs/Ends.antt`).
+//! The contract for the layer above: [`trace`] returns exactly the text of `specs/Traces.antt`, up
+//! to the words of a check's cause, [`dump`] that of `specs/Dumps.antt`, and [`profile`] that of
+//! `specs/Profiles.antt`; each fails only if there is no memory. A trace and a profile end with the
+//! report of the machine at the end of the run (`specs/Reports.antt`); without a stop that is the
+//! machine after a whole run. [`Names`] are those of a source without faults (`specs/Names.antt`).
 //!
-//! By [`runs_end_at_the_first_stop`] a run ends at the first stop that it comes to.
+//! Laws: a run ends at the first stop that it comes to ([`runs_end_at_the_first_stop`]), and without
+//! a stop it is a whole run ([`runs_without_stop_are_whole`]). The counts of a profile add up to the
+//! attempts ([`counts_add_up`]). What a dump shows of a storage is read back as that storage
+//! ([`dump_is_read`]).
 #![tactic(auto)]
 
 mod accounts;
@@ -32,7 +37,9 @@ pub use accounts::Account;
 pub use causes::Cause;
 pub use dumping::{DumpOptions, dump};
 pub use ends::MOST_ATTEMPTS;
-pub use laws::{counts_add_up, runs_end_at_the_first_stop, runs_without_stop_are_whole};
+pub use laws::{
+    counts_add_up, dump_is_read, runs_end_at_the_first_stop, runs_without_stop_are_whole,
+};
 pub use names::Names;
 pub use profiling::profile;
 pub use running::machine_after;
