@@ -25,13 +25,19 @@ impl Form {
         ensures found { IfSome result (λ form. word_of form ≡ word.now) }
         ensures missing { IsNone result → (form : Form) → word_of form ≢ word.now }
     {
-        match word.as_bytes() {
-            b"text" => Some(Form::Text),
-            b"punch" => Some(Form::Punch),
-            b"simh" => Some(Form::Simh),
-            b"binary" => Some(Form::Binary),
-            _ => None,
+        if word == "text" {
+            return Some(Form::Text);
         }
+        if word == "punch" {
+            return Some(Form::Punch);
+        }
+        if word == "simh" {
+            return Some(Form::Simh);
+        }
+        if word == "binary" {
+            return Some(Form::Binary);
+        }
+        None
     }
 
     /// The form's name.

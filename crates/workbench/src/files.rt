@@ -21,24 +21,37 @@ pub(crate) enum Unread {
     Long,
 }
 
-/// All bytes of a reader.
-fn bytes_of<R: Read + Drop>(alloc: Global, reader: R) -> Result<Vec<u8>, Unread> {
+/// The bytes of a reader, as far as they are read.
+fn bytes_of<R: Read + Drop>(alloc: Global, reader: R) -> io::Result<Vec<u8>> {
     let mut bytes = Vec::new(alloc);
-    match reader.take(MOST_BYTES + 1).read_to_end(&mut bytes) {
-        Ok(_) if bytes.len() as u64 > MOST_BYTES => Err(Unread::Long),
-        Ok(_) => Ok(bytes),
-        Err(error) if error.kind() == ErrorKind::OutOfMemory => Err(Unread::Memory),
-        Err(_) => Err(Unread::Device),
+    reader.take(MOST_BYTES + 1).read_to_end(&mut bytes)?;
+    Ok(bytes)
+}
+
+/// All bytes of what was read, or why there are none.
+fn whole(read: io::Result<Vec<u8>>) -> Result<Vec<u8>, Unread> {
+    match read {
+        Ok(bytes) if bytes.len() as u64 > MOST_BYTES => Err(Unread::Long),
+        Ok(bytes) => Ok(bytes),
+        Err(error) => Err(unread_for(error.kind())),
     }
+}
+
+/// Why a file is not read, by the error.
+fn unread_for(kind: ErrorKind) -> Unread {
+    if kind == ErrorKind::OutOfMemory {
+        return Unread::Memory;
+    }
+    Unread::Device
 }
 
 /// The bytes of the file at a path, or of the standard input for `-`.
 fn bytes_at(rt: &HostRuntime, path: &str) -> Result<Vec<u8>, Unread> {
     if path == "-" {
-        return bytes_of(rt.alloc(), rt.stdin());
+        return whole(bytes_of(rt.alloc(), rt.stdin()));
     }
     match File::open(rt, path) {
-        Ok(file) => bytes_of(rt.alloc(), file),
+        Ok(file) => whole(bytes_of(rt.alloc(), file)),
         Err(_) => Err(Unread::Device),
     }
 }

@@ -8,30 +8,42 @@ use command_line::Status;
 use std::io;
 use std::io::Write;
 
+/// What is said of a card that is not numbered, behind the glyphs that it holds, if any are told.
+fn words_of(error: SequenceError) -> &'static str {
+    match error {
+        SequenceError::NoMemory => "",
+        SequenceError::Ident => "IDENT must be 0 to 5 glyphs\n",
+        SequenceError::Held(_) => {
+            "\"; they are blank, or IDENT and digits, where a card is numbered\n"
+        }
+        SequenceError::TooGreat => {
+            "the number does not fit behind IDENT; a lower FIRST or STEP, or a shorter IDENT\n"
+        }
+    }
+}
+
+/// Says which card is not numbered.
+fn tell_card<E: Write>(errors: &mut E, path: &str, card: u16) -> io::Result<()> {
+    write!(errors, "{path}: card {card}: ")
+}
+
 /// Says why a deck is not numbered.
 fn tell_sequence_fault<E: Write>(
     errors: &mut E,
     path: &str,
     fault: SequenceFault,
 ) -> io::Result<Status> {
-    let card = fault.card;
     match fault.error {
         SequenceError::NoMemory => return tell_memory(errors),
-        SequenceError::Ident => writeln!(errors, "IDENT must be 0 to 5 glyphs")?,
+        SequenceError::Ident => {}
         SequenceError::Held(glyphs) => {
-            write!(errors, "{path}: card {card}: columns 73 to 80 hold \"")?;
+            tell_card(errors, path, fault.card)?;
+            errors.write_all(b"columns 73 to 80 hold \"")?;
             errors.write_all(&glyphs)?;
-            writeln!(
-                errors,
-                "\"; they are blank, or IDENT and digits, where a card is numbered"
-            )?;
         }
-        SequenceError::TooGreat => writeln!(
-            errors,
-            "{path}: card {card}: the number does not fit behind IDENT; a lower FIRST or STEP, \
-             or a shorter IDENT"
-        )?,
+        SequenceError::TooGreat => tell_card(errors, path, fault.card)?,
     }
+    errors.write_all(words_of(fault.error).as_bytes())?;
     Ok(Status::NotDone)
 }
 

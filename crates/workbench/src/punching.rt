@@ -1,6 +1,6 @@
 //! The row `punch`.
 
-ghost use Rattle.std.specs.Prelude.{◌≡◌, [], IfOk, IfSome};
+ghost use Rattle.std.specs.Prelude.{◌≡◌, ◌≤◌, [], IfOk, IfSome};
 ghost use Rattle.card_texts.specs.Punching.{deck_text_of, faults_of};
 
 use crate::files::{read, tell_memory, write};
@@ -26,14 +26,22 @@ pub(crate) struct Punching<'a> {
     pub reports: bool,
 }
 
-/// The bytes of a character of UTF-8 that begins with these, or none where it is not one.
-fn character(bytes: &[u8; 4]) -> Option<&str> {
-    for length in 1..=4 {
-        if let Ok(text) = str::from_utf8(&bytes[..length]) {
-            return Some(text);
-        }
+/// How many bytes a character of UTF-8 has that begins with this one.
+fn length_by(first: u8) -> usize
+    ensures { result ≤ 4 }
+{
+    if first < 192 {
+        return 1;
     }
-    None
+    if first < 224 {
+        return 2;
+    }
+    if first < 240 { 3 } else { 4 }
+}
+
+/// The character of UTF-8 that begins with these bytes, or none where it is not one.
+fn character(bytes: &[u8; 4]) -> Option<&str> {
+    str::from_utf8(&bytes[..length_by(bytes[0])]).ok()
 }
 
 /// Whether a character can be shown as it is.
@@ -136,21 +144,45 @@ fn tell_change<E: Write>(errors: &mut E, change: &Change) -> io::Result<()> {
     writeln!(errors)
 }
 
+/// How many lines were taken, and how many of them were changed and in which way.
+#[derive(Clone, Copy)]
+struct Sum {
+    /// The lines that were filled up.
+    filled: usize,
+    /// Those with small letters.
+    folded: usize,
+    /// The tabs of all lines.
+    tabs: usize,
+    /// The lines that are blank cards.
+    blank: usize,
+}
+
+/// The sum of what was done to lines.
+fn sum_of(changes: &[Change]) -> Sum {
+    let mut sum = Sum {
+        filled: 0,
+        folded: 0,
+        tabs: 0,
+        blank: 0,
+    };
+    for change in changes {
+        sum.filled = sum.filled.saturating_add(change.filled as usize);
+        sum.folded = sum.folded.saturating_add(change.folded as usize);
+        sum.tabs = sum.tabs.saturating_add(change.tabs);
+        sum.blank = sum.blank.saturating_add(change.blank as usize);
+    }
+    sum
+}
+
 /// Says what was done to the lines of a text.
 fn tell_sum<E: Write>(errors: &mut E, changes: &[Change]) -> io::Result<()> {
     let cards = changes.len();
-    let filled = changes.iter().filter(|change| change.filled).count();
-    let folded = changes.iter().filter(|change| change.folded).count();
-    let mut tabs = 0usize;
-    for change in changes {
-        tabs = tabs.saturating_add(change.tabs);
-    }
-    let blank = changes.iter().filter(|change| change.blank).count();
+    let sum = sum_of(changes);
     write!(errors, "cards {cards}")?;
-    tell_count(errors, "filled", filled)?;
-    tell_count(errors, "folded", folded)?;
-    tell_count(errors, "tabs", tabs)?;
-    tell_count(errors, "blank", blank)?;
+    tell_count(errors, "filled", sum.filled)?;
+    tell_count(errors, "folded", sum.folded)?;
+    tell_count(errors, "tabs", sum.tabs)?;
+    tell_count(errors, "blank", sum.blank)?;
     writeln!(errors)
 }
 
