@@ -160,8 +160,8 @@ fn push_lines<C: Core>(
     requires before { (number : ℕ) → 1 ≤ number → number < first →
         is_shown sheet.options sheet.ending number ≡ false }
     ensures { OnOk result (text.new.items ≡ text.old.items
-        ++ lines_shown (is_shown sheet.options sheet.ending) (attempt_line (option_copied names.entry) sheet.cause)
-        machine.old (end - 1)) }
+        ++ lines_shown (is_shown sheet.options sheet.ending)
+        (attempt_line (option_copied names.entry) sheet.cause) machine.old (end - 1)) }
 {
     advance(machine, first - 1)?;
     for number in first..end {
@@ -182,7 +182,8 @@ fn lines_shown(
     requires some { 0 < length deck.now }
     requires most { sheet.ending.attempts ≤ most_attempts }
     ensures { IfOk result (λ text. text.items
-        ≡ lines_shown (is_shown sheet.options sheet.ending) (attempt_line (option_copied names.entry) sheet.cause)
+        ≡ lines_shown (is_shown sheet.options sheet.ending)
+        (attempt_line (option_copied names.entry) sheet.cause)
         (loaded deck.now size switches Selecting) sheet.ending.attempts) }
 {
     let mut text = Vec::new(alloc);
@@ -214,9 +215,9 @@ fn ending_of<C: Core>(parts: &Parts<C>, attempts: u32) -> Ending
 ///
 /// Shown are the attempts that the options ask for, and of a run that ends in a check the last
 /// twenty. A line has the attempt's number, the address at which it begins, also by the nearest
-/// name where names are given, and the characters of its instruction; then the registers A and B and the indicators after it and what the units did,
-/// or the check with its cause, where that can be told. Without a stop the report is that of a
-/// whole run. Fails only if there is no memory.
+/// name where names are given, and the characters of its instruction; then the registers A and B and
+/// the indicators after it and what the units did, or the check with its cause, where that can be
+/// told. Without a stop the report is that of a whole run. Fails only if there is no memory.
 #[tactic(auto, unfolding(crate::specs::Traces::traced))]
 pub fn trace(
     alloc: Global,
