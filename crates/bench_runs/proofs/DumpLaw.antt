@@ -1,11 +1,11 @@
 -- a dump is read back
-use Rattle.std.proofs.Common.{◌≡◌, ◌≢◌, ◌⊎◌, inl, inr, ⊎_elim, ℕ, zero, suc, ◌+◌, ◌-◌, ◌*◌, ◌%◌, ◌^◌, ◌<◌, ◌≤◌, ◌==◌, ◌&&◌, not, Bool, true, false, if◌then◌else◌, List, [], ◌∷◌, ◌++◌, length, length-append, map, take, drop, replicate, get_or, refl, sym, ap, ◌∙◌, arith, append-nil, append_assoc, subst}
-use Rattle.std.specs.Prelude.{bytes_eq, codes, zip, decimal}
-use Rattle.std.specs.List.{list_all, list_any, suffix_len, All, range_with_len}
-use Rattle.std.specs.Str.Parse.{digits_value, digits_value_after}
+use Rattle.std.proofs.Common.{◌≡◌, ◌⊎◌, inl, inr, ℕ, zero, suc, ◌+◌, ◌-◌, ◌*◌, ◌%◌, ◌^◌, ◌<◌, ◌≤◌, ◌==◌, ◌&&◌, not, Bool, true, false, if◌then◌else◌, List, [], ◌∷◌, ◌++◌, length, length-append, map, take, drop, replicate, get_or, refl, sym, ap, ◌∙◌, arith, append-nil, append_assoc}
+use Rattle.std.specs.Prelude.{codes, zip, decimal}
+use Rattle.std.specs.List.{list_all, suffix_len, All, range_with_len}
+use Rattle.std.specs.Str.Parse.{digits_value}
 use Rattle.std.proofs.lemmas.Bool.{eqb-true, ne_eqb}
 use Rattle.std.proofs.lemmas.Fmt.{decimal_by_steps, decimal_is_IsNumeral, length-decimal-le}
-use Rattle.std.proofs.lemmas.List.{length-replicate, length-map, length-take-le, length-drop, take_at, drop_at, drop-drop, take-append-drop, take_all, drop_all, get_or_append_left}
+use Rattle.std.proofs.lemmas.List.{length-replicate, length-map, take_at, drop_at, drop-drop, take-append-drop, drop_all, get_or_append_left}
 use Rattle.std.proofs.lemmas.List.Elements.{All-drop, All-head, All-map, All-tail, All-take}
 use Rattle.std.proofs.lemmas.List.Folds.{list_all-append}
 use Rattle.std.proofs.lemmas.List.FromFn.{get_or-range_with_len}
@@ -16,8 +16,8 @@ use Rattle.core_store.specs.Storage.{Storage, codes_from, marks_from}
 use Rattle.core_store.proofs.Fields.{length-codes_from}
 use Rattle.core_store.proofs.MarkRows.{length-marks_from}
 use Rattle.autocoder.specs.Listing.{blank, glyphs_of, line_text, position_field, zero_digit}
-use Rattle.bench_runs.specs.Reading.{behind_blank, behind_line, behind_marks, behind_row, codes_read, columns_of, first_line, has_marks, has_row, line_columns, marks_read, row_read, storage_read, whole_line}
-use Rattle.bench_runs.specs.Rows.{blank_shown, follows_blank, has_mark, is_blank_at, is_blank_row, mark_shown, marks_shown, row_length, row_lines, row_shown, rows_shown}
+use Rattle.bench_runs.specs.Reading.{behind_blank, behind_line, behind_marks, behind_row, codes_read, columns_of, first_line, has_marks, has_row, marks_read, row_read, storage_read, whole_line}
+use Rattle.bench_runs.specs.Rows.{blank_shown, follows_blank, has_mark, is_blank_at, mark_shown, marks_shown, row_length, row_lines, row_shown, rows_shown}
 use Rattle.bench_runs.proofs.LinesRead.{behind_again, clean, line_again}
 
 -- ---- digits

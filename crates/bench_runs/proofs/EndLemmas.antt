@@ -1,8 +1,8 @@
 -- how far a run goes
-use Rattle.std.proofs.Common.{◌≡◌, ℕ, zero, suc, ◌+◌, ◌-◌, ◌<◌, ◌≤◌, Bool, true, false, not, ◌&&◌, if◌then◌else◌, Option, Some, None, refl, sym, ap, ◌∙◌, arith}
+use Rattle.std.proofs.Common.{◌≡◌, ℕ, zero, suc, ◌+◌, ◌-◌, ◌<◌, ◌≤◌, Bool, true, false, ◌&&◌, if◌then◌else◌, Option, None, refl, sym, ap, ◌∙◌, arith}
 use Rattle.machine.specs.Run.{State, after, attempts, is_running, step}
 use Rattle.machine.proofs.Steps.{after-after, after_one, after_stopped, attempts_stopped}
-use Rattle.bench_runs.specs.Ends.{end_of, goes_on, stands_at}
+use Rattle.bench_runs.specs.Ends.{end_of, goes_on}
 
 -- a machine that does not go on is at its end
 pub end_here : (m : State) (limit : ℕ) (stop : Option ℕ) → goes_on stop m ≡ false → end_of m limit stop ≡ 0

@@ -7,3 +7,4 @@ mod CountLemmas
 mod CardCountLemmas
 mod LinesRead
 mod DumpLaw
+mod NearestLaw

@@ -1,5 +1,5 @@
 -- the line of an attempt
-use Rattle.std.specs.Prelude.{ℕ, List, [], ◌∷◌, ◌++◌, Bool, true, false, if◌then◌else◌, codes, Option}
+use Rattle.std.specs.Prelude.{ℕ, List, [], ◌∷◌, ◌++◌, Bool, if◌then◌else◌, codes, Option}
 use Rattle.core_store.specs.Checks.{check_name}
 use Rattle.core_store.specs.declared.checks.Check.{Check}
 use Rattle.core_store.specs.declared.registers.Compared.{Compared}

@@ -1,5 +1,5 @@
 -- the names of a source, and the name of an address
-use Rattle.std.specs.Prelude.{ℕ, ◌-◌, ◌==◌, ◌&&◌, nat_le, nat_lt, if◌then◌else◌, List, [], ◌++◌, codes, decimal, fold, Option, Some, None}
+use Rattle.std.specs.Prelude.{ℕ, ◌-◌, ◌<◌, ◌≤◌, ◌≡◌, ◌==◌, ◌&&◌, nat_le, nat_lt, if◌then◌else◌, List, [], ◌++◌, codes, decimal, fold, Contains, MatchOption, Option, Some, None}
 use Rattle.cards.specs.declared.decks.Card.{Card}
 use Rattle.autocoder_layout.specs.Layout.{slots_of}
 use Rattle.autocoder_layout.specs.declared.slots.Definition.{Definition}
@@ -29,6 +29,24 @@ nearer address (Some best) (Some found) =
 -- the definition at the greatest address that is not above this one
 unfoldable pub nearest : ℕ → List Slot → Option Definition
 nearest address slots = fold (λ best slot. nearer address best slot.defines) None slots
+
+-- a card defines this
+abbrev pub IsDefined : List Slot → Definition → Type 0
+IsDefined slots definition =
+    (slot : Slot) × Contains slots slot × (slot.defines ≡ Some definition)
+
+-- a definition of a card that is at the greatest address of those that are not above this one
+pub record IsNearest (address : ℕ) (slots : List Slot) (found : Definition) : Type 0 where
+  pub among : IsDefined slots found
+  pub not_above : found.address ≤ address
+  pub greatest : (other : Definition) → IsDefined slots other → other.address ≤ address →
+      other.address ≤ found.address
+
+-- this is the nearest definition that is not above an address, or none if all are above it
+abbrev pub Nearest : ℕ → List Slot → Option Definition → Type 0
+Nearest address slots found = MatchOption found
+    ((other : Definition) → IsDefined slots other → address < other.address)
+    (IsNearest address slots)
 
 -- how far behind a name an address is, if it is not the name's
 abbrev pub distance_words : ℕ → List ℕ

@@ -5,7 +5,7 @@ use Rattle.autocoder.specs.Listing.{blank, line_text, position_field, right}
 use Rattle.machine.specs.Run.{State, after}
 use Rattle.bench_runs.specs.CountedCards.{cards_counted}
 use Rattle.bench_runs.specs.Names.{Named}
-use Rattle.bench_runs.specs.Ends.{end_of, ended, most_attempts}
+use Rattle.bench_runs.specs.Ends.{end_of, most_attempts}
 use Rattle.bench_runs.specs.Reports.{report_line}
 use Rattle.bench_runs.specs.Shown.{characters_next, left}
 use Rattle.bench_runs.specs.declared.counting.Begun.{Begun}
@@ -92,7 +92,7 @@ counts_shown (Some names) m attempts =
     cards_counted (began_at m attempts) 1 names.cards names.slots
 
 -- the profile of a machine's run: how often each place was attempted, the number of attempts, and
--- the report of the machine at its end
+-- the report of the machine after it
 unfoldable pub profiled : Option Named → State → List ℕ
 profiled names m = counts_shown names m (end_of m most_attempts None)
-    ++ attempts_line (end_of m most_attempts None) ++ report_line (ended m None)
+    ++ attempts_line (end_of m most_attempts None) ++ report_line (after m most_attempts)

@@ -1,5 +1,5 @@
 -- how storage is shown, in rows of fifty positions
-use Rattle.std.specs.Prelude.{ℕ, zero, suc, ◌+◌, ◌*◌, ◌==◌, ◌&&◌, not, Bool, true, false, if◌then◌else◌, List, [], ◌∷◌, ◌++◌, codes, map}
+use Rattle.std.specs.Prelude.{ℕ, zero, suc, ◌+◌, ◌*◌, ◌==◌, ◌&&◌, not, Bool, false, if◌then◌else◌, List, [], ◌∷◌, ◌++◌, codes, map}
 use Rattle.std.specs.List.{list_all, list_any}
 use Rattle.core_store.specs.Storage.{Storage, codes_from, marks_from}
 use Rattle.autocoder.specs.Listing.{blank, glyphs_of, line_text, position_field}

@@ -1,5 +1,5 @@
 -- how the characters of an instruction are shown
-use Rattle.std.specs.Prelude.{ℕ, ◌-◌, ◌≤◌, max, min, List, [], ◌∷◌, ◌++◌, length, replicate, codes, Option, Some, None}
+use Rattle.std.specs.Prelude.{ℕ, ◌-◌, max, min, List, ◌++◌, length, replicate, codes, Option, Some, None}
 use Rattle.core_store.specs.Storage.{Storage, codes_from}
 use Rattle.autocoder.specs.Listing.{blank, glyphs_of}
 use Rattle.machine.specs.Word.{word_length}

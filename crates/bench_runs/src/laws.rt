@@ -1,12 +1,14 @@
-//! The laws of the end of a run, and of the counts of its attempts.
+//! The laws of what is shown of a run.
 
-ghost use Rattle.std.specs.Prelude.{◌≡◌, ◌*◌, ◌<◌, ◌≤◌, ℕ, All, Option, None, length};
+ghost use Rattle.std.specs.Prelude.{◌≡◌, ◌*◌, ◌<◌, ◌≤◌, ℕ, All, List, Option, None, length};
 ghost use Rattle.bench_runs.specs.Reading.{storage_read};
 ghost use Rattle.bench_runs.specs.Rows.{row_length, rows_shown};
 ghost use Rattle.core_store.specs.Storage.{Storage, largest_size};
 ghost use Rattle.machine.specs.Ranges.{IsInRange};
 ghost use Rattle.machine.specs.Run.{State, after, attempts};
 ghost use Rattle.bench_runs.specs.Ends.{IsEnd, end_of};
+ghost use Rattle.autocoder_layout.specs.declared.slots.Slot.{Slot};
+ghost use Rattle.bench_runs.specs.Names.{Nearest, nearest};
 ghost use Rattle.bench_runs.specs.Profiles.{began_at, sum_below};
 
 /// The law of the end: a run ends after its last attempt, or at the first stop that it comes to;
@@ -42,4 +44,12 @@ pub fn counts_add_up()
 pub fn dump_is_read()
     ensures { (s : Storage) (rows : ℕ) → length s ≡ row_length * rows → length s ≤ largest_size →
         All (λ cell. cell.0 < 64) s → storage_read rows 0 (rows_shown s 0 rows) ≡ s }
+{}
+
+/// The law of the names: the definition by which an address is shown is at the greatest address
+/// that is not above it, of all that cards define; there is none only if all are above it.
+#[tactic(auto, using(crate::proofs::NearestLaw::nearest_is))]
+pub fn names_are_the_nearest()
+    ensures { (address : ℕ) (slots : List Slot) →
+        Nearest address slots (nearest address slots) }
 {}

@@ -9,10 +9,10 @@
 //! report of the machine at the end of the run (`specs/Reports.antt`); without a stop that is the
 //! machine after a whole run. [`Names`] are those of a source without faults (`specs/Names.antt`).
 //!
-//! Laws: a run ends at the first stop that it comes to ([`runs_end_at_the_first_stop`]), and without
-//! a stop it is a whole run ([`runs_without_stop_are_whole`]). The counts of a profile add up to the
-//! attempts ([`counts_add_up`]). What a dump shows of a storage is read back as that storage
-//! ([`dump_is_read`]).
+//! Laws: a run ends at the first stop that it comes to ([`runs_end_at_the_first_stop`]), and
+//! without one it is a whole run ([`runs_without_stop_are_whole`]). The counts of a profile add up
+//! to the attempts ([`counts_add_up`]). What a dump shows of a storage is read back as that storage
+//! ([`dump_is_read`]). An address is shown by the nearest name ([`names_are_the_nearest`]).
 #![tactic(auto)]
 
 mod accounts;
@@ -38,7 +38,8 @@ pub use causes::Cause;
 pub use dumping::{DumpOptions, dump};
 pub use ends::MOST_ATTEMPTS;
 pub use laws::{
-    counts_add_up, dump_is_read, runs_end_at_the_first_stop, runs_without_stop_are_whole,
+    counts_add_up, dump_is_read, names_are_the_nearest, runs_end_at_the_first_stop,
+    runs_without_stop_are_whole,
 };
 pub use names::Names;
 pub use profiling::profile;

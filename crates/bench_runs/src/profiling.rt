@@ -145,14 +145,14 @@ fn push_attempts(alloc: Global, text: &mut Vec<u8>, attempts: u32) -> Result<(),
 }
 
 /// Returns the profile of a deck's run, on a machine with stacker selection: a line for each
-/// address at which attempts began, the number of attempts, and the report of the machine at the end
-/// of the run.
+/// address at which attempts began, the number of attempts, and the report of the machine after the
+/// run.
 ///
 /// A line has the address, the characters of the instruction as it was the first time, how many
 /// attempts began there, and what part of all they are, in tenths of a percent. If the names of a
 /// source are given, the lines are those of its cards instead, each with how many attempts began at
 /// its place, if it is an instruction. Fails only if there is no memory.
-#[tactic(auto, unfolding(crate::specs::Profiles::profiled))]
+#[tactic(auto, using(crate::proofs::EndLemmas::whole_run), unfolding(crate::specs::Profiles::profiled))]
 pub fn profile(
     alloc: Global,
     deck: &Deck,

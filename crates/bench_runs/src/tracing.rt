@@ -162,8 +162,8 @@ fn push_lines<C: Core>(
     requires before { (number : ℕ) → 1 ≤ number → number < first →
         is_shown sheet.options sheet.ending number ≡ false }
     ensures { OnOk result (text.new.items ≡ text.old.items
-        ++ lines_shown (is_shown sheet.options sheet.ending) (attempt_line (option_copied names.entry) sheet.cause)
-        machine.old (end - 1)) }
+        ++ lines_shown (is_shown sheet.options sheet.ending)
+        (attempt_line (option_copied names.entry) sheet.cause) machine.old (end - 1)) }
 {
     advance(machine, first - 1)?;
     for number in first..end {
@@ -184,7 +184,8 @@ fn lines_shown(
     requires some { 0 < length deck.now }
     requires most { sheet.ending.attempts ≤ most_attempts }
     ensures { IfOk result (λ text. text.items
-        ≡ lines_shown (is_shown sheet.options sheet.ending) (attempt_line (option_copied names.entry) sheet.cause)
+        ≡ lines_shown (is_shown sheet.options sheet.ending)
+        (attempt_line (option_copied names.entry) sheet.cause)
         (loaded deck.now size switches Selecting) sheet.ending.attempts) }
 {
     let mut text = Vec::new(alloc);

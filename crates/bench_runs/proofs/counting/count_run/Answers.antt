@@ -1,8 +1,7 @@
 use Rattle.std.proofs.Common.{◌≡◌, ◌<◌, ◌∙◌, ap, arith, get_or, None, subst, sym}
 use Rattle.core_store.specs.Storage.{largest_size}
 use Rattle.machine.specs.Run.{State, after}
-use Rattle.bench_runs.specs.Ends.{end_of, goes_on, most_attempts}
-use Rattle.bench_runs.specs.Profiles.{IsCounted}
+use Rattle.bench_runs.specs.Ends.{goes_on, most_attempts}
 use Rattle.bench_runs.proofs.CountLemmas.{began_fits, counted_on}
 use Rattle.bench_runs.proofs.EndLemmas.{comes_none, comes_on, comes_to_end, comes_whole}
 use Rattle.bench_runs.proofs.counting.count_run.Goals as goal

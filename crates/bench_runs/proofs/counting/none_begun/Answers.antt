@@ -1,4 +1,4 @@
-use Rattle.std.proofs.Common.{◌∙◌, arith}
+use Rattle.std.proofs.Common.{arith}
 use Rattle.bench_runs.proofs.CountLemmas.{counted_none}
 use Rattle.bench_runs.proofs.counting.none_begun.Goals as goal
 

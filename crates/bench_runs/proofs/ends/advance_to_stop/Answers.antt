@@ -1,6 +1,6 @@
 use Rattle.std.proofs.Common.{◌≡◌, ◌∙◌, ap, arith, sym}
 use Rattle.machine.specs.Run.{after}
-use Rattle.bench_runs.specs.Ends.{end_of, goes_on}
+use Rattle.bench_runs.specs.Ends.{goes_on}
 use Rattle.bench_runs.proofs.EndLemmas.{comes_none, comes_on, comes_to_end, comes_whole}
 use Rattle.bench_runs.proofs.ends.advance_to_stop.Goals as goal
 

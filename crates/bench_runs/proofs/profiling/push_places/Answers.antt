@@ -1,4 +1,4 @@
-use Rattle.std.proofs.Common.{◌≡◌, ◌<◌, ◌∙◌, ap, arith}
+use Rattle.std.proofs.Common.{◌<◌, ◌∙◌, ap, arith}
 use Rattle.core_store.specs.Storage.{largest_size}
 use Rattle.bench_runs.specs.declared.counting.Begun.{Begun}
 use Rattle.bench_runs.proofs.CountLemmas.{began_fits, places_begin, places_on}

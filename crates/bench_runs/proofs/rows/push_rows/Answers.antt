@@ -1,4 +1,4 @@
-use Rattle.std.proofs.Common.{◌≡◌, ◌+◌, ◌-◌, ◌++◌, ◌∙◌, ap, suc, sym, arith}
+use Rattle.std.proofs.Common.{◌≡◌, ◌+◌, ◌-◌, ◌++◌, ◌∙◌, ap, suc, arith}
 use Rattle.bench_runs.specs.Rows.{follows_blank, is_blank_at, row_shown, rows_shown}
 use Rattle.bench_runs.proofs.RowLemmas.{follows_begin, follows_on, rows_begin, rows_on}
 use Rattle.bench_runs.proofs.rows.push_rows.Goals as goal

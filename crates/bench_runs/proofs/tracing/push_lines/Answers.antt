@@ -1,4 +1,4 @@
-use Rattle.std.proofs.Common.{◌≡◌, ◌+◌, ◌-◌, ◌<◌, ◌++◌, ◌∙◌, ap, suc, sym, arith, append-nil}
+use Rattle.std.proofs.Common.{◌≡◌, ◌+◌, ◌-◌, ◌++◌, ◌∙◌, ap, suc, sym, arith, append-nil}
 use Rattle.machine.specs.Run.{after, step}
 use Rattle.machine.proofs.Steps.{after-after, after_one}
 use Rattle.std.specs.Prelude.{option_copied}
