@@ -75,6 +75,15 @@ fn operands<C: Core>(core: &C, i: u16, count: u16, a: u16, b: u16) -> Result<(u1
     Ok((first, second))
 }
 
+/// A position at which no field can end, as it is past the storage.
+fn past<C: Core>(core: &C, position: u16) -> Option<Cause> {
+    if position >= core.size() {
+        Some(Cause::FieldPast(position))
+    } else {
+        None
+    }
+}
+
 /// What is wrong with the place of the field that ends at a position, if anything is.
 fn field_place<C: Core>(core: &C, position: u16) -> Option<Cause> {
     if position >= core.size() {
@@ -86,15 +95,39 @@ fn field_place<C: Core>(core: &C, position: u16) -> Option<Cause> {
     }
 }
 
-/// The first character of the field that ends at a position that is no digit.
-fn no_digit<C: Core>(core: &C, position: u16) -> Option<Cause>
-    requires { position < length (C.cells core.now) }
+/// The first of two causes, if there is one.
+fn first_of(first: Option<Cause>, second: Option<Cause>) -> Option<Cause> {
+    match first {
+        Some(_) => first,
+        None => second,
+    }
+}
+
+/// What is wrong with the places of an operation's fields. A mark is missed only where the operation
+/// looks for it: there are operations that end with the mark of one field, or without any.
+fn field_places<C: Core>(core: &C, operation: u8, a: u16, b: u16) -> Option<Cause> {
+    match operation {
+        b'#' | b'H' | b'Q' => None,
+        b'/' => past(core, b),
+        b'L' | b'Z' => first_of(past(core, b), field_place(core, a)),
+        b'E' => first_of(past(core, a), field_place(core, b)),
+        b'M' => first_of(
+            past(core, b),
+            first_of(field_place(core, a), field_place(core, b)),
+        ),
+        _ => first_of(
+            past(core, a),
+            first_of(field_place(core, b), field_place(core, a)),
+        ),
+    }
+}
+
+/// The first character in the positions from `first` to `last` that is no digit.
+fn no_digit<C: Core>(core: &C, first: u16, last: u16) -> Option<Cause>
+    requires { last < length (C.cells core.now) }
 {
     let _size = core.size();
-    let Some(first) = core.mark_at_or_below(position) else {
-        return None;
-    };
-    for place in first..position + 1 {
+    for place in first..last + 1 {
         let code = core.get(place);
         if code.digit().is_none() {
             return Some(Cause::NoDigit(sign(code), place));
@@ -103,36 +136,30 @@ fn no_digit<C: Core>(core: &C, position: u16) -> Option<Cause>
     None
 }
 
+/// The first character that is no digit, of the field at B and of as many at A.
+fn sum_digits<C: Core>(core: &C, a: u16, b: u16) -> Option<Cause> {
+    if a >= core.size() || b >= core.size() {
+        return None;
+    }
+    let Some(b_first) = core.mark_at_or_below(b) else {
+        return None;
+    };
+    let cut = a.saturating_sub(b - b_first);
+    let a_first = match core.mark_at_or_below(a) {
+        Some(mark) => mark.max(cut),
+        None => cut,
+    };
+    first_of(no_digit(core, a_first, a), no_digit(core, b_first, b))
+}
+
 /// Whether the three characters that end at a position are no address.
-fn no_number<C: Core>(core: &C, position: u16) -> Option<Cause>
-    requires { position < length (C.cells core.now) }
-{
-    if position < 2 {
+fn no_number<C: Core>(core: &C, position: u16) -> Option<Cause> {
+    if position < 2 || position >= core.size() {
         return None;
     }
     match base_ending(core, position) {
         Some(_) => None,
         None => Some(Cause::NoNumber(position)),
-    }
-}
-
-/// What is wrong with the digits of the field that ends at a position.
-fn field_digits<C: Core>(core: &C, is_address: bool, position: u16) -> Option<Cause> {
-    if position >= core.size() {
-        return None;
-    }
-    if is_address {
-        no_number(core, position)
-    } else {
-        no_digit(core, position)
-    }
-}
-
-/// The first of two causes, if there is one.
-fn first_of(first: Option<Cause>, second: Option<Cause>) -> Option<Cause> {
-    match first {
-        Some(_) => first,
-        None => second,
     }
 }
 
@@ -146,14 +173,14 @@ fn cause_at<C: Core>(parts: &Parts<C>, check: Check, i: u16, count: u16) -> Opti
         Ok(operands) => operands,
         Err(cause) => return Some(cause),
     };
-    if matches!(check, Check::Data) {
-        let is_address = core.get(i).glyph() == b'#';
-        return first_of(
-            field_digits(core, is_address, a),
-            field_digits(core, is_address, b),
-        );
+    let operation = core.get(i).glyph();
+    if !matches!(check, Check::Data) {
+        return field_places(core, operation, a, b);
     }
-    first_of(field_place(core, a), field_place(core, b))
+    if operation == b'#' {
+        return first_of(no_number(core, a), no_number(core, b));
+    }
+    sum_digits(core, a, b)
 }
 
 /// The cause of a check that the instruction at register I met.
