@@ -108,7 +108,7 @@ fn channel_words(channel_12: bool) -> &'static str
 
 /// Adds the line of the registers and the indicators.
 #[tactic(auto, unfolding(crate::specs::Dumps::registers_line))]
-fn push_registers(
+pub fn push_registers(
     text: &mut Vec<u8>,
     registers: &Registers,
     channel_12: bool,
@@ -186,7 +186,7 @@ fn push_carriage(alloc: Global, text: &mut Vec<u8>, carriage: Carriage) -> Resul
 
 /// Adds the line of the units.
 #[tactic(auto, unfolding(crate::specs::Dumps::units_line))]
-fn push_units(alloc: Global, text: &mut Vec<u8>, units: &Units) -> Result<(), AllocError>
+pub fn push_units(alloc: Global, text: &mut Vec<u8>, units: &Units) -> Result<(), AllocError>
     ensures { OnOk result (text.new.items ≡ text.old.items ++ units_line units.now) }
 {
     push_read(alloc, text, units.hopper.taken)?;
@@ -199,7 +199,7 @@ fn push_units(alloc: Global, text: &mut Vec<u8>, units: &Units) -> Result<(), Al
 
 /// Adds what is shown of a storage.
 #[tactic(auto, unfolding(crate::specs::Dumps::storage_shown))]
-fn push_storage<C: Core>(
+pub fn push_storage<C: Core>(
     alloc: Global,
     text: &mut Vec<u8>,
     options: DumpOptions,
@@ -215,7 +215,7 @@ fn push_storage<C: Core>(
 
 /// Adds what is shown of a machine.
 #[tactic(auto, unfolding(crate::specs::Dumps::machine_shown))]
-fn push_machine<C: Core>(
+pub fn push_machine<C: Core>(
     alloc: Global,
     text: &mut Vec<u8>,
     options: DumpOptions,

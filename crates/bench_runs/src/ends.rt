@@ -101,7 +101,7 @@ fn copy_of(alloc: Global, deck: &Deck) -> Result<Deck, AllocError>
 }
 
 /// The machine, with stacker selection, that has a deck in its reader and the load button pressed.
-pub(crate) fn load(
+pub fn load(
     alloc: Global,
     deck: &Deck,
     size: Size,

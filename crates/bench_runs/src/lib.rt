@@ -16,6 +16,7 @@
 #![tactic(auto)]
 
 mod accounts;
+mod addresses_said;
 mod attempts;
 mod causes;
 mod counted_cards;
@@ -23,7 +24,6 @@ mod counting;
 mod deeds;
 mod dumping;
 mod ends;
-mod hints;
 mod laws;
 mod names;
 mod profiling;
@@ -34,9 +34,9 @@ mod shown;
 mod tracing;
 
 pub use accounts::Account;
-pub use causes::Cause;
-pub use dumping::{DumpOptions, dump};
-pub use ends::MOST_ATTEMPTS;
+pub use attempts::push_attempt;
+pub use dumping::{DumpOptions, dump, push_machine, push_registers, push_storage, push_units};
+pub use ends::{MOST_ATTEMPTS, load};
 pub use laws::{
     counts_add_up, dump_is_read, names_are_the_nearest, runs_end_at_the_first_stop,
     runs_without_stop_are_whole,
