@@ -106,7 +106,8 @@ fn channel_words(channel_12: bool) -> &'static str
     }
 }
 
-/// Adds the line of the registers and the indicators.
+/// Adds the line of the registers and the indicators, as a dump has it. Fails only if there is no
+/// memory.
 #[tactic(auto, unfolding(crate::specs::Dumps::registers_line))]
 pub fn push_registers(
     text: &mut Vec<u8>,
@@ -184,7 +185,7 @@ fn push_carriage(alloc: Global, text: &mut Vec<u8>, carriage: Carriage) -> Resul
     text.extend_from_slice(words.as_bytes())
 }
 
-/// Adds the line of the units.
+/// Adds the line of the units, as a dump has it. Fails only if there is no memory.
 #[tactic(auto, unfolding(crate::specs::Dumps::units_line))]
 pub fn push_units(alloc: Global, text: &mut Vec<u8>, units: &Units) -> Result<(), AllocError>
     ensures { OnOk result (text.new.items ≡ text.old.items ++ units_line units.now) }
@@ -197,7 +198,8 @@ pub fn push_units(alloc: Global, text: &mut Vec<u8>, units: &Units) -> Result<()
     Ok(())
 }
 
-/// Adds what is shown of a storage.
+/// Adds what a dump shows of a storage: the rows that the options name. Fails only if there is no
+/// memory.
 #[tactic(auto, unfolding(crate::specs::Dumps::storage_shown))]
 pub fn push_storage<C: Core>(
     alloc: Global,
@@ -213,7 +215,8 @@ pub fn push_storage<C: Core>(
     push_rows(alloc, text, core, options.first_row(), end)
 }
 
-/// Adds what is shown of a machine.
+/// Adds the dump of a machine: the rows of its storage that the options name, its registers and
+/// indicators, and its units. Fails only if there is no memory.
 #[tactic(auto, unfolding(crate::specs::Dumps::machine_shown))]
 pub fn push_machine<C: Core>(
     alloc: Global,
