@@ -67,7 +67,7 @@ pub(crate) fn word_length<C: Core>(core: &C, i: u16) -> Option<u16>
 
 /// Adds the glyphs of the characters from a position on.
 #[tactic(auto, using(crate::proofs::ShownLemmas::glyph_none, crate::proofs::ShownLemmas::glyph_on))]
-fn push_codes<C: Core>(
+pub(crate) fn push_codes<C: Core>(
     line: &mut Vec<u8>,
     core: &C,
     first: u16,

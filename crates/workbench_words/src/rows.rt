@@ -119,6 +119,7 @@ pub(crate) const ROWS: [(RowName, &str, &[(&str, Kind)]); 14] = [
             ("count", Kind::Setting),
             ("stop", Kind::Setting),
             ("names", Kind::Setting),
+            ("fields", Kind::Flag),
         ],
     ),
     (
