@@ -6,10 +6,12 @@
 //! has more than one slice more than another ([`turns_are_fair`]).
 #![tactic(auto)]
 
+mod answers;
 mod jobs;
 mod laws;
 mod turns;
 
+pub use answers::{Ran, read_queue, read_ran, read_refusal};
 pub use jobs::JobName;
 pub use laws::{each_job_of_a_round_has_one_slice, turns_are_fair};
 pub use turns::Turns;
