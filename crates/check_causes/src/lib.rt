@@ -1,0 +1,16 @@
+//! Why a check stopped an instruction, in words.
+#![tactic(auto)]
+
+mod causes;
+mod devices;
+mod digits;
+mod forms;
+mod operands;
+mod operations;
+mod places;
+mod telling;
+mod words;
+mod works;
+
+pub use causes::Cause;
+pub use telling::cause_of;
