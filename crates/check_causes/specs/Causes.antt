@@ -1,5 +1,7 @@
 -- why an instruction is stopped by a check
 use Rattle.std.specs.Prelude.{ℕ, ◌-◌, nat_lt, List, length, Option, slice_index}
+use Rattle.core_store.specs.Storage.{Storage}
+use Rattle.units.specs.declared.units.Units.{Units}
 use Rattle.machine.specs.declared.named.Operation.{Operation}
 use Rattle.machine.specs.declared.named.Operation.TheVariants.{OnFields, ClearStorage, Branch, BranchOnMarkOrZone, Operate, MoveCarriage, ChoosePocket, StoreA, StoreB, Halt, NoOperation}
 use Rattle.machine.specs.declared.named.Modifier.{Modifier}
@@ -13,18 +15,18 @@ use Rattle.check_causes.specs.Fields.{place_told, three_told, work_told}
 use Rattle.check_causes.specs.Devices.{devices_told, carriage_told, pocket_told}
 
 -- why an operation at these addresses is stopped
-unfoldable pub operation_told : Operation → Modifier → Works → ℕ → ℕ → Tested
-operation_told (OnFields operation) modifier w a b = work_told operation w.storage a b
-operation_told ClearStorage modifier w a b = place_told w.storage b
-operation_told Branch modifier w a b = passed
-operation_told BranchOnMarkOrZone modifier w a b = passed
-operation_told (Operate devices) modifier w a b = devices_told devices w.units
-operation_told MoveCarriage modifier w a b = carriage_told modifier w.units.printer
-operation_told ChoosePocket modifier w a b = pocket_told w.units.punch
-operation_told StoreA modifier w a b = three_told w.storage a
-operation_told StoreB modifier w a b = three_told w.storage a
-operation_told Halt modifier w a b = passed
-operation_told NoOperation modifier w a b = passed
+unfoldable pub operation_told : Operation → Modifier → Storage → Units → ℕ → ℕ → Tested
+operation_told (OnFields operation) modifier s u a b = work_told operation s a b
+operation_told ClearStorage modifier s u a b = place_told s b
+operation_told Branch modifier s u a b = passed
+operation_told BranchOnMarkOrZone modifier s u a b = passed
+operation_told (Operate devices) modifier s u a b = devices_told devices u
+operation_told MoveCarriage modifier s u a b = carriage_told modifier u.printer
+operation_told ChoosePocket modifier s u a b = pocket_told u.punch
+operation_told StoreA modifier s u a b = three_told s a
+operation_told StoreB modifier s u a b = three_told s a
+operation_told Halt modifier s u a b = passed
+operation_told NoOperation modifier s u a b = passed
 
 -- why the instruction of so many characters is stopped
 unfoldable pub instruction_told : Works → ℕ → List ℕ → Tested
@@ -32,7 +34,7 @@ instruction_told w count codes =
     given (decoded_told w.storage count w.registers codes) (λ operands.
     operation_told (operation_by (slice_index codes 0))
         (modifier_by (slice_index codes 0) count (slice_index codes (count - 1)))
-        w operands.0 operands.1)
+        w.storage w.units operands.0 operands.1)
 
 -- the tests of the machine before the instruction at register I changes anything, in its order
 unfoldable pub attempt_told : Works → Tested

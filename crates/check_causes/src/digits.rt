@@ -1,6 +1,6 @@
 //! The characters that arithmetic and editing read.
 
-ghost use Rattle.std.specs.Prelude.{◌≡◌, ◌+◌, ◌-◌, ◌<◌, ◌≤◌, ℕ, length, is_some, IfSome};
+ghost use Rattle.std.specs.Prelude.{◌≡◌, ◌+◌, ◌-◌, ◌<◌, ◌≤◌, ℕ, length, is_some, if◌then◌else◌, Some, IfSome};
 ghost use Rattle.core_store.specs.Storage.{code_at, codes_ending, largest_size};
 ghost use Rattle.bcd.specs.Table.{digit_of};
 ghost use Rattle.moves.specs.Edited.{is_place, places};
@@ -12,19 +12,29 @@ use addresses::base_ending;
 use bcd::Code;
 use core_store::Core;
 
+/// The position of a character that has no digit, else the one that was found before.
+fn leftmost(code: Code, place: u16, found: Option<u16>) -> Option<u16>
+    ensures { result ≡ (if is_some (digit_of code) then found else Some place) }
+{
+    if code.digit().is_some() {
+        found
+    } else {
+        Some(place)
+    }
+}
+
 /// The leftmost of the `count` positions up to one whose character has no digit, if there is one.
+#[tactic(auto, using(crate::proofs::DigitLemmas::none_first, crate::proofs::DigitLemmas::next_first))]
 fn first_without_digit<C: Core>(core: &C, position: u16, count: u16) -> Option<u16>
     requires within { position < length (C.cells core.now) }
     requires below { position < largest_size }
     requires room { count ≤ position + 1 }
     ensures first { result ≡ first_without_digit (C.cells core.now) position count }
-    ensures inside { IfSome result (λ found. found < length (C.cells core.now)) }
+    ensures inside { IfSome result (λ found. found ≤ position) }
 {
     let mut found = None;
     for place in 0..count {
-        if core.get(position - place).digit().is_none() {
-            found = Some(position - place);
-        }
+        found = leftmost(core.get(position - place), position - place, found);
     }
     found
 }
@@ -61,10 +71,20 @@ pub(crate) fn test_number<C: Core>(core: &C, position: u16) -> Result<(), Cause>
 fn is_place(code: Code) -> bool
     ensures { result ≡ is_place code }
 {
-    matches!(code.glyph(), b'0' | b' ')
+    let glyph = code.glyph();
+    glyph == b'0' || glyph == b' '
+}
+
+/// A number of digit places, and one more if a character is one.
+fn with_place(code: Code, found: u16) -> u16
+    requires { found < largest_size }
+    ensures { result ≡ (if is_place code then found + 1 else found) }
+{
+    if is_place(code) { found + 1 } else { found }
 }
 
 /// How many digit places the `count` characters up to a position have.
+#[tactic(auto, using(crate::proofs::DigitLemmas::none_placed, crate::proofs::DigitLemmas::next_placed))]
 fn places<C: Core>(core: &C, position: u16, count: u16) -> u16
     requires within { position < length (C.cells core.now) }
     requires below { position < largest_size }
@@ -74,9 +94,7 @@ fn places<C: Core>(core: &C, position: u16, count: u16) -> u16
 {
     let mut found = 0;
     for place in 0..count {
-        if is_place(core.get(position - place)) {
-            found += 1;
-        }
+        found = with_place(core.get(position - place), found);
     }
     found
 }

@@ -1,6 +1,6 @@
 //! Why an operation is stopped.
 
-ghost use Rattle.std.specs.Prelude.{◌≡◌, ◌≤◌, true, codes};
+ghost use Rattle.std.specs.Prelude.{◌≡◌, ◌≤◌, ◌<◌, true, codes};
 ghost use Rattle.machine.specs.Glyphs.{is_glyph};
 ghost use Rattle.machine.specs.Instructions.{operation_by, modifier_by};
 ghost use Rattle.check_causes.specs.Causes.{operation_told};
@@ -15,8 +15,7 @@ use crate::works::{
 };
 use bcd::Code;
 use core_store::Core;
-use machine::Parts;
-use units::{CarriageOrder, Devices, Printer};
+use units::{CarriageOrder, Devices, Printer, Units};
 
 /// Why the carriage order that the last character of an instruction names is stopped.
 #[tactic(auto, unfolding(crate::specs::Devices::carriage_told))]
@@ -30,35 +29,43 @@ fn test_carriage(first: Code, count: u16, last: Code, printer: &Printer) -> Resu
     }
 }
 
-/// Why one of the operations that are not of the units is stopped at these addresses.
+/// Why one of the operations that are not of the units is stopped at these addresses. Each of its
+/// characters has an arm of its own, since the last arm then knows each that it is not.
 #[tactic(auto, unfolding(crate::specs::Causes::operation_told))]
 fn test_other<C: Core>(
-    parts: &Parts<C>,
+    core: &C,
+    units: &Units,
     first: Code,
     count: u16,
     last: Code,
     a: u16,
     b: u16,
 ) -> Result<(), Cause>
-    requires { 8 ≤ first }
+    requires high { 8 ≤ first }
+    requires below { first < 64 }
     ensures { result ≡ operation_told (operation_by first) (modifier_by first count last)
-        parts.now.works a b }
+        (C.cells core.now) units.now a b }
 {
-    let core = &parts.core;
     match first.glyph() {
-        b'A' | b'S' => test_sum(core, a, b),
-        b'?' | b'!' => test_copy(core, a, b),
+        b'A' => test_sum(core, a, b),
+        b'S' => test_sum(core, a, b),
+        b'?' => test_copy(core, a, b),
+        b'!' => test_copy(core, a, b),
         b'C' => test_comparison(core, a, b),
         b'#' => test_modification(core, a, b),
         b'M' => test_move(core, a, b),
         b'L' => test_load(core, a, b),
-        b'D' | b'Y' | b',' | b')' => test_places(core, a, b),
+        b'D' => test_places(core, a, b),
+        b'Y' => test_places(core, a, b),
+        b',' => test_places(core, a, b),
+        b')' => test_places(core, a, b),
         b'Z' => test_suppression(core, a, b),
         b'E' => test_edit(core, a, b),
         b'/' => test_place(core, b),
-        b'F' => test_carriage(first, count, last, &parts.units.printer),
-        b'K' => test_pocket(&parts.units.punch),
-        b'Q' | b'H' => test_three(core, a),
+        b'F' => test_carriage(first, count, last, &units.printer),
+        b'K' => test_pocket(&units.punch),
+        b'Q' => test_three(core, a),
+        b'H' => test_three(core, a),
         _ => Ok(()),
     }
 }
@@ -66,7 +73,8 @@ fn test_other<C: Core>(
 /// Why the operation that a character names is stopped at these addresses.
 #[tactic(auto, unfolding(crate::specs::Causes::operation_told))]
 pub(crate) fn test_operation<C: Core>(
-    parts: &Parts<C>,
+    core: &C,
+    units: &Units,
     first: Code,
     count: u16,
     last: Code,
@@ -74,11 +82,11 @@ pub(crate) fn test_operation<C: Core>(
     b: u16,
 ) -> Result<(), Cause>
     ensures { result ≡ operation_told (operation_by first) (modifier_by first count last)
-        parts.now.works a b }
+        (C.cells core.now) units.now a b }
 {
     match first.number() {
         0 => Ok(()),
-        sum @ 1..=7 => test_devices(Devices::of_sum(sum), &parts.units),
-        _ => test_other(parts, first, count, last, a, b),
+        sum @ 1..=7 => test_devices(Devices::of_sum(sum), units),
+        _ => test_other(core, units, first, count, last, a, b),
     }
 }
