@@ -1,8 +1,16 @@
-//! Why a check stops an instruction.
+//! Why a check stopped an instruction, in words.
 #![tactic(auto)]
 
 mod causes;
-mod looking;
+mod devices;
+mod digits;
+mod forms;
+mod operands;
+mod operations;
+mod places;
+mod telling;
+mod words;
+mod works;
 
 pub use causes::Cause;
-pub use looking::cause_of;
+pub use telling::cause_of;

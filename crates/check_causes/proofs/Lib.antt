@@ -1,0 +1,5 @@
+mod FormLemmas
+mod DigitLemmas
+mod OrderLemmas
+mod InstructionLemmas
+mod OperationLemmas

@@ -1,0 +1,1 @@
+-- what the words of a cause say
