@@ -3,3 +3,4 @@ mod DigitLemmas
 mod OrderLemmas
 mod InstructionLemmas
 mod OperationLemmas
+mod WorkedLemmas

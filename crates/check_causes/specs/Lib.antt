@@ -5,3 +5,4 @@ pub mod Fields
 pub mod Devices
 pub mod Causes
 pub mod Sentences
+pub mod Worked

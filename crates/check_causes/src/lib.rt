@@ -10,7 +10,9 @@ mod operations;
 mod places;
 mod telling;
 mod words;
+mod worked;
 mod works;
 
 pub use causes::Cause;
 pub use telling::cause_of;
+pub use worked::fields_of;
