@@ -13,7 +13,7 @@ unmarked_words p = codes "no mark at " ++ position_field p ++ codes " or to the 
 
 -- that the storage has no such position
 abbrev pub past_words : ℕ → List ℕ
-past_words p = position_field p ++ codes " is past the storage"
+past_words p = codes "past the storage: " ++ position_field p
 
 -- the field of so many characters that ends at a position, if one ends there
 abbrev pub field_by : Storage → ℕ → Option ℕ → List ℕ

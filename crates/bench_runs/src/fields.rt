@@ -1,6 +1,6 @@
 //! The fields that an attempt works at.
 
-ghost use Rattle.std.specs.Prelude.{◌≡◌, ◌+◌, ◌-◌, ◌<◌, ◌≤◌, ◌++◌, Some, length, option_copied, IfOk, OnOk};
+ghost use Rattle.std.specs.Prelude.{◌≡◌, ◌+◌, ◌-◌, ◌<◌, ◌≤◌, ◌==◌, ◌++◌, [], Some, codes, if◌then◌else◌, length, option_copied, IfOk, OnOk};
 ghost use Rattle.core_store.specs.Storage.{largest_size};
 ghost use Rattle.machine.specs.Run.{step};
 ghost use Rattle.bench_runs.specs.Attempts.{attempt_line};
@@ -12,7 +12,7 @@ use crate::shown::push_codes;
 use autocoder::{push_line, push_number};
 use check_causes::fields_of;
 use core_store::{Core, field_length};
-use machine::Machine;
+use machine::{Machine, Parts};
 use std::alloc::{AllocError, Global};
 
 /// Adds the field of so many characters that ends at a position.
@@ -50,18 +50,14 @@ fn push_unmarked(line: &mut Vec<u8>, position: u16) -> Result<(), AllocError>
 fn push_past(line: &mut Vec<u8>, position: u16) -> Result<(), AllocError>
     ensures { OnOk result (line.new.items ≡ line.old.items ++ past_words position) }
 {
-    push_number(line, b'0', 5, u64::from(position))?;
-    line.extend_from_slice(b" is past the storage")
+    line.extend_from_slice(b"past the storage: ")?;
+    push_number(line, b'0', 5, u64::from(position))
 }
 
 /// Adds the field that ends at a position: where it begins and ends, and its characters; or that
 /// none ends there. Fails only if there is no memory.
 #[tactic(auto, unfolding(crate::specs::Fields::field_shown))]
-pub fn push_field<C: Core>(
-    line: &mut Vec<u8>,
-    core: &C,
-    position: u16,
-) -> Result<(), AllocError>
+pub fn push_field<C: Core>(line: &mut Vec<u8>, core: &C, position: u16) -> Result<(), AllocError>
     ensures { OnOk result (line.new.items
         ≡ line.old.items ++ field_shown (C.cells core.now) position) }
 {
@@ -74,12 +70,13 @@ pub fn push_field<C: Core>(
     }
 }
 
-/// The field that ends at a position, as it is shown.
-fn field_at<C: Core>(alloc: Global, core: &C, position: u16) -> Result<Vec<u8>, AllocError>
-    ensures { IfOk result (λ field. field.items ≡ field_shown (C.cells core.now) position) }
+/// The field of a machine that ends at a position, as it is shown.
+fn field_at<C: Core>(alloc: Global, parts: &Parts<C>, position: u16) -> Result<Vec<u8>, AllocError>
+    ensures { IfOk result (λ field. field.items
+        ≡ field_shown parts.now.works.storage position) }
 {
     let mut field = Vec::new(alloc);
-    push_field(&mut field, core, position)?;
+    push_field(&mut field, &parts.core, position)?;
     Ok(field)
 }
 
@@ -133,8 +130,63 @@ fn push_both(
     push_after(alloc, text, before, after)
 }
 
+/// Adds the lines of the field of a machine that ends at a position, which was shown so before an
+/// attempt.
+fn push_since<C: Core>(
+    alloc: Global,
+    text: &mut Vec<u8>,
+    name: &[u8],
+    before: &[u8],
+    parts: &Parts<C>,
+    position: u16,
+) -> Result<(), AllocError>
+    ensures { OnOk result (text.new.items ≡ text.old.items
+        ++ both_lines name.now before.now (field_shown parts.now.works.storage position)) }
+{
+    let after = field_at(alloc, parts, position)?;
+    push_both(alloc, text, name, before, &after)
+}
+
+/// Adds the lines of the field at B, if it is another than that at A.
+fn push_other<C: Core>(
+    alloc: Global,
+    text: &mut Vec<u8>,
+    before: &[u8],
+    parts: &Parts<C>,
+    a: u16,
+    b: u16,
+) -> Result<(), AllocError>
+    ensures { OnOk result (text.new.items ≡ text.old.items ++ (if a == b then []
+        else both_lines (codes "B ") before.now (field_shown parts.now.works.storage b))) }
+{
+    if a == b {
+        return Ok(());
+    }
+    push_since(alloc, text, b"B ", before, parts, b)
+}
+
+/// Adds the lines of the fields of a machine that end at two positions, which were shown so before
+/// an attempt.
+fn push_fields<C: Core>(
+    alloc: Global,
+    text: &mut Vec<u8>,
+    before: (&[u8], &[u8]),
+    parts: &Parts<C>,
+    a: u16,
+    b: u16,
+) -> Result<(), AllocError>
+    ensures { OnOk result (text.new.items ≡ text.old.items
+        ++ (both_lines (codes "A ") before.entry.0.now (field_shown parts.now.works.storage a)
+        ++ (if a == b then []
+        else both_lines (codes "B ") before.entry.1.now (field_shown parts.now.works.storage b)))) }
+{
+    push_since(alloc, text, b"A ", before.0, parts, a)?;
+    push_other(alloc, text, before.1, parts, a, b)
+}
+
 /// Makes the next attempt of a machine, which works at the fields at these positions, and adds its
 /// line and theirs.
+#[tactic(auto, unfolding(crate::specs::Fields::fields_lines))]
 fn push_with_fields<C: Core>(
     alloc: Global,
     text: &mut Vec<u8>,
@@ -149,16 +201,11 @@ fn push_with_fields<C: Core>(
         ++ fields_lines machine.old.works.storage (step machine.old).works.storage (Some fields))) }
 {
     let (a, b) = fields;
-    let a_before = field_at(alloc, &machine.parts().core, a)?;
-    let b_before = field_at(alloc, &machine.parts().core, b)?;
+    let a_before = field_at(alloc, machine.parts(), a)?;
+    let b_before = field_at(alloc, machine.parts(), b)?;
     push_attempt(alloc, text, machine, names, number)?;
-    let a_after = field_at(alloc, &machine.parts().core, a)?;
-    push_both(alloc, text, b"A ", &a_before, &a_after)?;
-    if a == b {
-        return Ok(());
-    }
-    let b_after = field_at(alloc, &machine.parts().core, b)?;
-    push_both(alloc, text, b"B ", &b_before, &b_after)
+    push_fields(alloc, text, (&a_before, &b_before), machine.parts(), a, b)?;
+    Ok(())
 }
 
 /// Makes the next attempt of a machine, and adds its line; if it is asked for also the lines of the
