@@ -3,3 +3,7 @@ mod DigitLemmas
 mod OrderLemmas
 mod InstructionLemmas
 mod OperationLemmas
+mod AgreeLemmas
+mod CheckLaw
+mod FieldFacts
+mod NumberLemmas

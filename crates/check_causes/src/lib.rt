@@ -5,6 +5,7 @@ mod causes;
 mod devices;
 mod digits;
 mod forms;
+mod laws;
 mod operands;
 mod operations;
 mod places;
@@ -13,4 +14,5 @@ mod words;
 mod works;
 
 pub use causes::Cause;
+pub use laws::causes_are_of_checks;
 pub use telling::cause_of;
