@@ -61,7 +61,7 @@ use Rattle.check_causes.proofs.AgreeLemmas.{checked, same_needs, same_finds, sam
 
 -- ---- addresses
 
-index_same : (s : Storage) (n : ℕ) (index : Option IndexLocation) → with_index s n index ≡ checked (with_index_told s n index)
+pub index_same : (s : Storage) (n : ℕ) (index : Option IndexLocation) → with_index s n index ≡ checked (with_index_told s n index)
 unfolding with_index with_index_told
 index_same s n None = refl
 index_same s n (Some location) =
@@ -78,7 +78,7 @@ operand_same : (s : Storage) (first second third : ℕ) → operand s first seco
 unfolding operand operand_told
 operand_same s first second third = same_finds (tagged first second third) (NoAddress _ _ _) _ _ (λ address. position_same s address)
 
-operands_same : (s : Storage) (count : ℕ) (r : Registers) (codes : List ℕ) → operands_of s count r codes ≡ checked (operands_told s count r codes)
+pub operands_same : (s : Storage) (count : ℕ) (r : Registers) (codes : List ℕ) → operands_of s count r codes ≡ checked (operands_told s count r codes)
 unfolding operands_of operands_told operand_told_at
 operands_same s count r codes =
     same_if (count == 0) _ _ _ _ refl
@@ -328,6 +328,11 @@ effect_agrees StoreB d next w =
 effect_agrees Halt d next w = tt
 effect_agrees NoOperation d next w = tt
 
+-- a form that allows its last character is one
+pub form_taken : (first count last : ℕ) (form : Bool) → is_form first count ≡ form → is_last first count last ≡ true → is_form first count ≡ true
+form_taken first count last true e h = e
+form_taken first count last false e h = absurd (let clash : false ≡ true = not_formed first count last e ∙ h in cc)
+
 module _ (w : Works) (next count : ℕ) (codes : List ℕ) where
   abbrev outcome : Result Decoded Check → Result (Works × Course) Check
   outcome found = and_then found (λ d. effect d.operation d next w)
@@ -339,14 +344,10 @@ module _ (w : Works) (next count : ℕ) (codes : List ℕ) where
   refused true e h = refused_last w.storage count w.registers codes e h
   refused false e h = refused_form w.storage count w.registers codes e
 
-  form_taken : (form : Bool) → is_form (get_or codes 0 0) count ≡ form → is_last (get_or codes 0 0) count (get_or codes (count - 1) 0) ≡ true → is_form (get_or codes 0 0) count ≡ true
-  form_taken true e h = e
-  form_taken false e h = absurd (let clash : false ≡ true = not_formed (get_or codes 0 0) count (get_or codes (count - 1) 0) e ∙ h in cc)
-
   by_last : (allowed : Bool) → is_last (get_or codes 0 0) count (get_or codes (count - 1) 0) ≡ allowed → Agrees (instruction_told w count codes) (outcome (decoded_of w.storage count w.registers codes))
   by_last true h =
       agrees_as (taken_by w count codes (get_or codes 0 0) (get_or codes (count - 1) 0) refl refl h)
-      (ap outcome (decoded_is w.storage count w.registers codes (form_taken (is_form (get_or codes 0 0) count) refl h) h))
+      (ap outcome (decoded_is w.storage count w.registers codes (form_taken (get_or codes 0 0) count (get_or codes (count - 1) 0) (is_form (get_or codes 0 0) count) refl h) h))
       (agrees_mapped _ _ _ _ _ (operands_same w.storage (addresses_by (get_or codes 0 0) count) w.registers codes) (λ operands.
       effect_agrees (operation_by (get_or codes 0 0)) _ next w))
   by_last false h =

@@ -10,6 +10,7 @@ use Rattle.arith.specs.declared.operands.Counts.{Counts}
 use Rattle.check_causes.specs.declared.causes.Cause.{Cause}
 use Rattle.check_causes.specs.declared.causes.Cause.TheVariants.{FieldPast, NoFieldMark}
 use Rattle.check_causes.specs.Tested.{Tested, passed, needs, finds, given, after}
+use Rattle.check_causes.specs.Sentences.{IsField}
 use Rattle.check_causes.specs.Fields.{place_told, places_told, length_told, cut_told, counts_told, counts_apart_told}
 
 -- ---- what passed tests leave
@@ -54,14 +55,7 @@ pub record IsUpTo (s : Storage) (p count : ℕ) : Type 0 where
   pub room : count ≤ p + 1
   pub unmarked : (q : ℕ) → p + 1 < q + count → q ≤ p → is_marked s q ≡ false
 
--- the count positions up to p are a field: the first is marked, and no other
-pub record IsWhole (s : Storage) (p count : ℕ) : Type 0 where
-  pub some : 1 ≤ count
-  pub room : count ≤ p + 1
-  pub unmarked : (q : ℕ) → p + 1 < q + count → q ≤ p → is_marked s q ≡ false
-  pub marked : is_marked s (p + 1 - count) ≡ true
-
-whole_by : (s : Storage) (p count : ℕ) (found : Option ℕ) → GreatestMark s p found → option_map (λ first. p + 1 - first) found ≡ Some count → IsWhole s p count
+whole_by : (s : Storage) (p count : ℕ) (found : Option ℕ) → GreatestMark s p found → option_map (λ first. p + 1 - first) found ≡ Some count → IsField s p count
 whole_by s p count None g h = absurd (cc)
 whole_by s p count (Some first) g h =
     let below : first ≤ p = g.not_above in
@@ -74,7 +68,7 @@ whole_by s p count (Some first) g h =
       marked = subst (λ n. is_marked s n ≡ true) back g.marked;
     }
 
-pub whole : (s : Storage) (p count : ℕ) → field_length s p ≡ Some count → IsWhole s p count
+pub whole : (s : Storage) (p count : ℕ) → field_length s p ≡ Some count → IsField s p count
 unfolding field_length
 whole s p count h = whole_by s p count (greatest_mark s p) (greatest_is_greatest s p) h
 
@@ -104,7 +98,7 @@ cut_by s p limit count None e some h = go (leb limit (p + 1)) refl h
     go false fits h = absurd (cc)
 cut_by s p limit count (Some long) e some h = go (leb long limit) refl h
   where
-    field : IsWhole s p long
+    field : IsField s p long
     field = whole s p long e
 
     cut_off : (b : Bool) → limit < long → (if b then Some limit else None) ≡ Some count → IsCut s p limit count
@@ -151,7 +145,7 @@ uncut s p limit h = no_mark s p (none_cut s p limit (field_length s p) refl h)
 pub record IsCounted (s : Storage) (a b : ℕ) (counts : Counts) : Type 0 where
   pub a_in : a < length s
   pub b_in : b < length s
-  pub field : IsWhole s b counts.b
+  pub field : IsField s b counts.b
   pub cut : IsCut s a counts.b counts.a
 
 with_cut : Storage → ℕ → ℕ → Result Counts Cause
@@ -163,7 +157,7 @@ the_counts counts = Ok counts
 same_counts : (x y : Counts) → the_counts x ≡ the_counts y → x ≡ y
 same_counts x y h = cc
 
-cut_counted : (s : Storage) (a b b_count a_count : ℕ) (counts : Counts) → a < length s → b < length s → IsWhole s b b_count → IsCut s a b_count a_count → the_counts (record { a = a_count; b = b_count }) ≡ the_counts counts → IsCounted s a b counts
+cut_counted : (s : Storage) (a b b_count a_count : ℕ) (counts : Counts) → a < length s → b < length s → IsField s b b_count → IsCut s a b_count a_count → the_counts (record { a = a_count; b = b_count }) ≡ the_counts counts → IsCounted s a b counts
 cut_counted s a b b_count a_count counts a_in b_in field cut h = subst (IsCounted s a b) (same_counts _ counts h) (record { a_in = a_in; b_in = b_in; field = field; cut = cut })
 
 pub counted : (s : Storage) (a b : ℕ) (counts : Counts) → counts_told s a b ≡ Ok counts → IsCounted s a b counts

@@ -7,3 +7,5 @@ mod AgreeLemmas
 mod CheckLaw
 mod FieldFacts
 mod NumberLemmas
+mod SoLemmas
+mod SentenceLaw

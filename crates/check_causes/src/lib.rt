@@ -14,5 +14,5 @@ mod words;
 mod works;
 
 pub use causes::Cause;
-pub use laws::causes_are_of_checks;
+pub use laws::{causes_are_of_checks, causes_are_so};
 pub use telling::cause_of;
