@@ -38,7 +38,7 @@ module _ (w : Works) (count : ℕ) (codes : List ℕ) (first last : ℕ) (f : fi
   unfolding is_last
   not_taken sign e h = ap (λ n. Err (NoInstruction n)) (e ∙ ap glyph_of f) ∙ sym (is_by ∙ none_found (modifier_at first count last) h)
 
-  taken_by : is_last first count last ≡ true → instruction_told w count codes ≡ given (operands_told w.storage (addresses_by first count) w.registers codes) (λ operands.
+  pub taken_by : is_last first count last ≡ true → instruction_told w count codes ≡ given (operands_told w.storage (addresses_by first count) w.registers codes) (λ operands.
       operation_told (operation_by first) (modifier_by first count last) w.storage w.units operands.0 operands.1)
   unfolding is_last
   taken_by h = is_by ∙ some_found (modifier_at first count last) h ∙ rw (f, l) refl

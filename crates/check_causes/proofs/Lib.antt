@@ -4,3 +4,9 @@ mod OrderLemmas
 mod InstructionLemmas
 mod OperationLemmas
 mod WorkedLemmas
+mod AgreeLemmas
+mod CheckLaw
+mod FieldFacts
+mod NumberLemmas
+mod SoLemmas
+mod SentenceLaw
