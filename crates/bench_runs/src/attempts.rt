@@ -139,7 +139,7 @@ fn beginning<C: Core>(
 /// Makes the next attempt of a machine, and adds its line: the attempt's number, where it begins,
 /// the characters of its instruction, and what came of it. Fails only if there is no memory.
 #[tactic(auto, unfolding(crate::specs::Attempts::attempt_line))]
-pub(crate) fn push_attempt<C: Core>(
+pub fn push_attempt<C: Core>(
     alloc: Global,
     text: &mut Vec<u8>,
     machine: &mut Machine<C>,

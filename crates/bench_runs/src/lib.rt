@@ -37,6 +37,7 @@ mod shown;
 mod tracing;
 
 pub use accounts::Account;
+pub use attempts::push_attempt;
 pub use dumping::{DumpOptions, dump, push_machine, push_registers, push_storage, push_units};
 pub use ends::{MOST_ATTEMPTS, load};
 pub use fields::{push_field, push_shown};
