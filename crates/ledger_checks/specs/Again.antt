@@ -14,11 +14,11 @@ use Rattle.office.specs.declared.stretches.Stretch.{Stretch}
 
 -- a deck that a job may have, and the deck that its machine loads
 pub record IsLoading (kind : Kind) (deck loaded : List Card) : Type 0 where
-  pub deck : IsDeck deck
+  pub is_deck : IsDeck deck
   pub card : 0 < length deck
   pub faultless : kind ≡ Autocoder → IsFaultless (source_of deck)
   pub loaded_is : loaded ≡ loaded_of kind deck
-  pub loaded : IsDeck loaded
+  pub is_loaded : IsDeck loaded
 
 -- between two stretches a machine that began so is at a halt
 abbrev pub HaltsBetween : State → List Stretch → Type 0
@@ -27,7 +27,7 @@ HaltsBetween begun stretches = (n : ℕ) → 0 < n → n < length stretches
 
 -- a machine that began so and went through these stretches, which a job may have
 pub record HasResumed (begun : State) (stretches : List Stretch) (m : State) : Type 0 where
-  pub stretches : AreStretches stretches
+  pub allowed : AreStretches stretches
   pub halts : HaltsBetween begun stretches
   pub machine : m ≡ resumed begun stretches
 

@@ -2,7 +2,7 @@
 
 ghost use Rattle.std.specs.Prelude.{◌≡◌, ◌<◌, ◌++◌, ◌-◌, ◌^◌, ◌↔◌, [], All, length, min, IfOk, OnOk, IsTrue};
 ghost use Rattle.cards.specs.Decks.{deck_bytes};
-ghost use Rattle.machine.specs.Run.{loaded as begun};
+ghost use Rattle.machine.specs.Run.{after, loaded as begun, started};
 ghost use Rattle.office.specs.Jobs.{all_off, granted, AreStretches, HasSwitches};
 ghost use Rattle.ledger_checks.specs.Again.{GoesThrough, HasResumed, IsLoading, LoadsAs};
 
@@ -56,8 +56,8 @@ fn loaded_for(alloc: Global, contents: &Contents) -> Result<Deck, Stop>
     commands_keep_jobs();
     match new_job::<PlaneCore>(alloc, contents) {
         Ok(job) => {
-            let deck = copy_of(alloc, &job.parts().machine.units.hopper.deck)?;
-            Ok(deck)
+            let machine = job.parts().machine;
+            Ok(copy_of(alloc, &machine.units.hopper.deck)?)
         }
         Err(NewFault::Refused(reason)) => Err(Stop::Differs(Difference::Refused(reason))),
         Err(NewFault::NoMemory) => Err(Stop::NoMemory),
@@ -116,6 +116,21 @@ fn are_stretches(stretches: &[Stretch]) -> bool
     !stretches.is_empty() && have_switches(stretches) && granted_in(stretches) <= MOST_GRANTED
 }
 
+/// Starts a machine that is at a halt, and runs it for a stretch.
+fn resume(
+    machine: &mut Machine<PlaneCore>,
+    stretch: Stretch,
+    meter: &mut Meter,
+) -> Result<(), AllocError>
+    requires { machine.old.standing ≡ Standing.Halted }
+    ensures { OnOk result
+        (machine.new ≡ after (started machine.old stretch.switches) stretch.granted) }
+{
+    machine.start(stretch.switches);
+    machine.run(stretch.granted, meter)?;
+    Ok(())
+}
+
 /// Goes through these stretches, each of which begins at a halt.
 fn go_on(machine: &mut Machine<PlaneCore>, stretches: &[Stretch]) -> Result<(), Stop>
     ensures { OnOk result (GoesThrough machine.old machine.new stretches.now) }
@@ -125,8 +140,7 @@ fn go_on(machine: &mut Machine<PlaneCore>, stretches: &[Stretch]) -> Result<(), 
         if machine.parts().standing != Standing::Halted {
             return Err(Stop::Differs(Difference::NotAtHalt(at)));
         }
-        machine.start(stretches[at].switches);
-        machine.run(stretches[at].granted, &mut meter)?;
+        resume(machine, stretches[at], &mut meter)?;
     }
     Ok(())
 }

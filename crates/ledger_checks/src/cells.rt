@@ -8,7 +8,7 @@ use sqlite::types::ValueRef;
 
 /// Whether two values are the same; a real number is the same as none.
 pub(crate) fn is_same(found: ValueRef<'_>, wanted: ValueRef<'_>) -> bool
-    ensures { IsTrue result → owned found ≡ owned wanted }
+    ensures { IsTrue result → owned found.entry ≡ owned wanted.entry }
 {
     match (found, wanted) {
         (ValueRef::Int(a), ValueRef::Int(b)) => a == b,

@@ -13,9 +13,9 @@ use sqlite::types::ValueRef;
 
 /// The first row of a job, and the rows after it.
 pub(crate) fn next_of<'a>(rows: &'a [Row], name: JobName<'_>) -> Option<(&'a Row, &'a [Row])>
-    ensures found { IfSome result (λ found. rows_of name.customer.now name.number rows.now
-        ≡ found.0.now ∷ rows_of name.customer.now name.number found.1.now) }
-    ensures none { IsNone result → rows_of name.customer.now name.number rows.now ≡ [] }
+    ensures found { IfSome result (λ found. rows_of name.entry.customer.now name.entry.number rows.now
+        ≡ found.0.now ∷ rows_of name.entry.customer.now name.entry.number found.1.now) }
+    ensures none { IsNone result → rows_of name.entry.customer.now name.entry.number rows.now ≡ [] }
 {
     for at in 0..rows.len() {
         if is_row_of(&rows[at], name) {
@@ -32,8 +32,8 @@ pub(crate) fn pass<'a>(
     place: Place,
     wanted: &[ValueRef<'_>],
 ) -> Result<&'a [Row], Difference>
-    ensures { IfOk result (λ rest. rows_of name.customer.now name.number rows.now
-        ≡ map owned wanted.now ∷ rows_of name.customer.now name.number rest.now) }
+    ensures { IfOk result (λ rest. rows_of name.entry.customer.now name.entry.number rows.now
+        ≡ map owned wanted.now ∷ rows_of name.entry.customer.now name.entry.number rest.now) }
 {
     let Some((row, rest)) = next_of(rows, name) else {
         return Err(Difference::Row(place, Found::Nothing));
@@ -46,7 +46,7 @@ pub(crate) fn pass<'a>(
 
 /// Tests that there are no more rows of a job.
 pub(crate) fn pass_none(rows: &[Row], name: JobName<'_>, place: Place) -> Result<(), Difference>
-    ensures { OnOk result (rows_of name.customer.now name.number rows.now ≡ []) }
+    ensures { OnOk result (rows_of name.entry.customer.now name.entry.number rows.now ≡ []) }
 {
     match next_of(rows, name) {
         None => Ok(()),

@@ -45,7 +45,7 @@ fn check_row(
     job: Numbers,
     loaded: &Loaded,
 ) -> Result<(), Difference>
-    ensures { OnOk result (row.now ≡ row_of name.customer.now name.number job
+    ensures { OnOk result (row.now ≡ row_of name.entry.customer.now name.entry.number job
         loaded.now.deck_bytes.items loaded.now.loaded_bytes.items) }
 {
     let size = job.size.positions() as u32;
@@ -100,8 +100,8 @@ fn check_again(
     profile: Profile,
     stretches: &[Stretch],
 ) -> Result<Summary, Stop>
-    ensures { IfOk result (HasRunAs all.now row.now (entry_of name.customer.now
-        name.number submitted.numbers submitted.deck profile stretches.now)) }
+    ensures { IfOk result (HasRunAs all.now row.now (entry_of name.entry.customer.now
+        name.entry.number submitted.numbers submitted.deck profile stretches.now)) }
 {
     let Submitted { numbers, deck } = submitted;
     let loaded = load(alloc, numbers.kind, numbers.size, deck)?;

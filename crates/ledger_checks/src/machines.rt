@@ -29,8 +29,8 @@ pub(crate) fn check_stretches(
     name: JobName<'_>,
     stretches: &[Stretch],
 ) -> Result<(), Difference>
-    ensures { OnOk result (rows_of name.customer.now name.number rows.now
-        ≡ rows_of_stretches name.customer.now name.number stretches.now) }
+    ensures { OnOk result (rows_of name.entry.customer.now name.entry.number rows.now
+        ≡ rows_of_stretches name.entry.customer.now name.entry.number stretches.now) }
 {
     let mut rest = rows;
     for at in 0..stretches.len() {
@@ -46,8 +46,8 @@ pub(crate) fn check_stretches(
 /// The rows of a job's cards are these.
 fn check_cards(rows: &[Row], name: JobName<'_>, cards: &[Punched]) -> Result<(), Difference>
     requires { length cards.now ≤ 20000 }
-    ensures same { OnOk result (rows_of name.customer.now name.number rows.now
-        ≡ rows_of_cards name.customer.now name.number cards.now) }
+    ensures same { OnOk result (rows_of name.entry.customer.now name.entry.number rows.now
+        ≡ rows_of_cards name.entry.customer.now name.entry.number cards.now) }
     ensures characters { OnOk result (All IsPunched cards.now) }
 {
     let mut rest = rows;
@@ -63,8 +63,8 @@ fn check_cards(rows: &[Row], name: JobName<'_>, cards: &[Punched]) -> Result<(),
 /// The rows of the pockets of a job's cards are these.
 fn check_pockets(rows: &[Row], name: JobName<'_>, cards: &[Punched]) -> Result<(), Difference>
     requires { length cards.now ≤ 20000 }
-    ensures { OnOk result (rows_of name.customer.now name.number rows.now
-        ≡ rows_of_pockets name.customer.now name.number cards.now) }
+    ensures { OnOk result (rows_of name.entry.customer.now name.entry.number rows.now
+        ≡ rows_of_pockets name.entry.customer.now name.entry.number cards.now) }
 {
     let mut rest = rows;
     for at in 0..cards.len() {
@@ -92,8 +92,8 @@ fn line_bytes(line: &Line) -> [u8; LINE_LENGTH]
 /// The rows of a job's lines are these.
 fn check_lines(rows: &[Row], name: JobName<'_>, lines: &[Line]) -> Result<(), Difference>
     requires { length lines.now ≤ 20000 }
-    ensures same { OnOk result (rows_of name.customer.now name.number rows.now
-        ≡ rows_of_lines name.customer.now name.number lines.now) }
+    ensures same { OnOk result (rows_of name.entry.customer.now name.entry.number rows.now
+        ≡ rows_of_lines name.entry.customer.now name.entry.number lines.now) }
     ensures characters { OnOk result (All IsLine lines.now) }
 {
     let mut rest = rows;
@@ -115,8 +115,8 @@ fn check_state(
     machine: &Parts<PlaneCore>,
 ) -> Result<(), Difference>
     requires { IsInRange machine.now }
-    ensures { OnOk result (rows_of name.customer.now name.number rows.now
-        ≡ rows_of_state name.customer.now name.number machine.now) }
+    ensures { OnOk result (rows_of name.entry.customer.now name.entry.number rows.now
+        ≡ rows_of_state name.entry.customer.now name.entry.number machine.now) }
 {
     let s = state_row(machine);
     let wanted = params![
@@ -142,8 +142,8 @@ fn check_state(
 
 /// The row of a job's profile is this punch's.
 fn check_profile(rows: &[Row], name: JobName<'_>, punch: &Punch) -> Result<(), Difference>
-    ensures { OnOk result (rows_of name.customer.now name.number rows.now
-        ≡ rows_of_profile name.customer.now name.number punch.now) }
+    ensures { OnOk result (rows_of name.entry.customer.now name.entry.number rows.now
+        ≡ rows_of_profile name.entry.customer.now name.entry.number punch.now) }
 {
     let p = profile_row(punch);
     let wanted = params![name.customer, name.number, p.profile, p.chosen];
@@ -154,8 +154,8 @@ fn check_profile(rows: &[Row], name: JobName<'_>, punch: &Punch) -> Result<(), D
 /// The rows of a job's pages are those of this storage.
 fn check_pages(rows: &[Row], name: JobName<'_>, core: &PlaneCore) -> Result<(), Difference>
     requires { length (cells_of core.now) ≤ largest_size }
-    ensures { OnOk result (rows_of name.customer.now name.number rows.now
-        ≡ rows_of_pages name.customer.now name.number (cells_of core.now)) }
+    ensures { OnOk result (rows_of name.entry.customer.now name.entry.number rows.now
+        ≡ rows_of_pages name.entry.customer.now name.entry.number (cells_of core.now)) }
 {
     let count = core.size() / PAGE_SIZE;
     let mut rest = rows;
@@ -179,7 +179,7 @@ pub(crate) fn check_machine(
     requires range { IsInRange machine.now }
     requires cards { length machine.now.works.units.punch.cards ≤ 20000 }
     requires lines { length (lines_of machine.now) ≤ 20000 }
-    ensures rows { OnOk result (HasMachine name.customer.now name.number all.now machine.now) }
+    ensures rows { OnOk result (HasMachine name.entry.customer.now name.entry.number all.now machine.now) }
     ensures cards { OnOk result (All IsPunched machine.now.works.units.punch.cards) }
     ensures lines { OnOk result (All IsLine (lines_of machine.now)) }
 {

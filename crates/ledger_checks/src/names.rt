@@ -30,7 +30,7 @@ fn has_customer(row: &Row, at: usize, customer: &str) -> bool
 
 /// Whether a row is of the job of this name.
 pub(crate) fn is_row_of(row: &Row, name: JobName<'_>) -> bool
-    ensures { result ≡ is_row_of name.customer.now name.number row.now }
+    ensures { result ≡ is_row_of name.entry.customer.now name.entry.number row.now }
 {
     has_customer(row, 0, name.customer) && has_number(row, 1, name.number)
 }
