@@ -1,3 +1,4 @@
 pub mod RowLemmas
 pub mod AgainLemmas
 pub mod LoadedLemmas
+pub mod PlacedLemmas

@@ -9,7 +9,8 @@ use std::alloc::AllocError;
 #[derive(Clone, Copy, Debug, PartialEq, Eq)]
 pub enum Place {
     Job,
-    Stretch(u32),
+    /// By its place, from 0.
+    Stretch(usize),
     State,
     Page(u32),
     Card(u32),
