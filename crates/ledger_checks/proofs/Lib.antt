@@ -2,3 +2,4 @@ pub mod RowLemmas
 pub mod AgainLemmas
 pub mod LoadedLemmas
 pub mod PlacedLemmas
+pub mod JobLemmas

@@ -8,7 +8,7 @@ ghost use Rattle.core_store.specs.Storage.{largest_size};
 ghost use Rattle.machine.specs.Ranges.{IsInRange};
 ghost use Rattle.machine.specs.Run.{lines_of};
 ghost use Rattle.ledger.specs.Standing.{stretch_row as stretch_cells};
-ghost use Rattle.ledger_rows.specs.Columns.{IsLine, line_cells};
+ghost use Rattle.ledger_rows.specs.Columns.{HoldsCharacters, IsLine, line_cells};
 ghost use Rattle.ledger_rows.specs.Pockets.{IsPunched, pocket_cell};
 ghost use Rattle.ledger_checks.specs.Kept.{rows_of_cards, rows_of_lines, rows_of_pages, rows_of_pockets, rows_of_profile, rows_of_state, rows_of_stretches, HasMachine};
 ghost use Rattle.ledger_checks.specs.Tables.{rows_of};
@@ -258,6 +258,11 @@ fn check_pages(rows: &[Row], name: JobName<'_>, core: &PlaneCore) -> Result<(), 
     pass_none(rest, name, Place::Page(count as u32))
 }
 
+/// The law of what storage holds: a character at each position.
+fn storage_holds_characters(core: &PlaneCore)
+    ensures { HoldsCharacters (cells_of core.now) }
+{}
+
 /// The rows of a job's machine are those of this one.
 pub(crate) fn check_machine(
     all: &AllRows,
@@ -270,7 +275,10 @@ pub(crate) fn check_machine(
     ensures rows { OnOk result (HasMachine name.entry.customer.now name.entry.number all.now machine.now) }
     ensures cards { OnOk result (All IsPunched machine.now.works.units.punch.cards) }
     ensures lines { OnOk result (All IsLine (lines_of machine.now)) }
+    ensures characters { OnOk result (HoldsCharacters machine.now.works.storage) }
 {
+    // A law, for the proof: it does nothing.
+    storage_holds_characters(&machine.core);
     let cards = machine.units.punch.cards.as_slice();
     check_state(&all.states, name, machine)?;
     check_profile(&all.profiles, name, &machine.units.punch)?;

@@ -38,18 +38,33 @@ fn read_kind(number: u32) -> Option<Kind> {
     }
 }
 
+/// The kind in a column, if it holds one.
+fn kind_at(row: &Row, at: usize) -> Option<Kind> {
+    read_kind(number_at(row, at)?)
+}
+
+/// The size in a column, if it holds one.
+fn size_at(row: &Row, at: usize) -> Option<Size> {
+    Size::of_positions(number_at(row, at)?)
+}
+
+/// The flag in a column, if it holds one.
+fn truth_at(row: &Row, at: usize) -> Option<bool> {
+    read_truth(number_at(row, at)?)
+}
+
 /// The columns of a row of `jobs` that are numbers, or the first of them that holds none.
 fn read_numbers(row: &Row) -> Result<Numbers, usize> {
-    let Some(kind) = number_at(row, 2).and_then(read_kind) else {
+    let Some(kind) = kind_at(row, 2) else {
         return Err(2);
     };
-    let Some(size) = number_at(row, 3).and_then(Size::of_positions) else {
+    let Some(size) = size_at(row, 3) else {
         return Err(3);
     };
-    let Some(held) = number_at(row, 6).and_then(read_truth) else {
+    let Some(held) = truth_at(row, 6) else {
         return Err(6);
     };
-    let Some(collected) = number_at(row, 7).and_then(read_truth) else {
+    let Some(collected) = truth_at(row, 7) else {
         return Err(7);
     };
     Ok(Numbers {
@@ -83,7 +98,7 @@ pub(crate) fn read_submitted(alloc: Global, row: &Row) -> Result<Submitted, Stop
 
 /// The stretch of a row of `stretches`.
 fn read_stretch(row: &Row) -> Option<Stretch> {
-    let switches = number_at(row, 3).and_then(read_switches)?;
+    let switches = read_switches(number_at(row, 3)?)?;
     let granted = number_at(row, 4)?;
     Some(Stretch { switches, granted })
 }
