@@ -35,7 +35,7 @@ fn tell_fault<E: Write>(path: &str, fault: OpenFault, errors: &mut E) -> io::Res
             "fault 50: that is no bureau's file, or one of a later version",
             Status::Unusable,
         ),
-        OpenFault::Old => (
+        OpenFault::Old(_) => (
             "fault 51: the file is of an earlier version; bureau migrate makes it one of this",
             Status::Unusable,
         ),
