@@ -33,8 +33,8 @@ unfoldable pub instruction_told : Works → ℕ → List ℕ → Tested
 instruction_told w count codes =
     given (decoded_told w.storage count w.registers codes) (λ operands.
     operation_told (operation_by (slice_index codes 0))
-        (modifier_by (slice_index codes 0) count (slice_index codes (count - 1)))
-        w.storage w.units operands.0 operands.1)
+    (modifier_by (slice_index codes 0) count (slice_index codes (count - 1)))
+    w.storage w.units operands.0 operands.1)
 
 -- the tests of the machine before the instruction at register I changes anything, in its order
 unfoldable pub attempt_told : Works → Tested

@@ -1,5 +1,5 @@
 -- what the words of a cause say
-use Rattle.std.specs.Prelude.{ℕ, ◌≡◌, ◌⊎◌, ◌+◌, ◌-◌, ◌<◌, ◌≤◌, max, List, length, true, false, Option, Some, None, Ok, slice_index}
+use Rattle.std.specs.Prelude.{ℕ, ◌≡◌, ◌⊎◌, ◌+◌, ◌-◌, ◌<◌, ◌≤◌, max, List, length, true, false, Some, None, Ok, slice_index}
 use Rattle.bcd.specs.Table.{glyph_of, digit_of}
 use Rattle.core_store.specs.Storage.{Storage, code_at, is_marked, codes_ending}
 use Rattle.addresses.specs.Addresses.{Tagged, tagged}
@@ -13,8 +13,7 @@ use Rattle.units.specs.Units.{most_lines, most_cards, reads, prints, punches}
 use Rattle.machine.specs.declared.named.Decoded.{Decoded}
 use Rattle.machine.specs.declared.named.Operation.{Operation}
 use Rattle.machine.specs.declared.named.Operation.TheVariants.{OnFields, ClearStorage, Branch, BranchOnMarkOrZone, Operate, MoveCarriage, ChoosePocket, StoreA, StoreB, Halt, NoOperation}
-use Rattle.machine.specs.declared.operations.FieldOperation.{FieldOperation}
-use Rattle.machine.specs.declared.operations.FieldOperation.TheVariants.{Add, Subtract, ZeroAdd, ZeroSubtract, Compare, ModifyAddress, Move, Load, MoveDigit, MoveZone, Suppress, Edit, SetMark, ClearMark}
+use Rattle.machine.specs.declared.operations.FieldOperation.TheVariants.{Add, Subtract, ZeroAdd, ZeroSubtract, ModifyAddress, Move, Load, Suppress, Edit}
 use Rattle.machine.specs.Effect.{Works}
 use Rattle.machine.specs.Instructions.{addresses_by}
 use Rattle.machine.specs.Operations.{modifier_at}

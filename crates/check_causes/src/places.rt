@@ -109,11 +109,7 @@ pub(crate) fn counts<C: Core>(core: &C, a: u16, b: u16) -> Result<Counts, Cause>
 pub(crate) fn test_apart(overlap: bool) -> Result<(), Cause>
     ensures { result ≡ apart_told overlap }
 {
-    if overlap {
-        Err(Cause::Overlap)
-    } else {
-        Ok(())
-    }
+    if overlap { Err(Cause::Overlap) } else { Ok(()) }
 }
 
 /// The same lengths for an operation that writes at B while it reads at A, or why it cannot.
