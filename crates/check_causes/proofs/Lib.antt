@@ -9,3 +9,4 @@ mod FieldFacts
 mod NumberLemmas
 mod SoLemmas
 mod SentenceLaw
+mod TableLemmas

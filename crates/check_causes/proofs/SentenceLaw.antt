@@ -43,6 +43,7 @@ use Rattle.machine.specs.Operations.{modifier_at}
 use Rattle.machine.specs.Word.{word, word_length, ending_in}
 use Rattle.check_causes.specs.Reading.{word_told, with_index_told, position_told, operand_told, operand_told_at, operands_told, decoded_told}
 use Rattle.check_causes.proofs.AgreeLemmas.{checked}
+use Rattle.check_causes.proofs.TableLemmas.{no_form}
 use Rattle.check_causes.proofs.CheckLaw.{index_same, operands_same, form_taken}
 use Rattle.check_causes.specs.declared.causes.Cause.{Cause}
 use Rattle.check_causes.specs.declared.causes.Cause.TheVariants.{RegisterPast, NoMark, NoEnd, NoInstruction, NoSelection, NoAddress, AddressPast, NoIndex, FieldPast, NoFieldMark, TooFew, MarkWrittenOver, NoDigit, NoCard, PunchFull, PrinterFull}
@@ -538,7 +539,7 @@ module _ (w : Works) where
     unfolding instruction_told decoded_told
     instruction_so =
         so_given R (decoded_told w.storage count w.registers codes) _
-        (so_finds R (modifier_at first count last) (NoInstruction (glyph_of first)) _ (λ none. (codes, stands, refl, none)) (λ modifier e. operands_so))
+        (so_finds R (modifier_at first count last) (NoInstruction (glyph_of first)) _ (λ none. (codes, stands, refl, no_form codes none)) (λ modifier e. operands_so))
         (λ operands e. operation_so w (modifier_by first count last) count operands.0 operands.1 (operation_by first) (decoded_as operands e))
 
   stands_next : (codes : List ℕ) → word_told w.storage w.registers.i ≡ Ok codes → StandsNext w codes
