@@ -1,10 +1,10 @@
 -- tests that tell a cause beside the machine's tests, which give a check
-use Rattle.std.proofs.Common.{◌≡◌, ◌&&◌, not, Bool, true, false, Option, Some, None, Result, Ok, Err, refl, sym, subst, ap, ◌∙◌, if◌then◌else◌}
+use Rattle.std.proofs.Common.{◌≡◌, ◌&&◌, Bool, true, false, Option, Some, None, Result, Ok, Err, refl, sym, subst, ap, ◌∙◌, if◌then◌else◌}
 use Rattle.core_store.specs.Checked.{require, find_or, and_then}
 use Rattle.core_store.specs.declared.checks.Check.{Check}
 use Rattle.check_causes.specs.declared.causes.Cause.{Cause}
 use Rattle.check_causes.specs.Words.{check_of}
-use Rattle.check_causes.specs.Tested.{Tested, passed, needs, finds, given, after}
+use Rattle.check_causes.specs.Tested.{passed, needs, finds, given, after}
 
 -- ---- the same values, and the check of each cause
 

@@ -1,5 +1,5 @@
 -- a cause is told exactly where a check stops the instruction, and of that check
-use Rattle.std.proofs.Common.{◌≡◌, ℕ, zero, suc, ◌+◌, ◌-◌, ◌%◌, ◌<◌, ◌≤◌, ◌==◌, ◌&&◌, not, max, Bool, true, false, List, length, Option, Some, None, Result, Ok, Err, refl, sym, subst, ap, ◌∙◌, arith, if◌then◌else◌, ltb, leb, is_some, get_or, IsOk}
+use Rattle.std.proofs.Common.{◌≡◌, ℕ, ◌+◌, ◌-◌, ◌==◌, ◌&&◌, not, max, Bool, true, false, List, length, Option, Some, None, Result, Ok, Err, refl, sym, subst, ap, ◌∙◌, arith, if◌then◌else◌, ltb, leb, is_some, get_or, IsOk}
 use Rattle.std.proofs.lemmas.Bool.{lt-ltb, le-ltb}
 use Rattle.std.proofs.Math.Decide.{dec_lt}
 use Rattle.core_store.specs.Storage.{Storage, is_marked, field_length, codes_ending}
@@ -43,7 +43,7 @@ use Rattle.machine.specs.declared.named.Operation.TheVariants.{OnFields, ClearSt
 use Rattle.machine.specs.declared.operations.Course.{Course}
 use Rattle.machine.specs.Effect.{Works, worked, effect, attempt, filled, ordered_by, pocket_by}
 use Rattle.machine.specs.Instructions.{is_form, is_last, addresses_by, operation_by}
-use Rattle.machine.specs.Word.{operand_at, operands_of, decoded_of, word}
+use Rattle.machine.specs.Word.{operands_of, decoded_of, word}
 use Rattle.machine.proofs.DecodeLemmas.{refused_form, refused_last, decoded_is}
 use Rattle.check_causes.specs.Causes.{operation_told, instruction_told, attempt_told, cause}
 use Rattle.check_causes.specs.Devices.{card_told, punch_told, line_told, devices_told, order_told, carriage_told, pocket_told}
@@ -54,10 +54,10 @@ use Rattle.check_causes.specs.Tested.{Tested, passed, needs, finds, given, after
 use Rattle.check_causes.proofs.FieldFacts.{counted, given_ok, after_ok}
 use Rattle.check_causes.proofs.NumberLemmas.{number_is, two_or_three}
 use Rattle.check_causes.specs.declared.causes.Cause.{Cause}
-use Rattle.check_causes.specs.declared.causes.Cause.TheVariants.{RegisterPast, NoMark, NoEnd, NoInstruction, NoSelection, NoAddress, AddressPast, NoIndex, FieldPast, NoFieldMark, TooFew, MarkWrittenOver, NoDigit, NoNumber, Overlap, NoCard, PunchFull, PrinterFull}
+use Rattle.check_causes.specs.declared.causes.Cause.TheVariants.{RegisterPast, NoMark, NoEnd, NoSelection, NoAddress, AddressPast, NoIndex, FieldPast, NoFieldMark, TooFew, MarkWrittenOver, NoNumber, Overlap, PunchFull, PrinterFull}
 use Rattle.check_causes.specs.Reading.{word_told, with_index_told, position_told, operand_told, operand_told_at, operands_told}
 use Rattle.check_causes.specs.Fields.{place_told, places_told, room_told, three_told, length_told, cut_told, counts_told, counts_apart_told, apart_told, digit_told, digits_told, sum_told, copy_told, comparison_told, number_told, modification_told, move_length_told, move_told, mark_told, load_told, suppression_told, places_wanted, edit_told, work_told}
-use Rattle.check_causes.proofs.AgreeLemmas.{checked, same_needs, same_finds, same_found, same_given, same_if, same_both, same_apart, Agrees, agrees_needs, agrees_finds, agrees_found, agrees_given, agrees_both, agrees_apart, agrees_if, agrees_then, agrees_as, agrees_mapped}
+use Rattle.check_causes.proofs.AgreeLemmas.{checked, same_needs, same_finds, same_found, same_given, same_if, same_both, same_apart, Agrees, agrees_needs, agrees_found, agrees_given, agrees_both, agrees_apart, agrees_if, agrees_then, agrees_as, agrees_mapped}
 
 -- ---- addresses
 

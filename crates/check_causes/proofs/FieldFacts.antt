@@ -1,9 +1,9 @@
 -- what the lengths of fields say of marks and positions
-use Rattle.std.proofs.Common.{◌≡◌, ◌⊎◌, inl, inr, ℕ, ◌+◌, ◌-◌, ◌<◌, ◌≤◌, ◌&&◌, Bool, true, false, Option, Some, None, Result, Ok, Err, refl, sym, subst, ap, ◌∙◌, arith, length, ltb, leb, if◌then◌else◌}
+use Rattle.std.proofs.Common.{◌≡◌, ℕ, ◌+◌, ◌-◌, ◌<◌, ◌≤◌, Bool, true, false, Option, Some, None, Result, Ok, Err, refl, sym, subst, ◌∙◌, arith, length, ltb, leb, if◌then◌else◌}
 use Rattle.std.specs.Option.{option_map}
 use Rattle.std.proofs.lemmas.Bool.{ltb-true, leb-true, le-leb}
 use Rattle.std.proofs.Math.Decide.{dec_lt}
-use Rattle.core_store.specs.Storage.{Storage, is_marked, greatest_mark, GreatestMark, IsGreatestMark, field_length}
+use Rattle.core_store.specs.Storage.{Storage, is_marked, greatest_mark, GreatestMark, field_length}
 use Rattle.core_store.specs.Operands.{cut_length, is_within}
 use Rattle.core_store.proofs.Marks.{greatest_is_greatest}
 use Rattle.arith.specs.declared.operands.Counts.{Counts}
@@ -11,7 +11,7 @@ use Rattle.check_causes.specs.declared.causes.Cause.{Cause}
 use Rattle.check_causes.specs.declared.causes.Cause.TheVariants.{FieldPast, NoFieldMark}
 use Rattle.check_causes.specs.Tested.{Tested, passed, needs, finds, given, after}
 use Rattle.check_causes.specs.Sentences.{IsField}
-use Rattle.check_causes.specs.Fields.{place_told, places_told, length_told, cut_told, counts_told, counts_apart_told}
+use Rattle.check_causes.specs.Fields.{place_told, places_told, length_told, cut_told, counts_told}
 
 -- ---- what passed tests leave
 

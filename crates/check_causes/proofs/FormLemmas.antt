@@ -1,6 +1,6 @@
 -- forms that are none
-use Rattle.std.proofs.Common.{◌≡◌, ℕ, Bool, true, false, Option, Some, None, refl, is_some}
-use Rattle.std.specs.Option.{option_map, option_and_then}
+use Rattle.std.proofs.Common.{◌≡◌, ℕ, false, Option, Some, None, refl, is_some}
+use Rattle.std.specs.Option.{option_and_then}
 use Rattle.machine.specs.Instructions.{is_form, is_last}
 use Rattle.machine.specs.Operations.{Form, form_of, meant}
 

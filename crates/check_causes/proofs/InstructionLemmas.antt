@@ -1,15 +1,15 @@
 -- why an instruction is stopped, by what is found of its characters
-use Rattle.std.proofs.Common.{◌≡◌, ℕ, ◌+◌, ◌-◌, ◌<◌, ◌≤◌, Bool, true, false, List, length, Option, Some, None, Result, Ok, Err, refl, sym, ap, ◌∙◌, is_some, get_or, arith}
+use Rattle.std.proofs.Common.{◌≡◌, ℕ, ◌+◌, ◌-◌, ◌<◌, ◌≤◌, true, false, List, length, Option, Some, None, Result, Ok, Err, refl, sym, ap, ◌∙◌, is_some, get_or}
 use Rattle.std.proofs.lemmas.Bool.{lt-ltb}
 use Rattle.bcd.specs.Table.{glyph_of}
-use Rattle.core_store.specs.Storage.{Storage, codes_from}
+use Rattle.core_store.specs.Storage.{codes_from}
 use Rattle.core_store.proofs.Fields.{length-codes_from}
 use Rattle.machine.specs.Effect.{Works}
 use Rattle.machine.specs.declared.named.Modifier.{Modifier}
 use Rattle.machine.specs.Instructions.{is_last, addresses_by, operation_by, modifier_by}
 use Rattle.machine.specs.Operations.{modifier_at}
 use Rattle.check_causes.specs.declared.causes.Cause.{Cause}
-use Rattle.check_causes.specs.declared.causes.Cause.TheVariants.{RegisterPast, NoInstruction}
+use Rattle.check_causes.specs.declared.causes.Cause.TheVariants.{NoInstruction}
 use Rattle.check_causes.specs.Tested.{Tested, given, finds}
 use Rattle.check_causes.specs.Reading.{word_told, decoded_told, operands_told}
 use Rattle.check_causes.specs.Causes.{attempt_told, instruction_told, operation_told}

@@ -10,3 +10,4 @@ mod FieldFacts
 mod NumberLemmas
 mod SoLemmas
 mod SentenceLaw
+mod TableLemmas

@@ -1,5 +1,5 @@
 -- characters that are a number have no position without a digit
-use Rattle.std.proofs.Common.{◌≡◌, ℕ, zero, suc, ◌+◌, ◌-◌, ◌<◌, ◌≤◌, ◌&&◌, not, Bool, true, false, Option, Some, None, Ok, refl, sym, ap, ◌∙◌, arith, length, is_some, leb, add-one, if◌then◌else◌}
+use Rattle.std.proofs.Common.{◌≡◌, ℕ, zero, suc, ◌+◌, ◌-◌, ◌<◌, ◌≤◌, ◌&&◌, not, Bool, true, false, Option, Some, refl, sym, ap, ◌∙◌, arith, length, is_some, leb, add-one, if◌then◌else◌}
 use Rattle.std.proofs.lemmas.Bool.{le-leb, lt-leb}
 use Rattle.std.proofs.Math.Decide.{dec_lt}
 use Rattle.bcd.specs.Table.{digit_of}

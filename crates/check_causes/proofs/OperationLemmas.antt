@@ -1,5 +1,5 @@
 -- the operations by the glyphs of their characters
-use Rattle.std.proofs.Common.{◌≡◌, ◌≢◌, ℕ, ◌<◌, ◌≤◌, ◌==◌, ◌||◌, Bool, true, false, refl, sym, ap, ◌∙◌, ltb, arith}
+use Rattle.std.proofs.Common.{◌≡◌, ◌≢◌, ℕ, ◌<◌, ◌≤◌, ◌==◌, ◌||◌, Bool, true, false, refl, sym, ap, ◌∙◌, ltb}
 use Rattle.std.proofs.lemmas.Bool.{ne_eqb, le-ltb}
 use Rattle.bcd.specs.Table.{glyph_of}
 use Rattle.bcd.proofs.Tables.{at_each}
@@ -14,7 +14,6 @@ use Rattle.machine.specs.Operations.{operations, row_of, devices}
 use Rattle.machine.proofs.OperationNames.{names_units}
 use Rattle.check_causes.specs.Tested.{Tested, passed}
 use Rattle.check_causes.specs.Devices.{devices_told}
-use Rattle.check_causes.specs.Fields.{work_told}
 use Rattle.check_causes.specs.Causes.{operation_told}
 
 -- an operation is stopped as the one that a glyph names

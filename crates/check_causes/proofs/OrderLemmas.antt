@@ -1,5 +1,5 @@
 -- the carriage order that the last character of an instruction names
-use Rattle.std.proofs.Common.{◌≡◌, ℕ, true, Some, None, sym, ap, ◌∙◌}
+use Rattle.std.proofs.Common.{◌≡◌, ℕ, true, Some, None, sym, ap}
 use Rattle.std.specs.Prelude.{codes}
 use Rattle.units.specs.Carriages.{order_of}
 use Rattle.units.specs.Printed.{Printed}

@@ -1,8 +1,8 @@
 -- what a cause says is so
-use Rattle.std.proofs.Common.{◌≡◌, ◌≢◌, ◌⊎◌, inl, inr, ℕ, zero, suc, ◌+◌, ◌-◌, ◌%◌, ◌<◌, ◌≤◌, ◌==◌, ◌&&◌, not, max, min, Bool, true, false, List, Option, Some, None, Result, Ok, Err, refl, sym, subst, ap, ◌∙◌, arith, length, ltb, leb, is_some, get_or, unwrap_or, if◌then◌else◌}
+use Rattle.std.proofs.Common.{◌≡◌, ◌≢◌, inl, inr, ℕ, ◌+◌, ◌-◌, ◌<◌, ◌≤◌, ◌==◌, ◌&&◌, not, max, min, Bool, true, false, List, Option, Some, None, Result, Ok, refl, sym, subst, ap, ◌∙◌, arith, length, ltb, leb, is_some, get_or, unwrap_or, if◌then◌else◌}
 use Rattle.std.specs.Option.{option_map}
 use Rattle.std.specs.Prelude.{codes}
-use Rattle.std.proofs.lemmas.Bool.{ltb-true, leb-true, lt-ltb, le-leb, eq-eqb}
+use Rattle.std.proofs.lemmas.Bool.{ltb-true, leb-true, eq-eqb}
 use Rattle.std.proofs.Math.Decide.{dec_lt}
 use Rattle.bcd.specs.Table.{glyph_of, digit_of}
 use Rattle.core_store.specs.Storage.{Storage, code_at, is_marked, codes_ending, codes_from, field_length, least_mark, LeastMark}
@@ -11,7 +11,7 @@ use Rattle.core_store.specs.Checked.{and_then}
 use Rattle.core_store.specs.declared.checks.Check.{Check}
 use Rattle.core_store.proofs.Marks.{least_is_least, past_end}
 use Rattle.addresses.specs.Addresses.{Tagged, base, tagged}
-use Rattle.addresses.specs.Effective.{units_position, base_ending, with_index, effective}
+use Rattle.addresses.specs.Effective.{units_position, base_ending}
 use Rattle.addresses.specs.declared.tagged.IndexLocation.{IndexLocation}
 use Rattle.addresses.specs.declared.tagged.IndexLocation.TheVariants.{First, Second, Third}
 use Rattle.arith.specs.declared.operands.Counts.{Counts}
@@ -25,8 +25,7 @@ use Rattle.units.specs.declared.carriage.Motion.TheVariants.{Space, DoubleSpace,
 use Rattle.units.specs.declared.devices.Devices.{Devices}
 use Rattle.units.specs.declared.profiles.Profile.{Profile}
 use Rattle.units.specs.declared.profiles.Profile.TheVariants as profile
-use Rattle.units.specs.declared.units.Units.{Units}
-use Rattle.units.specs.Carriages.{last_form, lines_of_form, on_next_form, sensed, spaced, skipped, moved_by, after_line, ordered}
+use Rattle.units.specs.Carriages.{last_form, lines_of_form, on_next_form, sensed, spaced, moved_by, after_line, ordered}
 use Rattle.units.specs.Stacked.{is_selecting}
 use Rattle.units.specs.Units.{most_lines, most_cards, reads, prints, punches}
 use Rattle.machine.specs.declared.named.Decoded.{Decoded}
@@ -44,16 +43,17 @@ use Rattle.machine.specs.Operations.{modifier_at}
 use Rattle.machine.specs.Word.{word, word_length, ending_in}
 use Rattle.check_causes.specs.Reading.{word_told, with_index_told, position_told, operand_told, operand_told_at, operands_told, decoded_told}
 use Rattle.check_causes.proofs.AgreeLemmas.{checked}
+use Rattle.check_causes.proofs.TableLemmas.{no_form}
 use Rattle.check_causes.proofs.CheckLaw.{index_same, operands_same, form_taken}
 use Rattle.check_causes.specs.declared.causes.Cause.{Cause}
-use Rattle.check_causes.specs.declared.causes.Cause.TheVariants.{RegisterPast, NoMark, NoEnd, NoInstruction, NoSelection, NoAddress, AddressPast, NoIndex, FieldPast, NoFieldMark, TooFew, MarkWrittenOver, NoDigit, NoNumber, Overlap, NoCard, PunchFull, PrinterFull}
-use Rattle.check_causes.specs.Tested.{Tested, passed, needs, finds, given, after, told}
-use Rattle.check_causes.specs.Fields.{place_told, places_told, room_told, three_told, length_told, cut_told, counts_told, counts_apart_told, apart_told, digit_told, digits_told, sum_told, copy_told, comparison_told, number_told, modification_told, move_length_told, move_told, mark_told, load_told, suppression_told, places_wanted, edit_told, work_told}
+use Rattle.check_causes.specs.declared.causes.Cause.TheVariants.{RegisterPast, NoMark, NoEnd, NoInstruction, NoSelection, NoAddress, AddressPast, NoIndex, FieldPast, NoFieldMark, TooFew, MarkWrittenOver, NoDigit, NoCard, PunchFull, PrinterFull}
+use Rattle.check_causes.specs.Tested.{passed, needs, finds, after}
+use Rattle.check_causes.specs.Fields.{place_told, places_told, room_told, three_told, length_told, cut_told, counts_told, counts_apart_told, apart_told, digits_told, sum_told, copy_told, comparison_told, number_told, modification_told, move_length_told, move_told, mark_told, load_told, suppression_told, places_wanted, edit_told, work_told}
 use Rattle.check_causes.specs.Devices.{card_told, punch_told, line_told, devices_told, order_told, carriage_told, pocket_told}
 use Rattle.check_causes.specs.Causes.{operation_told, instruction_told, attempt_told, cause}
-use Rattle.check_causes.specs.Sentences.{StandsNext, HasAddressAt, HasAddress, Names, LeadsTo, IsNext, OfNext, HasFieldAt, HasNoMark, IsField, IsInField, IsAsFar, IsCutTo, HasNoMarkSooner, EndsAtMark, Wants, ReadsDigit, IsEdited, Shares, LoadsOverMark, OfDevices, IsPrinterFull, OneHasNoDigit, EndsNoNumber, IsSo}
-use Rattle.check_causes.proofs.FieldFacts.{IsUpTo, IsCut, IsCounted, counted, whole, no_mark, is_cut, place_in, places_in, needs_ok, after_ok, given_ok, found_ok}
-use Rattle.check_causes.proofs.SoLemmas.{So, so_needs, so_finds, so_given, so_after, so_if, so_told, not_below, not_most, not_false, place_so, places_so, three_so, length_so, cut_so, counts_so, room_so, apart_so, IsWithout, digits_so, no_base, no_number, number_so}
+use Rattle.check_causes.specs.Sentences.{StandsNext, HasAddressAt, HasAddress, Names, IsNext, HasNoMark, IsField, IsInField, IsCutTo, EndsAtMark, Wants, ReadsDigit, Shares, IsSo}
+use Rattle.check_causes.proofs.FieldFacts.{IsCut, IsCounted, counted, whole, no_mark, is_cut, place_in, places_in, needs_ok, after_ok, given_ok, found_ok}
+use Rattle.check_causes.proofs.SoLemmas.{So, so_needs, so_finds, so_given, so_after, so_if, so_told, not_below, not_most, not_false, place_so, places_so, three_so, length_so, cut_so, counts_so, room_so, apart_so, digits_so, no_base, no_number, number_so}
 
 -- ---- positions of fields
 
@@ -66,8 +66,7 @@ cut_to : (s : Storage) (a b : ℕ) (counts : Counts) → IsCounted s a b counts 
 cut_to s a b counts known q upto among =
     let most : counts.a ≤ counts.b = known.cut.most in
     let room : counts.b ≤ b + 1 = known.field.room in
-    let k : ℕ = b - (a - q) in
-    (
+    let k : ℕ = b - (a - q) in (
       in_field s a counts.a q upto among known.cut.up_to.unmarked,
       (upto, (k, in_field s b counts.b k (omega arith) (omega arith) known.field.unmarked, omega arith)),
     )
@@ -540,7 +539,7 @@ module _ (w : Works) where
     unfolding instruction_told decoded_told
     instruction_so =
         so_given R (decoded_told w.storage count w.registers codes) _
-        (so_finds R (modifier_at first count last) (NoInstruction (glyph_of first)) _ (λ none. (codes, stands, refl, none)) (λ modifier e. operands_so))
+        (so_finds R (modifier_at first count last) (NoInstruction (glyph_of first)) _ (λ none. (codes, stands, refl, no_form codes none)) (λ modifier e. operands_so))
         (λ operands e. operation_so w (modifier_by first count last) count operands.0 operands.1 (operation_by first) (decoded_as operands e))
 
   stands_next : (codes : List ℕ) → word_told w.storage w.registers.i ≡ Ok codes → StandsNext w codes

@@ -1,20 +1,19 @@
 -- what holds of each cause that tests tell
-use Rattle.std.proofs.Common.{◌≡◌, ◌⊎◌, inl, inr, ℕ, zero, suc, ◌+◌, ◌-◌, ◌*◌, ◌<◌, ◌≤◌, ◌&&◌, not, Bool, true, false, List, Option, Some, None, Result, Ok, Err, refl, sym, subst, ap, ◌∙◌, arith, length, ltb, leb, is_some, if◌then◌else◌}
+use Rattle.std.proofs.Common.{◌≡◌, ◌⊎◌, inl, inr, ℕ, zero, suc, ◌+◌, ◌-◌, ◌*◌, ◌<◌, ◌≤◌, not, Bool, true, false, Option, Some, None, Result, Ok, Err, refl, subst, arith, length, ltb, leb, is_some, if◌then◌else◌}
 use Rattle.std.proofs.Math.Decide.{dec_lt}
 use Rattle.std.proofs.lemmas.Bool.{lt-ltb, le-leb}
 use Rattle.std.specs.Option.{option_map}
 use Rattle.bcd.specs.Table.{glyph_of, digit_of, zone_of, zone_number}
-use Rattle.core_store.specs.Storage.{Storage, code_at, is_marked, field_length}
-use Rattle.core_store.specs.Operands.{cut_length, is_overlapping}
+use Rattle.core_store.specs.Storage.{Storage, code_at, field_length}
+use Rattle.core_store.specs.Operands.{cut_length}
 use Rattle.addresses.specs.Effective.{base_ending}
 use Rattle.addresses.specs.Addresses.{base, weighed, sum_of}
-use Rattle.arith.specs.declared.operands.Counts.{Counts}
 use Rattle.check_causes.specs.declared.causes.Cause.{Cause}
 use Rattle.check_causes.specs.declared.causes.Cause.TheVariants.{FieldPast, NoFieldMark, TooFew, NoDigit, NoNumber, Overlap}
 use Rattle.check_causes.specs.Tested.{Tested, passed, needs, finds, given, after, told}
-use Rattle.check_causes.specs.Fields.{place_told, places_told, room_told, three_told, length_told, cut_told, counts_told, counts_apart_told, apart_told, digit_told, digits_told, first_without_digit, number_told}
-use Rattle.check_causes.specs.Sentences.{HasNoMark, OneHasNoDigit, EndsNoNumber}
-use Rattle.check_causes.proofs.FieldFacts.{place_in, places_in, after_ok, no_mark, uncut, found_ok}
+use Rattle.check_causes.specs.Fields.{place_told, places_told, room_told, three_told, length_told, cut_told, counts_told, apart_told, digit_told, digits_told, first_without_digit, number_told}
+use Rattle.check_causes.specs.Sentences.{HasNoMark, OneHasNoDigit}
+use Rattle.check_causes.proofs.FieldFacts.{place_in, places_in, no_mark, uncut}
 
 -- it holds of the cause that is told, if one is
 abbrev pub So : {T : Type 0} → (Cause → Type 0) → Result T Cause → Type 0

@@ -1,5 +1,5 @@
 -- why an operation on fields is stopped
-use Rattle.std.specs.Prelude.{ℕ, zero, suc, ◌+◌, ◌-◌, nat_lt, nat_le, max, not, length, Bool, true, false, if◌then◌else◌, Option, Some, None, is_some, Result, Ok, Err}
+use Rattle.std.specs.Prelude.{ℕ, zero, suc, ◌+◌, ◌-◌, nat_lt, nat_le, max, not, length, Bool, if◌then◌else◌, Option, Some, None, is_some, Result, Ok, Err}
 use Rattle.bcd.specs.Table.{glyph_of, digit_of}
 use Rattle.core_store.specs.Storage.{Storage, code_at, codes_ending, field_length}
 use Rattle.core_store.specs.Operands.{cut_length, is_overlapping}

@@ -6,8 +6,7 @@ use Rattle.core_store.specs.declared.registers.Registers.{Registers}
 use Rattle.addresses.specs.Addresses.{Tagged, tagged}
 use Rattle.addresses.specs.Effective.{units_position, base_ending}
 use Rattle.addresses.specs.declared.tagged.IndexLocation.{IndexLocation}
-use Rattle.machine.specs.declared.named.Decoded.{Decoded}
-use Rattle.machine.specs.Instructions.{operation_by, addresses_by}
+use Rattle.machine.specs.Instructions.{addresses_by}
 use Rattle.machine.specs.Operations.{modifier_at}
 use Rattle.machine.specs.Word.{word}
 use Rattle.check_causes.specs.declared.causes.Cause.{Cause}

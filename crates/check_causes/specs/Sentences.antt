@@ -1,5 +1,5 @@
 -- what the words of a cause say
-use Rattle.std.specs.Prelude.{ℕ, ◌≡◌, ◌⊎◌, ◌+◌, ◌-◌, ◌<◌, ◌≤◌, max, List, length, true, false, Option, Some, None, Ok, slice_index}
+use Rattle.std.specs.Prelude.{ℕ, ◌≡◌, ◌⊎◌, ◌+◌, ◌-◌, ◌<◌, ◌≤◌, max, List, Contains, length, true, false, Some, None, Ok, slice_index}
 use Rattle.bcd.specs.Table.{glyph_of, digit_of}
 use Rattle.core_store.specs.Storage.{Storage, code_at, is_marked, codes_ending}
 use Rattle.addresses.specs.Addresses.{Tagged, tagged}
@@ -13,11 +13,11 @@ use Rattle.units.specs.Units.{most_lines, most_cards, reads, prints, punches}
 use Rattle.machine.specs.declared.named.Decoded.{Decoded}
 use Rattle.machine.specs.declared.named.Operation.{Operation}
 use Rattle.machine.specs.declared.named.Operation.TheVariants.{OnFields, ClearStorage, Branch, BranchOnMarkOrZone, Operate, MoveCarriage, ChoosePocket, StoreA, StoreB, Halt, NoOperation}
-use Rattle.machine.specs.declared.operations.FieldOperation.{FieldOperation}
-use Rattle.machine.specs.declared.operations.FieldOperation.TheVariants.{Add, Subtract, ZeroAdd, ZeroSubtract, Compare, ModifyAddress, Move, Load, MoveDigit, MoveZone, Suppress, Edit, SetMark, ClearMark}
+use Rattle.machine.specs.declared.operations.FieldOperation.TheVariants.{Add, Subtract, ZeroAdd, ZeroSubtract, ModifyAddress, Move, Load, Suppress, Edit}
 use Rattle.machine.specs.Effect.{Works}
 use Rattle.machine.specs.Instructions.{addresses_by}
-use Rattle.machine.specs.Operations.{modifier_at}
+use Rattle.machine.specs.Glyphs.{is_glyph}
+use Rattle.machine.specs.Operations.{Row, Form, operations, meant}
 use Rattle.machine.specs.Word.{word, decoded}
 use Rattle.check_causes.specs.declared.causes.Cause.{Cause}
 use Rattle.check_causes.specs.declared.causes.Cause.TheVariants.{RegisterPast, NoMark, NoEnd, NoInstruction, NoSelection, NoAddress, AddressPast, NoIndex, FieldPast, NoFieldMark, TooFew, MarkWrittenOver, NoDigit, NoNumber, Overlap, NoCard, PunchFull, PrinterFull}
@@ -38,10 +38,13 @@ pub record IsNext (w : Works) (d : Decoded) : Type 0 where
 abbrev pub OfNext : Works → (Decoded → Type 0) → Type 0
 OfNext w P = (d : Decoded) × IsNext w d × P d
 
--- no operation has the first of these characters and a form with so many and with this last one
+-- no operation of the table has the first of these characters and a form of so many that allows the
+-- last of them
 abbrev pub HasNoForm : List ℕ → Type 0
-HasNoForm codes = modifier_at (slice_index codes 0) (length codes)
-    (slice_index codes (length codes - 1)) ≡ None
+HasNoForm codes =
+    (row : Row) → Contains operations row → is_glyph (slice_index codes 0) row.character ≡ true →
+    (form : Form) → Contains row.forms form → form.length ≡ length codes →
+    meant form.last (slice_index codes (length codes - 1)) ≡ None
 
 -- an instruction of these characters has an address from this place on: its first address is read
 -- from the second character on, its second from the fifth on

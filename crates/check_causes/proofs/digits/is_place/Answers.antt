@@ -1,4 +1,4 @@
-use Rattle.std.proofs.Common.{◌∙◌, sym, ap, ◌==◌}
+use Rattle.std.proofs.Common.{◌∙◌, ap, ◌==◌}
 use Rattle.check_causes.proofs.DigitLemmas.{place_zero, place_other}
 use Rattle.check_causes.proofs.digits.is_place.Goals as goal
 

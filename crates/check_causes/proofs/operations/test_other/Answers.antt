@@ -1,4 +1,4 @@
-use Rattle.std.proofs.Common.{◌∙◌, sym, ap, arith}
+use Rattle.std.proofs.Common.{◌∙◌, sym, arith}
 use Rattle.check_causes.specs.Causes.{operation_told}
 use Rattle.check_causes.specs.Fields.{work_told}
 use Rattle.check_causes.proofs.OperationLemmas.{stopped_as, by_none, glyph_33, glyph_35, glyph_41, glyph_44, glyph_47, glyph_63, glyph_65, glyph_67, glyph_68, glyph_69, glyph_70, glyph_72, glyph_75, glyph_76, glyph_77, glyph_81, glyph_83, glyph_89, glyph_90}
