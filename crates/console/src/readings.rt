@@ -1,0 +1,128 @@
+//! What is heard of a line.
+
+ghost use Rattle.std.specs.Prelude.{◌≡◌, ◌<◌, ℕ, MatchOption, option_copied};
+ghost use Rattle.core_store.specs.Storage.{largest_size};
+ghost use Rattle.console.specs.Sayings.{address_of};
+ghost use Rattle.console.specs.Readings.{IsCountOf, IsHeardOf, IsPositionOf, IsReadingOf, address_named};
+
+use crate::verbs::Verb;
+use crate::words::{Words, text_of};
+use bench_runs::Names;
+use core_store::LARGEST_SIZE;
+use texts::{number_of, switches_of};
+use units::Switches;
+
+/// The greatest count of instructions that a line asks for.
+pub(crate) const MOST_ASKED: u32 = 1_000_000;
+
+/// What a word may be, each where it is that.
+#[derive(Clone, Copy)]
+pub(crate) struct Reading {
+    /// Whether there is such a word.
+    pub(crate) given: bool,
+    /// A count of instructions.
+    pub(crate) count: Option<u32>,
+    /// A position.
+    pub(crate) position: Option<u16>,
+    /// The address of a name.
+    pub(crate) named: Option<u16>,
+    /// Sense switches.
+    pub(crate) switches: Option<Switches>,
+}
+
+/// What is heard of a line.
+#[derive(Clone, Copy)]
+pub(crate) struct Heard {
+    /// Whether it has a word.
+    pub(crate) some: bool,
+    /// What its first word is.
+    pub(crate) verb: Option<Verb>,
+    /// What its second word may be.
+    pub(crate) first: Reading,
+    /// What its third word may be.
+    pub(crate) second: Reading,
+    /// Whether it has a fourth word.
+    pub(crate) long: bool,
+}
+
+/// The count that a text is.
+fn count_of(text: &str) -> Option<u32>
+    ensures { MatchOption result ((count : ℕ) → ¬ IsCountOf text.now count) (IsCountOf text.now) }
+{
+    let Some(number) = number_of(text) else {
+        return None;
+    };
+    if number > MOST_ASKED {
+        return None;
+    }
+    Some(number)
+}
+
+/// The position that a text is.
+fn position_of(text: &str) -> Option<u16>
+    ensures { MatchOption result ((position : ℕ) → ¬ IsPositionOf text.now position)
+        (IsPositionOf text.now) }
+{
+    if text == "0" {
+        return Some(0);
+    }
+    let Some(number) = number_of(text) else {
+        return None;
+    };
+    if number >= u32::from(LARGEST_SIZE) {
+        return None;
+    }
+    Some(number as u16)
+}
+
+/// The address that a text names.
+fn address_named(names: Option<&Names>, text: &str) -> Option<u16>
+    ensures { result ≡ address_named (option_copied names.entry) text.now }
+{
+    match names {
+        None => None,
+        Some(_) => None,
+    }
+}
+
+impl Reading {
+    /// What a word may be.
+    fn of(names: Option<&Names>, word: &[u8]) -> Reading
+        ensures { IsReadingOf (option_copied names.entry) word.now result }
+    {
+        let text = text_of(word);
+        Reading {
+            given: !word.is_empty(),
+            count: count_of(text),
+            position: position_of(text),
+            named: address_named(names, text),
+            switches: switches_of(text),
+        }
+    }
+
+    /// The address that a word is.
+    pub(crate) fn address(&self) -> Option<u16>
+        ensures { result ≡ address_of self.now }
+    {
+        match self.position {
+            None => self.named,
+            Some(position) => Some(position),
+        }
+    }
+}
+
+impl Heard {
+    /// What is heard of the words of a line.
+    pub(crate) fn of(names: Option<&Names>, line: &[u8]) -> Heard
+        ensures { IsHeardOf (option_copied names.entry) line.now result }
+    {
+        let words = Words::of(line);
+        Heard {
+            some: !words.first.is_empty(),
+            verb: Verb::of(words.first),
+            first: Reading::of(names, words.second),
+            second: Reading::of(names, words.third),
+            long: words.has_more,
+        }
+    }
+}
