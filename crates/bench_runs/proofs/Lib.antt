@@ -8,3 +8,4 @@ mod CardCountLemmas
 mod LinesRead
 mod DumpLaw
 mod NearestLaw
+mod AddressLemmas

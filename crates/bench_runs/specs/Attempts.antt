@@ -9,11 +9,11 @@ use Rattle.autocoder.specs.Listing.{blank, line_text, position_field, right}
 use Rattle.machine.specs.Run.{State, step}
 use Rattle.machine.specs.declared.standings.Standing.{Standing}
 use Rattle.machine.specs.declared.standings.Standing.TheVariants.{Running, Halted, Checked}
+use Rattle.check_causes.specs.Causes.{cause}
 use Rattle.bench_runs.specs.Causes.{cause_shown}
 use Rattle.bench_runs.specs.Deeds.{deeds_since, made_by}
 use Rattle.bench_runs.specs.Names.{Named, name_field}
 use Rattle.bench_runs.specs.Shown.{characters_next, left}
-use Rattle.bench_runs.specs.declared.causes.Cause.{Cause}
 use Rattle.bench_runs.specs.declared.deeds.Made.{Made}
 
 -- the sign of a comparison: how the second operand compares with the first
@@ -41,19 +41,20 @@ effect_shown before m =
     registers_shown m.works.registers m.works.units.printer.carriage.channel_12
     ++ codes "   " ++ deeds_since before m
 
--- a check with its cause
-abbrev pub check_shown : Option Cause → Check → List ℕ
-check_shown cause check = codes "check " ++ check_name check ++ cause_shown cause
+-- a check that a machine met, with its cause
+abbrev pub check_shown : State → Check → List ℕ
+check_shown m check = codes "check " ++ check_name check ++ cause_shown (cause m.works)
 
 -- what came of an attempt, by the standing after it
-abbrev pub outcome_by : Option Cause → Made → State → Standing → List ℕ
-outcome_by cause before m Running = effect_shown before m
-outcome_by cause before m Halted = effect_shown before m
-outcome_by cause before m (Checked check) = check_shown cause check
+abbrev pub outcome_by : Made → State → Standing → List ℕ
+outcome_by before m Running = effect_shown before m
+outcome_by before m Halted = effect_shown before m
+outcome_by before m (Checked check) = check_shown m check
 
--- what came of an attempt that left this machine, which had made so much before
-unfoldable pub outcome : Option Cause → Made → State → List ℕ
-outcome cause before m = outcome_by cause before m m.standing
+-- what came of an attempt that left this machine, which had made so much before; a check changes
+-- nothing else, so what it leaves shows its cause
+unfoldable pub outcome : Made → State → List ℕ
+outcome before m = outcome_by before m m.standing
 
 -- the attempt with this number, where it begins, also by a name where there are names, and the
 -- characters of its instruction
@@ -62,6 +63,6 @@ beginning names number m = right blank 7 number ++ blank ∷ [] ++ position_fiel
     ++ blank ∷ [] ++ name_field names m.works.registers.i ++ left 9 (characters_next m)
 
 -- the line of the attempt with this number that a machine makes next
-unfoldable pub attempt_line : Option Named → Option Cause → ℕ → State → List ℕ
-attempt_line names cause number m =
-    line_text (beginning names number m ++ outcome cause (made_by m) (step m))
+unfoldable pub attempt_line : Option Named → ℕ → State → List ℕ
+attempt_line names number m =
+    line_text (beginning names number m ++ outcome (made_by m) (step m))

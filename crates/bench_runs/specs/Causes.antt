@@ -1,37 +1,9 @@
--- the causes of checks, in words
-use Rattle.std.specs.Prelude.{ℕ, ◌-◌, ◌^◌, false, List, [], ◌++◌, codes, decimal, encode_utf8, Option, Some, None}
-use Rattle.std.specs.Fmt.{format_spec, padded_integral}
-use Rattle.bench_runs.specs.declared.causes.Cause.{Cause}
-use Rattle.bench_runs.specs.declared.causes.Cause.TheVariants.{RegisterPast, NoMark, NoEnd, NoInstruction, NoAddress, AddressPast, NoIndex, FieldPast, NoFieldMark, NoDigit, NoNumber, Overlap, NoCard, PunchFull, PrinterFull}
+-- the cause of a check, behind its name
+use Rattle.std.specs.Prelude.{ℕ, List, [], ◌++◌, codes, Option, Some, None}
+use Rattle.check_causes.specs.Words.{cause_words}
+use Rattle.check_causes.specs.declared.causes.Cause.{Cause}
 
--- a position in five digits, as it is printed
-abbrev pub five_digits : ℕ → List ℕ
-five_digits n = padded_integral (format_spec 32 0 4 5 (2 ^ 64 - 1)) false [] (decimal n)
-
--- a cause in words
-abbrev pub cause_words : Cause → List ℕ
-cause_words RegisterPast = codes "register I is past the storage"
-cause_words NoMark = codes "no mark at its first character"
-cause_words NoEnd = codes "no mark ends the instruction"
-cause_words (NoInstruction glyph) = codes "no such operation or form: " ++ encode_utf8 glyph
-cause_words (NoAddress first second third) =
-    codes "no address: " ++ encode_utf8 first ++ encode_utf8 second ++ encode_utf8 third
-cause_words (AddressPast position) = codes "past the storage: " ++ five_digits position
-cause_words (NoIndex position) =
-    codes "no number in the index location at " ++ five_digits position
-cause_words (FieldPast position) = codes "a field past the storage: " ++ five_digits position
-cause_words (NoFieldMark position) =
-    codes "the field at " ++ five_digits position ++ codes " has no mark at or to the left of it"
-cause_words (NoDigit glyph position) =
-    codes "no digit: " ++ encode_utf8 glyph ++ codes " at " ++ five_digits position
-cause_words (NoNumber position) = codes "no address in the field at " ++ five_digits position
-cause_words Overlap = codes "the fields overlap"
-cause_words (NoCard count) =
-    codes "the reader has no card left: " ++ decimal count ++ codes " were read"
-cause_words PunchFull = codes "no more cards can be punched"
-cause_words PrinterFull = codes "no more lines or forms can be printed"
-
--- what follows the name of a check: its cause, where it can be told
+-- what follows the name of a check: its cause
 abbrev pub cause_shown : Option Cause → List ℕ
 cause_shown None = []
 cause_shown (Some cause) = codes ": " ++ cause_words cause

@@ -1,11 +1,10 @@
 -- the trace of a run
-use Rattle.std.specs.Prelude.{ℕ, zero, suc, ◌+◌, ◌≡◌, nat_lt, nat_le, ◌&&◌, ◌||◌, Bool, if◌then◌else◌, List, [], ◌++◌, Option}
+use Rattle.std.specs.Prelude.{ℕ, zero, suc, ◌+◌, nat_lt, nat_le, ◌&&◌, ◌||◌, Bool, if◌then◌else◌, List, [], ◌++◌, Option}
 use Rattle.machine.specs.Run.{State, after, is_checked}
 use Rattle.bench_runs.specs.Attempts.{attempt_line}
 use Rattle.bench_runs.specs.Ends.{end_of, ended, most_attempts}
 use Rattle.bench_runs.specs.Names.{Named}
 use Rattle.bench_runs.specs.Reports.{report_line}
-use Rattle.bench_runs.specs.declared.causes.Cause.{Cause}
 use Rattle.bench_runs.specs.declared.tracing.Ending.{Ending}
 use Rattle.bench_runs.specs.declared.tracing.TraceOptions.{TraceOptions}
 
@@ -30,14 +29,9 @@ lines_shown shows line m (suc count) = lines_shown shows line m count
     ++ (if shows (suc count) then line (suc count) (after m count) else [])
 
 -- the trace of a machine's run: the lines of the attempts that are shown, and the report of the
--- machine at its end; a check has this cause
-unfoldable pub traced : TraceOptions → Option Named → Option Cause → State → List ℕ
-traced options names cause m =
-    lines_shown (is_shown options (ending_of m options.stop)) (attempt_line names cause) m
+-- machine at its end
+unfoldable pub traced : TraceOptions → Option Named → State → List ℕ
+traced options names m =
+    lines_shown (is_shown options (ending_of m options.stop)) (attempt_line names) m
     (end_of m most_attempts options.stop)
     ++ report_line (ended m options.stop)
-
--- the text is the trace of a machine's run, with some cause of its check
-abbrev pub IsTrace : TraceOptions → Option Named → State → List ℕ → Type 0
-IsTrace options names m text =
-    (cause : Option Cause) × (text ≡ traced options names cause m)

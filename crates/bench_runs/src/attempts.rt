@@ -5,11 +5,12 @@ ghost use Rattle.machine.specs.Run.{step};
 ghost use Rattle.bench_runs.specs.Attempts.{attempt_line, beginning, channel_sign, check_shown, compared_sign, effect_shown, outcome, overflow_sign, registers_shown};
 ghost use Rattle.bench_runs.specs.Shown.{characters_next, left};
 
-use crate::causes::{Cause, push_cause};
+use crate::causes::push_cause;
 use crate::deeds::{Made, deeds_since, made_by};
 use crate::names::{Names, push_name_field};
 use crate::shown::{push_characters, push_padding};
 use autocoder::{push_line, push_number};
+use check_causes::cause_of;
 use core_store::{Check, Compared, Core, Registers};
 use machine::{Machine, Meter, Parts, Standing};
 use std::alloc::{AllocError, Global};
@@ -74,18 +75,18 @@ fn push_effect<C: Core>(
     line.extend_from_slice(&deeds)
 }
 
-/// Adds a check with its cause.
-fn push_check(
+/// Adds a check that a machine met, with its cause.
+fn push_check<C: Core>(
     alloc: Global,
     line: &mut Vec<u8>,
     check: Check,
-    cause: Option<Cause>,
+    parts: &Parts<C>,
 ) -> Result<(), AllocError>
-    ensures { OnOk result (line.new.items ≡ line.old.items ++ check_shown cause check) }
+    ensures { OnOk result (line.new.items ≡ line.old.items ++ check_shown parts.now check) }
 {
     line.extend_from_slice(b"check ")?;
     line.extend_from_slice(check.name().as_bytes())?;
-    push_cause(alloc, line, cause)
+    push_cause(alloc, line, cause_of(parts))
 }
 
 /// Adds what came of an attempt that left this machine.
@@ -93,14 +94,13 @@ fn push_check(
 fn push_outcome<C: Core>(
     alloc: Global,
     line: &mut Vec<u8>,
-    cause: Option<Cause>,
     before: Made,
     parts: &Parts<C>,
 ) -> Result<(), AllocError>
-    ensures { OnOk result (line.new.items ≡ line.old.items ++ outcome cause before parts.now) }
+    ensures { OnOk result (line.new.items ≡ line.old.items ++ outcome before parts.now) }
 {
     match parts.standing {
-        Standing::Checked(check) => push_check(alloc, line, check, cause),
+        Standing::Checked(check) => push_check(alloc, line, check, parts),
         Standing::Running | Standing::Halted => push_effect(alloc, line, before, parts),
     }
 }
@@ -136,24 +136,23 @@ fn beginning<C: Core>(
     Ok(line)
 }
 
-/// Makes the next attempt of a machine, and adds its line.
+/// Makes the next attempt of a machine, and adds its line: the attempt's number, where it begins,
+/// the characters of its instruction, and what came of it. Fails only if there is no memory.
 #[tactic(auto, unfolding(crate::specs::Attempts::attempt_line))]
-pub(crate) fn push_attempt<C: Core>(
+pub fn push_attempt<C: Core>(
     alloc: Global,
     text: &mut Vec<u8>,
     machine: &mut Machine<C>,
     names: Option<&Names>,
-    cause: Option<Cause>,
     number: u32,
 ) -> Result<(), AllocError>
     ensures machine { OnOk result (machine.new ≡ step machine.old) }
     ensures line { OnOk result (text.new.items
-        ≡ text.old.items
-        ++ attempt_line (option_copied names.entry) cause number machine.old) }
+        ≡ text.old.items ++ attempt_line (option_copied names.entry) number machine.old) }
 {
     let mut line = beginning(alloc, names, number, machine.parts())?;
     let before = made_by(machine.parts());
     machine.step(&mut Meter::new())?;
-    push_outcome(alloc, &mut line, cause, before, machine.parts())?;
+    push_outcome(alloc, &mut line, before, machine.parts())?;
     push_line(text, &line)
 }

@@ -106,9 +106,10 @@ fn channel_words(channel_12: bool) -> &'static str
     }
 }
 
-/// Adds the line of the registers and the indicators.
+/// Adds the line of the registers and the indicators, as a dump has it. Fails only if there is no
+/// memory.
 #[tactic(auto, unfolding(crate::specs::Dumps::registers_line))]
-fn push_registers(
+pub fn push_registers(
     text: &mut Vec<u8>,
     registers: &Registers,
     channel_12: bool,
@@ -184,9 +185,9 @@ fn push_carriage(alloc: Global, text: &mut Vec<u8>, carriage: Carriage) -> Resul
     text.extend_from_slice(words.as_bytes())
 }
 
-/// Adds the line of the units.
+/// Adds the line of the units, as a dump has it. Fails only if there is no memory.
 #[tactic(auto, unfolding(crate::specs::Dumps::units_line))]
-fn push_units(alloc: Global, text: &mut Vec<u8>, units: &Units) -> Result<(), AllocError>
+pub fn push_units(alloc: Global, text: &mut Vec<u8>, units: &Units) -> Result<(), AllocError>
     ensures { OnOk result (text.new.items ≡ text.old.items ++ units_line units.now) }
 {
     push_read(alloc, text, units.hopper.taken)?;
@@ -197,9 +198,10 @@ fn push_units(alloc: Global, text: &mut Vec<u8>, units: &Units) -> Result<(), Al
     Ok(())
 }
 
-/// Adds what is shown of a storage.
+/// Adds what a dump shows of a storage: the rows that the options name. Fails only if there is no
+/// memory.
 #[tactic(auto, unfolding(crate::specs::Dumps::storage_shown))]
-fn push_storage<C: Core>(
+pub fn push_storage<C: Core>(
     alloc: Global,
     text: &mut Vec<u8>,
     options: DumpOptions,
@@ -213,9 +215,10 @@ fn push_storage<C: Core>(
     push_rows(alloc, text, core, options.first_row(), end)
 }
 
-/// Adds what is shown of a machine.
+/// Adds the dump of a machine: the rows of its storage that the options name, its registers and
+/// indicators, and its units. Fails only if there is no memory.
 #[tactic(auto, unfolding(crate::specs::Dumps::machine_shown))]
-fn push_machine<C: Core>(
+pub fn push_machine<C: Core>(
     alloc: Global,
     text: &mut Vec<u8>,
     options: DumpOptions,

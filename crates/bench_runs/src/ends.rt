@@ -100,8 +100,9 @@ fn copy_of(alloc: Global, deck: &Deck) -> Result<Deck, AllocError>
     Ok(copy)
 }
 
-/// The machine, with stacker selection, that has a deck in its reader and the load button pressed.
-pub(crate) fn load(
+/// Returns the machine, with stacker selection, that has a deck in its reader and the load button
+/// pressed. Fails only if there is no memory.
+pub fn load(
     alloc: Global,
     deck: &Deck,
     size: Size,

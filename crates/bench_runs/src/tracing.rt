@@ -7,13 +7,11 @@ ghost use Rattle.units.specs.declared.profiles.Profile.TheVariants.{Selecting};
 ghost use Rattle.bench_runs.specs.Attempts.{attempt_line};
 ghost use Rattle.bench_runs.specs.Ends.{ended, most_attempts};
 ghost use Rattle.bench_runs.specs.Reports.{report_line};
-ghost use Rattle.bench_runs.specs.Traces.{IsTrace, is_shown, lines_shown};
+ghost use Rattle.bench_runs.specs.Traces.{is_shown, lines_shown, traced};
 
 use crate::accounts::Account;
 use crate::attempts::push_attempt;
-use crate::causes::Cause;
 use crate::ends::{MOST_ATTEMPTS, advance, load, run_to_end};
-use crate::hints::cause_of;
 use crate::names::Names;
 use crate::reports::push_report;
 use cards::Deck;
@@ -119,8 +117,6 @@ impl Ending {
 struct Sheet {
     options: TraceOptions,
     ending: Ending,
-    /// The cause of the check, where it can be told.
-    cause: Option<Cause>,
 }
 
 /// Makes the attempt with this number of a machine, and adds its line if it is shown.
@@ -136,10 +132,10 @@ fn push_if_shown<C: Core>(
     ensures machine { OnOk result (machine.new ≡ step machine.old) }
     ensures line { OnOk result (text.new.items ≡ text.old.items
         ++ (if is_shown sheet.options sheet.ending number
-        then attempt_line (option_copied names.entry) sheet.cause number machine.old else [])) }
+        then attempt_line (option_copied names.entry) number machine.old else [])) }
 {
     if sheet.options.shows(sheet.ending, number) {
-        return push_attempt(alloc, text, machine, names, sheet.cause, number);
+        return push_attempt(alloc, text, machine, names, number);
     }
     machine.step(&mut Meter::new())?;
     Ok(())
@@ -163,7 +159,7 @@ fn push_lines<C: Core>(
         is_shown sheet.options sheet.ending number ≡ false }
     ensures { OnOk result (text.new.items ≡ text.old.items
         ++ lines_shown (is_shown sheet.options sheet.ending)
-        (attempt_line (option_copied names.entry) sheet.cause) machine.old (end - 1)) }
+        (attempt_line (option_copied names.entry)) machine.old (end - 1)) }
 {
     advance(machine, first - 1)?;
     for number in first..end {
@@ -185,7 +181,7 @@ fn lines_shown(
     requires most { sheet.ending.attempts ≤ most_attempts }
     ensures { IfOk result (λ text. text.items
         ≡ lines_shown (is_shown sheet.options sheet.ending)
-        (attempt_line (option_copied names.entry) sheet.cause)
+        (attempt_line (option_copied names.entry))
         (loaded deck.now size switches Selecting) sheet.ending.attempts) }
 {
     let mut text = Vec::new(alloc);
@@ -218,8 +214,7 @@ fn ending_of<C: Core>(parts: &Parts<C>, attempts: u32) -> Ending
 /// Shown are the attempts that the options ask for, and of a run that ends in a check the last
 /// twenty. A line has the attempt's number, the address at which it begins, also by the nearest
 /// name where names are given, and the characters of its instruction; then the registers A and B and
-/// the indicators after it and what the units did, or the check with its cause, where that can be
-/// told. Without a stop the report is that of a whole run. Fails only if there is no memory.
+/// the indicators after it and what the units did, or the check with its cause. Without a stop the report is that of a whole run. Fails only if there is no memory.
 #[tactic(auto, unfolding(crate::specs::Traces::traced))]
 pub fn trace(
     alloc: Global,
@@ -230,9 +225,9 @@ pub fn trace(
     options: TraceOptions,
 ) -> Result<Account, AllocError>
     requires { 0 < length deck.now }
-    ensures trace { IfOk result (λ account.
-        IsTrace options (option_copied names.entry)
-        (loaded deck.now size switches Selecting) account.text.items) }
+    ensures trace { IfOk result (λ account. account.text.items
+        ≡ traced options (option_copied names.entry)
+        (loaded deck.now size switches Selecting)) }
     ensures standing { IfOk result (λ account. account.standing
         ≡ standing_of (ended (loaded deck.now size switches Selecting) options.stop)) }
     ensures report { options.stop ≡ None → IfOk result (λ account. (lines : List ℕ)
@@ -244,7 +239,6 @@ pub fn trace(
     let sheet = Sheet {
         options,
         ending: ending_of(machine.parts(), attempts),
-        cause: cause_of(machine.parts()),
     };
     let mut text = lines_shown(alloc, deck, size, switches, names, sheet)?;
     push_report(alloc, &mut text, machine.parts())?;

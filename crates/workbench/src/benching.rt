@@ -42,16 +42,43 @@ fn address_at(number: u32) -> Option<u16> {
     }
 }
 
-/// The address that a text names. Where it names none, that is told.
-fn address_in<E: Write>(text: &str, errors: &mut E) -> io::Result<Option<u16>> {
-    let address = match number_of(text) {
+/// The address that a number in a text is.
+fn address_of(text: &str) -> Option<u16> {
+    match number_of(text) {
         Some(number) => address_at(number),
         None => None,
-    };
+    }
+}
+
+/// The address that a text names. Where it names none, that is told.
+fn address_in<E: Write>(text: &str, errors: &mut E) -> io::Result<Option<u16>> {
+    let address = address_of(text);
     if address.is_none() {
         writeln!(
             errors,
             "--stop {text}: that is no address; one is a number from 1 to 15999"
+        )?;
+    }
+    Ok(address)
+}
+
+/// The address that a text names, by the names of a source if there are some. Where it names none,
+/// that is told.
+fn address_by<E: Write>(
+    rt: &HostRuntime,
+    text: &str,
+    names: Option<&Names>,
+    errors: &mut E,
+) -> io::Result<Option<u16>> {
+    let address = match names {
+        Some(names) => names.position_said(rt.alloc(), text)?,
+        None => address_of(text),
+    };
+    if address.is_none() {
+        writeln!(
+            errors,
+            "--stop {text}: that is no address; one is a number from 1 to 15999, or with --names \
+             a name of the source, as READ or READ&7"
         )?;
     }
     Ok(address)
@@ -115,23 +142,27 @@ fn print_account<W: Write, E: Write>(
     }
 }
 
-/// Prints the trace of a run up to a stop, if there is one.
-fn trace_to<W: Write, E: Write>(
+/// Prints the trace of a run by these names.
+fn trace_by<W: Write, E: Write>(
     rt: &HostRuntime,
     setup: Setup<'_>,
-    names: Option<&str>,
-    options: TraceOptions,
+    wanted: TraceWanted<'_>,
+    names: Option<&Names>,
     output: &mut W,
     errors: &mut E,
 ) -> io::Result<Status> {
+    let mut options = TraceOptions {
+        from: wanted.from,
+        count: wanted.count,
+        stop: None,
+    };
+    if let Some(text) = wanted.stop {
+        options.stop = address_by(rt, text, names, errors)?;
+        if options.stop.is_none() {
+            return Ok(Status::Misused);
+        }
+    }
     let Some(deck) = deck_to_run(rt, setup.input, errors)? else {
-        return Ok(Status::NotDone);
-    };
-    let Some(path) = names else {
-        let account = trace(rt.alloc(), &deck, setup.size, setup.switches, None, options);
-        return print_account(account, output, errors);
-    };
-    let Some(names) = names_at(rt, path, errors)? else {
         return Ok(Status::NotDone);
     };
     let account = trace(
@@ -139,7 +170,7 @@ fn trace_to<W: Write, E: Write>(
         &deck,
         setup.size,
         setup.switches,
-        Some(&names),
+        names,
         options,
     );
     print_account(account, output, errors)
@@ -153,18 +184,13 @@ pub(crate) fn trace_deck<W: Write, E: Write>(
     output: &mut W,
     errors: &mut E,
 ) -> io::Result<Status> {
-    let mut options = TraceOptions {
-        from: wanted.from,
-        count: wanted.count,
-        stop: None,
+    let Some(path) = wanted.names else {
+        return trace_by(rt, setup, wanted, None, output, errors);
     };
-    if let Some(text) = wanted.stop {
-        options.stop = address_in(text, errors)?;
-        if options.stop.is_none() {
-            return Ok(Status::Misused);
-        }
+    match names_at(rt, path, errors)? {
+        Some(names) => trace_by(rt, setup, wanted, Some(&names), output, errors),
+        None => Ok(Status::NotDone),
     }
-    trace_to(rt, setup, wanted.names, options, output, errors)
 }
 
 /// Prints how often a run did each instruction.

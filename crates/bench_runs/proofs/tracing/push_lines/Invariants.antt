@@ -9,5 +9,5 @@ abbrev pub invariant-loop-number : goal.invariant-loop-number
 invariant-loop-number g l = record {
   machine : l.machine ≡ after l.fn.machine (l.number - 1);
   text : l.text.items ≡ l.fn.text.items
-      ++ lines_shown (is_shown l.sheet.options l.sheet.ending) (attempt_line (option_copied l.names) l.sheet.cause) l.fn.machine (l.number - 1);
+      ++ lines_shown (is_shown l.sheet.options l.sheet.ending) (attempt_line (option_copied l.names)) l.fn.machine (l.number - 1);
 }

@@ -14,7 +14,7 @@ returns-clause-report c = λ none. (
   c.in_ok-text.text.items,
   c.in_ok-push_report.ensures
       ∙ ap (λ m. c.in_ok-text.text.items ++ report_line m)
-      (c.parts-3.ensures.picture
+      (c.parts-2.ensures.picture
       ∙ c.in_ok-attempts.ensures.machine
       ∙ ap (λ stop. after c.in_ok-machine.machine (end_of c.in_ok-machine.machine most_attempts stop)) none
       ∙ whole_run c.in_ok-machine.machine most_attempts
