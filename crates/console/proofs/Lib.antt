@@ -1,1 +1,9 @@
 mod FieldLemmas
+mod TextLemmas
+mod GoLemmas
+mod GoLaw
+mod AttemptLemmas
+mod PastLemmas
+mod SessionLemmas
+mod SessionLaw
+mod StopLemmas

@@ -1,5 +1,6 @@
 -- what a session answers to a line, and what it is after it
-use Rattle.std.specs.Prelude.{ℕ, All, Bool, true, false, ◌≡◌, ◌+◌, ◌-◌, ◌<◌, min, nat_le, nat_lt, not, ◌==◌, if◌then◌else◌, List, [], ◌∷◌, ◌++◌, codes, filter, length, Option, Some, None}
+use Rattle.std.specs.Prelude.{ℕ, Bool, true, false, ◌≡◌, ◌+◌, ◌-◌, ◌<◌, min, nat_le, nat_lt, not, ◌==◌, if◌then◌else◌, List, [], ◌∷◌, ◌++◌, codes, filter, length, Option, Some, None}
+use Rattle.std.specs.List.{AllPairs}
 use Rattle.core_store.specs.Storage.{Storage}
 use Rattle.units.specs.Listing.{rendered}
 use Rattle.units.specs.declared.switches.Switches.{Switches}
@@ -65,8 +66,7 @@ without_stop stop stops = filter (λ other. not (other == stop)) stops
 
 -- stops rise, without doubles
 abbrev pub Rising : List ℕ → Type 0
-Rising [] = Unit {0}
-Rising (stop ∷ stops) = All (λ other. stop < other) stops × Rising stops
+Rising = AllPairs (λ stop other. stop < other)
 
 -- the starts of a past that is cut off after so many instructions
 abbrev pub starts_until : ℕ → List Start → List Start

@@ -130,7 +130,7 @@ impl Session {
             Answers self.old line.now self.new answer.text.items answer.ends) }
         ensures come { OnOk result (HasCome self.new) }
     {
-        let saying = Saying::of(self.names(), line);
+        let saying = Saying::of(alloc, self.names(), line)?;
         let mut text = Vec::new(alloc);
         self.take(alloc, &mut text, line, saying)?;
         Ok(Answer {

@@ -4,8 +4,8 @@ ghost use Rattle.std.specs.Prelude.{◌≡◌, ◌==◌, ◌+◌, ◌≤◌, ◌
 ghost use Rattle.std.specs.List.{list_any};
 ghost use Rattle.machine.specs.Run.{after, attempts};
 ghost use Rattle.units.specs.declared.profiles.Profile.TheVariants.{Selecting};
-ghost use Rattle.machine.specs.Run.{is_halted, loaded, step};
-ghost use Rattle.console.specs.Goes.{goes_on_from, has_changed, stands_at, went};
+ghost use Rattle.machine.specs.Run.{is_running, loaded};
+ghost use Rattle.console.specs.Goes.{goes_on_from, has_changed, stands_at, watched_cell, went};
 ghost use Rattle.console.specs.Shown.{attempts_shown};
 ghost use Rattle.console.specs.Sittings.{machine_of, pressed};
 
@@ -43,15 +43,30 @@ pub(crate) fn has_changed<C: Core>(
     cells_differ(before, watched_cell(watched, &parts.core))
 }
 
+/// Whether a machine is running.
+fn is_running<C: Core>(machine: &Machine<C>) -> bool
+    ensures { result ≡ is_running machine.now.standing }
+{
+    machine.parts().standing.is_running()
+}
+
+/// The contents of the watched position of a machine.
+fn cell_of<C: Core>(machine: &Machine<C>, watched: Option<u16>) -> (u8, bool)
+    ensures { result ≡ watched_cell watched machine.now.works.storage }
+{
+    watched_cell(watched, &machine.parts().core)
+}
+
 /// Whether a machine goes on whose watched position had these contents before.
 fn goes_on<C: Core>(
+    machine: &Machine<C>,
     stops: &[u16],
     watched: Option<u16>,
     before: (u8, bool),
-    parts: &Parts<C>,
 ) -> bool
-    ensures { result ≡ goes_on_from stops.now watched before parts.now }
+    ensures { result ≡ goes_on_from stops.now watched before machine.now }
 {
+    let parts = machine.parts();
     parts.standing.is_running()
         && !has_changed(watched, before, parts)
         && !stands_at(stops, parts)
@@ -67,15 +82,16 @@ pub(crate) fn go<C: Core>(
     ensures machine { OnOk result (machine.new
         ≡ after machine.old (went stops.now watched machine.old limit)) }
     ensures made { IfOk result (λ made. made ≡ went stops.now watched machine.old limit) }
+    ensures within { IfOk result (λ made. made ≤ limit) }
 {
     let mut meter = Meter::new();
     for made in 0..limit {
-        if !machine.parts().standing.is_running() {
+        if !is_running(machine) {
             return Ok(made);
         }
-        let before = watched_cell(watched, &machine.parts().core);
+        let before = cell_of(machine, watched);
         machine.step(&mut meter)?;
-        if !goes_on(stops, watched, before, machine.parts()) {
+        if !goes_on(machine, stops, watched, before) {
             return Ok(made + 1);
         }
     }
@@ -92,13 +108,15 @@ pub(crate) fn push_attempts<C: Core>(
     limit: u32,
 ) -> Result<u32, AllocError>
     requires { made + limit < 2 ^ 32 }
-    ensures machine { OnOk result (machine.new ≡ after machine.old limit) }
+    ensures machine { OnOk result (machine.new
+        ≡ after machine.old (attempts machine.old limit)) }
     ensures made { IfOk result (λ count. count ≡ attempts machine.old limit) }
+    ensures within { IfOk result (λ count. count ≤ limit) }
     ensures text { OnOk result (text.new.items ≡ text.old.items
         ++ attempts_shown (option_copied names.entry) made machine.old limit) }
 {
     for count in 0..limit {
-        if !machine.parts().standing.is_running() {
+        if !is_running(machine) {
             return Ok(count);
         }
         push_attempt(alloc, text, machine, names, made + count + 1)?;
@@ -124,6 +142,7 @@ pub(crate) fn press<C: Core>(machine: &mut Machine<C>, switches: Switches)
 }
 
 /// Runs a deck anew, from the load button on, for so many instructions, with these starts.
+#[tactic(auto, unfolding(crate::specs::Sittings::machine_from))]
 pub(crate) fn rerun(
     alloc: Global,
     deck: &Deck,

@@ -16,6 +16,7 @@ ghost use Rattle.console.specs.declared.sayings.Saying.TheVariants.{Do};
 /// begins with the machine that the load button left. Without a start it is that machine after as
 /// many steps as the session has made, so what is shown is a run of the deck; and no line but
 /// `start` is a start.
+#[tactic(auto, using(crate::proofs::SessionLaw::come_talked, crate::proofs::SessionLaw::come_alone, crate::proofs::SessionLaw::base_next, crate::proofs::SessionLaw::starts_next, crate::proofs::SessionLemmas::come_next))]
 pub fn sessions_are_runs()
     ensures begins { (base : State) (names : Option Named) → HasCome (begun base names) }
     ensures goes_on { (s : Sitting) (saying : Saying) → HasCome s → HasCome (next s saying) }
@@ -29,6 +30,7 @@ pub fn sessions_are_runs()
 
 /// The law of going back: it undoes steps. A session that has made all the instructions that were
 /// asked for is, so many instructions back, what it was before.
+#[tactic(auto, using(crate::proofs::SessionLaw::undoes))]
 pub fn back_undoes_steps()
     ensures { (s : Sitting) (count : ℕ) → HasCome s → s.made + count ≤ most_made →
         attempts s.machine count ≡ count → next (next s (Do (Step count))) (Do (Back count)) ≡ s }
@@ -37,6 +39,7 @@ pub fn back_undoes_steps()
 /// The law of going on: a machine stands after all instructions, or where it no longer runs, or
 /// after the first one that changes the watched position or leads to a stop; and it stands nowhere
 /// else.
+#[tactic(auto, using(crate::proofs::GoLaw::went_is, crate::proofs::GoLaw::one_went))]
 pub fn go_ends_at_the_first_stop()
     ensures end { (stops : List ℕ) (watched : Option ℕ) (m : State) (limit : ℕ) →
         IsWent stops watched m limit (went stops watched m limit) }
@@ -46,13 +49,8 @@ pub fn go_ends_at_the_first_stop()
 
 /// The law of stops: with one more they rise without doubles if they did before, and without one
 /// too.
+#[tactic(auto, using(crate::proofs::StopLemmas::more_rises, crate::proofs::StopLemmas::less_rises))]
 pub fn stops_rise()
     ensures more { (stop : ℕ) (stops : List ℕ) → Rising stops → Rising (with_stop stop stops) }
     ensures less { (stop : ℕ) (stops : List ℕ) → Rising stops → Rising (without_stop stop stops) }
 {}
-
-#[cfg(test)]
-mod tests {
-    #[test]
-    fn compiles() {}
-}

@@ -1,14 +1,15 @@
 //! What is heard of a line.
 
-ghost use Rattle.std.specs.Prelude.{◌≡◌, ◌<◌, ℕ, MatchOption, option_copied};
+ghost use Rattle.std.specs.Prelude.{◌≡◌, ◌<◌, ℕ, MatchOption, option_copied, IfOk};
 ghost use Rattle.core_store.specs.Storage.{largest_size};
 ghost use Rattle.console.specs.Sayings.{address_of};
-ghost use Rattle.console.specs.Readings.{IsCountOf, IsHeardOf, IsPositionOf, IsReadingOf, address_named};
+ghost use Rattle.console.specs.Readings.{IsCountOf, IsHeardOf, IsPositionOf, IsReadingOf, SaysAddress};
 
 use crate::verbs::Verb;
 use crate::words::{Words, text_of};
 use bench_runs::Names;
 use core_store::LARGEST_SIZE;
+use std::alloc::{AllocError, Global};
 use texts::{number_of, switches_of};
 use units::Switches;
 
@@ -75,29 +76,36 @@ fn position_of(text: &str) -> Option<u16>
     Some(number as u16)
 }
 
-/// The address that a text names.
-fn address_named(names: Option<&Names>, text: &str) -> Option<u16>
-    ensures { result ≡ address_named (option_copied names.entry) text.now }
+/// The address that a text says by the names of the source.
+fn address_said(
+    alloc: Global,
+    names: Option<&Names>,
+    text: &str,
+) -> Result<Option<u16>, AllocError>
+    ensures { IfOk result (λ found. MatchOption found
+        ((address : ℕ) → ¬ SaysAddress (option_copied names.entry) text.now address)
+        (SaysAddress (option_copied names.entry) text.now)) }
 {
     match names {
-        None => None,
-        Some(_) => None,
+        None => Ok(None),
+        Some(names) => names.position_said(alloc, text),
     }
 }
 
 impl Reading {
     /// What a word may be.
-    fn of(names: Option<&Names>, word: &[u8]) -> Reading
-        ensures { IsReadingOf (option_copied names.entry) word.now result }
+    fn of(alloc: Global, names: Option<&Names>, word: &[u8]) -> Result<Reading, AllocError>
+        ensures { IfOk result (IsReadingOf (option_copied names.entry) word.now) }
     {
         let text = text_of(word);
-        Reading {
+        let named = address_said(alloc, names, text)?;
+        Ok(Reading {
             given: !word.is_empty(),
             count: count_of(text),
             position: position_of(text),
-            named: address_named(names, text),
+            named,
             switches: switches_of(text),
-        }
+        })
     }
 
     /// The address that a word is.
@@ -113,16 +121,22 @@ impl Reading {
 
 impl Heard {
     /// What is heard of the words of a line.
-    pub(crate) fn of(names: Option<&Names>, line: &[u8]) -> Heard
-        ensures { IsHeardOf (option_copied names.entry) line.now result }
+    pub(crate) fn of(
+        alloc: Global,
+        names: Option<&Names>,
+        line: &[u8],
+    ) -> Result<Heard, AllocError>
+        ensures { IfOk result (IsHeardOf (option_copied names.entry) line.now) }
     {
         let words = Words::of(line);
-        Heard {
+        let first = Reading::of(alloc, names, words.second)?;
+        let second = Reading::of(alloc, names, words.third)?;
+        Ok(Heard {
             some: !words.first.is_empty(),
             verb: Verb::of(words.first),
-            first: Reading::of(names, words.second),
-            second: Reading::of(names, words.third),
+            first,
+            second,
             long: words.has_more,
-        }
+        })
     }
 }

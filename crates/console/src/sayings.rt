@@ -1,12 +1,13 @@
 //! What lines say.
 
-ghost use Rattle.std.specs.Prelude.{◌≡◌, option_copied};
+ghost use Rattle.std.specs.Prelude.{◌≡◌, option_copied, IfOk};
 ghost use Rattle.console.specs.Readings.{most_asked};
 ghost use Rattle.console.specs.Sayings.{IsSaid, address_in, alone, count_in, dump_said, is_end, rows_said, said, said_with, switches_in, watch_said, with};
 
 use crate::readings::{Heard, MOST_ASKED};
 use crate::verbs::Verb;
 use bench_runs::Names;
+use std::alloc::{AllocError, Global};
 use units::Switches;
 
 /// What a line lacks whose value is none.
@@ -276,10 +277,15 @@ fn said(heard: &Heard) -> Saying
 
 impl Saying {
     /// What a line says.
-    pub(crate) fn of(names: Option<&Names>, line: &[u8]) -> Saying
-        ensures { IsSaid (option_copied names.entry) line.now result }
+    pub(crate) fn of(
+        alloc: Global,
+        names: Option<&Names>,
+        line: &[u8],
+    ) -> Result<Saying, AllocError>
+        ensures { IfOk result (IsSaid (option_copied names.entry) line.now) }
     {
-        said(&Heard::of(names, line))
+        let heard = Heard::of(alloc, names, line)?;
+        Ok(said(&heard))
     }
 
     /// Whether it ends a session.

@@ -106,7 +106,7 @@ impl Session {
 
     /// The names of the source.
     pub(crate) fn names(&self) -> Option<&Names>
-        ensures { option_copied result.entry ≡ self.now.names }
+        ensures { option_copied result ≡ self.now.names }
     {
         self.names.as_ref()
     }
@@ -177,7 +177,7 @@ impl Session {
             (went self.old.stops self.old.watched self.old.machine limit)) }
         ensures count { IfOk result (λ count.
             count ≡ went self.old.stops self.old.watched self.old.machine limit) }
-        ensures most { IfOk result (λ count. count ≤ limit) }
+        ensures within { IfOk result (λ count. count ≤ limit) }
     {
         let count = go(&mut self.machine, &self.stops, self.watched, limit)?;
         self.made += count;

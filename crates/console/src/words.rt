@@ -37,7 +37,7 @@ fn gap_in(text: &[u8]) -> Option<usize>
     ensures place { result ≡ position is_gap text.now }
     ensures within { IfSome result (λ place. place ≤ length text.now) }
 {
-    text.iter().position(|byte| *byte <= b' ')
+    text.iter().position(|byte| is_gap(*byte))
 }
 
 /// A text from its first word on.
@@ -45,7 +45,7 @@ fn gap_in(text: &[u8]) -> Option<usize>
 fn from_word(text: &[u8]) -> &[u8]
     ensures { result.now ≡ from_word text.now }
 {
-    let place = text.iter().position(|byte| *byte > b' ');
+    let place = text.iter().position(|byte| !is_gap(*byte));
     onward(place, text)
 }
 
