@@ -7,3 +7,5 @@ mod PastLemmas
 mod SessionLemmas
 mod SessionLaw
 mod StopLemmas
+mod EndLemmas
+mod TalkLemmas

@@ -70,9 +70,13 @@ abbrev pub watched_line : Option ℕ → List ℕ
 watched_line None = codes "nothing is watched\n"
 watched_line (Some position) = codes "watching " ++ position_field position ++ 10 ∷ []
 
+-- the line of a position at which no field ends
+abbrev pub no_field : ℕ → List ℕ
+no_field p = codes "no mark at " ++ position_field p ++ codes " or to the left of it\n"
+
 -- the line of a field with so many characters that ends at a position
 abbrev pub field_by : Storage → ℕ → Option ℕ → List ℕ
-field_by s p None = codes "no mark at " ++ position_field p ++ codes " or to the left of it\n"
+field_by s p None = no_field p
 field_by s p (Some count) = position_field (p + 1 - count) ++ codes " to " ++ position_field p
     ++ codes ": " ++ glyphs_of (codes_from s (p + 1 - count) count) ++ 10 ∷ []
 

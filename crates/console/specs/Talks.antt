@@ -38,6 +38,12 @@ abbrev pub PutsSo : List ℕ → Option (List ℕ) → Option (List ℕ) → Boo
 PutsSo bytes old new true = Appends old new bytes
 PutsSo bytes old new false = (count : ℕ) × (count ≤ length bytes) × Appends old new (take count bytes)
 
+-- what ends a session before a further line is read
+abbrev pub IsUnread : Ended → Type 0
+IsUnread ended.NoMemory = Unit {0}
+IsUnread ended.ReadFailed = Unit {0}
+IsUnread other = ⊥
+
 -- how a session ended that had come so far and had printed this, by what the writer had before and
 -- has now: at the end of what the reader had; by a line that ends it; for want of memory, or
 -- because the reader failed, before a further line was answered; or because the writer failed, and

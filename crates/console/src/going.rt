@@ -51,7 +51,7 @@ fn is_running<C: Core>(machine: &Machine<C>) -> bool
 }
 
 /// The contents of the watched position of a machine.
-fn cell_of<C: Core>(machine: &Machine<C>, watched: Option<u16>) -> (u8, bool)
+pub(crate) fn cell_of<C: Core>(machine: &Machine<C>, watched: Option<u16>) -> (u8, bool)
     ensures { result ≡ watched_cell watched machine.now.works.storage }
 {
     watched_cell(watched, &machine.parts().core)

@@ -4,20 +4,19 @@ ghost use Rattle.std.specs.Prelude.{◌≡◌, ◌+◌, ◌-◌, ◌<◌, ◌≤
 ghost use Rattle.machine.specs.Run.{attempts, lines_of, loaded};
 ghost use Rattle.units.specs.declared.profiles.Profile.TheVariants.{Selecting};
 ghost use Rattle.console.specs.Answers.{advanced, back_shown, backed, cleared, end_shown, going, gone, if_inside, is_inside, limit_of, restarted, set_back, start_shown, started_with, stepped, steps_shown, stopped_at, unwatching, watching, with_stop, without_stop};
-ghost use Rattle.console.specs.Goes.{went};
+ghost use Rattle.console.specs.Goes.{watched_cell, went};
 ghost use Rattle.machine.specs.Ranges.{IsInRange};
 ghost use Rattle.units.specs.Listing.{IsRising};
-ghost use Rattle.console.specs.Shown.{attempts_shown, field_line, stops_line, watched_line};
+ghost use Rattle.console.specs.Shown.{attempts_shown, field_line, last_shown, stops_line, watched_line, why_line};
 ghost use Rattle.console.specs.Sittings.{HasCome, Sitting, begun, machine_of, most_made};
 
-use crate::going::{go, press, push_attempts, rerun};
+use crate::going::{cell_of, go, press, push_attempts, rerun};
 use crate::showing::{
     Ends, push_fault, push_field, push_if_stopped, push_made, push_past, push_place, push_stops,
     push_watched, push_why,
 };
 use crate::starts::Start;
 use crate::stops::{starts_until, with_stop, without_stop};
-use crate::watching::watched_cell;
 use bench_runs::{Names, load, push_attempt};
 use cards::Deck;
 use core_store::{Core, PlaneCore, Size};
@@ -184,6 +183,61 @@ impl Session {
         Ok(count)
     }
 
+    /// Adds the line of the last of so many attempts, which this machine makes.
+    fn push_last(
+        &self,
+        alloc: Global,
+        text: &mut Vec<u8>,
+        before: &mut Machine<PlaneCore>,
+        count: u32,
+    ) -> Result<(), AllocError>
+        ensures { (made : ℕ) → self.now.made ≡ made + count →
+            OnOk result (text.new.items
+            ≡ text.old.items ++ last_shown self.now.names made before.old count) }
+    {
+        if count == 0 {
+            return Ok(());
+        }
+        push_attempt(alloc, text, before, self.names.as_ref(), self.made)
+    }
+
+    /// What the watched position holds in another machine.
+    fn seen_in(&self, machine: &Machine<PlaneCore>) -> (u8, bool)
+        ensures { result ≡ watched_cell self.now.watched machine.now.works.storage }
+    {
+        cell_of(machine, self.watched)
+    }
+
+    /// Adds the line that says why the machine stands, by what the watched position held before.
+    fn push_why(
+        &self,
+        alloc: Global,
+        text: &mut Vec<u8>,
+        seen: (u8, bool),
+    ) -> Result<(), AllocError>
+        ensures { OnOk result (text.new.items ≡ text.old.items ++ why_line self.now.stops
+            self.now.watched self.now.made seen self.now.machine) }
+    {
+        let ends = Ends {
+            stops: &self.stops,
+            watched: self.watched,
+            before: seen,
+        };
+        push_why(alloc, text, ends, self.made, self.machine.parts())
+    }
+
+    /// How many instructions were attempted before the last of so many.
+    fn made_before(&self, count: u32) -> u32
+        requires { count ≤ self.now.made }
+        ensures { result ≡ self.now.made - count + (count - 1) }
+    {
+        if count == 0 {
+            self.made
+        } else {
+            self.made - 1
+        }
+    }
+
     /// Adds the line of the last of so many attempts, and why the machine stands.
     fn push_end(
         &self,
@@ -195,17 +249,10 @@ impl Session {
         ensures { (s : Sitting) → HasCome s → self.now ≡ advanced s count →
             OnOk result (text.new.items ≡ text.old.items ++ end_shown s count) }
     {
-        let last = u32::from(count > 0);
-        let mut before = self.rerun(alloc, self.made - last)?;
-        let ends = Ends {
-            stops: &self.stops,
-            watched: self.watched,
-            before: watched_cell(self.watched, &before.parts().core),
-        };
-        if count > 0 {
-            push_attempt(alloc, text, &mut before, self.names.as_ref(), self.made)?;
-        }
-        push_why(alloc, text, ends, self.made, self.machine.parts())
+        let mut before = self.rerun(alloc, self.made_before(count))?;
+        let seen = self.seen_in(&before);
+        self.push_last(alloc, text, &mut before, count)?;
+        self.push_why(alloc, text, seen)
     }
 
     /// Does a line `go`.

@@ -1,11 +1,11 @@
 //! What is printed of a machine.
 
-ghost use Rattle.std.specs.Prelude.{◌≡◌, ◌+◌, ◌++◌, ◌∷◌, ◌<◌, ◌≤◌, decimal, length, map, None, Some, IfOk, OnOk};
+ghost use Rattle.std.specs.Prelude.{◌≡◌, ◌+◌, ◌++◌, ◌∷◌, ◌<◌, ◌≤◌, decimal, length, map, Some, IfOk, OnOk};
 ghost use Rattle.std.specs.List.{flat_map};
-ghost use Rattle.core_store.specs.Storage.{Storage, codes_from, largest_size};
+ghost use Rattle.core_store.specs.Storage.{codes_from, largest_size};
 ghost use Rattle.autocoder.specs.Listing.{glyphs_of, position_field};
 ghost use Rattle.machine.specs.Standings.{standing_of, standing_words};
-ghost use Rattle.console.specs.Shown.{cards_shown, changed_line, fault_line, fault_words, field_by, field_line, help_text, line_heard, made_words, past_words, place_line, registers_shown, standing_by, stop_line, stopped_shown, stops_line, watched_line, why_line};
+ghost use Rattle.console.specs.Shown.{cards_shown, changed_line, fault_line, fault_words, field_by, field_line, help_text, line_heard, made_words, no_field, past_words, place_line, registers_shown, standing_by, stop_line, stopped_shown, stops_line, watched_line, why_line};
 
 use crate::going::{has_changed, stands_at};
 use crate::sayings::Fault;
@@ -153,14 +153,21 @@ pub(crate) fn push_why<C: Core>(
     push_place(alloc, text, made, parts)
 }
 
+/// Adds a position behind a blank.
+fn push_behind_blank(text: &mut Vec<u8>, position: u16) -> Result<(), AllocError>
+    ensures { OnOk result (text.new.items ≡ text.old.items ++ 32 ∷ position_field position) }
+{
+    text.push(b' ')?;
+    push_position(text, position)
+}
+
 /// Adds positions, each behind a blank.
 fn push_positions(text: &mut Vec<u8>, positions: &[u16]) -> Result<(), AllocError>
     ensures { OnOk result (text.new.items ≡ text.old.items
         ++ flat_map (λ other. 32 ∷ position_field other) positions.now) }
 {
     for position in positions {
-        text.push(b' ')?;
-        push_position(text, *position)?;
+        push_behind_blank(text, *position)?;
     }
     Ok(())
 }
@@ -238,8 +245,7 @@ fn push_field_of<C: Core>(
 
 /// Adds the line that says that no field ends at a position.
 fn push_no_field(text: &mut Vec<u8>, position: u16) -> Result<(), AllocError>
-    ensures { (s : Storage) → OnOk result (text.new.items
-        ≡ text.old.items ++ field_by s position None) }
+    ensures { OnOk result (text.new.items ≡ text.old.items ++ no_field position) }
 {
     text.extend_from_slice(b"no mark at ")?;
     push_position(text, position)?;

@@ -1,7 +1,9 @@
 //! A session over a reader and a writer.
 
+ghost use Rattle.std.specs.Prelude.{IfOk, IfErr, IfSome, IfNone};
+ghost use Rattle.std.specs.Io.KnownBytes.{IsAtEnd};
 ghost use Rattle.console.specs.Sittings.{HasCome};
-ghost use Rattle.console.specs.Talks.{IsTalk, PutsSo};
+ghost use Rattle.console.specs.Talks.{IsRead, IsTalk, IsUnread, PutsSo};
 
 use crate::sessions::Session;
 use std::alloc::Global;
@@ -24,11 +26,28 @@ pub enum Ended {
 }
 
 /// How a session ends whose reader failed.
-fn unread(kind: ErrorKind) -> Ended {
+fn unread(kind: ErrorKind) -> Ended
+    ensures { IsUnread result }
+{
     if kind == ErrorKind::OutOfMemory {
         return Ended::NoMemory;
     }
     Ended::ReadFailed
+}
+
+/// Reads the next line, if there is one.
+fn next_line<R: BufRead>(alloc: Global, reader: &mut R) -> Result<Option<Vec<u8>>, Ended>
+    ensures line { IfOk result (λ found. IfSome found (λ line.
+        IsRead (R.remaining reader.old) line.items (R.remaining reader.new))) }
+    ensures end { IfOk result (λ found. IfNone found (IsAtEnd (R.remaining reader.old))) }
+    ensures failed { IfErr result IsUnread }
+{
+    let mut line = Vec::new(alloc);
+    match reader.read_until(b'\n', &mut line) {
+        Ok(0) => Ok(None),
+        Ok(_) => Ok(Some(line)),
+        Err(error) => Err(unread(error.kind())),
+    }
 }
 
 /// Writes bytes, and flushes them. Returns whether that was done.
@@ -54,12 +73,11 @@ pub fn console<R: BufRead, W: Write>(
         (W.contents writer.new) result }
 {
     for _ in 0..u64::MAX {
-        let mut line = Vec::new(alloc);
-        match reader.read_until(b'\n', &mut line) {
-            Ok(0) => return Ended::AtEnd,
-            Ok(_) => {}
-            Err(error) => return unread(error.kind()),
-        }
+        let line = match next_line(alloc, reader) {
+            Ok(Some(line)) => line,
+            Ok(None) => return Ended::AtEnd,
+            Err(ended) => return ended,
+        };
         let Ok(answer) = session.answer(alloc, &line) else {
             return Ended::NoMemory;
         };

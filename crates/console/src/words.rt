@@ -40,13 +40,20 @@ fn gap_in(text: &[u8]) -> Option<usize>
     text.iter().position(|byte| is_gap(*byte))
 }
 
+/// The place of the first byte that does not part words.
+fn word_in(text: &[u8]) -> Option<usize>
+    ensures place { result ≡ position (λ byte. not (is_gap byte)) text.now }
+    ensures within { IfSome result (λ place. place ≤ length text.now) }
+{
+    text.iter().position(|byte| !is_gap(*byte))
+}
+
 /// A text from its first word on.
 #[tactic(auto, unfolding(crate::specs::Words::from_word))]
 fn from_word(text: &[u8]) -> &[u8]
     ensures { result.now ≡ from_word text.now }
 {
-    let place = text.iter().position(|byte| !is_gap(*byte));
-    onward(place, text)
+    onward(word_in(text), text)
 }
 
 /// The word that a text begins with.
