@@ -7,7 +7,6 @@ use Rattle.console.specs.Goes.{IsWent, goes_on, went}
 use Rattle.console.proofs.GoLemmas.{went_nowhere, went_on, went_one}
 
 module _ (stops : List ℕ) (watched : Option ℕ) where
-
   -- nothing was asked for, or the machine does not run
   none_gone : (m : State) (limit : ℕ) → (0 ≡ limit) ⊎ (is_running m.standing ≡ false) → IsWent stops watched m limit 0
   unfolding after
@@ -31,6 +30,7 @@ module _ (stops : List ℕ) (watched : Option ℕ) where
       one_running : (k : ℕ) → k < 1 → is_running (after m k).standing ≡ true
       one_running zero below = runs
       one_running (suc k) below = absurd (omega arith)
+
       last : goes_on stops watched (after m (1 - 1)) (after m 1) ≡ false
       last = ap (λ (x : State). goes_on stops watched m x) (after_one m) ∙ off
 

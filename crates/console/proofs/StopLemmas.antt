@@ -30,7 +30,7 @@ rises_by stop below above below_rises above_rises under over =
     let rest : Rising (stop ∷ above) = AllPairs-cons (λ (a b : ℕ). a < b) stop above behind above_rises in
     let between : All (λ x. All (λ y. x < y) (stop ∷ above)) below =
     λ k d within. let less : slice_index_or below k d < stop = ltb-true _ _ (under k d within) in
-        All-cons (λ y. slice_index_or below k d < y) stop above less (λ j e inside. let more = behind j e inside in omega arith) in
+    All-cons (λ y. slice_index_or below k d < y) stop above less (λ j e inside. let more = behind j e inside in omega arith) in
     subst Rising (sym (append_assoc below (stop ∷ []) above)) (join_rises below (stop ∷ above) below_rises rest between)
 
 pub more_rises : (stop : ℕ) (stops : List ℕ) → Rising stops → Rising (with_stop stop stops)

@@ -67,9 +67,7 @@ fn goes_on<C: Core>(
     ensures { result ≡ goes_on_from stops.now watched before machine.now }
 {
     let parts = machine.parts();
-    parts.standing.is_running()
-        && !has_changed(watched, before, parts)
-        && !stands_at(stops, parts)
+    parts.standing.is_running() && !has_changed(watched, before, parts) && !stands_at(stops, parts)
 }
 
 /// Goes on for so many instructions at most. Returns how many were attempted.

@@ -26,9 +26,7 @@ mod verbs;
 mod watching;
 mod words;
 
-pub use laws::{
-    back_undoes_steps, go_ends_at_the_first_stop, sessions_are_runs, stops_rise,
-};
+pub use laws::{back_undoes_steps, go_ends_at_the_first_stop, sessions_are_runs, stops_rise};
 pub use sessions::Session;
 pub use starts::Start;
 pub use talking::{Ended, console};

@@ -77,11 +77,7 @@ fn position_of(text: &str) -> Option<u16>
 }
 
 /// The address that a text says by the names of the source.
-fn address_said(
-    alloc: Global,
-    names: Option<&Names>,
-    text: &str,
-) -> Result<Option<u16>, AllocError>
+fn address_said(alloc: Global, names: Option<&Names>, text: &str) -> Result<Option<u16>, AllocError>
     ensures { IfOk result (λ found. MatchOption found
         ((address : ℕ) → ¬ SaysAddress (option_copied names.entry) text.now address)
         (SaysAddress (option_copied names.entry) text.now)) }
@@ -121,11 +117,7 @@ impl Reading {
 
 impl Heard {
     /// What is heard of the words of a line.
-    pub(crate) fn of(
-        alloc: Global,
-        names: Option<&Names>,
-        line: &[u8],
-    ) -> Result<Heard, AllocError>
+    pub(crate) fn of(alloc: Global, names: Option<&Names>, line: &[u8]) -> Result<Heard, AllocError>
         ensures { IfOk result (IsHeardOf (option_copied names.entry) line.now) }
     {
         let words = Words::of(line);

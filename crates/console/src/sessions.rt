@@ -130,16 +130,18 @@ impl Session {
         ensures { IfOk result (λ machine.
             machine ≡ machine_of self.now.base self.now.starts made) }
     {
-        rerun(alloc, &self.deck, self.size, self.switches, &self.starts, made)
+        rerun(
+            alloc,
+            &self.deck,
+            self.size,
+            self.switches,
+            &self.starts,
+            made,
+        )
     }
 
     /// Attempts so many instructions at most, and adds a line for each.
-    fn attempt(
-        &mut self,
-        alloc: Global,
-        text: &mut Vec<u8>,
-        limit: u32,
-    ) -> Result<(), AllocError>
+    fn attempt(&mut self, alloc: Global, text: &mut Vec<u8>, limit: u32) -> Result<(), AllocError>
         requires { self.old.made + limit ≤ most_made }
         ensures session { OnOk result (self.new
             ≡ advanced self.old (attempts self.old.machine limit)) }
@@ -231,20 +233,11 @@ impl Session {
         requires { count ≤ self.now.made }
         ensures { result ≡ self.now.made - count + (count - 1) }
     {
-        if count == 0 {
-            self.made
-        } else {
-            self.made - 1
-        }
+        if count == 0 { self.made } else { self.made - 1 }
     }
 
     /// Adds the line of the last of so many attempts, and why the machine stands.
-    fn push_end(
-        &self,
-        alloc: Global,
-        text: &mut Vec<u8>,
-        count: u32,
-    ) -> Result<(), AllocError>
+    fn push_end(&self, alloc: Global, text: &mut Vec<u8>, count: u32) -> Result<(), AllocError>
         requires { count ≤ self.now.made }
         ensures { (s : Sitting) → HasCome s → self.now ≡ advanced s count →
             OnOk result (text.new.items ≡ text.old.items ++ end_shown s count) }

@@ -322,11 +322,7 @@ fn push_heard(text: &mut Vec<u8>, line: &[u8]) -> Result<(), AllocError>
 
 /// Adds the line of a fault.
 #[tactic(auto, unfolding(crate::specs::Shown::fault_line))]
-pub(crate) fn push_fault(
-    text: &mut Vec<u8>,
-    line: &[u8],
-    words: &[u8],
-) -> Result<(), AllocError>
+pub(crate) fn push_fault(text: &mut Vec<u8>, line: &[u8], words: &[u8]) -> Result<(), AllocError>
     ensures { OnOk result (text.new.items ≡ text.old.items ++ fault_line line.now words.now) }
 {
     push_heard(text, line)?;
