@@ -94,7 +94,7 @@ fn position_at(number: u32) -> u16 {
 }
 
 /// The deck in the file at a path, with a card at least. Where there is none, that is told.
-fn deck_to_run<E: Write>(rt: &HostRuntime, path: &str, errors: &mut E) -> io::Result<Option<Deck>>
+pub(crate) fn deck_to_run<E: Write>(rt: &HostRuntime, path: &str, errors: &mut E) -> io::Result<Option<Deck>>
     ensures { IfOk result (λ found. IfSome found (λ deck. 0 < length deck)) }
 {
     let Some(deck) = deck_at(rt, path, errors)? else {
@@ -111,7 +111,7 @@ fn deck_to_run<E: Write>(rt: &HostRuntime, path: &str, errors: &mut E) -> io::Re
 }
 
 /// The names of the source in the file at a path. Where there are none, that is told.
-fn names_at<E: Write>(rt: &HostRuntime, path: &str, errors: &mut E) -> io::Result<Option<Names>> {
+pub(crate) fn names_at<E: Write>(rt: &HostRuntime, path: &str, errors: &mut E) -> io::Result<Option<Names>> {
     let Some(deck) = deck_at(rt, path, errors)? else {
         return Ok(None);
     };

@@ -18,6 +18,7 @@ mod manifests;
 mod numbering;
 mod punching;
 mod sources;
+mod talking;
 
 ghost use Rattle.std.specs.Prelude.{IfOk};
 ghost use Rattle.command_line.specs.Printed.{IsTextShown};
@@ -33,6 +34,7 @@ use crate::manifests::manifest;
 use crate::numbering::{check_numbers, number_deck};
 use crate::punching::{Punching, punch_text};
 use crate::sources::{Showing, show_source};
+use crate::talking::talk;
 use command_line::{Status, Unfailing, exit_code};
 use std::io::Write;
 use std::process::ExitCode;
@@ -130,6 +132,7 @@ fn work<W: Write, E: Write>(
             dump_deck(rt, *setup, wanted, output, errors)
         }
         Task::Profile { setup, names } => profile_deck(rt, *setup, *names, output, errors),
+        Task::Console { setup, names } => talk(rt, *setup, *names, output, errors),
         Task::Card { deck, number, out } => draw_card(rt, (deck, out), *number, output, errors),
         Task::Deck { deck, out } => draw_deck(rt, (deck, out), output, errors),
         Task::Pages { listing, out } => draw_pages(rt, (listing, out), output, errors),

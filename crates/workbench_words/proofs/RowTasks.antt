@@ -6,7 +6,7 @@ use Rattle.workbench_words.specs.Tasks.{Wants, WantsRow, WantsTask}
 use Rattle.workbench_words.specs.declared.rows.RowName.{RowName}
 use Rattle.workbench_words.specs.declared.rows.RowName.TheVariants as name
 use Rattle.workbench_words.specs.declared.tasks.Task.{Task}
-use Rattle.workbench_words.specs.declared.tasks.Task.TheVariants.{Help, Version, Punch, List as ListCards, Compare, Convert, Number, CheckNumbers, Source, Manifest, Trace, Dump, Profile, Card, Deck, Pages, Page}
+use Rattle.workbench_words.specs.declared.tasks.Task.TheVariants.{Help, Version, Punch, List as ListCards, Compare, Convert, Number, CheckNumbers, Source, Manifest, Trace, Dump, Profile, Console, Card, Deck, Pages, Page}
 
 -- no row has the help or the version as its task
 no_help : (row : RowName) (found : List Row) (page : Option RowName) → WantsTask row found (Help page) → ⊥
@@ -20,6 +20,7 @@ no_help name.Manifest found page is = is
 no_help name.Trace found page is = is
 no_help name.Dump found page is = is
 no_help name.Profile found page is = is
+no_help name.Console found page is = is
 no_help name.Card found page is = is
 no_help name.Deck found page is = is
 no_help name.Pages found page is = is
@@ -36,6 +37,7 @@ no_version name.Manifest found is = is
 no_version name.Trace found is = is
 no_version name.Dump found is = is
 no_version name.Profile found is = is
+no_version name.Console found is = is
 no_version name.Card found is = is
 no_version name.Deck found is = is
 no_version name.Pages found is = is
@@ -55,6 +57,7 @@ wants_row words (Manifest decks form known) is = is
 wants_row words (Trace setup from count stop names fields) is = is
 wants_row words (Dump setup after stop first last) is = is
 wants_row words (Profile setup names) is = is
+wants_row words (Console setup names) is = is
 wants_row words (Card deck number out) is = is
 wants_row words (Deck deck out) is = is
 wants_row words (Pages listing out) is = is

@@ -6,7 +6,7 @@ use Rattle.workbench_words.specs.declared.rows.RowName.{RowName}
 use Rattle.workbench_words.specs.declared.rows.RowName.TheVariants as name
 use Rattle.workbench_words.specs.declared.tasks.Misuse.{Misuse}
 use Rattle.workbench_words.specs.declared.tasks.Misuse.TheVariants.{Memory}
-use Rattle.workbench_words.specs.declared.help.TheConstants.{CARD_HELP, COMPARE_HELP, CONVERT_HELP, DECK_HELP, DUMP_HELP, HELP, LIST_HELP, MANIFEST_HELP, PAGE_HELP, PAGES_HELP, PROFILE_HELP, PUNCH_HELP, SEQUENCE_HELP, SOURCE_HELP, TRACE_HELP}
+use Rattle.workbench_words.specs.declared.help.TheConstants.{CARD_HELP, COMPARE_HELP, CONSOLE_HELP, CONVERT_HELP, DECK_HELP, DUMP_HELP, HELP, LIST_HELP, MANIFEST_HELP, PAGE_HELP, PAGES_HELP, PROFILE_HELP, PUNCH_HELP, SEQUENCE_HELP, SOURCE_HELP, TRACE_HELP}
 
 -- the text of the help of a row, or of the whole help
 abbrev pub page_of : Option RowName → List ℕ
@@ -21,6 +21,7 @@ page_of (Some name.Manifest) = MANIFEST_HELP.now
 page_of (Some name.Trace) = TRACE_HELP.now
 page_of (Some name.Dump) = DUMP_HELP.now
 page_of (Some name.Profile) = PROFILE_HELP.now
+page_of (Some name.Console) = CONSOLE_HELP.now
 page_of (Some name.Card) = CARD_HELP.now
 page_of (Some name.Deck) = DECK_HELP.now
 page_of (Some name.Pages) = PAGES_HELP.now

@@ -51,6 +51,11 @@ line_of name.Profile = (
   (codes "DECK", Value) ∷ (codes "SIZE", Value) ∷ (codes "SWITCHES", Value)
       ∷ (codes "names", Setting) ∷ [],
 )
+line_of name.Console = (
+  codes "console",
+  (codes "DECK", Value) ∷ (codes "SIZE", Value) ∷ (codes "SWITCHES", Value)
+      ∷ (codes "names", Setting) ∷ [],
+)
 line_of name.Card =
     (codes "card", (codes "DECK", Value) ∷ (codes "N", Value) ∷ (codes "OUT", Value) ∷ [])
 line_of name.Deck = (codes "deck", (codes "DECK", Value) ∷ (codes "OUT", Value) ∷ [])
@@ -64,8 +69,8 @@ line_of name.Page = (
 -- all rows
 abbrev pub rows : List RowName
 rows = name.Punch ∷ name.List ∷ name.Compare ∷ name.Sequence ∷ name.Convert ∷ name.Source
-    ∷ name.Manifest ∷ name.Trace ∷ name.Dump ∷ name.Profile ∷ name.Card ∷ name.Deck ∷ name.Pages
-    ∷ name.Page ∷ []
+    ∷ name.Manifest ∷ name.Trace ∷ name.Dump ∷ name.Profile ∷ name.Console ∷ name.Card ∷ name.Deck
+    ∷ name.Pages ∷ name.Page ∷ []
 
 -- the word that is the name of a row
 abbrev pub name_of : RowName → Text

@@ -20,7 +20,7 @@ use Rattle.workbench_words.specs.declared.rows.RowName.{RowName}
 use Rattle.workbench_words.specs.declared.rows.RowName.TheVariants as name
 use Rattle.workbench_words.specs.declared.tasks.Setup.{Setup}
 use Rattle.workbench_words.specs.declared.tasks.Task.{Task}
-use Rattle.workbench_words.specs.declared.tasks.Task.TheVariants.{Help, Version, Punch, List as ListCards, Compare, Convert, Number, CheckNumbers, Source, Manifest, Trace, Dump, Profile, Card, Deck, Pages, Page}
+use Rattle.workbench_words.specs.declared.tasks.Task.TheVariants.{Help, Version, Punch, List as ListCards, Compare, Convert, Number, CheckNumbers, Source, Manifest, Trace, Dump, Profile, Console, Card, Deck, Pages, Page}
 
 -- whether an option without a value was given
 unfoldable pub has_flag : Text → List Row → Bool
@@ -211,6 +211,12 @@ WantsProfile found (Profile setup names) =
     IsSetup (codes "DECK") found setup × HasText (codes "names") found names
 WantsProfile found other = ⊥
 
+-- the task of `console`
+abbrev pub WantsConsole : List Row → Task → Type 0
+WantsConsole found (Console setup names) =
+    IsSetup (codes "DECK") found setup × HasText (codes "names") found names
+WantsConsole found other = ⊥
+
 -- the task of `card`
 abbrev pub WantsCard : List Row → Task → Type 0
 WantsCard found (Card deck number out) = WantsOption (codes "DECK") found deck.now
@@ -247,6 +253,7 @@ WantsTask name.Convert found task = WantsConvert found task
 WantsTask name.Trace found task = WantsTrace found task
 WantsTask name.Dump found task = WantsDump found task
 WantsTask name.Profile found task = WantsProfile found task
+WantsTask name.Console found task = WantsConsole found task
 WantsTask name.Card found task = WantsCard found task
 WantsTask name.Deck found task = WantsDeck found task
 WantsTask name.Pages found task = WantsPages found task

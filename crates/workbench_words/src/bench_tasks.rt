@@ -5,7 +5,7 @@ ghost use Rattle.clap.specs.Words.{found_of, rows_of};
 ghost use Rattle.core_store.specs.Storage.{positions_of};
 ghost use Rattle.texts.specs.Switches.{text_of};
 ghost use Rattle.units.specs.Switches.{AreSeven};
-ghost use Rattle.workbench_words.specs.Tasks.{GivesCount, GivesNumber, HasCount, HasNumber, IsSetup, WantsDump, WantsOption, WantsProfile, WantsTrace};
+ghost use Rattle.workbench_words.specs.Tasks.{GivesCount, GivesNumber, HasCount, HasNumber, IsSetup, WantsConsole, WantsDump, WantsOption, WantsProfile, WantsTrace};
 ghost use Rattle.workbench_words.specs.Values.{IsCount};
 
 use crate::found::{has_flag, value};
@@ -156,4 +156,13 @@ pub(crate) fn profile_task<'a>(found: &ArgMatches<'a>) -> Result<Task<'a>, Misus
     let setup = setup_in(found, "DECK", RowName::Profile)?;
     let names = value(found, "names");
     Ok(Task::Profile { setup, names })
+}
+
+/// The task of a row `console`.
+pub(crate) fn console_task<'a>(found: &ArgMatches<'a>) -> Result<Task<'a>, Misuse>
+    ensures { IfOk result (WantsConsole (rows_of (found_of found.now))) }
+{
+    let setup = setup_in(found, "DECK", RowName::Console)?;
+    let names = value(found, "names");
+    Ok(Task::Console { setup, names })
 }

@@ -21,6 +21,7 @@ usage:
   workbench trace DECK SIZE SWITCHES [OPTIONS]    prints the instructions of a run
   workbench dump DECK SIZE SWITCHES [OPTIONS]     prints the storage after a run, or within it
   workbench profile DECK SIZE SWITCHES [OPTIONS]  prints how often a run did each instruction
+  workbench console DECK SIZE SWITCHES [OPTIONS]  answers lines about a machine, step by step
   workbench card DECK N OUT                       draws a card
   workbench deck DECK OUT                         draws the cards of a deck on a page
   workbench pages LISTING OUT                     draws a listing as pages of paper
@@ -232,6 +233,37 @@ Without --names there is a line for each address at which an instruction began. 
 the instructions that the run did.
 ";
 
+/// The text that `console --help` prints.
+pub const CONSOLE_HELP: &str = "\
+workbench console DECK SIZE SWITCHES [--names SOURCE]: goes through a run step by step. It reads
+lines from the standard input and answers each, up to the end of the input.
+
+DECK            a deck text or a punch file; like SOURCE a file, and not -
+SIZE, SWITCHES  as trace --help has them
+--names SOURCE  shows each address by the names of this source too, and takes them
+
+lines:
+  step, step N          one instruction or N, each with its line as trace has it
+  go, go N              up to a stop, a change, a halt, a check, or N instructions (1000000)
+  stop ADDRESS          sets a stop: go ends before the instruction there
+  clear ADDRESS, stops  clears it; lists the stops
+  watch ADDRESS         go ends after an instruction that changes the character or the mark there
+  watch                 watches nothing
+  dump, dump FIRST LAST the storage as dump has it, registers, units
+  registers             registers and units
+  field ADDRESS         the field that ends there
+  cards, lines          the cards punched, the lines printed
+  start SWITCHES        the start button, at a halt
+  back, back N          one instruction or N back
+  help, end             the lines; the end
+
+ADDRESS, FIRST and LAST are numbers from 0 to 15999, or with --names as LOOP, LOOP&7, LOOP-7.
+No line changes storage: what is seen is a run of the deck, as bureau run does it.
+
+example:
+  workbench console examples/primes.deck 4000 A --names examples/primes.source
+";
+
 /// The text that `card --help` prints.
 pub const CARD_HELP: &str = "\
 workbench card DECK N OUT: draws a card, as a picture of its own (SVG).
@@ -313,6 +345,7 @@ pub(crate) fn page(row: Option<RowName>) -> &'static str
         Some(RowName::Trace) => TRACE_HELP,
         Some(RowName::Dump) => DUMP_HELP,
         Some(RowName::Profile) => PROFILE_HELP,
+        Some(RowName::Console) => CONSOLE_HELP,
         Some(RowName::Card) => CARD_HELP,
         Some(RowName::Deck) => DECK_HELP,
         Some(RowName::Pages) => PAGES_HELP,
@@ -336,6 +369,7 @@ pub(crate) fn usage(row: RowName) -> &'static str {
         RowName::Dump => "dump DECK SIZE SWITCHES [--after N] [--stop ADDRESS] [--first N] \
              [--last N]",
         RowName::Profile => "profile DECK SIZE SWITCHES [--names SOURCE]",
+        RowName::Console => "console DECK SIZE SWITCHES [--names SOURCE]",
         RowName::Card => "card DECK N OUT",
         RowName::Deck => "deck DECK OUT",
         RowName::Pages => "pages LISTING OUT",

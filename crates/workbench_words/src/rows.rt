@@ -29,6 +29,8 @@ pub enum RowName {
     Dump,
     /// `profile`.
     Profile,
+    /// `console`.
+    Console,
     /// `card`.
     Card,
     /// `deck`.
@@ -40,7 +42,7 @@ pub enum RowName {
 }
 
 /// The rows, in the order of [`RowName`]: each with its name, and with its arguments.
-pub(crate) const ROWS: [(RowName, &str, &[(&str, Kind)]); 14] = [
+pub(crate) const ROWS: [(RowName, &str, &[(&str, Kind)]); 15] = [
     (
         RowName::Punch,
         "punch",
@@ -138,6 +140,16 @@ pub(crate) const ROWS: [(RowName, &str, &[(&str, Kind)]); 14] = [
     (
         RowName::Profile,
         "profile",
+        &[
+            ("DECK", Kind::Value),
+            ("SIZE", Kind::Value),
+            ("SWITCHES", Kind::Value),
+            ("names", Kind::Setting),
+        ],
+    ),
+    (
+        RowName::Console,
+        "console",
         &[
             ("DECK", Kind::Value),
             ("SIZE", Kind::Value),

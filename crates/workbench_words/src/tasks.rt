@@ -8,7 +8,7 @@ ghost use Rattle.workbench_words.specs.Tasks.{HasEmpty, HasForm, HasKept, HasSig
 ghost use Rattle.workbench_words.specs.Values.{IsNumeral};
 ghost use Rattle.workbench_words.specs.declared.tasks.Misuse.TheVariants.{Memory};
 
-use crate::bench_tasks::{dump_task, profile_task, trace_task};
+use crate::bench_tasks::{console_task, dump_task, profile_task, trace_task};
 use crate::found::{has_flag, value, values};
 use crate::parsing::parse;
 use crate::picture_tasks::{card_task, deck_task, page_task, pages_task};
@@ -147,6 +147,13 @@ pub enum Task<'a> {
     },
     /// Print how often a run did each instruction.
     Profile {
+        /// What the machine begins with.
+        setup: Setup<'a>,
+        /// The path of the source that has the names.
+        names: Option<&'a str>,
+    },
+    /// Answer lines about a machine that is gone through step by step.
+    Console {
         /// What the machine begins with.
         setup: Setup<'a>,
         /// The path of the source that has the names.
@@ -467,6 +474,7 @@ fn row_task<'a>(alloc: Global, row: RowName, found: &ArgMatches<'a>) -> Result<T
         RowName::Trace => trace_task(found),
         RowName::Dump => dump_task(found),
         RowName::Profile => profile_task(found),
+        RowName::Console => console_task(found),
         RowName::Card => card_task(found),
         RowName::Deck => deck_task(found),
         RowName::Pages => pages_task(found),

@@ -1,0 +1,11 @@
+mod FieldLemmas
+mod TextLemmas
+mod GoLemmas
+mod GoLaw
+mod AttemptLemmas
+mod PastLemmas
+mod SessionLemmas
+mod SessionLaw
+mod StopLemmas
+mod EndLemmas
+mod TalkLemmas

@@ -1,0 +1,193 @@
+-- what a session answers to a line, and what it is after it
+use Rattle.std.specs.Prelude.{ℕ, Bool, true, false, ◌≡◌, ◌+◌, ◌-◌, ◌<◌, min, nat_le, nat_lt, not, ◌==◌, if◌then◌else◌, List, [], ◌∷◌, ◌++◌, codes, filter, length, Option, Some, None}
+use Rattle.std.specs.List.{AllPairs}
+use Rattle.core_store.specs.Storage.{Storage}
+use Rattle.units.specs.Listing.{rendered}
+use Rattle.units.specs.declared.switches.Switches.{Switches}
+use Rattle.machine.specs.Run.{State, after, attempts, is_halted, lines_of}
+use Rattle.bench_runs.specs.Dumps.{machine_shown}
+use Rattle.console.specs.Goes.{watched_cell, went}
+use Rattle.console.specs.Sayings.{IsSaid, is_end}
+use Rattle.console.specs.Shown.{attempts_shown, cards_shown, fault_line, fault_words, field_line, help_text, last_shown, made_words, past_words, place_line, registers_shown, stopped_shown, stops_line, watched_line, why_line}
+use Rattle.console.specs.Sittings.{Sitting, machine_of, most_made, pressed}
+use Rattle.console.specs.declared.sayings.Deed.{Deed}
+use Rattle.console.specs.declared.sayings.Deed.TheVariants as deed
+use Rattle.console.specs.declared.sayings.Question.{Question}
+use Rattle.console.specs.declared.sayings.Question.TheVariants as question
+use Rattle.console.specs.declared.sayings.Saying.{Saying}
+use Rattle.console.specs.declared.sayings.Saying.TheVariants as say
+use Rattle.console.specs.declared.starts.Start.{Start}
+
+-- how many instructions a session attempts where so many are asked for
+abbrev pub limit_of : Sitting → ℕ → ℕ
+limit_of s count = min count (most_made - s.made)
+
+-- a session after so many attempts more
+abbrev pub advanced : Sitting → ℕ → Sitting
+advanced s count = record s { machine = after s.machine count; made = s.made + count }
+
+-- after a line `step`
+abbrev pub stepped : Sitting → ℕ → Sitting
+stepped s count = advanced s (attempts s.machine (limit_of s count))
+
+-- what a line `step` prints: the lines of the attempts, and where the machine stands if it stopped
+abbrev pub steps_shown : Sitting → ℕ → List ℕ
+steps_shown s count = attempts_shown s.names s.made s.machine (limit_of s count)
+    ++ stopped_shown (stepped s count).made (stepped s count).machine
+
+-- how many instructions a line `go` attempts
+abbrev pub going : Sitting → ℕ → ℕ
+going s count = went s.stops s.watched s.machine (limit_of s count)
+
+-- after a line `go`
+abbrev pub gone : Sitting → ℕ → Sitting
+gone s count = advanced s (going s count)
+
+-- the machine before the last of so many attempts
+abbrev pub before_last : State → ℕ → State
+before_last m count = after m (count - 1)
+
+-- what is printed where a session has made so many attempts more: the line of the last of them, and
+-- why the machine stands
+abbrev pub end_shown : Sitting → ℕ → List ℕ
+end_shown s count =
+    last_shown s.names s.made (before_last s.machine count) count
+    ++ why_line s.stops s.watched (s.made + count)
+    (watched_cell s.watched (before_last s.machine count).works.storage) (after s.machine count)
+
+-- stops with one more; they rise, without doubles
+abbrev pub with_stop : ℕ → List ℕ → List ℕ
+with_stop stop stops = (filter (λ other. nat_lt other stop) stops ++ stop ∷ [])
+    ++ filter (λ other. nat_lt stop other) stops
+
+-- stops without one
+abbrev pub without_stop : ℕ → List ℕ → List ℕ
+without_stop stop stops = filter (λ other. not (other == stop)) stops
+
+-- stops rise, without doubles
+abbrev pub Rising : List ℕ → Type 0
+Rising = AllPairs (λ stop other. stop < other)
+
+-- the starts of a past that is cut off after so many instructions
+abbrev pub starts_until : ℕ → List Start → List Start
+starts_until made starts = filter (λ start. nat_le start.made made) starts
+
+-- a session that has gone back to so many instructions
+abbrev pub set_back : Sitting → ℕ → Sitting
+set_back s made = record s {
+  machine = machine_of s.base (starts_until made s.starts) made;
+  made = made;
+  starts = starts_until made s.starts;
+}
+
+-- after a line `back`; one that would go back past the load button does nothing
+abbrev pub backed : Sitting → ℕ → Sitting
+backed s count = if nat_le count s.made then set_back s (s.made - count) else s
+
+-- what a line `back` prints
+abbrev pub back_shown : Sitting → List ℕ → ℕ → List ℕ
+back_shown s line count = if nat_le count s.made
+    then place_line (s.made - count) (backed s count).machine
+    else fault_line line (made_words s.made)
+
+-- a session whose machine was at a halt, and was started
+abbrev pub restarted : Sitting → Switches → Sitting
+restarted s switches = record s {
+  machine = pressed s.machine switches;
+  starts = s.starts ++ record { made = s.made; switches = switches } ∷ [];
+}
+
+-- after a line `start`
+abbrev pub started_with : Sitting → Switches → Sitting
+started_with s switches = if is_halted s.machine.standing then restarted s switches else s
+
+-- what a line `start` prints
+abbrev pub start_shown : Sitting → List ℕ → Switches → List ℕ
+start_shown s line switches = if is_halted s.machine.standing
+    then place_line s.made (pressed s.machine switches)
+    else fault_line line (codes "not at a halt; go runs up to one")
+
+-- whether a position is in the storage
+abbrev pub is_inside : Sitting → ℕ → Bool
+is_inside s position = nat_lt position (length s.machine.works.storage)
+
+-- what is printed of a position, if it is in the storage
+abbrev pub if_inside : Sitting → List ℕ → ℕ → List ℕ → List ℕ
+if_inside s line position shown = if is_inside s position then shown
+    else fault_line line (past_words s.machine.works.storage)
+
+-- after a line `stop`, `clear` and `watch`
+abbrev pub stopped_at : Sitting → ℕ → Sitting
+stopped_at s stop = if is_inside s stop then record s { stops = with_stop stop s.stops } else s
+
+abbrev pub cleared : Sitting → ℕ → Sitting
+cleared s stop = record s { stops = without_stop stop s.stops }
+
+abbrev pub watching : Sitting → ℕ → Sitting
+watching s position = if is_inside s position then record s { watched = Some position } else s
+
+abbrev pub unwatching : Sitting → Sitting
+unwatching s = record s { watched = None }
+
+-- a session after a deed
+abbrev pub done : Sitting → Deed → Sitting
+done s (deed.Step count) = stepped s count
+done s (deed.Go count) = gone s count
+done s (deed.Stop stop) = stopped_at s stop
+done s (deed.Clear stop) = cleared s stop
+done s (deed.Watch position) = watching s position
+done s deed.Unwatch = unwatching s
+done s (deed.Start switches) = started_with s switches
+done s (deed.Back count) = backed s count
+
+-- what is printed for a deed
+abbrev pub deed_shown : Sitting → List ℕ → Deed → List ℕ
+deed_shown s line (deed.Step count) = steps_shown s count
+deed_shown s line (deed.Go count) = end_shown s (going s count)
+deed_shown s line (deed.Stop stop) =
+    if_inside s line stop (stops_line (with_stop stop s.stops))
+deed_shown s line (deed.Clear stop) = stops_line (without_stop stop s.stops)
+deed_shown s line (deed.Watch position) =
+    if_inside s line position (watched_line (Some position))
+deed_shown s line deed.Unwatch = watched_line None
+deed_shown s line (deed.Start switches) = start_shown s line switches
+deed_shown s line (deed.Back count) = back_shown s line count
+
+-- what is printed of a machine with the rows from a position to another
+abbrev pub dump_shown : State → Option ℕ → Option ℕ → List ℕ
+dump_shown m first last =
+    machine_shown (record { after = None; stop = None; first = first; last = last }) m
+
+-- what is printed for a question
+abbrev pub question_shown : Sitting → List ℕ → Question → List ℕ
+question_shown s line question.Stops = stops_line s.stops
+question_shown s line (question.Dump first last) = dump_shown s.machine first last
+question_shown s line question.Registers = registers_shown s.machine
+question_shown s line (question.Field position) =
+    if_inside s line position (field_line s.machine.works.storage position)
+question_shown s line question.Cards = cards_shown s.machine.works.units.punch.cards
+question_shown s line question.Lines = rendered (lines_of s.machine)
+question_shown s line question.Help = help_text
+
+-- a session after a line that says this: only a deed changes it
+abbrev pub next : Sitting → Saying → Sitting
+next s (say.Do deed) = done s deed
+next s other = s
+
+-- what a session prints for a line that says this
+abbrev pub printed : Sitting → List ℕ → Saying → List ℕ
+printed s line say.Nothing = []
+printed s line say.Unknown = codes "no such line; help lists them\n"
+printed s line (say.Wrong wrong) = fault_line line (fault_words wrong)
+printed s line (say.Do deed) = deed_shown s line deed
+printed s line (say.Ask question) = question_shown s line question
+printed s line say.End = []
+
+-- a session answers a line: it prints this, is this one after it, and ends or not
+pub record Answers (s : Sitting) (line : List ℕ) (after : Sitting) (text : List ℕ) (ends : Bool)
+    : Type 0 where
+  pub saying : Saying
+  pub said : IsSaid s.names line saying
+  pub next_is : after ≡ next s saying
+  pub text_is : text ≡ printed s line saying
+  pub ends_is : ends ≡ is_end saying

@@ -1,0 +1,9 @@
+pub mod Words
+pub mod Verbs
+pub mod Readings
+pub mod Sayings
+pub mod Sittings
+pub mod Goes
+pub mod Shown
+pub mod Answers
+pub mod Talks

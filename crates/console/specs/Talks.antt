@@ -1,0 +1,69 @@
+-- a session over a reader and a writer
+use Rattle.std.specs.Prelude.{ℕ, ◌≡◌, ◌<◌, ◌≤◌, Bool, true, false, List, [], ◌∷◌, ◌++◌, length, take, Option, Some, IfSome}
+use Rattle.std.specs.Io.BufRead.{drop_through, take_through}
+use Rattle.std.specs.Io.KnownBytes.{Appends, IsAtEnd}
+use Rattle.console.specs.Answers.{Answers}
+use Rattle.console.specs.Sittings.{Sitting}
+use Rattle.console.specs.declared.talking.Ended.{Ended}
+use Rattle.console.specs.declared.talking.Ended.TheVariants as ended
+
+-- this is the next line of what a reader has left, and it is read: up to its line feed, or to the
+-- end
+abbrev pub IsRead : Option (List ℕ) → List ℕ → Option (List ℕ) → Type 0
+IsRead left line after = IfSome left (λ bytes.
+    (0 < length line) × (line ≡ take_through 10 bytes) × (after ≡ Some (drop_through 10 bytes)))
+
+-- from a session and a reader on these lines were read, each was answered before the next was, and
+-- none ended the session; it is now this one, the reader has this left, and this was printed
+pub data Talked (s : Sitting) (from : Option (List ℕ))
+    : List (List ℕ) → Sitting → Option (List ℕ) → List ℕ → Type 0 where
+  none : Talked s from [] s from []
+  more : (lines : List (List ℕ)) (now : Sitting) (left : Option (List ℕ)) (text : List ℕ)
+      (line : List ℕ) (after : Sitting) (rest : Option (List ℕ)) (told : List ℕ)
+      → Talked s from lines now left text → IsRead left line rest
+      → Answers now line after told false
+      → Talked s from (lines ++ line ∷ []) after rest (text ++ told)
+
+-- a further line was read and answered so
+pub record OneMore (now : Sitting) (left : Option (List ℕ)) (ends : Bool) (told : List ℕ)
+    : Type 0 where
+  pub line : List ℕ
+  pub after : Sitting
+  pub rest : Option (List ℕ)
+  pub read : IsRead left line rest
+  pub answered : Answers now line after told ends
+
+-- a writer took these bytes, or a beginning of them
+abbrev pub PutsSo : List ℕ → Option (List ℕ) → Option (List ℕ) → Bool → Type 0
+PutsSo bytes old new true = Appends old new bytes
+PutsSo bytes old new false = (count : ℕ) × (count ≤ length bytes) × Appends old new (take count bytes)
+
+-- what ends a session before a further line is read
+abbrev pub IsUnread : Ended → Type 0
+IsUnread ended.NoMemory = Unit {0}
+IsUnread ended.ReadFailed = Unit {0}
+IsUnread other = ⊥
+
+-- how a session ended that had come so far and had printed this, by what the writer had before and
+-- has now: at the end of what the reader had; by a line that ends it; for want of memory, or
+-- because the reader failed, before a further line was answered; or because the writer failed, and
+-- took a beginning of a further answer
+abbrev pub EndsSo : Ended → Sitting → Option (List ℕ) → List ℕ → Option (List ℕ)
+    → Option (List ℕ) → Type 0
+EndsSo ended.AtEnd now left text old new = IsAtEnd left × Appends old new text
+EndsSo ended.Asked now left text old new =
+    (told : List ℕ) × OneMore now left true told × Appends old new (text ++ told)
+EndsSo ended.NoMemory now left text old new = Appends old new text
+EndsSo ended.ReadFailed now left text old new = Appends old new text
+EndsSo ended.WriteFailed now left text old new =
+    (told : List ℕ) × (ends : Bool) × (count : ℕ) × OneMore now left ends told
+    × (count ≤ length told) × Appends old new (text ++ take count told)
+
+-- a session was talked with, over a reader that had this and a writer that had and has this
+pub record IsTalk (s : Sitting) (from old new : Option (List ℕ)) (it : Ended) : Type 0 where
+  pub lines : List (List ℕ)
+  pub now : Sitting
+  pub left : Option (List ℕ)
+  pub text : List ℕ
+  pub talked : Talked s from lines now left text
+  pub ends : EndsSo it now left text old new

@@ -1,0 +1,134 @@
+//! What is heard of a line.
+
+ghost use Rattle.std.specs.Prelude.{◌≡◌, ◌<◌, ℕ, MatchOption, option_copied, IfOk};
+ghost use Rattle.core_store.specs.Storage.{largest_size};
+ghost use Rattle.console.specs.Sayings.{address_of};
+ghost use Rattle.console.specs.Readings.{IsCountOf, IsHeardOf, IsPositionOf, IsReadingOf, SaysAddress};
+
+use crate::verbs::Verb;
+use crate::words::{Words, text_of};
+use bench_runs::Names;
+use core_store::LARGEST_SIZE;
+use std::alloc::{AllocError, Global};
+use texts::{number_of, switches_of};
+use units::Switches;
+
+/// The greatest count of instructions that a line asks for.
+pub(crate) const MOST_ASKED: u32 = 1_000_000;
+
+/// What a word may be, each where it is that.
+#[derive(Clone, Copy)]
+pub(crate) struct Reading {
+    /// Whether there is such a word.
+    pub(crate) given: bool,
+    /// A count of instructions.
+    pub(crate) count: Option<u32>,
+    /// A position.
+    pub(crate) position: Option<u16>,
+    /// The address of a name.
+    pub(crate) named: Option<u16>,
+    /// Sense switches.
+    pub(crate) switches: Option<Switches>,
+}
+
+/// What is heard of a line.
+#[derive(Clone, Copy)]
+pub(crate) struct Heard {
+    /// Whether it has a word.
+    pub(crate) some: bool,
+    /// What its first word is.
+    pub(crate) verb: Option<Verb>,
+    /// What its second word may be.
+    pub(crate) first: Reading,
+    /// What its third word may be.
+    pub(crate) second: Reading,
+    /// Whether it has a fourth word.
+    pub(crate) long: bool,
+}
+
+/// The count that a text is.
+fn count_of(text: &str) -> Option<u32>
+    ensures { MatchOption result ((count : ℕ) → ¬ IsCountOf text.now count) (IsCountOf text.now) }
+{
+    let Some(number) = number_of(text) else {
+        return None;
+    };
+    if number > MOST_ASKED {
+        return None;
+    }
+    Some(number)
+}
+
+/// The position that a text is.
+fn position_of(text: &str) -> Option<u16>
+    ensures { MatchOption result ((position : ℕ) → ¬ IsPositionOf text.now position)
+        (IsPositionOf text.now) }
+{
+    if text == "0" {
+        return Some(0);
+    }
+    let Some(number) = number_of(text) else {
+        return None;
+    };
+    if number >= u32::from(LARGEST_SIZE) {
+        return None;
+    }
+    Some(number as u16)
+}
+
+/// The address that a text says by the names of the source.
+fn address_said(alloc: Global, names: Option<&Names>, text: &str) -> Result<Option<u16>, AllocError>
+    ensures { IfOk result (λ found. MatchOption found
+        ((address : ℕ) → ¬ SaysAddress (option_copied names.entry) text.now address)
+        (SaysAddress (option_copied names.entry) text.now)) }
+{
+    match names {
+        None => Ok(None),
+        Some(names) => names.position_said(alloc, text),
+    }
+}
+
+impl Reading {
+    /// What a word may be.
+    fn of(alloc: Global, names: Option<&Names>, word: &[u8]) -> Result<Reading, AllocError>
+        ensures { IfOk result (IsReadingOf (option_copied names.entry) word.now) }
+    {
+        let text = text_of(word);
+        let named = address_said(alloc, names, text)?;
+        Ok(Reading {
+            given: !word.is_empty(),
+            count: count_of(text),
+            position: position_of(text),
+            named,
+            switches: switches_of(text),
+        })
+    }
+
+    /// The address that a word is.
+    pub(crate) fn address(&self) -> Option<u16>
+        ensures { result ≡ address_of self.now }
+    {
+        match self.position {
+            None => self.named,
+            Some(position) => Some(position),
+        }
+    }
+}
+
+impl Heard {
+    /// What is heard of the words of a line.
+    pub(crate) fn of(alloc: Global, names: Option<&Names>, line: &[u8]) -> Result<Heard, AllocError>
+        ensures { IfOk result (IsHeardOf (option_copied names.entry) line.now) }
+    {
+        let words = Words::of(line);
+        let first = Reading::of(alloc, names, words.second)?;
+        let second = Reading::of(alloc, names, words.third)?;
+        Ok(Heard {
+            some: !words.first.is_empty(),
+            verb: Verb::of(words.first),
+            first,
+            second,
+            long: words.has_more,
+        })
+    }
+}

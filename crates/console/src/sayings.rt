@@ -1,0 +1,297 @@
+//! What lines say.
+
+ghost use Rattle.std.specs.Prelude.{◌≡◌, option_copied, IfOk};
+ghost use Rattle.console.specs.Readings.{most_asked};
+ghost use Rattle.console.specs.Sayings.{IsSaid, address_in, alone, count_in, dump_said, is_end, rows_said, said, said_with, switches_in, watch_said, with};
+
+use crate::readings::{Heard, MOST_ASKED};
+use crate::verbs::Verb;
+use bench_runs::Names;
+use std::alloc::{AllocError, Global};
+use units::Switches;
+
+/// What a line lacks whose value is none.
+#[derive(Clone, Copy)]
+pub(crate) enum Fault {
+    /// A count of instructions.
+    Count,
+    /// An address.
+    Address,
+    /// Sense switches.
+    Switching,
+}
+
+/// What a line does.
+#[derive(Clone, Copy)]
+pub(crate) enum Deed {
+    /// So many instructions, each with its line.
+    Step(u32),
+    /// So many instructions at most, up to a stop.
+    Go(u32),
+    /// Sets a stop.
+    Stop(u16),
+    /// Clears a stop.
+    Clear(u16),
+    /// Watches a position.
+    Watch(u16),
+    /// Watches none.
+    Unwatch,
+    /// Presses the start button, with these switches.
+    Start(Switches),
+    /// Goes so many instructions back.
+    Back(u32),
+}
+
+/// What a line asks for.
+#[derive(Clone, Copy)]
+pub(crate) enum Question {
+    /// The stops.
+    Stops,
+    /// The machine, with the rows from a position to another.
+    Dump(Option<u16>, Option<u16>),
+    /// The registers and the units.
+    Registers,
+    /// The field that ends at a position.
+    Field(u16),
+    /// The punched cards.
+    Cards,
+    /// The printed lines.
+    Lines,
+    /// The lines that there are.
+    Help,
+}
+
+/// What a line says.
+#[derive(Clone, Copy)]
+pub(crate) enum Saying {
+    /// It has no word.
+    Nothing,
+    /// It is no line of a session.
+    Unknown,
+    /// A value is none.
+    Wrong(Fault),
+    /// It does this.
+    Do(Deed),
+    /// It asks for this.
+    Ask(Question),
+    /// It ends the session.
+    End,
+}
+
+/// The count of a line, or this one where it has none.
+fn count_in(heard: &Heard, other: u32) -> Result<u32, Saying>
+    ensures { result ≡ count_in heard.now other }
+{
+    if heard.second.given {
+        return Err(Saying::Unknown);
+    }
+    if !heard.first.given {
+        return Ok(other);
+    }
+    match heard.first.count {
+        None => Err(Saying::Wrong(Fault::Count)),
+        Some(count) => Ok(count),
+    }
+}
+
+/// The address of a line.
+fn address_in(heard: &Heard) -> Result<u16, Saying>
+    ensures { result ≡ address_in heard.now }
+{
+    if heard.second.given {
+        return Err(Saying::Unknown);
+    }
+    match heard.first.address() {
+        None => Err(Saying::Wrong(Fault::Address)),
+        Some(address) => Ok(address),
+    }
+}
+
+/// The switches of a line.
+fn switches_in(heard: &Heard) -> Result<Switches, Saying>
+    ensures { result ≡ switches_in heard.now }
+{
+    if heard.second.given {
+        return Err(Saying::Unknown);
+    }
+    match heard.first.switches {
+        None => Err(Saying::Wrong(Fault::Switching)),
+        Some(switches) => Ok(switches),
+    }
+}
+
+/// What a line says that has its verb alone.
+fn alone(heard: &Heard, saying: Saying) -> Saying
+    ensures { result ≡ alone heard.now saying }
+{
+    if heard.first.given {
+        Saying::Unknown
+    } else {
+        saying
+    }
+}
+
+/// What a line `watch` says.
+fn watch_said(heard: &Heard) -> Saying
+    ensures { result ≡ watch_said heard.now }
+{
+    if !heard.first.given {
+        return Saying::Do(Deed::Unwatch);
+    }
+    match address_in(heard) {
+        Ok(position) => Saying::Do(Deed::Watch(position)),
+        Err(other) => other,
+    }
+}
+
+/// What a line `dump` says with two addresses.
+fn rows_said(first: Option<u16>, last: Option<u16>) -> Saying
+    ensures { result ≡ rows_said first last }
+{
+    match (first, last) {
+        (Some(first), Some(last)) => Saying::Ask(Question::Dump(Some(first), Some(last))),
+        _ => Saying::Wrong(Fault::Address),
+    }
+}
+
+/// What a line `dump` says.
+fn dump_said(heard: &Heard) -> Saying
+    ensures { result ≡ dump_said heard.now }
+{
+    if heard.second.given {
+        return rows_said(heard.first.address(), heard.second.address());
+    }
+    if heard.first.given {
+        return Saying::Wrong(Fault::Address);
+    }
+    Saying::Ask(Question::Dump(None, None))
+}
+
+/// What a line `step` says.
+fn step_said(heard: &Heard) -> Saying
+    ensures { result ≡ with (λ value. Saying.Do (Deed.Step value)) (count_in heard.now 1) }
+{
+    match count_in(heard, 1) {
+        Ok(value) => Saying::Do(Deed::Step(value)),
+        Err(other) => other,
+    }
+}
+
+/// What a line `go` says.
+fn go_said(heard: &Heard) -> Saying
+    ensures { result ≡ with (λ value. Saying.Do (Deed.Go value)) (count_in heard.now most_asked) }
+{
+    match count_in(heard, MOST_ASKED) {
+        Ok(value) => Saying::Do(Deed::Go(value)),
+        Err(other) => other,
+    }
+}
+
+/// What a line `back` says.
+fn back_said(heard: &Heard) -> Saying
+    ensures { result ≡ with (λ value. Saying.Do (Deed.Back value)) (count_in heard.now 1) }
+{
+    match count_in(heard, 1) {
+        Ok(value) => Saying::Do(Deed::Back(value)),
+        Err(other) => other,
+    }
+}
+
+/// What a line `stop` says.
+fn stop_said(heard: &Heard) -> Saying
+    ensures { result ≡ with (λ value. Saying.Do (Deed.Stop value)) (address_in heard.now) }
+{
+    match address_in(heard) {
+        Ok(value) => Saying::Do(Deed::Stop(value)),
+        Err(other) => other,
+    }
+}
+
+/// What a line `clear` says.
+fn clear_said(heard: &Heard) -> Saying
+    ensures { result ≡ with (λ value. Saying.Do (Deed.Clear value)) (address_in heard.now) }
+{
+    match address_in(heard) {
+        Ok(value) => Saying::Do(Deed::Clear(value)),
+        Err(other) => other,
+    }
+}
+
+/// What a line `field` says.
+fn field_said(heard: &Heard) -> Saying
+    ensures { result ≡ with (λ value. Saying.Ask (Question.Field value)) (address_in heard.now) }
+{
+    match address_in(heard) {
+        Ok(value) => Saying::Ask(Question::Field(value)),
+        Err(other) => other,
+    }
+}
+
+/// What a line `start` says.
+fn start_said(heard: &Heard) -> Saying
+    ensures { result ≡ with (λ value. Saying.Do (Deed.Start value)) (switches_in heard.now) }
+{
+    match switches_in(heard) {
+        Ok(value) => Saying::Do(Deed::Start(value)),
+        Err(other) => other,
+    }
+}
+
+/// What a line says with this verb.
+fn said_with(verb: Verb, heard: &Heard) -> Saying
+    ensures { result ≡ said_with verb heard.now }
+{
+    match verb {
+        Verb::Step => step_said(heard),
+        Verb::Go => go_said(heard),
+        Verb::Stop => stop_said(heard),
+        Verb::Stops => alone(heard, Saying::Ask(Question::Stops)),
+        Verb::Clear => clear_said(heard),
+        Verb::Watch => watch_said(heard),
+        Verb::Dump => dump_said(heard),
+        Verb::Registers => alone(heard, Saying::Ask(Question::Registers)),
+        Verb::Field => field_said(heard),
+        Verb::Cards => alone(heard, Saying::Ask(Question::Cards)),
+        Verb::Lines => alone(heard, Saying::Ask(Question::Lines)),
+        Verb::Start => start_said(heard),
+        Verb::Back => back_said(heard),
+        Verb::Help => alone(heard, Saying::Ask(Question::Help)),
+        Verb::End => alone(heard, Saying::End),
+    }
+}
+
+/// What is said by what was heard.
+#[tactic(auto, unfolding(crate::specs::Sayings::said))]
+fn said(heard: &Heard) -> Saying
+    ensures { result ≡ said heard.now }
+{
+    if !heard.some {
+        return Saying::Nothing;
+    }
+    match heard.verb {
+        None => Saying::Unknown,
+        Some(_) if heard.long => Saying::Unknown,
+        Some(verb) => said_with(verb, heard),
+    }
+}
+
+impl Saying {
+    /// What a line says.
+    pub(crate) fn of(
+        alloc: Global,
+        names: Option<&Names>,
+        line: &[u8],
+    ) -> Result<Saying, AllocError>
+        ensures { IfOk result (IsSaid (option_copied names.entry) line.now) }
+    {
+        let heard = Heard::of(alloc, names, line)?;
+        Ok(said(&heard))
+    }
+
+    /// Whether it ends a session.
+    pub(crate) fn is_end(self) -> bool
+        ensures { result ≡ is_end self }
+    {
+        matches!(self, Saying::End)
+    }
+}
