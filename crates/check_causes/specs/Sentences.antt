@@ -177,7 +177,8 @@ ReadsDigit (OnFields ZeroAdd) s a b p = IsCutTo s a b p
 ReadsDigit (OnFields ZeroSubtract) s a b p = IsCutTo s a b p
 ReadsDigit _ s a b p = ⊥
 
--- p is among the positions that are edited: as many as the field at b has digit places, at least one
+-- p is among the positions that are edited: as many as the field at b has digit places, at least
+-- one
 abbrev pub IsEdited : Storage → ℕ → ℕ → ℕ → Type 0
 IsEdited s a b p = (count : ℕ) × IsField s b count × IsInField s a p
     × (a < p + max 1 (places (codes_ending s b count)))
