@@ -141,6 +141,24 @@ pub uncut : (s : Storage) (p limit : ℕ) → cut_length s p limit ≡ None → 
 unfolding cut_length
 uncut s p limit h = no_mark s p (none_cut s p limit (field_length s p) refl h)
 
+few_by : (limit : ℕ) (found : Option ℕ) (b : Bool) → (if is_within found limit then found else (if b then Some limit else None)) ≡ None → b ≡ false
+few_by limit None true h = absurd (cc)
+few_by limit None false h = refl
+few_by limit (Some long) true h = go (leb long limit) h
+  where
+    go : (c : Bool) → (if c then Some long else Some limit) ≡ None → true ≡ false
+    go true h = absurd (cc)
+    go false h = absurd (cc)
+few_by limit (Some long) false h = refl
+
+-- nothing can be cut only where there are too few positions
+pub cut_few : (s : Storage) (p limit : ℕ) → cut_length s p limit ≡ None → p + 1 < limit
+unfolding cut_length
+cut_few s p limit h = over (few_by limit (field_length s p) (leb limit (p + 1)) h)
+  where
+    over : leb limit (p + 1) ≡ false → p + 1 < limit
+    over f = elim (dec_lt (p + 1) limit) [ yes lt ↦ lt | no ge ↦ absurd (let e : leb limit (p + 1) ≡ true = le-leb limit (p + 1) (omega arith) in let clash : true ≡ false = sym e ∙ f in cc) ]
+
 -- the lengths that were told of two fields
 pub record IsCounted (s : Storage) (a b : ℕ) (counts : Counts) : Type 0 where
   pub a_in : a < length s

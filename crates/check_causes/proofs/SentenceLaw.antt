@@ -51,7 +51,7 @@ use Rattle.check_causes.specs.Tested.{passed, needs, finds, after}
 use Rattle.check_causes.specs.Fields.{place_told, places_told, room_told, three_told, length_told, cut_told, counts_told, counts_apart_told, apart_told, digits_told, sum_told, copy_told, comparison_told, number_told, modification_told, move_length_told, move_told, mark_told, load_told, suppression_told, places_wanted, edit_told, work_told}
 use Rattle.check_causes.specs.Devices.{card_told, punch_told, line_told, devices_told, order_told, carriage_told, pocket_told}
 use Rattle.check_causes.specs.Causes.{operation_told, instruction_told, attempt_told, cause}
-use Rattle.check_causes.specs.Sentences.{StandsNext, HasAddressAt, HasAddress, Names, IsNext, HasNoMark, IsField, IsInField, IsCutTo, EndsAtMark, Wants, ReadsDigit, Shares, IsSo}
+use Rattle.check_causes.specs.Sentences.{StandsNext, LacksOneOfTwo, LacksMark, HasAddressAt, HasAddress, Names, IsNext, HasNoMark, IsField, IsInField, IsCutTo, EndsAtMark, Wants, ReadsDigit, Shares, IsSo}
 use Rattle.check_causes.proofs.FieldFacts.{IsCut, IsCounted, counted, whole, no_mark, is_cut, place_in, places_in, needs_ok, after_ok, given_ok, found_ok}
 use Rattle.check_causes.proofs.SoLemmas.{So, so_needs, so_finds, so_given, so_after, so_if, so_told, not_below, not_most, not_false, place_so, places_so, three_so, length_so, cut_so, counts_so, room_so, apart_so, digits_so, no_base, no_number, number_so}
 
@@ -94,10 +94,20 @@ least_none (Some m) (Some n) h = absurd (cc)
 least_none (Some m) None h = absurd (cc)
 least_none None y h = refl
 
+most_none : (x y : Option ℕ) → least_of x y ≡ None → y ≡ None
+most_none (Some m) (Some n) h = absurd (cc)
+most_none (Some m) None h = refl
+most_none None y h = h
+
 -- a move without a length has no mark
 unmoved : (s : Storage) (a b : ℕ) → move_length s a b ≡ None → HasNoMark s a
 unfolding move_length
 unmoved s a b h = no_mark s a (least_none (field_length s a) (field_length s b) h)
+
+-- and none in the other field either
+unmoved_either : (s : Storage) (a b : ℕ) → move_length s a b ≡ None → HasNoMark s b
+unfolding move_length
+unmoved_either s a b h = no_mark s b (most_none (field_length s a) (field_length s b) h)
 
 moved_by_both : (s : Storage) (a b m k count : ℕ) → IsField s a m → IsField s b k → min m k ≡ count → EndsAtMark s a b count
 moved_by_both s a b m k count one other e = elim (dec_lt k m) [
@@ -160,19 +170,20 @@ module _ (w : Works) (m : Modifier) (n a b : ℕ) where
     b_past : length s ≤ b → P (FieldPast b)
     b_past le = (meant_as (OnFields f), next, (inr refl, le))
 
-    a_none : a < length s → HasNoMark s a → P (NoFieldMark a)
-    a_none inside none = (meant_as (OnFields f), next, (inl refl, inside, none))
+    a_none : LacksMark (OnFields f) s a b a → a < length s → HasNoMark s a → P (NoFieldMark a)
+    a_none lacks inside none = (meant_as (OnFields f), next, (lacks, inside, none))
 
-    b_none : b < length s → HasNoMark s b → P (NoFieldMark b)
-    b_none inside none = (meant_as (OnFields f), next, (inr refl, inside, none))
+    b_none : LacksMark (OnFields f) s a b b → b < length s → HasNoMark s b → P (NoFieldMark b)
+    b_none lacks inside none = (meant_as (OnFields f), next, (lacks, inside, none))
 
-    fields_so : So P (counts_told s a b)
-    fields_so = counts_so P s a b a_past b_past a_none b_none
+    fields_so : ((p : ℕ) → LacksOneOfTwo s a b p → LacksMark (OnFields f) s a b p) → So P (counts_told s a b)
+    fields_so lacks =
+        counts_so P s a b a_past b_past (λ count inside field few none. a_none (lacks a (inr (refl, (count, field, few)))) inside none) (λ inside none. b_none (lacks b (inl refl)) inside none)
 
-    apart_told_so : ((p : ℕ) → IsCutTo s a b p → IsInField s b p → Shares (OnFields f) s a b p) → So P (counts_apart_told s a b)
+    apart_told_so : ((p : ℕ) → LacksOneOfTwo s a b p → LacksMark (OnFields f) s a b p) → ((p : ℕ) → IsCutTo s a b p → IsInField s b p → Shares (OnFields f) s a b p) → So P (counts_apart_told s a b)
     unfolding counts_apart_told
-    apart_told_so share =
-        so_given P (counts_told s a b) _ fields_so (λ counts e.
+    apart_told_so lacks share =
+        so_given P (counts_told s a b) _ (fields_so lacks) (λ counts e.
         so_after P (apart_told (is_overlapping a b counts.a)) (Ok counts) (apart_so P (is_overlapping a b counts.a) (λ over.
         let known = counted s a b counts e in
         let parts = overlap_parts a b counts.a over in
@@ -188,27 +199,27 @@ module _ (w : Works) (m : Modifier) (n a b : ℕ) where
     digit_so : (p : ℕ) → ReadsDigit (OnFields f) s a b p → digit_of (code_at s p) ≡ None → P (NoDigit (glyph_of (code_at s p)) p)
     digit_so p reads none = (meant_as (OnFields f), next, (reads, refl, none))
 
-    sum_so : ((p : ℕ) → IsCutTo s a b p → IsInField s b p → Shares (OnFields f) s a b p) → ((p : ℕ) → IsCutTo s a b p → ReadsDigit (OnFields f) s a b p) → ((p : ℕ) → IsInField s b p → ReadsDigit (OnFields f) s a b p) →
+    sum_so : ((p : ℕ) → LacksOneOfTwo s a b p → LacksMark (OnFields f) s a b p) → ((p : ℕ) → IsCutTo s a b p → IsInField s b p → Shares (OnFields f) s a b p) → ((p : ℕ) → IsCutTo s a b p → ReadsDigit (OnFields f) s a b p) → ((p : ℕ) → IsInField s b p → ReadsDigit (OnFields f) s a b p) →
         So P (sum_told s a b)
     unfolding sum_told
-    sum_so share of_a of_b =
-        so_given P (counts_apart_told s a b) _ (apart_told_so share) (λ counts e.
+    sum_so lacks share of_a of_b =
+        so_given P (counts_apart_told s a b) _ (apart_told_so lacks share) (λ counts e.
         let known = apart_counted counts e in
         so_after P (digits_told s a counts.a) (digits_told s b counts.b)
         (digits_so P s a counts.a known.cut.up_to.room (λ q found. digit_so q (of_a q (cut_to s a b counts known q found.upto found.among)) found.none))
         (λ numbers.
         digits_so P s b counts.b known.field.room (λ q found. digit_so q (of_b q (in_field s b counts.b q found.upto found.among known.field.unmarked)) found.none)))
 
-    copy_so : ((p : ℕ) → IsCutTo s a b p → IsInField s b p → Shares (OnFields f) s a b p) → ((p : ℕ) → IsCutTo s a b p → ReadsDigit (OnFields f) s a b p) → So P (copy_told s a b)
+    copy_so : ((p : ℕ) → LacksOneOfTwo s a b p → LacksMark (OnFields f) s a b p) → ((p : ℕ) → IsCutTo s a b p → IsInField s b p → Shares (OnFields f) s a b p) → ((p : ℕ) → IsCutTo s a b p → ReadsDigit (OnFields f) s a b p) → So P (copy_told s a b)
     unfolding copy_told
-    copy_so share of_a =
-        so_given P (counts_apart_told s a b) _ (apart_told_so share) (λ counts e.
+    copy_so lacks share of_a =
+        so_given P (counts_apart_told s a b) _ (apart_told_so lacks share) (λ counts e.
         let known = apart_counted counts e in
         digits_so P s a counts.a known.cut.up_to.room (λ q found. digit_so q (of_a q (cut_to s a b counts known q found.upto found.among)) found.none))
 
-    comparison_so : So P (comparison_told s a b)
+    comparison_so : ((p : ℕ) → LacksOneOfTwo s a b p → LacksMark (OnFields f) s a b p) → So P (comparison_told s a b)
     unfolding comparison_told
-    comparison_so = so_given P (counts_told s a b) _ fields_so (λ counts e. tt)
+    comparison_so lacks = so_given P (counts_told s a b) _ (fields_so lacks) (λ counts e. tt)
 
     both_so : So P (places_told s a b)
     both_so = places_so P s a b a_past b_past
@@ -243,7 +254,7 @@ module _ (w : Works) (m : Modifier) (n a b : ℕ) where
       so_after P (places_told s a b) _ (both_so Move next) (λ inside.
       let both = places_in s a b inside in
       so_given P (move_length_told s a b) _
-      (so_finds P (move_length s a b) (NoFieldMark a) (λ count. Ok count) (λ e. a_none Move next both.0 (unmoved s a b e)) (λ count e. tt)) (λ count e.
+      (so_finds P (move_length s a b) (NoFieldMark a) (λ count. Ok count) (λ e. a_none Move next (refl, unmoved_either s a b e) both.0 (unmoved s a b e)) (λ count e. tt)) (λ count e.
       let wants = moved_to s a b count (found_ok (move_length s a b) (NoFieldMark a) count e) in
       so_after P (room_told count a) (room_told count b) (room_so P count a (few_of_a Move next count wants both.0)) (λ room.
       room_so P count b (few_of_b Move next count wants both.1))))
@@ -253,7 +264,7 @@ module _ (w : Works) (m : Modifier) (n a b : ℕ) where
   load_so next =
       so_after P (places_told s a b) _ (both_so Load next) (λ inside.
       let both = places_in s a b inside in
-      so_given P (length_told s a) _ (length_so P s a (a_none Load next both.0)) (λ count e.
+      so_given P (length_told s a) _ (length_so P s a (a_none Load next refl both.0)) (λ count e.
       let field = whole s a count (found_ok (field_length s a) (NoFieldMark a) count e) in
       so_after P (room_told count b) _ (room_so P count b (few_of_b Load next count field both.1)) (λ room.
       so_needs P (not (is_overlapping a b count)) (MarkWrittenOver (a + 1 - count)) passed
@@ -268,7 +279,7 @@ module _ (w : Works) (m : Modifier) (n a b : ℕ) where
   suppression_so next =
       so_after P (places_told s a b) _ (both_so Suppress next) (λ inside.
       let both = places_in s a b inside in
-      so_given P (length_told s a) _ (length_so P s a (a_none Suppress next both.0)) (λ count e.
+      so_given P (length_told s a) _ (length_so P s a (a_none Suppress next refl both.0)) (λ count e.
       let field = whole s a count (found_ok (field_length s a) (NoFieldMark a) count e) in
       so_after P (room_told count b) _ (room_so P count b (few_of_b Suppress next count field both.1)) (λ room.
       apart_so P (is_overlapping a b count) (λ over.
@@ -281,20 +292,20 @@ module _ (w : Works) (m : Modifier) (n a b : ℕ) where
   edit_so next =
       so_after P (places_told s a b) _ (both_so Edit next) (λ inside.
       let both = places_in s a b inside in
-      so_given P (length_told s b) _ (length_so P s b (b_none Edit next both.1)) (λ b_count e.
+      so_given P (length_told s b) _ (length_so P s b (b_none Edit next (inl refl) both.1)) (λ b_count e.
       let field = whole s b b_count (found_ok (field_length s b) (NoFieldMark b) b_count e) in
-      so_given P (cut_told s a (places_wanted s b b_count)) _ (cut_so P s a (places_wanted s b b_count) (a_none Edit next both.0)) (λ a_count f.
+      so_given P (cut_told s a (places_wanted s b b_count)) _ (cut_so P s a (places_wanted s b b_count) (λ few none. a_none Edit next (inr (refl, (b_count, field, few))) both.0 none)) (λ a_count f.
       let cut = is_cut s a (places_wanted s b b_count) a_count (one_wanted s b b_count) (found_ok (cut_length s a (places_wanted s b b_count)) (NoFieldMark a) a_count f) in
       apart_so P (is_sharing a a_count b b_count) (λ over.
       (meant_as (OnFields Edit), next, edit_shares s a b b_count a_count field cut (sharing_parts a a_count b b_count over))))))
 
   work_so : (f : FieldOperation) → IsNext w (meant_as (OnFields f)) → So P (work_told f s a b)
   unfolding work_told
-  work_so Add next = sum_so Add next (λ p x y. (x, y)) (λ p x. inl x) (λ p x. inr x)
-  work_so Subtract next = sum_so Subtract next (λ p x y. (x, y)) (λ p x. inl x) (λ p x. inr x)
-  work_so ZeroAdd next = copy_so ZeroAdd next (λ p x y. (x, y)) (λ p x. x)
-  work_so ZeroSubtract next = copy_so ZeroSubtract next (λ p x y. (x, y)) (λ p x. x)
-  work_so Compare next = comparison_so Compare next
+  work_so Add next = sum_so Add next (λ p x. x) (λ p x y. (x, y)) (λ p x. inl x) (λ p x. inr x)
+  work_so Subtract next = sum_so Subtract next (λ p x. x) (λ p x y. (x, y)) (λ p x. inl x) (λ p x. inr x)
+  work_so ZeroAdd next = copy_so ZeroAdd next (λ p x. x) (λ p x y. (x, y)) (λ p x. x)
+  work_so ZeroSubtract next = copy_so ZeroSubtract next (λ p x. x) (λ p x y. (x, y)) (λ p x. x)
+  work_so Compare next = comparison_so Compare next (λ p x. x)
   work_so ModifyAddress next = modification_so next
   work_so Move next = move_so next
   work_so Load next = load_so next

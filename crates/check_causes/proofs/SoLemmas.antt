@@ -12,8 +12,8 @@ use Rattle.check_causes.specs.declared.causes.Cause.{Cause}
 use Rattle.check_causes.specs.declared.causes.Cause.TheVariants.{FieldPast, NoFieldMark, TooFew, NoDigit, NoNumber, Overlap}
 use Rattle.check_causes.specs.Tested.{Tested, passed, needs, finds, given, after, told}
 use Rattle.check_causes.specs.Fields.{place_told, places_told, room_told, three_told, length_told, cut_told, counts_told, apart_told, digit_told, digits_told, first_without_digit, number_told}
-use Rattle.check_causes.specs.Sentences.{HasNoMark, OneHasNoDigit}
-use Rattle.check_causes.proofs.FieldFacts.{place_in, places_in, no_mark, uncut}
+use Rattle.check_causes.specs.Sentences.{HasNoMark, IsField, OneHasNoDigit}
+use Rattle.check_causes.proofs.FieldFacts.{place_in, places_in, no_mark, uncut, cut_few, whole, found_ok}
 
 -- it holds of the cause that is told, if one is
 abbrev pub So : {T : Type 0} → (Cause → Type 0) → Result T Cause → Type 0
@@ -81,17 +81,18 @@ module _ (P : Cause → Type 0) (s : Storage) where
   unfolding length_told
   length_so p none = so_finds P (field_length s p) (NoFieldMark p) (λ count. Ok count) (λ e. none (no_mark s p e)) (λ count e. tt)
 
-  pub cut_so : (p limit : ℕ) → (HasNoMark s p → P (NoFieldMark p)) → So P (cut_told s p limit)
+  pub cut_so : (p limit : ℕ) → (p + 1 < limit → HasNoMark s p → P (NoFieldMark p)) → So P (cut_told s p limit)
   unfolding cut_told
-  cut_so p limit none = so_finds P (cut_length s p limit) (NoFieldMark p) (λ count. Ok count) (λ e. none (uncut s p limit e)) (λ count e. tt)
+  cut_so p limit none = so_finds P (cut_length s p limit) (NoFieldMark p) (λ count. Ok count) (λ e. none (cut_few s p limit e) (uncut s p limit e)) (λ count e. tt)
 
-  pub counts_so : (a b : ℕ) → (length s ≤ a → P (FieldPast a)) → (length s ≤ b → P (FieldPast b)) → (a < length s → HasNoMark s a → P (NoFieldMark a)) → (b < length s → HasNoMark s b → P (NoFieldMark b)) →
-      So P (counts_told s a b)
-  unfolding counts_told
+  pub counts_so : (a b : ℕ) → (length s ≤ a → P (FieldPast a)) → (length s ≤ b → P (FieldPast b)) → ((count : ℕ) → a < length s → IsField s b count → a + 1 < count → HasNoMark s a → P (NoFieldMark a)) →
+      (b < length s → HasNoMark s b → P (NoFieldMark b)) → So P (counts_told s a b)
+  unfolding counts_told length_told
   counts_so a b a_past b_past a_none b_none =
       so_after P (places_told s a b) _ (places_so a b a_past b_past) (λ inside.
       so_given P (length_told s b) _ (length_so b (b_none (places_in s a b inside).1)) (λ b_count e.
-      so_given P (cut_told s a b_count) _ (cut_so a b_count (a_none (places_in s a b inside).0)) (λ a_count f. tt)))
+      let field = whole s b b_count (found_ok (field_length s b) (NoFieldMark b) b_count e) in
+      so_given P (cut_told s a b_count) _ (cut_so a b_count (λ few none. a_none b_count (places_in s a b inside).0 field few none)) (λ a_count f. tt)))
 
 pub room_so : (P : Cause → Type 0) (count p : ℕ) → (p + 1 < count → P (TooFew p)) → So P (room_told count p)
 unfolding room_told

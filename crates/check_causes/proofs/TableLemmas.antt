@@ -1,10 +1,8 @@
 -- each row of the table of operations is found by its character, and each of its forms by its length
-use Rattle.std.proofs.Common.{◌≡◌, ℕ, zero, suc, ◌+◌, ◌-◌, ◌<◌, ◌≤◌, ◌==◌, ◌&&◌, not, Bool, true, false, List, [], ◌∷◌, Option, Some, None, refl, sym, subst, ap, ◌∙◌, arith, length, get_or, if◌then◌else◌}
-use Rattle.std.specs.List.{Contains}
+use Rattle.std.proofs.Common.{◌≡◌, ℕ, zero, suc, ◌-◌, ◌<◌, ◌==◌, ◌&&◌, not, Bool, true, false, List, [], ◌∷◌, Some, None, refl, sym, ap, ◌∙◌, arith, length, get_or}
 use Rattle.std.specs.Option.{option_and_then}
 use Rattle.std.proofs.lemmas.Bool.{eqb-true, eq-eqb}
 use Rattle.bcd.specs.Table.{glyph_of, byte}
-use Rattle.machine.specs.declared.named.Modifier.{Modifier}
 use Rattle.machine.specs.Glyphs.{is_glyph}
 use Rattle.machine.specs.Operations.{Row, Form, operations, row_among, row_of, form_among, meant, modifier_at}
 use Rattle.check_causes.specs.Sentences.{HasNoForm}

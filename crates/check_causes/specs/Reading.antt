@@ -44,8 +44,8 @@ unfoldable pub operand_told_at : Storage → List ℕ → ℕ → Result ℕ Cau
 operand_told_at s codes place = operand_told s (slice_index codes place)
     (slice_index codes (place + 1)) (slice_index codes (place + 2))
 
--- the addresses that an instruction works at, or why one of them cannot be read: the registers A and
--- B if the instruction has none, a single one for both, else its two
+-- the addresses that an instruction works at, or why one of them cannot be read: the registers A
+-- and B if the instruction has none, a single one for both, else its two
 unfoldable pub operands_told : Storage → ℕ → Registers → List ℕ → Result (ℕ × ℕ) Cause
 operands_told s count r codes =
     if count == 0 then Ok (r.a, r.b)

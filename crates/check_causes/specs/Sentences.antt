@@ -13,7 +13,7 @@ use Rattle.units.specs.Units.{most_lines, most_cards, reads, prints, punches}
 use Rattle.machine.specs.declared.named.Decoded.{Decoded}
 use Rattle.machine.specs.declared.named.Operation.{Operation}
 use Rattle.machine.specs.declared.named.Operation.TheVariants.{OnFields, ClearStorage, Branch, BranchOnMarkOrZone, Operate, MoveCarriage, ChoosePocket, StoreA, StoreB, Halt, NoOperation}
-use Rattle.machine.specs.declared.operations.FieldOperation.TheVariants.{Add, Subtract, ZeroAdd, ZeroSubtract, ModifyAddress, Move, Load, Suppress, Edit}
+use Rattle.machine.specs.declared.operations.FieldOperation.TheVariants.{Add, Subtract, ZeroAdd, ZeroSubtract, Compare, ModifyAddress, Move, Load, Suppress, Edit}
 use Rattle.machine.specs.Effect.{Works}
 use Rattle.machine.specs.Instructions.{addresses_by}
 use Rattle.machine.specs.Glyphs.{is_glyph}
@@ -132,6 +132,33 @@ abbrev pub EndsAtMark : Storage → ℕ → ℕ → ℕ → Type 0
 EndsAtMark s a b count =
     (IsField s a count ⊎ IsField s b count) × HasNoMarkSooner s a count × HasNoMarkSooner s b count
 
+-- an operation on two fields lacks a word mark at this position: that of its field at b; or that of
+-- its field at a, which has fewer positions than the field at b
+abbrev pub LacksOneOfTwo : Storage → ℕ → ℕ → ℕ → Type 0
+LacksOneOfTwo s a b p =
+    (p ≡ b) ⊎ ((p ≡ a) × ((count : ℕ) × IsField s b count × (a + 1 < count)))
+
+-- an edit lacks a word mark at this position: that of its control field at b; or that of its field
+-- at a, which has fewer positions than the control field has digit places, or than one
+abbrev pub EditLacksMark : Storage → ℕ → ℕ → ℕ → Type 0
+EditLacksMark s a b p =
+    (p ≡ b) ⊎ ((p ≡ a) × ((count : ℕ) × IsField s b count
+    × (a + 1 < max 1 (places (codes_ending s b count)))))
+
+-- an operation cannot do without the word mark of its field at this position; a move can, if the
+-- other field has one
+abbrev pub LacksMark : Operation → Storage → ℕ → ℕ → ℕ → Type 0
+LacksMark (OnFields Add) s a b p = LacksOneOfTwo s a b p
+LacksMark (OnFields Subtract) s a b p = LacksOneOfTwo s a b p
+LacksMark (OnFields ZeroAdd) s a b p = LacksOneOfTwo s a b p
+LacksMark (OnFields ZeroSubtract) s a b p = LacksOneOfTwo s a b p
+LacksMark (OnFields Compare) s a b p = LacksOneOfTwo s a b p
+LacksMark (OnFields Move) s a b p = (p ≡ a) × HasNoMark s b
+LacksMark (OnFields Load) s a b p = p ≡ a
+LacksMark (OnFields Suppress) s a b p = p ≡ a
+LacksMark (OnFields Edit) s a b p = EditLacksMark s a b p
+LacksMark _ s a b p = ⊥
+
 -- an operation would read or write so many characters up to its fields' positions
 abbrev pub Wants : Operation → Storage → ℕ → ℕ → ℕ → Type 0
 Wants (OnFields ModifyAddress) s a b count = count ≡ 3
@@ -150,7 +177,8 @@ ReadsDigit (OnFields ZeroAdd) s a b p = IsCutTo s a b p
 ReadsDigit (OnFields ZeroSubtract) s a b p = IsCutTo s a b p
 ReadsDigit _ s a b p = ⊥
 
--- p is among the positions that are edited: as many as the field at b has digit places, at least one
+-- p is among the positions that are edited: as many as the field at b has digit places, at least
+-- one
 abbrev pub IsEdited : Storage → ℕ → ℕ → ℕ → Type 0
 IsEdited s a b p = (count : ℕ) × IsField s b count × IsInField s a p
     × (a < p + max 1 (places (codes_ending s b count)))
@@ -212,7 +240,7 @@ IsSo (NoIndex p) w =
 IsSo (FieldPast p) w =
     OfNext w (λ d. HasFieldAt d.operation d.a d.b p × (length w.storage ≤ p))
 IsSo (NoFieldMark p) w =
-    OfNext w (λ d. HasFieldAt d.operation d.a d.b p × (p < length w.storage)
+    OfNext w (λ d. LacksMark d.operation w.storage d.a d.b p × (p < length w.storage)
     × HasNoMark w.storage p)
 IsSo (TooFew p) w =
     OfNext w (λ d. HasFieldAt d.operation d.a d.b p × (p < length w.storage)

@@ -8,8 +8,8 @@
 //! a check left is asked. Everything is generic over `Core`, and no call takes memory.
 //!
 //! Laws, of all storages, registers and units: a cause is told exactly where a check stops the
-//! instruction, and it is one of that check ([`causes_are_of_checks`]); and what its words say is so
-//! ([`causes_are_so`]). What they say is `IsSo` of `specs/Sentences.antt`, in the words of the
+//! instruction, and it is one of that check ([`causes_are_of_checks`]); and what its words say is
+//! so ([`causes_are_so`]). What they say is `IsSo` of `specs/Sentences.antt`, in the words of the
 //! subject: by positions, marks, digits and counts, not by what the code computes.
 #![tactic(auto)]
 

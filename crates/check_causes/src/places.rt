@@ -73,7 +73,8 @@ pub(crate) fn known_length<C: Core>(core: &C, position: u16) -> Result<u16, Caus
     }
 }
 
-/// How many characters are read at a position, at most `limit`, or that the field there has no mark.
+/// How many characters are read at a position, at most `limit`, or that the field there has no
+/// mark.
 #[tactic(auto, unfolding(crate::specs::Fields::cut_told))]
 pub(crate) fn known_cut<C: Core>(core: &C, position: u16, limit: u16) -> Result<u16, Cause>
     requires within { position < length (C.cells core.now) }
