@@ -29,4 +29,5 @@ mod works;
 pub use causes::Cause;
 pub use laws::{causes_are_of_checks, causes_are_so};
 pub use telling::cause_of;
+pub use words::word_length;
 pub use worked::fields_of;

@@ -54,9 +54,10 @@ fn comma_length<C: Core>(core: &C, i: u16) -> Option<u16>
     }
 }
 
-/// The number of characters of the instruction at a position, if one begins and ends there.
+/// The number of characters of the instruction at a position of storage, if one begins and ends
+/// there.
 #[tactic(auto, unfolding(machine::specs::Word::word_length))]
-fn word_length<C: Core>(core: &C, i: u16) -> Option<u16>
+fn length_inside<C: Core>(core: &C, i: u16) -> Option<u16>
     requires within { i < length (C.cells core.now) }
     requires below { i < largest_size }
     ensures length { result ≡ word_length (C.cells core.now) i }
@@ -69,6 +70,21 @@ fn word_length<C: Core>(core: &C, i: u16) -> Option<u16>
     match core.word_end(i) {
         Some(end) => Some(end - i),
         None => None,
+    }
+}
+
+/// Returns the number of characters of the instruction at a position, if one begins and ends there:
+/// those before the next word mark, at most eight; `,` has at most seven and requires no mark after
+/// them.
+#[tactic(auto, unfolding(machine::specs::Word::word_length))]
+pub fn word_length<C: Core>(core: &C, i: u16) -> Option<u16>
+    ensures count { result ≡ word_length (C.cells core.now) i }
+    ensures within { IfSome result (λ count. i + count ≤ length (C.cells core.now)) }
+{
+    if i < core.size() {
+        length_inside(core, i)
+    } else {
+        None
     }
 }
 
@@ -96,7 +112,7 @@ pub(crate) fn word_at<C: Core>(core: &C, i: u16) -> Result<Word, Cause>
         × (i + word.length ≤ length (C.cells core.now))) }
     ensures none { IfErr result (λ cause. word_told (C.cells core.now) i ≡ Err cause) }
 {
-    match word_length(core, i) {
+    match length_inside(core, i) {
         Some(length) => Ok(Word { first: i, length }),
         None => Err(wordless(core, i)),
     }
