@@ -39,7 +39,9 @@ fn status_in(reply: &[u8]) -> Option<u16> {
 
 /// The place behind the empty line that ends the head of a reply.
 fn head_length(reply: &[u8]) -> Option<usize> {
-    let end = reply.windows(4).position(|bytes| bytes == b"\r\n\r\n".as_slice())?;
+    let end = reply
+        .windows(4)
+        .position(|bytes| bytes == b"\r\n\r\n".as_slice())?;
     Some(end + 4)
 }
 

@@ -12,7 +12,7 @@ mod tallies;
 mod working;
 
 use crate::checking::check_file;
-use crate::working::work;
+use crate::working::run_queue;
 use command_line::{Status, Unfailing, exit_code};
 use operator_words::{Misuse, Task, show_help, show_version, task_of, tell_misuse};
 use std::io::Write;
@@ -35,7 +35,7 @@ fn carry_out<W: Write, E: Write>(
         Task::Help(row) => show_help(output, errors, row),
         Task::Version => show_version(output, errors),
         Task::Check { file } => check_file(rt, file, output, errors),
-        Task::Work { port, rounds } => work(rt, port, rounds, output, errors),
+        Task::Work { port, rounds } => run_queue(rt, port, rounds, output, errors),
     }
 }
 

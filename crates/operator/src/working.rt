@@ -154,7 +154,7 @@ fn take_turn<W: Write>(
 }
 
 /// Runs the queue of the bureau that is served at a port, in rounds of a slice for each job.
-pub(crate) fn work<W: Write, E: Write>(
+pub(crate) fn run_queue<W: Write, E: Write>(
     rt: &HostRuntime,
     port: u16,
     rounds: Rounds,
