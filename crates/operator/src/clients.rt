@@ -1,5 +1,7 @@
 //! Requests to a bureau that is served.
 
+ghost use Rattle.std.specs.Prelude.{◌≤◌, IfSome};
+
 use std::alloc::{AllocError, Global};
 use std::io;
 use std::io::{Read, Write};
@@ -23,18 +25,23 @@ pub(crate) enum Answer {
     Replied { status: u16, body: Vec<u8> },
 }
 
+/// The value of a digit.
+fn digit_of(byte: u8) -> Option<u16>
+    ensures { IfSome result (λ digit. digit ≤ 9) }
+{
+    if byte.is_ascii_digit() {
+        Some(u16::from(byte - b'0'))
+    } else {
+        None
+    }
+}
+
 /// The number of three digits that the bytes of a reply have behind its version.
 fn status_in(reply: &[u8]) -> Option<u16> {
-    let digits = reply.strip_prefix(b"HTTP/1.1 ")?;
-    let digits = digits.get(..3)?;
-    let mut status = 0;
-    for digit in digits {
-        if !digit.is_ascii_digit() {
-            return None;
-        }
-        status = status * 10 + u16::from(digit - b'0');
-    }
-    Some(status)
+    let [hundreds, tens, units, ..] = reply.strip_prefix(b"HTTP/1.1 ")? else {
+        return None;
+    };
+    Some(digit_of(*hundreds)? * 100 + digit_of(*tens)? * 10 + digit_of(*units)?)
 }
 
 /// The place behind the empty line that ends the head of a reply.
