@@ -17,11 +17,7 @@ pub trait Look {
 
 /// Looks into the bureau whose file is at a path. The file and its log are after it what they were.
 /// Fails with the fault if the file cannot be opened, and then nothing is looked at.
-pub fn look_into<L: Look>(
-    rt: &HostRuntime,
-    path: &str,
-    look_at: &mut L,
-) -> Result<(), OpenFault>
+pub fn look_into<L: Look>(rt: &HostRuntime, path: &str, look_at: &mut L) -> Result<(), OpenFault>
     ensures idle { OnErr result (look_at.new ≡ look_at.old) }
 {
     let place = Place::find(rt, path)?;

@@ -13,26 +13,7 @@ use std::alloc::AllocError;
 use std::io;
 use std::io::Write;
 use texts::number_of;
-use workbench_words::Setup;
-
-/// What is asked for of a trace.
-#[derive(Clone, Copy)]
-pub(crate) struct TraceWanted<'a> {
-    pub from: u32,
-    pub count: u32,
-    pub stop: Option<&'a str>,
-    pub names: Option<&'a str>,
-    pub fields: bool,
-}
-
-/// What is asked for of a dump.
-#[derive(Clone, Copy)]
-pub(crate) struct DumpWanted<'a> {
-    pub after: Option<u32>,
-    pub stop: Option<&'a str>,
-    pub first: Option<u32>,
-    pub last: Option<u32>,
-}
+use workbench_words::{Dumping, Setup, Tracing};
 
 /// The address that a number is.
 fn address_at(number: u32) -> Option<u16> {
@@ -94,7 +75,11 @@ fn position_at(number: u32) -> u16 {
 }
 
 /// The deck in the file at a path, with a card at least. Where there is none, that is told.
-pub(crate) fn deck_to_run<E: Write>(rt: &HostRuntime, path: &str, errors: &mut E) -> io::Result<Option<Deck>>
+pub(crate) fn deck_to_run<E: Write>(
+    rt: &HostRuntime,
+    path: &str,
+    errors: &mut E,
+) -> io::Result<Option<Deck>>
     ensures { IfOk result (λ found. IfSome found (λ deck. 0 < length deck)) }
 {
     let Some(deck) = deck_at(rt, path, errors)? else {
@@ -111,7 +96,11 @@ pub(crate) fn deck_to_run<E: Write>(rt: &HostRuntime, path: &str, errors: &mut E
 }
 
 /// The names of the source in the file at a path. Where there are none, that is told.
-pub(crate) fn names_at<E: Write>(rt: &HostRuntime, path: &str, errors: &mut E) -> io::Result<Option<Names>> {
+pub(crate) fn names_at<E: Write>(
+    rt: &HostRuntime,
+    path: &str,
+    errors: &mut E,
+) -> io::Result<Option<Names>> {
     let Some(deck) = deck_at(rt, path, errors)? else {
         return Ok(None);
     };
@@ -146,51 +135,43 @@ fn print_account<W: Write, E: Write>(
 /// Prints the trace of a run by these names.
 fn trace_by<W: Write, E: Write>(
     rt: &HostRuntime,
-    setup: Setup<'_>,
-    wanted: TraceWanted<'_>,
+    tracing: Tracing<'_>,
     names: Option<&Names>,
     output: &mut W,
     errors: &mut E,
 ) -> io::Result<Status> {
     let mut options = TraceOptions {
-        from: wanted.from,
-        count: wanted.count,
+        from: tracing.from,
+        count: tracing.count,
         stop: None,
-        fields: wanted.fields,
+        fields: tracing.fields,
     };
-    if let Some(text) = wanted.stop {
+    if let Some(text) = tracing.stop {
         options.stop = address_by(rt, text, names, errors)?;
         if options.stop.is_none() {
             return Ok(Status::Misused);
         }
     }
-    let Some(deck) = deck_to_run(rt, setup.input, errors)? else {
+    let Some(deck) = deck_to_run(rt, tracing.setup.input, errors)? else {
         return Ok(Status::NotDone);
     };
-    let account = trace(
-        rt.alloc(),
-        &deck,
-        setup.size,
-        setup.switches,
-        names,
-        options,
-    );
+    let Setup { size, switches, .. } = tracing.setup;
+    let account = trace(rt.alloc(), &deck, size, switches, names, options);
     print_account(account, output, errors)
 }
 
 /// Prints the trace of a run.
 pub(crate) fn trace_deck<W: Write, E: Write>(
     rt: &HostRuntime,
-    setup: Setup<'_>,
-    wanted: TraceWanted<'_>,
+    tracing: Tracing<'_>,
     output: &mut W,
     errors: &mut E,
 ) -> io::Result<Status> {
-    let Some(path) = wanted.names else {
-        return trace_by(rt, setup, wanted, None, output, errors);
+    let Some(path) = tracing.names else {
+        return trace_by(rt, tracing, None, output, errors);
     };
     match names_at(rt, path, errors)? {
-        Some(names) => trace_by(rt, setup, wanted, Some(&names), output, errors),
+        Some(names) => trace_by(rt, tracing, Some(&names), output, errors),
         None => Ok(Status::NotDone),
     }
 }
@@ -237,22 +218,21 @@ fn dump_at<W: Write, E: Write>(
 /// Prints a machine after a run.
 pub(crate) fn dump_deck<W: Write, E: Write>(
     rt: &HostRuntime,
-    setup: Setup<'_>,
-    wanted: DumpWanted<'_>,
+    dumping: Dumping<'_>,
     output: &mut W,
     errors: &mut E,
 ) -> io::Result<Status> {
     let mut options = DumpOptions {
-        after: wanted.after,
+        after: dumping.after,
         stop: None,
-        first: wanted.first.map(position_at),
-        last: wanted.last.map(position_at),
+        first: dumping.first.map(position_at),
+        last: dumping.last.map(position_at),
     };
-    if let Some(text) = wanted.stop {
+    if let Some(text) = dumping.stop {
         options.stop = address_in(text, errors)?;
         if options.stop.is_none() {
             return Ok(Status::Misused);
         }
     }
-    dump_at(rt, setup, options, output, errors)
+    dump_at(rt, dumping.setup, options, output, errors)
 }

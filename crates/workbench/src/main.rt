@@ -24,7 +24,7 @@ ghost use Rattle.std.specs.Prelude.{IfOk};
 ghost use Rattle.command_line.specs.Printed.{IsTextShown};
 ghost use Rattle.workbench_words.specs.Printed.{page_of, version_text};
 
-use crate::benching::{DumpWanted, TraceWanted, dump_deck, profile_deck, trace_deck};
+use crate::benching::{dump_deck, profile_deck, trace_deck};
 use crate::converting::convert;
 use crate::drawing::{draw_card, draw_deck, draw_pages};
 use crate::files::tell_memory;
@@ -32,7 +32,7 @@ use crate::filing::write_page;
 use crate::listing::{compare_decks, list_deck};
 use crate::manifests::manifest;
 use crate::numbering::{check_numbers, number_deck};
-use crate::punching::{Punching, punch_text};
+use crate::punching::punch_text;
 use crate::sources::{Showing, show_source};
 use crate::talking::talk;
 use command_line::{Status, Unfailing, exit_code};
@@ -56,34 +56,14 @@ fn work<W: Write, E: Write>(
     match task {
         Task::Help(row) => show_help(output, errors, *row),
         Task::Version => show_version(output, errors),
-        Task::Punch {
-            text,
-            out,
-            rules,
-            reports,
-        } => {
-            let reports = *reports;
-            let punching = Punching {
-                text,
-                out,
-                rules,
-                reports,
-            };
-            punch_text(rt, punching, output, errors)
-        }
+        Task::Punch(punching) => punch_text(rt, punching, output, errors),
         Task::List {
             deck,
             ruler,
             punches,
         } => list_deck(rt, deck, *ruler, *punches, output, errors),
         Task::Compare { one, other } => compare_decks(rt, one, other, output, errors),
-        Task::Number {
-            deck,
-            out,
-            ident,
-            first,
-            step,
-        } => number_deck(rt, (deck, out), ident, (*first, *step), output, errors),
+        Task::Number(numbering) => number_deck(rt, *numbering, output, errors),
         Task::CheckNumbers { deck } => check_numbers(rt, deck, output, errors),
         Task::Convert {
             deck,
@@ -99,38 +79,8 @@ fn work<W: Write, E: Write>(
         Task::Manifest { decks, form, known } => {
             manifest(rt, decks, *form, *known, output, errors)
         }
-        Task::Trace {
-            setup,
-            from,
-            count,
-            stop,
-            names,
-            fields,
-        } => {
-            let wanted = TraceWanted {
-                from: *from,
-                count: *count,
-                stop: *stop,
-                names: *names,
-                fields: *fields,
-            };
-            trace_deck(rt, *setup, wanted, output, errors)
-        }
-        Task::Dump {
-            setup,
-            after,
-            stop,
-            first,
-            last,
-        } => {
-            let wanted = DumpWanted {
-                after: *after,
-                stop: *stop,
-                first: *first,
-                last: *last,
-            };
-            dump_deck(rt, *setup, wanted, output, errors)
-        }
+        Task::Trace(tracing) => trace_deck(rt, *tracing, output, errors),
+        Task::Dump(dumping) => dump_deck(rt, *dumping, output, errors),
         Task::Profile { setup, names } => profile_deck(rt, *setup, *names, output, errors),
         Task::Console { setup, names } => talk(rt, *setup, *names, output, errors),
         Task::Card { deck, number, out } => draw_card(rt, (deck, out), *number, output, errors),

@@ -7,6 +7,7 @@ use cards::write_text;
 use command_line::Status;
 use std::io;
 use std::io::Write;
+use workbench_words::Numbering;
 
 /// What is said of a card that is not numbered, behind the glyphs that it holds, if any are told.
 fn words_of(error: SequenceError) -> &'static str {
@@ -50,21 +51,26 @@ fn tell_sequence_fault<E: Write>(
 /// Numbers the cards of a deck in columns 73 to 80.
 pub(crate) fn number_deck<W: Write, E: Write>(
     rt: &HostRuntime,
-    paths: (&str, &str),
-    ident: &str,
-    numbers: (u32, u32),
+    numbering: Numbering<'_>,
     output: &mut W,
     errors: &mut E,
 ) -> io::Result<Status> {
-    let Some(deck) = deck_at(rt, paths.0, errors)? else {
+    let Numbering {
+        deck: path,
+        out,
+        ident,
+        first,
+        step,
+    } = numbering;
+    let Some(deck) = deck_at(rt, path, errors)? else {
         return Ok(Status::NotDone);
     };
-    let numbered = match sequence(rt.alloc(), &deck, ident, numbers.0, numbers.1) {
+    let numbered = match sequence(rt.alloc(), &deck, ident, first, step) {
         Ok(numbered) => numbered,
-        Err(fault) => return tell_sequence_fault(errors, paths.0, fault),
+        Err(fault) => return tell_sequence_fault(errors, path, fault),
     };
     match write_text(rt.alloc(), &numbered) {
-        Ok(text) => write(rt, paths.1, &text, output, errors),
+        Ok(text) => write(rt, out, &text, output, errors),
         Err(_) => tell_memory(errors),
     }
 }

@@ -9,22 +9,10 @@ use command_line::Status;
 use std::alloc::Global;
 use std::io;
 use std::io::Write;
+use workbench_words::Punching;
 
 /// How many faults are printed at most.
 const MOST_FAULTS: usize = 100;
-
-/// What is to be punched.
-#[derive(Clone, Copy)]
-pub(crate) struct Punching<'a> {
-    /// The path of the text.
-    pub text: &'a str,
-    /// The path of the deck's text.
-    pub out: &'a str,
-    /// How the lines are taken.
-    pub rules: &'a Rules,
-    /// Whether each line that was changed is told.
-    pub reports: bool,
-}
 
 /// How many bytes a character of UTF-8 has that begins with this one.
 fn length_by(first: u8) -> usize
@@ -209,19 +197,19 @@ fn tell_changes<E: Write>(
 /// Takes a text as a deck, and writes the deck's text.
 pub(crate) fn punch_text<W: Write, E: Write>(
     rt: &HostRuntime,
-    punching: Punching<'_>,
+    punching: &Punching<'_>,
     output: &mut W,
     errors: &mut E,
 ) -> io::Result<Status> {
     let Some(text) = read(rt, punching.text, errors)? else {
         return Ok(Status::NotDone);
     };
-    let Some(deck) = punched(rt.alloc(), punching.rules, &text, errors)? else {
+    let Some(deck) = punched(rt.alloc(), &punching.rules, &text, errors)? else {
         return Ok(Status::NotDone);
     };
     let status = write(rt, punching.out, &deck, output, errors)?;
     if let Status::Done = status {
-        tell_changes(rt.alloc(), punching.rules, &text, punching.reports, errors)?;
+        tell_changes(rt.alloc(), &punching.rules, &text, punching.reports, errors)?;
     }
     Ok(status)
 }

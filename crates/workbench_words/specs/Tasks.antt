@@ -73,9 +73,9 @@ pub record AreRulesOf (found : List Row) (rules : Rules) : Type 0 where
 
 -- the task of `punch`, by what was found
 abbrev pub WantsPunch : List Row → Task → Type 0
-WantsPunch found (Punch text out rules reports) = WantsOption (codes "IN") found text.now
-    × WantsOption (codes "OUT") found out.now × AreRulesOf found rules
-    × (reports ≡ has_flag (codes "report") found)
+WantsPunch found (Punch it) = WantsOption (codes "IN") found it.text.now
+    × WantsOption (codes "OUT") found it.out.now × AreRulesOf found it.rules
+    × (it.reports ≡ has_flag (codes "report") found)
 WantsPunch found other = ⊥
 
 -- the task of `list`
@@ -98,9 +98,9 @@ pub record WantsNumber (id : Text) (found : List Row) (number : ℕ) : Type 0 wh
 
 -- the task of `sequence`: a numbering where all of its values are given, or with IN alone a check
 abbrev pub WantsSequence : List Row → Task → Type 0
-WantsSequence found (Number deck out ident first step) = WantsOption (codes "IN") found deck.now
-    × WantsOption (codes "OUT") found out.now × WantsOption (codes "IDENT") found ident.now
-    × WantsNumber (codes "FIRST") found first × WantsNumber (codes "STEP") found step
+WantsSequence found (Number it) = WantsOption (codes "IN") found it.deck.now
+    × WantsOption (codes "OUT") found it.out.now × WantsOption (codes "IDENT") found it.ident.now
+    × WantsNumber (codes "FIRST") found it.first × WantsNumber (codes "STEP") found it.step
 WantsSequence found (CheckNumbers deck) =
     WantsOption (codes "IN") found deck.now × (first_of (codes "OUT") found ≡ None)
 WantsSequence found other = ⊥
@@ -173,10 +173,10 @@ HasText id found text = option_map (λ t. t.now) text ≡ first_of id found
 
 -- the task of `trace`: without `--from` and `--count` the instructions 1 to 1,000
 abbrev pub WantsTrace : List Row → Task → Type 0
-WantsTrace found (Trace setup from count stop names fields) = IsSetup (codes "DECK") found setup
-    × HasNumber (codes "from") 1 found from × HasCount (codes "count") 1000 found count
-    × HasText (codes "stop") found stop × HasText (codes "names") found names
-    × (fields ≡ has_flag (codes "fields") found)
+WantsTrace found (Trace it) = IsSetup (codes "DECK") found it.setup
+    × HasNumber (codes "from") 1 found it.from × HasCount (codes "count") 1000 found it.count
+    × HasText (codes "stop") found it.stop × HasText (codes "names") found it.names
+    × (it.fields ≡ has_flag (codes "fields") found)
 WantsTrace found other = ⊥
 
 -- this is the number of an option that may be 0, if it is given
@@ -199,10 +199,10 @@ GivesNumber id found number = NumeralOf (first_of id found) number
 
 -- the task of `dump`
 abbrev pub WantsDump : List Row → Task → Type 0
-WantsDump found (Dump setup after stop first last) = IsSetup (codes "DECK") found setup
-    × GivesCount (codes "after") found after
-    × HasText (codes "stop") found stop
-    × GivesCount (codes "first") found first × GivesNumber (codes "last") found last
+WantsDump found (Dump it) = IsSetup (codes "DECK") found it.setup
+    × GivesCount (codes "after") found it.after
+    × HasText (codes "stop") found it.stop
+    × GivesCount (codes "first") found it.first × GivesNumber (codes "last") found it.last
 WantsDump found other = ⊥
 
 -- the task of `profile`

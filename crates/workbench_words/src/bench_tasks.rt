@@ -10,7 +10,7 @@ ghost use Rattle.workbench_words.specs.Values.{IsCount};
 
 use crate::found::{has_flag, value};
 use crate::rows::RowName;
-use crate::tasks::{Misuse, Setup, Task, needed, number};
+use crate::tasks::{Dumping, Misuse, Setup, Task, Tracing, needed, number};
 use crate::values::count_of;
 use clap::ArgMatches;
 use core_store::Size;
@@ -121,14 +121,14 @@ pub(crate) fn trace_task<'a>(found: &ArgMatches<'a>) -> Result<Task<'a>, Misuse>
     let stop = value(found, "stop");
     let names = value(found, "names");
     let fields = has_flag(found, "fields");
-    Ok(Task::Trace {
+    Ok(Task::Trace(Tracing {
         setup,
         from,
         count,
         stop,
         names,
         fields,
-    })
+    }))
 }
 
 /// The task of a row `dump`.
@@ -140,13 +140,13 @@ pub(crate) fn dump_task<'a>(found: &ArgMatches<'a>) -> Result<Task<'a>, Misuse>
     let stop = value(found, "stop");
     let first = count_in(found, "first")?;
     let last = number_in(found, "last")?;
-    Ok(Task::Dump {
+    Ok(Task::Dump(Dumping {
         setup,
         after,
         stop,
         first,
         last,
-    })
+    }))
 }
 
 /// The task of a row `profile`.

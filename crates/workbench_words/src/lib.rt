@@ -20,5 +20,5 @@ mod values;
 
 pub use help::VERSION;
 pub use rows::RowName;
-pub use tasks::{Misuse, Setup, Task, task_of};
+pub use tasks::{Dumping, Misuse, Numbering, Punching, Setup, Task, Tracing, task_of};
 pub use telling::{show_help, show_version, tell_misuse};

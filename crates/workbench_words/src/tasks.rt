@@ -36,6 +36,66 @@ pub struct Setup<'a> {
     pub switches: Switches,
 }
 
+/// How a text is made a deck.
+#[derive(Drop)]
+pub struct Punching<'a> {
+    /// The path of the text.
+    pub text: &'a str,
+    /// The path of the deck's text.
+    pub out: &'a str,
+    /// How the lines are taken.
+    pub rules: Rules,
+    /// Whether each line that was changed is told.
+    pub reports: bool,
+}
+
+/// How the cards of a deck are numbered.
+#[derive(Clone, Copy)]
+pub struct Numbering<'a> {
+    /// The path of the deck.
+    pub deck: &'a str,
+    /// The path of the numbered deck.
+    pub out: &'a str,
+    /// What stands before each number.
+    pub ident: &'a str,
+    /// The number of the first card.
+    pub first: u32,
+    /// What each next number is more.
+    pub step: u32,
+}
+
+/// Which instructions of a run are printed, and how.
+#[derive(Clone, Copy)]
+pub struct Tracing<'a> {
+    /// What the machine begins with.
+    pub setup: Setup<'a>,
+    /// The number of the first instruction that is printed.
+    pub from: u32,
+    /// How many are printed.
+    pub count: u32,
+    /// The address before whose instruction the run ends, as it is given.
+    pub stop: Option<&'a str>,
+    /// The path of the source that has the names.
+    pub names: Option<&'a str>,
+    /// Whether the fields are printed that an instruction works at.
+    pub fields: bool,
+}
+
+/// When a machine is shown, and how much of its storage.
+#[derive(Clone, Copy)]
+pub struct Dumping<'a> {
+    /// What the machine begins with.
+    pub setup: Setup<'a>,
+    /// How many instructions it does, if it does not go on to its end.
+    pub after: Option<u32>,
+    /// The address before whose instruction the run ends, as it is given.
+    pub stop: Option<&'a str>,
+    /// The first position that is asked for.
+    pub first: Option<u32>,
+    /// The last position that is asked for.
+    pub last: Option<u32>,
+}
+
 /// What the program is to do. A path that is `-` stands for the standard input or output.
 #[derive(Drop)]
 pub enum Task<'a> {
@@ -44,16 +104,7 @@ pub enum Task<'a> {
     /// Print the version.
     Version,
     /// Take a text as a deck.
-    Punch {
-        /// The path of the text.
-        text: &'a str,
-        /// The path of the deck's text.
-        out: &'a str,
-        /// How the lines are taken.
-        rules: Rules,
-        /// Whether each line that was changed is told.
-        reports: bool,
-    },
+    Punch(Punching<'a>),
     /// Print the cards of a deck.
     List {
         /// The path of the deck.
@@ -71,18 +122,7 @@ pub enum Task<'a> {
         other: &'a str,
     },
     /// Number the cards of a deck in columns 73 to 80.
-    Number {
-        /// The path of the deck.
-        deck: &'a str,
-        /// The path of the numbered deck.
-        out: &'a str,
-        /// What stands before each number.
-        ident: &'a str,
-        /// The number of the first card.
-        first: u32,
-        /// What each next number is more.
-        step: u32,
-    },
+    Number(Numbering<'a>),
     /// Print where the numbers of a deck's cards do not rise.
     CheckNumbers {
         /// The path of the deck.
@@ -118,33 +158,9 @@ pub enum Task<'a> {
         known: Option<&'a str>,
     },
     /// Print the instructions of a run.
-    Trace {
-        /// What the machine begins with.
-        setup: Setup<'a>,
-        /// The number of the first instruction that is printed.
-        from: u32,
-        /// How many are printed.
-        count: u32,
-        /// The address before whose instruction the run ends, as it is given.
-        stop: Option<&'a str>,
-        /// The path of the source that has the names.
-        names: Option<&'a str>,
-        /// Whether the fields are printed that an instruction works at.
-        fields: bool,
-    },
+    Trace(Tracing<'a>),
     /// Print the storage after a run.
-    Dump {
-        /// What the machine begins with.
-        setup: Setup<'a>,
-        /// How many instructions it does, if it does not go on to its end.
-        after: Option<u32>,
-        /// The address before whose instruction the run ends, as it is given.
-        stop: Option<&'a str>,
-        /// The first position that is asked for.
-        first: Option<u32>,
-        /// The last position that is asked for.
-        last: Option<u32>,
-    },
+    Dump(Dumping<'a>),
     /// Print how often a run did each instruction.
     Profile {
         /// What the machine begins with.
@@ -320,12 +336,12 @@ fn punch_task<'a>(alloc: Global, found: &ArgMatches<'a>) -> Result<Task<'a>, Mis
         empty: empty_in(found)?,
     };
     let reports = has_flag(found, "report");
-    Ok(Task::Punch {
+    Ok(Task::Punch(Punching {
         text,
         out,
         rules,
         reports,
-    })
+    }))
 }
 
 /// The task of a row `list`.
@@ -373,13 +389,13 @@ fn sequence_task<'a>(found: &ArgMatches<'a>) -> Result<Task<'a>, Misuse>
     let ident = needed(found, "IDENT", RowName::Sequence)?;
     let first = number(needed(found, "FIRST", RowName::Sequence)?)?;
     let step = number(needed(found, "STEP", RowName::Sequence)?)?;
-    Ok(Task::Number {
+    Ok(Task::Number(Numbering {
         deck,
         out,
         ident,
         first,
         step,
-    })
+    }))
 }
 
 /// The form that an argument names.
