@@ -1,5 +1,5 @@
 -- what is printed of a session
-use Rattle.std.specs.Prelude.{ℕ, zero, suc, ◌+◌, ◌-◌, ◌==◌, ◌&&◌, if◌then◌else◌, Bool, false, List, [], ◌∷◌, ◌++◌, codes, decimal, map, nat_lt, length, Option, Some, None}
+use Rattle.std.specs.Prelude.{ℕ, zero, suc, ◌+◌, ◌-◌, ◌==◌, if◌then◌else◌, Bool, false, List, [], ◌∷◌, ◌++◌, codes, decimal, map, nat_lt, length, Option, Some, None}
 use Rattle.std.specs.List.{flat_map}
 use Rattle.core_store.specs.Storage.{Storage, codes_from, field_length}
 use Rattle.autocoder.specs.Listing.{glyphs_of, position_field}

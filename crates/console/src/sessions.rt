@@ -204,7 +204,7 @@ impl Session {
     }
 
     /// What the watched position holds in another machine.
-    fn seen_in(&self, machine: &Machine<PlaneCore>) -> (u8, bool)
+    fn cell_in(&self, machine: &Machine<PlaneCore>) -> (u8, bool)
         ensures { result ≡ watched_cell self.now.watched machine.now.works.storage }
     {
         cell_of(machine, self.watched)
@@ -229,7 +229,7 @@ impl Session {
     }
 
     /// How many instructions were attempted before the last of so many.
-    fn made_before(&self, count: u32) -> u32
+    fn count_before(&self, count: u32) -> u32
         requires { count ≤ self.now.made }
         ensures { result ≡ self.now.made - count + (count - 1) }
     {
@@ -242,8 +242,8 @@ impl Session {
         ensures { (s : Sitting) → HasCome s → self.now ≡ advanced s count →
             OnOk result (text.new.items ≡ text.old.items ++ end_shown s count) }
     {
-        let mut before = self.rerun(alloc, self.made_before(count))?;
-        let seen = self.seen_in(&before);
+        let mut before = self.rerun(alloc, self.count_before(count))?;
+        let seen = self.cell_in(&before);
         self.push_last(alloc, text, &mut before, count)?;
         self.push_why(alloc, text, seen)
     }

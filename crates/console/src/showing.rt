@@ -127,8 +127,11 @@ fn push_stop<C: Core>(text: &mut Vec<u8>, parts: &Parts<C>) -> Result<(), AllocE
 /// Why a run ends: its stops, and the watched position with what it held before the last attempt.
 #[derive(Clone, Copy)]
 pub(crate) struct Ends<'a> {
+    /// The stops.
     pub(crate) stops: &'a [u16],
+    /// The watched position.
     pub(crate) watched: Option<u16>,
+    /// What it held before the last attempt.
     pub(crate) before: (u8, bool),
 }
 
