@@ -3,7 +3,7 @@ use Rattle.std.proofs.Common.{◌≡◌, ℕ, ◌+◌, ◌-◌, ◌≤◌, Bool,
 use Rattle.std.specs.Prelude.{nat_le}
 use Rattle.std.proofs.lemmas.Bool.{le-leb}
 use Rattle.machine.specs.Run.{State, after, attempts, is_halted}
-use Rattle.console.specs.Answers.{advanced, backed, done, is_inside, limit_of, next, set_back, starts_until}
+use Rattle.console.specs.Answers.{advanced, backed, done, going, is_inside, limit_of, next, set_back, starts_until}
 use Rattle.console.specs.Sayings.{is_start}
 use Rattle.console.specs.Sittings.{HasCome, Sitting, machine_of, most_made}
 use Rattle.console.specs.Talks.{Talked}
@@ -92,3 +92,6 @@ undoes s count come fits all =
     let limit : limit_of s count ≡ count = omega arith in
     let made : attempts s.machine (limit_of s count) ≡ count = ap (attempts s.machine) limit ∙ all in
     ap (λ n. backed (advanced s n) count) made ∙ backed_same s count come
+
+pub undoes_going : (s : Sitting) (count : ℕ) → HasCome s → next (next s (say.Do (deed.Go count))) (say.Do (deed.Back (going s count))) ≡ s
+undoes_going s count come = backed_same s (going s count) come
