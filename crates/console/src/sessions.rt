@@ -65,9 +65,9 @@ impl Model for Session {
 }
 
 impl Session {
-    /// Returns the session that begins with a deck in the reader of a machine with stacker selection
-    /// and the load button pressed. The names are those of its source, if they are known. Fails only
-    /// if there is no memory.
+    /// Returns the session that begins with a deck in the reader of a machine with stacker
+    /// selection and the load button pressed. The names are those of its source, if they are known.
+    /// Fails only if there is no memory.
     pub fn begin(
         alloc: Global,
         deck: Deck,
