@@ -9,3 +9,4 @@ mod LinesRead
 mod DumpLaw
 mod NearestLaw
 mod AddressLemmas
+mod FieldLemmas

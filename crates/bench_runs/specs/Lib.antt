@@ -6,6 +6,7 @@ pub mod Names
 pub mod Addresses
 pub mod Deeds
 pub mod Attempts
+pub mod Fields
 pub mod Traces
 pub mod Rows
 pub mod Reading

@@ -1,7 +1,7 @@
 -- the trace of a run
 use Rattle.std.specs.Prelude.{ℕ, zero, suc, ◌+◌, nat_lt, nat_le, ◌&&◌, ◌||◌, Bool, if◌then◌else◌, List, [], ◌++◌, Option}
 use Rattle.machine.specs.Run.{State, after, is_checked}
-use Rattle.bench_runs.specs.Attempts.{attempt_line}
+use Rattle.bench_runs.specs.Fields.{attempt_shown}
 use Rattle.bench_runs.specs.Ends.{end_of, ended, most_attempts}
 use Rattle.bench_runs.specs.Names.{Named}
 use Rattle.bench_runs.specs.Reports.{report_line}
@@ -32,6 +32,6 @@ lines_shown shows line m (suc count) = lines_shown shows line m count
 -- machine at its end
 unfoldable pub traced : TraceOptions → Option Named → State → List ℕ
 traced options names m =
-    lines_shown (is_shown options (ending_of m options.stop)) (attempt_line names) m
+    lines_shown (is_shown options (ending_of m options.stop)) (attempt_shown names options.fields) m
     (end_of m most_attempts options.stop)
     ++ report_line (ended m options.stop)

@@ -9,7 +9,7 @@
 //! the report of the machine at the end of the run (`specs/Reports.antt`); without a stop that is
 //! the machine after a whole run. [`Names`] are those of a source without faults
 //! (`specs/Names.antt`), by which a text says an address (`specs/Addresses.antt`). Who goes on by
-//! single attempts uses the calls that make these texts: [`push_attempt`] and [`push_machine`].
+//! single attempts uses the calls that make these texts: [`push_shown`] and [`push_machine`].
 //!
 //! Laws: a run ends at the first stop that it comes to ([`runs_end_at_the_first_stop`]), and
 //! without one it is a whole run ([`runs_without_stop_are_whole`]). The counts of a profile add up
@@ -26,6 +26,7 @@ mod counting;
 mod deeds;
 mod dumping;
 mod ends;
+mod fields;
 mod laws;
 mod names;
 mod profiling;
@@ -39,6 +40,7 @@ pub use accounts::Account;
 pub use attempts::push_attempt;
 pub use dumping::{DumpOptions, dump, push_machine, push_registers, push_storage, push_units};
 pub use ends::{MOST_ATTEMPTS, load};
+pub use fields::{push_field, push_shown};
 pub use laws::{
     counts_add_up, dump_is_read, names_are_the_nearest, runs_end_at_the_first_stop,
     runs_without_stop_are_whole,

@@ -1,12 +1,12 @@
 //! How the characters of an instruction are shown.
 
-ghost use Rattle.std.specs.Prelude.{◌≡◌, ◌+◌, ◌<◌, ◌≤◌, ◌++◌, length, unwrap_or, OnOk, IfSome};
-ghost use Rattle.core_store.specs.Storage.{codes_from, largest_size, least_mark};
+ghost use Rattle.std.specs.Prelude.{◌≡◌, ◌+◌, ◌<◌, ◌≤◌, ◌++◌, length, OnOk};
+ghost use Rattle.core_store.specs.Storage.{codes_from};
 ghost use Rattle.autocoder.specs.Listing.{glyphs_of};
-ghost use Rattle.machine.specs.Word.{ending_in, word_length};
 ghost use Rattle.bench_runs.specs.Shown.{characters_at, padding};
 
 use autocoder::push_fillers;
+use check_causes::word_length;
 use core_store::Core;
 use std::alloc::AllocError;
 
@@ -17,57 +17,9 @@ pub(crate) fn push_padding(line: &mut Vec<u8>, width: usize, count: usize) -> Re
     push_fillers(line, b' ', width.saturating_sub(count).max(1))
 }
 
-/// The next mark within eight positions, or else the eighth position.
-fn next_mark<C: Core>(core: &C, i: u16) -> u16
-    requires within { i < length (C.cells core.now) }
-    requires below { i < largest_size }
-    ensures mark { result ≡ unwrap_or (least_mark (C.cells core.now) (i + 1) 8) (i + 8) }
-    ensures after { (i < result) × (result ≤ i + 8) }
-{
-    match core.mark_after(i) {
-        Some(mark) => mark,
-        None => i + 8,
-    }
-}
-
-/// A number of characters from a position on, if the storage has them.
-fn ending_in<C: Core>(core: &C, i: u16, count: u16) -> Option<u16>
-    requires below { i < largest_size }
-    requires most { count ≤ 8 }
-    ensures count { result ≡ ending_in (C.cells core.now) i count }
-    ensures within { IfSome result (λ count. i + count ≤ length (C.cells core.now)) }
-{
-    if i + count <= core.size() {
-        Some(count)
-    } else {
-        None
-    }
-}
-
-/// The number of characters of the instruction at a position, if one begins and ends there.
-#[tactic(auto, unfolding(machine::specs::Word::word_length))]
-pub(crate) fn word_length<C: Core>(core: &C, i: u16) -> Option<u16>
-    ensures count { result ≡ word_length (C.cells core.now) i }
-    ensures within { IfSome result (λ count. i + count ≤ length (C.cells core.now)) }
-{
-    if i >= core.size() {
-        return None;
-    }
-    if !core.is_marked(i) {
-        return None;
-    }
-    if core.get(i).glyph() == b',' {
-        return ending_in(core, i, (next_mark(core, i) - i).min(7));
-    }
-    match core.mark_after(i) {
-        Some(end) => Some(end - i),
-        None => None,
-    }
-}
-
 /// Adds the glyphs of the characters from a position on.
 #[tactic(auto, using(crate::proofs::ShownLemmas::glyph_none, crate::proofs::ShownLemmas::glyph_on))]
-fn push_codes<C: Core>(
+pub(crate) fn push_codes<C: Core>(
     line: &mut Vec<u8>,
     core: &C,
     first: u16,

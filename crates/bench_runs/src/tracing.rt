@@ -4,14 +4,14 @@ ghost use Rattle.std.specs.Prelude.{◌≡◌, ◌+◌, ◌-◌, ◌<◌, ◌≤
 ghost use Rattle.machine.specs.Run.{after, is_checked, loaded, step};
 ghost use Rattle.machine.specs.Standings.{standing_of};
 ghost use Rattle.units.specs.declared.profiles.Profile.TheVariants.{Selecting};
-ghost use Rattle.bench_runs.specs.Attempts.{attempt_line};
+ghost use Rattle.bench_runs.specs.Fields.{attempt_shown};
 ghost use Rattle.bench_runs.specs.Ends.{ended, most_attempts};
 ghost use Rattle.bench_runs.specs.Reports.{report_line};
 ghost use Rattle.bench_runs.specs.Traces.{is_shown, lines_shown, traced};
 
 use crate::accounts::Account;
-use crate::attempts::push_attempt;
 use crate::ends::{MOST_ATTEMPTS, advance, load, run_to_end};
+use crate::fields::push_shown;
 use crate::names::Names;
 use crate::reports::push_report;
 use cards::Deck;
@@ -29,6 +29,8 @@ pub struct TraceOptions {
     pub count: u32,
     /// The address at which the run ends, before an instruction there.
     pub stop: Option<u16>,
+    /// Whether the fields are shown that an attempt works at.
+    pub fields: bool,
 }
 
 /// How a run ended.
@@ -132,10 +134,10 @@ fn push_if_shown<C: Core>(
     ensures machine { OnOk result (machine.new ≡ step machine.old) }
     ensures line { OnOk result (text.new.items ≡ text.old.items
         ++ (if is_shown sheet.options sheet.ending number
-        then attempt_line (option_copied names.entry) number machine.old else [])) }
+        then attempt_shown (option_copied names.entry) sheet.options.fields number machine.old else [])) }
 {
     if sheet.options.shows(sheet.ending, number) {
-        return push_attempt(alloc, text, machine, names, number);
+        return push_shown(alloc, text, machine, names, sheet.options.fields, number);
     }
     machine.step(&mut Meter::new())?;
     Ok(())
@@ -159,7 +161,7 @@ fn push_lines<C: Core>(
         is_shown sheet.options sheet.ending number ≡ false }
     ensures { OnOk result (text.new.items ≡ text.old.items
         ++ lines_shown (is_shown sheet.options sheet.ending)
-        (attempt_line (option_copied names.entry)) machine.old (end - 1)) }
+        (attempt_shown (option_copied names.entry) sheet.options.fields) machine.old (end - 1)) }
 {
     advance(machine, first - 1)?;
     for number in first..end {
@@ -181,7 +183,7 @@ fn lines_shown(
     requires most { sheet.ending.attempts ≤ most_attempts }
     ensures { IfOk result (λ text. text.items
         ≡ lines_shown (is_shown sheet.options sheet.ending)
-        (attempt_line (option_copied names.entry))
+        (attempt_shown (option_copied names.entry) sheet.options.fields)
         (loaded deck.now size switches Selecting) sheet.ending.attempts) }
 {
     let mut text = Vec::new(alloc);
@@ -214,7 +216,8 @@ fn ending_of<C: Core>(parts: &Parts<C>, attempts: u32) -> Ending
 /// Shown are the attempts that the options ask for, and of a run that ends in a check the last
 /// twenty. A line has the attempt's number, the address at which it begins, also by the nearest
 /// name where names are given, and the characters of its instruction; then the registers A and B and
-/// the indicators after it and what the units did, or the check with its cause. Without a stop the report is that of a whole run. Fails only if there is no memory.
+/// the indicators after it and what the units did, or the check with its cause. Below it are, if
+/// the options ask for them, the fields at which it works, before it and after it. Without a stop the report is that of a whole run. Fails only if there is no memory.
 #[tactic(auto, unfolding(crate::specs::Traces::traced))]
 pub fn trace(
     alloc: Global,

@@ -1,12 +1,14 @@
 //! The causes of checks, in words.
 
-ghost use Rattle.std.specs.Prelude.{Some};
-ghost use Rattle.check_causes.specs.Words.{cause_words};
+ghost use Rattle.std.specs.Prelude.{◌≡◌, Some};
+ghost use Rattle.check_causes.specs.Words.{cause_words, check_of};
 
+use core_store::Check;
 use std::fmt;
 use std::fmt::{Display, Formatter};
 
-/// Why a check stopped an instruction. Its `Display` is what is printed.
+/// Why a check stopped an instruction. Its `Display` is what is printed. What each says is
+/// `IsSo` of `specs/Sentences.antt`.
 #[derive(Clone, Copy, Debug, PartialEq, Eq)]
 pub enum Cause {
     /// Register I is past the storage.
@@ -17,6 +19,8 @@ pub enum Cause {
     NoEnd,
     /// No operation has this character, or its instructions have another length or last character.
     NoInstruction(char),
+    /// The instruction selects a pocket, which a machine of the plain profile cannot.
+    NoSelection,
     /// These three characters are no address.
     NoAddress(char, char, char),
     /// An address names this position, which is past the storage.
@@ -27,6 +31,11 @@ pub enum Cause {
     FieldPast(u16),
     /// The field that ends at this position has no word mark.
     NoFieldMark(u16),
+    /// More characters would end at this position than there are positions at or to the left of it.
+    TooFew(u16),
+    /// The word mark at this position, which ends a field that is loaded, would be written over
+    /// before it is read.
+    MarkWrittenOver(u16),
     /// The character at this position is no digit.
     NoDigit(char, u16),
     /// The three characters that end at this position are no address.
@@ -41,6 +50,25 @@ pub enum Cause {
     PrinterFull,
 }
 
+impl Cause {
+    /// The check that this is a cause of.
+    pub fn check(self) -> Check
+        ensures { result ≡ check_of self }
+    {
+        match self {
+            Cause::NoMark | Cause::NoEnd | Cause::NoInstruction(_) | Cause::NoSelection => {
+                Check::Instruction
+            }
+            Cause::NoDigit(..) | Cause::NoNumber(_) => Check::Data,
+            Cause::Overlap => Check::Overlap,
+            Cause::NoCard(_) => Check::ReaderEmpty,
+            Cause::PunchFull => Check::PunchFull,
+            Cause::PrinterFull => Check::PrinterFull,
+            _ => Check::Address,
+        }
+    }
+}
+
 impl Display for Cause {
     ghost output = { λ cause. Some (cause_words cause) };
 
@@ -52,6 +80,7 @@ impl Display for Cause {
             Cause::NoInstruction(glyph) => {
                 write!(formatter, "no such operation or form: {glyph}")
             }
+            Cause::NoSelection => formatter.write_str("this machine has no stacker selection"),
             Cause::NoAddress(first, second, third) => {
                 write!(formatter, "no address: {first}{second}{third}")
             }
@@ -68,6 +97,14 @@ impl Display for Cause {
             Cause::NoFieldMark(position) => write!(
                 formatter,
                 "the field at {position:05} has no mark at or to the left of it"
+            ),
+            Cause::TooFew(position) => write!(
+                formatter,
+                "too few positions at or to the left of {position:05}"
+            ),
+            Cause::MarkWrittenOver(position) => write!(
+                formatter,
+                "the mark at {position:05} would be written over before it is read"
             ),
             Cause::NoDigit(glyph, position) => {
                 write!(formatter, "no digit: {glyph} at {position:05}")

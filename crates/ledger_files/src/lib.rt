@@ -6,6 +6,7 @@
 //! file, which alone is then the bureau ([`close`]), unless the bureau is broken.
 //!
 //! [`with_bureau`] is what a program calls: it finds the file, opens it, works and ends.
+//! [`look_into`] opens it to look into its tables ([`Look`]), and leaves it as it was.
 //! [`round`] opens, works, and returns the store as a crash at that moment leaves it ([`stop`]):
 //! whatever is left is of the office after a beginning of the commands that holds every one that
 //! was replied to. Any number of such rounds make the chain of the theorem of stops.
@@ -18,6 +19,7 @@
 
 mod closing;
 mod kept;
+mod looking;
 mod making;
 mod migrating;
 mod opening;
@@ -27,6 +29,7 @@ mod working;
 
 pub use closing::{close, close_connection};
 pub use kept::Kept;
+pub use looking::{Look, look_into};
 pub use making::init;
 pub use migrating::{close_migrated, migrate, migrate_from};
 pub use opening::open_from;

@@ -22,6 +22,7 @@ pub(crate) struct TraceWanted<'a> {
     pub count: u32,
     pub stop: Option<&'a str>,
     pub names: Option<&'a str>,
+    pub fields: bool,
 }
 
 /// What is asked for of a dump.
@@ -155,6 +156,7 @@ fn trace_by<W: Write, E: Write>(
         from: wanted.from,
         count: wanted.count,
         stop: None,
+        fields: wanted.fields,
     };
     if let Some(text) = wanted.stop {
         options.stop = address_by(rt, text, names, errors)?;

@@ -105,12 +105,14 @@ fn work<W: Write, E: Write>(
             count,
             stop,
             names,
+            fields,
         } => {
             let wanted = TraceWanted {
                 from: *from,
                 count: *count,
                 stop: *stop,
                 names: *names,
+                fields: *fields,
             };
             trace_deck(rt, *setup, wanted, output, errors)
         }

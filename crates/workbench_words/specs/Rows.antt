@@ -38,7 +38,7 @@ line_of name.Trace = (
   codes "trace",
   (codes "DECK", Value) ∷ (codes "SIZE", Value) ∷ (codes "SWITCHES", Value)
       ∷ (codes "from", Setting) ∷ (codes "count", Setting) ∷ (codes "stop", Setting)
-      ∷ (codes "names", Setting) ∷ [],
+      ∷ (codes "names", Setting) ∷ (codes "fields", Flag) ∷ [],
 )
 line_of name.Dump = (
   codes "dump",

@@ -173,9 +173,10 @@ HasText id found text = option_map (λ t. t.now) text ≡ first_of id found
 
 -- the task of `trace`: without `--from` and `--count` the instructions 1 to 1,000
 abbrev pub WantsTrace : List Row → Task → Type 0
-WantsTrace found (Trace setup from count stop names) = IsSetup (codes "DECK") found setup
+WantsTrace found (Trace setup from count stop names fields) = IsSetup (codes "DECK") found setup
     × HasNumber (codes "from") 1 found from × HasCount (codes "count") 1000 found count
     × HasText (codes "stop") found stop × HasText (codes "names") found names
+    × (fields ≡ has_flag (codes "fields") found)
 WantsTrace found other = ⊥
 
 -- this is the number of an option that may be 0, if it is given

@@ -8,7 +8,7 @@ ghost use Rattle.units.specs.Switches.{AreSeven};
 ghost use Rattle.workbench_words.specs.Tasks.{GivesCount, GivesNumber, HasCount, HasNumber, IsSetup, WantsConsole, WantsDump, WantsOption, WantsProfile, WantsTrace};
 ghost use Rattle.workbench_words.specs.Values.{IsCount};
 
-use crate::found::value;
+use crate::found::{has_flag, value};
 use crate::rows::RowName;
 use crate::tasks::{Misuse, Setup, Task, needed, number};
 use crate::values::count_of;
@@ -120,12 +120,14 @@ pub(crate) fn trace_task<'a>(found: &ArgMatches<'a>) -> Result<Task<'a>, Misuse>
     let count = shown_in(found)?;
     let stop = value(found, "stop");
     let names = value(found, "names");
+    let fields = has_flag(found, "fields");
     Ok(Task::Trace {
         setup,
         from,
         count,
         stop,
         names,
+        fields,
     })
 }
 

@@ -176,20 +176,24 @@ fault, the status is 1 then, and the others go on.
 
 /// The text that `trace --help` prints.
 pub const TRACE_HELP: &str = "\
-workbench trace DECK SIZE SWITCHES [--from N] [--count N] [--stop ADDRESS] [--names SOURCE]:
-prints the instructions of a run, one a line.
+workbench trace DECK SIZE SWITCHES [--from N] [--count N] [--stop ADDRESS] [--names SOURCE]
+[--fields]: prints the instructions of a run, one a line.
 
 DECK            a deck that loads itself, as bureau run takes it
 SIZE            positions of storage: 1400, 2000, 4000, 8000, 12000 or 16000
 SWITCHES        rising letters of ABCDEFG, the sense switches that are on, or - for none
 --from N        the number of the first instruction that is printed; without it 1
 --count N       how many are printed at most; without it 1,000
---stop ADDRESS  the run ends before the instruction at this address, a number from 1 to 15999
+--stop ADDRESS  the run ends before the instruction at this address, a number from 1 to 15999, or
+                with --names a name of the source, to which a number may be added: READ, READ&7
 --names SOURCE  the Autocoder source of the deck, whose names are shown beside addresses
+--fields        below an instruction the fields that it works at, before it and, if they are others
+                then, after it
 
 example:
   workbench trace examples/two_lines.deck 4000 A --count 20
-  workbench trace examples/two_lines.deck 4000 A --names examples/two_lines.source --stop 360
+  workbench trace examples/two_lines.deck 4000 A --names examples/two_lines.source --stop READ&8
+  workbench trace examples/two_lines.deck 4000 A --from 27 --count 1 --fields
 
 A line has the number of the instruction, its address, its characters, the registers A and B and
 what the units did. The last 20 instructions before a check are always printed. The end is the line
@@ -361,7 +365,7 @@ pub(crate) fn usage(row: RowName) -> &'static str {
         RowName::Source => "source IN [--data] [--width 80|120]",
         RowName::Manifest => "manifest FILE.. [--form FORM] [--check KNOWN]",
         RowName::Trace => "trace DECK SIZE SWITCHES [--from N] [--count N] [--stop ADDRESS] \
-             [--names SOURCE]",
+             [--names SOURCE] [--fields]",
         RowName::Dump => "dump DECK SIZE SWITCHES [--after N] [--stop ADDRESS] [--first N] \
              [--last N]",
         RowName::Profile => "profile DECK SIZE SWITCHES [--names SOURCE]",

@@ -121,6 +121,7 @@ pub(crate) const ROWS: [(RowName, &str, &[(&str, Kind)]); 15] = [
             ("count", Kind::Setting),
             ("stop", Kind::Setting),
             ("names", Kind::Setting),
+            ("fields", Kind::Flag),
         ],
     ),
     (

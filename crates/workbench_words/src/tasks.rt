@@ -129,6 +129,8 @@ pub enum Task<'a> {
         stop: Option<&'a str>,
         /// The path of the source that has the names.
         names: Option<&'a str>,
+        /// Whether the fields are printed that an instruction works at.
+        fields: bool,
     },
     /// Print the storage after a run.
     Dump {

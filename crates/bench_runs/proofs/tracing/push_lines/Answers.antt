@@ -2,7 +2,7 @@ use Rattle.std.proofs.Common.{◌≡◌, ◌+◌, ◌-◌, ◌++◌, ◌∙◌, 
 use Rattle.machine.specs.Run.{after, step}
 use Rattle.machine.proofs.Steps.{after-after, after_one}
 use Rattle.std.specs.Prelude.{option_copied}
-use Rattle.bench_runs.specs.Attempts.{attempt_line}
+use Rattle.bench_runs.specs.Fields.{attempt_shown}
 use Rattle.bench_runs.specs.Traces.{is_shown}
 use Rattle.bench_runs.proofs.LineLemmas.{hidden_before, one_more}
 use Rattle.bench_runs.proofs.tracing.push_lines.Goals as goal
@@ -10,7 +10,7 @@ use Rattle.bench_runs.proofs.tracing.push_lines.Goals as goal
 pub loop-number-init : goal.loop-number-init
 loop-number-init g c =
     let sheet = c.args.sheet in
-    let none = hidden_before (is_shown sheet.options sheet.ending) (attempt_line (option_copied c.args.names)) c.args.machine.now (c.args.first - 1)
+    let none = hidden_before (is_shown sheet.options sheet.ending) (attempt_shown (option_copied c.args.names) sheet.options.fields) c.args.machine.now (c.args.first - 1)
     (λ number some within. c.requires.before number some (omega (arith, within))) in
     record {
       machine = c.in_ok-advance.ensures;
@@ -32,5 +32,5 @@ loop-number-preserved g c =
           ∙ after-after c.args.machine.now (number - 1) 1
           ∙ ap (after c.args.machine.now) back;
       text = c.in_ok-push_if_shown.ensures.line
-          ∙ one_more (is_shown sheet.options sheet.ending) (attempt_line (option_copied c.args.names)) c.args.machine.now (number - 1) number (number + 1 - 1) c.loop-number.machine c.args.text.now.items c.loop-number.text.items next same before.machine before.text;
+          ∙ one_more (is_shown sheet.options sheet.ending) (attempt_shown (option_copied c.args.names) sheet.options.fields) c.args.machine.now (number - 1) number (number + 1 - 1) c.loop-number.machine c.args.text.now.items c.loop-number.text.items next same before.machine before.text;
     }

@@ -1,7 +1,7 @@
 use Rattle.std.proofs.Common.{◌≡◌, ◌-◌, ◌++◌}
 use Rattle.machine.specs.Run.{after}
 use Rattle.std.specs.Prelude.{option_copied}
-use Rattle.bench_runs.specs.Attempts.{attempt_line}
+use Rattle.bench_runs.specs.Fields.{attempt_shown}
 use Rattle.bench_runs.specs.Traces.{is_shown, lines_shown}
 use Rattle.bench_runs.proofs.tracing.push_lines.Given as goal
 
@@ -9,5 +9,5 @@ abbrev pub invariant-loop-number : goal.invariant-loop-number
 invariant-loop-number g l = record {
   machine : l.machine ≡ after l.fn.machine (l.number - 1);
   text : l.text.items ≡ l.fn.text.items
-      ++ lines_shown (is_shown l.sheet.options l.sheet.ending) (attempt_line (option_copied l.names)) l.fn.machine (l.number - 1);
+      ++ lines_shown (is_shown l.sheet.options l.sheet.ending) (attempt_shown (option_copied l.names) l.sheet.options.fields) l.fn.machine (l.number - 1);
 }

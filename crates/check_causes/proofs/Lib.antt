@@ -1,0 +1,13 @@
+mod FormLemmas
+mod DigitLemmas
+mod OrderLemmas
+mod InstructionLemmas
+mod OperationLemmas
+mod WorkedLemmas
+mod AgreeLemmas
+mod CheckLaw
+mod FieldFacts
+mod NumberLemmas
+mod SoLemmas
+mod SentenceLaw
+mod TableLemmas

@@ -1,0 +1,20 @@
+//! The laws of the causes.
+
+ghost use Rattle.std.specs.Prelude.{◌≡◌, ◌↔◌, Some, None, Err, IsOk};
+ghost use Rattle.machine.specs.Effect.{Works, attempt};
+ghost use Rattle.check_causes.specs.declared.causes.Cause.{Cause};
+ghost use Rattle.check_causes.specs.Words.{check_of};
+ghost use Rattle.check_causes.specs.Causes.{cause};
+ghost use Rattle.check_causes.specs.Sentences.{IsSo};
+
+/// The law of checks: a cause is told exactly where a check stops the instruction at register I,
+/// and it is a cause of that check.
+pub fn causes_are_of_checks()
+    ensures told { (w : Works) (c : Cause) → cause w ≡ Some c → attempt w ≡ Err (check_of c) }
+    ensures none { (w : Works) → (cause w ≡ None) ↔ IsOk (attempt w) }
+{}
+
+/// The law of sentences: what a cause says in words is so.
+pub fn causes_are_so()
+    ensures { (w : Works) (c : Cause) → cause w ≡ Some c → IsSo c w }
+{}

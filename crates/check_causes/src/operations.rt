@@ -1,0 +1,92 @@
+//! Why an operation is stopped.
+
+ghost use Rattle.std.specs.Prelude.{◌≡◌, ◌≤◌, ◌<◌, true, codes};
+ghost use Rattle.machine.specs.Glyphs.{is_glyph};
+ghost use Rattle.machine.specs.Instructions.{operation_by, modifier_by};
+ghost use Rattle.check_causes.specs.Causes.{operation_told};
+ghost use Rattle.check_causes.specs.Devices.{carriage_told};
+
+use crate::causes::Cause;
+use crate::devices::{test_devices, test_order, test_pocket};
+use crate::places::{test_place, test_places, test_three};
+use crate::works::{
+    test_comparison, test_copy, test_edit, test_load, test_modification, test_move, test_sum,
+    test_suppression,
+};
+use bcd::Code;
+use core_store::Core;
+use units::{CarriageOrder, Devices, Printer, Units};
+
+/// Why the carriage order that the last character of an instruction names is stopped.
+#[tactic(auto, unfolding(crate::specs::Devices::carriage_told))]
+fn test_carriage(first: Code, count: u16, last: Code, printer: &Printer) -> Result<(), Cause>
+    requires { is_glyph first (codes "F") ≡ true }
+    ensures { result ≡ carriage_told (modifier_by first count last) printer.now }
+{
+    match CarriageOrder::of_code(last) {
+        Some(order) => test_order(order, printer),
+        None => Ok(()),
+    }
+}
+
+/// Why one of the operations that are not of the units is stopped at these addresses. Each of its
+/// characters has an arm of its own, since the last arm then knows each that it is not.
+#[tactic(auto, unfolding(crate::specs::Causes::operation_told))]
+fn test_other<C: Core>(
+    core: &C,
+    units: &Units,
+    first: Code,
+    count: u16,
+    last: Code,
+    a: u16,
+    b: u16,
+) -> Result<(), Cause>
+    requires high { 8 ≤ first }
+    requires below { first < 64 }
+    ensures { result ≡ operation_told (operation_by first) (modifier_by first count last)
+        (C.cells core.now) units.now a b }
+{
+    match first.glyph() {
+        b'A' => test_sum(core, a, b),
+        b'S' => test_sum(core, a, b),
+        b'?' => test_copy(core, a, b),
+        b'!' => test_copy(core, a, b),
+        b'C' => test_comparison(core, a, b),
+        b'#' => test_modification(core, a, b),
+        b'M' => test_move(core, a, b),
+        b'L' => test_load(core, a, b),
+        b'D' => test_places(core, a, b),
+        b'Y' => test_places(core, a, b),
+        b',' => test_places(core, a, b),
+        b')' => test_places(core, a, b),
+        b'Z' => test_suppression(core, a, b),
+        b'E' => test_edit(core, a, b),
+        b'/' => test_place(core, b),
+        b'F' => test_carriage(first, count, last, &units.printer),
+        b'K' => test_pocket(&units.punch),
+        b'Q' => test_three(core, a),
+        b'H' => test_three(core, a),
+        _ => Ok(()),
+    }
+}
+
+/// Why the operation that a character names is stopped at these addresses.
+#[tactic(auto, unfolding(crate::specs::Causes::operation_told))]
+pub(crate) fn test_operation<C: Core>(
+    core: &C,
+    units: &Units,
+    first: Code,
+    count: u16,
+    last: Code,
+    a: u16,
+    b: u16,
+) -> Result<(), Cause>
+    ensures { result ≡ operation_told (operation_by first) (modifier_by first count last)
+        (C.cells core.now) units.now a b }
+{
+    match first.number() {
+        0 => Ok(()),
+        sum @ 1..=7 => test_devices(Devices::of_sum(sum), units),
+        _ => test_other(core, units, first, count, last, a, b),
+    }
+}

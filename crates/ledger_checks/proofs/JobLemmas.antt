@@ -1,0 +1,67 @@
+-- A job that was run again is as its rows say.
+use Rattle.std.proofs.Common.{◌≡◌, ℕ, pos, List, [], ◌∷◌, All, take, ap, subst, ◌∙◌}
+use Rattle.cards.specs.declared.decks.Card.{Card}
+use Rattle.cards.specs.Decks.{deck_bytes, IsDeck}
+use Rattle.machine.specs.Run.{State, lines_of}
+use Rattle.machine.specs.Run as run
+use Rattle.machine.specs.declared.standings.Standing.TheVariants.{Halted}
+use Rattle.units.specs.declared.profiles.Profile.{Profile}
+use Rattle.office.specs.Jobs.{all_off, loaded_of, picture, resumed, IsJob}
+use Rattle.office.specs.Kept.{Kept, kept_of, summary_of}
+use Rattle.office.specs.Office.{Entry}
+use Rattle.office.specs.declared.stretches.Stretch.{Stretch}
+use Rattle.office.specs.declared.summaries.Summary.{Summary}
+use Rattle.ledger_rows.specs.Columns.{HoldsCharacters, IsLine}
+use Rattle.ledger_rows.specs.Pockets.{IsPunched}
+use Rattle.sqlite.specs.Order.{Row}
+use Rattle.ledger_tables.specs.Tables.{job_row}
+use Rattle.ledger.specs.Standing.{named, CanBeKept}
+use Rattle.ledger_checks.specs.Again.{HasResumed, IsLoading}
+use Rattle.ledger_checks.specs.Jobs.{HasRunAs, entry_of, row_of}
+use Rattle.ledger_checks.specs.Kept.{HasMachine, IsKept, rows_of_stretches}
+use Rattle.ledger_checks.specs.Tables.{rows_of}
+use Rattle.ledger_checks.specs.declared.all_rows.AllRows.{AllRows}
+use Rattle.ledger_checks.specs.declared.submitted.Numbers.{Numbers}
+
+module _ (all : AllRows) (it : Row) (customer : List ℕ) (number : ℕ) (numbers : Numbers) (deck loaded : List Card) (deck_b loaded_b : List ℕ) (profile : Profile) (stretches : List Stretch) (m : State) (summary : Summary)
+    (loading : IsLoading numbers.kind deck loaded) (deck_is : deck_b ≡ deck_bytes deck) (loaded_is : loaded_b ≡ deck_bytes loaded) (row : it ≡ row_of customer number numbers deck_b loaded_b)
+    (has_stretches : rows_of customer number all.stretches.items ≡ rows_of_stretches customer number stretches) (went : HasResumed (run.loaded loaded numbers.size all_off profile) stretches m)
+    (machine : HasMachine customer number all m) (cards : All IsPunched m.works.units.punch.cards) (lines : All IsLine (lines_of m)) (storage : HoldsCharacters m.works.storage)
+    (told : summary ≡ summary_of (record { stretches = stretches; held = numbers.held; collected = numbers.collected; machine = m })) where
+  abbrev e : Entry
+  e = entry_of customer number numbers deck profile stretches
+
+  begun_is : run.loaded loaded numbers.size all_off profile ≡ run.loaded (loaded_of numbers.kind deck) numbers.size all_off profile
+  begun_is = ap (λ d. run.loaded d numbers.size all_off profile) loading.loaded_is
+
+  picture_is : m ≡ picture e.job
+  picture_is = went.machine ∙ ap (λ b. resumed b stretches) begun_is
+
+  is_job : IsJob e.job
+  is_job = record {
+    deck = loading.is_deck;
+    card = loading.card;
+    faultless = loading.faultless;
+    loaded = subst IsDeck loading.loaded_is loading.is_loaded;
+    stretches = went.allowed;
+    halts = λ n some within. subst (λ (b : State). (resumed b (take n stretches)).standing ≡ Halted) begun_is (went.halts n some within);
+  }
+
+  can : CanBeKept e.job
+  can = record {
+    job = is_job;
+    storage = subst (λ (s : State). HoldsCharacters s.works.storage) picture_is storage;
+    cards = subst (λ (s : State). All IsPunched s.works.units.punch.cards) picture_is cards;
+    lines = subst (λ (s : State). All IsLine (lines_of s)) picture_is lines;
+  }
+
+  kept : IsKept all e
+  kept = record { can = can; stretches = has_stretches; machine = subst (HasMachine customer number all) picture_is machine }
+
+  pub run_as : HasRunAs all it e summary
+  run_as = record {
+    row = row ∙ ap (λ b. row_of customer number numbers b loaded_b) deck_is
+        ∙ ap (λ b. row_of customer number numbers (deck_bytes deck) b) (loaded_is ∙ ap deck_bytes loading.loaded_is);
+    kept = kept;
+    summary_is = told ∙ ap (λ (s : State). let k : Kept = record { stretches = stretches; held = numbers.held; collected = numbers.collected; machine = s } in summary_of k) picture_is;
+  }

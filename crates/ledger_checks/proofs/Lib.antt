@@ -1,0 +1,5 @@
+pub mod RowLemmas
+pub mod AgainLemmas
+pub mod LoadedLemmas
+pub mod PlacedLemmas
+pub mod JobLemmas

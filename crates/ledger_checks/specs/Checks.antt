@@ -1,0 +1,40 @@
+-- what the check of all tables finds
+use Rattle.std.specs.Prelude.{◌≡◌, Result, IfOk, IsTrue}
+use Rattle.office.specs.Office.{Office}
+use Rattle.sqlite.specs.Held.{Held, state}
+use Rattle.sqlite.specs.State.{HasCleanDisk, IsUnchanged}
+use Rattle.sqlite.specs.View.{IsClean}
+use Rattle.sqlite_trees.specs.declared.store.Store.{Ghosts}
+use Rattle.std.specs.List.{AllZip}
+use Rattle.ledger_tables.specs.Schema.{bureau_schema}
+use Rattle.ledger_tables.specs.declared.faults.Fault.{Fault}
+use Rattle.ledger_checks.specs.Kept.{AreKept}
+use Rattle.ledger_checks.specs.Reports.{HasNoDifference, StandsFor, Tells}
+use Rattle.ledger_checks.specs.Tables.{IsBureaus}
+use Rattle.ledger_checks.specs.declared.all_rows.AllRows.{AllRows}
+use Rattle.ledger_checks.specs.declared.reports.Report.{Report}
+
+-- the rows of all tables are those of an office, of each of whose jobs the report tells
+pub record KeepsTold (all : AllRows) (report : Report) : Type 0 where
+  pub office : Office
+  pub kept : AreKept all office
+  pub tells : AllZip Tells report.jobs.items office
+
+-- if the report tells no difference, the rows of all tables are those of an office
+abbrev pub IsSoundFor : AllRows → Report → Type 0
+IsSoundFor all report = HasNoDifference report → KeepsTold all report
+
+module _ {S : Type 0} (g : Ghosts S) where
+  -- on Ok, if the database is a bureau's, it is unchanged, and if the report tells no difference,
+  -- its tables stand for an office
+  abbrev pub Finds : Held S → Held S → Result Report Fault → Type 0
+  Finds old new result = HasCleanDisk (state g new) → IfOk result (λ report.
+      IsBureaus (state g old).now → IsUnchanged (state g old) (state g new)
+      × (HasNoDifference report → StandsFor (state g old).now report))
+
+  -- on Ok, if a connection outside a transaction saw a bureau's schema, and the report tells no
+  -- difference, the tables stood for an office
+  abbrev pub FindsAlone : Held S → S → Result Report Fault → Type 0
+  FindsAlone conn store result = IsClean (g.view store) → IfOk result (λ report.
+      (state g conn).now.schema ≡ bureau_schema
+      → HasNoDifference report → StandsFor (state g conn).now report)

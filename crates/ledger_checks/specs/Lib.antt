@@ -1,0 +1,6 @@
+pub mod Again
+pub mod Checks
+pub mod Jobs
+pub mod Kept
+pub mod Reports
+pub mod Tables

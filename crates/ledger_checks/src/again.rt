@@ -1,0 +1,168 @@
+//! Running a job again.
+
+ghost use Rattle.std.specs.Prelude.{◌≡◌, ◌<◌, ◌++◌, ◌-◌, ◌^◌, ◌↔◌, [], All, length, min, IfOk, OnOk, IsTrue};
+ghost use Rattle.cards.specs.Decks.{deck_bytes};
+ghost use Rattle.machine.specs.Run.{after, loaded as begun, started};
+ghost use Rattle.office.specs.Jobs.{all_off, granted, AreStretches, HasSwitches};
+ghost use Rattle.ledger_checks.specs.Again.{GoesThrough, HasResumed, IsLoading, LoadsAs};
+
+use crate::differences::{Difference, Stop};
+use cards::{Card, Deck, DeckFault};
+use core_store::{PlaneCore, Size};
+use ledger_rows::deck_bytes;
+use machine::{Machine, Meter, Standing};
+use office::{Contents, Kind, NewFault, Stretch, commands_keep_jobs, new_job};
+use bitflags::Flags;
+use std::alloc::{AllocError, Global};
+use units::{Profile, Switches};
+
+/// The greatest number of instructions that a job is granted, over all its stretches.
+const MOST_GRANTED: u32 = 1_000_000_000;
+
+/// The deck that a job's machine loads, and the bytes of it and of the deck that was handed in.
+#[derive(Drop)]
+pub(crate) struct Loaded {
+    pub loaded: Deck,
+    pub loaded_bytes: Vec<u8>,
+    pub deck_bytes: Vec<u8>,
+}
+
+/// Adds some cards to a deck.
+fn push_cards(deck: &mut Deck, cards: &[Card]) -> Result<(), DeckFault>
+    ensures { OnOk result (deck.new ≡ deck.old ++ cards.now) }
+{
+    for card in cards {
+        deck.push(Card(card.0))?;
+    }
+    Ok(())
+}
+
+/// A copy of a deck.
+fn copy_of(alloc: Global, deck: &Deck) -> Result<Deck, AllocError>
+    ensures { IfOk result (λ copy. copy ≡ deck.now) }
+{
+    let mut copy = Deck::with_room(alloc, deck.cards().len())?;
+    match push_cards(&mut copy, deck.cards()) {
+        Ok(()) => Ok(copy),
+        Err(_) => Err(AllocError),
+    }
+}
+
+/// The deck that the machine of these contents loads, or why they are refused.
+fn loaded_for(alloc: Global, contents: &Contents) -> Result<Deck, Stop>
+    ensures { IfOk result (LoadsAs contents.now) }
+{
+    // A law, for the proof: it does nothing.
+    commands_keep_jobs();
+    match new_job::<PlaneCore>(alloc, contents) {
+        Ok(job) => {
+            let machine = job.parts().machine;
+            Ok(copy_of(alloc, &machine.units.hopper.deck)?)
+        }
+        Err(NewFault::Refused(reason)) => Err(Stop::Differs(Difference::Refused(reason))),
+        Err(NewFault::NoMemory) => Err(Stop::NoMemory),
+    }
+}
+
+/// The deck that the machine of a job loads, or why the job is refused.
+pub(crate) fn load(alloc: Global, kind: Kind, size: Size, deck: Deck) -> Result<Loaded, Stop>
+    ensures { IfOk result (λ it. IsLoading kind deck it.loaded
+        × (it.deck_bytes.items ≡ deck_bytes deck)
+        × (it.loaded_bytes.items ≡ deck_bytes it.loaded)) }
+{
+    let contents = Contents {
+        kind,
+        size: size.positions() as u32,
+        switches: Switches::from_bits_retain(0),
+        deck,
+    };
+    let loaded = loaded_for(alloc, &contents)?;
+    let deck_bytes = deck_bytes(alloc, &contents.deck)?;
+    let loaded_bytes = ledger_rows::deck_bytes(alloc, &loaded)?;
+    Ok(Loaded {
+        loaded,
+        loaded_bytes,
+        deck_bytes,
+    })
+}
+
+/// The number of instructions granted in all, or the greatest number if that is more.
+pub(crate) fn granted_in(stretches: &[Stretch]) -> u32
+    ensures { result ≡ min (granted stretches.now) (2 ^ 32 - 1) }
+{
+    let mut total = 0u32;
+    for stretch in stretches {
+        total = total.saturating_add(stretch.granted);
+    }
+    total
+}
+
+/// Whether no stretch has the eighth bit, which is not a switch.
+fn have_switches(stretches: &[Stretch]) -> bool
+    ensures { IsTrue result → All HasSwitches stretches.now }
+{
+    for stretch in stretches {
+        if !stretch.switches.are_seven() {
+            return false;
+        }
+    }
+    true
+}
+
+/// Whether a job may have these stretches.
+fn are_stretches(stretches: &[Stretch]) -> bool
+    ensures { IsTrue result → AreStretches stretches.now }
+{
+    !stretches.is_empty() && have_switches(stretches) && granted_in(stretches) <= MOST_GRANTED
+}
+
+/// Starts a machine that is at a halt, and runs it for a stretch.
+fn resume(
+    machine: &mut Machine<PlaneCore>,
+    stretch: Stretch,
+    meter: &mut Meter,
+) -> Result<(), AllocError>
+    requires { machine.old.standing ≡ Standing.Halted }
+    ensures { OnOk result
+        (machine.new ≡ after (started machine.old stretch.switches) stretch.granted) }
+{
+    machine.start(stretch.switches);
+    machine.run(stretch.granted, meter)?;
+    Ok(())
+}
+
+/// Goes through these stretches, each of which begins at a halt.
+fn go_on(machine: &mut Machine<PlaneCore>, stretches: &[Stretch]) -> Result<(), Stop>
+    ensures { OnOk result (GoesThrough machine.old machine.new stretches.now) }
+{
+    let mut meter = Meter::new();
+    for at in 0..stretches.len() {
+        if machine.parts().standing != Standing::Halted {
+            return Err(Stop::Differs(Difference::NotAtHalt(at)));
+        }
+        resume(machine, stretches[at], &mut meter)?;
+    }
+    Ok(())
+}
+
+/// Runs a job again: from the load button through its stretches.
+pub(crate) fn run_again(
+    alloc: Global,
+    loaded: Deck,
+    size: Size,
+    profile: Profile,
+    stretches: &[Stretch],
+) -> Result<Machine<PlaneCore>, Stop>
+    ensures { IfOk result (HasResumed (begun loaded size all_off profile) stretches.now) }
+{
+    if loaded.cards().is_empty() || !are_stretches(stretches) {
+        return Err(Stop::Differs(Difference::NoStretches));
+    }
+    let Some((first, others)) = stretches.split_first() else {
+        return Err(Stop::Differs(Difference::NoStretches));
+    };
+    let mut machine = Machine::load(alloc, loaded, size, first.switches, profile)?;
+    machine.run(first.granted, &mut Meter::new())?;
+    go_on(&mut machine, others)?;
+    Ok(machine)
+}

@@ -1,0 +1,100 @@
+//! The check of all tables.
+
+ghost use Rattle.std.specs.Prelude.{◌≡◌, ◌≤◌, [], IfOk, OnOk, IsNone};
+ghost use Rattle.sqlite.specs.Held.{state};
+ghost use Rattle.sqlite.specs.State.{HasCleanDisk};
+ghost use Rattle.sqlite.specs.View.{doubt, IsClean};
+ghost use Rattle.ledger_checks.specs.Checks.{Finds, FindsAlone, IsSoundFor};
+ghost use Rattle.ledger_checks.specs.Kept.{AreOwned, version_row};
+
+use crate::all_rows::AllRows;
+use crate::cells::first_other;
+use crate::jobs::check_jobs;
+use crate::owners::first_stray;
+use crate::reports::{Report, Stray, Table};
+use ledger_tables::{Fault, VERSION};
+use sqlite::{Alter, Connection, Row, params};
+use sqlite_trees::store::Store;
+use std::alloc::{AllocError, Global};
+
+/// The place of the first row of `bureau` that is not as it is to be: one row, with the version.
+fn first_other_version(rows: &[Row]) -> Option<usize>
+    ensures { IsNone result → rows.now ≡ version_row }
+{
+    let [row] = rows else {
+        return Some(1);
+    };
+    match first_other(row, params![1u32, VERSION]) {
+        None => None,
+        Some(_) => Some(0),
+    }
+}
+
+/// Adds the first stray row of a table, if there is one.
+fn add(strays: &mut Vec<Stray>, table: Table, row: Option<usize>) -> Result<(), AllocError>
+    ensures { OnOk result (strays.new.items ≡ [] → (strays.old.items ≡ []) × IsNone row) }
+{
+    if let Some(row) = row {
+        strays.try_reserve(1)?;
+        strays.push_reserved(Stray { table, row });
+    }
+    Ok(())
+}
+
+/// The first stray row of each table.
+fn find_strays(alloc: Global, all: &AllRows) -> Result<Vec<Stray>, AllocError>
+    ensures { IfOk result (λ strays. strays.items ≡ []
+        → (all.now.version.items ≡ version_row) × AreOwned all.now) }
+{
+    let jobs = all.jobs.as_slice();
+    let mut strays = Vec::new(alloc);
+    add(&mut strays, Table::Bureau, first_other_version(&all.version))?;
+    add(&mut strays, Table::Stretches, first_stray(jobs, &all.stretches))?;
+    add(&mut strays, Table::States, first_stray(jobs, &all.states))?;
+    add(&mut strays, Table::Pages, first_stray(jobs, &all.pages))?;
+    add(&mut strays, Table::Cards, first_stray(jobs, &all.cards))?;
+    add(&mut strays, Table::Lines, first_stray(jobs, &all.lines))?;
+    add(&mut strays, Table::Profiles, first_stray(jobs, &all.profiles))?;
+    add(&mut strays, Table::Pockets, first_stray(jobs, &all.pockets))?;
+    Ok(strays)
+}
+
+/// Compares the rows of all tables with what the jobs make, each run again.
+fn check_rows(alloc: Global, all: &AllRows) -> Result<Report, AllocError>
+    ensures { IfOk result (IsSoundFor all.now) }
+{
+    let jobs = check_jobs(alloc, all)?;
+    let strays = find_strays(alloc, all)?;
+    Ok(Report { jobs, strays })
+}
+
+/// Runs each job of a bureau again, and compares the rows of all tables with what it makes. Nothing
+/// is written.
+pub fn check_tables<S: Alter>(
+    alloc: Global,
+    conn: &mut Connection<S>,
+) -> Result<Report, Fault>
+    ensures sound { Finds S.Store conn.old conn.new result }
+    ensures clean { doubt (state S.Store conn.old).is_clean
+        ≤ doubt (state S.Store conn.new).is_clean }
+{
+    let all = AllRows::read(conn)?;
+    let report = check_rows(alloc, &all)?;
+    Ok(report)
+}
+
+/// Runs each job of a bureau again, and compares the rows of all tables with what it makes. Nothing
+/// is written, and the store is handed back. If nothing differs, the tables stand for an office,
+/// and the report tells of each of its jobs. Fails with 1 if there is no memory, and with 2 if the
+/// store fails.
+pub fn check<S: Alter + Drop>(alloc: Global, conn: Connection<S>) -> (Result<Report, Fault>, S)
+    ensures { FindsAlone S.Store conn result.1 result.0 }
+{
+    let mut conn = conn;
+    let checked = check_tables(alloc, &mut conn);
+    let store = conn.into_store();
+    if store.is_broken() {
+        return (Err(Fault::Store), store);
+    }
+    (checked, store)
+}

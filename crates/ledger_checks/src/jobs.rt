@@ -1,0 +1,215 @@
+//! One job, run again and compared with its rows.
+
+ghost use Rattle.std.specs.Prelude.{◌≡◌, ℕ, ℤ, List, IfOk, OnOk};
+ghost use Rattle.machine.specs.Ranges.{IsInRange};
+ghost use Rattle.office.specs.Jobs.{AreStretches};
+ghost use Rattle.office.specs.Kept.{summary_of};
+ghost use Rattle.ledger.specs.Standing.{kind_number};
+ghost use Rattle.sqlite.specs.Order.{column};
+ghost use Rattle.sqlite.specs.declared.types.Value.TheVariants.{Int, Text};
+ghost use Rattle.ledger_checks.specs.Jobs.{HasOutcome, HasRun, HasRunAs, entry_of, row_of};
+ghost use Rattle.ledger_checks.specs.Reports.{AreReported, IsAsItRan, IsReported};
+
+use crate::again::{Loaded, granted_in, load, run_again};
+use crate::all_rows::AllRows;
+use crate::cells::{first_other, number_at, text_at};
+use crate::differences::{Difference, Place, Stop, value_apart};
+use crate::following::pass_none;
+use crate::machines::{check_machine, check_stretches};
+use crate::reports::{JobReport, Outcome};
+use crate::submitted::{Numbers, Submitted, read_profile, read_stretches, read_submitted};
+use core_store::PlaneCore;
+use ledger_rows::truth;
+use ledger_tables::JobName;
+use machine::Parts;
+use office::{Kind, Stretch, Summary};
+use sqlite::types::ValueRef;
+use sqlite::{Row, params};
+use std::alloc::{AllocError, Global};
+use units::Profile;
+
+/// The number of a kind.
+fn kind_number(kind: Kind) -> u32
+    ensures { result ≡ kind_number kind }
+{
+    match kind {
+        Kind::Object => 0,
+        Kind::Autocoder => 1,
+    }
+}
+
+/// The job's row is this one.
+fn check_row(
+    row: &Row,
+    name: JobName<'_>,
+    job: Numbers,
+    loaded: &Loaded,
+) -> Result<(), Difference>
+    ensures { OnOk result (row.now ≡ row_of name.entry.customer.now name.entry.number job
+        loaded.now.deck_bytes.items loaded.now.loaded_bytes.items) }
+{
+    let size = job.size.positions() as u32;
+    let wanted = params![
+        name.customer,
+        name.number,
+        kind_number(job.kind),
+        size,
+        loaded.deck_bytes.as_slice(),
+        loaded.loaded_bytes.as_slice(),
+        truth(job.held),
+        truth(job.collected),
+    ];
+    match first_other(row, wanted) {
+        None => Ok(()),
+        Some(column) => Err(Difference::Row(
+            Place::Job,
+            value_apart(row, wanted, column),
+        )),
+    }
+}
+
+/// The summary of a job with this machine.
+fn summary_of(numbers: Numbers, stretches: &[Stretch], machine: &Parts<PlaneCore>) -> Summary
+    requires stretches { AreStretches stretches.now }
+    requires machine { IsInRange machine.now }
+    ensures { result ≡ summary_of (record {
+        stretches = stretches.now;
+        held = numbers.held;
+        collected = numbers.collected;
+        machine = machine.now;
+    }) }
+{
+    Summary {
+        standing: machine.standing_at(),
+        held: numbers.held,
+        collected: numbers.collected,
+        granted: granted_in(stretches),
+        cards: machine.units.punch.cards.len() as u32,
+        lines: machine.units.printer.lines.len() as u32,
+    }
+}
+
+/// The job with this name and these contents, profile and stretches is run again, and compared with
+/// its rows.
+fn check_again(
+    alloc: Global,
+    all: &AllRows,
+    row: &Row,
+    name: JobName<'_>,
+    submitted: Submitted,
+    profile: Profile,
+    stretches: &[Stretch],
+) -> Result<Summary, Stop>
+    ensures { IfOk result (HasRunAs all.now row.now (entry_of name.entry.customer.now
+        name.entry.number submitted.numbers submitted.deck profile stretches.now)) }
+{
+    let Submitted { numbers, deck } = submitted;
+    let loaded = load(alloc, numbers.kind, numbers.size, deck)?;
+    check_row(row, name, numbers, &loaded)?;
+    check_stretches(&all.stretches, name, stretches)?;
+    let machine = run_again(alloc, loaded.loaded, numbers.size, profile, stretches)?;
+    check_machine(all, name, machine.parts())?;
+    Ok(summary_of(numbers, stretches, machine.parts()))
+}
+
+/// The job of this name and row is run again, and compared with its rows.
+fn check_named(
+    alloc: Global,
+    all: &AllRows,
+    later: &[Row],
+    row: &Row,
+    name: JobName<'_>,
+) -> Result<Summary, Stop>
+    ensures { IfOk result (HasRun all.now later.now row.now) }
+{
+    let submitted = read_submitted(alloc, row)?;
+    let stretches = read_stretches(alloc, &all.stretches, name)?;
+    let profile = read_profile(&all.profiles, name)?;
+    pass_none(later, name, Place::Job)?;
+    check_again(alloc, all, row, name, submitted, profile, &stretches)
+}
+
+/// The job of this row is run again, and compared with its rows.
+fn check_row_of(
+    alloc: Global,
+    all: &AllRows,
+    later: &[Row],
+    row: &Row,
+) -> Result<Summary, Stop>
+    ensures { IfOk result (HasRun all.now later.now row.now) }
+{
+    let Some(customer) = text_at(row, 0) else {
+        return Err(Stop::Differs(Difference::NoJob { column: 0 }));
+    };
+    let Some(number) = number_at(row, 1) else {
+        return Err(Stop::Differs(Difference::NoJob { column: 1 }));
+    };
+    check_named(alloc, all, later, row, JobName { customer, number })
+}
+
+/// The bytes of the text in a column, or none.
+fn label_bytes(alloc: Global, row: &Row) -> Result<Vec<u8>, AllocError>
+    ensures { IfOk result (λ bytes. (text : List ℕ) → column row.now 0 ≡ Text text
+        → bytes.items ≡ text) }
+{
+    match row.get_ref(0) {
+        Ok(ValueRef::Text(bytes)) => Vec::from_slice(alloc, bytes),
+        _ => Ok(Vec::new(alloc)),
+    }
+}
+
+/// The number in the second column, or 0.
+fn label_number(row: &Row) -> i64
+    ensures { (number : ℤ) → column row.now 1 ≡ Int number → result ≡ number }
+{
+    match row.get_ref(1) {
+        Ok(ValueRef::Int(number)) => number,
+        _ => 0,
+    }
+}
+
+/// What came of the job of this row.
+fn outcome_of(
+    alloc: Global,
+    all: &AllRows,
+    later: &[Row],
+    row: &Row,
+) -> Result<Outcome, AllocError>
+    ensures { IfOk result (HasOutcome all.now later.now row.now) }
+{
+    match check_row_of(alloc, all, later, row) {
+        Ok(summary) => Ok(Outcome::AsItRan(summary)),
+        Err(Stop::Differs(difference)) => Ok(Outcome::Differs(difference)),
+        Err(Stop::NoMemory) => Err(AllocError),
+    }
+}
+
+/// What is told of the job of this row.
+fn check_job(
+    alloc: Global,
+    all: &AllRows,
+    later: &[Row],
+    row: &Row,
+) -> Result<JobReport, AllocError>
+    ensures { IfOk result (λ report. IsAsItRan report.outcome
+        → IsReported all.now later.now row.now report) }
+{
+    Ok(JobReport {
+        customer: label_bytes(alloc, row)?,
+        number: label_number(row),
+        outcome: outcome_of(alloc, all, later, row)?,
+    })
+}
+
+/// What is told of each job.
+pub(crate) fn check_jobs(alloc: Global, all: &AllRows) -> Result<Vec<JobReport>, AllocError>
+    ensures { IfOk result (λ reports. AreReported all.now all.now.jobs.items reports.items) }
+{
+    let mut reports = Vec::new(alloc);
+    for at in 0..all.jobs.len() {
+        let report = check_job(alloc, all, &all.jobs[at + 1..], &all.jobs[at])?;
+        reports.try_reserve(1)?;
+        reports.push_reserved(report);
+    }
+    Ok(reports)
+}

@@ -1,0 +1,96 @@
+//! What the check tells.
+
+ghost use Rattle.std.specs.Prelude.{◌≡◌, ◌↔◌, IsTrue};
+ghost use Rattle.ledger_checks.specs.Reports.{HasNoDifference};
+
+use crate::differences::Difference;
+use office::Summary;
+
+/// A table of a bureau.
+#[derive(Clone, Copy, Debug, PartialEq, Eq)]
+pub enum Table {
+    Bureau,
+    Stretches,
+    States,
+    Pages,
+    Cards,
+    Lines,
+    Profiles,
+    Pockets,
+}
+
+/// The first row of a table that is not as it is to be, whatever the jobs: it names no job, or the
+/// row of `bureau` does not have the version.
+#[derive(Drop)]
+pub struct Stray {
+    pub table: Table,
+    /// Its place among the rows that were read, from 0.
+    pub row: usize,
+}
+
+/// What came of a job that was run again.
+#[derive(Drop)]
+pub enum Outcome {
+    /// Its rows are those that it makes.
+    AsItRan(Summary),
+    /// They are not.
+    Differs(Difference),
+}
+
+/// What is told of a job.
+#[derive(Drop)]
+pub struct JobReport {
+    /// The bytes of its customer's name.
+    pub customer: Vec<u8>,
+    pub number: i64,
+    pub outcome: Outcome,
+}
+
+/// What is told of a bureau's file: of each row of `jobs`, in their order, and the first stray row
+/// of each table.
+#[derive(Drop)]
+pub struct Report {
+    pub jobs: Vec<JobReport>,
+    pub strays: Vec<Stray>,
+}
+
+impl Outcome {
+    /// Whether the job is as it ran.
+    fn is_as_it_ran(&self) -> bool
+        ensures { IsTrue result ↔ IsAsItRan self.now }
+    {
+        match self {
+            Outcome::AsItRan(_) => true,
+            Outcome::Differs(_) => false,
+        }
+    }
+}
+
+/// How many of these jobs are not as they ran.
+fn count_differing(jobs: &[JobReport]) -> usize
+    ensures { result ≡ 0 ↔ AllByRecursion (λ it. IsAsItRan it.outcome) jobs.now }
+{
+    let mut count = 0;
+    for job in jobs {
+        if !job.outcome.is_as_it_ran() {
+            count += 1;
+        }
+    }
+    count
+}
+
+impl Report {
+    /// How many jobs differ.
+    pub fn differing(&self) -> usize
+        ensures { result ≡ 0 ↔ AllByRecursion (λ it. IsAsItRan it.outcome) self.now.jobs.items }
+    {
+        count_differing(&self.jobs)
+    }
+
+    /// Whether nothing differs.
+    pub fn has_no_difference(&self) -> bool
+        ensures { IsTrue result ↔ HasNoDifference self.now }
+    {
+        self.strays.is_empty() && self.differing() == 0
+    }
+}

@@ -1,0 +1,75 @@
+//! The row `check`.
+
+use command_line::Status;
+use ledger_checks::{Report, check, report_text};
+use ledger_files::{Look, look_into};
+use ledger_tables::{Fault, OpenFault};
+use sqlite::{Alter, Connection};
+use std::alloc::Global;
+use std::io;
+use std::io::Write;
+
+/// The look of a check into a bureau's tables: the report, or what hindered it.
+#[derive(Drop)]
+struct CheckLook {
+    checked: Option<Result<Report, Fault>>,
+}
+
+impl Look for CheckLook {
+    fn look<S: Alter + Drop>(&mut self, alloc: Global, conn: Connection<S>) -> S {
+        let (checked, store) = check(alloc, conn);
+        self.checked = Some(checked);
+        store
+    }
+}
+
+/// Prints why a file could not be checked, and the way out.
+fn tell_fault<E: Write>(path: &str, fault: OpenFault, errors: &mut E) -> io::Result<Status> {
+    let (words, status) = match fault {
+        OpenFault::NoMemory => ("fault 1: there is no memory", Status::NotDone),
+        OpenFault::Store => (
+            "fault 2: the file cannot be used; is it there, and has no other program it open?",
+            Status::Unusable,
+        ),
+        OpenFault::NotABureau => (
+            "fault 50: that is no bureau's file, or one of a later version",
+            Status::Unusable,
+        ),
+        OpenFault::Old(_) => (
+            "fault 51: the file is of an earlier version; bureau migrate makes it one of this",
+            Status::Unusable,
+        ),
+    };
+    writeln!(errors, "{path}: {words}")?;
+    Ok(status)
+}
+
+/// Prints a report. The status tells whether anything differs.
+fn show<W: Write>(rt: &HostRuntime, report: &Report, output: &mut W) -> io::Result<Status> {
+    let text = report_text(rt.alloc(), report)?;
+    output.write_all(&text)?;
+    output.flush()?;
+    if report.has_no_difference() {
+        Ok(Status::Done)
+    } else {
+        Ok(Status::NotDone)
+    }
+}
+
+/// Runs each job of the bureau's file at a path again, and prints what differs.
+pub(crate) fn check_file<W: Write, E: Write>(
+    rt: &HostRuntime,
+    path: &str,
+    output: &mut W,
+    errors: &mut E,
+) -> io::Result<Status> {
+    let mut look = CheckLook { checked: None };
+    if let Err(fault) = look_into(rt, path, &mut look) {
+        return tell_fault(path, fault, errors);
+    }
+    match &look.checked {
+        Some(Ok(report)) => show(rt, report, output),
+        Some(Err(Fault::NoMemory)) => tell_fault(path, OpenFault::NoMemory, errors),
+        _ => tell_fault(path, OpenFault::Store, errors),
+    }
+}

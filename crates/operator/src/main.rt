@@ -1,0 +1,76 @@
+//! The program `operator`: what the operator of a bureau does, beside the bureau's own program.
+//!
+//! What a check finds is said exactly by `ledger_checks`, and the turns of the jobs by
+//! `queue_rounds`. Here they are joined to the process's words, files and sockets. The clauses of
+//! the kit do not mention these, so what is read and sent where is tested by
+//! `cases/check-operator`.
+#![tactic(auto)]
+
+mod checking;
+mod clients;
+mod tallies;
+mod working;
+
+use crate::checking::check_file;
+use crate::working::run_queue;
+use command_line::{Status, Unfailing, exit_code};
+use operator_words::{Misuse, Task, show_help, show_version, task_of, tell_misuse};
+use std::io::Write;
+use std::process::ExitCode;
+use std::{env, io};
+
+/// The words of the process. The first is the program's name.
+fn words_given(rt: &HostRuntime) -> Result<Vec<String>, Misuse> {
+    Ok(env::args(rt)?.collect(rt.alloc())?)
+}
+
+/// Does a task.
+fn carry_out<W: Write, E: Write>(
+    rt: &HostRuntime,
+    task: Task<'_>,
+    output: &mut W,
+    errors: &mut E,
+) -> io::Result<Status> {
+    match task {
+        Task::Help(row) => show_help(output, errors, row),
+        Task::Version => show_version(output, errors),
+        Task::Check { file } => check_file(rt, file, output, errors),
+        Task::Work { port, rounds } => run_queue(rt, port, rounds, output, errors),
+    }
+}
+
+/// Does a task, and tells if it failed: its output could not be written, or there was no memory.
+fn carry_out_or_tell<W: Write, E: Write>(
+    rt: &HostRuntime,
+    task: Task<'_>,
+    output: &mut W,
+    errors: &mut E,
+) -> io::Result<Status> {
+    match carry_out(rt, task, output, errors) {
+        Ok(status) => Ok(status),
+        Err(error) => {
+            writeln!(errors, "operator: {error}")?;
+            Ok(Status::NotDone)
+        }
+    }
+}
+
+/// Does what the process's words ask for.
+fn answer(rt: &HostRuntime) -> io::Result<Status> {
+    let mut output = rt.stdout();
+    let mut errors = Unfailing::new(rt.stderr());
+    let words = match words_given(rt) {
+        Ok(words) => words,
+        Err(misuse) => return tell_misuse(&mut errors, misuse),
+    };
+    let words = words.as_slice();
+    let after_name = if words.is_empty() { words } else { &words[1..] };
+    match task_of(rt.alloc(), after_name) {
+        Ok(task) => carry_out_or_tell(rt, task, &mut output, &mut errors),
+        Err(misuse) => tell_misuse(&mut errors, misuse),
+    }
+}
+
+fn main(rt: HostRuntime) -> ExitCode {
+    exit_code(answer(&rt))
+}

@@ -1,0 +1,50 @@
+//! How many instructions each job has done.
+
+use queue_rounds::JobName;
+use std::alloc::{AllocError, Global};
+
+/// The instructions of a job.
+#[derive(Drop)]
+struct Count {
+    job: JobName,
+    executed: u64,
+}
+
+/// The instructions that each job did, by its name.
+#[derive(Drop)]
+pub(crate) struct Tally {
+    counts: Vec<Count>,
+}
+
+impl Tally {
+    /// No job has done any.
+    pub(crate) fn new(alloc: Global) -> Tally {
+        Tally {
+            counts: Vec::new(alloc),
+        }
+    }
+
+    /// Adds instructions that a job did. Returns how many it has done.
+    pub(crate) fn add(
+        &mut self,
+        alloc: Global,
+        job: &JobName,
+        executed: u32,
+    ) -> Result<u64, AllocError> {
+        for count in self.counts.iter_mut() {
+            if count.job == *job {
+                count.executed = count.executed.saturating_add(u64::from(executed));
+                return Ok(count.executed);
+            }
+        }
+        let customer = String::from_str(alloc, job.customer.as_str())?;
+        self.counts.push(Count {
+            job: JobName {
+                customer,
+                number: job.number,
+            },
+            executed: u64::from(executed),
+        })?;
+        Ok(u64::from(executed))
+    }
+}

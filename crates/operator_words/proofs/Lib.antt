@@ -1,0 +1,2 @@
+mod CommandParses
+mod RowTasks

@@ -1,0 +1,4 @@
+pub mod Command
+pub mod Values
+pub mod Tasks
+pub mod Printed
