@@ -12,8 +12,8 @@ ghost use Rattle.console.specs.Sittings.{HasCome, Sitting, begun, machine_of, mo
 
 use crate::going::{cell_of, go, press, push_attempts, rerun};
 use crate::showing::{
-    Ends, push_fault, push_field, push_if_stopped, push_made, push_past, push_place, push_stops,
-    push_watched, push_why,
+    Ends, push_fault, push_field_line, push_if_stopped, push_made, push_past, push_place,
+    push_stops, push_watched, push_why,
 };
 use crate::starts::Start;
 use crate::stops::{starts_until, with_stop, without_stop};
@@ -410,6 +410,6 @@ impl Session {
         if !self.is_inside(position) {
             return push_past(alloc, text, line, core);
         }
-        push_field(text, core, position)
+        push_field_line(text, core, position)
     }
 }
