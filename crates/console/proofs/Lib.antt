@@ -1,4 +1,3 @@
-mod FieldLemmas
 mod TextLemmas
 mod GoLemmas
 mod GoLaw

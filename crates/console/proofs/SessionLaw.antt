@@ -1,22 +1,19 @@
 -- the laws of sessions
-use Rattle.std.proofs.Common.{◌≡◌, ℕ, zero, suc, ◌+◌, ◌-◌, ◌<◌, ◌≤◌, Bool, true, false, List, [], ◌∷◌, ◌++◌, Option, Some, None, if◌then◌else◌, refl, sym, ap, subst, ◌∙◌, arith}
-use Rattle.std.specs.Prelude.{All, cond, filter, nat_le, nat_lt, min}
+use Rattle.std.proofs.Common.{◌≡◌, ℕ, ◌+◌, ◌-◌, ◌≤◌, Bool, true, false, List, [], Option, if◌then◌else◌, refl, sym, ap, subst, ◌∙◌, arith}
+use Rattle.std.specs.Prelude.{nat_le}
 use Rattle.std.proofs.lemmas.Bool.{le-leb}
-use Rattle.units.specs.declared.switches.Switches.{Switches}
 use Rattle.machine.specs.Run.{State, after, attempts, is_halted}
-use Rattle.bench_runs.specs.Names.{Named}
-use Rattle.console.specs.Answers.{Answers, advanced, backed, done, is_inside, limit_of, next, restarted, set_back, started_with, starts_until, stepped}
+use Rattle.console.specs.Answers.{advanced, backed, done, going, is_inside, limit_of, next, set_back, starts_until}
 use Rattle.console.specs.Sayings.{is_start}
 use Rattle.console.specs.Sittings.{HasCome, Sitting, machine_of, most_made}
-use Rattle.console.specs.Talks.{IsRead, Talked}
+use Rattle.console.specs.Talks.{Talked}
 use Rattle.console.specs.declared.sayings.Deed.{Deed}
 use Rattle.console.specs.declared.sayings.Deed.TheVariants as deed
 use Rattle.console.specs.declared.sayings.Saying.{Saying}
 use Rattle.console.specs.declared.sayings.Saying.TheVariants as say
 use Rattle.console.specs.declared.starts.Start.{Start}
-use Rattle.console.proofs.AttemptLemmas.{after_attempts}
 use Rattle.console.proofs.PastLemmas.{past_alone, until_same}
-use Rattle.console.proofs.SessionLemmas.{come_advanced, come_next, later_machine}
+use Rattle.console.proofs.SessionLemmas.{come_next}
 
 -- after any lines
 pub come_talked : (s : Sitting) (from : Option (List ℕ)) (now : Sitting) (left : Option (List ℕ)) (lines : List (List ℕ)) (text : List ℕ) → Talked s from lines now left text → HasCome s → HasCome now
@@ -95,3 +92,6 @@ undoes s count come fits all =
     let limit : limit_of s count ≡ count = omega arith in
     let made : attempts s.machine (limit_of s count) ≡ count = ap (attempts s.machine) limit ∙ all in
     ap (λ n. backed (advanced s n) count) made ∙ backed_same s count come
+
+pub undoes_going : (s : Sitting) (count : ℕ) → HasCome s → next (next s (say.Do (deed.Go count))) (say.Do (deed.Back (going s count))) ≡ s
+undoes_going s count come = backed_same s (going s count) come

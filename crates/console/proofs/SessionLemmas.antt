@@ -1,13 +1,11 @@
 -- the machine of a session is that of its past
-use Rattle.std.proofs.Common.{◌≡◌, ℕ, zero, suc, ◌+◌, ◌-◌, ◌<◌, ◌≤◌, Bool, true, false, List, [], ◌∷◌, ◌++◌, Option, Some, None, if◌then◌else◌, refl, sym, ap, subst, ◌∙◌, arith}
-use Rattle.std.specs.Prelude.{All, nat_le, nat_lt, min}
+use Rattle.std.proofs.Common.{◌≡◌, ℕ, ◌+◌, ◌-◌, ◌≤◌, Bool, true, false, List, [], Option, None, if◌then◌else◌, refl, sym, ap, subst, ◌∙◌, arith}
+use Rattle.std.specs.Prelude.{All, nat_le}
 use Rattle.std.proofs.lemmas.List.Elements.{All-nil, All-push}
-use Rattle.std.proofs.lemmas.Bool.{le-leb, leb-true}
 use Rattle.units.specs.declared.switches.Switches.{Switches}
 use Rattle.machine.specs.Run.{State, after, attempts, is_halted}
 use Rattle.bench_runs.specs.Names.{Named}
-use Rattle.console.specs.Answers.{advanced, backed, cleared, done, going, gone, is_inside, limit_of, next, restarted, set_back, started_with, stepped, stopped_at, unwatching, watching, starts_until}
-use Rattle.console.specs.Goes.{went}
+use Rattle.console.specs.Answers.{advanced, done, going, gone, is_inside, limit_of, next, restarted, set_back, stepped}
 use Rattle.console.specs.Sittings.{HasCome, Sitting, begun, machine_of, most_made, pressed}
 use Rattle.console.specs.declared.sayings.Deed.{Deed}
 use Rattle.console.specs.declared.sayings.Deed.TheVariants as deed

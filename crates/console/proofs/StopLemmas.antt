@@ -1,10 +1,9 @@
 -- stops rise
-use Rattle.std.proofs.Common.{◌≡◌, ℕ, zero, suc, ◌+◌, ◌<◌, ◌≤◌, Bool, true, false, List, [], ◌∷◌, ◌++◌, length, refl, sym, ap, subst, ◌∙◌, arith, append_assoc}
+use Rattle.std.proofs.Common.{◌≡◌, ℕ, suc, ◌<◌, true, List, [], ◌∷◌, ◌++◌, sym, subst, arith, append_assoc}
 use Rattle.std.specs.Prelude.{All, filter, nat_lt, not, ◌==◌, slice_index_or}
 use Rattle.std.proofs.lemmas.Bool.{ltb-true}
 use Rattle.std.proofs.lemmas.List.Elements.{All-append, All-cons, All-head, All-tail, filter_passes}
 use Rattle.std.proofs.lemmas.List.Kept.{AllPairs-cons, AllPairs-filter}
-use Rattle.std.specs.List.{AllPairs}
 use Rattle.console.specs.Answers.{Rising, with_stop, without_stop}
 
 pub less_rises : (stop : ℕ) (stops : List ℕ) → Rising stops → Rising (without_stop stop stops)

@@ -1,7 +1,6 @@
 -- what a session answers to a line, and what it is after it
-use Rattle.std.specs.Prelude.{ℕ, Bool, true, false, ◌≡◌, ◌+◌, ◌-◌, ◌<◌, min, nat_le, nat_lt, not, ◌==◌, if◌then◌else◌, List, [], ◌∷◌, ◌++◌, codes, filter, length, Option, Some, None}
+use Rattle.std.specs.Prelude.{ℕ, Bool, ◌≡◌, ◌+◌, ◌-◌, ◌<◌, min, nat_le, nat_lt, not, ◌==◌, if◌then◌else◌, List, [], ◌∷◌, ◌++◌, codes, filter, length, Option, Some, None}
 use Rattle.std.specs.List.{AllPairs}
-use Rattle.core_store.specs.Storage.{Storage}
 use Rattle.units.specs.Listing.{rendered}
 use Rattle.units.specs.declared.switches.Switches.{Switches}
 use Rattle.machine.specs.Run.{State, after, attempts, is_halted, lines_of}

@@ -54,7 +54,8 @@ alone heard saying = if heard.first.given then say.Unknown else saying
 
 -- what a line `watch` says: the position to be watched, or none
 abbrev pub watch_said : Heard → Saying
-watch_said heard = if heard.first.given then with (λ value. say.Do (deed.Watch value)) (address_in heard) else say.Do deed.Unwatch
+watch_said heard = if heard.first.given
+    then with (λ value. say.Do (deed.Watch value)) (address_in heard) else say.Do deed.Unwatch
 
 -- what a line `dump` says with two addresses
 abbrev pub rows_said : Option ℕ → Option ℕ → Saying

@@ -1,8 +1,8 @@
 -- what is printed of a session
-use Rattle.std.specs.Prelude.{ℕ, zero, suc, ◌+◌, ◌-◌, ◌==◌, ◌&&◌, if◌then◌else◌, Bool, false, List, [], ◌∷◌, ◌++◌, codes, decimal, map, nat_lt, length, Option, Some, None}
+use Rattle.std.specs.Prelude.{ℕ, zero, suc, ◌+◌, ◌-◌, ◌==◌, if◌then◌else◌, Bool, false, List, [], ◌∷◌, ◌++◌, codes, decimal, map, nat_lt, length, Option, Some, None}
 use Rattle.std.specs.List.{flat_map}
-use Rattle.core_store.specs.Storage.{Storage, codes_from, field_length}
-use Rattle.autocoder.specs.Listing.{glyphs_of, position_field}
+use Rattle.core_store.specs.Storage.{Storage}
+use Rattle.autocoder.specs.Listing.{position_field}
 use Rattle.card_tools.specs.Listing.{listing}
 use Rattle.machine.specs.Run.{State, is_running, step}
 use Rattle.machine.specs.Standings.{standing_of, standing_words}
@@ -11,6 +11,7 @@ use Rattle.machine.specs.declared.standings.Standing.TheVariants.{Running, Halte
 use Rattle.units.specs.declared.punch.Punched.{Punched}
 use Rattle.bench_runs.specs.Attempts.{attempt_line}
 use Rattle.bench_runs.specs.Dumps.{registers_line, units_line}
+use Rattle.bench_runs.specs.Fields.{field_shown}
 use Rattle.bench_runs.specs.Names.{Named}
 use Rattle.console.specs.Goes.{has_changed, stands_at}
 use Rattle.console.specs.Words.{first_word, second_word}
@@ -70,19 +71,9 @@ abbrev pub watched_line : Option ℕ → List ℕ
 watched_line None = codes "nothing is watched\n"
 watched_line (Some position) = codes "watching " ++ position_field position ++ 10 ∷ []
 
--- the line of a position at which no field ends
-abbrev pub no_field : ℕ → List ℕ
-no_field p = codes "no mark at " ++ position_field p ++ codes " or to the left of it\n"
-
--- the line of a field with so many characters that ends at a position
-abbrev pub field_by : Storage → ℕ → Option ℕ → List ℕ
-field_by s p None = no_field p
-field_by s p (Some count) = position_field (p + 1 - count) ++ codes " to " ++ position_field p
-    ++ codes ": " ++ glyphs_of (codes_from s (p + 1 - count) count) ++ 10 ∷ []
-
 -- the line of the field that ends at a position
-unfoldable pub field_line : Storage → ℕ → List ℕ
-field_line s p = field_by s p (field_length s p)
+abbrev pub field_line : Storage → ℕ → List ℕ
+field_line s p = field_shown s p ++ 10 ∷ []
 
 -- the registers, the indicators and the units of a machine
 abbrev pub registers_shown : State → List ℕ

@@ -36,7 +36,8 @@ pub record OneMore (now : Sitting) (left : Option (List ℕ)) (ends : Bool) (tol
 -- a writer took these bytes, or a beginning of them
 abbrev pub PutsSo : List ℕ → Option (List ℕ) → Option (List ℕ) → Bool → Type 0
 PutsSo bytes old new true = Appends old new bytes
-PutsSo bytes old new false = (count : ℕ) × (count ≤ length bytes) × Appends old new (take count bytes)
+PutsSo bytes old new false =
+    (count : ℕ) × (count ≤ length bytes) × Appends old new (take count bytes)
 
 -- what ends a session before a further line is read
 abbrev pub IsUnread : Ended → Type 0

@@ -22,120 +22,118 @@ pub struct Answer {
     pub ends: bool,
 }
 
-impl Session {
-    /// Adds the rows from a position to another, or all, and the registers and the units.
-    fn push_dump(
-        &self,
-        alloc: Global,
-        text: &mut Vec<u8>,
-        first: Option<u16>,
-        last: Option<u16>,
-    ) -> Result<(), AllocError>
-        ensures { OnOk result (text.new.items
-            ≡ text.old.items ++ dump_shown self.now.machine first last) }
-    {
-        let options = DumpOptions {
-            after: None,
-            stop: None,
-            first,
-            last,
-        };
-        push_machine(alloc, text, options, self.parts())
-    }
+/// Adds the rows from a position to another, or all, and the registers and the units.
+fn push_dump(
+    alloc: Global,
+    text: &mut Vec<u8>,
+    session: &Session,
+    first: Option<u16>,
+    last: Option<u16>,
+) -> Result<(), AllocError>
+    ensures { OnOk result (text.new.items
+        ≡ text.old.items ++ dump_shown session.now.machine first last) }
+{
+    let options = DumpOptions {
+        after: None,
+        stop: None,
+        first,
+        last,
+    };
+    push_machine(alloc, text, options, session.parts())
+}
 
-    /// Adds the lines that were printed.
-    fn push_lines(&self, alloc: Global, text: &mut Vec<u8>) -> Result<(), AllocError>
-        ensures { OnOk result (text.new.items
-            ≡ text.old.items ++ rendered (lines_of self.now.machine)) }
-    {
-        let shown = render(alloc, &self.parts().units.printer.lines)?;
-        text.extend_from_slice(&shown)
-    }
+/// Adds the lines that were printed.
+fn push_lines(alloc: Global, text: &mut Vec<u8>, session: &Session) -> Result<(), AllocError>
+    ensures { OnOk result (text.new.items
+        ≡ text.old.items ++ rendered (lines_of session.now.machine)) }
+{
+    let shown = render(alloc, &session.parts().units.printer.lines)?;
+    text.extend_from_slice(&shown)
+}
 
-    /// Adds what is printed for a question.
-    fn show(
-        &self,
-        alloc: Global,
-        text: &mut Vec<u8>,
-        line: &[u8],
-        question: Question,
-    ) -> Result<(), AllocError>
-        ensures { OnOk result (text.new.items
-            ≡ text.old.items ++ question_shown self.now line.now question) }
-    {
-        match question {
-            Question::Stops => push_stops(text, self.stops()),
-            Question::Dump(first, last) => self.push_dump(alloc, text, first, last),
-            Question::Registers => push_bare(alloc, text, self.parts()),
-            Question::Field(position) => self.push_field(alloc, text, line, position),
-            Question::Cards => push_cards(alloc, text, &self.parts().units.punch.cards),
-            Question::Lines => self.push_lines(alloc, text),
-            Question::Help => push_help(text),
-        }
+/// Adds what is printed for a question.
+fn show(
+    alloc: Global,
+    text: &mut Vec<u8>,
+    session: &Session,
+    line: &[u8],
+    question: Question,
+) -> Result<(), AllocError>
+    ensures { OnOk result (text.new.items
+        ≡ text.old.items ++ question_shown session.now line.now question) }
+{
+    match question {
+        Question::Stops => push_stops(text, session.stops()),
+        Question::Dump(first, last) => push_dump(alloc, text, session, first, last),
+        Question::Registers => push_bare(alloc, text, session.parts()),
+        Question::Field(position) => session.push_field(alloc, text, line, position),
+        Question::Cards => push_cards(alloc, text, &session.parts().units.punch.cards),
+        Question::Lines => push_lines(alloc, text, session),
+        Question::Help => push_help(text),
     }
+}
 
-    /// Does a deed, and adds what is printed for it.
-    fn act(
-        &mut self,
-        alloc: Global,
-        text: &mut Vec<u8>,
-        line: &[u8],
-        deed: Deed,
-    ) -> Result<(), AllocError>
-        requires { HasCome self.old }
-        ensures session { OnOk result (self.new ≡ done self.old deed) }
-        ensures text { OnOk result (text.new.items
-            ≡ text.old.items ++ deed_shown self.old line.now deed) }
-    {
-        match deed {
-            Deed::Step(count) => self.step(alloc, text, count),
-            Deed::Go(count) => self.go(alloc, text, count),
-            Deed::Stop(stop) => self.stop(alloc, text, line, stop),
-            Deed::Clear(stop) => self.clear(alloc, text, stop),
-            Deed::Watch(position) => self.watch(alloc, text, line, position),
-            Deed::Unwatch => self.unwatch(text),
-            Deed::Start(switches) => self.start(alloc, text, line, switches),
-            Deed::Back(count) => self.back(alloc, text, line, count),
-        }
+/// Does a deed, and adds what is printed for it.
+fn act(
+    alloc: Global,
+    text: &mut Vec<u8>,
+    session: &mut Session,
+    line: &[u8],
+    deed: Deed,
+) -> Result<(), AllocError>
+    requires { HasCome session.old }
+    ensures next { OnOk result (session.new ≡ done session.old deed) }
+    ensures text { OnOk result (text.new.items
+        ≡ text.old.items ++ deed_shown session.old line.now deed) }
+{
+    match deed {
+        Deed::Step(count) => session.step(alloc, text, count),
+        Deed::Go(count) => session.go(alloc, text, count),
+        Deed::Stop(stop) => session.stop(alloc, text, line, stop),
+        Deed::Clear(stop) => session.clear(alloc, text, stop),
+        Deed::Watch(position) => session.watch(alloc, text, line, position),
+        Deed::Unwatch => session.unwatch(text),
+        Deed::Start(switches) => session.start(alloc, text, line, switches),
+        Deed::Back(count) => session.back(alloc, text, line, count),
     }
+}
 
-    /// Does what a line says, and adds what is printed for it.
-    fn take(
-        &mut self,
-        alloc: Global,
-        text: &mut Vec<u8>,
-        line: &[u8],
-        saying: Saying,
-    ) -> Result<(), AllocError>
-        requires { HasCome self.old }
-        ensures session { OnOk result (self.new ≡ next self.old saying) }
-        ensures text { OnOk result (text.new.items
-            ≡ text.old.items ++ printed self.old line.now saying) }
-    {
-        match saying {
-            Saying::Nothing => Ok(()),
-            Saying::Unknown => text.extend_from_slice(b"no such line; help lists them\n"),
-            Saying::Wrong(fault) => push_fault(text, line, fault_words(fault)),
-            Saying::Do(deed) => self.act(alloc, text, line, deed),
-            Saying::Ask(question) => self.show(alloc, text, line, question),
-            Saying::End => Ok(()),
-        }
+/// Does what a line says, and adds what is printed for it.
+fn take(
+    alloc: Global,
+    text: &mut Vec<u8>,
+    session: &mut Session,
+    line: &[u8],
+    saying: Saying,
+) -> Result<(), AllocError>
+    requires { HasCome session.old }
+    ensures next { OnOk result (session.new ≡ next session.old saying) }
+    ensures text { OnOk result (text.new.items
+        ≡ text.old.items ++ printed session.old line.now saying) }
+{
+    match saying {
+        Saying::Nothing => Ok(()),
+        Saying::Unknown => text.extend_from_slice(b"no such line; help lists them\n"),
+        Saying::Wrong(fault) => push_fault(text, line, fault_words(fault)),
+        Saying::Do(deed) => act(alloc, text, session, line, deed),
+        Saying::Ask(question) => show(alloc, text, session, line, question),
+        Saying::End => Ok(()),
     }
+}
 
-    /// Answers a line: `help` prints what lines there are. Fails only if there is no memory; what
-    /// the session has done until then is not known, so it may not be asked again.
-    pub fn answer(&mut self, alloc: Global, line: &[u8]) -> Result<Answer, AllocError>
-        requires { HasCome self.old }
-        ensures answer { IfOk result (λ answer.
-            Answers self.old line.now self.new answer.text.items answer.ends) }
-        ensures come { OnOk result (HasCome self.new) }
-    {
-        let saying = Saying::of(alloc, self.names(), line)?;
-        let mut text = Vec::new(alloc);
-        self.take(alloc, &mut text, line, saying)?;
-        Ok(Answer {
-            text,
-            ends: saying.is_end(),
-        })
-    }
+/// Answers a line; `help` prints what lines there are. Fails only if there is no memory: what the
+/// session has done until then is not known, and it may not be asked again.
+pub fn answer_line(alloc: Global, session: &mut Session, line: &[u8]) -> Result<Answer, AllocError>
+    requires { HasCome session.old }
+    ensures answer { IfOk result (λ answer.
+        Answers session.old line.now session.new answer.text.items answer.ends) }
+    ensures come { OnOk result (HasCome session.new) }
+{
+    let saying = Saying::of(alloc, session.names(), line)?;
+    let mut text = Vec::new(alloc);
+    take(alloc, &mut text, session, line, saying)?;
+    Ok(Answer {
+        text,
+        ends: saying.is_end(),
+    })
 }

@@ -3,12 +3,12 @@
 ghost use Rattle.std.specs.Prelude.{◌≡◌, ◌+◌, ◌≤◌, ℕ, List, [], Option, false};
 ghost use Rattle.machine.specs.Run.{State, after, attempts};
 ghost use Rattle.bench_runs.specs.Names.{Named};
-ghost use Rattle.console.specs.Answers.{Rising, next, with_stop, without_stop};
+ghost use Rattle.console.specs.Answers.{Rising, going, next, with_stop, without_stop};
 ghost use Rattle.console.specs.Goes.{IsWent, went};
 ghost use Rattle.console.specs.Sayings.{is_start};
 ghost use Rattle.console.specs.Sittings.{HasCome, Sitting, begun, most_made};
 ghost use Rattle.console.specs.Talks.{Talked};
-ghost use Rattle.console.specs.declared.sayings.Deed.TheVariants.{Back, Step};
+ghost use Rattle.console.specs.declared.sayings.Deed.TheVariants.{Back, Go, Step};
 ghost use Rattle.console.specs.declared.sayings.Saying.{Saying};
 ghost use Rattle.console.specs.declared.sayings.Saying.TheVariants.{Do};
 
@@ -16,7 +16,6 @@ ghost use Rattle.console.specs.declared.sayings.Saying.TheVariants.{Do};
 /// begins with the machine that the load button left. Without a start it is that machine after as
 /// many steps as the session has made, so what is shown is a run of the deck; and no line but
 /// `start` is a start.
-#[tactic(auto, using(crate::proofs::SessionLaw::come_talked, crate::proofs::SessionLaw::come_alone, crate::proofs::SessionLaw::base_next, crate::proofs::SessionLaw::starts_next, crate::proofs::SessionLemmas::come_next))]
 pub fn sessions_are_runs()
     ensures begins { (base : State) (names : Option Named) → HasCome (begun base names) }
     ensures goes_on { (s : Sitting) (saying : Saying) → HasCome s → HasCome (next s saying) }
@@ -29,11 +28,14 @@ pub fn sessions_are_runs()
 {}
 
 /// The law of going back: it undoes steps. A session that has made all the instructions that were
-/// asked for is, so many instructions back, what it was before.
-#[tactic(auto, using(crate::proofs::SessionLaw::undoes))]
+/// asked for is, so many instructions back, what it was before; and so is one that went on, as many
+/// instructions back as it went.
+#[tactic(auto, using(crate::proofs::SessionLaw::undoes, crate::proofs::SessionLaw::undoes_going))]
 pub fn back_undoes_steps()
-    ensures { (s : Sitting) (count : ℕ) → HasCome s → s.made + count ≤ most_made →
+    ensures steps { (s : Sitting) (count : ℕ) → HasCome s → s.made + count ≤ most_made →
         attempts s.machine count ≡ count → next (next s (Do (Step count))) (Do (Back count)) ≡ s }
+    ensures going { (s : Sitting) (count : ℕ) → HasCome s →
+        next (next s (Do (Go count))) (Do (Back (going s count))) ≡ s }
 {}
 
 /// The law of going on: a machine stands after all instructions, or where it no longer runs, or
@@ -49,7 +51,6 @@ pub fn go_ends_at_the_first_stop()
 
 /// The law of stops: with one more they rise without doubles if they did before, and without one
 /// too.
-#[tactic(auto, using(crate::proofs::StopLemmas::more_rises, crate::proofs::StopLemmas::less_rises))]
 pub fn stops_rise()
     ensures more { (stop : ℕ) (stops : List ℕ) → Rising stops → Rising (with_stop stop stops) }
     ensures less { (stop : ℕ) (stops : List ℕ) → Rising stops → Rising (without_stop stop stops) }

@@ -1,7 +1,7 @@
 //! A console: looking at a simulated machine step by step, by lines that are read and answered.
 //!
 //! A [`Session`] is a machine that was loaded with a deck, with the stops and the watched position
-//! that were set. [`Session::answer`] takes a line (`specs/Sayings.antt`) and answers it
+//! that were set. [`answer_line`] takes a line (`specs/Sayings.antt`) and answers it
 //! (`specs/Answers.antt`), and [`console`] does so for the lines of a reader, until it has none
 //! (`specs/Talks.antt`). No line changes storage: a session shows runs of its deck, and nothing
 //! else.
@@ -26,6 +26,7 @@ mod verbs;
 mod watching;
 mod words;
 
+pub use answering::{Answer, answer_line};
 pub use laws::{back_undoes_steps, go_ends_at_the_first_stop, sessions_are_runs, stops_rise};
 pub use sessions::Session;
 pub use starts::Start;

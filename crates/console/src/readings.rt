@@ -77,7 +77,7 @@ fn position_of(text: &str) -> Option<u16>
 }
 
 /// The address that a text says by the names of the source.
-fn address_said(alloc: Global, names: Option<&Names>, text: &str) -> Result<Option<u16>, AllocError>
+fn find_address(alloc: Global, names: Option<&Names>, text: &str) -> Result<Option<u16>, AllocError>
     ensures { IfOk result (λ found. MatchOption found
         ((address : ℕ) → ¬ SaysAddress (option_copied names.entry) text.now address)
         (SaysAddress (option_copied names.entry) text.now)) }
@@ -94,7 +94,7 @@ impl Reading {
         ensures { IfOk result (IsReadingOf (option_copied names.entry) word.now) }
     {
         let text = text_of(word);
-        let named = address_said(alloc, names, text)?;
+        let named = find_address(alloc, names, text)?;
         Ok(Reading {
             given: !word.is_empty(),
             count: count_of(text),

@@ -121,7 +121,7 @@ fn switches_in(heard: &Heard) -> Result<Switches, Saying>
 }
 
 /// What a line says that has its verb alone.
-fn alone(heard: &Heard, saying: Saying) -> Saying
+fn if_alone(heard: &Heard, saying: Saying) -> Saying
     ensures { result ≡ alone heard.now saying }
 {
     if heard.first.given {
@@ -132,7 +132,7 @@ fn alone(heard: &Heard, saying: Saying) -> Saying
 }
 
 /// What a line `watch` says.
-fn watch_said(heard: &Heard) -> Saying
+fn watch_saying(heard: &Heard) -> Saying
     ensures { result ≡ watch_said heard.now }
 {
     if !heard.first.given {
@@ -145,7 +145,7 @@ fn watch_said(heard: &Heard) -> Saying
 }
 
 /// What a line `dump` says with two addresses.
-fn rows_said(first: Option<u16>, last: Option<u16>) -> Saying
+fn rows_saying(first: Option<u16>, last: Option<u16>) -> Saying
     ensures { result ≡ rows_said first last }
 {
     match (first, last) {
@@ -155,11 +155,11 @@ fn rows_said(first: Option<u16>, last: Option<u16>) -> Saying
 }
 
 /// What a line `dump` says.
-fn dump_said(heard: &Heard) -> Saying
+fn dump_saying(heard: &Heard) -> Saying
     ensures { result ≡ dump_said heard.now }
 {
     if heard.second.given {
-        return rows_said(heard.first.address(), heard.second.address());
+        return rows_saying(heard.first.address(), heard.second.address());
     }
     if heard.first.given {
         return Saying::Wrong(Fault::Address);
@@ -168,7 +168,7 @@ fn dump_said(heard: &Heard) -> Saying
 }
 
 /// What a line `step` says.
-fn step_said(heard: &Heard) -> Saying
+fn step_saying(heard: &Heard) -> Saying
     ensures { result ≡ with (λ value. Saying.Do (Deed.Step value)) (count_in heard.now 1) }
 {
     match count_in(heard, 1) {
@@ -178,7 +178,7 @@ fn step_said(heard: &Heard) -> Saying
 }
 
 /// What a line `go` says.
-fn go_said(heard: &Heard) -> Saying
+fn go_saying(heard: &Heard) -> Saying
     ensures { result ≡ with (λ value. Saying.Do (Deed.Go value)) (count_in heard.now most_asked) }
 {
     match count_in(heard, MOST_ASKED) {
@@ -188,7 +188,7 @@ fn go_said(heard: &Heard) -> Saying
 }
 
 /// What a line `back` says.
-fn back_said(heard: &Heard) -> Saying
+fn back_saying(heard: &Heard) -> Saying
     ensures { result ≡ with (λ value. Saying.Do (Deed.Back value)) (count_in heard.now 1) }
 {
     match count_in(heard, 1) {
@@ -198,7 +198,7 @@ fn back_said(heard: &Heard) -> Saying
 }
 
 /// What a line `stop` says.
-fn stop_said(heard: &Heard) -> Saying
+fn stop_saying(heard: &Heard) -> Saying
     ensures { result ≡ with (λ value. Saying.Do (Deed.Stop value)) (address_in heard.now) }
 {
     match address_in(heard) {
@@ -208,7 +208,7 @@ fn stop_said(heard: &Heard) -> Saying
 }
 
 /// What a line `clear` says.
-fn clear_said(heard: &Heard) -> Saying
+fn clear_saying(heard: &Heard) -> Saying
     ensures { result ≡ with (λ value. Saying.Do (Deed.Clear value)) (address_in heard.now) }
 {
     match address_in(heard) {
@@ -218,7 +218,7 @@ fn clear_said(heard: &Heard) -> Saying
 }
 
 /// What a line `field` says.
-fn field_said(heard: &Heard) -> Saying
+fn field_saying(heard: &Heard) -> Saying
     ensures { result ≡ with (λ value. Saying.Ask (Question.Field value)) (address_in heard.now) }
 {
     match address_in(heard) {
@@ -228,7 +228,7 @@ fn field_said(heard: &Heard) -> Saying
 }
 
 /// What a line `start` says.
-fn start_said(heard: &Heard) -> Saying
+fn start_saying(heard: &Heard) -> Saying
     ensures { result ≡ with (λ value. Saying.Do (Deed.Start value)) (switches_in heard.now) }
 {
     match switches_in(heard) {
@@ -238,31 +238,31 @@ fn start_said(heard: &Heard) -> Saying
 }
 
 /// What a line says with this verb.
-fn said_with(verb: Verb, heard: &Heard) -> Saying
+fn saying_with(verb: Verb, heard: &Heard) -> Saying
     ensures { result ≡ said_with verb heard.now }
 {
     match verb {
-        Verb::Step => step_said(heard),
-        Verb::Go => go_said(heard),
-        Verb::Stop => stop_said(heard),
-        Verb::Stops => alone(heard, Saying::Ask(Question::Stops)),
-        Verb::Clear => clear_said(heard),
-        Verb::Watch => watch_said(heard),
-        Verb::Dump => dump_said(heard),
-        Verb::Registers => alone(heard, Saying::Ask(Question::Registers)),
-        Verb::Field => field_said(heard),
-        Verb::Cards => alone(heard, Saying::Ask(Question::Cards)),
-        Verb::Lines => alone(heard, Saying::Ask(Question::Lines)),
-        Verb::Start => start_said(heard),
-        Verb::Back => back_said(heard),
-        Verb::Help => alone(heard, Saying::Ask(Question::Help)),
-        Verb::End => alone(heard, Saying::End),
+        Verb::Step => step_saying(heard),
+        Verb::Go => go_saying(heard),
+        Verb::Stop => stop_saying(heard),
+        Verb::Stops => if_alone(heard, Saying::Ask(Question::Stops)),
+        Verb::Clear => clear_saying(heard),
+        Verb::Watch => watch_saying(heard),
+        Verb::Dump => dump_saying(heard),
+        Verb::Registers => if_alone(heard, Saying::Ask(Question::Registers)),
+        Verb::Field => field_saying(heard),
+        Verb::Cards => if_alone(heard, Saying::Ask(Question::Cards)),
+        Verb::Lines => if_alone(heard, Saying::Ask(Question::Lines)),
+        Verb::Start => start_saying(heard),
+        Verb::Back => back_saying(heard),
+        Verb::Help => if_alone(heard, Saying::Ask(Question::Help)),
+        Verb::End => if_alone(heard, Saying::End),
     }
 }
 
 /// What is said by what was heard.
 #[tactic(auto, unfolding(crate::specs::Sayings::said))]
-fn said(heard: &Heard) -> Saying
+fn saying_of(heard: &Heard) -> Saying
     ensures { result ≡ said heard.now }
 {
     if !heard.some {
@@ -271,7 +271,7 @@ fn said(heard: &Heard) -> Saying
     match heard.verb {
         None => Saying::Unknown,
         Some(_) if heard.long => Saying::Unknown,
-        Some(verb) => said_with(verb, heard),
+        Some(verb) => saying_with(verb, heard),
     }
 }
 
@@ -285,7 +285,7 @@ impl Saying {
         ensures { IfOk result (IsSaid (option_copied names.entry) line.now) }
     {
         let heard = Heard::of(alloc, names, line)?;
-        Ok(said(&heard))
+        Ok(saying_of(&heard))
     }
 
     /// Whether it ends a session.

@@ -12,8 +12,8 @@ ghost use Rattle.console.specs.Sittings.{HasCome, Sitting, begun, machine_of, mo
 
 use crate::going::{cell_of, go, press, push_attempts, rerun};
 use crate::showing::{
-    Ends, push_fault, push_field, push_if_stopped, push_made, push_past, push_place, push_stops,
-    push_watched, push_why,
+    Ends, push_fault, push_field_line, push_if_stopped, push_made, push_past, push_place,
+    push_stops, push_watched, push_why,
 };
 use crate::starts::Start;
 use crate::stops::{starts_until, with_stop, without_stop};
@@ -65,9 +65,9 @@ impl Model for Session {
 }
 
 impl Session {
-    /// Returns the session that begins with a deck in the reader of a machine with stacker selection
-    /// and the load button pressed. The names are those of its source, if they are known. Fails only
-    /// if there is no memory.
+    /// Returns the session that begins with a deck in the reader of a machine with stacker
+    /// selection and the load button pressed. The names are those of its source, if they are known.
+    /// Fails only if there is no memory.
     pub fn begin(
         alloc: Global,
         deck: Deck,
@@ -204,7 +204,7 @@ impl Session {
     }
 
     /// What the watched position holds in another machine.
-    fn seen_in(&self, machine: &Machine<PlaneCore>) -> (u8, bool)
+    fn cell_in(&self, machine: &Machine<PlaneCore>) -> (u8, bool)
         ensures { result ≡ watched_cell self.now.watched machine.now.works.storage }
     {
         cell_of(machine, self.watched)
@@ -229,7 +229,7 @@ impl Session {
     }
 
     /// How many instructions were attempted before the last of so many.
-    fn made_before(&self, count: u32) -> u32
+    fn count_before(&self, count: u32) -> u32
         requires { count ≤ self.now.made }
         ensures { result ≡ self.now.made - count + (count - 1) }
     {
@@ -242,8 +242,8 @@ impl Session {
         ensures { (s : Sitting) → HasCome s → self.now ≡ advanced s count →
             OnOk result (text.new.items ≡ text.old.items ++ end_shown s count) }
     {
-        let mut before = self.rerun(alloc, self.made_before(count))?;
-        let seen = self.seen_in(&before);
+        let mut before = self.rerun(alloc, self.count_before(count))?;
+        let seen = self.cell_in(&before);
         self.push_last(alloc, text, &mut before, count)?;
         self.push_why(alloc, text, seen)
     }
@@ -410,6 +410,6 @@ impl Session {
         if !self.is_inside(position) {
             return push_past(alloc, text, line, core);
         }
-        push_field(text, core, position)
+        push_field_line(text, core, position)
     }
 }

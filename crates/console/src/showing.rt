@@ -2,19 +2,18 @@
 
 ghost use Rattle.std.specs.Prelude.{◌≡◌, ◌+◌, ◌++◌, ◌∷◌, ◌<◌, ◌≤◌, decimal, length, map, Some, IfOk, OnOk};
 ghost use Rattle.std.specs.List.{flat_map};
-ghost use Rattle.core_store.specs.Storage.{codes_from, largest_size};
-ghost use Rattle.autocoder.specs.Listing.{glyphs_of, position_field};
+ghost use Rattle.autocoder.specs.Listing.{position_field};
 ghost use Rattle.machine.specs.Standings.{standing_of, standing_words};
-ghost use Rattle.console.specs.Shown.{cards_shown, changed_line, fault_line, fault_words, field_by, field_line, help_text, line_heard, made_words, no_field, past_words, place_line, registers_shown, standing_by, stop_line, stopped_shown, stops_line, watched_line, why_line};
+ghost use Rattle.console.specs.Shown.{cards_shown, changed_line, fault_line, fault_words, field_line, help_text, line_heard, made_words, past_words, place_line, registers_shown, standing_by, stop_line, stopped_shown, stops_line, watched_line, why_line};
 
 use crate::going::{has_changed, stands_at};
 use crate::sayings::Fault;
 use crate::words::Words;
 use autocoder::push_number;
-use bench_runs::{push_registers, push_units};
+use bench_runs::{push_field, push_registers, push_units};
 use card_tools::{ListOptions, list};
 use cards::{Card, LINE_FEED};
-use core_store::{Core, field_length};
+use core_store::Core;
 use machine::{Parts, Standing};
 use std::alloc::{AllocError, Global};
 use units::Punched;
@@ -127,8 +126,11 @@ fn push_stop<C: Core>(text: &mut Vec<u8>, parts: &Parts<C>) -> Result<(), AllocE
 /// Why a run ends: its stops, and the watched position with what it held before the last attempt.
 #[derive(Clone, Copy)]
 pub(crate) struct Ends<'a> {
+    /// The stops.
     pub(crate) stops: &'a [u16],
+    /// The watched position.
     pub(crate) watched: Option<u16>,
+    /// What it held before the last attempt.
     pub(crate) before: (u8, bool),
 }
 
@@ -201,73 +203,18 @@ pub(crate) fn push_watched(text: &mut Vec<u8>, watched: Option<u16>) -> Result<(
     Ok(())
 }
 
-/// Adds the glyphs of the characters from a position on.
-#[tactic(auto, using(crate::proofs::FieldLemmas::glyph_none, crate::proofs::FieldLemmas::glyph_on))]
-fn push_codes<C: Core>(
-    text: &mut Vec<u8>,
-    core: &C,
-    first: u16,
-    count: u16,
-) -> Result<(), AllocError>
-    requires { 0 < count → first + count ≤ length (C.cells core.now) }
-    ensures { OnOk result (text.new.items
-        ≡ text.old.items ++ glyphs_of (codes_from (C.cells core.now) first count)) }
-{
-    for place in 0..count {
-        text.push(core.get_after(first, place).glyph())?;
-    }
-    Ok(())
-}
-
-/// Adds the line of a field with so many characters.
-fn push_field_of<C: Core>(
-    text: &mut Vec<u8>,
-    core: &C,
-    position: u16,
-    count: u16,
-) -> Result<(), AllocError>
-    requires within { position < length (C.cells core.now) }
-    requires below { position < largest_size }
-    requires some { 1 ≤ count }
-    requires most { count ≤ position + 1 }
-    ensures { OnOk result (text.new.items
-        ≡ text.old.items ++ field_by (C.cells core.now) position (Some count)) }
-{
-    let first = position + 1 - count;
-    push_position(text, first)?;
-    text.extend_from_slice(b" to ")?;
-    push_position(text, position)?;
-    text.extend_from_slice(b": ")?;
-    push_codes(text, core, first, count)?;
-    text.push(LINE_FEED)?;
-    Ok(())
-}
-
-/// Adds the line that says that no field ends at a position.
-fn push_no_field(text: &mut Vec<u8>, position: u16) -> Result<(), AllocError>
-    ensures { OnOk result (text.new.items ≡ text.old.items ++ no_field position) }
-{
-    text.extend_from_slice(b"no mark at ")?;
-    push_position(text, position)?;
-    text.extend_from_slice(b" or to the left of it\n")
-}
-
 /// Adds the line of the field that ends at a position.
-#[tactic(auto, unfolding(crate::specs::Shown::field_line))]
-pub(crate) fn push_field<C: Core>(
+pub(crate) fn push_field_line<C: Core>(
     text: &mut Vec<u8>,
     core: &C,
     position: u16,
 ) -> Result<(), AllocError>
-    requires { position < length (C.cells core.now) }
     ensures { OnOk result (text.new.items
         ≡ text.old.items ++ field_line (C.cells core.now) position) }
 {
-    let _size = core.size();
-    match field_length(core, position) {
-        None => push_no_field(text, position),
-        Some(count) => push_field_of(text, core, position, count),
-    }
+    push_field(text, core, position)?;
+    text.push(LINE_FEED)?;
+    Ok(())
 }
 
 /// Adds the registers, the indicators and the units.

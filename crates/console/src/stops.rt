@@ -7,7 +7,7 @@ use crate::starts::Start;
 use std::alloc::{AllocError, Global};
 
 /// The stops below an address.
-fn below(alloc: Global, stops: &[u16], stop: u16) -> Result<Vec<u16>, AllocError>
+fn stops_below(alloc: Global, stops: &[u16], stop: u16) -> Result<Vec<u16>, AllocError>
     ensures { IfOk result (λ found. found.items ≡ filter (λ other. nat_lt other stop) stops.now) }
 {
     stops
@@ -18,7 +18,7 @@ fn below(alloc: Global, stops: &[u16], stop: u16) -> Result<Vec<u16>, AllocError
 }
 
 /// The stops above an address.
-fn above(alloc: Global, stops: &[u16], stop: u16) -> Result<Vec<u16>, AllocError>
+fn stops_above(alloc: Global, stops: &[u16], stop: u16) -> Result<Vec<u16>, AllocError>
     ensures { IfOk result (λ found. found.items ≡ filter (λ other. nat_lt stop other) stops.now) }
 {
     stops
@@ -32,8 +32,8 @@ fn above(alloc: Global, stops: &[u16], stop: u16) -> Result<Vec<u16>, AllocError
 pub(crate) fn with_stop(alloc: Global, stop: u16, stops: &[u16]) -> Result<Vec<u16>, AllocError>
     ensures { IfOk result (λ found. found.items ≡ with_stop stop stops.now) }
 {
-    let mut found = below(alloc, stops, stop)?;
-    let above = above(alloc, stops, stop)?;
+    let mut found = stops_below(alloc, stops, stop)?;
+    let above = stops_above(alloc, stops, stop)?;
     found.push(stop)?;
     found.extend_from_slice(&above)?;
     Ok(found)

@@ -5,6 +5,7 @@ ghost use Rattle.std.specs.Io.KnownBytes.{IsAtEnd};
 ghost use Rattle.console.specs.Sittings.{HasCome};
 ghost use Rattle.console.specs.Talks.{IsRead, IsTalk, IsUnread, PutsSo};
 
+use crate::answering::answer_line;
 use crate::sessions::Session;
 use std::alloc::Global;
 use std::io::{BufRead, ErrorKind, Write};
@@ -26,7 +27,7 @@ pub enum Ended {
 }
 
 /// How a session ends whose reader failed.
-fn unread(kind: ErrorKind) -> Ended
+fn ending_for(kind: ErrorKind) -> Ended
     ensures { IsUnread result }
 {
     if kind == ErrorKind::OutOfMemory {
@@ -46,7 +47,7 @@ fn next_line<R: BufRead>(alloc: Global, reader: &mut R) -> Result<Option<Vec<u8>
     match reader.read_until(b'\n', &mut line) {
         Ok(0) => Ok(None),
         Ok(_) => Ok(Some(line)),
-        Err(error) => Err(unread(error.kind())),
+        Err(error) => Err(ending_for(error.kind())),
     }
 }
 
@@ -78,13 +79,13 @@ pub fn console<R: BufRead, W: Write>(
             Ok(None) => return Ended::AtEnd,
             Err(ended) => return ended,
         };
-        let Ok(answer) = session.answer(alloc, &line) else {
+        let Ok(given) = answer_line(alloc, session, &line) else {
             return Ended::NoMemory;
         };
-        if !put(writer, &answer.text) {
+        if !put(writer, &given.text) {
             return Ended::WriteFailed;
         }
-        if answer.ends {
+        if given.ends {
             return Ended::Asked;
         }
     }

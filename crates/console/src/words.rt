@@ -11,7 +11,7 @@ fn is_gap(byte: u8) -> bool
 }
 
 /// What is before a place of a text.
-fn until(place: Option<usize>, text: &[u8]) -> &[u8]
+fn part_before(place: Option<usize>, text: &[u8]) -> &[u8]
     requires { IfSome place (λ place. place ≤ length text.now) }
     ensures { result.now ≡ until place text.now }
 {
@@ -22,7 +22,7 @@ fn until(place: Option<usize>, text: &[u8]) -> &[u8]
 }
 
 /// What is from a place of a text on.
-fn onward(place: Option<usize>, text: &[u8]) -> &[u8]
+fn part_from(place: Option<usize>, text: &[u8]) -> &[u8]
     requires { IfSome place (λ place. place ≤ length text.now) }
     ensures { result.now ≡ onward place text.now }
 {
@@ -50,10 +50,10 @@ fn word_in(text: &[u8]) -> Option<usize>
 
 /// A text from its first word on.
 #[tactic(auto, unfolding(crate::specs::Words::from_word))]
-fn from_word(text: &[u8]) -> &[u8]
+fn skip_gaps(text: &[u8]) -> &[u8]
     ensures { result.now ≡ from_word text.now }
 {
-    onward(word_in(text), text)
+    part_from(word_in(text), text)
 }
 
 /// The word that a text begins with.
@@ -61,16 +61,16 @@ fn from_word(text: &[u8]) -> &[u8]
 fn word_of(text: &[u8]) -> &[u8]
     ensures { result.now ≡ word_of text.now }
 {
-    until(gap_in(text), text)
+    part_before(gap_in(text), text)
 }
 
 /// A text from its second word on.
 #[tactic(auto, unfolding(crate::specs::Words::behind_word))]
-fn from_next(text: &[u8]) -> &[u8]
+fn skip_word(text: &[u8]) -> &[u8]
     ensures { result.now ≡ from_next text.now }
 {
-    let text = from_word(text);
-    from_word(onward(gap_in(text), text))
+    let text = skip_gaps(text);
+    skip_gaps(part_from(gap_in(text), text))
 }
 
 /// The words of a line: the first three, and whether it has more.
@@ -94,13 +94,13 @@ impl<'a> Words<'a> {
         ensures third { result.third.now ≡ third_word line.now }
         ensures more { result.has_more ≡ nat_lt 0 (length (from_fourth line.now)) }
     {
-        let second = from_next(line);
-        let third = from_next(second);
+        let second = skip_word(line);
+        let third = skip_word(second);
         Words {
-            first: word_of(from_word(line)),
+            first: word_of(skip_gaps(line)),
             second: word_of(second),
             third: word_of(third),
-            has_more: !from_next(third).is_empty(),
+            has_more: !skip_word(third).is_empty(),
         }
     }
 }

@@ -1,5 +1,5 @@
 use Rattle.std.proofs.Common.{◌∙◌, sym, ap, arith}
-use Rattle.machine.specs.Run.{State, after}
+use Rattle.machine.specs.Run.{after}
 use Rattle.console.specs.Goes.{goes_on_from}
 use Rattle.console.proofs.GoLemmas.{comes_last, comes_next, comes_none, comes_on, comes_stopped, comes_whole}
 use Rattle.console.proofs.going.go.Goals as goal

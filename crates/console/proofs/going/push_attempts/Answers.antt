@@ -1,4 +1,4 @@
-use Rattle.std.proofs.Common.{◌∙◌, sym, ap, arith}
+use Rattle.std.proofs.Common.{◌∙◌, sym, arith}
 use Rattle.console.proofs.AttemptLemmas.{after_attempts, shows_none, shows_on, stopped_count, stopped_machine, stopped_text, whole_count, whole_machine, whole_text}
 use Rattle.console.proofs.going.push_attempts.Goals as goal
 

@@ -1,5 +1,4 @@
 use Rattle.std.proofs.Common.{List, ℕ, false, subst, sym}
-use Rattle.std.specs.Prelude.{IfSome, Option}
 use Rattle.std.specs.Io.KnownBytes.{Appends}
 use Rattle.console.specs.Talks.{IsRead, PutsSo}
 use Rattle.console.proofs.TalkLemmas.{talk_unwritten, talking_none, talking_on}
@@ -15,7 +14,7 @@ loop-preserved g c =
     let found = rw c.in-Ok-Some.field-0-is at c.in-Ok-Some.ensures.line in
     let read = subst (λ (line : List ℕ). IsRead left line rest) (sym c.deref.ensures.value) found in
     let put = subst (Appends (g.W.Write.contents c.loop.writer) (g.W.Write.contents c.put.new.writer)) c.deref-in-loop.ensures.value c.if-not-put.ensures in
-    talking_on c.loop.invariant c.deref.result.now c.answer.new.self rest _ c.in-Ok.answer.text.items c.in-Ok.answer.ends read c.in-Ok.ensures.answer c.if-answer.false put c.in-Ok.ensures.come
+    talking_on c.loop.invariant c.deref.result.now c.answer_line.new.session rest _ c.in-Ok.given.text.items c.in-Ok.given.ends read c.in-Ok.ensures.answer c.if-given.false put c.in-Ok.ensures.come
 
 pub returns-then-not-put : goal.returns-then-not-put
 returns-then-not-put g c =
@@ -24,4 +23,4 @@ returns-then-not-put g c =
     let found = rw c.in-Ok-Some.field-0-is at c.in-Ok-Some.ensures.line in
     let read = subst (λ (line : List ℕ). IsRead left line rest) (sym c.deref.ensures.value) found in
     let put = subst (λ (bytes : List ℕ). PutsSo bytes (g.W.Write.contents c.loop.writer) (g.W.Write.contents c.put.new.writer) false) c.deref-in-loop.ensures.value c.if-not-put.ensures in
-    talk_unwritten c.loop.invariant c.deref.result.now c.answer.new.self rest _ c.in-Ok.answer.text.items c.in-Ok.answer.ends read c.in-Ok.ensures.answer put
+    talk_unwritten c.loop.invariant c.deref.result.now c.answer_line.new.session rest _ c.in-Ok.given.text.items c.in-Ok.given.ends read c.in-Ok.ensures.answer put

@@ -5,16 +5,16 @@ use Rattle.console.specs.Answers.{printed}
 use Rattle.console.specs.Sayings.{IsSaid}
 use Rattle.console.specs.Sittings.{HasCome}
 use Rattle.console.proofs.SessionLemmas.{come_next}
-use Rattle.console.proofs.sessions.Session.answer.Goals as goal
+use Rattle.console.proofs.answering.answer_line.Goals as goal
 
 pub returns-clause-answer : goal.returns-clause-answer
 returns-clause-answer c = record {
   saying = c.in_ok-saying.saying;
   said = subst (λ (names : Option Named). IsSaid names c.args.line.now c.in_ok-saying.saying) c.names.ensures c.in_ok-saying.ensures;
-  next_is = c.in_ok-take.ensures.session;
-  text_is = c.in_ok-take.ensures.text ∙ ap (λ (text : List ℕ). text ++ printed c.args.self.now c.args.line.now c.in_ok-saying.saying) c.new-text.ensures.items;
+  next_is = c.in_ok-take.ensures.next;
+  text_is = c.in_ok-take.ensures.text ∙ ap (λ (text : List ℕ). text ++ printed c.args.session.now c.args.line.now c.in_ok-saying.saying) c.new-text.ensures.items;
   ends_is = c.is_end.ensures;
 }
 
 pub returns-clause-come : goal.returns-clause-come
-returns-clause-come c = subst HasCome (sym c.in_ok-take.ensures.session) (come_next c.args.self.now c.in_ok-saying.saying c.requires)
+returns-clause-come c = subst HasCome (sym c.in_ok-take.ensures.next) (come_next c.args.session.now c.in_ok-saying.saying c.requires)
