@@ -3,3 +3,4 @@ pub mod AgainLemmas
 pub mod LoadedLemmas
 pub mod PlacedLemmas
 pub mod JobLemmas
+pub mod ReportLemmas

@@ -63,7 +63,7 @@ fn find_strays(alloc: Global, all: &AllRows) -> Result<Vec<Stray>, AllocError>
 fn check_rows(alloc: Global, all: &AllRows) -> Result<Report, AllocError>
     ensures { IfOk result (IsSoundFor all.now) }
 {
-    let jobs = check_jobs(alloc, all)?;
+    let jobs = check_jobs(alloc, all, all.jobs.as_slice())?;
     let strays = find_strays(alloc, all)?;
     Ok(Report { jobs, strays })
 }

@@ -201,13 +201,17 @@ fn check_job(
     })
 }
 
-/// What is told of each job.
-pub(crate) fn check_jobs(alloc: Global, all: &AllRows) -> Result<Vec<JobReport>, AllocError>
-    ensures { IfOk result (λ reports. AreReported all.now all.now.jobs.items reports.items) }
+/// What is told of the job of each of these rows.
+pub(crate) fn check_jobs(
+    alloc: Global,
+    all: &AllRows,
+    jobs: &[Row],
+) -> Result<Vec<JobReport>, AllocError>
+    ensures { IfOk result (λ reports. AreReported all.now jobs.now reports.items) }
 {
     let mut reports = Vec::new(alloc);
-    for at in 0..all.jobs.len() {
-        let report = check_job(alloc, all, &all.jobs[at + 1..], &all.jobs[at])?;
+    for at in 0..jobs.len() {
+        let report = check_job(alloc, all, &jobs[at + 1..], &jobs[at])?;
         reports.try_reserve(1)?;
         reports.push_reserved(report);
     }
