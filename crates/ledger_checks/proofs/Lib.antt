@@ -4,3 +4,4 @@ pub mod LoadedLemmas
 pub mod PlacedLemmas
 pub mod JobLemmas
 pub mod ReportLemmas
+pub mod OfficeLemmas
