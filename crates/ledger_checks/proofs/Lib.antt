@@ -5,3 +5,7 @@ pub mod PlacedLemmas
 pub mod JobLemmas
 pub mod ReportLemmas
 pub mod OfficeLemmas
+pub mod WidthLemmas
+pub mod TableTexts
+pub mod TableAnswers
+pub mod TableReads
