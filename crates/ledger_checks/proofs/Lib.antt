@@ -9,3 +9,6 @@ pub mod WidthLemmas
 pub mod TableTexts
 pub mod TableAnswers
 pub mod TableReads
+pub mod AmongLemmas
+pub mod StandingLemmas
+pub mod StandingRows

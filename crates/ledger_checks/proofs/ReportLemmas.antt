@@ -15,7 +15,7 @@ append_assoc : {X : Type 0} (xs : List X) (x : X) (ys : List X) → (xs ++ x ∷
 append_assoc [] x ys = refl
 append_assoc (z ∷ xs) x ys = ap (λ l. z ∷ l) (append_assoc xs x ys)
 
-append_none : {X : Type 0} (xs : List X) → xs ++ [] ≡ xs
+pub append_none : {X : Type 0} (xs : List X) → xs ++ [] ≡ xs
 append_none [] = refl
 append_none (x ∷ xs) = ap (λ l. x ∷ l) (append_none xs)
 

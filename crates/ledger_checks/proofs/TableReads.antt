@@ -1,5 +1,5 @@
 -- The rows of whole tables, as they are read.
-use Rattle.std.proofs.Common.{◌≡◌, ℕ, List, [], ◌∷◌, map, drop, length, Bool, true, ◌&&◌, IsTrue, None, refl, sym, ap, subst, ◌∙◌}
+use Rattle.std.proofs.Common.{◌≡◌, ℕ, List, [], ◌∷◌, map, drop, length, Bool, true, ◌&&◌, IsTrue, None, Some, refl, sym, ap, subst, ◌∙◌}
 use Rattle.std.specs.List.{AllByRecursion, list_all}
 use Rattle.std.specs.List.Sorted.{IsPermutation}
 use Rattle.std.proofs.lemmas.Bool.{and_parts}
@@ -123,3 +123,10 @@ pub version_read : (old new : State) (rows : List Row) → Shown select_version 
 version_read old new rows shown bureaus =
     let did = looks select_version _ _ select_version_is old new [] rows bureaus.schema shown in
     (did.0, subst (λ xs. IsPermutation xs rows) (ap (map (show version_terms [])) (all_pass [] (old.now.trees 0))) (plain_answer 0 [] version_terms [] old.now.trees rows refl did.1))
+
+bureau_typed_so : (rows : List Row) → AllByRecursion (λ row. (are_typed (Some 0) 0 schema.bureau.columns (drop 1 row) && true) ≡ true) rows → AllByRecursion (λ row. are_typed (Some 0) 0 schema.bureau.columns (drop 1 row) ≡ true) rows
+bureau_typed_so [] all = tt
+bureau_typed_so (r ∷ rows) all = ((and_parts _ _ all.0).0, bureau_typed_so rows all.1)
+
+pub bureau_typed : (db : Database) → IsBureaus db → AllByRecursion (λ row. are_typed (Some 0) 0 schema.bureau.columns (drop 1 row) ≡ true) (db.trees 0)
+bureau_typed db bureaus = bureau_typed_so (db.trees 0) (typed_rows db bureaus).0
