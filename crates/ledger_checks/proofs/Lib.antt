@@ -12,3 +12,4 @@ pub mod TableReads
 pub mod AmongLemmas
 pub mod StandingLemmas
 pub mod StandingRows
+pub mod OrderLemmas

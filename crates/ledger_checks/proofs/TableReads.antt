@@ -42,16 +42,16 @@ module _ (tree : ℕ) (cs : List Column) (required : AreRequired cs) (sql : List
   full_rows db obeyed = shown_cells (upto 0 (length cs)) [] (db.trees tree) ∙ in_full cs (db.trees tree) required obeyed.typed obeyed.present
 
   pub read_in_order : Selects sql (ordered_query tree [] (columns (upto 0 (length cs))) (col 1 0)) names → ((db : Trees) → overlay db [] tree ≡ db tree)
-      → (old new : State) (rows : List Row) → Shown sql [] old new rows → IsBureaus old.now → IsShaped Table (old.now.trees tree) → AreObeyed old.now tree cs → IsUnchanged old new × (rows ≡ cells (old.now.trees tree))
-  read_in_order is below old new rows shown bureaus shaped obeyed =
-      let did = looks sql _ names is old new [] rows bureaus.schema shown in
-      (did.0, whole_in_order tree (columns (upto 0 (length cs))) old.now.trees rows (below old.now.trees) shaped did.1 ∙ full_rows old.now obeyed)
+      → (old new : State) (rows : List Row) → Shown sql [] old new rows → old.now.schema ≡ bureau_schema → IsUnchanged old new × (IsShaped Table (old.now.trees tree) → AreObeyed old.now tree cs → rows ≡ cells (old.now.trees tree))
+  read_in_order is below old new rows shown ours =
+      let did = looks sql _ names is old new [] rows ours shown in
+      (did.0, λ shaped obeyed. whole_in_order tree (columns (upto 0 (length cs))) old.now.trees rows (below old.now.trees) shaped did.1 ∙ full_rows old.now obeyed)
 
   pub read_in_some_order : Selects sql (ordered_query tree [] (columns (upto 0 (length cs))) (col 1 3)) names → ((db : Trees) → overlay db [] tree ≡ db tree)
-      → (old new : State) (rows : List Row) → Shown sql [] old new rows → IsBureaus old.now → AreObeyed old.now tree cs → IsUnchanged old new × IsPermutation (cells (old.now.trees tree)) rows
-  read_in_some_order is below old new rows shown bureaus obeyed =
-      let did = looks sql _ names is old new [] rows bureaus.schema shown in
-      (did.0, subst (λ xs. IsPermutation xs rows) (full_rows old.now obeyed) (whole_in_some_order tree (columns (upto 0 (length cs))) (col 1 3) old.now.trees rows (below old.now.trees) did.1))
+      → (old new : State) (rows : List Row) → Shown sql [] old new rows → old.now.schema ≡ bureau_schema → IsUnchanged old new × (AreObeyed old.now tree cs → IsPermutation (cells (old.now.trees tree)) rows)
+  read_in_some_order is below old new rows shown ours =
+      let did = looks sql _ names is old new [] rows ours shown in
+      (did.0, λ obeyed. subst (λ xs. IsPermutation xs rows) (full_rows old.now obeyed) (whole_in_some_order tree (columns (upto 0 (length cs))) (col 1 3) old.now.trees rows (below old.now.trees) did.1))
 
 -- ---- each table
 
@@ -119,9 +119,9 @@ pub pockets_required : AreRequired schema.pockets.columns
 pockets_required = required_by schema.pockets.columns refl
 
 -- the row of the version
-pub version_read : (old new : State) (rows : List Row) → Shown select_version [] old new rows → IsBureaus old.now → IsUnchanged old new × IsPermutation (map version_columns (old.now.trees 0)) rows
-version_read old new rows shown bureaus =
-    let did = looks select_version _ _ select_version_is old new [] rows bureaus.schema shown in
+pub version_read : (old new : State) (rows : List Row) → Shown select_version [] old new rows → old.now.schema ≡ bureau_schema → IsUnchanged old new × IsPermutation (map version_columns (old.now.trees 0)) rows
+version_read old new rows shown ours =
+    let did = looks select_version _ _ select_version_is old new [] rows ours shown in
     (did.0, subst (λ xs. IsPermutation xs rows) (ap (map (show version_terms [])) (all_pass [] (old.now.trees 0))) (plain_answer 0 [] version_terms [] old.now.trees rows refl did.1))
 
 bureau_typed_so : (rows : List Row) → AllByRecursion (λ row. (are_typed (Some 0) 0 schema.bureau.columns (drop 1 row) && true) ≡ true) rows → AllByRecursion (λ row. are_typed (Some 0) 0 schema.bureau.columns (drop 1 row) ≡ true) rows

@@ -4,7 +4,7 @@ ghost use Rattle.std.specs.Prelude.{◌≡◌, ◌≤◌, [], IfOk, OnOk, IsNone
 ghost use Rattle.sqlite.specs.Held.{state};
 ghost use Rattle.sqlite.specs.State.{HasCleanDisk};
 ghost use Rattle.sqlite.specs.View.{doubt, IsClean};
-ghost use Rattle.ledger_checks.specs.Checks.{Finds, FindsAlone, IsSoundFor};
+ghost use Rattle.ledger_checks.specs.Checks.{Finds, FindsAlone, FindsSettled, IsSoundFor};
 ghost use Rattle.ledger_checks.specs.Kept.{AreOwned, version_row};
 
 use crate::all_rows::AllRows;
@@ -83,6 +83,17 @@ pub fn check_tables<S: Alter>(
     Ok(report)
 }
 
+/// The check of all tables, outside a transaction.
+fn check_settled<S: Alter>(alloc: Global, conn: &mut Connection<S>) -> Result<Report, Fault>
+    ensures { FindsSettled S.Store conn.old conn.new result }
+{
+    if !conn.is_autocommit() {
+        return Err(Fault::Store);
+    }
+    let _schema = conn.schema();
+    check_tables(alloc, conn)
+}
+
 /// Runs each job of a bureau again, and compares the rows of all tables with what it makes. Nothing
 /// is written, and the store is handed back. If nothing differs, the tables stand for an office,
 /// and the report tells of each of its jobs. Fails with 1 if there is no memory, and with 2 if the
@@ -91,7 +102,7 @@ pub fn check<S: Alter + Drop>(alloc: Global, conn: Connection<S>) -> (Result<Rep
     ensures { FindsAlone S.Store conn result.1 result.0 }
 {
     let mut conn = conn;
-    let checked = check_tables(alloc, &mut conn);
+    let checked = check_settled(alloc, &mut conn);
     let store = conn.into_store();
     if store.is_broken() {
         return (Err(Fault::Store), store);
