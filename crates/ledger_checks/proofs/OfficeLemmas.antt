@@ -23,6 +23,7 @@ free_of customer number (e ∷ office) none = go (is_entry customer number e) re
   where
     rest : List Row
     rest = rows_of customer number (map row_in_jobs office)
+
     go : (b : Bool) → is_entry customer number e ≡ b → (rest ≡ [] → IsFree customer number office) → IsFree customer number (e ∷ office)
     go true is others = absurd (let some : cond true (row_in_jobs e ∷ rest) rest ≡ [] = subst (λ b. cond b (row_in_jobs e ∷ rest) rest ≡ []) is none in cc)
     go false is others = (is, others (subst (λ b. cond b (row_in_jobs e ∷ rest) rest ≡ []) is none))

@@ -124,8 +124,10 @@ module _ {X Y : Type 0} (cell : X → Option Y) (row : List ℕ → ℕ → ℕ 
     where
       here : List Row
       here = filter (is_row_at customer number place) (map (row customer number first) (option_to_list (cell x)))
+
       rest : List Row
       rest = filter (is_row_at customer number place) (placed_some cell (row customer number) (first + 1) xs)
+
       go : (b : Bool) → (first == place) ≡ b → rest ≡ map (row customer number place) (option_to_list (thing_at cell (first + 1) xs place)) → here ++ rest ≡ map (row customer number place) (option_to_list (cond (first == place) (cell x) (thing_at cell (first + 1) xs place)))
       go true is others =
           let same : first ≡ place = grind (arith, nat_tests, is) in

@@ -88,7 +88,6 @@ profiles_obeyed db bureaus = record { typed = all_typed schema.profiles.columns 
 pub pockets_obeyed : (db : Database) → IsBureaus db → AreObeyed db 17 schema.pockets.columns
 pockets_obeyed db bureaus = record { typed = all_typed schema.pockets.columns _ (typed_rows db bureaus).1.1.1.1.1.1.1.1.0; present = (present_rows db bureaus).1.1.1.1.1.1.1.1.0 }
 
-
 required_by : (cs : List Column) → list_all (λ c. c.not_null) cs ≡ true → AreRequired cs
 required_by [] all = tt
 required_by (c ∷ cs) all = let both = and_parts c.not_null (list_all (λ c. c.not_null) cs) all in (both.0, required_by cs both.1)

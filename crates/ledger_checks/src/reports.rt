@@ -24,7 +24,7 @@ pub enum Table {
 #[derive(Drop)]
 pub struct Stray {
     pub table: Table,
-    /// Its place among the rows that were read, from 0.
+    /// Its place among the rows that were read, counted from 1.
     pub row: usize,
 }
 

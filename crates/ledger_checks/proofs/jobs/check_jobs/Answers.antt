@@ -14,9 +14,9 @@ loop-at-preserved c =
     let r = c.in_ok-report.report in
     let row = c.index-jobs-at.result in
     let here : IsAsItRan r.outcome → IsReported all (take (length jobs - (at + 1)) (drop (at + 1) jobs)) (get_or jobs at row) r =
-        subst (λ (it : Row). IsAsItRan r.outcome → IsReported all (take (length jobs - (at + 1)) (drop (at + 1) jobs)) it r) c.index-jobs-at.is c.in_ok-report.ensures in
+    subst (λ (it : Row). IsAsItRan r.outcome → IsReported all (take (length jobs - (at + 1)) (drop (at + 1) jobs)) it r) c.index-jobs-at.is c.in_ok-report.ensures in
     let told : IsAsItRan r.outcome → IsReported all (drop (at + 1) jobs) (get_or jobs at row) r =
-        subst (λ (later : List Row). IsAsItRan r.outcome → IsReported all later (get_or jobs at row) r) (take_rest jobs (at + 1)) here in
+    subst (λ (later : List Row). IsAsItRan r.outcome → IsReported all later (get_or jobs at row) r) (take_rest jobs (at + 1)) here in
     let items : c.push_reserved.new.self.items ≡ c.loop-at.reports.items ++ r ∷ [] = search rules in
     subst (λ (rs : List JobReport). Completes all jobs rs (at + 1)) (sym items)
     (reported_next all jobs c.loop-at.reports.items at row r c.loop-at-test.true c.loop-at.invariant told)
