@@ -3,3 +3,13 @@ pub mod AgainLemmas
 pub mod LoadedLemmas
 pub mod PlacedLemmas
 pub mod JobLemmas
+pub mod ReportLemmas
+pub mod OfficeLemmas
+pub mod WidthLemmas
+pub mod TableTexts
+pub mod TableAnswers
+pub mod TableReads
+pub mod AmongLemmas
+pub mod StandingLemmas
+pub mod StandingRows
+pub mod OrderLemmas

@@ -33,7 +33,7 @@ loads_as contents kept copy new_are it is =
     let new = new_of contents it.job it.taken in
     let machine : kept.machine ≡ picture it.job = ap (λ (k : Kept). k.machine) it.kept_is in
     let same : copy ≡ loaded_of contents.kind contents.deck =
-        is ∙ ap (λ m. m.works.units.hopper.deck) machine ∙ ap (λ (j : Job). (picture j).works.units.hopper.deck) new.1 ∙ new_deck new.0 contents in
+    is ∙ ap (λ m. m.works.units.hopper.deck) machine ∙ ap (λ (j : Job). (picture j).works.units.hopper.deck) new.1 ∙ new_deck new.0 contents in
     record {
       loaded_is = same;
       is_loading = λ deck loaded.

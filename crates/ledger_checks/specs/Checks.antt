@@ -1,6 +1,7 @@
 -- what the check of all tables finds
 use Rattle.std.specs.Prelude.{◌≡◌, Result, IfOk, IsTrue}
 use Rattle.office.specs.Office.{Office}
+use Rattle.sqlite.specs.Effect.{IsDatabase}
 use Rattle.sqlite.specs.Held.{Held, state}
 use Rattle.sqlite.specs.State.{HasCleanDisk, IsUnchanged}
 use Rattle.sqlite.specs.View.{IsClean}
@@ -25,15 +26,25 @@ abbrev pub IsSoundFor : AllRows → Report → Type 0
 IsSoundFor all report = HasNoDifference report → KeepsTold all report
 
 module _ {S : Type 0} (g : Ghosts S) where
-  -- on Ok, if the database is a bureau's, it is unchanged, and if the report tells no difference,
-  -- its tables stand for an office
+  -- on Ok, if the database has a bureau's schema, it is unchanged; and if it is a bureau's and the
+  -- report tells no difference, its tables stand for an office
   abbrev pub Finds : Held S → Held S → Result Report Fault → Type 0
   Finds old new result = HasCleanDisk (state g new) → IfOk result (λ report.
-      IsBureaus (state g old).now → IsUnchanged (state g old) (state g new)
-      × (HasNoDifference report → StandsFor (state g old).now report))
+      (state g old).now.schema ≡ bureau_schema → IsUnchanged (state g old) (state g new)
+      × (IsBureaus (state g old).now → HasNoDifference report
+      → StandsFor (state g old).now report))
 
-  -- on Ok, if a connection outside a transaction saw a bureau's schema, and the report tells no
-  -- difference, the tables stood for an office
+  -- the same of a connection outside a transaction: what it sees is what was last committed, and
+  -- its trees obey its schema
+  abbrev pub FindsSettled : Held S → Held S → Result Report Fault → Type 0
+  FindsSettled old new result = HasCleanDisk (state g new) → IfOk result (λ report.
+      (state g old).now.schema ≡ bureau_schema → IsUnchanged (state g old) (state g new)
+      × ((state g old).now ≡ (state g old).committed) × IsDatabase (state g old).now
+      × (IsBureaus (state g old).now → HasNoDifference report
+      → StandsFor (state g old).now report))
+
+  -- on Ok, if the connection saw a bureau's schema, and the report tells no difference, the tables
+  -- that it saw stand for an office
   abbrev pub FindsAlone : Held S → S → Result Report Fault → Type 0
   FindsAlone conn store result = IsClean (g.view store) → IfOk result (λ report.
       (state g conn).now.schema ≡ bureau_schema

@@ -4,3 +4,4 @@ pub mod Jobs
 pub mod Kept
 pub mod Reports
 pub mod Tables
+pub mod Texts

@@ -1,6 +1,6 @@
 -- what a report tells
-use Rattle.std.specs.Prelude.{◌≡◌, pos, List, [], ◌∷◌, map, ⊤}
-use Rattle.std.specs.List.{AllByRecursion, AllZip}
+use Rattle.std.specs.Prelude.{◌≡◌, pos, Bool, true, false, All, List, [], ◌∷◌, ⊤}
+use Rattle.std.specs.List.{AllZip}
 use Rattle.office.specs.Kept.{kept_of, summary_of}
 use Rattle.office.specs.Office.{Entry, Office}
 use Rattle.sqlite.specs.Effect.{Database}
@@ -20,9 +20,14 @@ abbrev pub IsAsItRan : Outcome → Type 0
 IsAsItRan (AsItRan summary) = ⊤
 IsAsItRan (Differs difference) = ⊥
 
+-- whether the job's rows are those that it makes
+abbrev pub is_as_it_ran : Outcome → Bool
+is_as_it_ran (AsItRan summary) = true
+is_as_it_ran (Differs difference) = false
+
 -- nothing differs
 pub record HasNoDifference (report : Report) : Type 0 where
-  pub jobs : AllByRecursion (λ it. IsAsItRan it.outcome) report.jobs.items
+  pub jobs : All (λ it. IsAsItRan it.outcome) report.jobs.items
   pub strays : report.strays.items ≡ []
 
 -- the report tells this entry's name and the summary of its job

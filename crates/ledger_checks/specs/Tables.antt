@@ -70,14 +70,16 @@ pages_from s first (suc count) = page_bytes s first ∷ pages_from s (first + 1)
 -- ---- reading
 
 module _ {S : Type 0} (g : Ghosts S) (old new : Held S) where
-  -- on Ok, if the database is a bureau's, these rows were read of its trees, and it is unchanged
+  -- on Ok, if the database has a bureau's schema, it is unchanged, and if it is a bureau's, these
+  -- rows were read of its trees
   abbrev pub Reads : Result (Vec Row Global) Fault → (Trees → List Row → Type 0) → Type 0
   Reads result Are = HasCleanDisk (state g new) → IfOk result (λ rows.
-      IsBureaus (state g old).now → IsUnchanged (state g old) (state g new)
-      × Are (state g old).now.trees rows.items)
+      (state g old).now.schema ≡ bureau_schema → IsUnchanged (state g old) (state g new)
+      × (IsBureaus (state g old).now → Are (state g old).now.trees rows.items))
 
-  -- on Ok, if the database is a bureau's, the rows of its tables were read, and it is unchanged
+  -- on Ok, if the database has a bureau's schema, it is unchanged, and if it is a bureau's, the
+  -- rows of its tables were read
   abbrev pub ReadsAll : Result AllRows Fault → Type 0
   ReadsAll result = HasCleanDisk (state g new) → IfOk result (λ all.
-      IsBureaus (state g old).now → IsUnchanged (state g old) (state g new)
-      × AreRowsOf (state g old).now.trees all)
+      (state g old).now.schema ≡ bureau_schema → IsUnchanged (state g old) (state g new)
+      × (IsBureaus (state g old).now → AreRowsOf (state g old).now.trees all))

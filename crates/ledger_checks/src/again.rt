@@ -7,12 +7,12 @@ ghost use Rattle.office.specs.Jobs.{all_off, granted, AreStretches, HasSwitches}
 ghost use Rattle.ledger_checks.specs.Again.{GoesThrough, HasResumed, IsLoading, LoadsAs};
 
 use crate::differences::{Difference, Stop};
+use bitflags::Flags;
 use cards::{Card, Deck, DeckFault};
 use core_store::{PlaneCore, Size};
 use ledger_rows::deck_bytes;
 use machine::{Machine, Meter, Standing};
 use office::{Contents, Kind, NewFault, Stretch, commands_keep_jobs, new_job};
-use bitflags::Flags;
 use std::alloc::{AllocError, Global};
 use units::{Profile, Switches};
 
@@ -138,7 +138,7 @@ fn go_on(machine: &mut Machine<PlaneCore>, stretches: &[Stretch]) -> Result<(), 
     let mut meter = Meter::new();
     for at in 0..stretches.len() {
         if machine.parts().standing != Standing::Halted {
-            return Err(Stop::Differs(Difference::NotAtHalt(at)));
+            return Err(Stop::Differs(Difference::NotAtHalt(at + 1)));
         }
         resume(machine, stretches[at], &mut meter)?;
     }

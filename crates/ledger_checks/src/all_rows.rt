@@ -99,7 +99,10 @@ fn page_rows<S: Alter>(conn: &mut Connection<S>) -> Result<Vec<Row>, Fault>
     ensures clean { doubt (state S.Store conn.old).is_clean
         ≤ doubt (state S.Store conn.new).is_clean }
 {
-    rows(conn, "SELECT customer, number, page, storage FROM pages ORDER BY page")
+    rows(
+        conn,
+        "SELECT customer, number, page, storage FROM pages ORDER BY page",
+    )
 }
 
 fn card_rows<S: Alter>(conn: &mut Connection<S>) -> Result<Vec<Row>, Fault>
@@ -107,7 +110,10 @@ fn card_rows<S: Alter>(conn: &mut Connection<S>) -> Result<Vec<Row>, Fault>
     ensures clean { doubt (state S.Store conn.old).is_clean
         ≤ doubt (state S.Store conn.new).is_clean }
 {
-    rows(conn, "SELECT customer, number, place, card FROM cards ORDER BY rowid")
+    rows(
+        conn,
+        "SELECT customer, number, place, card FROM cards ORDER BY rowid",
+    )
 }
 
 fn line_rows<S: Alter>(conn: &mut Connection<S>) -> Result<Vec<Row>, Fault>

@@ -4,7 +4,7 @@ ghost use Rattle.std.specs.Prelude.{◌≡◌, ◌≤◌, [], IfOk, OnOk, IsNone
 ghost use Rattle.sqlite.specs.Held.{state};
 ghost use Rattle.sqlite.specs.State.{HasCleanDisk};
 ghost use Rattle.sqlite.specs.View.{doubt, IsClean};
-ghost use Rattle.ledger_checks.specs.Checks.{Finds, FindsAlone, IsSoundFor};
+ghost use Rattle.ledger_checks.specs.Checks.{Finds, FindsAlone, FindsSettled, IsSoundFor};
 ghost use Rattle.ledger_checks.specs.Kept.{AreOwned, version_row};
 
 use crate::all_rows::AllRows;
@@ -17,16 +17,17 @@ use sqlite::{Alter, Connection, Row, params};
 use sqlite_trees::store::Store;
 use std::alloc::{AllocError, Global};
 
-/// The place of the first row of `bureau` that is not as it is to be: one row, with the version.
+/// The first row of `bureau`, counted from 1, that is not as it is to be: one row, with the
+/// version.
 fn first_other_version(rows: &[Row]) -> Option<usize>
     ensures { IsNone result → rows.now ≡ version_row }
 {
     let [row] = rows else {
-        return Some(1);
+        return Some(2);
     };
     match first_other(row, params![1u32, VERSION]) {
         None => None,
-        Some(_) => Some(0),
+        Some(_) => Some(1),
     }
 }
 
@@ -48,13 +49,25 @@ fn find_strays(alloc: Global, all: &AllRows) -> Result<Vec<Stray>, AllocError>
 {
     let jobs = all.jobs.as_slice();
     let mut strays = Vec::new(alloc);
-    add(&mut strays, Table::Bureau, first_other_version(&all.version))?;
-    add(&mut strays, Table::Stretches, first_stray(jobs, &all.stretches))?;
+    add(
+        &mut strays,
+        Table::Bureau,
+        first_other_version(&all.version),
+    )?;
+    add(
+        &mut strays,
+        Table::Stretches,
+        first_stray(jobs, &all.stretches),
+    )?;
     add(&mut strays, Table::States, first_stray(jobs, &all.states))?;
     add(&mut strays, Table::Pages, first_stray(jobs, &all.pages))?;
     add(&mut strays, Table::Cards, first_stray(jobs, &all.cards))?;
     add(&mut strays, Table::Lines, first_stray(jobs, &all.lines))?;
-    add(&mut strays, Table::Profiles, first_stray(jobs, &all.profiles))?;
+    add(
+        &mut strays,
+        Table::Profiles,
+        first_stray(jobs, &all.profiles),
+    )?;
     add(&mut strays, Table::Pockets, first_stray(jobs, &all.pockets))?;
     Ok(strays)
 }
@@ -63,17 +76,14 @@ fn find_strays(alloc: Global, all: &AllRows) -> Result<Vec<Stray>, AllocError>
 fn check_rows(alloc: Global, all: &AllRows) -> Result<Report, AllocError>
     ensures { IfOk result (IsSoundFor all.now) }
 {
-    let jobs = check_jobs(alloc, all)?;
+    let jobs = check_jobs(alloc, all, all.jobs.as_slice())?;
     let strays = find_strays(alloc, all)?;
     Ok(Report { jobs, strays })
 }
 
 /// Runs each job of a bureau again, and compares the rows of all tables with what it makes. Nothing
 /// is written.
-pub fn check_tables<S: Alter>(
-    alloc: Global,
-    conn: &mut Connection<S>,
-) -> Result<Report, Fault>
+pub fn check_tables<S: Alter>(alloc: Global, conn: &mut Connection<S>) -> Result<Report, Fault>
     ensures sound { Finds S.Store conn.old conn.new result }
     ensures clean { doubt (state S.Store conn.old).is_clean
         ≤ doubt (state S.Store conn.new).is_clean }
@@ -81,6 +91,17 @@ pub fn check_tables<S: Alter>(
     let all = AllRows::read(conn)?;
     let report = check_rows(alloc, &all)?;
     Ok(report)
+}
+
+/// The check of all tables, outside a transaction.
+fn check_settled<S: Alter>(alloc: Global, conn: &mut Connection<S>) -> Result<Report, Fault>
+    ensures { FindsSettled S.Store conn.old conn.new result }
+{
+    if !conn.is_autocommit() {
+        return Err(Fault::Store);
+    }
+    let _schema = conn.schema();
+    check_tables(alloc, conn)
 }
 
 /// Runs each job of a bureau again, and compares the rows of all tables with what it makes. Nothing
@@ -91,7 +112,7 @@ pub fn check<S: Alter + Drop>(alloc: Global, conn: Connection<S>) -> (Result<Rep
     ensures { FindsAlone S.Store conn result.1 result.0 }
 {
     let mut conn = conn;
-    let checked = check_tables(alloc, &mut conn);
+    let checked = check_settled(alloc, &mut conn);
     let store = conn.into_store();
     if store.is_broken() {
         return (Err(Fault::Store), store);

@@ -26,28 +26,36 @@ pub enum Found {
     Nothing,
     /// There is a row there, and no such row is wanted.
     OneTooMany,
-    /// Another number in this column.
-    Number { column: usize, found: i64, wanted: i64 },
-    /// Another byte in this column, at this position from 0.
-    Byte { column: usize, at: usize, found: u8, wanted: u8 },
-    /// Another value in this column.
-    Value { column: usize },
+    /// Another number as this value of the row, counted from 1.
+    Number {
+        value: usize,
+        found: i64,
+        wanted: i64,
+    },
+    /// Another byte at this place, counted from 1.
+    Byte {
+        at: usize,
+        found: u8,
+        wanted: u8,
+    },
+    /// Another value of the row, counted from 1.
+    Value {
+        value: usize,
+    },
 }
 
 /// The first difference of a job.
 #[derive(Drop)]
 pub enum Difference {
-    /// Its row in `jobs` is not that of a job: this column holds what none may hold.
-    NoJob { column: usize },
-    /// Its name is that of a later row of `jobs` too.
-    Twice,
+    /// Its row in `jobs` is not that of a job: this value, counted from 1, is one that none has.
+    NoJob { value: usize },
     /// Its deck is refused.
     Refused(Refusal),
-    /// This stretch of it is none.
+    /// This stretch of it is none, by its place from 0.
     NoStretch(usize),
     /// Its stretches are none that a job may have.
     NoStretches,
-    /// It was started again before this stretch, and was at no halt.
+    /// It was at no halt before this stretch, by its place from 0.
     NotAtHalt(usize),
     /// Its profile is none.
     NoProfile,
@@ -76,36 +84,36 @@ impl From<Difference> for Stop {
     }
 }
 
-/// The first byte that differs.
-fn byte_apart(column: usize, found: &[u8], wanted: &[u8]) -> Found {
+/// The first byte that differs in a value of a row.
+fn byte_apart(value: usize, found: &[u8], wanted: &[u8]) -> Found {
     if found.len() != wanted.len() {
-        return Found::Value { column };
+        return Found::Value { value };
     }
     for at in 0..found.len() {
         if found[at] != wanted[at] {
             return Found::Byte {
-                column,
-                at,
+                at: at + 1,
                 found: found[at],
                 wanted: wanted[at],
             };
         }
     }
-    Found::Value { column }
+    Found::Value { value }
 }
 
-/// How the value in a column differs.
+/// How a row differs in a column, counted from 0.
 pub(crate) fn value_apart(row: &Row, wanted: &[ValueRef<'_>], column: usize) -> Found {
-    let Some(wanted) = wanted.get(column) else {
-        return Found::Value { column };
-    };
-    match (row.get_ref(column), *wanted) {
+    if column >= wanted.len() {
+        return Found::Value { value: column };
+    }
+    let value = column + 1;
+    match (row.get_ref(column), wanted[column]) {
         (Ok(ValueRef::Int(found)), ValueRef::Int(wanted)) => Found::Number {
-            column,
+            value,
             found,
             wanted,
         },
-        (Ok(ValueRef::Blob(found)), ValueRef::Blob(wanted)) => byte_apart(column, found, wanted),
-        _ => Found::Value { column },
+        (Ok(ValueRef::Blob(found)), ValueRef::Blob(wanted)) => byte_apart(value, found, wanted),
+        _ => Found::Value { value },
     }
 }

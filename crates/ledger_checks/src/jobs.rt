@@ -39,12 +39,7 @@ fn kind_number(kind: Kind) -> u32
 }
 
 /// The job's row is this one.
-fn check_row(
-    row: &Row,
-    name: JobName<'_>,
-    job: Numbers,
-    loaded: &Loaded,
-) -> Result<(), Difference>
+fn check_row(row: &Row, name: JobName<'_>, job: Numbers, loaded: &Loaded) -> Result<(), Difference>
     ensures { OnOk result (row.now ≡ row_of name.entry.customer.now name.entry.number job
         loaded.now.deck_bytes.items loaded.now.loaded_bytes.items) }
 {
@@ -61,10 +56,7 @@ fn check_row(
     ];
     match first_other(row, wanted) {
         None => Ok(()),
-        Some(column) => Err(Difference::Row(
-            Place::Job,
-            value_apart(row, wanted, column),
-        )),
+        Some(column) => Err(Difference::Row(Place::Job, value_apart(row, wanted, column))),
     }
 }
 
@@ -73,10 +65,10 @@ fn summary_of(numbers: Numbers, stretches: &[Stretch], machine: &Parts<PlaneCore
     requires stretches { AreStretches stretches.now }
     requires machine { IsInRange machine.now }
     ensures { result ≡ summary_of (record {
-        stretches = stretches.now;
-        held = numbers.held;
-        collected = numbers.collected;
-        machine = machine.now;
+      stretches = stretches.now;
+      held = numbers.held;
+      collected = numbers.collected;
+      machine = machine.now;
     }) }
 {
     Summary {
@@ -130,19 +122,14 @@ fn check_named(
 }
 
 /// The job of this row is run again, and compared with its rows.
-fn check_row_of(
-    alloc: Global,
-    all: &AllRows,
-    later: &[Row],
-    row: &Row,
-) -> Result<Summary, Stop>
+fn check_row_of(alloc: Global, all: &AllRows, later: &[Row], row: &Row) -> Result<Summary, Stop>
     ensures { IfOk result (HasRun all.now later.now row.now) }
 {
     let Some(customer) = text_at(row, 0) else {
-        return Err(Stop::Differs(Difference::NoJob { column: 0 }));
+        return Err(Stop::Differs(Difference::NoJob { value: 1 }));
     };
     let Some(number) = number_at(row, 1) else {
-        return Err(Stop::Differs(Difference::NoJob { column: 1 }));
+        return Err(Stop::Differs(Difference::NoJob { value: 2 }));
     };
     check_named(alloc, all, later, row, JobName { customer, number })
 }
@@ -169,12 +156,7 @@ fn label_number(row: &Row) -> i64
 }
 
 /// What came of the job of this row.
-fn outcome_of(
-    alloc: Global,
-    all: &AllRows,
-    later: &[Row],
-    row: &Row,
-) -> Result<Outcome, AllocError>
+fn outcome_of(alloc: Global, all: &AllRows, later: &[Row], row: &Row) -> Result<Outcome, AllocError>
     ensures { IfOk result (HasOutcome all.now later.now row.now) }
 {
     match check_row_of(alloc, all, later, row) {
@@ -201,13 +183,17 @@ fn check_job(
     })
 }
 
-/// What is told of each job.
-pub(crate) fn check_jobs(alloc: Global, all: &AllRows) -> Result<Vec<JobReport>, AllocError>
-    ensures { IfOk result (λ reports. AreReported all.now all.now.jobs.items reports.items) }
+/// What is told of the job of each of these rows.
+pub(crate) fn check_jobs(
+    alloc: Global,
+    all: &AllRows,
+    jobs: &[Row],
+) -> Result<Vec<JobReport>, AllocError>
+    ensures { IfOk result (λ reports. AreReported all.now jobs.now reports.items) }
 {
     let mut reports = Vec::new(alloc);
-    for at in 0..all.jobs.len() {
-        let report = check_job(alloc, all, &all.jobs[at + 1..], &all.jobs[at])?;
+    for at in 0..jobs.len() {
+        let report = check_job(alloc, all, &jobs[at + 1..], &jobs[at])?;
         reports.try_reserve(1)?;
         reports.push_reserved(report);
     }

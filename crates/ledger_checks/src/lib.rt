@@ -14,8 +14,10 @@ mod names;
 mod owners;
 mod reports;
 mod submitted;
+mod texts;
 
 pub use all_rows::AllRows;
 pub use checks::{check, check_tables};
 pub use differences::{Difference, Found, Place};
 pub use reports::{JobReport, Outcome, Report, Stray, Table};
+pub use texts::report_text;

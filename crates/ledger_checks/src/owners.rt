@@ -38,13 +38,13 @@ fn is_owned(jobs: &[Row], row: &Row) -> bool
     false
 }
 
-/// The place of the first of these rows that names none of these jobs, if there is one.
+/// The first of these rows, counted from 1, that names none of these jobs, if there is one.
 pub(crate) fn first_stray(jobs: &[Row], rows: &[Row]) -> Option<usize>
     ensures { IsNone result → AllByRecursion (IsOwned jobs.now) rows.now }
 {
     for at in 0..rows.len() {
         if !is_owned(jobs, &rows[at]) {
-            return Some(at);
+            return Some(at + 1);
         }
     }
     None

@@ -1,7 +1,7 @@
 //! What the check tells.
 
-ghost use Rattle.std.specs.Prelude.{◌≡◌, ◌↔◌, IsTrue};
-ghost use Rattle.ledger_checks.specs.Reports.{HasNoDifference};
+ghost use Rattle.std.specs.Prelude.{◌≡◌, ◌↔◌, All, count_by, not, IsTrue};
+ghost use Rattle.ledger_checks.specs.Reports.{HasNoDifference, IsAsItRan, is_as_it_ran};
 
 use crate::differences::Difference;
 use office::Summary;
@@ -24,7 +24,7 @@ pub enum Table {
 #[derive(Drop)]
 pub struct Stray {
     pub table: Table,
-    /// Its place among the rows that were read, from 0.
+    /// Its place among the rows that were read, counted from 1.
     pub row: usize,
 }
 
@@ -57,7 +57,8 @@ pub struct Report {
 impl Outcome {
     /// Whether the job is as it ran.
     fn is_as_it_ran(&self) -> bool
-        ensures { IsTrue result ↔ IsAsItRan self.now }
+        ensures is { result ≡ is_as_it_ran self.now }
+        ensures are { IsTrue result ↔ IsAsItRan self.now }
     {
         match self {
             Outcome::AsItRan(_) => true,
@@ -66,9 +67,21 @@ impl Outcome {
     }
 }
 
+/// Whether each of these jobs is as it ran.
+fn are_as_they_ran(jobs: &[JobReport]) -> bool
+    ensures { IsTrue result ↔ All (λ it. IsAsItRan it.outcome) jobs.now }
+{
+    for job in jobs {
+        if !job.outcome.is_as_it_ran() {
+            return false;
+        }
+    }
+    true
+}
+
 /// How many of these jobs are not as they ran.
 fn count_differing(jobs: &[JobReport]) -> usize
-    ensures { result ≡ 0 ↔ AllByRecursion (λ it. IsAsItRan it.outcome) jobs.now }
+    ensures { result ≡ count_by (λ it. not (is_as_it_ran it.outcome)) jobs.now }
 {
     let mut count = 0;
     for job in jobs {
@@ -82,7 +95,7 @@ fn count_differing(jobs: &[JobReport]) -> usize
 impl Report {
     /// How many jobs differ.
     pub fn differing(&self) -> usize
-        ensures { result ≡ 0 ↔ AllByRecursion (λ it. IsAsItRan it.outcome) self.now.jobs.items }
+        ensures { result ≡ count_by (λ it. not (is_as_it_ran it.outcome)) self.now.jobs.items }
     {
         count_differing(&self.jobs)
     }
@@ -91,6 +104,6 @@ impl Report {
     pub fn has_no_difference(&self) -> bool
         ensures { IsTrue result ↔ HasNoDifference self.now }
     {
-        self.strays.is_empty() && self.differing() == 0
+        self.strays.is_empty() && are_as_they_ran(&self.jobs)
     }
 }

@@ -53,19 +53,19 @@ fn truth_at(row: &Row, at: usize) -> Option<bool> {
     read_truth(number_at(row, at)?)
 }
 
-/// The columns of a row of `jobs` that are numbers, or the first of them that holds none.
+/// The numbers of a row of `jobs`, or the first value of it, counted from 1, that no job has.
 fn read_numbers(row: &Row) -> Result<Numbers, usize> {
     let Some(kind) = kind_at(row, 2) else {
-        return Err(2);
-    };
-    let Some(size) = size_at(row, 3) else {
         return Err(3);
     };
+    let Some(size) = size_at(row, 3) else {
+        return Err(4);
+    };
     let Some(held) = truth_at(row, 6) else {
-        return Err(6);
+        return Err(7);
     };
     let Some(collected) = truth_at(row, 7) else {
-        return Err(7);
+        return Err(8);
     };
     Ok(Numbers {
         kind,
@@ -75,14 +75,14 @@ fn read_numbers(row: &Row) -> Result<Numbers, usize> {
     })
 }
 
-/// The deck in a column.
-fn read_deck_at(alloc: Global, row: &Row, column: usize) -> Result<Deck, Stop> {
-    let Some(bytes) = bytes_at(row, column) else {
-        return Err(Stop::Differs(Difference::NoJob { column }));
+/// The deck that was handed in.
+fn read_deck_of(alloc: Global, row: &Row) -> Result<Deck, Stop> {
+    let Some(bytes) = bytes_at(row, 4) else {
+        return Err(Stop::Differs(Difference::NoJob { value: 5 }));
     };
     match read_deck(alloc, bytes)? {
         Some(deck) => Ok(deck),
-        None => Err(Stop::Differs(Difference::NoJob { column })),
+        None => Err(Stop::Differs(Difference::NoJob { value: 5 })),
     }
 }
 
@@ -90,9 +90,9 @@ fn read_deck_at(alloc: Global, row: &Row, column: usize) -> Result<Deck, Stop> {
 pub(crate) fn read_submitted(alloc: Global, row: &Row) -> Result<Submitted, Stop> {
     let numbers = match read_numbers(row) {
         Ok(numbers) => numbers,
-        Err(column) => return Err(Stop::Differs(Difference::NoJob { column })),
+        Err(value) => return Err(Stop::Differs(Difference::NoJob { value })),
     };
-    let deck = read_deck_at(alloc, row, 4)?;
+    let deck = read_deck_of(alloc, row)?;
     Ok(Submitted { numbers, deck })
 }
 

@@ -15,9 +15,10 @@ loop-at-preserved c =
     let customer = c.args.name.customer.now in
     let number = c.args.name.number in
     let cards = c.args.cards.now in
-    let card = c.index-cards-at.result in
-    (placed_step (row.card_row customer number) punched_bytes 1 cards c.loop-at.at card _ _ _ _ _ c.loop-at-test.true inv.0 c.in_ok-rest.ensures (search rules),
-    All-more IsPunched cards c.loop-at.at _ c.loop-at-test.true inv.1 c.card_bytes-bytes.ensures.card)
+    let card = c.index-cards-at.result in (
+      placed_step (row.card_row customer number) punched_bytes 1 cards c.loop-at.at card _ _ _ _ _ c.loop-at-test.true inv.0 c.in_ok-rest.ensures (search rules),
+      All-more IsPunched cards c.loop-at.at _ c.loop-at-test.true inv.1 c.card_bytes-bytes.ensures.card,
+    )
 
 pub returns-clause-characters : goal.returns-clause-characters
 returns-clause-characters c =

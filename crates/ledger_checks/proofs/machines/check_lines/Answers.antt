@@ -10,9 +10,10 @@ use Rattle.ledger_checks.proofs.machines.check_lines.Goals as goal
 pub loop-at-preserved : goal.loop-at-preserved
 loop-at-preserved c =
     let inv = c.loop-at.invariant in
-    let lines = c.args.lines.now in
-    (placed_step (row.line_row c.args.name.customer.now c.args.name.number) line_cells 1 lines c.loop-at.at c.index-lines-at.result _ _ _ _ _ c.loop-at-test.true inv.0 c.in_ok-rest.ensures.row (search rules),
-    All-more IsLine lines c.loop-at.at c.index-lines-at.result c.loop-at-test.true inv.1 (subst IsLine c.index-lines-at.is c.pass_line.ensures.line))
+    let lines = c.args.lines.now in (
+      placed_step (row.line_row c.args.name.customer.now c.args.name.number) line_cells 1 lines c.loop-at.at c.index-lines-at.result _ _ _ _ _ c.loop-at-test.true inv.0 c.in_ok-rest.ensures.row (search rules),
+      All-more IsLine lines c.loop-at.at c.index-lines-at.result c.loop-at-test.true inv.1 (subst IsLine c.index-lines-at.is c.pass_line.ensures.line),
+    )
 
 pub returns-clause-characters : goal.returns-clause-characters
 returns-clause-characters c =

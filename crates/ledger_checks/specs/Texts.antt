@@ -1,0 +1,116 @@
+-- the lines of a report
+use Rattle.std.specs.Prelude.{ℕ, ℤ, ◌++◌, ◌==◌, not, if◌then◌else◌, nat_lt, List, [], ◌∷◌, count_by, flat_map, length, codes, decimal}
+use Rattle.std.specs.Fmt.{signed_decimal}
+use Rattle.bcd.specs.Table.{glyph_of}
+use Rattle.machine.specs.Standings.{standing_words}
+use Rattle.office.specs.Numbers.{refusal_number}
+use Rattle.office.specs.declared.summaries.Summary.{Summary}
+use Rattle.ledger_checks.specs.Reports.{is_as_it_ran}
+use Rattle.ledger_checks.specs.declared.differences.Difference.{Difference}
+use Rattle.ledger_checks.specs.declared.differences.Difference.TheVariants as difference
+use Rattle.ledger_checks.specs.declared.differences.Found.{Found}
+use Rattle.ledger_checks.specs.declared.differences.Found.TheVariants as found
+use Rattle.ledger_checks.specs.declared.differences.Place.{Place}
+use Rattle.ledger_checks.specs.declared.differences.Place.TheVariants as place
+use Rattle.ledger_checks.specs.declared.reports.JobReport.{JobReport}
+use Rattle.ledger_checks.specs.declared.reports.Outcome.{Outcome}
+use Rattle.ledger_checks.specs.declared.reports.Outcome.TheVariants.{AsItRan, Differs}
+use Rattle.ledger_checks.specs.declared.reports.Report.{Report}
+use Rattle.ledger_checks.specs.declared.reports.Stray.{Stray}
+use Rattle.ledger_checks.specs.declared.reports.Table.{Table}
+use Rattle.ledger_checks.specs.declared.reports.Table.TheVariants as table
+
+-- the name of a table
+abbrev pub table_words : Table → List ℕ
+table_words table.Bureau = codes "bureau"
+table_words table.Stretches = codes "stretches"
+table_words table.States = codes "states"
+table_words table.Pages = codes "pages"
+table_words table.Cards = codes "cards"
+table_words table.Lines = codes "lines"
+table_words table.Profiles = codes "profiles"
+table_words table.Pockets = codes "pockets"
+
+-- the name of a row of a job
+abbrev pub place_words : Place → List ℕ
+place_words place.Job = codes "row in jobs"
+place_words (place.Stretch at) = codes "stretch " ++ decimal at
+place_words place.State = codes "state"
+place_words (place.Page page) = codes "page " ++ decimal page
+place_words (place.Card at) = codes "card " ++ decimal at
+place_words (place.Pocket at) = codes "pocket of card " ++ decimal at
+place_words (place.Line at) = codes "line " ++ decimal at
+place_words place.Profile = codes "profile"
+
+-- a byte of a card, a line or a page: the glyph of its character, or its number if it has none
+abbrev pub byte_words : ℕ → List ℕ
+byte_words byte = if nat_lt byte 64 then glyph_of byte ∷ [] else decimal byte
+
+-- which value of a row differs
+abbrev pub value_words : ℕ → List ℕ
+value_words value = codes " differs, value " ++ decimal value
+
+-- a number, and the one that is wanted
+abbrev pub apart_words : ℤ → ℤ → List ℕ
+apart_words is wanted = codes ": " ++ signed_decimal is ++ codes " and not "
+    ++ signed_decimal wanted
+
+-- a number that is not the one that is wanted, as this value of a row
+abbrev pub number_words : ℕ → ℤ → ℤ → List ℕ
+number_words value is wanted = value_words value ++ apart_words is wanted
+
+-- a byte that is not the one that is wanted, at this column
+abbrev pub bytes_words : ℕ → ℕ → ℕ → List ℕ
+bytes_words at is wanted = codes " differs, column " ++ decimal at ++ codes ": " ++ byte_words is
+    ++ codes " and not " ++ byte_words wanted
+
+-- what was found at a place
+abbrev pub found_words : Found → List ℕ
+found_words found.Nothing = codes " is missing"
+found_words found.OneTooMany = codes " is one too many"
+found_words (found.Number value is wanted) = number_words value is wanted
+found_words (found.Byte at is wanted) = bytes_words at is wanted
+found_words (found.Value value) = value_words value
+
+-- a difference of a job
+abbrev pub difference_words : Difference → List ℕ
+difference_words (difference.NoJob value) = codes "row in jobs is none, value " ++ decimal value
+difference_words (difference.Refused reason) =
+    codes "the deck is refused by " ++ decimal (refusal_number reason)
+difference_words (difference.NoStretch at) = codes "stretch " ++ decimal at ++ codes " is none"
+difference_words difference.NoStretches = codes "the stretches are none of a job"
+difference_words (difference.NotAtHalt at) =
+    codes "not at a halt before stretch " ++ decimal at
+difference_words difference.NoProfile = codes "the profile is none"
+difference_words (difference.Row at it) = place_words at ++ found_words it
+
+-- a job that is as it ran
+abbrev pub summary_words : Summary → List ℕ
+summary_words it = codes " " ++ standing_words it.standing ++ codes " granted "
+    ++ decimal it.granted ++ codes " cards " ++ decimal it.cards ++ codes " lines "
+    ++ decimal it.lines ++ codes ": as it ran\n"
+
+-- what came of a job
+abbrev pub outcome_words : Outcome → List ℕ
+outcome_words (AsItRan summary) = summary_words summary
+outcome_words (Differs it) = codes ": " ++ difference_words it ++ codes "\n"
+
+-- the line of a job
+abbrev pub job_line : JobReport → List ℕ
+job_line it = it.customer.items ++ codes " " ++ signed_decimal it.number ++ outcome_words it.outcome
+
+-- the line of a stray row
+abbrev pub stray_line : Stray → List ℕ
+stray_line it = table_words it.table ++ codes ": row " ++ decimal it.row
+    ++ codes " is of no job\n"
+
+-- the last line
+abbrev pub sum_line : ℕ → ℕ → List ℕ
+sum_line jobs differing = codes "jobs " ++ decimal jobs ++ codes ", " ++ decimal differing
+    ++ (if differing == 1 then codes " differs\n" else codes " differ\n")
+
+-- all lines of a report
+abbrev pub report_text : Report → List ℕ
+report_text report = flat_map job_line report.jobs.items ++ flat_map stray_line report.strays.items
+    ++ sum_line (length report.jobs.items)
+    (count_by (λ it. not (is_as_it_ran it.outcome)) report.jobs.items)

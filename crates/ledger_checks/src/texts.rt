@@ -1,0 +1,310 @@
+//! The lines of a report.
+
+ghost use Rattle.std.specs.Prelude.{◌≡◌, ◌++◌, codes, decimal, flat_map, IfOk, OnOk};
+ghost use Rattle.std.specs.Fmt.{signed_decimal};
+ghost use Rattle.machine.specs.Standings.{standing_words};
+ghost use Rattle.office.specs.Numbers.{refusal_number};
+ghost use Rattle.ledger_checks.specs.Texts.{apart_words, byte_words, bytes_words, difference_words, found_words, job_line, number_words, outcome_words, place_words, report_text, stray_line, sum_line, summary_words, table_words, value_words};
+
+use crate::differences::{Difference, Found, Place};
+use crate::reports::{JobReport, Outcome, Report, Stray, Table};
+use bcd::Code;
+use itoa::Buffer;
+use machine::StandingAt;
+use office::{Refusal, Summary};
+use std::alloc::{AllocError, Global};
+
+/// Adds a number.
+fn push_decimal(out: &mut Vec<u8>, number: usize) -> Result<(), AllocError>
+    ensures { OnOk result (out.new.items ≡ out.old.items ++ decimal number) }
+{
+    let mut buffer = Buffer::new();
+    out.extend_from_slice(buffer.format(number).as_bytes())
+}
+
+/// Adds a number with its sign.
+fn push_signed(out: &mut Vec<u8>, number: i64) -> Result<(), AllocError>
+    ensures { OnOk result (out.new.items ≡ out.old.items ++ signed_decimal number) }
+{
+    let mut buffer = Buffer::new();
+    out.extend_from_slice(buffer.format(number).as_bytes())
+}
+
+/// Adds words and a number after them.
+fn push_numbered(out: &mut Vec<u8>, words: &str, number: usize) -> Result<(), AllocError>
+    ensures { OnOk result (out.new.items ≡ out.old.items ++ words.now ++ decimal number) }
+{
+    out.extend_from_slice(words.as_bytes())?;
+    push_decimal(out, number)
+}
+
+/// Adds the name of a table.
+fn push_table(out: &mut Vec<u8>, table: Table) -> Result<(), AllocError>
+    ensures { OnOk result (out.new.items ≡ out.old.items ++ table_words table) }
+{
+    match table {
+        Table::Bureau => out.extend_from_slice(b"bureau"),
+        Table::Stretches => out.extend_from_slice(b"stretches"),
+        Table::States => out.extend_from_slice(b"states"),
+        Table::Pages => out.extend_from_slice(b"pages"),
+        Table::Cards => out.extend_from_slice(b"cards"),
+        Table::Lines => out.extend_from_slice(b"lines"),
+        Table::Profiles => out.extend_from_slice(b"profiles"),
+        Table::Pockets => out.extend_from_slice(b"pockets"),
+    }
+}
+
+/// Adds the name of a row of a job.
+fn push_place(out: &mut Vec<u8>, place: Place) -> Result<(), AllocError>
+    ensures { OnOk result (out.new.items ≡ out.old.items ++ place_words place) }
+{
+    match place {
+        Place::Job => out.extend_from_slice(b"row in jobs"),
+        Place::Stretch(at) => push_numbered(out, "stretch ", at),
+        Place::State => out.extend_from_slice(b"state"),
+        Place::Page(page) => push_numbered(out, "page ", page as usize),
+        Place::Card(at) => push_numbered(out, "card ", at as usize),
+        Place::Pocket(at) => push_numbered(out, "pocket of card ", at as usize),
+        Place::Line(at) => push_numbered(out, "line ", at as usize),
+        Place::Profile => out.extend_from_slice(b"profile"),
+    }
+}
+
+/// Adds a byte of a card, a line or a page.
+fn push_byte(out: &mut Vec<u8>, byte: u8) -> Result<(), AllocError>
+    ensures { OnOk result (out.new.items ≡ out.old.items ++ byte_words byte) }
+{
+    match Code::from_number(byte) {
+        Some(code) => out.extend_from_slice(&[code.glyph()]),
+        None => push_decimal(out, byte as usize),
+    }
+}
+
+/// Adds which value differs.
+fn push_value(out: &mut Vec<u8>, value: usize) -> Result<(), AllocError>
+    ensures { OnOk result (out.new.items ≡ out.old.items ++ value_words value) }
+{
+    out.extend_from_slice(b" differs, value ")?;
+    push_decimal(out, value)
+}
+
+/// Adds two numbers that differ.
+fn push_apart(out: &mut Vec<u8>, found: i64, wanted: i64) -> Result<(), AllocError>
+    ensures { OnOk result (out.new.items ≡ out.old.items ++ apart_words found wanted) }
+{
+    out.extend_from_slice(b": ")?;
+    push_signed(out, found)?;
+    out.extend_from_slice(b" and not ")?;
+    push_signed(out, wanted)
+}
+
+/// Adds a number that differs.
+fn push_number_apart(
+    out: &mut Vec<u8>,
+    value: usize,
+    found: i64,
+    wanted: i64,
+) -> Result<(), AllocError>
+    ensures { OnOk result (out.new.items ≡ out.old.items ++ number_words value found wanted) }
+{
+    push_value(out, value)?;
+    push_apart(out, found, wanted)
+}
+
+/// Adds where a byte differs.
+fn push_column(out: &mut Vec<u8>, at: usize) -> Result<(), AllocError>
+    ensures { OnOk result (out.new.items ≡ out.old.items ++ codes " differs, column "
+        ++ decimal at) }
+{
+    out.extend_from_slice(b" differs, column ")?;
+    push_decimal(out, at)
+}
+
+/// Adds a byte that differs.
+fn push_byte_apart(out: &mut Vec<u8>, at: usize, found: u8, wanted: u8) -> Result<(), AllocError>
+    ensures { OnOk result (out.new.items ≡ out.old.items ++ bytes_words at found wanted) }
+{
+    push_column(out, at)?;
+    out.extend_from_slice(b": ")?;
+    push_byte(out, found)?;
+    out.extend_from_slice(b" and not ")?;
+    push_byte(out, wanted)
+}
+
+/// Adds what was found at a place.
+fn push_found(out: &mut Vec<u8>, found: Found) -> Result<(), AllocError>
+    ensures { OnOk result (out.new.items ≡ out.old.items ++ found_words found) }
+{
+    match found {
+        Found::Nothing => out.extend_from_slice(b" is missing"),
+        Found::OneTooMany => out.extend_from_slice(b" is one too many"),
+        Found::Number {
+            value,
+            found,
+            wanted,
+        } => push_number_apart(out, value, found, wanted),
+        Found::Byte { at, found, wanted } => push_byte_apart(out, at, found, wanted),
+        Found::Value { value } => push_value(out, value),
+    }
+}
+
+/// Adds which value of a row in `jobs` is none.
+fn push_no_job(out: &mut Vec<u8>, value: usize) -> Result<(), AllocError>
+    ensures { OnOk result (out.new.items ≡ out.old.items
+        ++ codes "row in jobs is none, value " ++ decimal value) }
+{
+    out.extend_from_slice(b"row in jobs is none, value ")?;
+    push_decimal(out, value)
+}
+
+/// Adds why a deck is refused.
+fn push_refused(out: &mut Vec<u8>, reason: &Refusal) -> Result<(), AllocError>
+    ensures { OnOk result (out.new.items ≡ out.old.items
+        ++ codes "the deck is refused by " ++ decimal (refusal_number reason.now)) }
+{
+    out.extend_from_slice(b"the deck is refused by ")?;
+    push_decimal(out, reason.number() as usize)
+}
+
+/// Adds where a job was at no halt.
+fn push_no_halt(out: &mut Vec<u8>, at: usize) -> Result<(), AllocError>
+    ensures { OnOk result (out.new.items ≡ out.old.items
+        ++ codes "not at a halt before stretch " ++ decimal at) }
+{
+    out.extend_from_slice(b"not at a halt before stretch ")?;
+    push_decimal(out, at)
+}
+
+/// Adds a difference of a job.
+fn push_difference(out: &mut Vec<u8>, difference: &Difference) -> Result<(), AllocError>
+    ensures { OnOk result (out.new.items ≡ out.old.items ++ difference_words difference.now) }
+{
+    match difference {
+        Difference::NoJob { value } => push_no_job(out, *value),
+        Difference::Refused(reason) => push_refused(out, reason),
+        Difference::NoStretch(at) => {
+            push_numbered(out, "stretch ", *at)?;
+            out.extend_from_slice(b" is none")
+        }
+        Difference::NoStretches => out.extend_from_slice(b"the stretches are none of a job"),
+        Difference::NotAtHalt(at) => push_no_halt(out, *at),
+        Difference::NoProfile => out.extend_from_slice(b"the profile is none"),
+        Difference::Row(place, found) => {
+            push_place(out, *place)?;
+            push_found(out, *found)
+        }
+    }
+}
+
+/// Adds a standing.
+fn push_standing(out: &mut Vec<u8>, standing: StandingAt) -> Result<(), AllocError>
+    ensures { OnOk result (out.new.items ≡ out.old.items ++ standing_words standing) }
+{
+    match standing {
+        StandingAt::Running => out.extend_from_slice(b"running"),
+        StandingAt::Halted { next } => push_numbered(out, "halted next ", next as usize),
+        StandingAt::Checked { check, at } => {
+            out.extend_from_slice(b"check ")?;
+            out.extend_from_slice(check.name().as_bytes())?;
+            push_numbered(out, " at ", at as usize)
+        }
+    }
+}
+
+/// Adds a job that is as it ran.
+fn push_summary(out: &mut Vec<u8>, summary: &Summary) -> Result<(), AllocError>
+    ensures { OnOk result (out.new.items ≡ out.old.items ++ summary_words summary.now) }
+{
+    out.extend_from_slice(b" ")?;
+    push_standing(out, summary.standing)?;
+    push_numbered(out, " granted ", summary.granted as usize)?;
+    push_numbered(out, " cards ", summary.cards as usize)?;
+    push_numbered(out, " lines ", summary.lines as usize)?;
+    out.extend_from_slice(b": as it ran\n")
+}
+
+/// Adds what came of a job.
+fn push_outcome(out: &mut Vec<u8>, outcome: &Outcome) -> Result<(), AllocError>
+    ensures { OnOk result (out.new.items ≡ out.old.items ++ outcome_words outcome.now) }
+{
+    match outcome {
+        Outcome::AsItRan(summary) => push_summary(out, summary),
+        Outcome::Differs(difference) => {
+            out.extend_from_slice(b": ")?;
+            push_difference(out, difference)?;
+            out.extend_from_slice(b"\n")
+        }
+    }
+}
+
+/// Adds the line of a job.
+fn push_job(out: &mut Vec<u8>, job: &JobReport) -> Result<(), AllocError>
+    ensures { OnOk result (out.new.items ≡ out.old.items ++ job_line job.now) }
+{
+    out.extend_from_slice(&job.customer)?;
+    out.extend_from_slice(b" ")?;
+    push_signed(out, job.number)?;
+    push_outcome(out, &job.outcome)
+}
+
+/// Adds the lines of jobs.
+fn push_jobs(out: &mut Vec<u8>, jobs: &[JobReport]) -> Result<(), AllocError>
+    ensures { OnOk result (out.new.items ≡ out.old.items ++ flat_map job_line jobs.now) }
+{
+    for job in jobs {
+        push_job(out, job)?;
+    }
+    Ok(())
+}
+
+/// Adds which row is of no job.
+fn push_row(out: &mut Vec<u8>, row: usize) -> Result<(), AllocError>
+    ensures { OnOk result (out.new.items ≡ out.old.items ++ codes ": row " ++ decimal row
+        ++ codes " is of no job\n") }
+{
+    out.extend_from_slice(b": row ")?;
+    push_decimal(out, row)?;
+    out.extend_from_slice(b" is of no job\n")
+}
+
+/// Adds the line of a stray row.
+fn push_stray(out: &mut Vec<u8>, stray: &Stray) -> Result<(), AllocError>
+    ensures { OnOk result (out.new.items ≡ out.old.items ++ stray_line stray.now) }
+{
+    push_table(out, stray.table)?;
+    push_row(out, stray.row)
+}
+
+/// Adds the lines of stray rows.
+fn push_strays(out: &mut Vec<u8>, strays: &[Stray]) -> Result<(), AllocError>
+    ensures { OnOk result (out.new.items ≡ out.old.items ++ flat_map stray_line strays.now) }
+{
+    for stray in strays {
+        push_stray(out, stray)?;
+    }
+    Ok(())
+}
+
+/// Adds the last line.
+fn push_sum(out: &mut Vec<u8>, jobs: usize, differing: usize) -> Result<(), AllocError>
+    ensures { OnOk result (out.new.items ≡ out.old.items ++ sum_line jobs differing) }
+{
+    push_numbered(out, "jobs ", jobs)?;
+    push_numbered(out, ", ", differing)?;
+    if differing == 1 {
+        return out.extend_from_slice(b" differs\n");
+    }
+    out.extend_from_slice(b" differ\n")
+}
+
+/// The lines of a report: one for each job, one for the first stray row of each table, and a last
+/// one with the number of jobs. Fails only if there is no memory.
+pub fn report_text(alloc: Global, report: &Report) -> Result<Vec<u8>, AllocError>
+    ensures { IfOk result (λ text. text.items ≡ report_text report.now) }
+{
+    let mut out = Vec::new(alloc);
+    push_jobs(&mut out, &report.jobs)?;
+    push_strays(&mut out, &report.strays)?;
+    push_sum(&mut out, report.jobs.len(), report.differing())?;
+    Ok(out)
+}
