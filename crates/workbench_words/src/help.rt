@@ -185,14 +185,14 @@ SWITCHES        rising letters of ABCDEFG, the sense switches that are on, or - 
 --from N        the number of the first instruction that is printed; without it 1
 --count N       how many are printed at most; without it 1,000
 --stop ADDRESS  the run ends before the instruction at this address, a number from 1 to 15999, or
-                with --names a name of the source, to which a number may be added: READ, READ&7
+                with --names a name of the source, also with a number added: READ, 'READ&7'
 --names SOURCE  the Autocoder source of the deck, whose names are shown beside addresses
 --fields        below an instruction the fields that it works at, before it and, if they are others
                 then, after it
 
 example:
   workbench trace examples/two_lines.deck 4000 A --count 20
-  workbench trace examples/two_lines.deck 4000 A --names examples/two_lines.source --stop READ&8
+  workbench trace examples/two_lines.deck 4000 A --names examples/two_lines.source --stop 'READ&8'
   workbench trace examples/two_lines.deck 4000 A --from 27 --count 1 --fields
 
 A line has the number of the instruction, its address, its characters, the registers A and B and
