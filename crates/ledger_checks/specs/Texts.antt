@@ -46,18 +46,18 @@ place_words place.Profile = codes "profile"
 abbrev pub byte_words : ℕ → List ℕ
 byte_words byte = if nat_lt byte 64 then glyph_of byte ∷ [] else decimal byte
 
--- which value of a row differs
-abbrev pub value_words : ℕ → List ℕ
-value_words value = codes " differs, value " ++ decimal value
+-- the name of a column that differs
+abbrev pub value_words : List ℕ → List ℕ
+value_words name = codes " differs: " ++ name
 
 -- a number, and the one that is wanted
 abbrev pub apart_words : ℤ → ℤ → List ℕ
-apart_words is wanted = codes ": " ++ signed_decimal is ++ codes " and not "
+apart_words is wanted = codes " " ++ signed_decimal is ++ codes " and not "
     ++ signed_decimal wanted
 
--- a number that is not the one that is wanted, as this value of a row
-abbrev pub number_words : ℕ → ℤ → ℤ → List ℕ
-number_words value is wanted = value_words value ++ apart_words is wanted
+-- a number that is not the one that is wanted, in the column of this name
+abbrev pub number_words : List ℕ → ℤ → ℤ → List ℕ
+number_words name is wanted = value_words name ++ apart_words is wanted
 
 -- a byte that is not the one that is wanted, at this column
 abbrev pub bytes_words : ℕ → ℕ → ℕ → List ℕ
@@ -68,13 +68,13 @@ bytes_words at is wanted = codes " differs, column " ++ decimal at ++ codes ": "
 abbrev pub found_words : Found → List ℕ
 found_words found.Nothing = codes " is missing"
 found_words found.OneTooMany = codes " is one too many"
-found_words (found.Number value is wanted) = number_words value is wanted
+found_words (found.Number name is wanted) = number_words name.now is wanted
 found_words (found.Byte at is wanted) = bytes_words at is wanted
-found_words (found.Value value) = value_words value
+found_words (found.Value name) = value_words name.now
 
 -- a difference of a job
 abbrev pub difference_words : Difference → List ℕ
-difference_words (difference.NoJob value) = codes "row in jobs is none, value " ++ decimal value
+difference_words (difference.NoJob name) = codes "jobs: no " ++ name.now
 difference_words (difference.Refused reason) =
     codes "the deck is refused by " ++ decimal (refusal_number reason)
 difference_words (difference.NoStretch at) = codes "stretch " ++ decimal at ++ codes " is none"
@@ -102,7 +102,7 @@ job_line it = it.customer.items ++ codes " " ++ signed_decimal it.number ++ outc
 -- the line of a stray row
 abbrev pub stray_line : Stray → List ℕ
 stray_line it = table_words it.table ++ codes ": row " ++ decimal it.row
-    ++ codes " is of no job\n"
+    ++ codes " is out of place\n"
 
 -- the last line
 abbrev pub sum_line : ℕ → ℕ → List ℕ

@@ -26,9 +26,9 @@ pub enum Found {
     Nothing,
     /// There is a row there, and no such row is wanted.
     OneTooMany,
-    /// Another number as this value of the row, counted from 1.
+    /// Another number in the column of this name.
     Number {
-        value: usize,
+        name: &'static str,
         found: i64,
         wanted: i64,
     },
@@ -38,17 +38,17 @@ pub enum Found {
         found: u8,
         wanted: u8,
     },
-    /// Another value of the row, counted from 1.
+    /// Another value in the column of this name.
     Value {
-        value: usize,
+        name: &'static str,
     },
 }
 
 /// The first difference of a job.
 #[derive(Drop)]
 pub enum Difference {
-    /// Its row in `jobs` is not that of a job: this value, counted from 1, is one that none has.
-    NoJob { value: usize },
+    /// Its row in `jobs` is not that of a job: none has such a value in the column of this name.
+    NoJob { name: &'static str },
     /// Its deck is refused.
     Refused(Refusal),
     /// This stretch of it is none, by its place from 0.
@@ -84,10 +84,44 @@ impl From<Difference> for Stop {
     }
 }
 
-/// The first byte that differs in a value of a row.
-fn byte_apart(value: usize, found: &[u8], wanted: &[u8]) -> Found {
+/// The names of the columns of a row.
+fn column_names(place: Place) -> &'static [&'static str] {
+    match place {
+        Place::Job => &[
+            "customer",
+            "number",
+            "kind",
+            "size",
+            "deck",
+            "loaded",
+            "held",
+            "collected",
+        ],
+        Place::Stretch(_) => &["customer", "number", "place", "switches", "granted"],
+        Place::State => &[
+            "customer", "number", "i", "a", "b", "compare", "overflow", "channel", "waiting",
+            "form", "line", "taken", "cards", "lines", "standing",
+        ],
+        Place::Page(_) => &["customer", "number", "page", "storage"],
+        Place::Card(_) => &["customer", "number", "place", "card"],
+        Place::Pocket(_) => &["customer", "number", "place", "pocket"],
+        Place::Line(_) => &["customer", "number", "place", "form", "line", "image"],
+        Place::Profile => &["customer", "number", "profile", "chosen"],
+    }
+}
+
+/// The name of a column of a row.
+fn column_name(place: Place, column: usize) -> &'static str {
+    match column_names(place).get(column) {
+        Some(name) => *name,
+        None => "row",
+    }
+}
+
+/// The first byte that differs in the column of this name.
+fn byte_apart(name: &'static str, found: &[u8], wanted: &[u8]) -> Found {
     if found.len() != wanted.len() {
-        return Found::Value { value };
+        return Found::Value { name };
     }
     for at in 0..found.len() {
         if found[at] != wanted[at] {
@@ -98,22 +132,27 @@ fn byte_apart(value: usize, found: &[u8], wanted: &[u8]) -> Found {
             };
         }
     }
-    Found::Value { value }
+    Found::Value { name }
 }
 
-/// How a row differs in a column, counted from 0.
-pub(crate) fn value_apart(row: &Row, wanted: &[ValueRef<'_>], column: usize) -> Found {
-    if column >= wanted.len() {
-        return Found::Value { value: column };
-    }
-    let value = column + 1;
-    match (row.get_ref(column), wanted[column]) {
+/// How a row differs in a column.
+pub(crate) fn value_apart(
+    place: Place,
+    row: &Row,
+    wanted: &[ValueRef<'_>],
+    column: usize,
+) -> Found {
+    let name = column_name(place, column);
+    let Some(wanted) = wanted.get(column) else {
+        return Found::Value { name };
+    };
+    match (row.get_ref(column), *wanted) {
         (Ok(ValueRef::Int(found)), ValueRef::Int(wanted)) => Found::Number {
-            value,
+            name,
             found,
             wanted,
         },
-        (Ok(ValueRef::Blob(found)), ValueRef::Blob(wanted)) => byte_apart(value, found, wanted),
-        _ => Found::Value { value },
+        (Ok(ValueRef::Blob(found)), ValueRef::Blob(wanted)) => byte_apart(name, found, wanted),
+        _ => Found::Value { name },
     }
 }

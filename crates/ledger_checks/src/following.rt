@@ -40,7 +40,7 @@ pub(crate) fn pass<'a>(
     };
     match first_other(row, wanted) {
         None => Ok(rest),
-        Some(column) => Err(Difference::Row(place, value_apart(row, wanted, column))),
+        Some(column) => Err(Difference::Row(place, value_apart(place, row, wanted, column))),
     }
 }
 

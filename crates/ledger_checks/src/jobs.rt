@@ -56,7 +56,10 @@ fn check_row(row: &Row, name: JobName<'_>, job: Numbers, loaded: &Loaded) -> Res
     ];
     match first_other(row, wanted) {
         None => Ok(()),
-        Some(column) => Err(Difference::Row(Place::Job, value_apart(row, wanted, column))),
+        Some(column) => Err(Difference::Row(
+            Place::Job,
+            value_apart(Place::Job, row, wanted, column),
+        )),
     }
 }
 
@@ -126,10 +129,10 @@ fn check_row_of(alloc: Global, all: &AllRows, later: &[Row], row: &Row) -> Resul
     ensures { IfOk result (HasRun all.now later.now row.now) }
 {
     let Some(customer) = text_at(row, 0) else {
-        return Err(Stop::Differs(Difference::NoJob { value: 1 }));
+        return Err(Stop::Differs(Difference::NoJob { name: "customer" }));
     };
     let Some(number) = number_at(row, 1) else {
-        return Err(Stop::Differs(Difference::NoJob { value: 2 }));
+        return Err(Stop::Differs(Difference::NoJob { name: "number" }));
     };
     check_named(alloc, all, later, row, JobName { customer, number })
 }

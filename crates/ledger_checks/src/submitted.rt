@@ -53,19 +53,19 @@ fn truth_at(row: &Row, at: usize) -> Option<bool> {
     read_truth(number_at(row, at)?)
 }
 
-/// The numbers of a row of `jobs`, or the first value of it, counted from 1, that no job has.
-fn read_numbers(row: &Row) -> Result<Numbers, usize> {
+/// The numbers of a row of `jobs`, or the name of the first column with a value that no job has.
+fn read_numbers(row: &Row) -> Result<Numbers, &'static str> {
     let Some(kind) = kind_at(row, 2) else {
-        return Err(3);
+        return Err("kind");
     };
     let Some(size) = size_at(row, 3) else {
-        return Err(4);
+        return Err("size");
     };
     let Some(held) = truth_at(row, 6) else {
-        return Err(7);
+        return Err("held");
     };
     let Some(collected) = truth_at(row, 7) else {
-        return Err(8);
+        return Err("collected");
     };
     Ok(Numbers {
         kind,
@@ -78,11 +78,11 @@ fn read_numbers(row: &Row) -> Result<Numbers, usize> {
 /// The deck that was handed in.
 fn read_deck_of(alloc: Global, row: &Row) -> Result<Deck, Stop> {
     let Some(bytes) = bytes_at(row, 4) else {
-        return Err(Stop::Differs(Difference::NoJob { value: 5 }));
+        return Err(Stop::Differs(Difference::NoJob { name: "deck" }));
     };
     match read_deck(alloc, bytes)? {
         Some(deck) => Ok(deck),
-        None => Err(Stop::Differs(Difference::NoJob { value: 5 })),
+        None => Err(Stop::Differs(Difference::NoJob { name: "deck" })),
     }
 }
 
@@ -90,7 +90,7 @@ fn read_deck_of(alloc: Global, row: &Row) -> Result<Deck, Stop> {
 pub(crate) fn read_submitted(alloc: Global, row: &Row) -> Result<Submitted, Stop> {
     let numbers = match read_numbers(row) {
         Ok(numbers) => numbers,
-        Err(value) => return Err(Stop::Differs(Difference::NoJob { value })),
+        Err(name) => return Err(Stop::Differs(Difference::NoJob { name })),
     };
     let deck = read_deck_of(alloc, row)?;
     Ok(Submitted { numbers, deck })

@@ -80,19 +80,19 @@ fn push_byte(out: &mut Vec<u8>, byte: u8) -> Result<(), AllocError>
     }
 }
 
-/// Adds which value differs.
-fn push_value(out: &mut Vec<u8>, value: usize) -> Result<(), AllocError>
-    ensures { OnOk result (out.new.items ≡ out.old.items ++ value_words value) }
+/// Adds words and a name after them.
+fn push_named(out: &mut Vec<u8>, words: &str, name: &str) -> Result<(), AllocError>
+    ensures { OnOk result (out.new.items ≡ out.old.items ++ words.now ++ name.now) }
 {
-    out.extend_from_slice(b" differs, value ")?;
-    push_decimal(out, value)
+    out.extend_from_slice(words.as_bytes())?;
+    out.extend_from_slice(name.as_bytes())
 }
 
 /// Adds two numbers that differ.
 fn push_apart(out: &mut Vec<u8>, found: i64, wanted: i64) -> Result<(), AllocError>
     ensures { OnOk result (out.new.items ≡ out.old.items ++ apart_words found wanted) }
 {
-    out.extend_from_slice(b": ")?;
+    out.extend_from_slice(b" ")?;
     push_signed(out, found)?;
     out.extend_from_slice(b" and not ")?;
     push_signed(out, wanted)
@@ -101,13 +101,14 @@ fn push_apart(out: &mut Vec<u8>, found: i64, wanted: i64) -> Result<(), AllocErr
 /// Adds a number that differs.
 fn push_number_apart(
     out: &mut Vec<u8>,
-    value: usize,
+    name: &str,
     found: i64,
     wanted: i64,
 ) -> Result<(), AllocError>
-    ensures { OnOk result (out.new.items ≡ out.old.items ++ number_words value found wanted) }
+    ensures { OnOk result (out.new.items ≡ out.old.items
+        ++ number_words name.now found wanted) }
 {
-    push_value(out, value)?;
+    push_named(out, " differs: ", name)?;
     push_apart(out, found, wanted)
 }
 
@@ -139,22 +140,13 @@ fn push_found(out: &mut Vec<u8>, found: Found) -> Result<(), AllocError>
         Found::Nothing => out.extend_from_slice(b" is missing"),
         Found::OneTooMany => out.extend_from_slice(b" is one too many"),
         Found::Number {
-            value,
+            name,
             found,
             wanted,
-        } => push_number_apart(out, value, found, wanted),
+        } => push_number_apart(out, name, found, wanted),
         Found::Byte { at, found, wanted } => push_byte_apart(out, at, found, wanted),
-        Found::Value { value } => push_value(out, value),
+        Found::Value { name } => push_named(out, " differs: ", name),
     }
-}
-
-/// Adds which value of a row in `jobs` is none.
-fn push_no_job(out: &mut Vec<u8>, value: usize) -> Result<(), AllocError>
-    ensures { OnOk result (out.new.items ≡ out.old.items
-        ++ codes "row in jobs is none, value " ++ decimal value) }
-{
-    out.extend_from_slice(b"row in jobs is none, value ")?;
-    push_decimal(out, value)
 }
 
 /// Adds why a deck is refused.
@@ -180,7 +172,7 @@ fn push_difference(out: &mut Vec<u8>, difference: &Difference) -> Result<(), All
     ensures { OnOk result (out.new.items ≡ out.old.items ++ difference_words difference.now) }
 {
     match difference {
-        Difference::NoJob { value } => push_no_job(out, *value),
+        Difference::NoJob { name } => push_named(out, "jobs: no ", name),
         Difference::Refused(reason) => push_refused(out, reason),
         Difference::NoStretch(at) => {
             push_numbered(out, "stretch ", *at)?;
@@ -257,14 +249,14 @@ fn push_jobs(out: &mut Vec<u8>, jobs: &[JobReport]) -> Result<(), AllocError>
     Ok(())
 }
 
-/// Adds which row is of no job.
+/// Adds which row is out of place.
 fn push_row(out: &mut Vec<u8>, row: usize) -> Result<(), AllocError>
     ensures { OnOk result (out.new.items ≡ out.old.items ++ codes ": row " ++ decimal row
-        ++ codes " is of no job\n") }
+        ++ codes " is out of place\n") }
 {
     out.extend_from_slice(b": row ")?;
     push_decimal(out, row)?;
-    out.extend_from_slice(b" is of no job\n")
+    out.extend_from_slice(b" is out of place\n")
 }
 
 /// Adds the line of a stray row.
