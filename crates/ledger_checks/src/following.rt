@@ -13,7 +13,8 @@ use sqlite::types::ValueRef;
 
 /// The first row of a job, and the rows after it.
 pub(crate) fn next_of<'a>(rows: &'a [Row], name: JobName<'_>) -> Option<(&'a Row, &'a [Row])>
-    ensures found { IfSome result (λ found. rows_of name.entry.customer.now name.entry.number rows.now
+    ensures found { IfSome result (λ found.
+        rows_of name.entry.customer.now name.entry.number rows.now
         ≡ found.0.now ∷ rows_of name.entry.customer.now name.entry.number found.1.now) }
     ensures none { IsNone result → rows_of name.entry.customer.now name.entry.number rows.now ≡ [] }
 {

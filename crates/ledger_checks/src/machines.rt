@@ -272,7 +272,8 @@ pub(crate) fn check_machine(
     requires range { IsInRange machine.now }
     requires cards { length machine.now.works.units.punch.cards ≤ 20000 }
     requires lines { length (lines_of machine.now) ≤ 20000 }
-    ensures rows { OnOk result (HasMachine name.entry.customer.now name.entry.number all.now machine.now) }
+    ensures rows { OnOk result (HasMachine name.entry.customer.now name.entry.number all.now
+        machine.now) }
     ensures cards { OnOk result (All IsPunched machine.now.works.units.punch.cards) }
     ensures lines { OnOk result (All IsLine (lines_of machine.now)) }
     ensures characters { OnOk result (HoldsCharacters machine.now.works.storage) }
