@@ -1,4 +1,4 @@
-//! Worked cases of the machine, of the crates below it, and of texts that are taken as decks.
+//! Worked cases of the machine and of the crates below it.
 //!
 //! A group of cases is a sheet: a text of rows, each with an input, an arrow, and an output. A
 //! `Case` maps an input to its output with each kind of storage, and a test fails at the first row
@@ -20,8 +20,6 @@ mod cores;
 #[cfg(test)]
 mod decks;
 #[cfg(test)]
-mod drawings;
-#[cfg(test)]
 mod draws;
 #[cfg(test)]
 mod listings;
@@ -37,5 +35,3 @@ mod sheets;
 mod steps;
 #[cfg(test)]
 mod storage;
-#[cfg(test)]
-mod texts;
