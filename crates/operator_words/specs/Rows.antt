@@ -18,8 +18,10 @@ line_of name.Work = (
   (codes "PORT", Value) ∷ (codes "slice", Setting) ∷ (codes "rounds", Setting)
       ∷ (codes "pause", Setting) ∷ [],
 )
-line_of name.Watch =
-    (codes "watch", (codes "PORT", Value) ∷ (codes "rounds", Setting) ∷ (codes "pause", Setting) ∷ [])
+line_of name.Watch = (
+  codes "watch",
+  (codes "PORT", Value) ∷ (codes "rounds", Setting) ∷ (codes "pause", Setting) ∷ [],
+)
 
 -- all rows
 abbrev pub rows : List RowName

@@ -1,5 +1,5 @@
 -- the tasks that words ask for
-use Rattle.std.specs.Prelude.{ℕ, ◌≡◌, ◌⊎◌, List, [], ◌∷◌, Option, Some, None, codes, option_map}
+use Rattle.std.specs.Prelude.{ℕ, ◌≡◌, ◌⊎◌, List, [], ◌∷◌, Some, None, codes, option_map}
 use Rattle.clap.specs.Words.{Row, Text, fault_of, first_of, subcommand_of}
 use Rattle.operator_words.specs.Command.{operator}
 use Rattle.operator_words.specs.Rows.{name_of}
