@@ -1,6 +1,6 @@
 //! The program `operator`: what the operator of a bureau does, beside the bureau's own program.
 //!
-//! What a check finds is said exactly by `ledger_checks`, and the turns of the jobs by
+//! What a check finds is said exactly by `ledger_checks`, and the requests of the work on a queue by
 //! `queue_rounds`. Here they are joined to the process's words, files and sockets. The clauses of
 //! the kit do not mention these, so what is read and sent where is tested by
 //! `cases/check-operator`.
@@ -9,9 +9,11 @@
 mod checking;
 mod clients;
 mod tallies;
+mod watching;
 mod working;
 
 use crate::checking::check_file;
+use crate::watching::watch_queue;
 use crate::working::run_queue;
 use command_line::{Status, Unfailing, exit_code};
 use operator_words::{Misuse, Task, show_help, show_version, task_of, tell_misuse};
@@ -45,7 +47,11 @@ fn carry_out<W: Write, E: Write>(
         Task::Copy { .. } => tell_unbuilt(errors),
         Task::Archive { .. } => tell_unbuilt(errors),
         Task::Work { port, rounds } => run_queue(rt, port, rounds, output, errors),
-        Task::Watch { .. } => tell_unbuilt(errors),
+        Task::Watch {
+            port,
+            rounds,
+            pause,
+        } => watch_queue(rt, port, rounds, pause, output, errors),
     }
 }
 
