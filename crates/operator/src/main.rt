@@ -1,6 +1,6 @@
 //! The program `operator`: what the operator of a bureau does, beside the bureau's own program.
 //!
-//! What a check finds is said exactly by `ledger_checks`, and the turns of the jobs by
+//! What a check finds is said exactly by `ledger_checks`, and the requests of the work on a queue by
 //! `queue_rounds`. Here they are joined to the process's words, files and sockets. The clauses of
 //! the kit do not mention these, so what is read and sent where is tested by
 //! `cases/check-operator`.
@@ -9,9 +9,11 @@
 mod checking;
 mod clients;
 mod tallies;
+mod watching;
 mod working;
 
 use crate::checking::check_file;
+use crate::watching::watch_queue;
 use crate::working::run_queue;
 use command_line::{Status, Unfailing, exit_code};
 use operator_words::{Misuse, Task, show_help, show_version, task_of, tell_misuse};
@@ -22,6 +24,12 @@ use std::{env, io};
 /// The words of the process. The first is the program's name.
 fn words_given(rt: &HostRuntime) -> Result<Vec<String>, Misuse> {
     Ok(env::args(rt)?.collect(rt.alloc())?)
+}
+
+/// Tells that a row is not built.
+fn tell_unbuilt<E: Write>(errors: &mut E) -> io::Result<Status> {
+    writeln!(errors, "operator: not built yet")?;
+    Ok(Status::NotDone)
 }
 
 /// Does a task.
@@ -35,7 +43,15 @@ fn carry_out<W: Write, E: Write>(
         Task::Help(row) => show_help(output, errors, row),
         Task::Version => show_version(output, errors),
         Task::Check { file } => check_file(rt, file, output, errors),
+        Task::Jobs { .. } => tell_unbuilt(errors),
+        Task::Copy { .. } => tell_unbuilt(errors),
+        Task::Archive { .. } => tell_unbuilt(errors),
         Task::Work { port, rounds } => run_queue(rt, port, rounds, output, errors),
+        Task::Watch {
+            port,
+            rounds,
+            pause,
+        } => watch_queue(rt, port, rounds, pause, output, errors),
     }
 }
 

@@ -1,2 +1,4 @@
-mod TurnLemmas
 mod AnswerLemmas
+mod TurnLemmas
+mod EndLemmas
+mod ChangeLemmas
