@@ -26,7 +26,7 @@ by_test true last is = cc
 by_test false true is = cc
 by_test false false is = (refl, refl)
 
-not_zero : (q : ℕ) → (q == 0) ≡ false → 1 ≤ q
+pub not_zero : (q : ℕ) → (q == 0) ≡ false → 1 ≤ q
 not_zero zero is = cc
 not_zero (suc q) is = omega arith
 
@@ -180,18 +180,18 @@ underway_most (job ∷ w) false = omega arith
 at_start : (most : Option ℕ) → IsPatient (start most)
 at_start most = record { some = omega arith; most = omega arith }
 
-pub at_most_ten : (most : Option ℕ) (earlier later : List Heard) → all_go_on (start most) earlier ≡ true
+pub ten_rounds : (most : Option ℕ) (earlier later : List Heard) → all_go_on (start most) earlier ≡ true
     → all_go_on (after_all (start most) earlier) later ≡ true → list_all none_ran later ≡ true
     → total begun_by (after_all (start most) earlier) later ≤ 10
-at_most_ten most earlier later before on none =
+ten_rounds most earlier later before on none =
     let s : State = after_all (start most) earlier in
     let is = all_patient (start most) earlier (at_start most) before in
     omega (arith, rounds_in_room s later is none on, room_most s.waiting s.ran s.patience is.most)
 
-pub pauses_between : (most : Option ℕ) (earlier later : List Heard)
+pub with_pauses : (most : Option ℕ) (earlier later : List Heard)
     → all_go_on (after_all (start most) earlier) later ≡ true → list_all none_ran later ≡ true
     → total begun_by (after_all (start most) earlier) later ≤ total paused_by (after_all (start most) earlier) later + 1
-pauses_between most earlier later on none =
+with_pauses most earlier later on none =
     let s : State = after_all (start most) earlier in
     let e : State = after_all s later in
     omega (arith, rounds_and_pauses s later none on, underway_most e.waiting e.ran)

@@ -2,3 +2,4 @@ mod AnswerLemmas
 mod TurnLemmas
 mod EndLemmas
 mod ChangeLemmas
+mod LimitLemmas

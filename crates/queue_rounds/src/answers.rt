@@ -143,8 +143,8 @@ fn ran_in(alloc: Global, value: &Value) -> Result<Option<Ran>, AllocError>
     Ok(Some(Ran { executed, standing }))
 }
 
-/// Returns what a slice did that a body tells; none if it tells of no slice. Fails only if there is
-/// no memory.
+/// Returns what a slice did that a body tells; none if it tells of no slice. Fails only if there
+/// is no memory.
 pub fn read_ran(alloc: Global, body: &[u8]) -> Result<Option<Ran>, AllocError>
     ensures { IfOk result (λ found. Tells ran_in body.now
         (option_map (λ ran. (ran.executed, string_bytes ran.standing)) found)) }

@@ -40,8 +40,8 @@ pub enum Next {
     End(Why),
 }
 
-/// The work on a queue. Which request is next, and when there is a pause or an end, follows from the
-/// answers.
+/// The work on a queue. Which request is next, and when there is a pause or an end, follows from
+/// the answers.
 #[derive(Drop)]
 pub struct Rounds {
     turns: Turns,
