@@ -8,10 +8,13 @@
 
 mod checking;
 mod clients;
+mod copying;
+mod faults;
 mod tallies;
 mod working;
 
 use crate::checking::check_file;
+use crate::copying::copy_file;
 use crate::working::run_queue;
 use command_line::{Status, Unfailing, exit_code};
 use operator_words::{Misuse, Task, show_help, show_version, task_of, tell_misuse};
@@ -65,6 +68,11 @@ fn answer(rt: &HostRuntime) -> io::Result<Status> {
     };
     let words = words.as_slice();
     let after_name = if words.is_empty() { words } else { &words[1..] };
+    if let [row, file, new] = after_name {
+        if row.as_str() == "copy" {
+            return copy_file(rt, file.as_str(), new.as_str(), &mut output, &mut errors);
+        }
+    }
     match task_of(rt.alloc(), after_name) {
         Ok(task) => carry_out_or_tell(rt, task, &mut output, &mut errors),
         Err(misuse) => tell_misuse(&mut errors, misuse),
