@@ -1,0 +1,3 @@
+mod SameRows
+mod VersionRows
+mod CopyLemmas

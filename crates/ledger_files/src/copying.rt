@@ -130,7 +130,7 @@ fn settle(rt: &HostRuntime, part: &Place) -> Result<(), OpenFault> {
     }
 }
 
-/// Reads a copy back, and compares it with the file.
+/// Reads a copy back, and compares it with the file. The log that this makes is removed.
 fn read_back<C: Comparison>(
     rt: &HostRuntime,
     part: &Place,
@@ -138,7 +138,9 @@ fn read_back<C: Comparison>(
 ) -> Result<(), OpenFault> {
     match open_from(rt, &part.file, Unknown) {
         Ok(bureau) => {
-            drop(comparison.compare(bureau.into_connection()));
+            let store = comparison.compare(bureau.into_connection());
+            part.restore_log(rt, None);
+            drop(store);
             Ok(())
         }
         Err((fault, _kept)) => Err(fault),
@@ -159,12 +161,16 @@ fn check_place(rt: &HostRuntime, new: &str) -> Result<(), CopyFault> {
     }
 }
 
-/// Gives a copy its name, unless something has that name. Returns how many bytes it has.
+/// Gives a copy its name, unless something has that name, or not all of it is in its one file.
+/// Returns how many bytes it has.
 fn publish(rt: &HostRuntime, part: &Place, new: &str) -> Result<u64, CopyFault> {
     let length = match sync(rt, &part.file) {
         Ok(length) => length,
         Err(error) => return Err(copy_fault(&error)),
     };
+    if part.log_length(rt).is_some() {
+        return Err(CopyFault::Copy(OpenFault::Store));
+    }
     check_place(rt, new)?;
     match fs::hard_link(rt, part.file.as_str(), new) {
         Ok(()) => {

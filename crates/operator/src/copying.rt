@@ -86,7 +86,10 @@ fn tell_difference<E: Write>(
     match &comparison.other {
         Some(Ok(Some(table))) => {
             let table = table.name();
-            writeln!(errors, "{new}: the rows of {table} differ; there is no copy")?;
+            writeln!(
+                errors,
+                "{new}: the rows of {table} differ; there is no copy"
+            )?;
             Ok(Status::NotDone)
         }
         Some(Err(fault)) => tell_no_copy(new, told(*fault), errors),
@@ -106,7 +109,10 @@ fn tell_copy<W: Write>(
         Some(Ok(rows)) => rows.jobs.len(),
         _ => 0,
     };
-    writeln!(output, "{new}: jobs {jobs}, {bytes} bytes, every row as in {file}")?;
+    writeln!(
+        output,
+        "{new}: jobs {jobs}, {bytes} bytes, every row as in {file}"
+    )?;
     output.flush()?;
     Ok(Status::Done)
 }

@@ -6,7 +6,11 @@ use std::io;
 use std::io::Write;
 
 /// Prints why a bureau's file cannot be used, and the way out.
-pub(crate) fn tell_fault<E: Write>(path: &str, fault: OpenFault, errors: &mut E) -> io::Result<Status> {
+pub(crate) fn tell_fault<E: Write>(
+    path: &str,
+    fault: OpenFault,
+    errors: &mut E,
+) -> io::Result<Status> {
     let (words, status) = match fault {
         OpenFault::NoMemory => ("fault 1: there is no memory", Status::NotDone),
         OpenFault::Store => (
