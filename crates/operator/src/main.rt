@@ -27,6 +27,12 @@ fn words_given(rt: &HostRuntime) -> Result<Vec<String>, Misuse> {
     Ok(env::args(rt)?.collect(rt.alloc())?)
 }
 
+/// Tells that a row is not built.
+fn tell_unbuilt<E: Write>(errors: &mut E) -> io::Result<Status> {
+    writeln!(errors, "operator: not built yet")?;
+    Ok(Status::NotDone)
+}
+
 /// Does a task.
 fn carry_out<W: Write, E: Write>(
     rt: &HostRuntime,
@@ -38,7 +44,11 @@ fn carry_out<W: Write, E: Write>(
         Task::Help(row) => show_help(output, errors, row),
         Task::Version => show_version(output, errors),
         Task::Check { file } => check_file(rt, file, output, errors),
+        Task::Jobs { .. } => tell_unbuilt(errors),
+        Task::Copy { .. } => tell_unbuilt(errors),
+        Task::Archive { .. } => tell_unbuilt(errors),
         Task::Work { port, rounds } => run_queue(rt, port, rounds, output, errors),
+        Task::Watch { .. } => tell_unbuilt(errors),
     }
 }
 

@@ -1,2 +1,3 @@
 mod CommandParses
+mod RowNames
 mod RowTasks

@@ -1,3 +1,4 @@
+pub mod Rows
 pub mod Command
 pub mod Values
 pub mod Tasks

@@ -1,5 +1,5 @@
 -- the values of the rows' arguments, as texts
-use Rattle.std.specs.Prelude.{ℕ, ◌≡◌, ◌<◌, ◌≤◌, ◌^◌, List, decimal, Option, Some, None}
+use Rattle.std.specs.Prelude.{ℕ, ◌≡◌, ◌<◌, ◌≤◌, List, decimal, Option, Some, None}
 
 -- the text is that of a number from 1 up to this one
 abbrev pub IsUpTo : ℕ → List ℕ → ℕ → Type 0

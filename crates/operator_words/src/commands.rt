@@ -1,45 +1,39 @@
 //! The program's command, as clap reads it, and what clap finds in words by it.
 
-ghost use Rattle.std.specs.Prelude.{◌≡◌, ◌≢◌, ◌⊎◌, [], IfOk, IfErr};
+ghost use Rattle.std.specs.Prelude.{◌≡◌, ◌≢◌, ◌⊎◌, [], IfOk, IfErr, fold, map};
 ghost use Rattle.clap.specs.Words.{app_of, fault_of, subcommand_of, subcommand_rows_of};
 ghost use Rattle.command_line.specs.Plain.{texts};
+ghost use Rattle.command_line.specs.Tables.{with_row};
 ghost use Rattle.command_line.specs.declared.tables.Unread.TheVariants as unread;
-ghost use Rattle.operator_words.specs.Command.{operator, with_check, with_work};
+ghost use Rattle.operator_words.specs.Command.{operator};
 
+use crate::rows::{ROWS, RowName};
 use clap::{ArgMatches, Command};
 use command_line::{Kind, Unread, named_command, with_row};
 use std::alloc::{AllocError, Global};
 
-/// The command with the row `check`.
-fn with_check<'a>(alloc: Global, command: Command<'a>) -> Result<Command<'a>, AllocError>
-    ensures { IfOk result (λ c. app_of c ≡ with_check (app_of command.entry)) }
+/// The command with the rows of a table.
+fn with_rows<'a>(
+    alloc: Global,
+    command: Command<'a>,
+    table: &[(RowName, &'a str, &'a [(&'a str, Kind)])],
+) -> Result<Command<'a>, AllocError>
+    ensures { IfOk result (λ c. app_of c ≡ fold
+        (λ a row. with_row a row.1.now (map (λ g. (g.0.now, g.1)) row.2.now))
+        (app_of command.entry) table.now) }
 {
-    with_row(alloc, command, "check", &[("FILE", Kind::Value)])
-}
-
-/// The command with the row `work`.
-fn with_work<'a>(alloc: Global, command: Command<'a>) -> Result<Command<'a>, AllocError>
-    ensures { IfOk result (λ c. app_of c ≡ with_work (app_of command.entry)) }
-{
-    with_row(
-        alloc,
-        command,
-        "work",
-        &[
-            ("PORT", Kind::Value),
-            ("slice", Kind::Setting),
-            ("rounds", Kind::Setting),
-            ("pause", Kind::Setting),
-        ],
-    )
+    let mut command = command;
+    for row in table {
+        command = with_row(alloc, command, row.1, row.2)?;
+    }
+    Ok(command)
 }
 
 /// The program's command: its rows, and no help of clap's own.
 fn operator_command<'a>(alloc: Global) -> Result<Command<'a>, AllocError>
     ensures { IfOk result (λ c. app_of c ≡ operator) }
 {
-    let command = with_check(alloc, named_command(alloc, "operator"))?;
-    with_work(alloc, command)
+    with_rows(alloc, named_command(alloc, "operator"), &ROWS)
 }
 
 /// The result of clap on the words.

@@ -1,9 +1,9 @@
 //! The task that the words ask for.
 
-ghost use Rattle.std.specs.Prelude.{◌≡◌, ◌∷◌, [], IfOk, IfSome};
-ghost use Rattle.clap.specs.Words.{found_of, rows_of};
+ghost use Rattle.std.specs.Prelude.{◌≡◌, ◌∷◌, [], IfOk, IfSome, Some};
+ghost use Rattle.clap.specs.Words.{first_of, found_of, rows_of};
 ghost use Rattle.command_line.specs.Plain.{texts};
-ghost use Rattle.operator_words.specs.Tasks.{AreRounds, IsPortIn, Wants, WantsCheck, WantsTask, WantsWork};
+ghost use Rattle.operator_words.specs.Tasks.{AreRounds, IsPortIn, Wants, WantsArchive, WantsCheck, WantsCopy, WantsJobs, WantsTask, WantsWatch, WantsWork};
 ghost use Rattle.operator_words.specs.declared.tasks.Misuse.TheVariants.{Memory};
 
 use crate::commands::parse;
@@ -38,12 +38,42 @@ pub enum Task<'a> {
         /// The path of the file.
         file: &'a str,
     },
+    /// List the jobs of a bureau's file.
+    Jobs {
+        /// The path of the file.
+        file: &'a str,
+        /// The customer whose jobs are listed; without one those of all.
+        customer: Option<&'a str>,
+    },
+    /// Write a whole copy of a bureau's file, and compare it.
+    Copy {
+        /// The path of the file.
+        file: &'a str,
+        /// The path of the copy.
+        new: &'a str,
+    },
+    /// Write each job of a bureau's file into a folder of its own.
+    Archive {
+        /// The path of the file.
+        file: &'a str,
+        /// The path of the folder that holds the jobs' folders.
+        folder: &'a str,
+    },
     /// Run the queue of a bureau that is served.
     Work {
         /// Its port on 127.0.0.1.
         port: u16,
         /// The rounds.
         rounds: Rounds,
+    },
+    /// Tell what comes into the queue of a bureau that is served, and what leaves it.
+    Watch {
+        /// Its port on 127.0.0.1.
+        port: u16,
+        /// How often the queue is asked for; without a number on and on.
+        rounds: Option<u32>,
+        /// For how many seconds to wait before it is asked for again, 1 to 3,600.
+        pause: u32,
     },
 }
 
@@ -82,23 +112,56 @@ impl From<io::Error> for Misuse {
     }
 }
 
+/// The value that a row must have at an argument.
+fn needed<'a>(found: &ArgMatches<'a>, name: &str, row: RowName) -> Result<&'a str, Misuse>
+    ensures { IfOk result (λ s. first_of name.now (rows_of (found_of found.now)) ≡ Some s.now) }
+{
+    match value(found, name) {
+        Some(value) => Ok(value),
+        None => Err(Misuse::Arguments(row)),
+    }
+}
+
 /// The task of a row `check`.
 fn check_task<'a>(found: &ArgMatches<'a>) -> Result<Task<'a>, Misuse>
     ensures { IfOk result (WantsCheck (rows_of (found_of found.now))) }
 {
-    match value(found, "FILE") {
-        Some(file) => Ok(Task::Check { file }),
-        None => Err(Misuse::Arguments(RowName::Check)),
-    }
+    let file = needed(found, "FILE", RowName::Check)?;
+    Ok(Task::Check { file })
 }
 
-/// The port in PORT.
-fn port_in(found: &ArgMatches<'_>) -> Result<u16, Misuse>
+/// The task of a row `jobs`.
+fn jobs_task<'a>(found: &ArgMatches<'a>) -> Result<Task<'a>, Misuse>
+    ensures { IfOk result (WantsJobs (rows_of (found_of found.now))) }
+{
+    let file = needed(found, "FILE", RowName::Jobs)?;
+    let customer = value(found, "CUSTOMER");
+    Ok(Task::Jobs { file, customer })
+}
+
+/// The task of a row `copy`.
+fn copy_task<'a>(found: &ArgMatches<'a>) -> Result<Task<'a>, Misuse>
+    ensures { IfOk result (WantsCopy (rows_of (found_of found.now))) }
+{
+    let file = needed(found, "FILE", RowName::Copy)?;
+    let new = needed(found, "NEW", RowName::Copy)?;
+    Ok(Task::Copy { file, new })
+}
+
+/// The task of a row `archive`.
+fn archive_task<'a>(found: &ArgMatches<'a>) -> Result<Task<'a>, Misuse>
+    ensures { IfOk result (WantsArchive (rows_of (found_of found.now))) }
+{
+    let file = needed(found, "FILE", RowName::Archive)?;
+    let folder = needed(found, "FOLDER", RowName::Archive)?;
+    Ok(Task::Archive { file, folder })
+}
+
+/// The port in PORT of a row.
+fn port_in(found: &ArgMatches<'_>, row: RowName) -> Result<u16, Misuse>
     ensures { IfOk result (IsPortIn (rows_of (found_of found.now))) }
 {
-    let Some(text) = value(found, "PORT") else {
-        return Err(Misuse::Arguments(RowName::Work));
-    };
+    let text = needed(found, "PORT", row)?;
     match up_to(text, 65_535) {
         Some(port) => Ok(port as u16),
         None => Err(Misuse::Port),
@@ -119,9 +182,23 @@ fn rounds_in(found: &ArgMatches<'_>) -> Result<Rounds, Misuse>
 fn work_task<'a>(found: &ArgMatches<'a>) -> Result<Task<'a>, Misuse>
     ensures { IfOk result (WantsWork (rows_of (found_of found.now))) }
 {
-    let port = port_in(found)?;
+    let port = port_in(found, RowName::Work)?;
     let rounds = rounds_in(found)?;
     Ok(Task::Work { port, rounds })
+}
+
+/// The task of a row `watch`.
+fn watch_task<'a>(found: &ArgMatches<'a>) -> Result<Task<'a>, Misuse>
+    ensures { IfOk result (WantsWatch (rows_of (found_of found.now))) }
+{
+    let port = port_in(found, RowName::Watch)?;
+    let rounds = up_to_if(found, "rounds", 999_999_999)?;
+    let pause = up_to_or(found, "pause", 3_600, 5)?;
+    Ok(Task::Watch {
+        port,
+        rounds,
+        pause,
+    })
 }
 
 /// The task of a row, by what clap found after its name.
@@ -130,7 +207,11 @@ fn row_task<'a>(row: RowName, found: &ArgMatches<'a>) -> Result<Task<'a>, Misuse
 {
     match row {
         RowName::Check => check_task(found),
+        RowName::Jobs => jobs_task(found),
+        RowName::Copy => copy_task(found),
+        RowName::Archive => archive_task(found),
         RowName::Work => work_task(found),
+        RowName::Watch => watch_task(found),
     }
 }
 
