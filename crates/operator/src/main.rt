@@ -45,7 +45,7 @@ fn carry_out<W: Write, E: Write>(
         Task::Version => show_version(output, errors),
         Task::Check { file } => check_file(rt, file, output, errors),
         Task::Jobs { .. } => tell_unbuilt(errors),
-        Task::Copy { .. } => tell_unbuilt(errors),
+        Task::Copy { file, new } => copy_file(rt, file, new, output, errors),
         Task::Archive { .. } => tell_unbuilt(errors),
         Task::Work { port, rounds } => run_queue(rt, port, rounds, output, errors),
         Task::Watch { .. } => tell_unbuilt(errors),
@@ -78,11 +78,6 @@ fn answer(rt: &HostRuntime) -> io::Result<Status> {
     };
     let words = words.as_slice();
     let after_name = if words.is_empty() { words } else { &words[1..] };
-    if let [row, file, new] = after_name {
-        if row.as_str() == "copy" {
-            return copy_file(rt, file.as_str(), new.as_str(), &mut output, &mut errors);
-        }
-    }
     match task_of(rt.alloc(), after_name) {
         Ok(task) => carry_out_or_tell(rt, task, &mut output, &mut errors),
         Err(misuse) => tell_misuse(&mut errors, misuse),
