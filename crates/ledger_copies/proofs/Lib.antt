@@ -1,3 +1,2 @@
 mod SameRows
-mod VersionRows
 mod CopyLemmas

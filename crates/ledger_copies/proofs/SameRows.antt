@@ -1,21 +1,14 @@
 -- Tables with the same rows hold the same.
-use Rattle.std.proofs.Common.{◌≡◌, ℕ, List, filter, Option, All, sym, ap, subst, ◌∙◌}
+use Rattle.std.proofs.Common.{◌≡◌, ℕ, List, filter, Option, sym, ap, subst, ◌∙◌}
 use Rattle.std.specs.List.{AllByRecursion}
 use Rattle.std.specs.List.Sorted.{IsPermutation}
-use Rattle.std.proofs.lemmas.List.Sorted.{All-permutation}
 use Rattle.sqlite.specs.Order.{Row}
 use Rattle.sqlite.specs.View.{IsShaped}
 use Rattle.sqlite_trees.specs.declared.store.Shape.TheVariants.{Table}
-use Rattle.sqlite_trees.proofs.ListLemmas.{all-get_or}
 use Rattle.sqlite_keyed.proofs.ListLemmas.{IsPermutation-filter}
 use Rattle.ledger_tables.specs.Tables.{cells, is_row_at, is_row_of, ByJob, IsOf, IsOfEach, IsOne, NamesJob}
 use Rattle.ledger_tables.proofs.LookupKeys.{at_most_one}
-use Rattle.ledger_checks.proofs.RowLemmas.{all_of}
-
-permuted_all : {X : Type 0} (P : X → Type 0) (xs ys : List X) → IsPermutation xs ys → AllByRecursion P xs → AllByRecursion P ys
-permuted_all P xs ys same all =
-    let each : All P ys = All-permutation P xs ys same (λ k d less. all-get_or P xs k d all less) in
-    all_of P ys (λ k d less. each k d less)
+use Rattle.ledger_checks.proofs.StandingLemmas.{permuted_all}
 
 module _ (first second : List Row) (shaped : IsShaped Table second) where
   pub same_of : (of_job : ByJob (List Row)) → cells first ≡ cells second → IsOf first of_job → IsOf second of_job
