@@ -35,7 +35,7 @@ same_number n = grind (arith, nat_tests)
 itself : (e : Entry) → is_entry e.customer e.number e ≡ true
 itself e = rw (same_bytes e.customer, same_number e.number) refl
 
-permuted_all : {X : Type 0} (P : X → Type 0) (xs ys : List X) → IsPermutation xs ys → AllByRecursion P xs → AllByRecursion P ys
+pub permuted_all : {X : Type 0} (P : X → Type 0) (xs ys : List X) → IsPermutation xs ys → AllByRecursion P xs → AllByRecursion P ys
 permuted_all P xs ys same all =
     let each : All P ys = All-permutation P xs ys same (λ k d less. all-get_or P xs k d all less) in
     all_of P ys (λ k d less. each k d less)

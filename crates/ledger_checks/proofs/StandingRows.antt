@@ -60,7 +60,7 @@ version_form (a ∷ b ∷ c ∷ []) is typed =
     ap (λ x. x ∷ b ∷ c ∷ []) first ∙ ap (λ x. Int (pos 1) ∷ x ∷ c ∷ []) second ∙ ap (λ x. Int (pos 1) ∷ Null ∷ x ∷ []) third
 version_form (a ∷ b ∷ c ∷ d ∷ rest) is typed = absurd (let one = and_parts (is_null b) _ typed in let two = and_parts _ false one.1 in true≢false (sym two.1))
 
-version_rows_are : (rows : List Row) → map version_columns rows ≡ version_row → AllByRecursion (λ r. are_typed (Some 0) 0 schema.bureau.columns (drop 1 r) ≡ true) rows → rows ≡ version_rows 4
+pub version_rows_are : (rows : List Row) → map version_columns rows ≡ version_row → AllByRecursion (λ r. are_typed (Some 0) 0 schema.bureau.columns (drop 1 r) ≡ true) rows → rows ≡ version_rows 4
 version_rows_are [] is typed = absurd (let e = is in cc)
 version_rows_are (r ∷ s ∷ rows) is typed = absurd (let e = is in cc)
 version_rows_are (r ∷ []) is typed =

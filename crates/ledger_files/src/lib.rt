@@ -6,7 +6,9 @@
 //! file, which alone is then the bureau ([`close`]), unless the bureau is broken.
 //!
 //! [`with_bureau`] is what a program calls: it finds the file, opens it, works and ends.
-//! [`look_into`] opens it to look into its tables ([`Look`]), and leaves it as it was.
+//! [`look_into`] opens it to look into its tables ([`Look`]), and leaves it as it was. [`copy`]
+//! copies it, with its log, into one new file, which gets its name if a [`Comparison`] finds it the
+//! same.
 //! [`round`] opens, works, and returns the store as a crash at that moment leaves it ([`stop`]):
 //! whatever is left is of the office after a beginning of the commands that holds every one that
 //! was replied to. Any number of such rounds make the chain of the theorem of stops.
@@ -18,6 +20,7 @@
 #![tactic(auto)]
 
 mod closing;
+mod copying;
 mod kept;
 mod looking;
 mod making;
@@ -28,6 +31,7 @@ mod rounds;
 mod working;
 
 pub use closing::{close, close_connection};
+pub use copying::{Comparison, CopyFault, copy};
 pub use kept::Kept;
 pub use looking::{Look, look_into};
 pub use making::init;

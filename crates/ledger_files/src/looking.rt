@@ -22,6 +22,7 @@ pub fn look_into<L: Look>(rt: &HostRuntime, path: &str, look_at: &mut L) -> Resu
 {
     let place = Place::find(rt, path)?;
     look(rt, &place.file)?;
+    place.remove_part(rt)?;
     let log = place.log_length(rt);
     match open_from(rt, &place.file, Unknown) {
         Ok(bureau) => {

@@ -1,6 +1,6 @@
 //! Creating a new bureau's file.
 
-use crate::places::{Place, beside, is_free, remove_part_of, sync_folder_of};
+use crate::places::{MODE, Place, beside, is_free, remove_part_of, sync_folder_of};
 use ledger::{Bureau, Fault};
 use ledger_tables::OpenFault;
 use sqlite::{Alter, Connection, Unknown};
@@ -53,21 +53,21 @@ fn make_part(rt: &HostRuntime, part: &Place, path: &str) -> Result<(), OpenFault
 
 /// Creates a bureau's file at a path where there is nothing.
 fn make(rt: &HostRuntime, path: &str) -> Result<(), OpenFault> {
-    let part = Place::reserve(rt, path)?;
+    let part = Place::reserve(rt, path, MODE)?;
     let made = make_part(rt, &part, path);
     let _ = fs::remove_file(rt, part.file.as_str());
     made
 }
 
-/// Checks that there is no file at a path, nor a log or a journal beside it: a new file would be
-/// taken for the one that they belong to.
-fn check_free(rt: &HostRuntime, path: &str) -> Result<(), OpenFault> {
+/// Whether there is no file at a path, and no log or journal beside it: a new file would be taken
+/// for the one that they belong to.
+pub(crate) fn is_place_free(rt: &HostRuntime, path: &str) -> Result<bool, OpenFault> {
     for end in ["", "-wal", "-journal"] {
         if !is_free(rt, &beside(rt, path, end)?) {
-            return Err(OpenFault::Store);
+            return Ok(false);
         }
     }
-    Ok(())
+    Ok(true)
 }
 
 /// Creates a new bureau's file at a path where there is no file yet, and no log or journal of one.
@@ -75,6 +75,8 @@ fn check_free(rt: &HostRuntime, path: &str) -> Result<(), OpenFault> {
 /// program is stopped. Fails with 2 if something is in its way, and changes nothing then.
 pub fn init(rt: &HostRuntime, path: &str) -> Result<(), OpenFault> {
     remove_part_of(rt, path)?;
-    check_free(rt, path)?;
+    if !is_place_free(rt, path)? {
+        return Err(OpenFault::Store);
+    }
     make(rt, path)
 }

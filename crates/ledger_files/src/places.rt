@@ -19,7 +19,7 @@ const EMPTY_LOG: u64 = 41;
 const ADDED: u64 = 9;
 
 /// Who may read and write a new file: its owner, and all others may read it.
-const MODE: u32 = 0o644;
+pub(crate) const MODE: u32 = 0o644;
 
 /// The paths of a bureau's file and of its log.
 #[derive(Drop)]
@@ -48,12 +48,13 @@ impl Place {
         Ok(Place { file, log })
     }
 
-    /// Makes an empty file beside a path, under a name that no other file has: `PATH.N.part`.
-    pub(crate) fn reserve(rt: &HostRuntime, path: &str) -> Result<Place, OpenFault> {
+    /// Makes an empty file of a mode beside a path, under a name that no other file has:
+    /// `PATH.N.part`.
+    pub(crate) fn reserve(rt: &HostRuntime, path: &str, mode: u32) -> Result<Place, OpenFault> {
         for number in 1..=MOST_NAMES {
             let place = Place::at(part_name(rt, path, number)?, rt)?;
             if is_free(rt, &place.log) {
-                match make_file(rt, &place.file) {
+                match make_file(rt, &place.file, mode) {
                     Ok(()) => return Ok(place),
                     Err(error) if error.kind() == ErrorKind::AlreadyExists => {}
                     Err(error) => return Err(fault_of(&error)),
@@ -61,6 +62,17 @@ impl Place {
             }
         }
         Err(OpenFault::Store)
+    }
+
+    /// Makes an empty log of a mode. Fails if there is one.
+    pub(crate) fn make_log(&self, rt: &HostRuntime, mode: u32) -> io::Result<()> {
+        make_file(rt, &self.log, mode)
+    }
+
+    /// Removes the file and its log. Both must be this program's own.
+    pub(crate) fn remove(&self, rt: &HostRuntime) {
+        self.remove_log(rt);
+        let _ = fs::remove_file(rt, self.file.as_str());
     }
 
     /// The length of the log, if there is one.
@@ -100,7 +112,7 @@ impl Place {
 }
 
 /// The fault where a path cannot be used.
-fn fault_of(error: &io::Error) -> OpenFault
+pub(crate) fn fault_of(error: &io::Error) -> OpenFault
     ensures { IsNotOld result }
 {
     match error.kind() {
@@ -129,10 +141,10 @@ fn part_name(rt: &HostRuntime, path: &str, number: u16) -> Result<String, OpenFa
     }
 }
 
-/// Makes an empty file. Fails if there is anything at this path.
-fn make_file(rt: &HostRuntime, path: &str) -> io::Result<()> {
+/// Makes an empty file of a mode. Fails if there is anything at this path.
+fn make_file(rt: &HostRuntime, path: &str, mode: u32) -> io::Result<()> {
     let mut options = OpenOptions::new();
-    options.write(true).create_new(true).mode(MODE);
+    options.write(true).create_new(true).mode(mode);
     drop(options.open(rt, path)?);
     Ok(())
 }
@@ -178,6 +190,13 @@ pub(crate) fn remove_part_of(rt: &HostRuntime, path: &str) -> Result<(), OpenFau
         }
     }
     Ok(())
+}
+
+/// Has the disk keep the bytes of a file. Returns how many there are.
+pub(crate) fn sync(rt: &HostRuntime, path: &str) -> io::Result<u64> {
+    let file = fs::open(rt, path)?;
+    file.sync_all()?;
+    Ok(file.metadata()?.len())
 }
 
 /// Has the disk keep the names of a folder: that of the file at a path.

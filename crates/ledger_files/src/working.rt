@@ -70,7 +70,7 @@ pub(crate) fn look(rt: &HostRuntime, path: &str) -> Result<(), OpenFault>
 /// Ends the work with a bureau whose file is at a place. Its log is removed while its file is still
 /// locked, so that no other program has begun to write to that log. If the file is not closed, the
 /// log stays.
-fn close_at<D: Disk + Drop>(
+pub(crate) fn close_at<D: Disk + Drop>(
     rt: &HostRuntime,
     bureau: Bureau<FileStore<D>>,
     place: &Place,

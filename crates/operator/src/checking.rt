@@ -1,5 +1,6 @@
 //! The row `check`.
 
+use crate::faults::tell_fault;
 use command_line::Status;
 use ledger_checks::{Report, check, report_text};
 use ledger_files::{Look, look_into};
@@ -21,27 +22,6 @@ impl Look for CheckLook {
         self.checked = Some(checked);
         store
     }
-}
-
-/// Prints why a file could not be checked, and the way out.
-fn tell_fault<E: Write>(path: &str, fault: OpenFault, errors: &mut E) -> io::Result<Status> {
-    let (words, status) = match fault {
-        OpenFault::NoMemory => ("fault 1: there is no memory", Status::NotDone),
-        OpenFault::Store => (
-            "fault 2: the file cannot be used; is it there, and has no other program it open?",
-            Status::Unusable,
-        ),
-        OpenFault::NotABureau => (
-            "fault 50: that is no bureau's file, or one of a later version",
-            Status::Unusable,
-        ),
-        OpenFault::Old(_) => (
-            "fault 51: the file is of an earlier version; bureau migrate makes it one of this",
-            Status::Unusable,
-        ),
-    };
-    writeln!(errors, "{path}: {words}")?;
-    Ok(status)
 }
 
 /// Prints a report. The status tells whether anything differs.

@@ -8,11 +8,14 @@
 
 mod checking;
 mod clients;
+mod copying;
+mod faults;
 mod tallies;
 mod watching;
 mod working;
 
 use crate::checking::check_file;
+use crate::copying::copy_file;
 use crate::watching::watch_queue;
 use crate::working::run_queue;
 use command_line::{Status, Unfailing, exit_code};
@@ -44,7 +47,7 @@ fn carry_out<W: Write, E: Write>(
         Task::Version => show_version(output, errors),
         Task::Check { file } => check_file(rt, file, output, errors),
         Task::Jobs { .. } => tell_unbuilt(errors),
-        Task::Copy { .. } => tell_unbuilt(errors),
+        Task::Copy { file, new } => copy_file(rt, file, new, output, errors),
         Task::Archive { .. } => tell_unbuilt(errors),
         Task::Work { port, rounds } => run_queue(rt, port, rounds, output, errors),
         Task::Watch {

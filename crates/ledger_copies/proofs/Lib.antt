@@ -1,0 +1,2 @@
+mod SameRows
+mod CopyLemmas

@@ -1,0 +1,52 @@
+//! Reading the rows of a connection, and comparing them with those of another.
+
+ghost use Rattle.ledger_copies.specs.Copies.{Compares, ReadsAlone, ReadsSettled};
+
+use crate::comparing::first_other_table;
+use crate::tables::Table;
+use ledger_checks::AllRows;
+use ledger_tables::Fault;
+use sqlite::{Alter, Connection};
+use sqlite_trees::store::Store;
+
+/// The rows of all tables, outside a transaction.
+fn read_settled<S: Alter>(conn: &mut Connection<S>) -> Result<AllRows, Fault>
+    ensures { ReadsSettled S.Store conn.old conn.new result }
+{
+    if !conn.is_autocommit() {
+        return Err(Fault::Store);
+    }
+    let _schema = conn.schema();
+    AllRows::read(conn)
+}
+
+/// Reads the rows of all tables. Nothing is written, and the store is handed back. Fails with 1 if
+/// there is no memory, and with 2 if the store fails.
+pub fn read_rows<S: Alter + Drop>(conn: Connection<S>) -> (Result<AllRows, Fault>, S)
+    ensures { ReadsAlone S.Store conn result.1 result.0 }
+{
+    let mut conn = conn;
+    let read = read_settled(&mut conn);
+    let store = conn.into_store();
+    if store.is_broken() {
+        return (Err(Fault::Store), store);
+    }
+    (read, store)
+}
+
+/// Reads the rows of all tables, and compares them with the rows that were read of another
+/// database. Returns the first table whose rows are not the same, if there is one. If there is
+/// none, the tables stand for the same office as those of the other database. Nothing is written,
+/// and the store is handed back. Fails with 1 if there is no memory, and with 2 if the store fails.
+pub fn compare_rows<S: Alter + Drop>(
+    first: &AllRows,
+    conn: Connection<S>,
+) -> (Result<Option<Table>, Fault>, S)
+    ensures { Compares S.Store first.now conn result.1 result.0 }
+{
+    let (read, store) = read_rows(conn);
+    match read {
+        Ok(second) => (Ok(first_other_table(first, &second)), store),
+        Err(fault) => (Err(fault), store),
+    }
+}

@@ -1,0 +1,31 @@
+//! What is printed of a bureau's file that cannot be used.
+
+use command_line::Status;
+use ledger_tables::OpenFault;
+use std::io;
+use std::io::Write;
+
+/// Prints why a bureau's file cannot be used, and the way out.
+pub(crate) fn tell_fault<E: Write>(
+    path: &str,
+    fault: OpenFault,
+    errors: &mut E,
+) -> io::Result<Status> {
+    let (words, status) = match fault {
+        OpenFault::NoMemory => ("fault 1: there is no memory", Status::NotDone),
+        OpenFault::Store => (
+            "fault 2: the file cannot be used; is it there, and has no other program it open?",
+            Status::Unusable,
+        ),
+        OpenFault::NotABureau => (
+            "fault 50: that is no bureau's file, or one of a later version",
+            Status::Unusable,
+        ),
+        OpenFault::Old(_) => (
+            "fault 51: the file is of an earlier version; bureau migrate makes it one of this",
+            Status::Unusable,
+        ),
+    };
+    writeln!(errors, "{path}: {words}")?;
+    Ok(status)
+}
