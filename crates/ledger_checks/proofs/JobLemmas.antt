@@ -7,27 +7,24 @@ use Rattle.machine.specs.Run as run
 use Rattle.machine.specs.declared.standings.Standing.TheVariants.{Halted}
 use Rattle.units.specs.declared.profiles.Profile.{Profile}
 use Rattle.office.specs.Jobs.{all_off, loaded_of, picture, resumed, IsJob}
-use Rattle.office.specs.Kept.{Kept, kept_of, summary_of}
 use Rattle.office.specs.Office.{Entry}
 use Rattle.office.specs.declared.stretches.Stretch.{Stretch}
-use Rattle.office.specs.declared.summaries.Summary.{Summary}
 use Rattle.ledger_rows.specs.Columns.{HoldsCharacters, IsLine}
 use Rattle.ledger_rows.specs.Pockets.{IsPunched}
 use Rattle.sqlite.specs.Order.{Row}
 use Rattle.ledger_tables.specs.Tables.{job_row}
 use Rattle.ledger.specs.Standing.{named, CanBeKept}
 use Rattle.ledger_checks.specs.Again.{HasResumed, IsLoading}
-use Rattle.ledger_checks.specs.Jobs.{HasRunAs, entry_of, row_of}
+use Rattle.ledger_checks.specs.Jobs.{HasComeTo, HasRunAs, entry_of, row_of}
 use Rattle.ledger_checks.specs.Kept.{HasMachine, IsKept, rows_of_stretches}
 use Rattle.ledger_checks.specs.Tables.{rows_of}
 use Rattle.ledger_checks.specs.declared.all_rows.AllRows.{AllRows}
 use Rattle.ledger_checks.specs.declared.submitted.Numbers.{Numbers}
 
-module _ (all : AllRows) (it : Row) (customer : List ℕ) (number : ℕ) (numbers : Numbers) (deck loaded : List Card) (deck_b loaded_b : List ℕ) (profile : Profile) (stretches : List Stretch) (m : State) (summary : Summary)
+module _ (all : AllRows) (it : Row) (customer : List ℕ) (number : ℕ) (numbers : Numbers) (deck loaded : List Card) (deck_b loaded_b : List ℕ) (profile : Profile) (stretches : List Stretch) (m : State)
     (loading : IsLoading numbers.kind deck loaded) (deck_is : deck_b ≡ deck_bytes deck) (loaded_is : loaded_b ≡ deck_bytes loaded) (row : it ≡ row_of customer number numbers deck_b loaded_b)
     (has_stretches : rows_of customer number all.stretches.items ≡ rows_of_stretches customer number stretches) (went : HasResumed (run.loaded loaded numbers.size all_off profile) stretches m)
-    (machine : HasMachine customer number all m) (cards : All IsPunched m.works.units.punch.cards) (lines : All IsLine (lines_of m)) (storage : HoldsCharacters m.works.storage)
-    (told : summary ≡ summary_of (record { stretches = stretches; held = numbers.held; collected = numbers.collected; machine = m })) where
+    (machine : HasMachine customer number all m) (cards : All IsPunched m.works.units.punch.cards) (lines : All IsLine (lines_of m)) (storage : HoldsCharacters m.works.storage) where
   abbrev e : Entry
   e = entry_of customer number numbers deck profile stretches
 
@@ -58,10 +55,12 @@ module _ (all : AllRows) (it : Row) (customer : List ℕ) (number : ℕ) (number
   kept : IsKept all e
   kept = record { can = can; stretches = has_stretches; machine = subst (HasMachine customer number all) picture_is machine }
 
-  pub run_as : HasRunAs all it e summary
+  pub come_to : HasComeTo e m
+  come_to = record { can = can; machine = picture_is }
+
+  pub run_as : HasRunAs all it e
   run_as = record {
     row = row ∙ ap (λ b. row_of customer number numbers b loaded_b) deck_is
         ∙ ap (λ b. row_of customer number numbers (deck_bytes deck) b) (loaded_is ∙ ap deck_bytes loading.loaded_is);
     kept = kept;
-    summary_is = told ∙ ap (λ (s : State). let k : Kept = record { stretches = stretches; held = numbers.held; collected = numbers.collected; machine = s } in summary_of k) picture_is;
   }

@@ -2,14 +2,25 @@
 use Rattle.std.proofs.Common.{◌≡◌, ◌<◌, ◌≤◌, ◌+◌, ◌++◌, ℕ, List, [], ◌∷◌, drop, length, get_or, refl, sym, ap, subst, ◌∙◌}
 use Rattle.std.proofs.lemmas.List.{drop_more}
 use Rattle.std.proofs.Math.ListN.{drop_of_length-le}
+use Rattle.office.specs.Office.{Entry}
 use Rattle.sqlite.specs.Order.{Row}
-use Rattle.ledger_checks.specs.Reports.{AreReported, IsAsItRan, IsReported}
+use Rattle.ledger_checks.specs.Jobs.{HasRunAt}
+use Rattle.ledger_checks.specs.Reports.{AreReported, IsAsItRan, IsReported, IsReportedAt, Tells}
 use Rattle.ledger_checks.specs.declared.all_rows.AllRows.{AllRows}
 use Rattle.ledger_checks.specs.declared.reports.JobReport.{JobReport}
 
 -- what is reported of the rows from a place on completes the reports of all rows
 abbrev pub Completes : AllRows → List Row → List JobReport → ℕ → Type 0
 Completes all jobs reports at = (rest : List JobReport) → AreReported all (drop at jobs) rest → AreReported all jobs (reports ++ rest)
+
+-- a job that was run again is reported
+pub reported_at : (all : AllRows) (jobs : List Row) (at : ℕ) (e : Entry) (report : JobReport) → HasRunAt all jobs at e → Tells report e → IsReportedAt all jobs at report
+reported_at all jobs at e report ran tells = record {
+  it = ran.it;
+  later = ran.later;
+  there = ran.there;
+  reported = record { entry = e; row = ran.run.run.row; kept = ran.run.run.kept; once = ran.run.once; tells = tells };
+}
 
 append_assoc : {X : Type 0} (xs : List X) (x : X) (ys : List X) → (xs ++ x ∷ []) ++ ys ≡ xs ++ x ∷ ys
 append_assoc [] x ys = refl
@@ -19,10 +30,17 @@ pub append_none : {X : Type 0} (xs : List X) → xs ++ [] ≡ xs
 append_none [] = refl
 append_none (x ∷ xs) = ap (λ l. x ∷ l) (append_none xs)
 
-pub reported_next : (all : AllRows) (jobs : List Row) (reports : List JobReport) (at : ℕ) (d : Row) (r : JobReport) → at < length jobs → Completes all jobs reports at → (IsAsItRan r.outcome → IsReported all (drop (at + 1) jobs) (get_or jobs at d) r) → Completes all jobs (reports ++ r ∷ []) (at + 1)
-reported_next all jobs reports at d r less completes is rest h =
+pub reported_next : (all : AllRows) (jobs : List Row) (reports : List JobReport) (at : ℕ) (r : JobReport) → at < length jobs → Completes all jobs reports at → (IsAsItRan r.outcome → IsReportedAt all jobs at r) → Completes all jobs (reports ++ r ∷ []) (at + 1)
+reported_next all jobs reports at r less completes is rest h =
+    let x : Row = get_or jobs at [] in
+    let next : List Row = drop (at + 1) jobs in
+    let split : drop at jobs ≡ x ∷ next = drop_more jobs at [] less in
+    let told : IsAsItRan r.outcome → IsReported all next x r = λ ran.
+    let it = is ran in
+    let same : it.it ∷ it.later ≡ x ∷ next = sym it.there ∙ split in
+    subst (λ (rows : List Row). IsReported all rows x r) (ap (drop 1) same) (subst (λ (row : Row). IsReported all it.later row r) (ap (λ (xs : List Row). get_or xs 0 []) same) it.reported) in
     subst (AreReported all jobs) (sym (append_assoc reports r rest))
-    (completes (r ∷ rest) (subst (λ rows. AreReported all rows (r ∷ rest)) (sym (drop_more jobs at d less)) (is, h)))
+    (completes (r ∷ rest) (subst (λ rows. AreReported all rows (r ∷ rest)) (sym split) (told, h)))
 
 pub reported_all : (all : AllRows) (jobs : List Row) (reports : List JobReport) (at : ℕ) → length jobs ≤ at → Completes all jobs reports at → AreReported all jobs reports
 reported_all all jobs reports at past completes =

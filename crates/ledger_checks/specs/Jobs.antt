@@ -1,22 +1,20 @@
 -- a job whose row and contents were read, run again
-use Rattle.std.specs.Prelude.{◌≡◌, ℕ, pos, List, [], ◌∷◌, ⊤}
+use Rattle.std.specs.Prelude.{◌≡◌, ℕ, pos, List, [], ◌∷◌, drop}
 use Rattle.cards.specs.declared.decks.Card.{Card}
 use Rattle.core_store.specs.Storage.{positions_of}
 use Rattle.units.specs.declared.profiles.Profile.{Profile}
-use Rattle.office.specs.Kept.{kept_of, summary_of}
+use Rattle.machine.specs.Run.{State}
+use Rattle.office.specs.Jobs.{picture}
 use Rattle.office.specs.Office.{Entry}
 use Rattle.office.specs.declared.stretches.Stretch.{Stretch}
-use Rattle.office.specs.declared.summaries.Summary.{Summary}
 use Rattle.ledger_rows.specs.Columns.{truth}
 use Rattle.sqlite.specs.Order.{Row}
 use Rattle.sqlite.specs.declared.types.Value.TheVariants.{Blob, Int, Text}
 use Rattle.ledger_tables.specs.Tables.{job_row}
-use Rattle.ledger.specs.Standing.{kind_number, named}
+use Rattle.ledger.specs.Standing.{kind_number, named, CanBeKept}
 use Rattle.ledger_checks.specs.Kept.{IsKept}
 use Rattle.ledger_checks.specs.Tables.{rows_of}
 use Rattle.ledger_checks.specs.declared.all_rows.AllRows.{AllRows}
-use Rattle.ledger_checks.specs.declared.reports.Outcome.{Outcome}
-use Rattle.ledger_checks.specs.declared.reports.Outcome.TheVariants.{AsItRan, Differs}
 use Rattle.ledger_checks.specs.declared.submitted.Numbers.{Numbers}
 
 -- the row of a job of this name with these numbers, and with these bytes of its deck and of the
@@ -42,19 +40,25 @@ entry_of customer number it deck profile stretches = record {
   };
 }
 
--- the row is that of the entry's job, whose other rows are kept too, and this is its summary
-pub record HasRunAs (all : AllRows) (it : Row) (e : Entry) (summary : Summary) : Type 0 where
+-- the entry's job can be kept, and its machine has come to this state
+pub record HasComeTo (e : Entry) (m : State) : Type 0 where
+  pub can : CanBeKept e.job
+  pub machine : m ≡ picture e.job
+
+-- the row is that of the entry's job, whose other rows are kept too
+pub record HasRunAs (all : AllRows) (it : Row) (e : Entry) : Type 0 where
   pub row : it ≡ job_row (named e)
   pub kept : IsKept all e
-  pub summary_is : summary ≡ summary_of (kept_of e.job)
 
--- the row is that of some entry's job, whose name none of the later rows has
-pub record HasRun (all : AllRows) (later : List Row) (it : Row) (summary : Summary) : Type 0 where
-  pub entry : Entry
-  pub once : rows_of entry.customer entry.number later ≡ []
-  pub run : HasRunAs all it entry summary
+-- the row is that of the entry's job, whose name none of the later rows has
+pub record HasRun (all : AllRows) (later : List Row) (it : Row) (e : Entry) : Type 0 where
+  pub once : rows_of e.customer e.number later ≡ []
+  pub run : HasRunAs all it e
 
--- if the outcome is that the job is as it ran, it is that of some entry
-abbrev pub HasOutcome : AllRows → List Row → Row → Outcome → Type 0
-HasOutcome all later it (AsItRan summary) = HasRun all later it summary
-HasOutcome all later it (Differs difference) = ⊤
+-- the row at a place among those of `jobs` is that of the entry's job, whose name none of the later
+-- rows has
+pub record HasRunAt (all : AllRows) (jobs : List Row) (at : ℕ) (e : Entry) : Type 0 where
+  pub it : Row
+  pub later : List Row
+  pub there : drop at jobs ≡ it ∷ later
+  pub run : HasRun all later it e

@@ -1,5 +1,5 @@
 -- what a report tells
-use Rattle.std.specs.Prelude.{◌≡◌, pos, Bool, true, false, All, List, [], ◌∷◌, ⊤}
+use Rattle.std.specs.Prelude.{◌≡◌, ℕ, pos, Bool, true, false, All, List, [], ◌∷◌, drop, ⊤}
 use Rattle.std.specs.List.{AllZip}
 use Rattle.office.specs.Kept.{kept_of, summary_of}
 use Rattle.office.specs.Office.{Entry, Office}
@@ -44,6 +44,14 @@ pub record IsReported (all : AllRows) (later : List Row) (it : Row) (report : Jo
   pub kept : IsKept all entry
   pub once : rows_of entry.customer entry.number later ≡ []
   pub tells : Tells report entry
+
+-- the row at a place among those of `jobs` is that of the job of an entry that the report tells
+pub record IsReportedAt (all : AllRows) (jobs : List Row) (at : ℕ) (report : JobReport)
+    : Type 0 where
+  pub it : Row
+  pub later : List Row
+  pub there : drop at jobs ≡ it ∷ later
+  pub reported : IsReported all later it report
 
 -- each job that is reported as it ran is that of an entry
 abbrev pub AreReported : AllRows → List Row → List JobReport → Type 0

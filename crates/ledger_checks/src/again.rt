@@ -19,12 +19,13 @@ use units::{Profile, Switches};
 /// The greatest number of instructions that a job is granted, over all its stretches.
 const MOST_GRANTED: u32 = 1_000_000_000;
 
-/// The deck that a job's machine loads, and the bytes of it and of the deck that was handed in.
+/// The deck that was handed in, and the deck that the job's machine loads, each with its bytes.
 #[derive(Drop)]
 pub(crate) struct Loaded {
+    pub deck: Deck,
+    pub deck_bytes: Vec<u8>,
     pub loaded: Deck,
     pub loaded_bytes: Vec<u8>,
-    pub deck_bytes: Vec<u8>,
 }
 
 /// Adds some cards to a deck.
@@ -66,9 +67,10 @@ fn loaded_for(alloc: Global, contents: &Contents) -> Result<Deck, Stop>
 
 /// The deck that the machine of a job loads, or why the job is refused.
 pub(crate) fn load(alloc: Global, kind: Kind, size: Size, deck: Deck) -> Result<Loaded, Stop>
-    ensures { IfOk result (λ it. IsLoading kind deck it.loaded
+    ensures loading { IfOk result (λ it. IsLoading kind deck it.loaded
         × (it.deck_bytes.items ≡ deck_bytes deck)
         × (it.loaded_bytes.items ≡ deck_bytes it.loaded)) }
+    ensures same { IfOk result (λ it. it.deck ≡ deck) }
 {
     let contents = Contents {
         kind,
@@ -79,10 +81,12 @@ pub(crate) fn load(alloc: Global, kind: Kind, size: Size, deck: Deck) -> Result<
     let loaded = loaded_for(alloc, &contents)?;
     let deck_bytes = deck_bytes(alloc, &contents.deck)?;
     let loaded_bytes = ledger_rows::deck_bytes(alloc, &loaded)?;
+    let Contents { deck, .. } = contents;
     Ok(Loaded {
+        deck,
+        deck_bytes,
         loaded,
         loaded_bytes,
-        deck_bytes,
     })
 }
 

@@ -43,7 +43,7 @@ fn add(strays: &mut Vec<Stray>, table: Table, row: Option<usize>) -> Result<(), 
 }
 
 /// The first stray row of each table.
-fn find_strays(alloc: Global, all: &AllRows) -> Result<Vec<Stray>, AllocError>
+pub fn find_strays(alloc: Global, all: &AllRows) -> Result<Vec<Stray>, AllocError>
     ensures { IfOk result (λ strays. strays.items ≡ []
         → (all.now.version.items ≡ version_row) × AreOwned all.now) }
 {

@@ -1,28 +1,24 @@
 //! One job, run again and compared with its rows.
 
-ghost use Rattle.std.specs.Prelude.{◌≡◌, ℕ, ℤ, List, IfOk, OnOk};
-ghost use Rattle.machine.specs.Ranges.{IsInRange};
-ghost use Rattle.office.specs.Jobs.{AreStretches};
-ghost use Rattle.office.specs.Kept.{summary_of};
+ghost use Rattle.std.specs.Prelude.{◌≡◌, ◌<◌, ℕ, ℤ, List, length, IfErr, IfOk, OnOk};
 ghost use Rattle.ledger.specs.Standing.{kind_number};
 ghost use Rattle.sqlite.specs.Order.{column};
 ghost use Rattle.sqlite.specs.declared.types.Value.TheVariants.{Int, Text};
-ghost use Rattle.ledger_checks.specs.Jobs.{HasOutcome, HasRun, HasRunAs, entry_of, row_of};
-ghost use Rattle.ledger_checks.specs.Reports.{AreReported, IsAsItRan, IsReported};
+ghost use Rattle.ledger_checks.specs.Jobs.{HasRun, HasRunAs, HasRunAt, entry_of, row_of};
+ghost use Rattle.ledger_checks.specs.Reports.{AreReported, IsAsItRan, IsReportedAt};
 
-use crate::again::{Loaded, granted_in, load, run_again};
+use crate::again::{Loaded, load, run_again};
 use crate::all_rows::AllRows;
 use crate::cells::{first_other, number_at, text_at};
 use crate::differences::{Difference, Place, Stop, value_apart};
 use crate::following::pass_none;
 use crate::machines::{check_machine, check_stretches};
 use crate::reports::{JobReport, Outcome};
+use crate::runs::JobRun;
 use crate::submitted::{Numbers, Submitted, read_profile, read_stretches, read_submitted};
-use core_store::PlaneCore;
 use ledger_rows::truth;
 use ledger_tables::JobName;
-use machine::Parts;
-use office::{Kind, Stretch, Summary};
+use office::{Kind, Stretch};
 use sqlite::types::ValueRef;
 use sqlite::{Row, params};
 use std::alloc::{AllocError, Global};
@@ -63,27 +59,6 @@ fn check_row(row: &Row, name: JobName<'_>, job: Numbers, loaded: &Loaded) -> Res
     }
 }
 
-/// The summary of a job with this machine.
-fn summary_of(numbers: Numbers, stretches: &[Stretch], machine: &Parts<PlaneCore>) -> Summary
-    requires stretches { AreStretches stretches.now }
-    requires machine { IsInRange machine.now }
-    ensures { result ≡ summary_of (record {
-      stretches = stretches.now;
-      held = numbers.held;
-      collected = numbers.collected;
-      machine = machine.now;
-    }) }
-{
-    Summary {
-        standing: machine.standing_at(),
-        held: numbers.held,
-        collected: numbers.collected,
-        granted: granted_in(stretches),
-        cards: machine.units.punch.cards.len() as u32,
-        lines: machine.units.printer.lines.len() as u32,
-    }
-}
-
 /// The job with this name and these contents, profile and stretches is run again, and compared with
 /// its rows.
 fn check_again(
@@ -93,18 +68,30 @@ fn check_again(
     name: JobName<'_>,
     submitted: Submitted,
     profile: Profile,
-    stretches: &[Stretch],
-) -> Result<Summary, Stop>
-    ensures { IfOk result (HasRunAs all.now row.now (entry_of name.entry.customer.now
-        name.entry.number submitted.numbers submitted.deck profile stretches.now)) }
+    stretches: Vec<Stretch>,
+) -> Result<JobRun, Stop>
+    ensures same { IfOk result (λ run. run ≡ entry_of name.entry.customer.now name.entry.number
+        submitted.numbers submitted.deck profile stretches.items) }
+    ensures kept { IfOk result (λ run. HasRunAs all.now row.now run) }
 {
     let Submitted { numbers, deck } = submitted;
     let loaded = load(alloc, numbers.kind, numbers.size, deck)?;
     check_row(row, name, numbers, &loaded)?;
-    check_stretches(&all.stretches, name, stretches)?;
-    let machine = run_again(alloc, loaded.loaded, numbers.size, profile, stretches)?;
+    check_stretches(&all.stretches, name, &stretches)?;
+    let Loaded { deck, loaded, .. } = loaded;
+    let machine = run_again(alloc, loaded, numbers.size, profile, &stretches)?;
     check_machine(all, name, machine.parts())?;
-    Ok(summary_of(numbers, stretches, machine.parts()))
+    let customer = String::from_str(alloc, name.customer)?;
+    let run = JobRun::new(
+        customer,
+        name.number,
+        numbers,
+        deck,
+        profile,
+        stretches,
+        machine,
+    );
+    Ok(run)
 }
 
 /// The job of this name and row is run again, and compared with its rows.
@@ -114,18 +101,18 @@ fn check_named(
     later: &[Row],
     row: &Row,
     name: JobName<'_>,
-) -> Result<Summary, Stop>
+) -> Result<JobRun, Stop>
     ensures { IfOk result (HasRun all.now later.now row.now) }
 {
     let submitted = read_submitted(alloc, row)?;
     let stretches = read_stretches(alloc, &all.stretches, name)?;
     let profile = read_profile(&all.profiles, name)?;
     pass_none(later, name, Place::Job)?;
-    check_again(alloc, all, row, name, submitted, profile, &stretches)
+    check_again(alloc, all, row, name, submitted, profile, stretches)
 }
 
 /// The job of this row is run again, and compared with its rows.
-fn check_row_of(alloc: Global, all: &AllRows, later: &[Row], row: &Row) -> Result<Summary, Stop>
+fn check_row_of(alloc: Global, all: &AllRows, later: &[Row], row: &Row) -> Result<JobRun, Stop>
     ensures { IfOk result (HasRun all.now later.now row.now) }
 {
     let Some(customer) = text_at(row, 0) else {
@@ -158,32 +145,61 @@ fn label_number(row: &Row) -> i64
     }
 }
 
-/// What came of the job of this row.
-fn outcome_of(alloc: Global, all: &AllRows, later: &[Row], row: &Row) -> Result<Outcome, AllocError>
-    ensures { IfOk result (HasOutcome all.now later.now row.now) }
-{
-    match check_row_of(alloc, all, later, row) {
-        Ok(summary) => Ok(Outcome::AsItRan(summary)),
-        Err(Stop::Differs(difference)) => Ok(Outcome::Differs(difference)),
-        Err(Stop::NoMemory) => Err(AllocError),
-    }
-}
-
-/// What is told of the job of this row.
-fn check_job(
-    alloc: Global,
-    all: &AllRows,
-    later: &[Row],
-    row: &Row,
-) -> Result<JobReport, AllocError>
-    ensures { IfOk result (λ report. IsAsItRan report.outcome
-        → IsReported all.now later.now row.now report) }
+/// What is told of the job of a row that differs.
+fn differing(alloc: Global, row: &Row, difference: Difference) -> Result<JobReport, AllocError>
+    ensures { IfOk result (λ report. report.outcome ≡ Outcome.Differs difference) }
 {
     Ok(JobReport {
         customer: label_bytes(alloc, row)?,
         number: label_number(row),
-        outcome: outcome_of(alloc, all, later, row)?,
+        outcome: Outcome::Differs(difference),
     })
+}
+
+/// The job of the row at this place is run again, and compared with its rows: the job, or what is
+/// told of it if it differs.
+fn run_one(
+    alloc: Global,
+    all: &AllRows,
+    jobs: &[Row],
+    at: usize,
+) -> Result<Result<JobRun, JobReport>, AllocError>
+    requires { at < length jobs.now }
+    ensures run { IfOk result (λ found. IfOk found (HasRunAt all.now jobs.now at)) }
+    ensures told { IfOk result (λ found. IfErr found (λ report. ¬ IsAsItRan report.outcome)) }
+{
+    match check_row_of(alloc, all, &jobs[at + 1..], &jobs[at]) {
+        Ok(run) => Ok(Ok(run)),
+        Err(Stop::Differs(difference)) => Ok(Err(differing(alloc, &jobs[at], difference)?)),
+        Err(Stop::NoMemory) => Err(AllocError),
+    }
+}
+
+/// Runs the job of the row of `jobs` at this place, counted from 0, again, and compares its rows
+/// with what it makes. Returns the job if its rows are these, else what is told of it. Fails only
+/// if there is no memory.
+pub fn run_job(
+    alloc: Global,
+    all: &AllRows,
+    at: usize,
+) -> Result<Result<JobRun, JobReport>, AllocError>
+    requires { at < length all.now.jobs.items }
+    ensures run { IfOk result (λ found. IfOk found (HasRunAt all.now all.now.jobs.items at)) }
+    ensures told { IfOk result (λ found. IfErr found (λ report. ¬ IsAsItRan report.outcome)) }
+{
+    run_one(alloc, all, all.jobs.as_slice(), at)
+}
+
+/// What is told of the job of the row at this place.
+fn check_job(alloc: Global, all: &AllRows, jobs: &[Row], at: usize) -> Result<JobReport, AllocError>
+    requires { at < length jobs.now }
+    ensures { IfOk result (λ report. IsAsItRan report.outcome
+        → IsReportedAt all.now jobs.now at report) }
+{
+    match run_one(alloc, all, jobs, at)? {
+        Ok(run) => run.report(alloc),
+        Err(report) => Ok(report),
+    }
 }
 
 /// What is told of the job of each of these rows.
@@ -196,7 +212,7 @@ pub(crate) fn check_jobs(
 {
     let mut reports = Vec::new(alloc);
     for at in 0..jobs.len() {
-        let report = check_job(alloc, all, &jobs[at + 1..], &jobs[at])?;
+        let report = check_job(alloc, all, jobs, at)?;
         reports.try_reserve(1)?;
         reports.push_reserved(report);
     }

@@ -13,11 +13,14 @@ mod machines;
 mod names;
 mod owners;
 mod reports;
+mod runs;
 mod submitted;
 mod texts;
 
 pub use all_rows::AllRows;
-pub use checks::{check, check_tables};
+pub use checks::{check, check_tables, find_strays};
 pub use differences::{Difference, Found, Place};
+pub use jobs::run_job;
 pub use reports::{JobReport, Outcome, Report, Stray, Table};
-pub use texts::report_text;
+pub use runs::JobRun;
+pub use texts::{job_text, report_text, strays_text};

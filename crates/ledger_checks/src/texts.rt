@@ -289,6 +289,24 @@ fn push_sum(out: &mut Vec<u8>, jobs: usize, differing: usize) -> Result<(), Allo
     out.extend_from_slice(b" differ\n")
 }
 
+/// The line of a job in a report. Fails only if there is no memory.
+pub fn job_text(alloc: Global, job: &JobReport) -> Result<Vec<u8>, AllocError>
+    ensures { IfOk result (λ text. text.items ≡ job_line job.now) }
+{
+    let mut out = Vec::new(alloc);
+    push_job(&mut out, job)?;
+    Ok(out)
+}
+
+/// The lines of stray rows in a report. Fails only if there is no memory.
+pub fn strays_text(alloc: Global, strays: &[Stray]) -> Result<Vec<u8>, AllocError>
+    ensures { IfOk result (λ text. text.items ≡ flat_map stray_line strays.now) }
+{
+    let mut out = Vec::new(alloc);
+    push_strays(&mut out, strays)?;
+    Ok(out)
+}
+
 /// The lines of a report: one for each job, one for the first stray row of each table, and a last
 /// one with the number of jobs. Fails only if there is no memory.
 pub fn report_text(alloc: Global, report: &Report) -> Result<Vec<u8>, AllocError>
