@@ -1,9 +1,7 @@
 -- what the check of all tables finds
-use Rattle.std.specs.Prelude.{◌≡◌, Result, IfOk, IsTrue}
+use Rattle.std.specs.Prelude.{◌≡◌, Result, IfOk}
 use Rattle.office.specs.Office.{Office}
-use Rattle.sqlite.specs.Effect.{IsDatabase}
 use Rattle.sqlite.specs.Held.{Held, state}
-use Rattle.sqlite.specs.State.{HasCleanDisk, IsUnchanged}
 use Rattle.sqlite.specs.View.{IsClean}
 use Rattle.sqlite_trees.specs.declared.store.Store.{Ghosts}
 use Rattle.std.specs.List.{AllZip}
@@ -11,7 +9,6 @@ use Rattle.ledger_tables.specs.Schema.{bureau_schema}
 use Rattle.ledger_tables.specs.declared.faults.Fault.{Fault}
 use Rattle.ledger_checks.specs.Kept.{AreKept}
 use Rattle.ledger_checks.specs.Reports.{HasNoDifference, StandsFor, Tells}
-use Rattle.ledger_checks.specs.Tables.{IsBureaus}
 use Rattle.ledger_checks.specs.declared.all_rows.AllRows.{AllRows}
 use Rattle.ledger_checks.specs.declared.reports.Report.{Report}
 
@@ -26,23 +23,6 @@ abbrev pub IsSoundFor : AllRows → Report → Type 0
 IsSoundFor all report = HasNoDifference report → KeepsTold all report
 
 module _ {S : Type 0} (g : Ghosts S) where
-  -- on Ok, if the database has a bureau's schema, it is unchanged; and if it is a bureau's and the
-  -- report tells no difference, its tables stand for an office
-  abbrev pub Finds : Held S → Held S → Result Report Fault → Type 0
-  Finds old new result = HasCleanDisk (state g new) → IfOk result (λ report.
-      (state g old).now.schema ≡ bureau_schema → IsUnchanged (state g old) (state g new)
-      × (IsBureaus (state g old).now → HasNoDifference report
-      → StandsFor (state g old).now report))
-
-  -- the same of a connection outside a transaction: what it sees is what was last committed, and
-  -- its trees obey its schema
-  abbrev pub FindsSettled : Held S → Held S → Result Report Fault → Type 0
-  FindsSettled old new result = HasCleanDisk (state g new) → IfOk result (λ report.
-      (state g old).now.schema ≡ bureau_schema → IsUnchanged (state g old) (state g new)
-      × ((state g old).now ≡ (state g old).committed) × IsDatabase (state g old).now
-      × (IsBureaus (state g old).now → HasNoDifference report
-      → StandsFor (state g old).now report))
-
   -- on Ok, if the connection saw a bureau's schema, and the report tells no difference, the tables
   -- that it saw stand for an office
   abbrev pub FindsAlone : Held S → S → Result Report Fault → Type 0

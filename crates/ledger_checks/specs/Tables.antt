@@ -9,7 +9,7 @@ use Rattle.sqlite.specs.Tree.{Trees}
 use Rattle.sqlite.specs.Held.{Held, state}
 use Rattle.sqlite.specs.State.{HasCleanDisk, IsUnchanged}
 use Rattle.std.specs.declared.alloc.Global.{Global}
-use Rattle.sqlite.specs.View.{IsShaped}
+use Rattle.sqlite.specs.View.{IsClean, IsShaped}
 use Rattle.sqlite_trees.specs.declared.store.Shape.TheVariants.{Table}
 use Rattle.sqlite_trees.specs.declared.store.Store.{Ghosts}
 use Rattle.ledger_rows.specs.Pages.{page_bytes}
@@ -67,6 +67,11 @@ abbrev pub pages_from : Storage → ℕ → ℕ → List (List ℕ)
 pages_from s first zero = []
 pages_from s first (suc count) = page_bytes s first ∷ pages_from s (first + 1) count
 
+-- the database is a bureau's, and these are its rows
+pub record HasRows (db : Database) (all : AllRows) : Type 0 where
+  pub bureaus : IsBureaus db
+  pub rows : AreRowsOf db.trees all
+
 -- ---- reading
 
 module _ {S : Type 0} (g : Ghosts S) (old new : Held S) where
@@ -83,3 +88,18 @@ module _ {S : Type 0} (g : Ghosts S) (old new : Held S) where
   ReadsAll result = HasCleanDisk (state g new) → IfOk result (λ all.
       (state g old).now.schema ≡ bureau_schema → IsUnchanged (state g old) (state g new)
       × (IsBureaus (state g old).now → AreRowsOf (state g old).now.trees all))
+
+module _ {S : Type 0} (g : Ghosts S) where
+  -- on Ok, if the database has a bureau's schema, it is unchanged, it is what was last committed,
+  -- its trees obey its schema, and if it is a bureau's, the rows of its tables were read
+  abbrev pub ReadsSettled : Held S → Held S → Result AllRows Fault → Type 0
+  ReadsSettled old new result = HasCleanDisk (state g new) → IfOk result (λ all.
+      (state g old).now.schema ≡ bureau_schema → IsUnchanged (state g old) (state g new)
+      × ((state g old).now ≡ (state g old).committed) × IsDatabase (state g old).now
+      × (IsBureaus (state g old).now → AreRowsOf (state g old).now.trees all))
+
+  -- on Ok, if the connection saw a bureau's schema, it saw a bureau's database, whose rows were
+  -- read
+  abbrev pub ReadsAlone : Held S → S → Result AllRows Fault → Type 0
+  ReadsAlone conn store result = IsClean (g.view store) → IfOk result (λ all.
+      (state g conn).now.schema ≡ bureau_schema → HasRows (state g conn).now all)

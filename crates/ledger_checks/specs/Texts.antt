@@ -23,6 +23,7 @@ use Rattle.ledger_checks.specs.declared.reports.Table.TheVariants as table
 -- the name of a table
 abbrev pub table_words : Table → List ℕ
 table_words table.Bureau = codes "bureau"
+table_words table.Jobs = codes "jobs"
 table_words table.Stretches = codes "stretches"
 table_words table.States = codes "states"
 table_words table.Pages = codes "pages"

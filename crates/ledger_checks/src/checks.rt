@@ -1,20 +1,17 @@
 //! The check of all tables.
 
-ghost use Rattle.std.specs.Prelude.{◌≡◌, ◌≤◌, [], IfOk, OnOk, IsNone};
-ghost use Rattle.sqlite.specs.Held.{state};
-ghost use Rattle.sqlite.specs.State.{HasCleanDisk};
-ghost use Rattle.sqlite.specs.View.{doubt, IsClean};
-ghost use Rattle.ledger_checks.specs.Checks.{Finds, FindsAlone, FindsSettled, IsSoundFor};
+ghost use Rattle.std.specs.Prelude.{◌≡◌, [], IfOk, OnOk, IsNone};
+ghost use Rattle.ledger_checks.specs.Checks.{FindsAlone, IsSoundFor};
 ghost use Rattle.ledger_checks.specs.Kept.{AreOwned, version_row};
 
 use crate::all_rows::AllRows;
 use crate::cells::first_other;
 use crate::jobs::check_jobs;
 use crate::owners::first_stray;
+use crate::reading::read_rows;
 use crate::reports::{Report, Stray, Table};
 use ledger_tables::{Fault, VERSION};
 use sqlite::{Alter, Connection, Row, params};
-use sqlite_trees::store::Store;
 use std::alloc::{AllocError, Global};
 
 /// The first row of `bureau`, counted from 1, that is not as it is to be: one row, with the
@@ -81,27 +78,12 @@ fn check_rows(alloc: Global, all: &AllRows) -> Result<Report, AllocError>
     Ok(Report { jobs, strays })
 }
 
-/// Runs each job of a bureau again, and compares the rows of all tables with what it makes. Nothing
-/// is written.
-pub fn check_tables<S: Alter>(alloc: Global, conn: &mut Connection<S>) -> Result<Report, Fault>
-    ensures sound { Finds S.Store conn.old conn.new result }
-    ensures clean { doubt (state S.Store conn.old).is_clean
-        ≤ doubt (state S.Store conn.new).is_clean }
+/// Compares the rows of all tables with what the jobs make, each run again.
+fn check_read(alloc: Global, all: &AllRows) -> Result<Report, Fault>
+    ensures { IfOk result (IsSoundFor all.now) }
 {
-    let all = AllRows::read(conn)?;
-    let report = check_rows(alloc, &all)?;
+    let report = check_rows(alloc, all)?;
     Ok(report)
-}
-
-/// The check of all tables, outside a transaction.
-fn check_settled<S: Alter>(alloc: Global, conn: &mut Connection<S>) -> Result<Report, Fault>
-    ensures { FindsSettled S.Store conn.old conn.new result }
-{
-    if !conn.is_autocommit() {
-        return Err(Fault::Store);
-    }
-    let _schema = conn.schema();
-    check_tables(alloc, conn)
 }
 
 /// Runs each job of a bureau again, and compares the rows of all tables with what it makes. Nothing
@@ -111,11 +93,9 @@ fn check_settled<S: Alter>(alloc: Global, conn: &mut Connection<S>) -> Result<Re
 pub fn check<S: Alter + Drop>(alloc: Global, conn: Connection<S>) -> (Result<Report, Fault>, S)
     ensures { FindsAlone S.Store conn result.1 result.0 }
 {
-    let mut conn = conn;
-    let checked = check_settled(alloc, &mut conn);
-    let store = conn.into_store();
-    if store.is_broken() {
-        return (Err(Fault::Store), store);
+    let (read, store) = read_rows(conn);
+    match read {
+        Ok(all) => (check_read(alloc, &all), store),
+        Err(fault) => (Err(fault), store),
     }
-    (checked, store)
 }

@@ -12,15 +12,17 @@ mod jobs;
 mod machines;
 mod names;
 mod owners;
+mod reading;
 mod reports;
 mod runs;
 mod submitted;
 mod texts;
 
 pub use all_rows::AllRows;
-pub use checks::{check, check_tables, find_strays};
+pub use checks::{check, find_strays};
 pub use differences::{Difference, Found, Place};
 pub use jobs::run_job;
+pub use reading::read_rows;
 pub use reports::{JobReport, Outcome, Report, Stray, Table};
 pub use runs::JobRun;
 pub use texts::{job_text, report_text, strays_text};

@@ -2,6 +2,7 @@
 
 ghost use Rattle.std.specs.Prelude.{◌≡◌, ◌↔◌, All, count_by, not, IsTrue};
 ghost use Rattle.ledger_checks.specs.Reports.{HasNoDifference, IsAsItRan, is_as_it_ran};
+ghost use Rattle.ledger_checks.specs.Texts.{table_words};
 
 use crate::differences::Difference;
 use office::Summary;
@@ -10,6 +11,7 @@ use office::Summary;
 #[derive(Clone, Copy, Debug, PartialEq, Eq)]
 pub enum Table {
     Bureau,
+    Jobs,
     Stretches,
     States,
     Pages,
@@ -17,6 +19,25 @@ pub enum Table {
     Lines,
     Profiles,
     Pockets,
+}
+
+impl Table {
+    /// The table's name.
+    pub fn name(self) -> &'static str
+        ensures { result.now ≡ table_words self }
+    {
+        match self {
+            Table::Bureau => "bureau",
+            Table::Jobs => "jobs",
+            Table::Stretches => "stretches",
+            Table::States => "states",
+            Table::Pages => "pages",
+            Table::Cards => "cards",
+            Table::Lines => "lines",
+            Table::Profiles => "profiles",
+            Table::Pockets => "pockets",
+        }
+    }
 }
 
 /// The first row of a table that is not as it is to be, whatever the jobs: it names no job, or the

@@ -38,22 +38,6 @@ fn push_numbered(out: &mut Vec<u8>, words: &str, number: usize) -> Result<(), Al
     push_decimal(out, number)
 }
 
-/// Adds the name of a table.
-fn push_table(out: &mut Vec<u8>, table: Table) -> Result<(), AllocError>
-    ensures { OnOk result (out.new.items ≡ out.old.items ++ table_words table) }
-{
-    match table {
-        Table::Bureau => out.extend_from_slice(b"bureau"),
-        Table::Stretches => out.extend_from_slice(b"stretches"),
-        Table::States => out.extend_from_slice(b"states"),
-        Table::Pages => out.extend_from_slice(b"pages"),
-        Table::Cards => out.extend_from_slice(b"cards"),
-        Table::Lines => out.extend_from_slice(b"lines"),
-        Table::Profiles => out.extend_from_slice(b"profiles"),
-        Table::Pockets => out.extend_from_slice(b"pockets"),
-    }
-}
-
 /// Adds the name of a row of a job.
 fn push_place(out: &mut Vec<u8>, place: Place) -> Result<(), AllocError>
     ensures { OnOk result (out.new.items ≡ out.old.items ++ place_words place) }
@@ -263,7 +247,7 @@ fn push_row(out: &mut Vec<u8>, row: usize) -> Result<(), AllocError>
 fn push_stray(out: &mut Vec<u8>, stray: &Stray) -> Result<(), AllocError>
     ensures { OnOk result (out.new.items ≡ out.old.items ++ stray_line stray.now) }
 {
-    push_table(out, stray.table)?;
+    out.extend_from_slice(stray.table.name().as_bytes())?;
     push_row(out, stray.row)
 }
 

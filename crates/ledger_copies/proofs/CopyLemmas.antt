@@ -10,14 +10,14 @@ use Rattle.ledger_tables.specs.Tables as row
 use Rattle.ledger_tables.specs.Tables.{cells, version_rows}
 use Rattle.ledger.specs.Standing.{Rows}
 use Rattle.ledger_checks.specs.Kept.{version_row}
-use Rattle.ledger_checks.specs.Tables.{version_columns}
+use Rattle.ledger_checks.specs.Tables.{HasRows, version_columns}
 use Rattle.ledger_checks.specs.declared.all_rows.AllRows.{AllRows}
 use Rattle.ledger_checks.proofs.StandingRows.{version_rows_are}
 use Rattle.ledger_checks.proofs.TableReads.{bureau_typed}
-use Rattle.ledger_copies.specs.Copies.{HasRows, IsCompared, StandForTheSame}
+use Rattle.ledger_copies.specs.Copies.{IsCompared, StandForTheSame}
 use Rattle.ledger_copies.specs.Tables.{HaveSame, IsFirstOther}
-use Rattle.ledger_copies.specs.declared.tables.Table.{Table}
-use Rattle.ledger_copies.specs.declared.tables.Table.TheVariants as table
+use Rattle.ledger_checks.specs.declared.reports.Table.{Table}
+use Rattle.ledger_checks.specs.declared.reports.Table.TheVariants as table
 use Rattle.ledger_copies.proofs.SameRows.{same_of, same_of_each}
 
 module _ (first second : Database) (a b : AllRows) (one : HasRows first a) (two : HasRows second b) (same : (it : Table) → HaveSame a b it) where

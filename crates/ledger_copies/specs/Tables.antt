@@ -1,21 +1,9 @@
--- the tables of a bureau, with their names and their places
-use Rattle.std.specs.Prelude.{◌≡◌, ◌<◌, ℕ, List, Option, Some, None, codes}
+-- the tables of a bureau, with their places
+use Rattle.std.specs.Prelude.{◌≡◌, ◌<◌, ℕ, List, Option, Some, None}
 use Rattle.sqlite.specs.Order.{Row}
 use Rattle.ledger_checks.specs.declared.all_rows.AllRows.{AllRows}
-use Rattle.ledger_copies.specs.declared.tables.Table.{Table}
-use Rattle.ledger_copies.specs.declared.tables.Table.TheVariants as table
-
--- the name of a table
-abbrev pub table_name : Table → List ℕ
-table_name table.Bureau = codes "bureau"
-table_name table.Jobs = codes "jobs"
-table_name table.Stretches = codes "stretches"
-table_name table.States = codes "states"
-table_name table.Pages = codes "pages"
-table_name table.Cards = codes "cards"
-table_name table.Lines = codes "lines"
-table_name table.Profiles = codes "profiles"
-table_name table.Pockets = codes "pockets"
+use Rattle.ledger_checks.specs.declared.reports.Table.{Table}
+use Rattle.ledger_checks.specs.declared.reports.Table.TheVariants as table
 
 -- the place of a table in the order in which the tables are compared
 abbrev pub place_of : Table → ℕ

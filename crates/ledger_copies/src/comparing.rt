@@ -3,8 +3,7 @@
 ghost use Rattle.ledger_copies.specs.Tables.{IsFirstOther};
 
 use crate::rows::are_same;
-use crate::tables::Table;
-use ledger_checks::AllRows;
+use ledger_checks::{AllRows, Table};
 
 /// The first table whose rows are not the same in both, if there is one. The rows of pages and of
 /// pockets, too, are compared in the order in which they were read.

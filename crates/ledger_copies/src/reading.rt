@@ -1,38 +1,11 @@
 //! Reading the rows of a connection, and comparing them with those of another.
 
-ghost use Rattle.ledger_copies.specs.Copies.{Compares, ReadsAlone, ReadsSettled};
+ghost use Rattle.ledger_copies.specs.Copies.{Compares};
 
 use crate::comparing::first_other_table;
-use crate::tables::Table;
-use ledger_checks::AllRows;
+use ledger_checks::{AllRows, Table, read_rows};
 use ledger_tables::Fault;
 use sqlite::{Alter, Connection};
-use sqlite_trees::store::Store;
-
-/// The rows of all tables, outside a transaction.
-fn read_settled<S: Alter>(conn: &mut Connection<S>) -> Result<AllRows, Fault>
-    ensures { ReadsSettled S.Store conn.old conn.new result }
-{
-    if !conn.is_autocommit() {
-        return Err(Fault::Store);
-    }
-    let _schema = conn.schema();
-    AllRows::read(conn)
-}
-
-/// Reads the rows of all tables. Nothing is written, and the store is handed back. Fails with 1 if
-/// there is no memory, and with 2 if the store fails.
-pub fn read_rows<S: Alter + Drop>(conn: Connection<S>) -> (Result<AllRows, Fault>, S)
-    ensures { ReadsAlone S.Store conn result.1 result.0 }
-{
-    let mut conn = conn;
-    let read = read_settled(&mut conn);
-    let store = conn.into_store();
-    if store.is_broken() {
-        return (Err(Fault::Store), store);
-    }
-    (read, store)
-}
 
 /// Reads the rows of all tables, and compares them with the rows that were read of another
 /// database. Returns the first table whose rows are not the same, if there is one. If there is

@@ -8,7 +8,7 @@ use Rattle.ledger_tables.proofs.Stepping.{if_ok_then}
 use Rattle.ledger_tables.specs.Schema.{bureau_schema}
 use Rattle.ledger_checks.specs.Tables.{AreInOrder, IsBureaus}
 use Rattle.ledger_checks.proofs.OrderLemmas.{are_in_order, open_of}
-use Rattle.ledger_copies.proofs.reading.read_rows.Goals as goal
+use Rattle.ledger_checks.proofs.reading.read_rows.Goals as goal
 
 pub returns : goal.returns
 returns g c clean =
