@@ -45,15 +45,40 @@ fn head_length(reply: &[u8]) -> Option<usize> {
     Some(end + 4)
 }
 
+/// The length that the head of a reply states for its body, if it states one.
+fn stated_length(head: &[u8]) -> Option<usize> {
+    let head = str::from_utf8(head).ok()?;
+    for line in head.lines() {
+        if let Some((name, value)) = line.split_once(':') {
+            if name.eq_ignore_ascii_case("content-length") {
+                return value.trim().parse::<usize>().ok();
+            }
+        }
+    }
+    None
+}
+
+/// Whether a body is shorter than the head states: it was cut off.
+fn is_cut(head: &[u8], body: &[u8]) -> bool {
+    match stated_length(head) {
+        Some(length) => body.len() < length,
+        None => false,
+    }
+}
+
 /// What the bytes of a reply are.
 fn reply_in(alloc: Global, bytes: &[u8]) -> Result<Reply, AllocError> {
     let (Some(status), Some(length)) = (status_in(bytes), head_length(bytes)) else {
         return Ok(Reply::Lost);
     };
-    let mut body = Vec::new(alloc);
-    if let Some(rest) = bytes.get(length..) {
-        body.extend_from_slice(rest)?;
+    let (Some(head), Some(rest)) = (bytes.get(..length), bytes.get(length..)) else {
+        return Ok(Reply::Lost);
+    };
+    if is_cut(head, rest) {
+        return Ok(Reply::Lost);
     }
+    let mut body = Vec::new(alloc);
+    body.extend_from_slice(rest)?;
     Ok(Reply::Replied { status, body })
 }
 
