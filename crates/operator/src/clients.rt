@@ -2,6 +2,7 @@
 
 ghost use Rattle.std.specs.Prelude.{◌≤◌, IfSome};
 
+use queue_rounds::Reply;
 use std::alloc::{AllocError, Global};
 use std::io;
 use std::io::{Read, Write};
@@ -14,16 +15,8 @@ const LONGEST: u64 = 16_000_000;
 /// For how many seconds an answer is waited for.
 const PATIENCE: u64 = 90;
 
-/// What came of a request.
-#[derive(Drop)]
-pub(crate) enum Answer {
-    /// No bureau could be reached: the request was not sent.
-    Unsent,
-    /// It was sent, at least in part, and not answered.
-    Lost,
-    /// It was answered with this status and this body.
-    Replied { status: u16, body: Vec<u8> },
-}
+/// The request for the queue.
+pub(crate) const QUEUE: &[u8] = b"GET /queue HTTP/1.1\r\nHost: localhost\r\n\r\n";
 
 /// The value of a digit.
 fn digit_of(byte: u8) -> Option<u16>
@@ -53,15 +46,15 @@ fn head_length(reply: &[u8]) -> Option<usize> {
 }
 
 /// What the bytes of a reply are.
-fn answer_in(alloc: Global, reply: &[u8]) -> Result<Answer, AllocError> {
-    let (Some(status), Some(length)) = (status_in(reply), head_length(reply)) else {
-        return Ok(Answer::Lost);
+fn reply_in(alloc: Global, bytes: &[u8]) -> Result<Reply, AllocError> {
+    let (Some(status), Some(length)) = (status_in(bytes), head_length(bytes)) else {
+        return Ok(Reply::Lost);
     };
     let mut body = Vec::new(alloc);
-    if let Some(rest) = reply.get(length..) {
+    if let Some(rest) = bytes.get(length..) {
         body.extend_from_slice(rest)?;
     }
-    Ok(Answer::Replied { status, body })
+    Ok(Reply::Replied { status, body })
 }
 
 /// Sends a request, and reads the reply to its end.
@@ -76,12 +69,12 @@ fn exchange(rt: &HostRuntime, stream: &TcpStream, request: &[u8]) -> io::Result<
 
 /// Makes a request of the bureau at a port of 127.0.0.1. It is sent once at most. Fails only if
 /// there is no memory.
-pub(crate) fn ask(rt: &HostRuntime, port: u16, request: &[u8]) -> Result<Answer, AllocError> {
+pub(crate) fn ask(rt: &HostRuntime, port: u16, request: &[u8]) -> Result<Reply, AllocError> {
     let Ok(stream) = TcpStream::connect(rt, SocketAddrV4::new(Ipv4Addr::LOCALHOST, port)) else {
-        return Ok(Answer::Unsent);
+        return Ok(Reply::Unsent);
     };
     match exchange(rt, &stream, request) {
-        Ok(reply) => answer_in(rt.alloc(), &reply),
-        Err(_) => Ok(Answer::Lost),
+        Ok(bytes) => reply_in(rt.alloc(), &bytes),
+        Err(_) => Ok(Reply::Lost),
     }
 }

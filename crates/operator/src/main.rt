@@ -1,7 +1,7 @@
 //! The program `operator`: what the operator of a bureau does, beside the bureau's own program.
 //!
-//! What a check finds is said exactly by `ledger_checks`, and the turns of the jobs by
-//! `queue_rounds`. Here they are joined to the process's words, files and sockets. The clauses of
+//! What a check finds is said exactly by `ledger_checks`, and the requests of the work on a queue
+//! by `queue_rounds`. Here they are joined to the process's words, files and sockets. The clauses of
 //! the kit do not mention these, so what is read and sent where is tested by
 //! `cases/check-operator`.
 #![tactic(auto)]
@@ -11,10 +11,12 @@ mod clients;
 mod copying;
 mod faults;
 mod tallies;
+mod watching;
 mod working;
 
 use crate::checking::check_file;
 use crate::copying::copy_file;
+use crate::watching::watch_queue;
 use crate::working::run_queue;
 use command_line::{Status, Unfailing, exit_code};
 use operator_words::{Misuse, Task, show_help, show_version, task_of, tell_misuse};
@@ -48,7 +50,11 @@ fn carry_out<W: Write, E: Write>(
         Task::Copy { file, new } => copy_file(rt, file, new, output, errors),
         Task::Archive { .. } => tell_unbuilt(errors),
         Task::Work { port, rounds } => run_queue(rt, port, rounds, output, errors),
-        Task::Watch { .. } => tell_unbuilt(errors),
+        Task::Watch {
+            port,
+            rounds,
+            pause,
+        } => watch_queue(rt, port, rounds, pause, output, errors),
     }
 }
 

@@ -1,2 +1,5 @@
-mod TurnLemmas
 mod AnswerLemmas
+mod TurnLemmas
+mod EndLemmas
+mod ChangeLemmas
+mod LimitLemmas

@@ -1,35 +1,86 @@
 -- what the bureau's replies say, as JSON
-use Rattle.std.specs.Prelude.{ℕ, ◌≡◌, List, [], ◌∷◌, Option, Some, None, option_and_then, codes, string_bytes}
-use Rattle.serde_json.specs.Data.{Data}
-use Rattle.serde_json.specs.Find.{get, as_array, as_number, as_str, as_u64}
+use Rattle.std.specs.Prelude.{ℕ, ◌≡◌, ◌&&◌, Bool, List, [], ◌∷◌, Option, Some, None, IfSome, if◌then◌else◌, nat_le, option_and_then, option_map, codes}
+use Rattle.std.specs.Str.{IsUtf8}
+use Rattle.serde_json.specs.Data.{Data, Items, no_items, item}
+use Rattle.serde_json.specs.Find.{get, as_array, as_bool, as_number, as_str, as_u64}
 use Rattle.serde_json.specs.Read.{read as read_text}
-use Rattle.serde_json.specs.View.{items_of}
-use Rattle.queue_rounds.specs.declared.jobs.JobName.{JobName}
+use Rattle.queue_rounds.specs.Names.{Name, is_customer, is_number}
 
--- the number of a member
+-- a number, if it has 32 bits
+abbrev pub word_of : ℕ → Option ℕ
+word_of number = if nat_le number 4294967295 then Some number else None
+
+-- the number of a member, if it has 32 bits
 abbrev pub number_at : List ℕ → Data → Option ℕ
-number_at name value = option_and_then as_u64 (option_and_then as_number (get name value))
+number_at name value = option_and_then word_of
+    (option_and_then as_u64 (option_and_then as_number (get name value)))
 
 -- the text of a member
 abbrev pub text_at : List ℕ → Data → Option (List ℕ)
 text_at name value = option_and_then as_str (get name value)
 
--- a value names this job
-pub record IsJob (value : Data) (job : JobName) : Type 0 where
-  pub customer : text_at (codes "customer") value ≡ Some (string_bytes job.customer)
-  pub number : number_at (codes "number") value ≡ Some job.number
+-- the name of a customer and a number, if a bureau's job can have them
+abbrev pub name_with : List ℕ → ℕ → Option Name
+name_with customer number =
+    if is_customer customer && is_number number then Some (customer, number) else None
 
--- values name these jobs, one each and in order
-abbrev pub AreJobs : List Data → List JobName → Type 0
-AreJobs [] [] = Unit {0}
-AreJobs [] (job ∷ jobs) = ⊥
-AreJobs (value ∷ values) [] = ⊥
-AreJobs (value ∷ values) (job ∷ jobs) = IsJob value job × AreJobs values jobs
+-- the name of the job that an item of a queue tells
+abbrev pub name_in : Data → Option Name
+name_in value = option_and_then
+    (λ customer. option_and_then (name_with customer) (number_at (codes "number") value))
+    (text_at (codes "customer") value)
 
--- a body is JSON whose queue has these jobs
-pub record IsQueue (body : List ℕ) (jobs : List JobName) : Type 0 where
-  pub value : Data
-  pub read : read_text body ≡ Some value
-  pub values : List Data
-  pub queue : option_and_then as_array (get (codes "queue") value) ≡ Some (items_of values)
-  pub jobs_are : AreJobs values jobs
+-- the names that the items of a queue tell, if each tells one
+unfoldable pub names_in : Items → Option (List Name)
+names_in no_items = Some []
+names_in (item value rest) = option_and_then
+    (λ name. option_map (λ names. name ∷ names) (names_in rest)) (name_in value)
+
+-- the jobs of the queue that a value is
+abbrev pub queue_in : Data → Option (List Name)
+queue_in value =
+    option_and_then names_in (option_and_then as_array (get (codes "queue") value))
+
+-- the instructions that a slice executed, and how its job stands then
+abbrev pub ran_in : Data → Option (ℕ × List ℕ)
+ran_in value = option_and_then
+    (λ executed. option_map (λ standing. (executed, standing)) (text_at (codes "standing") value))
+    (number_at (codes "executed") value)
+
+-- the number of a refusal
+abbrev pub refusal_in : Data → Option ℕ
+refusal_in value = number_at (codes "refusal") value
+
+-- whether a member says true
+abbrev pub flag_at : List ℕ → Data → Option Bool
+flag_at name value = option_and_then as_bool (get name value)
+
+-- how a job stands: its standing, whether it is held and collected, and how many instructions it
+-- was granted, cards it punched and lines it printed
+pub record Stands : Type 0 where
+  pub standing : List ℕ
+  pub held : Bool
+  pub collected : Bool
+  pub granted : ℕ
+  pub cards : ℕ
+  pub lines : ℕ
+
+-- the standing that a value tells
+abbrev pub standing_in : Data → Option Stands
+standing_in value =
+    option_and_then (λ standing. option_and_then (λ held. option_and_then (λ collected.
+    option_and_then (λ granted. option_and_then (λ cards. option_map (λ lines. record {
+      standing = standing;
+      held = held;
+      collected = collected;
+      granted = granted;
+      cards = cards;
+      lines = lines;
+    }) (number_at (codes "lines") value)) (number_at (codes "cards") value))
+    (number_at (codes "granted") value)) (flag_at (codes "collected") value))
+    (flag_at (codes "held") value)) (text_at (codes "standing") value)
+
+-- what a body tells by a rule is this, and nothing if it is no text or no JSON
+pub record Tells {X : Type 0} (rule : Data → Option X) (body : List ℕ) (it : Option X) : Type 0 where
+  pub is_text : IfSome it (λ found. IsUtf8 body)
+  pub is_told : IsUtf8 body → it ≡ option_and_then rule (read_text body)

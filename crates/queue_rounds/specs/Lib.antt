@@ -1,2 +1,6 @@
-pub mod Turns
+pub mod Names
 pub mod Answers
+pub mod Standings
+pub mod Replies
+pub mod Rounds
+pub mod Runs

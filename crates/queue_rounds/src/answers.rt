@@ -1,12 +1,12 @@
 //! What the bureau's replies over HTTP say.
 
-ghost use Rattle.std.specs.Prelude.{◌≡◌, Some, None, IfOk, IfSome, option_map, map, codes, string_bytes};
+ghost use Rattle.std.specs.Prelude.{◌≡◌, Some, All, IfOk, IfSome, option_map, map, string_bytes};
 ghost use Rattle.serde_json.specs.Data.{Data};
-ghost use Rattle.serde_json.specs.Read.{read as read_text};
-ghost use Rattle.serde_json.specs.View.{view};
-ghost use Rattle.queue_rounds.specs.Answers.{AreJobs, IsJob, IsQueue, number_at, text_at};
+ghost use Rattle.serde_json.specs.View.{items_view, view};
+ghost use Rattle.queue_rounds.specs.Answers.{Tells, name_in, names_in, number_at, queue_in, ran_in, refusal_in, text_at};
+ghost use Rattle.queue_rounds.specs.Names.{IsName, name_of};
 
-use crate::jobs::JobName;
+use crate::jobs::{JobName, is_customer, is_number};
 use serde_json::Value;
 use std::alloc::{AllocError, Global};
 
@@ -20,9 +20,8 @@ pub struct Ran {
 }
 
 /// The JSON value that a body is, if it is one.
-fn read(alloc: Global, body: &[u8]) -> Result<Option<Value>, AllocError>
-    ensures { IfOk result (λ found. IfSome found (λ value.
-        read_text body.now ≡ Some (view value))) }
+pub(crate) fn read(alloc: Global, body: &[u8]) -> Result<Option<Value>, AllocError>
+    ensures { IfOk result (λ found. Tells Some body.now (option_map view found)) }
 {
     match Value::from_slice(alloc, body) {
         Ok(value) => Ok(Some(value)),
@@ -37,8 +36,8 @@ fn read(alloc: Global, body: &[u8]) -> Result<Option<Value>, AllocError>
 }
 
 /// The number of a member, if it has 32 bits.
-fn number_at(value: &Value, name: &str) -> Option<u32>
-    ensures { IfSome result (λ number. number_at name.now (view value.now) ≡ Some number) }
+pub(crate) fn number_at(value: &Value, name: &str) -> Option<u32>
+    ensures { result ≡ number_at name.now (view value.now) }
 {
     let Some(member) = value.get(name) else {
         return None;
@@ -54,7 +53,7 @@ fn number_at(value: &Value, name: &str) -> Option<u32>
 }
 
 /// The text of a member.
-fn text_at<'a>(value: &'a Value, name: &str) -> Option<&'a str>
+pub(crate) fn text_at<'a>(value: &'a Value, name: &str) -> Option<&'a str>
     ensures { option_map (λ text. text.now) result ≡ text_at name.now (view value.now) }
 {
     match value.get(name) {
@@ -63,9 +62,10 @@ fn text_at<'a>(value: &'a Value, name: &str) -> Option<&'a str>
     }
 }
 
-/// The name of a job in an item of the queue, if it is one.
+/// The name of a job in an item of the queue, if it is one of a bureau's.
 fn job_in(alloc: Global, item: &Value) -> Result<Option<JobName>, AllocError>
-    ensures { IfOk result (λ found. IfSome found (IsJob (view item.now))) }
+    ensures told { IfOk result (λ found. option_map name_of found ≡ name_in (view item.now)) }
+    ensures is_name { IfOk result (λ found. IfSome found IsName) }
 {
     let Some(customer) = text_at(item, "customer") else {
         return Ok(None);
@@ -73,14 +73,21 @@ fn job_in(alloc: Global, item: &Value) -> Result<Option<JobName>, AllocError>
     let Some(number) = number_at(item, "number") else {
         return Ok(None);
     };
+    if !is_customer(customer) {
+        return Ok(None);
+    }
+    if !is_number(number) {
+        return Ok(None);
+    }
     let customer = String::from_str(alloc, customer)?;
     Ok(Some(JobName { customer, number }))
 }
 
 /// The jobs in the items of a queue, if each is one.
 fn jobs_in(alloc: Global, items: &[Value]) -> Result<Option<Vec<JobName>>, AllocError>
-    ensures { IfOk result (λ found. IfSome found (λ jobs.
-        AreJobs (map view items.now) jobs.items)) }
+    ensures told { IfOk result (λ found.
+        option_map (λ jobs. map name_of jobs.items) found ≡ names_in (items_view items.now)) }
+    ensures are_names { IfOk result (λ found. IfSome found (λ jobs. All IsName jobs.items)) }
 {
     let mut jobs = Vec::new(alloc);
     for item in items {
@@ -92,14 +99,12 @@ fn jobs_in(alloc: Global, items: &[Value]) -> Result<Option<Vec<JobName>>, Alloc
     Ok(Some(jobs))
 }
 
-/// Returns the jobs of the queue that a body tells, in its order; none if it is no queue. Fails only
-/// if there is no memory.
-pub fn read_queue(alloc: Global, body: &[u8]) -> Result<Option<Vec<JobName>>, AllocError>
-    ensures { IfOk result (λ found. IfSome found (λ jobs. IsQueue body.now jobs.items)) }
+/// The jobs of the queue that a value is, if it is one.
+fn queue_in(alloc: Global, value: &Value) -> Result<Option<Vec<JobName>>, AllocError>
+    ensures told { IfOk result (λ found.
+        option_map (λ jobs. map name_of jobs.items) found ≡ queue_in (view value.now)) }
+    ensures are_names { IfOk result (λ found. IfSome found (λ jobs. All IsName jobs.items)) }
 {
-    let Some(value) = read(alloc, body)? else {
-        return Ok(None);
-    };
     let Some(queue) = value.get("queue") else {
         return Ok(None);
     };
@@ -109,33 +114,51 @@ pub fn read_queue(alloc: Global, body: &[u8]) -> Result<Option<Vec<JobName>>, Al
     }
 }
 
-/// Returns what a slice did that a body tells; none if it tells of no slice. Fails only if there is
-/// no memory.
-pub fn read_ran(alloc: Global, body: &[u8]) -> Result<Option<Ran>, AllocError>
-    ensures { IfOk result (λ found. IfSome found (λ ran. (value : Data)
-        × (read_text body.now ≡ Some value)
-        × (number_at (codes "executed") value ≡ Some ran.executed)
-        × (text_at (codes "standing") value ≡ Some (string_bytes ran.standing)))) }
+/// Returns the jobs of the queue that a body tells, in its order; none if it is no queue, as where a
+/// name is none of a bureau's. Fails only if there is no memory.
+pub fn read_queue(alloc: Global, body: &[u8]) -> Result<Option<Vec<JobName>>, AllocError>
+    ensures told { IfOk result (λ found.
+        Tells queue_in body.now (option_map (λ jobs. map name_of jobs.items) found)) }
+    ensures are_names { IfOk result (λ found. IfSome found (λ jobs. All IsName jobs.items)) }
 {
-    let Some(value) = read(alloc, body)? else {
+    match read(alloc, body)? {
+        Some(value) => queue_in(alloc, &value),
+        None => Ok(None),
+    }
+}
+
+/// What a slice did that a value tells.
+fn ran_in(alloc: Global, value: &Value) -> Result<Option<Ran>, AllocError>
+    ensures { IfOk result (λ found.
+        option_map (λ ran. (ran.executed, string_bytes ran.standing)) found
+        ≡ ran_in (view value.now)) }
+{
+    let Some(executed) = number_at(value, "executed") else {
         return Ok(None);
     };
-    let Some(executed) = number_at(&value, "executed") else {
-        return Ok(None);
-    };
-    let Some(standing) = text_at(&value, "standing") else {
+    let Some(standing) = text_at(value, "standing") else {
         return Ok(None);
     };
     let standing = String::from_str(alloc, standing)?;
     Ok(Some(Ran { executed, standing }))
 }
 
+/// Returns what a slice did that a body tells; none if it tells of no slice. Fails only if there
+/// is no memory.
+pub fn read_ran(alloc: Global, body: &[u8]) -> Result<Option<Ran>, AllocError>
+    ensures { IfOk result (λ found. Tells ran_in body.now
+        (option_map (λ ran. (ran.executed, string_bytes ran.standing)) found)) }
+{
+    match read(alloc, body)? {
+        Some(value) => ran_in(alloc, &value),
+        None => Ok(None),
+    }
+}
+
 /// Returns the number of the refusal that a body tells; none if it tells none. Fails only if there
 /// is no memory.
 pub fn read_refusal(alloc: Global, body: &[u8]) -> Result<Option<u32>, AllocError>
-    ensures { IfOk result (λ found. IfSome found (λ number. (value : Data)
-        × (read_text body.now ≡ Some value)
-        × (number_at (codes "refusal") value ≡ Some number))) }
+    ensures { IfOk result (Tells refusal_in body.now) }
 {
     match read(alloc, body)? {
         Some(value) => Ok(number_at(&value, "refusal")),

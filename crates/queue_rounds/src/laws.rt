@@ -1,24 +1,65 @@
-//! The laws of turns.
+//! The laws of rounds, and of the changes of a queue.
 
-ghost use Rattle.std.specs.Prelude.{◌≡◌, ◌+◌, ◌≤◌, ℕ, Bool, List, []};
-ghost use Rattle.queue_rounds.specs.Turns.{Heard, count, listings, slices, waiting_after_all};
-ghost use Rattle.queue_rounds.specs.declared.jobs.JobName.{JobName as Name};
+ghost use Rattle.std.specs.Prelude.{◌≡◌, ◌+◌, ◌≤◌, ◌&&◌, ◌||◌, ℕ, Bool, List, Option, Some, true, not};
+ghost use Rattle.std.specs.List.{list_all};
+ghost use Rattle.queue_rounds.specs.Names.{Name, is_among, missing};
+ghost use Rattle.queue_rounds.specs.Rounds.{start};
+ghost use Rattle.queue_rounds.specs.Runs.{after_all, all_go_on, begun_by, count, listed_by, none_ran, paused_by, sliced_by, total};
+ghost use Rattle.queue_rounds.specs.declared.jobs.JobName.{JobName};
+ghost use Rattle.queue_rounds.specs.declared.replies.Heard.{Heard};
 
 /// The law of rounds: a job has had one slice for each round that listed it, but for the last round
-/// if it still waits there. So each job of a round that is over has had exactly one slice of it.
+/// if it still waits there. So each job of a round that is over has had exactly one slice of it,
+/// and none that was sent is sent again in its round, however it was answered.
 #[tactic(auto, using(crate::proofs::TurnLemmas::once))]
 pub fn each_job_of_a_round_has_one_slice()
-    ensures { (is : Name → Bool) (answers : List Heard) →
-        slices is [] answers + count is (waiting_after_all [] answers)
-        ≡ listings is [] answers }
+    ensures { (most : Option ℕ) (is : JobName → Bool) (answers : List Heard) →
+        total (sliced_by is) (start most) answers
+        + count is (after_all (start most) answers).waiting
+        ≡ total (listed_by is) (start most) answers }
 {}
 
-/// The law of fair turns: of two jobs that were listed equally often, and of which none waits twice,
-/// none has had more than one slice more than the other.
+/// The law of fair turns: of two jobs that were listed equally often, and of which none waits
+/// twice, none has had more than one slice more than the other.
 #[tactic(auto, using(crate::proofs::TurnLemmas::fair))]
 pub fn turns_are_fair()
-    ensures { (is other : Name → Bool) (answers : List Heard) →
-        listings is [] answers ≡ listings other [] answers →
-        count other (waiting_after_all [] answers) ≤ 1 →
-        slices is [] answers ≤ slices other [] answers + 1 }
+    ensures { (most : Option ℕ) (is other : JobName → Bool) (answers : List Heard) →
+        total (listed_by is) (start most) answers ≡ total (listed_by other) (start most) answers →
+        count other (after_all (start most) answers).waiting ≤ 1 →
+        total (sliced_by is) (start most) answers
+        ≤ total (sliced_by other) (start most) answers + 1 }
+{}
+
+/// The law of the end: of answers in a row in which no slice ran, at most ten rounds are begun
+/// before the end, whatever was answered earlier; and a pause stands between two of them.
+#[tactic(auto, using(crate::proofs::EndLemmas::ten_rounds, crate::proofs::EndLemmas::with_pauses))]
+pub fn work_in_which_no_slice_runs_ends()
+    ensures end { (most : Option ℕ) (earlier later : List Heard) →
+        all_go_on (start most) earlier ≡ true →
+        all_go_on (after_all (start most) earlier) later ≡ true →
+        list_all none_ran later ≡ true →
+        total begun_by (after_all (start most) earlier) later ≤ 10 }
+    ensures pauses { (most : Option ℕ) (earlier later : List Heard) →
+        all_go_on (after_all (start most) earlier) later ≡ true →
+        list_all none_ran later ≡ true →
+        total begun_by (after_all (start most) earlier) later
+        ≤ total paused_by (after_all (start most) earlier) later + 1 }
+{}
+
+/// The law of the limit: of so many rounds that are asked for, one or more, none is begun beyond.
+#[tactic(auto, using(crate::proofs::LimitLemmas::as_asked))]
+pub fn no_more_rounds_than_asked_for()
+    ensures { (most : ℕ) (answers : List Heard) → 1 ≤ most →
+        all_go_on (start (Some most)) answers ≡ true →
+        total begun_by (start (Some most)) answers ≤ most }
+{}
+
+/// The law of changes: what was in a queue, without those that left and with those that came, has
+/// the same jobs as what is in it now.
+#[tactic(auto, using(crate::proofs::ChangeLemmas::leads))]
+pub fn changes_lead_to_the_next_queue()
+    ensures { (before now : List Name) (name : Name) →
+        is_among now name
+        ≡ ((is_among before name && not (is_among (missing before now) name))
+        || is_among (missing now before) name) }
 {}

@@ -1,17 +1,34 @@
-//! Turns: the jobs of a bureau's queue are run in rounds, one slice each.
+//! Rounds: the jobs of a bureau's queue are run in turns, one slice each, and its queue is watched.
 //!
 //! The operator asks a bureau that is being served for its queue, gives each job of it one slice,
-//! and asks again. [`Turns`] says what is next and hears what was answered. The contract: each job
-//! that a round lists has exactly one slice of it ([`each_job_of_a_round_has_one_slice`]), so no job
-//! has more than one slice more than another ([`turns_are_fair`]).
+//! and asks again. [`hear_queue`] and [`hear_slice`] say what a reply is, byte for byte. [`Rounds`]
+//! says what is asked for next and when there is a pause or an end: a state machine whose requests
+//! are a function of the replies (`specs/Rounds.antt`). Its laws:
+//! each job that a round lists has exactly one slice of it ([`each_job_of_a_round_has_one_slice`]);
+//! no job has more than one slice more than another ([`turns_are_fair`]); work in which no slice
+//! runs pauses, and ends after ten rounds ([`work_in_which_no_slice_runs_ends`]); and no round is
+//! begun beyond those that are asked for ([`no_more_rounds_than_asked_for`]).
+//!
+//! [`changes_between`] says which jobs left a queue and which came
+//! ([`changes_lead_to_the_next_queue`]).
 #![tactic(auto)]
 
 mod answers;
+mod changes;
 mod jobs;
 mod laws;
+mod replies;
+mod rounds;
+mod standings;
 mod turns;
 
 pub use answers::{Ran, read_queue, read_ran, read_refusal};
+pub use changes::{Changes, changes_between};
 pub use jobs::JobName;
-pub use laws::{each_job_of_a_round_has_one_slice, turns_are_fair};
-pub use turns::Turns;
+pub use laws::{
+    changes_lead_to_the_next_queue, each_job_of_a_round_has_one_slice,
+    no_more_rounds_than_asked_for, turns_are_fair, work_in_which_no_slice_runs_ends,
+};
+pub use replies::{Heard, Passed, Reply, hear_queue, hear_slice};
+pub use rounds::{MOST_BARREN, MOST_TRIES, Next, Rounds, Why};
+pub use standings::{Standing, read_standing};

@@ -1,9 +1,7 @@
 //! The turns of the jobs in a queue.
 
-ghost use Rattle.std.specs.Prelude.{◌≡◌, ◌+◌, ◌≤◌, ℕ, Bool, List, [], slice_get, option_copied};
-ghost use Rattle.queue_rounds.specs.Turns.{Heard, count, listings, slices, waiting_after, waiting_after_all};
-ghost use Rattle.queue_rounds.specs.Turns.Heard.{listed, sliced};
-ghost use Rattle.queue_rounds.specs.declared.jobs.JobName.{JobName as Name};
+ghost use Rattle.std.specs.Prelude.{◌≡◌, [], slice_get, option_copied};
+ghost use Rattle.queue_rounds.specs.Rounds.{behind_first, is_empty, waiting_or};
 
 use crate::jobs::JobName;
 use std::alloc::Global;
@@ -24,6 +22,13 @@ impl Turns {
         }
     }
 
+    /// Whether no job waits.
+    pub fn is_over(&self) -> bool
+        ensures { result ≡ is_empty self.now.waiting.items }
+    {
+        self.waiting.is_empty()
+    }
+
     /// The job that has its slice next; without one the queue is to be asked for.
     pub fn next(&self) -> Option<&JobName>
         ensures { option_copied result ≡ slice_get self.now.waiting.items 0 }
@@ -33,16 +38,16 @@ impl Turns {
 
     /// Begins a round with the jobs of the queue, if none waits.
     pub fn hear_queue(&mut self, jobs: Vec<JobName>)
-        ensures { self.new.waiting.items ≡ waiting_after self.old.waiting.items (listed jobs.items) }
+        ensures { self.new.waiting.items ≡ waiting_or self.old.waiting.items jobs.items }
     {
         if self.waiting.is_empty() {
             self.waiting = jobs;
         }
     }
 
-    /// The first job that waited had its slice, or another was faster.
+    /// The first job that waited had its turn.
     pub fn hear_slice(&mut self)
-        ensures { self.new.waiting.items ≡ waiting_after self.old.waiting.items sliced }
+        ensures { self.new.waiting.items ≡ behind_first self.old.waiting.items }
     {
         if !self.waiting.is_empty() {
             self.waiting.remove(0);

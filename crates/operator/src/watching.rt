@@ -1,0 +1,158 @@
+//! The row `watch`.
+
+use crate::clients::{QUEUE, ask};
+use command_line::Status;
+use queue_rounds::{Heard, JobName, Reply, Standing, changes_between, hear_queue, read_standing};
+use std::io::Write;
+use std::time::Duration;
+use std::{io, thread};
+
+/// What is known of the queue of a bureau.
+#[derive(Drop)]
+struct Watch {
+    port: u16,
+    /// The queue that was told last.
+    queue: Vec<JobName>,
+    /// Whether a queue was told.
+    began: bool,
+    /// Whether the bureau could not be asked last.
+    is_away: bool,
+}
+
+/// Asks how a job stands; none if that is not told.
+fn ask_standing(rt: &HostRuntime, port: u16, job: &JobName) -> io::Result<Option<Standing>> {
+    let customer = job.customer.as_str();
+    let number = job.number;
+    let request = format!(in rt.alloc();
+        "GET /c/{customer}/j/{number} HTTP/1.1\r\nHost: localhost\r\n\r\n"
+    )?;
+    match ask(rt, port, request.as_bytes())? {
+        Reply::Replied { status: 200, body } => Ok(read_standing(rt.alloc(), &body)?),
+        _ => Ok(None),
+    }
+}
+
+/// Prints how a job stands.
+fn tell_standing<W: Write>(standing: &Standing, output: &mut W) -> io::Result<()> {
+    let words = standing.standing.as_str();
+    let granted = standing.granted;
+    let cards = standing.cards;
+    let lines = standing.lines;
+    write!(output, "{words}")?;
+    if standing.held {
+        write!(output, ", held")?;
+    }
+    if standing.collected {
+        write!(output, ", collected")?;
+    }
+    writeln!(output, ", granted {granted}, cards {cards}, lines {lines}")
+}
+
+impl Watch {
+    /// Prints that a job left the queue, and how it stands.
+    fn tell_left<W: Write>(
+        &self,
+        rt: &HostRuntime,
+        job: &JobName,
+        output: &mut W,
+    ) -> io::Result<()> {
+        let customer = job.customer.as_str();
+        let number = job.number;
+        match ask_standing(rt, self.port, job)? {
+            Some(standing) => {
+                write!(output, "{customer} {number} left: ")?;
+                tell_standing(&standing, output)?;
+            }
+            None => writeln!(output, "{customer} {number} left")?,
+        }
+        output.flush()
+    }
+
+    /// Prints which jobs left and came from the queue before to this one.
+    fn tell_queue<W: Write>(
+        &mut self,
+        rt: &HostRuntime,
+        queue: Vec<JobName>,
+        output: &mut W,
+    ) -> io::Result<()> {
+        if !self.began && queue.is_empty() {
+            writeln!(output, "queue empty")?;
+            output.flush()?;
+        }
+        let changes = changes_between(rt.alloc(), &self.queue, &queue)?;
+        for job in &changes.left {
+            self.tell_left(rt, job, output)?;
+        }
+        for job in &changes.came {
+            let customer = job.customer.as_str();
+            let number = job.number;
+            writeln!(output, "{customer} {number} came")?;
+            output.flush()?;
+        }
+        self.queue = queue;
+        self.began = true;
+        Ok(())
+    }
+
+    /// Prints that the bureau stopped answering, or that it answers again.
+    fn tell_away<W: Write>(&mut self, is_away: bool, output: &mut W) -> io::Result<()> {
+        let port = self.port;
+        if is_away && !self.is_away {
+            writeln!(output, "port {port}: no answer")?;
+        }
+        if !is_away && self.is_away {
+            writeln!(output, "port {port}: answers again")?;
+        }
+        self.is_away = is_away;
+        output.flush()
+    }
+
+    /// Asks for the queue, and prints what changed. Returns whether a bureau answers there, or
+    /// nobody.
+    fn look<W: Write>(&mut self, rt: &HostRuntime, output: &mut W) -> io::Result<bool> {
+        let reply = ask(rt, self.port, QUEUE)?;
+        match hear_queue(rt.alloc(), &reply)? {
+            Heard::Listed(queue) => {
+                self.tell_away(false, output)?;
+                self.tell_queue(rt, queue, output)?;
+                Ok(true)
+            }
+            Heard::Nothing => {
+                self.tell_away(true, output)?;
+                Ok(true)
+            }
+            _ => Ok(false),
+        }
+    }
+}
+
+/// Prints what comes into the queue of the bureau that is served at a port, and what leaves it.
+pub(crate) fn watch_queue<W: Write, E: Write>(
+    rt: &HostRuntime,
+    port: u16,
+    rounds: Option<u32>,
+    pause: u32,
+    output: &mut W,
+    errors: &mut E,
+) -> io::Result<Status> {
+    let mut watch = Watch {
+        port,
+        queue: Vec::new(rt.alloc()),
+        began: false,
+        is_away: false,
+    };
+    let most = match rounds {
+        Some(rounds) => u64::from(rounds),
+        None => u64::MAX,
+    };
+    for round in 0..most {
+        if round > 0 {
+            thread::sleep(rt, Duration::from_secs(u64::from(pause)));
+        }
+        if !watch.look(rt, output)? {
+            writeln!(errors, "port {port}: the answer is not that of a bureau")?;
+            return Ok(Status::NotDone);
+        }
+    }
+    Ok(Status::Done)
+}

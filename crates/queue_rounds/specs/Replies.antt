@@ -1,0 +1,60 @@
+-- what a bureau's replies to the requests of the work on its queue say
+use Rattle.std.specs.Prelude.{ℕ, ◌≡◌, ◌≢◌, ◌&&◌, Bool, true, false, List, Some, None, map, nat_le, string_bytes}
+use Rattle.queue_rounds.specs.Answers.{Tells, queue_in, ran_in, refusal_in}
+use Rattle.queue_rounds.specs.Names.{name_of}
+use Rattle.queue_rounds.specs.declared.replies.Heard.{Heard}
+use Rattle.queue_rounds.specs.declared.replies.Heard.TheVariants as heard
+use Rattle.queue_rounds.specs.declared.replies.Passed.TheVariants as passed
+use Rattle.queue_rounds.specs.declared.replies.Reply.{Reply}
+use Rattle.queue_rounds.specs.declared.replies.Reply.TheVariants as reply
+
+-- whether a status says that the server failed
+abbrev pub is_failure : ℕ → Bool
+is_failure status = nat_le 500 status && nat_le status 599
+
+-- a body says the jobs of a queue, or none
+abbrev pub IsQueueTold : List ℕ → Heard → Type 0
+IsQueueTold body (heard.Listed jobs) = Tells queue_in body (Some (map name_of jobs.items))
+IsQueueTold body heard.Foreign = Tells queue_in body None
+IsQueueTold body other = ⊥
+
+-- a status and a body say the jobs of a queue, or that the bureau failed
+pub record IsQueueReplied (status : ℕ) (body : List ℕ) (it : Heard) : Type 0 where
+  pub failed : is_failure status ≡ true → it ≡ heard.Nothing
+  pub told : status ≡ 200 → IsQueueTold body it
+  pub other : is_failure status ≡ false → status ≢ 200 → it ≡ heard.Foreign
+
+-- what the reply to the request for the queue says
+abbrev pub IsQueueHeard : Reply → Heard → Type 0
+IsQueueHeard reply.Unsent it = it ≡ heard.Nothing
+IsQueueHeard reply.Lost it = it ≡ heard.Nothing
+IsQueueHeard (reply.Replied status body) it = IsQueueReplied status body.items it
+
+-- a body says what a slice did, or does not
+abbrev pub IsRanTold : List ℕ → Heard → Type 0
+IsRanTold body (heard.Ran ran) =
+    Tells ran_in body (Some (ran.executed, string_bytes ran.standing))
+IsRanTold body heard.Foreign = Tells ran_in body None
+IsRanTold body other = ⊥
+
+-- a body says the number of a refusal, or does not
+abbrev pub IsRefusalTold : List ℕ → Heard → Type 0
+IsRefusalTold body (heard.Passed (passed.Refused number)) = Tells refusal_in body (Some number)
+IsRefusalTold body heard.Foreign = Tells refusal_in body None
+IsRefusalTold body other = ⊥
+
+-- a status other than 200 and a body say why a slice did not run
+pub record IsSlicePassed (status : ℕ) (body : List ℕ) (it : Heard) : Type 0 where
+  pub failed : is_failure status ≡ true → it ≡ heard.Passed (passed.Failed status)
+  pub told : is_failure status ≡ false → IsRefusalTold body it
+
+-- a status and a body say what a slice did, or why it did not run
+pub record IsSliceReplied (status : ℕ) (body : List ℕ) (it : Heard) : Type 0 where
+  pub told : status ≡ 200 → IsRanTold body it
+  pub passed : status ≢ 200 → IsSlicePassed status body it
+
+-- what the reply to the request for a slice says: one that was sent and not answered has passed
+abbrev pub IsSliceHeard : Reply → Heard → Type 0
+IsSliceHeard reply.Unsent it = it ≡ heard.Nothing
+IsSliceHeard reply.Lost it = it ≡ heard.Passed passed.Lost
+IsSliceHeard (reply.Replied status body) it = IsSliceReplied status body.items it

@@ -1,0 +1,120 @@
+//! What a bureau answers to the requests of the work on its queue.
+
+ghost use Rattle.std.specs.Prelude.{◌≡◌, IfOk};
+ghost use Rattle.queue_rounds.specs.Replies.{IsQueueHeard, IsQueueReplied, IsSliceHeard, IsSlicePassed, IsSliceReplied, is_failure};
+
+use crate::answers::{Ran, read_queue, read_ran, read_refusal};
+use crate::jobs::JobName;
+use std::alloc::{AllocError, Global};
+
+/// What came of a request.
+#[derive(Drop)]
+pub enum Reply {
+    /// No bureau could be reached: the request was not sent.
+    Unsent,
+    /// It was sent, at least in part, and not answered.
+    Lost,
+    /// It was answered with this status and this body.
+    Replied {
+        /// The status.
+        status: u16,
+        /// The body.
+        body: Vec<u8>,
+    },
+}
+
+/// Why a slice did not run, as far as is known.
+#[derive(Clone, Copy)]
+pub enum Passed {
+    /// It was refused, with this number.
+    Refused(u32),
+    /// The bureau failed, with this status.
+    Failed(u16),
+    /// It was sent and not answered.
+    Lost,
+}
+
+/// What a reply says.
+#[derive(Drop)]
+pub enum Heard {
+    /// The queue has these jobs.
+    Listed(Vec<JobName>),
+    /// A job had its slice.
+    Ran(Ran),
+    /// A job's slice did not run.
+    Passed(Passed),
+    /// Nothing: the request may be made again.
+    Nothing,
+    /// Nothing that a bureau says.
+    Foreign,
+}
+
+/// Whether a status says that the server failed.
+fn is_failure(status: u16) -> bool
+    ensures { result ≡ is_failure status }
+{
+    500 <= status && status <= 599
+}
+
+/// What the body of a queue says.
+fn hear_queue_body(alloc: Global, status: u16, body: &[u8]) -> Result<Heard, AllocError>
+    ensures { IfOk result (IsQueueReplied status body.now) }
+{
+    if status == 200 {
+        return match read_queue(alloc, body)? {
+            Some(jobs) => Ok(Heard::Listed(jobs)),
+            None => Ok(Heard::Foreign),
+        };
+    }
+    if is_failure(status) {
+        return Ok(Heard::Nothing);
+    }
+    Ok(Heard::Foreign)
+}
+
+/// Returns what the reply to the request for the queue says. Fails only if there is no memory.
+pub fn hear_queue(alloc: Global, reply: &Reply) -> Result<Heard, AllocError>
+    ensures { IfOk result (IsQueueHeard reply.now) }
+{
+    match reply {
+        Reply::Replied { status, body } => hear_queue_body(alloc, *status, body),
+        _ => Ok(Heard::Nothing),
+    }
+}
+
+/// What the reply to a slice with another status than 200 says.
+fn hear_refusal(alloc: Global, status: u16, body: &[u8]) -> Result<Heard, AllocError>
+    ensures { IfOk result (IsSlicePassed status body.now) }
+{
+    if is_failure(status) {
+        return Ok(Heard::Passed(Passed::Failed(status)));
+    }
+    match read_refusal(alloc, body)? {
+        Some(number) => Ok(Heard::Passed(Passed::Refused(number))),
+        None => Ok(Heard::Foreign),
+    }
+}
+
+/// What the reply to a slice says.
+fn hear_slice_body(alloc: Global, status: u16, body: &[u8]) -> Result<Heard, AllocError>
+    ensures { IfOk result (IsSliceReplied status body.now) }
+{
+    if status != 200 {
+        return hear_refusal(alloc, status, body);
+    }
+    match read_ran(alloc, body)? {
+        Some(ran) => Ok(Heard::Ran(ran)),
+        None => Ok(Heard::Foreign),
+    }
+}
+
+/// Returns what the reply to the request for a slice says. Fails only if there is no memory.
+pub fn hear_slice(alloc: Global, reply: &Reply) -> Result<Heard, AllocError>
+    ensures { IfOk result (IsSliceHeard reply.now) }
+{
+    match reply {
+        Reply::Unsent => Ok(Heard::Nothing),
+        Reply::Lost => Ok(Heard::Passed(Passed::Lost)),
+        Reply::Replied { status, body } => hear_slice_body(alloc, *status, body),
+    }
+}
