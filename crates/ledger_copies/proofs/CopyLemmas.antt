@@ -1,11 +1,10 @@
 -- Databases with the same rows stand for the same office.
-use Rattle.std.proofs.Common.{◌≡◌, ◌↔◌, ℕ, List, [], ◌∷◌, map, Option, Some, None, IsNone, sym, ap, subst, ◌∙◌, true≢false}
+use Rattle.std.proofs.Common.{◌≡◌, map, Option, Some, None, sym, ap, subst, ◌∙◌, true≢false}
 use Rattle.std.specs.List.Sorted.{IsPermutation}
 use Rattle.std.proofs.lemmas.List.Sorted.{IsPermutation-sym, IsPermutation-trans}
 use Rattle.office.specs.Office.{Office}
 use Rattle.sqlite.proofs.Callers.{one_permutation}
 use Rattle.sqlite.specs.Effect.{Database}
-use Rattle.sqlite.specs.Order.{Row}
 use Rattle.ledger_tables.specs.Tables as row
 use Rattle.ledger_tables.specs.Tables.{cells, version_rows}
 use Rattle.ledger.specs.Standing.{Rows}
