@@ -1,0 +1,24 @@
+use Rattle.std.proofs.Common.{◌≡◌, false, IsTrue, sym, subst, rules}
+use Rattle.sqlite.specs.State.{HasCleanDisk, IsRolledBack, KeepsCommit, Survives}
+use Rattle.sqlite.specs.Held.{state}
+use Rattle.ledger.specs.Standing.{Stands, StandsIn}
+use Rattle.ledger.proofs.BureauTransactions.{rolled_untouched}
+use Rattle.ledger_archives.proofs.NameReads.{names_read, still_stands}
+use Rattle.ledger_archives.proofs.names.read_names.Goals as goal
+
+pub returns-in-Ok-clause-names : goal.returns-in-Ok-clause-names
+returns-in-Ok-clause-names g c clean office seen s =
+    let begun = c.transaction-tx.ensures.begun in
+    let tx = c.transaction-tx.result.conn.now in
+    let mid = c.query_all-found.new.self.conn.now in
+    let end = c.rollback.new.self.0 in
+    let same : end ≡ c.conn-1.given.0 = search rules in
+    let late : HasCleanDisk (state g.S.Store end) = search rules in
+    let early : HasCleanDisk (state g.S.Store mid) = search (rules, c.rollback.ensures.survives.clean) in
+    let there : StandsIn (state g.S.Store tx) office = rw begun seen in
+    let did = names_read (state g.S.Store tx) (state g.S.Store mid) c.in-Ok.rows.items office (c.in-Ok.ensures.ok early) there in
+    let kept : KeepsCommit (state g.S.Store tx) (state g.S.Store mid) = record { was_open = λ _. did.0.0.was_open; committed = λ _. did.0.0.committed_is } in
+    let settled : IsTrue (state g.S.Store c.args.conn.now).is_open → (state g.S.Store c.args.conn.now).now ≡ (state g.S.Store c.args.conn.now).committed = search rules in
+    let outside : c.args.conn.now.in_transaction ≡ false = search rules in
+    let all = rolled_untouched g.S.Store c.args.conn.now tx mid end begun settled outside kept c.in-Ok.ensures.survives early (c.rollback.ensures.undone late) c.rollback.ensures.survives late in
+    (seen.tables.shared.distinct, subst (λ h. Stands (state g.S.Store h) office) same (still_stands _ _ office all seen s), did.1)

@@ -1,0 +1,4 @@
+pub mod Archives
+pub mod Lists
+pub mod Names
+pub mod Records

@@ -1,0 +1,75 @@
+-- the record of a job: a word and its values a line
+use Rattle.std.specs.Prelude.{ℕ, Bool, true, false, List, ◌++◌, codes, decimal, flat_map}
+use Rattle.hex.specs.Hex.{encode_lower}
+use Rattle.sha2.specs.Sha256.{sha256}
+use Rattle.core_store.specs.Storage.{positions_of}
+use Rattle.machine.specs.Standings.{standing_words}
+use Rattle.office.specs.Kept.{kept_of, summary_of}
+use Rattle.office.specs.Office.{Entry}
+use Rattle.office.specs.declared.commands.Kind.{Kind}
+use Rattle.office.specs.declared.commands.Kind.TheVariants.{Object, Autocoder}
+use Rattle.office.specs.declared.stretches.Stretch.{Stretch}
+use Rattle.office.specs.declared.summaries.Summary.{Summary}
+use Rattle.texts.specs.Switches as switches
+
+-- a line with a word and its value
+abbrev pub line : List ℕ → List ℕ → List ℕ
+line word value = word ++ codes " " ++ value ++ codes "\n"
+
+-- the word for a kind
+abbrev pub kind_word : Kind → List ℕ
+kind_word Object = codes "object"
+kind_word Autocoder = codes "autocoder"
+
+-- the word for a flag
+abbrev pub yes_or_no : Bool → List ℕ
+yes_or_no true = codes "yes"
+yes_or_no false = codes "no"
+
+-- the line of a stretch: the letters of its switches, and how many instructions were granted in it
+abbrev pub stretch_line : Stretch → List ℕ
+stretch_line s = codes "stretch " ++ switches.text_of s.switches ++ codes " " ++ decimal s.granted
+    ++ codes "\n"
+
+-- the digest of bytes: their SHA-256, in lower-case hexadecimal digits
+abbrev pub digest_of : List ℕ → List ℕ
+digest_of bytes = encode_lower (sha256 bytes)
+
+-- the line of a file: the digest of its bytes, and its name
+abbrev pub digest_line : List ℕ → List ℕ → List ℕ
+digest_line name bytes = codes "sha256 " ++ digest_of bytes ++ codes " " ++ name ++ codes "\n"
+
+-- the lines of a job's name
+unfoldable pub name_lines : Entry → List ℕ
+name_lines e = line (codes "customer") e.customer ++ line (codes "number") (decimal e.number)
+
+-- the lines of what was handed in with a job's deck
+unfoldable pub machine_lines : Entry → List ℕ
+machine_lines e = line (codes "kind") (kind_word e.job.kind)
+    ++ line (codes "size") (decimal (positions_of e.job.size))
+
+-- the lines of how a job stands
+unfoldable pub standing_lines : Summary → List ℕ
+standing_lines summary = line (codes "standing") (standing_words summary.standing)
+    ++ line (codes "held") (yes_or_no summary.held)
+    ++ line (codes "collected") (yes_or_no summary.collected)
+
+-- the lines of how many cards and lines a job has made
+unfoldable pub made_lines : Summary → List ℕ
+made_lines summary = line (codes "cards") (decimal summary.cards)
+    ++ line (codes "lines") (decimal summary.lines)
+
+-- the lines of a job's files with these bytes
+unfoldable pub digest_lines : List ℕ → List ℕ → List ℕ → List ℕ → List ℕ → List ℕ
+digest_lines deck loaded lines punched cards = digest_line (codes "deck.text") deck
+    ++ digest_line (codes "loaded.text") loaded ++ digest_line (codes "lines.text") lines
+    ++ digest_line (codes "cards.punch") punched ++ digest_line (codes "cards.text") cards
+
+-- the record of a job with these files: its name, its kind and size, a line for each stretch, how it
+-- stands, how much it has made, and its files
+unfoldable pub record_of : Entry → List ℕ → List ℕ → List ℕ → List ℕ → List ℕ → List ℕ
+record_of e deck loaded lines punched cards =
+    let summary : Summary = summary_of (kept_of e.job) in
+    name_lines e ++ machine_lines e ++ flat_map stretch_line e.job.stretches
+    ++ standing_lines summary ++ made_lines summary
+    ++ digest_lines deck loaded lines punched cards

@@ -1,0 +1,72 @@
+//! Lines of a record: a word, and its values.
+
+ghost use Rattle.std.specs.Prelude.{◌≡◌, ◌++◌, codes, decimal, OnOk};
+ghost use Rattle.ledger_archives.specs.Records.{digest_line, digest_of, line, stretch_line};
+
+use itoa::Buffer;
+use office::Stretch;
+use sha2::{Digest, Sha256};
+use std::alloc::{AllocError, Global};
+use texts::push_switches;
+
+/// Adds a number.
+pub(crate) fn push_decimal(out: &mut Vec<u8>, number: usize) -> Result<(), AllocError>
+    ensures { OnOk result (out.new.items ≡ out.old.items ++ decimal number) }
+{
+    let mut buffer = Buffer::new();
+    out.extend_from_slice(buffer.format(number).as_bytes())
+}
+
+/// Adds a line with a word and its value.
+pub(crate) fn push_line(out: &mut Vec<u8>, word: &str, value: &[u8]) -> Result<(), AllocError>
+    ensures { OnOk result (out.new.items ≡ out.old.items ++ line word.now value.now) }
+{
+    out.extend_from_slice(word.as_bytes())?;
+    out.extend_from_slice(b" ")?;
+    out.extend_from_slice(value)?;
+    out.extend_from_slice(b"\n")
+}
+
+/// Adds a line with a word and a number.
+pub(crate) fn push_number(out: &mut Vec<u8>, word: &str, number: usize) -> Result<(), AllocError>
+    ensures { OnOk result (out.new.items ≡ out.old.items ++ line word.now (decimal number)) }
+{
+    let mut buffer = Buffer::new();
+    push_line(out, word, buffer.format(number).as_bytes())
+}
+
+/// Adds the line of a stretch: its switches, and how many instructions were granted.
+pub(crate) fn push_stretch(out: &mut Vec<u8>, stretch: Stretch) -> Result<(), AllocError>
+    ensures { OnOk result (out.new.items ≡ out.old.items ++ stretch_line stretch) }
+{
+    out.extend_from_slice(b"stretch ")?;
+    push_switches(out, stretch.switches)?;
+    out.extend_from_slice(b" ")?;
+    push_decimal(out, stretch.granted as usize)?;
+    out.extend_from_slice(b"\n")
+}
+
+/// Adds the SHA-256 of bytes (FIPS 180-4) in lower-case hexadecimal digits.
+fn push_digest(alloc: Global, out: &mut Vec<u8>, bytes: &[u8]) -> Result<(), AllocError>
+    ensures { OnOk result (out.new.items ≡ out.old.items ++ digest_of bytes.now) }
+{
+    let digest = Sha256::digest(bytes);
+    let digits = hex::encode(alloc, &digest)?;
+    out.extend_from_slice(digits.as_bytes())
+}
+
+/// Adds the line of a file: the digest of its bytes, and its name.
+pub(crate) fn push_file(
+    alloc: Global,
+    out: &mut Vec<u8>,
+    name: &str,
+    bytes: &[u8],
+) -> Result<(), AllocError>
+    ensures { OnOk result (out.new.items ≡ out.old.items ++ digest_line name.now bytes.now) }
+{
+    out.extend_from_slice(b"sha256 ")?;
+    push_digest(alloc, out, bytes)?;
+    out.extend_from_slice(b" ")?;
+    out.extend_from_slice(name.as_bytes())?;
+    out.extend_from_slice(b"\n")
+}

@@ -1,0 +1,244 @@
+//! The list of a bureau's jobs.
+
+ghost use Rattle.std.specs.Prelude.{◌≡◌, ◌≤◌, ◌++◌, decimal, option_map, Some, IfOk, OnOk};
+ghost use Rattle.office.specs.Jobs.{Job};
+ghost use Rattle.office.specs.Kept.{kept_of, summary_of};
+ghost use Rattle.office.specs.Office.{job_of};
+ghost use Rattle.sqlite.specs.Held.{state};
+ghost use Rattle.sqlite.specs.View.{doubt};
+ghost use Rattle.ledger_archives.specs.Lists.{FindsStill, flag_words, if_set, is_of, listed_line, made_words, summary_words};
+
+use crate::lines::push_decimal;
+use crate::names::read_names;
+use ledger::Bureau;
+use ledger_tables::{Fault, JobName, OpenFault};
+use machine::Meter;
+use office::{Command, JobCommand, Reply, Summary};
+use sqlite::types::ValueRef;
+use sqlite::{Alter, Connection, Row};
+use sqlite_trees::store::Store;
+use std::alloc::{AllocError, Global};
+
+/// Adds words, if a flag is set.
+fn push_if(out: &mut Vec<u8>, flag: bool, words: &str) -> Result<(), AllocError>
+    ensures { OnOk result (out.new.items ≡ out.old.items ++ if_set flag words.now) }
+{
+    if flag {
+        return out.extend_from_slice(words.as_bytes());
+    }
+    Ok(())
+}
+
+/// Adds words and a number after them.
+fn push_counted(out: &mut Vec<u8>, words: &str, number: usize) -> Result<(), AllocError>
+    ensures { OnOk result (out.new.items ≡ out.old.items ++ words.now ++ decimal number) }
+{
+    out.extend_from_slice(words.as_bytes())?;
+    push_decimal(out, number)
+}
+
+/// Adds what was granted and made.
+#[tactic(auto, unfolding(crate::specs::Lists::made_words))]
+fn push_made(out: &mut Vec<u8>, summary: Summary) -> Result<(), AllocError>
+    ensures { OnOk result (out.new.items ≡ out.old.items ++ made_words summary) }
+{
+    push_counted(out, " granted ", summary.granted as usize)?;
+    push_counted(out, " cards ", summary.cards as usize)?;
+    push_counted(out, " lines ", summary.lines as usize)
+}
+
+/// Adds the flags, and ends the line.
+#[tactic(auto, unfolding(crate::specs::Lists::flag_words))]
+fn push_flags(out: &mut Vec<u8>, summary: Summary) -> Result<(), AllocError>
+    ensures { OnOk result (out.new.items ≡ out.old.items ++ flag_words summary) }
+{
+    push_if(out, summary.held, " held")?;
+    push_if(out, summary.collected, " collected")?;
+    out.extend_from_slice(b"\n")
+}
+
+/// Adds a standing, what was granted and made, and the flags.
+#[tactic(auto, unfolding(crate::specs::Lists::summary_words))]
+fn push_summary(alloc: Global, out: &mut Vec<u8>, summary: Summary) -> Result<(), AllocError>
+    ensures { OnOk result (out.new.items ≡ out.old.items ++ summary_words summary) }
+{
+    let standing = summary.standing.to_string(alloc)?;
+    out.extend_from_slice(standing.as_bytes())?;
+    push_made(out, summary)?;
+    push_flags(out, summary)
+}
+
+/// Adds the line of a job.
+#[tactic(auto, unfolding(crate::specs::Lists::listed_line))]
+fn push_job(
+    alloc: Global,
+    out: &mut Vec<u8>,
+    name: JobName<'_>,
+    summary: Summary,
+) -> Result<(), AllocError>
+    ensures { OnOk result (out.new.items ≡ out.old.items
+        ++ listed_line name.entry.customer.now name.entry.number summary) }
+{
+    out.extend_from_slice(name.customer.as_bytes())?;
+    push_counted(out, " ", name.number as usize)?;
+    out.extend_from_slice(b" ")?;
+    push_summary(alloc, out, summary)
+}
+
+/// The summary of the job of this name, by the bureau's own command.
+fn ask<S: Alter>(alloc: Global, bureau: &mut Bureau<S>, name: JobName<'_>) -> Result<Summary, Fault>
+    ensures told { FindsStill S.Store bureau.old.conn bureau.new.conn result
+        (λ office summary. (job : Job)
+        → job_of name.entry.customer.now name.entry.number office ≡ Some job
+        → summary ≡ summary_of (kept_of job)) }
+    ensures clean { doubt (state S.Store bureau.old.conn).is_clean
+        ≤ doubt (state S.Store bureau.new.conn).is_clean }
+{
+    let command = Command::Job {
+        customer: String::from_str(alloc, name.customer)?,
+        number: name.number,
+        command: JobCommand::Standing,
+    };
+    match bureau.apply(&command, &mut Meter::new())? {
+        Reply::Standing(summary) => Ok(summary),
+        _ => Err(Fault::Store),
+    }
+}
+
+/// The customer in the first column of a row.
+fn customer_in(row: &Row) -> Option<&str> {
+    match row.get_ref(0) {
+        Ok(ValueRef::Text(bytes)) => std::str::from_utf8(bytes).ok(),
+        _ => None,
+    }
+}
+
+/// The number in the second column of a row.
+fn number_in(row: &Row) -> Option<u32> {
+    match row.get_ref(1) {
+        Ok(ValueRef::Int(number)) => u32::try_from(number).ok(),
+        _ => None,
+    }
+}
+
+/// The name of the job that a row names.
+fn name_in(row: &Row) -> Result<JobName<'_>, Fault> {
+    let (Some(customer), Some(number)) = (customer_in(row), number_in(row)) else {
+        return Err(Fault::Store);
+    };
+    Ok(JobName { customer, number })
+}
+
+/// Whether a job of this customer is asked for.
+fn is_asked(asked: Option<&str>, customer: &str) -> bool
+    ensures { result ≡ is_of (option_map (λ it. it.now) asked.entry) customer.now }
+{
+    match asked {
+        Some(asked) => customer == asked,
+        None => true,
+    }
+}
+
+/// Adds the line of the job of this name, if it is asked for. Returns how many lines were added.
+fn push_named<S: Alter>(
+    alloc: Global,
+    bureau: &mut Bureau<S>,
+    out: &mut Vec<u8>,
+    asked: Option<&str>,
+    name: JobName<'_>,
+) -> Result<usize, Fault>
+    ensures one { IfOk result (λ count. count ≤ 1) }
+    ensures clean { doubt (state S.Store bureau.old.conn).is_clean
+        ≤ doubt (state S.Store bureau.new.conn).is_clean }
+{
+    if !is_asked(asked, name.customer) {
+        return Ok(0);
+    }
+    let summary = ask(alloc, bureau, name)?;
+    push_job(alloc, out, name, summary)?;
+    Ok(1)
+}
+
+/// Adds the line of the job that a row names, if it is asked for. Returns how many lines were added.
+fn push_row<S: Alter>(
+    alloc: Global,
+    bureau: &mut Bureau<S>,
+    out: &mut Vec<u8>,
+    asked: Option<&str>,
+    row: &Row,
+) -> Result<usize, Fault>
+    ensures one { IfOk result (λ count. count ≤ 1) }
+    ensures clean { doubt (state S.Store bureau.old.conn).is_clean
+        ≤ doubt (state S.Store bureau.new.conn).is_clean }
+{
+    let name = name_in(row)?;
+    push_named(alloc, bureau, out, asked, name)
+}
+
+/// The list of the jobs that these rows name.
+fn list_named<S: Alter>(
+    alloc: Global,
+    bureau: &mut Bureau<S>,
+    asked: Option<&str>,
+    rows: &[Row],
+) -> Result<Vec<u8>, Fault>
+    ensures clean { doubt (state S.Store bureau.old.conn).is_clean
+        ≤ doubt (state S.Store bureau.new.conn).is_clean }
+{
+    let mut out = Vec::new(alloc);
+    let mut jobs = 0usize;
+    for row in rows {
+        jobs += push_row(alloc, bureau, &mut out, asked, row)?;
+    }
+    push_counted(&mut out, "jobs ", jobs)?;
+    out.extend_from_slice(b"\n")?;
+    Ok(out)
+}
+
+/// The fault of a file's opening for a fault of its tables.
+fn opening(fault: Fault) -> OpenFault {
+    match fault {
+        Fault::NoMemory => OpenFault::NoMemory,
+        Fault::Store => OpenFault::Store,
+    }
+}
+
+/// The list of the jobs of a connection, which is handed back.
+fn list_in<S: Alter + Drop>(
+    alloc: Global,
+    conn: Connection<S>,
+    asked: Option<&str>,
+) -> (Result<Vec<u8>, OpenFault>, Connection<S>) {
+    let mut conn = conn;
+    let rows = match read_names(&mut conn) {
+        Ok(rows) => rows,
+        Err(fault) => return (Err(opening(fault)), conn),
+    };
+    let mut bureau = match Bureau::adopt(alloc, conn) {
+        Ok(bureau) => bureau,
+        Err((fault, conn)) => return (Err(fault), conn),
+    };
+    let listed = list_named(alloc, &mut bureau, asked, &rows);
+    let conn = bureau.into_connection();
+    match listed {
+        Ok(text) => (Ok(text), conn),
+        Err(fault) => (Err(opening(fault)), conn),
+    }
+}
+
+/// Returns the list of a bureau's jobs, or of those of one customer, in the order in which the
+/// bureau took them, and hands the store back. Nothing is written. Fails with 1 if there is no
+/// memory, with 2 if the store fails or its rows are damaged, and with 50 or 51 if the tables are
+/// not a bureau's of this version.
+pub fn list_jobs<S: Alter + Drop>(
+    alloc: Global,
+    conn: Connection<S>,
+    asked: Option<&str>,
+) -> (Result<Vec<u8>, OpenFault>, S) {
+    let (listed, conn) = list_in(alloc, conn, asked);
+    let store = conn.into_store();
+    if store.is_broken() {
+        return (Err(OpenFault::Store), store);
+    }
+    (listed, store)
+}
