@@ -14,9 +14,7 @@ mod listing;
 mod names;
 mod punched;
 mod records;
-mod rows;
 
 pub use archives::{Archive, ArchivedFile, files_of};
 pub use laws::archives_are_read;
 pub use listing::list_jobs;
-pub use rows::read_rows;

@@ -1,5 +1,5 @@
 -- A job that was run again is as its rows say.
-use Rattle.std.proofs.Common.{◌≡◌, ℕ, pos, List, [], ◌∷◌, All, take, ap, subst, ◌∙◌}
+use Rattle.std.proofs.Common.{◌≡◌, ℕ, List, All, take, ap, subst, ◌∙◌}
 use Rattle.cards.specs.declared.decks.Card.{Card}
 use Rattle.cards.specs.Decks.{deck_bytes, IsDeck}
 use Rattle.machine.specs.Run.{State, lines_of}
@@ -12,8 +12,7 @@ use Rattle.office.specs.declared.stretches.Stretch.{Stretch}
 use Rattle.ledger_rows.specs.Columns.{HoldsCharacters, IsLine}
 use Rattle.ledger_rows.specs.Pockets.{IsPunched}
 use Rattle.sqlite.specs.Order.{Row}
-use Rattle.ledger_tables.specs.Tables.{job_row}
-use Rattle.ledger.specs.Standing.{named, CanBeKept}
+use Rattle.ledger.specs.Standing.{CanBeKept}
 use Rattle.ledger_checks.specs.Again.{HasResumed, IsLoading}
 use Rattle.ledger_checks.specs.Jobs.{HasComeTo, HasRunAs, entry_of, row_of}
 use Rattle.ledger_checks.specs.Kept.{HasMachine, IsKept, rows_of_stretches}

@@ -1,5 +1,5 @@
 -- The deck that a job's machine loads.
-use Rattle.std.proofs.Common.{◌≡◌, ℕ, List, Option, Some, None, Ok, refl, sym, ap, subst, ◌∙◌}
+use Rattle.std.proofs.Common.{◌≡◌, List, Option, Some, None, Ok, refl, sym, ap, subst, ◌∙◌}
 use Rattle.cards.specs.declared.decks.Card.{Card}
 use Rattle.cards.specs.Decks.{IsDeck}
 use Rattle.core_store.specs.declared.sizes.Size.{Size}
@@ -11,7 +11,7 @@ use Rattle.office.specs.New.{deck_refusal, job_of_size, job_or_refusal, job_unle
 use Rattle.office.specs.declared.commands.Contents.{Contents}
 use Rattle.office.specs.declared.refusals.Refusal.{Refusal}
 use Rattle.ledger.proofs.SavingJobs.{NewAreJobs}
-use Rattle.ledger_checks.specs.Again.{IsLoading, LoadsAs}
+use Rattle.ledger_checks.specs.Again.{LoadsAs}
 
 as_new : (size : Size) (contents : Contents) (job : Job) (o : Option Refusal) → job_unless_refused size contents o ≡ Ok job → job ≡ new_job size contents
 as_new size contents job (Some reason) is = absurd (let e = is in cc)

@@ -1,9 +1,9 @@
 -- The office that the reports tell of.
-use Rattle.std.proofs.Common.{◌≡◌, ◌<◌, ℕ, zero, suc, List, [], ◌∷◌, map, filter, length, All, Bool, true, false, cond, refl, ap, subst, ◌∙◌, arith}
+use Rattle.std.proofs.Common.{◌≡◌, ℕ, suc, List, [], ◌∷◌, map, All, Bool, true, false, cond, refl, ap, subst, ◌∙◌, arith}
 use Rattle.std.specs.List.{AllByRecursion, AllZip}
 use Rattle.office.specs.Office.{Entry, Office, AreDistinct, IsFree, is_entry}
 use Rattle.sqlite.specs.Order.{Row}
-use Rattle.ledger_tables.specs.Tables.{job_row, is_row_of}
+use Rattle.ledger_tables.specs.Tables.{job_row}
 use Rattle.ledger.specs.Standing.{named}
 use Rattle.ledger_checks.specs.Checks.{KeepsTold}
 use Rattle.ledger_checks.specs.Kept.{AreOwned, IsKept, version_row}

@@ -1,6 +1,5 @@
 -- A store keeps each table in order.
 use Rattle.std.proofs.Common.{◌≡◌, inl, inr, Bool, false, true, refl, subst, sym, ◌∙◌, true≢false}
-use Rattle.sqlite.specs.Schema.{Schema}
 use Rattle.sqlite.specs.View.{IsShaped}
 use Rattle.sqlite_catalog.proofs.LayoutLemmas.{objects_rise, table_shape}
 use Rattle.sqlite_catalog.specs.Listing.{IsSound}

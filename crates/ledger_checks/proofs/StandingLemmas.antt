@@ -1,5 +1,5 @@
 -- The rows of each table are those of each job.
-use Rattle.std.proofs.Common.{◌≡◌, ◌<◌, ◌≤◌, ◌+◌, ◌++◌, ℕ, zero, suc, pos, List, [], ◌∷◌, map, filter, length, get_or, Bool, true, false, cond, ◌&&◌, ◌==◌, nat_lt, bytes_eq, Option, Some, None, All, refl, sym, ap, subst, ◌∙◌, arith, true≢false}
+use Rattle.std.proofs.Common.{◌≡◌, ◌<◌, ◌+◌, ◌++◌, ℕ, pos, List, [], ◌∷◌, map, filter, length, get_or, Bool, true, false, cond, ◌==◌, bytes_eq, Option, Some, None, All, refl, sym, ap, subst, ◌∙◌, arith}
 use Rattle.std.specs.List.{AllByRecursion}
 use Rattle.std.specs.List.Sorted.{IsPermutation}
 use Rattle.std.specs.Option.{option_map, option_to_list}

@@ -1,5 +1,5 @@
 -- The tables stand for the office.
-use Rattle.std.proofs.Common.{◌≡◌, ◌<◌, ◌≤◌, ◌+◌, ℕ, zero, suc, pos, List, [], ◌∷◌, map, filter, drop, Bool, true, false, cond, ◌&&◌, ◌==◌, nat_lt, Option, Some, None, refl, sym, ap, subst, ◌∙◌, arith, true≢false}
+use Rattle.std.proofs.Common.{◌≡◌, ◌<◌, ◌≤◌, ◌+◌, ℕ, zero, suc, pos, List, [], ◌∷◌, map, filter, drop, Bool, true, false, cond, ◌==◌, nat_lt, Option, Some, None, refl, sym, ap, subst, ◌∙◌, arith, true≢false}
 use Rattle.std.specs.List.{AllByRecursion}
 use Rattle.std.specs.List.Sorted.{IsPermutation}
 use Rattle.std.specs.Option.{option_to_list}
@@ -9,15 +9,14 @@ use Rattle.std.proofs.lemmas.List.Sorted.{IsPermutation-sym}
 use Rattle.core_store.specs.Pages.{page_count}
 use Rattle.core_store.specs.Storage.{Storage}
 use Rattle.units.specs.declared.punch.Punched.{Punched}
-use Rattle.office.specs.Jobs.{Job, picture}
+use Rattle.office.specs.Jobs.{picture}
 use Rattle.office.specs.Office.{Entry, Office, IsFree, is_entry}
 use Rattle.office.specs.Office as office
 use Rattle.ledger_rows.specs.Pages.{page_bytes, rows_of as page_rows_of}
-use Rattle.ledger_rows.specs.Pockets.{pocket_cell, pocket_rows_from, pocket_rows_of}
+use Rattle.ledger_rows.specs.Pockets.{pocket_cell, pocket_rows_from}
 use Rattle.sqlite.proofs.Callers.{one_permutation}
 use Rattle.sqlite.specs.Effect.{Database}
-use Rattle.sqlite.specs.Order.{Row, column}
-use Rattle.sqlite.specs.Tree.{IsAscending}
+use Rattle.sqlite.specs.Order.{Row}
 use Rattle.sqlite.specs.declared.types.Value.{Value}
 use Rattle.sqlite.specs.declared.types.Value.TheVariants.{Null, Int, Real, Text, Blob}
 use Rattle.sqlite_sql.specs.Ops.{is_null}
@@ -26,12 +25,12 @@ use Rattle.ledger_tables.specs.Cells.{unless_blank}
 use Rattle.ledger_tables.specs.Schema as schema
 use Rattle.ledger_tables.specs.Tables as row
 use Rattle.ledger_tables.specs.Tables.{cells, is_row_at, is_row_of, job_row, placed, state_rows, profile_rows, version_rows, AreDistinct, IsOf, IsOfEach, IsOne, NamedJob, HoldsShared}
-use Rattle.ledger.specs.Standing.{named, stretches_of, state_of, pages_of, cards_of, lines_of, profile_of, pockets_of, tables_of, CanBeKept, Rows}
+use Rattle.ledger.specs.Standing.{named, stretches_of, state_of, pages_of, cards_of, lines_of, profile_of, pockets_of, CanBeKept, Rows}
 use Rattle.sqlite_keyed.proofs.ListLemmas.{all_weaker}
 use Rattle.ledger_checks.specs.Checks.{KeepsTold}
 use Rattle.ledger_checks.specs.Kept.{AreKept, IsKept, IsOwned, version_row}
 use Rattle.ledger_checks.specs.Reports.{StandsFor}
-use Rattle.ledger_checks.specs.Tables.{AreRowsOf, IsBureaus, pages_from, placed_some, rows_of, version_columns}
+use Rattle.ledger_checks.specs.Tables.{AreRowsOf, IsBureaus, pages_from, rows_of, version_columns}
 use Rattle.ledger_checks.specs.declared.all_rows.AllRows.{AllRows}
 use Rattle.ledger_checks.specs.declared.reports.Report.{Report}
 use Rattle.ledger_checks.proofs.AmongLemmas.{filter_within}

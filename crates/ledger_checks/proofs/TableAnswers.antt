@@ -1,11 +1,11 @@
 -- What a query for a whole table answers.
-use Rattle.std.proofs.Common.{◌≡◌, ℕ, ℤ, List, [], ◌∷◌, map, filter, flat_map, IsTrue, Less, true, false, refl, sym, ap, subst, ◌∙◌, true≢false}
+use Rattle.std.proofs.Common.{◌≡◌, ℕ, ℤ, List, [], ◌∷◌, map, filter, flat_map, IsTrue, Less, refl, sym, ap, subst, ◌∙◌, true≢false}
 use Rattle.std.specs.List.{AllByRecursion}
 use Rattle.std.specs.List.Sorted.{IsPermutation}
 use Rattle.std.proofs.lemmas.List.Sorted.{IsPermutation-map}
 use Rattle.sqlite.specs.declared.types.Value.{Value}
 use Rattle.sqlite.specs.declared.types.Value.TheVariants.{Null, Int, Real, Text, Blob}
-use Rattle.sqlite.specs.Order.{Row, column, value_cmp}
+use Rattle.sqlite.specs.Order.{Row, value_cmp}
 use Rattle.sqlite.specs.Program.{overlay}
 use Rattle.sqlite.specs.Query.{Query, Output, output, output_cmp, IsAnswer, IsSureAnswer}
 use Rattle.sqlite.specs.Term.{Term, Env, col, eval}
@@ -15,8 +15,6 @@ use Rattle.sqlite_trees.specs.declared.store.Shape.TheVariants.{Table}
 use Rattle.sqlite_trees.specs.Tree.{rowid}
 use Rattle.sqlite_trees.specs.View.{is_int}
 use Rattle.sqlite_keyed.proofs.ListLemmas.{ascending-map}
-use Rattle.ledger_tables.specs.Tables.{cells}
-use Rattle.ledger_tables.proofs.LookupKeys.{columns, view, shown_cells}
 use Rattle.ledger_tables.proofs.LookupStatement.{passes, show, ordered_query, ordered_answer, keyed_pair}
 
 -- each row passes no tests

@@ -1,17 +1,17 @@
 -- The rows of whole tables, as they are read.
-use Rattle.std.proofs.Common.{◌≡◌, ℕ, List, [], ◌∷◌, map, drop, length, Bool, true, ◌&&◌, IsTrue, None, Some, refl, sym, ap, subst, ◌∙◌}
+use Rattle.std.proofs.Common.{◌≡◌, ℕ, List, [], ◌∷◌, map, drop, length, true, ◌&&◌, None, Some, refl, ap, subst, ◌∙◌}
 use Rattle.std.specs.List.{AllByRecursion, list_all}
 use Rattle.std.specs.List.Sorted.{IsPermutation}
 use Rattle.std.proofs.lemmas.Bool.{and_parts}
 use Rattle.sqlite.specs.Effect.{Database}
-use Rattle.sqlite.specs.Order.{Row, column}
+use Rattle.sqlite.specs.Order.{Row}
 use Rattle.sqlite.specs.Program.{overlay}
 use Rattle.sqlite.specs.Schema.{Schema}
 use Rattle.sqlite.specs.State.{State, IsUnchanged, Shown}
 use Rattle.sqlite.specs.Term.{col}
 use Rattle.sqlite.specs.Tree.{Trees}
 use Rattle.sqlite.specs.View.{IsShaped}
-use Rattle.sqlite_schema.specs.Rules.{are_present, are_typed, has_computed, passes}
+use Rattle.sqlite_schema.specs.Rules.{are_present, are_typed, passes}
 use Rattle.sqlite_schema.specs.declared.schema.Column.{Column}
 use Rattle.sqlite_schema.specs.declared.schema.Constraint.TheVariants.{Datatype, NotNull}
 use Rattle.sqlite_schema.specs.declared.schema.Table.{Table as Listed}
@@ -20,8 +20,8 @@ use Rattle.ledger_tables.specs.Schema.{bureau_schema}
 use Rattle.ledger_tables.specs.Schema as schema
 use Rattle.ledger_tables.specs.Tables.{cells}
 use Rattle.ledger_tables.proofs.LookupAnswers.{looks}
-use Rattle.ledger_tables.proofs.LookupKeys.{columns, shown_cells, view}
-use Rattle.ledger_tables.proofs.LookupStatement.{plain_query, plain_answer, ordered_query, show}
+use Rattle.ledger_tables.proofs.LookupKeys.{columns, shown_cells}
+use Rattle.ledger_tables.proofs.LookupStatement.{plain_answer, ordered_query, show}
 use Rattle.ledger_tables.proofs.ReadTexts.{Selects}
 use Rattle.ledger_checks.specs.Tables.{IsBureaus, version_columns}
 use Rattle.ledger_checks.proofs.TableAnswers.{all_pass, whole_in_order, whole_in_some_order}

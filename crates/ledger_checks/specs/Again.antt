@@ -6,7 +6,7 @@ use Rattle.autocoder_layout.specs.Source.{source_of}
 use Rattle.autocoder.specs.Programs.{IsFaultless}
 use Rattle.machine.specs.Run.{State}
 use Rattle.machine.specs.declared.standings.Standing.TheVariants.{Halted}
-use Rattle.office.specs.Jobs.{Job, loaded_of, resumed, AreStretches}
+use Rattle.office.specs.Jobs.{loaded_of, resumed, AreStretches}
 use Rattle.office.specs.declared.commands.Contents.{Contents}
 use Rattle.office.specs.declared.commands.Kind.{Kind}
 use Rattle.office.specs.declared.commands.Kind.TheVariants.{Autocoder}

@@ -1,8 +1,7 @@
 -- whole tables, as they were read
-use Rattle.std.specs.Prelude.{◌≡◌, ℕ, pos, ◌+◌, ◌++◌, zero, suc, List, [], ◌∷◌, map, filter, Option, Result, IfOk, IsPermutation, Vec}
+use Rattle.std.specs.Prelude.{◌≡◌, ℕ, ◌+◌, ◌++◌, zero, suc, List, [], ◌∷◌, map, filter, Option, Result, IfOk, IsPermutation, Vec}
 use Rattle.std.specs.Option.{option_to_list}
 use Rattle.core_store.specs.Storage.{Storage}
-use Rattle.sqlite.specs.declared.types.Value.TheVariants.{Int}
 use Rattle.sqlite.specs.Effect.{Database, IsDatabase}
 use Rattle.sqlite.specs.Order.{Row, column}
 use Rattle.sqlite.specs.Tree.{Trees}

@@ -6,16 +6,21 @@
 //! `cases/check-operator`.
 #![tactic(auto)]
 
+mod archiving;
 mod checking;
 mod clients;
 mod copying;
 mod faults;
+mod job_folders;
+mod listing;
 mod tallies;
 mod watching;
 mod working;
 
+use crate::archiving::archive_file;
 use crate::checking::check_file;
 use crate::copying::copy_file;
+use crate::listing::show_jobs;
 use crate::watching::watch_queue;
 use crate::working::run_queue;
 use command_line::{Status, Unfailing, exit_code};
@@ -29,12 +34,6 @@ fn words_given(rt: &HostRuntime) -> Result<Vec<String>, Misuse> {
     Ok(env::args(rt)?.collect(rt.alloc())?)
 }
 
-/// Tells that a row is not built.
-fn tell_unbuilt<E: Write>(errors: &mut E) -> io::Result<Status> {
-    writeln!(errors, "operator: not built yet")?;
-    Ok(Status::NotDone)
-}
-
 /// Does a task.
 fn carry_out<W: Write, E: Write>(
     rt: &HostRuntime,
@@ -46,9 +45,9 @@ fn carry_out<W: Write, E: Write>(
         Task::Help(row) => show_help(output, errors, row),
         Task::Version => show_version(output, errors),
         Task::Check { file } => check_file(rt, file, output, errors),
-        Task::Jobs { .. } => tell_unbuilt(errors),
+        Task::Jobs { file, customer } => show_jobs(rt, file, customer, output, errors),
         Task::Copy { file, new } => copy_file(rt, file, new, output, errors),
-        Task::Archive { .. } => tell_unbuilt(errors),
+        Task::Archive { file, folder } => archive_file(rt, file, folder, output, errors),
         Task::Work { port, rounds } => run_queue(rt, port, rounds, output, errors),
         Task::Watch {
             port,

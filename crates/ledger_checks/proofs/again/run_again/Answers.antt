@@ -1,5 +1,5 @@
 use Rattle.std.proofs.Common.{◌≡◌, ◌∷◌, sym, ap, subst, ◌∙◌, rules}
-use Rattle.machine.specs.Run.{State, after, started, loaded}
+use Rattle.machine.specs.Run.{after, started, loaded}
 use Rattle.office.specs.Jobs.{all_off, AreStretches}
 use Rattle.ledger_checks.specs.Again.{GoesThrough, HasResumed}
 use Rattle.ledger_checks.proofs.AgainLemmas.{resumed_first}

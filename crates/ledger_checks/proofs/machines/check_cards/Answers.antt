@@ -1,11 +1,9 @@
-use Rattle.std.proofs.Common.{◌≡◌, ◌+◌, map, take, get_or, sym, ap, subst, rules, arith}
+use Rattle.std.proofs.Common.{take, sym, rules}
 use Rattle.std.proofs.lemmas.List.{take_all}
 use Rattle.std.proofs.lemmas.List.Elements.{All-more, All-same}
 use Rattle.ledger_rows.specs.Pockets.{punched_bytes, IsPunched}
 use Rattle.ledger_tables.specs.Tables as row
 use Rattle.ledger_tables.proofs.Stepping.{on_any}
-use Rattle.ledger_checks.specs.Kept.{rows_of_cards}
-use Rattle.ledger_checks.specs.Tables.{rows_of}
 use Rattle.ledger_checks.proofs.PlacedLemmas.{placed_step}
 use Rattle.ledger_checks.proofs.machines.check_cards.Goals as goal
 

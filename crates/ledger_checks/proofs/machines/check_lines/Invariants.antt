@@ -1,7 +1,5 @@
 use Rattle.std.proofs.Common.{All, take}
 use Rattle.ledger_rows.specs.Columns.{line_cells, IsLine}
-use Rattle.ledger_rows.specs.Pockets.{punched_bytes, IsPunched}
-use Rattle.ledger.specs.Standing.{stretch_row}
 use Rattle.ledger_tables.specs.Tables as row
 use Rattle.ledger_checks.specs.Kept.{rows_of_lines}
 use Rattle.ledger_checks.specs.Tables.{rows_of}

@@ -1,4 +1,4 @@
-use Rattle.std.proofs.Common.{◌≡◌, ◌<◌, ◌≤◌, OnOk, rules}
+use Rattle.std.proofs.Common.{◌<◌, ◌≤◌, rules}
 use Rattle.core_store.specs.Pages.{cells_of, page_count}
 use Rattle.ledger_tables.specs.Tables.{page_row}
 use Rattle.ledger_tables.proofs.Frames.{on_ok_then}

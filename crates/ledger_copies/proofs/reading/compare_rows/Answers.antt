@@ -3,7 +3,7 @@ use Rattle.sqlite.specs.Held.{state}
 use Rattle.ledger_tables.specs.Schema.{bureau_schema}
 use Rattle.ledger_tables.specs.declared.faults.Fault.{Fault}
 use Rattle.ledger_checks.specs.declared.all_rows.AllRows.{AllRows}
-use Rattle.ledger_copies.specs.Copies.{HasRows}
+use Rattle.ledger_checks.specs.Tables.{HasRows}
 use Rattle.ledger_copies.proofs.CopyLemmas.{compared}
 use Rattle.ledger_copies.proofs.reading.compare_rows.Goals as goal
 

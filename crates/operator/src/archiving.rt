@@ -1,0 +1,229 @@
+//! The row `archive`.
+
+use crate::faults::tell_fault;
+use crate::job_folders::{Filed, file_job};
+use command_line::Status;
+use ledger_archives::files_of;
+use ledger_checks::{
+    AllRows, JobReport, JobRun, find_strays, job_text, read_rows, run_job, strays_text,
+};
+use ledger_files::{Look, look_into};
+use ledger_tables::{Fault, OpenFault};
+use office::{is_customer, is_number};
+use sqlite::{Alter, Connection};
+use std::alloc::Global;
+use std::io::Write;
+use std::{fs, io};
+
+/// The look of an archive into a bureau's tables: their rows, or what hindered it.
+#[derive(Drop)]
+struct RowsLook {
+    rows: Option<Result<AllRows, Fault>>,
+}
+
+impl Look for RowsLook {
+    fn look<S: Alter + Drop>(&mut self, _alloc: Global, conn: Connection<S>) -> S {
+        let (rows, store) = read_rows(conn);
+        self.rows = Some(rows);
+        store
+    }
+}
+
+/// How many jobs were written, were there already, and differ or could not be written.
+#[derive(Clone, Copy)]
+struct Counts {
+    written: usize,
+    same: usize,
+    differing: usize,
+}
+
+/// The archive of the jobs of a bureau into a folder.
+#[derive(Drop)]
+struct Archiving<'a> {
+    folder: &'a str,
+    counts: Counts,
+}
+
+/// Prints the names in which a folder differs, with a comma between two.
+fn show_names<W: Write>(names: &[String], output: &mut W) -> io::Result<()> {
+    let mut between = ": ";
+    for name in names {
+        output.write_all(between.as_bytes())?;
+        output.write_all(name.as_bytes())?;
+        between = ", ";
+    }
+    output.write_all(b"\n")
+}
+
+impl Archiving<'_> {
+    /// Counts and prints what came of a job's archive.
+    fn tell<W: Write>(&mut self, run: &JobRun, filed: &Filed, output: &mut W) -> io::Result<()> {
+        let customer = run.customer();
+        let number = run.number();
+        match filed {
+            Filed::Written => {
+                self.counts.written = self.counts.written.saturating_add(1);
+                writeln!(output, "{customer} {number}: 6 files")
+            }
+            Filed::Same => {
+                self.counts.same = self.counts.same.saturating_add(1);
+                writeln!(output, "{customer} {number} is there and the same")
+            }
+            Filed::Differs(names) => {
+                self.counts.differing = self.counts.differing.saturating_add(1);
+                write!(output, "{customer} {number} is there and differs")?;
+                show_names(names, output)
+            }
+            Filed::Hindered(path) => {
+                self.counts.differing = self.counts.differing.saturating_add(1);
+                let path = path.as_str();
+                writeln!(
+                    output,
+                    "{customer} {number}: {path} is in the way; move it elsewhere"
+                )
+            }
+        }
+    }
+
+    /// Files a job that is as it ran.
+    fn file<W: Write>(&mut self, rt: &HostRuntime, run: &JobRun, output: &mut W) -> io::Result<()> {
+        let customer = run.customer();
+        let number = run.number();
+        if !is_customer(customer) || !is_number(number) {
+            self.counts.differing = self.counts.differing.saturating_add(1);
+            return writeln!(
+                output,
+                "{customer} {number}: no bureau gives a job this name"
+            );
+        }
+        let archive = files_of(rt.alloc(), run)?;
+        let filed = file_job(rt, self.folder, customer, number, &archive)?;
+        self.tell(run, &filed, output)
+    }
+
+    /// Prints what differs of a job.
+    fn tell_difference<W: Write>(
+        &mut self,
+        rt: &HostRuntime,
+        report: &JobReport,
+        output: &mut W,
+    ) -> io::Result<()> {
+        self.counts.differing = self.counts.differing.saturating_add(1);
+        let text = job_text(rt.alloc(), report)?;
+        output.write_all(&text)
+    }
+
+    /// Runs each job again, and files those that are as they ran.
+    fn file_all<W: Write>(
+        &mut self,
+        rt: &HostRuntime,
+        rows: &AllRows,
+        output: &mut W,
+    ) -> io::Result<()> {
+        for at in 0..rows.jobs.len() {
+            match run_job(rt.alloc(), rows, at)? {
+                Ok(run) => self.file(rt, &run, output)?,
+                Err(report) => self.tell_difference(rt, &report, output)?,
+            }
+            output.flush()?;
+        }
+        Ok(())
+    }
+}
+
+/// The word for so many jobs that differ.
+fn differ(count: usize) -> &'static str {
+    if count == 1 { "differs" } else { "differ" }
+}
+
+/// Prints the rows of no job, and how many jobs were written, were there and differ.
+fn tell_end<W: Write>(
+    rt: &HostRuntime,
+    rows: &AllRows,
+    counts: Counts,
+    output: &mut W,
+) -> io::Result<Status> {
+    let strays = find_strays(rt.alloc(), rows)?;
+    let text = strays_text(rt.alloc(), &strays)?;
+    output.write_all(&text)?;
+    let jobs = rows.jobs.len();
+    let Counts {
+        written,
+        same,
+        differing,
+    } = counts;
+    let differ = differ(differing);
+    writeln!(
+        output,
+        "jobs {jobs}, {written} written, {same} the same, {differing} {differ}"
+    )?;
+    output.flush()?;
+    if differing == 0 && strays.is_empty() {
+        Ok(Status::Done)
+    } else {
+        Ok(Status::NotDone)
+    }
+}
+
+/// Makes the folder of an archive, unless it is there.
+fn make_folder(rt: &HostRuntime, folder: &str) -> io::Result<()> {
+    match fs::create_dir(rt, folder) {
+        Err(error) if error.kind() == io::ErrorKind::AlreadyExists => Ok(()),
+        made => made,
+    }
+}
+
+/// Files all jobs, and prints what came of each.
+fn archive_rows<W: Write>(
+    rt: &HostRuntime,
+    rows: &AllRows,
+    folder: &str,
+    output: &mut W,
+) -> io::Result<Status> {
+    make_folder(rt, folder)?;
+    let counts = Counts {
+        written: 0,
+        same: 0,
+        differing: 0,
+    };
+    let mut archiving = Archiving { folder, counts };
+    archiving.file_all(rt, rows, output)?;
+    tell_end(rt, rows, archiving.counts, output)
+}
+
+/// Files all jobs, and tells if that failed.
+fn archive_or_tell<W: Write, E: Write>(
+    rt: &HostRuntime,
+    rows: &AllRows,
+    folder: &str,
+    output: &mut W,
+    errors: &mut E,
+) -> io::Result<Status> {
+    match archive_rows(rt, rows, folder, output) {
+        Ok(status) => Ok(status),
+        Err(error) => {
+            writeln!(errors, "{folder}: {error}")?;
+            Ok(Status::NotDone)
+        }
+    }
+}
+
+/// Runs each job of the bureau's file at a path again, and files those that are as they ran in a
+/// folder.
+pub(crate) fn archive_file<W: Write, E: Write>(
+    rt: &HostRuntime,
+    file: &str,
+    folder: &str,
+    output: &mut W,
+    errors: &mut E,
+) -> io::Result<Status> {
+    let mut look = RowsLook { rows: None };
+    if let Err(fault) = look_into(rt, file, &mut look) {
+        return tell_fault(file, fault, errors);
+    }
+    match &look.rows {
+        Some(Ok(rows)) => archive_or_tell(rt, rows, folder, output, errors),
+        Some(Err(Fault::NoMemory)) => tell_fault(file, OpenFault::NoMemory, errors),
+        _ => tell_fault(file, OpenFault::Store, errors),
+    }
+}
