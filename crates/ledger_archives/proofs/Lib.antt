@@ -1,4 +1,3 @@
 pub mod ReadingLaw
 pub mod NameReads
 pub mod AskedLemmas
-pub mod ListedLemmas
