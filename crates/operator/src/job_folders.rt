@@ -63,8 +63,8 @@ fn fill(rt: &HostRuntime, path: &str, archive: &Archive) -> io::Result<()> {
     settle(rt, path)
 }
 
-/// Removes a folder that a killed run has left, with the files that are an archive's. Returns whether
-/// it is gone: it stays if there is anything else in it.
+/// Removes a folder that a killed run has left, with the files that are an archive's. Returns
+/// whether it is gone: it stays if there is anything else in it.
 fn remove_part(rt: &HostRuntime, part: &str, archive: &Archive) -> io::Result<bool> {
     for file in archive.files() {
         let name = file.name;
