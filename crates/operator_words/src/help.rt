@@ -66,8 +66,9 @@ example:
   operator copy my.bureau my.copy
 
 The copy is one file with no log beside it. It is read back, and each row of it is compared with
-that of FILE. FILE is not changed. Status 1: NEW is there already, or could not be written, or
-differs. Status 3: FILE could not be used.
+that of FILE. FILE is not changed. If the copy is killed, NEW is not there, or it is whole; a file
+NEW.1.part beside it may be removed. Status 1: the copy differs, and there is none, or there was no
+memory. Status 3: FILE could not be used, or NEW could not be made or is there already.
 ";
 
 /// The text that `archive --help` prints.
