@@ -1,14 +1,13 @@
 -- What a command tells that asks how a job stands.
-use Rattle.std.proofs.Common.{◌≡◌, ℕ, List, map, Option, Some, None, Result, Ok, Err, String, string_bytes, refl, sym, ap, subst, ◌∙◌}
+use Rattle.std.proofs.Common.{◌≡◌, ℕ, List, map, Option, Some, None, String, string_bytes, refl, sym, ap, ◌∙◌}
 use Rattle.std.specs.declared.alloc.Global.{Global}
 use Rattle.office.specs.Jobs.{Job}
-use Rattle.office.specs.Kept.{kept_of, summary_of, take_kept}
+use Rattle.office.specs.Kept.{kept_of, summary_of}
 use Rattle.office.specs.Office.{Office, commanded, early_refusal, job_of, take, taken}
 use Rattle.office.specs.declared.commands.Command.{Command}
 use Rattle.office.specs.declared.commands.Command.TheVariants.{Job as OnJob}
 use Rattle.office.specs.declared.commands.JobCommand.TheVariants.{Standing as Tell}
 use Rattle.office.specs.declared.refusals.Refusal.{Refusal}
-use Rattle.office.specs.declared.replies.Reply.{Reply}
 use Rattle.office.specs.declared.replies.Reply.TheVariants as reply
 use Rattle.office.specs.declared.summaries.Summary.{Summary}
 use Rattle.ledger_tables.specs.Tables.{AreDistinct}

@@ -5,12 +5,12 @@ use Rattle.sqlite.specs.Order.{Row, column}
 use Rattle.sqlite.specs.State.{State, IsUnchanged, Shown}
 use Rattle.sqlite.specs.Term.{col}
 use Rattle.sqlite_tied.specs.Compute.{everything}
-use Rattle.ledger_tables.specs.Tables.{NamedJob, cells, job_row}
+use Rattle.ledger_tables.specs.Tables.{cells, job_row}
 use Rattle.ledger_tables.proofs.LookupAnswers.{looks}
 use Rattle.ledger_tables.proofs.LookupKeys.{columns}
 use Rattle.ledger_tables.proofs.LookupStatement.{ordered_query, show}
 use Rattle.ledger_tables.proofs.ReadTexts.{Selects}
-use Rattle.office.specs.Office.{Entry, Office}
+use Rattle.office.specs.Office.{Office}
 use Rattle.ledger.specs.Adopting.{IsUntouched}
 use Rattle.ledger.specs.Standing.{Rows, Stands, StandsIn, named}
 use Rattle.ledger_checks.proofs.TableAnswers.{whole_in_order}

@@ -2,7 +2,6 @@
 use Rattle.std.proofs.Common.{◌≡◌, List, [], ◌∷◌, map, refl, ap}
 use Rattle.std.specs.List.{All as AllOf}
 use Rattle.std.proofs.lemmas.List.Elements.{All-map}
-use Rattle.cards.specs.declared.decks.Card.{Card}
 use Rattle.cards.specs.Decks.{IsCard}
 use Rattle.cards.proofs.ReadingLaw.{deck_once}
 use Rattle.office.specs.Jobs.{cards_by}

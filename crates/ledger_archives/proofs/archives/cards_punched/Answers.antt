@@ -1,5 +1,4 @@
 use Rattle.std.proofs.Common.{◌≡◌, ap, ◌∙◌, rules}
-use Rattle.units.specs.declared.punch.Punched.{Punched}
 use Rattle.office.specs.Jobs.{cards_by}
 use Rattle.office.specs.Stackers.{cards_from}
 use Rattle.office.specs.declared.stackers.Stacker.TheVariants.{All}

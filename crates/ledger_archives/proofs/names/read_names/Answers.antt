@@ -1,5 +1,5 @@
-use Rattle.std.proofs.Common.{◌≡◌, false, IsTrue, sym, subst, rules}
-use Rattle.sqlite.specs.State.{HasCleanDisk, IsRolledBack, KeepsCommit, Survives}
+use Rattle.std.proofs.Common.{◌≡◌, false, IsTrue, subst, rules}
+use Rattle.sqlite.specs.State.{HasCleanDisk, KeepsCommit}
 use Rattle.sqlite.specs.Held.{state}
 use Rattle.ledger.specs.Standing.{Stands, StandsIn}
 use Rattle.ledger.proofs.BureauTransactions.{rolled_untouched}
