@@ -1,12 +1,12 @@
 -- A job that was run again is as its rows say.
-use Rattle.std.proofs.Common.{◌≡◌, ℕ, List, All, take, ap, subst, ◌∙◌}
+use Rattle.std.proofs.Common.{◌≡◌, ℕ, List, All, take, refl, ap, subst, ◌∙◌}
 use Rattle.cards.specs.declared.decks.Card.{Card}
 use Rattle.cards.specs.Decks.{deck_bytes, IsDeck}
 use Rattle.machine.specs.Run.{State, lines_of}
 use Rattle.machine.specs.Run as run
 use Rattle.machine.specs.declared.standings.Standing.TheVariants.{Halted}
 use Rattle.units.specs.declared.profiles.Profile.{Profile}
-use Rattle.office.specs.Jobs.{all_off, loaded_of, picture, resumed, IsJob}
+use Rattle.office.specs.Jobs.{all_off, loaded_deck, loaded_of, picture, resumed, IsJob}
 use Rattle.office.specs.Office.{Entry}
 use Rattle.office.specs.declared.stretches.Stretch.{Stretch}
 use Rattle.ledger_rows.specs.Columns.{HoldsCharacters, IsLine}
@@ -15,7 +15,7 @@ use Rattle.sqlite.specs.Order.{Row}
 use Rattle.ledger.specs.Standing.{CanBeKept}
 use Rattle.ledger_checks.specs.Again.{HasResumed, IsLoading}
 use Rattle.ledger_checks.specs.Jobs.{HasComeTo, HasRunAs, entry_of, row_of}
-use Rattle.ledger_checks.specs.Kept.{HasMachine, IsKept, rows_of_stretches}
+use Rattle.ledger_checks.specs.Kept.{HasMachine, IsKept, IsNamed, rows_of_stretches}
 use Rattle.ledger_checks.specs.Tables.{rows_of}
 use Rattle.ledger_checks.specs.declared.all_rows.AllRows.{AllRows}
 use Rattle.ledger_checks.specs.declared.submitted.Numbers.{Numbers}
@@ -54,8 +54,8 @@ module _ (all : AllRows) (it : Row) (customer : List ℕ) (number : ℕ) (number
   kept : IsKept all e
   kept = record { can = can; stretches = has_stretches; machine = subst (HasMachine customer number all) picture_is machine }
 
-  pub come_to : HasComeTo e m
-  come_to = record { can = can; machine = picture_is }
+  pub come_to : IsNamed e → HasComeTo e m
+  come_to named = record { named = named; can = can; machine = picture_is }
 
   pub run_as : HasRunAs all it e
   run_as = record {
@@ -63,3 +63,14 @@ module _ (all : AllRows) (it : Row) (customer : List ℕ) (number : ℕ) (number
         ∙ ap (λ b. row_of customer number numbers (deck_bytes deck) b) (loaded_is ∙ ap deck_bytes loading.loaded_is);
     kept = kept;
   }
+
+-- ---- a job whose rows are in the tables
+
+module _ (all : AllRows) (it : Row) (e : Entry) (ran : HasRunAs all it e) where
+  pub loading_of : IsLoading e.job.kind e.job.deck (loaded_deck e.job)
+  loading_of =
+      let job = ran.kept.can.job in
+      record { is_deck = job.deck; card = job.card; faultless = job.faultless; loaded_is = refl; is_loaded = job.loaded }
+
+  pub resumed_of : HasResumed (run.loaded (loaded_deck e.job) e.job.size all_off e.job.profile) e.job.stretches (picture e.job)
+  resumed_of = record { allowed = ran.kept.can.job.stretches; halts = ran.kept.can.job.halts; machine = refl }

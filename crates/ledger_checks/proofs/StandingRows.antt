@@ -213,4 +213,4 @@ module _ (db : Database) (all : AllRows) (jobs : Office) (bureaus : IsBureaus db
   }
 
 pub stands_for : (db : Database) (all : AllRows) (report : Report) → IsBureaus db → AreRowsOf db.trees all → KeepsTold all report → StandsFor db report
-stands_for db all report bureaus read told = record { office = told.office; rows = rows_stand db all told.office bureaus read told.kept; tells = told.tells }
+stands_for db all report bureaus read told = record { office = told.office; named = told.named; rows = rows_stand db all told.office bureaus read told.kept; tells = told.tells }
