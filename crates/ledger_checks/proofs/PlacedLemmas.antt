@@ -19,7 +19,7 @@ module _ {X Y : Type 0} (row : ℕ → Y → Row) (f : X → Y) (first : ℕ) (x
   abbrev pub placed_from : ℕ → List Row
   placed_from at = placed row (first + at) (map f (drop at xs))
 
-  placed_more : (at : ℕ) (d : X) → at < length xs → placed_from at ≡ row (first + at) (f (get_or xs at d)) ∷ placed_from (at + 1)
+  pub placed_more : (at : ℕ) (d : X) → at < length xs → placed_from at ≡ row (first + at) (f (get_or xs at d)) ∷ placed_from (at + 1)
   placed_more at d less =
       let on : first + at + 1 ≡ first + (at + 1) = omega arith in
       ap (λ ys. placed row (first + at) (map f ys)) (drop_more xs at d less)
@@ -62,8 +62,8 @@ module _ {X Y : Type 0} (cell : X → Option Y) (row : ℕ → Y → Row) (first
     λ all. cancel (cell (get_or xs at d)) (row (first + at)) new (some_from (at + 1)) (sym passed ∙ leads.1 all ∙ some_more at d less),
   )
 
-  pub some_fails : (at : ℕ) (d : X) (old whole wanted : List Row) → at < length xs → Leads whole wanted old (some_from at) → ((rest : List Row) → ¬ (old ≡ map (row (first + at)) (option_to_list (cell (get_or xs at d))) ++ rest)) → ¬ (whole ≡ wanted)
-  some_fails at d old whole wanted less leads other = λ all. other (some_from (at + 1)) (leads.1 all ∙ some_more at d less)
+  pub some_fails : (at : ℕ) (d : X) (old whole wanted here : List Row) → at < length xs → Leads whole wanted old (some_from at) → ((rest : List Row) → ¬ (old ≡ here ++ rest)) → here ≡ map (row (first + at)) (option_to_list (cell (get_or xs at d))) → ¬ (whole ≡ wanted)
+  some_fails at d old whole wanted here less leads other is = λ all. other (some_from (at + 1)) (leads.1 all ∙ some_more at d less ∙ ap (λ vs. vs ++ some_from (at + 1)) (sym is))
 
   pub some_ends : (at : ℕ) (rest whole wanted : List Row) → length xs ≤ at → Leads whole wanted rest (some_from at) → Leads whole wanted rest []
   some_ends at rest whole wanted past leads =
@@ -91,17 +91,17 @@ module _ (s : Storage) (count page : ℕ) (row : ℕ → List ℕ → Row) (byte
   within = subst (λ n. page < n) (sym (pages_long s 0 count)) less
 
   -- the row of the page, if it has one
-  same : (rest : List Row) → map (row page) (option_to_list (page_cell bytes)) ++ rest ≡ map (row (0 + page)) (option_to_list (page_cell (get_or (pages_from s 0 count) page []))) ++ rest
-  same rest =
+  same : map (row page) (option_to_list (page_cell bytes)) ≡ map (row (0 + page)) (option_to_list (page_cell (get_or (pages_from s 0 count) page [])))
+  same =
       let zeroth : page ≡ 0 + page = omega arith in
       let there : bytes ≡ get_or (pages_from s 0 count) page [] = is ∙ ap (page_bytes s) zeroth ∙ sym (page_there s 0 count page [] less) in
-      ap (λ n. map (row n) (option_to_list (page_cell bytes)) ++ rest) zeroth ∙ ap (λ b. map (row (0 + page)) (option_to_list (page_cell b)) ++ rest) there
+      ap (λ n. map (row n) (option_to_list (page_cell bytes))) zeroth ∙ ap (λ b. map (row (0 + page)) (option_to_list (page_cell b))) there
 
   pub page_step : (new : List Row) → old ≡ map (row page) (option_to_list (page_cell bytes)) ++ new → Leads whole wanted new (some_from page_cell row 0 (pages_from s 0 count) (page + 1))
-  page_step new passed = some_step page_cell row 0 (pages_from s 0 count) page [] old new whole wanted within leads (passed ∙ same new)
+  page_step new passed = some_step page_cell row 0 (pages_from s 0 count) page [] old new whole wanted within leads (passed ∙ ap (λ vs. vs ++ new) same)
 
   pub page_fails : ((rest : List Row) → ¬ (old ≡ map (row page) (option_to_list (page_cell bytes)) ++ rest)) → ¬ (whole ≡ wanted)
-  page_fails other = some_fails page_cell row 0 (pages_from s 0 count) page [] old whole wanted within leads (λ rest it. other rest (it ∙ sym (same rest)))
+  page_fails other = some_fails page_cell row 0 (pages_from s 0 count) page [] old whole wanted _ within leads other same
 
 pub page_ends : (s : Storage) (count page : ℕ) (row : ℕ → List ℕ → Row) (rest whole wanted : List Row) → count ≤ page → Leads whole wanted rest (some_from page_cell row 0 (pages_from s 0 count) page) → Leads whole wanted rest []
 page_ends s count page row rest whole wanted past leads = some_ends page_cell row 0 (pages_from s 0 count) page rest whole wanted (subst (λ n. n ≤ page) (sym (pages_long s 0 count)) past) leads

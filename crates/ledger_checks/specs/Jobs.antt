@@ -4,7 +4,7 @@ use Rattle.cards.specs.declared.decks.Card.{Card}
 use Rattle.core_store.specs.Storage.{positions_of}
 use Rattle.units.specs.declared.profiles.Profile.{Profile}
 use Rattle.machine.specs.Run.{State}
-use Rattle.office.specs.Jobs.{picture}
+use Rattle.office.specs.Jobs.{Job, picture}
 use Rattle.office.specs.Names.{is_customer, is_number}
 use Rattle.office.specs.Office.{Entry}
 use Rattle.office.specs.declared.stretches.Stretch.{Stretch}
@@ -24,6 +24,15 @@ abbrev pub row_of : List ℕ → ℕ → Numbers → List ℕ → List ℕ → R
 row_of customer number it deck loaded = Text customer ∷ Int (pos number)
     ∷ Int (pos (kind_number it.kind)) ∷ Int (pos (positions_of it.size)) ∷ Blob deck
     ∷ Blob loaded ∷ Int (pos (truth it.held)) ∷ Int (pos (truth it.collected)) ∷ []
+
+-- the kind, the size and the flags of a job
+abbrev pub numbers_of : Job → Numbers
+numbers_of job = record {
+  kind = job.kind;
+  size = job.size;
+  held = job.held;
+  collected = job.collected;
+}
 
 -- the entry of this name with these numbers, this deck and profile, and these stretches
 abbrev pub entry_of : List ℕ → ℕ → Numbers → List Card → Profile → List Stretch → Entry
@@ -55,10 +64,10 @@ pub record HasRunAs (all : AllRows) (it : Row) (e : Entry) : Type 0 where
 
 -- the row begins with a name that a job may have
 pub record IsNameOf (it : Row) (customer : List ℕ) (number : ℕ) : Type 0 where
-  pub customer_is : column it 0 ≡ Text customer
-  pub number_is : column it 1 ≡ Int (pos number)
-  pub customer : is_customer customer ≡ true
-  pub number : is_number number ≡ true
+  pub text : column it 0 ≡ Text customer
+  pub int : column it 1 ≡ Int (pos number)
+  pub lawful_text : is_customer customer ≡ true
+  pub lawful_int : is_number number ≡ true
 
 -- the row is that of the entry's job, which has a name that a job may have and none of the later
 -- rows has

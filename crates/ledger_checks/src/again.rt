@@ -180,6 +180,8 @@ pub(crate) fn run_again(
     };
     let mut machine = Machine::load(alloc, loaded, size, first.switches, profile)?;
     machine.run(first.granted, &mut Meter::new())?;
-    go_on(&mut machine, others)?;
-    Ok(machine)
+    match go_on(&mut machine, others) {
+        Ok(()) => Ok(machine),
+        Err(stop) => Err(stop),
+    }
 }

@@ -75,7 +75,7 @@ fn check_again(
     profile: Profile,
     stretches: Vec<Stretch>,
 ) -> Result<JobRun, Stop>
-    requires { IsNameOf row.now name.entry.customer.now name.entry.number }
+    requires { IsNameOf row.now name.customer.now name.number }
     ensures same { IfOk result (λ run. run ≡ entry_of name.entry.customer.now name.entry.number
         submitted.numbers submitted.deck profile stretches.items) }
     ensures kept { IfOk result (λ run. HasRunAs all.now row.now run) }
@@ -132,7 +132,7 @@ fn check_named(
     row: &Row,
     name: JobName<'_>,
 ) -> Result<JobRun, Stop>
-    requires { IsNameOf row.now name.entry.customer.now name.entry.number }
+    requires { IsNameOf row.now name.customer.now name.number }
     ensures run { IfOk result (HasRun all.now later.now row.now) }
     ensures other { IfDiffers result ((e : Entry) → ¬ HasRun all.now later.now row.now e) }
 {

@@ -292,6 +292,24 @@ fn storage_holds_characters(core: &PlaneCore)
     ensures { HoldsCharacters (cells_of core.now) }
 {}
 
+/// The rows of a job's pages are those of this machine's storage.
+fn check_storage(
+    rows: &[Row],
+    name: JobName<'_>,
+    machine: &Parts<PlaneCore>,
+) -> Result<(), Difference>
+    requires { IsInRange machine.now }
+    ensures same { OnOk result (rows_of name.entry.customer.now name.entry.number rows.now
+        ≡ rows_of_pages name.entry.customer.now name.entry.number machine.now.works.storage) }
+    ensures other { OnErr result (¬ (rows_of name.entry.customer.now name.entry.number rows.now
+        ≡ rows_of_pages name.entry.customer.now name.entry.number machine.now.works.storage)) }
+    ensures characters { HoldsCharacters machine.now.works.storage }
+{
+    // A law, for the proof: it does nothing.
+    storage_holds_characters(&machine.core);
+    check_pages(rows, name, &machine.core)
+}
+
 /// The rows of a job's machine are those of this one.
 pub(crate) fn check_machine(
     all: &AllRows,
@@ -309,14 +327,12 @@ pub(crate) fn check_machine(
     ensures lines { OnOk result (All IsLine (lines_of machine.now)) }
     ensures characters { OnOk result (HoldsCharacters machine.now.works.storage) }
 {
-    // A law, for the proof: it does nothing.
-    storage_holds_characters(&machine.core);
     let cards = machine.units.punch.cards.as_slice();
     check_state(&all.states, name, machine)?;
     check_profile(&all.profiles, name, &machine.units.punch)?;
     check_cards(&all.cards, name, cards)?;
     check_pockets(&all.pockets, name, cards)?;
     check_lines(&all.lines, name, machine.units.printer.lines.as_slice())?;
-    check_pages(&all.pages, name, &machine.core)?;
+    check_storage(&all.pages, name, machine)?;
     Ok(())
 }

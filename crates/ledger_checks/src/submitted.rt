@@ -4,14 +4,15 @@ ghost use Rattle.std.specs.Prelude.{◌≡◌, ◌<◌, ◌^◌, ℕ, List, pos,
 ghost use Rattle.cards.specs.Decks.{IsDeck, deck_bytes};
 ghost use Rattle.cards.specs.declared.decks.Card.{Card};
 ghost use Rattle.core_store.specs.Storage.{positions_of};
-ghost use Rattle.ledger.specs.Standing.{kind_number, stretch_row as stretch_cells};
-ghost use Rattle.ledger_checks.specs.Jobs.{row_of};
+ghost use Rattle.ledger.specs.Standing.{kind_number, named, stretch_row as stretch_cells};
+ghost use Rattle.ledger_checks.specs.Jobs.{numbers_of, row_of};
 ghost use Rattle.ledger_checks.specs.Kept.{rows_of_profile, rows_of_stretches};
 ghost use Rattle.ledger_checks.specs.Stops.{Gives, IfDiffers};
 ghost use Rattle.ledger_checks.specs.Tables.{rows_of};
 ghost use Rattle.ledger_rows.specs.Columns.{truth};
-ghost use Rattle.ledger_tables.specs.Tables.{stretch_row};
+ghost use Rattle.ledger_tables.specs.Tables.{job_row, stretch_row};
 ghost use Rattle.office.specs.Jobs.{AreStretches, HasSwitches};
+ghost use Rattle.office.specs.Office.{Entry};
 ghost use Rattle.sqlite.specs.Order.{column};
 ghost use Rattle.sqlite.specs.declared.types.Value.TheVariants.{Blob, Int};
 ghost use Rattle.units.specs.Stacked.{Stacked};
@@ -120,9 +121,8 @@ fn read_deck_of(alloc: Global, row: &Row) -> Result<Deck, Stop>
 
 /// What a row of `jobs` holds.
 pub(crate) fn read_submitted(alloc: Global, row: &Row) -> Result<Submitted, Stop>
-    ensures { (customer loaded : List ℕ) → (number : ℕ) → (it : Numbers) → (deck : List Card)
-        → IsDeck deck → row.now ≡ row_of customer number it (deck_bytes deck) loaded
-        → Gives result (record { numbers = it; deck = deck }) }
+    ensures { (e : Entry) → IsDeck e.job.deck → row.now ≡ job_row (named e)
+        → Gives result (record { numbers = numbers_of e.job; deck = e.job.deck }) }
 {
     let numbers = match read_numbers(row) {
         Ok(numbers) => numbers,
