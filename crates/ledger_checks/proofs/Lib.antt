@@ -13,3 +13,4 @@ pub mod AmongLemmas
 pub mod StandingLemmas
 pub mod StandingRows
 pub mod OrderLemmas
+pub mod RisingLemmas
