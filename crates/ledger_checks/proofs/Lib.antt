@@ -14,3 +14,5 @@ pub mod StandingLemmas
 pub mod StandingRows
 pub mod OrderLemmas
 pub mod RisingLemmas
+pub mod KeptLemmas
+pub mod KeptRows

@@ -122,6 +122,7 @@ module _ (tree : ℕ) (shown : List Term) (key : Term) (shows : (row : Row) → 
       let staged = a.grouped ∙ ap (flat_map kept_env) below in
       let kept = a.distinct ∙ ap (map (output by_key)) staged ∙ outputs (db tree) in
       let outs : IsPermutation (map key_pair (db tree)) a.ordered = subst (λ k. IsPermutation k a.ordered) kept a.same in
-      let same = IsPermutation-map (λ (p : Output). p.1) _ _ outs in
-      (subst (IsPermutation (map (show shown []) (db tree))) (sym a.shown) (subst (λ xs. IsPermutation xs (map (λ (p : Output). p.1) a.ordered)) (firsts (db tree)) same),
-      subst RiseByPlace (sym a.shown) (shown_rise (db tree) a.ordered outs a.sorted))
+      let same = IsPermutation-map (λ (p : Output). p.1) _ _ outs in (
+        subst (IsPermutation (map (show shown []) (db tree))) (sym a.shown) (subst (λ xs. IsPermutation xs (map (λ (p : Output). p.1) a.ordered)) (firsts (db tree)) same),
+        subst RiseByPlace (sym a.shown) (shown_rise (db tree) a.ordered outs a.sorted),
+      )

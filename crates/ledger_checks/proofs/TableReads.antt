@@ -50,10 +50,12 @@ module _ (tree : ℕ) (cs : List Column) (required : AreRequired cs) (sql : List
   pub read_by_place : Selects sql (ordered_query tree [] (columns (upto 0 (length cs))) (col 1 3)) names → ((db : Trees) → overlay db [] tree ≡ db tree) → ((row : Row) → column (show (columns (upto 0 (length cs))) [] row) 2 ≡ eval (col 1 3) ([] ∷ row ∷ []))
       → (old new : State) (rows : List Row) → Shown sql [] old new rows → old.now.schema ≡ bureau_schema → IsUnchanged old new × (AreObeyed old.now tree cs → AreByPlace (old.now.trees tree) rows)
   read_by_place is below shows old new rows shown ours =
-      let did = looks sql _ names is old new [] rows ours shown in
-      (did.0, λ obeyed.
-      let it = whole_by_place tree (columns (upto 0 (length cs))) (col 1 3) shows old.now.trees rows (below old.now.trees) did.1 in
-      (subst (λ xs. IsPermutation xs rows) (full_rows old.now obeyed) it.0, it.1))
+      let did = looks sql _ names is old new [] rows ours shown in (
+        did.0,
+        λ obeyed.
+            let it = whole_by_place tree (columns (upto 0 (length cs))) (col 1 3) shows old.now.trees rows (below old.now.trees) did.1 in
+            (subst (λ xs. IsPermutation xs rows) (full_rows old.now obeyed) it.0, it.1),
+      )
 
 -- ---- each table
 
