@@ -23,6 +23,7 @@ use Rattle.ledger_checks.proofs.OfficeLemmas.{row_in_jobs}
 use Rattle.ledger_checks.proofs.PlacedLemmas.{page_cell}
 use Rattle.ledger_checks.proofs.StandingRows.{pages_all, pockets_at}
 
+-- rows of pages and of pockets begin with their job's name and their place
 pages_begin : BeginsAs row.page_row
 pages_begin = record { customer = λ customer number place y. refl; number = λ customer number place y. refl; place = λ customer number place y. refl }
 
@@ -46,15 +47,19 @@ abbrev profile_for : List ℕ → ℕ → Option Job → List Row
 profile_for customer number o = profile_rows customer number (profile_of o)
 
 module _ (db : Database) (all : AllRows) (jobs : Office) (has : HasRows db all) (rows : Rows db jobs) where
+  -- the rows of `jobs` are those of the office's jobs
   jobs_are : all.jobs.items ≡ map row_in_jobs jobs
   jobs_are = has.rows.jobs ∙ rows.tables.shared.jobs ∙ map-map job_row named jobs
 
+  -- no two jobs have the same name
   distinct : AreDistinct jobs
   distinct = distinct_jobs jobs rows.tables.shared.distinct
 
+  -- the version is this program's
   version : all.version.items ≡ version_row
   version = one_permutation _ _ (subst (λ xs. IsPermutation xs all.version.items) (ap (map version_columns) rows.tables.version) has.rows.version)
 
+  -- each row of the other tables names a job
   owned : AreOwned all
   owned = record {
     stretches = all_owned jobs all.jobs.items jobs_are (db.trees 3) stretches_for (λ customer number. refl) rows.tables.shared.stretches all.stretches.items has.rows.stretches;
@@ -70,6 +75,7 @@ module _ (db : Database) (all : AllRows) (jobs : Office) (has : HasRows db all) 
     abbrev m : State
     m = picture e.job
 
+    -- the tables have the rows of the job's machine, and no others of it
     machine : HasMachine e.customer e.number all m
     machine = record {
       states = has_rows jobs all.jobs.items jobs_are (db.trees 11) state_for (λ customer number. refl) rows.tables.states all.states.items has.rows.states e there;
@@ -82,13 +88,16 @@ module _ (db : Database) (all : AllRows) (jobs : Office) (has : HasRows db all) 
           (λ (c : Punched). pocket_cell c.pocket) 1 m.works.units.punch.cards e there (pockets_at 1 m.works.units.punch.cards);
     }
 
+    -- and those of its stretches
     stretches : rows_of e.customer e.number all.stretches.items ≡ rows_of_stretches e.customer e.number e.job.stretches
     stretches = has_rows jobs all.jobs.items jobs_are (db.trees 3) stretches_for (λ customer number. refl) rows.tables.shared.stretches all.stretches.items has.rows.stretches e there
 
+  -- the rows of each entry's job are kept
   kept_one : (e : Entry) → IsAmong e jobs → IsKept all e
   kept_one e among =
       let there = found_itself jobs distinct e among in
       record { can = all_among (λ (e : Entry). CanBeKept e.job) e jobs rows.jobs among; stretches = stretches e there; machine = machine e there }
 
+  -- the rows of all tables are those of the office
   pub kept_by : AreKept all jobs
   kept_by = record { version = version; jobs = jobs_are; distinct = distinct; kept = from_among (IsKept all) jobs kept_one; owned = owned }
