@@ -16,3 +16,6 @@ pub mod StandingRows
 pub mod OrderLemmas
 pub mod StretchLemmas
 pub mod NameLemmas
+pub mod RisingLemmas
+pub mod KeptLemmas
+pub mod KeptRows
