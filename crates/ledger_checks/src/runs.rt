@@ -125,8 +125,8 @@ impl JobRun {
         &self.deck
     }
 
-    /// The deck that its machine loads: an object deck itself, or for a source its loading cards and
-    /// then its data.
+    /// The deck that its machine loads: an object deck itself, or for a source its loading cards
+    /// and then its data.
     pub fn loaded_deck(&self) -> &Deck
         ensures { result.now ≡ loaded_deck self.now.job }
     {
