@@ -1,6 +1,6 @@
 //! The values of a row.
 
-ghost use Rattle.std.specs.Prelude.{◌≡◌, ◌<◌, ◌^◌, ◌↔◌, ℕ, List, map, pos, IfSome, IsNone, IsUtf8};
+ghost use Rattle.std.specs.Prelude.{◌≡◌, ◌<◌, ◌≤◌, ◌^◌, ◌↔◌, ℕ, List, get_or, length, map, pos, IfSome, IsNone, IsUtf8};
 ghost use Rattle.sqlite.specs.Order.{column};
 ghost use Rattle.sqlite.specs.declared.types.Value.TheVariants.{Blob, Int, Text};
 ghost use Rattle.sqlite_value.specs.Value.{owned};
@@ -21,7 +21,9 @@ pub(crate) fn value_at(row: &Row, at: usize) -> ValueRef<'_>
 
 /// The first column in which a row differs from the one that is wanted, if there is one.
 pub(crate) fn first_other(row: &Row, wanted: &[ValueRef<'_>]) -> Option<usize>
-    ensures { IsNone result ↔ (row.now ≡ map owned wanted.now) }
+    ensures none { IsNone result ↔ (row.now ≡ map owned wanted.now) }
+    ensures first { IfSome result (λ at. (at ≤ length wanted.now)
+        × ((k : ℕ) → (d : ValueRef) → k < at → column row.now k ≡ owned (get_or wanted.now k d))) }
 {
     for at in 0..wanted.len() {
         if !is_same(value_at(row, at), wanted[at]) {

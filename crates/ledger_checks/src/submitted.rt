@@ -1,6 +1,6 @@
 //! What a job's rows say that its customer handed in.
 
-ghost use Rattle.std.specs.Prelude.{◌≡◌, ◌<◌, ◌^◌, ℕ, List, pos, Bool, IfErr, IfOk, Ok, Some};
+ghost use Rattle.std.specs.Prelude.{◌≡◌, ◌<◌, ◌^◌, ℕ, List, pos, Bool, IfErr, IfOk, IfSome, Ok, Some};
 ghost use Rattle.cards.specs.Decks.{IsDeck, deck_bytes};
 ghost use Rattle.cards.specs.declared.decks.Card.{Card};
 ghost use Rattle.core_store.specs.Storage.{positions_of};
@@ -48,7 +48,8 @@ pub(crate) struct Submitted {
 
 /// The kind with this number.
 fn read_kind(number: u32) -> Option<Kind>
-    ensures { (kind : Kind) → number ≡ kind_number kind → result ≡ Some kind }
+    ensures all { (kind : Kind) → number ≡ kind_number kind → result ≡ Some kind }
+    ensures only { IfSome result (λ kind. kind_number kind ≡ number) }
 {
     match number {
         0 => Some(Kind::Object),
@@ -59,31 +60,38 @@ fn read_kind(number: u32) -> Option<Kind>
 
 /// The kind in a column, if it holds one.
 fn kind_at(row: &Row, at: usize) -> Option<Kind>
-    ensures { (kind : Kind) → column row.now at ≡ Int (pos (kind_number kind))
+    ensures all { (kind : Kind) → column row.now at ≡ Int (pos (kind_number kind))
         → result ≡ Some kind }
+    ensures only { IfSome result (λ kind. column row.now at ≡ Int (pos (kind_number kind))) }
 {
     read_kind(number_at(row, at)?)
 }
 
 /// The size in a column, if it holds one.
 fn size_at(row: &Row, at: usize) -> Option<Size>
-    ensures { (size : Size) → column row.now at ≡ Int (pos (positions_of size))
+    ensures all { (size : Size) → column row.now at ≡ Int (pos (positions_of size))
         → result ≡ Some size }
+    ensures only { IfSome result (λ size. column row.now at ≡ Int (pos (positions_of size))) }
 {
     Size::of_positions(number_at(row, at)?)
 }
 
 /// The flag in a column, if it holds one.
 fn truth_at(row: &Row, at: usize) -> Option<bool>
-    ensures { (flag : Bool) → column row.now at ≡ Int (pos (truth flag)) → result ≡ Some flag }
+    ensures all { (flag : Bool) → column row.now at ≡ Int (pos (truth flag)) → result ≡ Some flag }
+    ensures only { IfSome result (λ flag. column row.now at ≡ Int (pos (truth flag))) }
 {
     read_truth(number_at(row, at)?)
 }
 
 /// The numbers of a row of `jobs`, or the name of the first column with a value that no job has.
 fn read_numbers(row: &Row) -> Result<Numbers, &'static str>
-    ensures { (customer deck loaded : List ℕ) → (number : ℕ) → (it : Numbers)
+    ensures all { (customer deck loaded : List ℕ) → (number : ℕ) → (it : Numbers)
         → row.now ≡ row_of customer number it deck loaded → result ≡ Ok it }
+    ensures only { IfOk result (λ it. (column row.now 2 ≡ Int (pos (kind_number it.kind)))
+        × (column row.now 3 ≡ Int (pos (positions_of it.size)))
+        × (column row.now 6 ≡ Int (pos (truth it.held)))
+        × (column row.now 7 ≡ Int (pos (truth it.collected)))) }
 {
     let Some(kind) = kind_at(row, 2) else {
         return Err("kind");

@@ -10,10 +10,10 @@ use Rattle.ledger_checks.proofs.submitted.read_submitted.Goals as goal
 
 pub returns : goal.returns
 returns c = λ e is_deck row.
-    let told : Ok c.in-Ok.numbers ≡ Ok (numbers_of e.job) = c.in-Ok.ensures e.customer (deck_bytes e.job.deck) (deck_bytes (loaded_deck e.job)) e.number (numbers_of e.job) row in
+    let told : Ok c.in-Ok.numbers ≡ Ok (numbers_of e.job) = c.in-Ok.ensures.all e.customer (deck_bytes e.job.deck) (deck_bytes (loaded_deck e.job)) e.number (numbers_of e.job) row in
     let numbers : c.in-Ok.numbers ≡ numbers_of e.job = cc in
     let same = (c.in_ok-deck.ensures e.job.deck is_deck (ap (λ (r : Row). column r 4) row)).0 in
     (ap (λ (n : Numbers). let x : Submitted = record { numbers = n; deck = c.in_ok-deck.deck } in x) numbers ∙ ap (λ (d : Deck). let x : Submitted = record { numbers = numbers_of e.job; deck = d } in x) same, tt)
 
 pub returns-in-Err : goal.returns-in-Err
-returns-in-Err c = λ e is_deck row. absurd (let no = c.in-Err.ensures e.customer (deck_bytes e.job.deck) (deck_bytes (loaded_deck e.job)) e.number (numbers_of e.job) row in cc)
+returns-in-Err c = λ e is_deck row. absurd (let no = c.in-Err.ensures.all e.customer (deck_bytes e.job.deck) (deck_bytes (loaded_deck e.job)) e.number (numbers_of e.job) row in cc)
