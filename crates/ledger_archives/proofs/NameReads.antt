@@ -1,9 +1,9 @@
 -- The names of the jobs, as they are read.
-use Rattle.std.proofs.Common.{◌≡◌, List, ℕ, [], ◌∷◌, map, drop, get_or, codes, false, IsTrue, Option, Some, None, refl, sym, ap, subst, ◌∙◌}
+use Rattle.std.proofs.Common.{◌≡◌, inl, inr, List, ℕ, [], ◌∷◌, map, drop, get_or, codes, false, IsTrue, Option, Some, None, refl, sym, ap, subst, ◌∙◌}
 use Rattle.sqlite.specs.Listing.{understood}
 use Rattle.sqlite.specs.Order.{Row, column}
 use Rattle.sqlite.specs.Effect.{Database}
-use Rattle.sqlite.specs.State.{State, IsUnchanged, Shown, ShowsRows}
+use Rattle.sqlite.specs.State.{State, HasCleanDisk, IsUnchanged, Shown, ShowsRows, Survives}
 use Rattle.sqlite.specs.Tree.{Trees}
 use Rattle.sqlite_resolve.specs.declared.compiled.Compiled.{Compiled}
 use Rattle.sqlite_schema.specs.declared.command.Returning.{Returning}
@@ -73,3 +73,10 @@ stands_settled s office outside settled left seen = record {
   now = λ opened. seen;
   left = λ db may. subst (λ d. LeftAs d office) (sym (left db may ∙ sym (ap (λ (d : Database). d.trees) settled))) (left_as s.now office seen);
 }
+
+-- after two calls that commit nothing a crash leaves nothing new
+pub left_before : (old mid new : State) → Survives old mid (λ _. ⊥) → Survives mid new (λ _. ⊥) → HasCleanDisk mid → HasCleanDisk new → (db : Trees) → new.may_leave db → old.may_leave db
+left_before old mid new one two early late db may = elim (two.crash late db may) [
+  | inr none ↦ absurd none
+  | inl before ↦ elim (one.crash early db before) [ inl first ↦ first | inr none ↦ absurd none ]
+]

@@ -63,7 +63,7 @@ abbrev pub list_text : Option (List ℕ) → Office → List ℕ
 list_text asked office =
     flat_map entry_line (asked_for asked office) ++ count_line (length (asked_for asked office))
 
--- the lines of those of these jobs that are asked for came behind a text, and so many they are
+-- the lines of those of these jobs that are asked for came behind a text, and this is their number
 pub record AddsLines (asked : Option (List ℕ)) (jobs : Office) (old new : List ℕ) (added : ℕ)
     : Type 0 where
   pub text : new ≡ old ++ flat_map entry_line (asked_for asked jobs)
@@ -77,12 +77,17 @@ module _ {S : Type 0} (g : Ghosts S) (old new : Held S) where
       → AreDistinct (map named office) → Stands (state g old) office
       → Stands (state g new) office × Is office found)
 
-  -- on Ok, if the tables represented an office, they represent it still, and of the job of this
-  -- name the line was added to the text, if it is asked for
+  -- on Ok, if the tables represented an office, they represent it still, and the line of its job
+  -- that is named so came behind a text, if the job is asked for
   abbrev pub AddsNamed : Result ℕ Fault → (Entry → Type 0) → Option (List ℕ) → List ℕ → List ℕ
       → Type 0
-  AddsNamed result IsNamed asked text more = FindsStill result (λ office added. (e : Entry)
-      → IsNamed e → IsIts office e → AddsLines asked (e ∷ []) text more added)
+  AddsNamed result IsSo asked old_text new_text = FindsStill result (λ office added. (e : Entry)
+      → IsSo e → IsIts office e → AddsLines asked (e ∷ []) old_text new_text added)
+
+  -- whatever the answer, if the tables represented this office, so does all that a crash may leave
+  abbrev pub Leaves : Office → Type 0
+  Leaves office = HasCleanDisk (state g new) → Stands (state g old) office
+      → (db : Trees) → (state g new).may_leave db → LeftAs db office
 
   -- on Ok, if the tables that the connection saw stand for an office, they stand for it still, and
   -- the text is the list of those of its jobs that are asked for
@@ -93,9 +98,13 @@ module _ {S : Type 0} (g : Ghosts S) (old new : Held S) where
 
 module _ {S : Type 0} (g : Ghosts S) where
   -- on Ok, if the tables that the connection saw stand for an office, the text is the list of those
-  -- of its jobs that are asked for, and all that a crash may leave of the store stands for this
-  -- office still
+  -- of its jobs that are asked for
   abbrev pub ListsAlone : Held S → S → Result (Vec ℕ Global) OpenFault → Option (List ℕ) → Type 0
   ListsAlone conn store result asked = IsClean (g.view store) → IfOk result (λ text.
-      (office : Office) → StandsIn (state g conn) office → (text.items ≡ list_text asked office)
-      × ((db : Trees) → g.recovers store db → LeftAs db office))
+      (office : Office) → StandsIn (state g conn) office → text.items ≡ list_text asked office)
+
+  -- whatever the answer, if the tables stood for an office, so does all that a crash may leave of
+  -- the store
+  abbrev pub LeavesAlone : Held S → S → Type 0
+  LeavesAlone conn store = IsClean (g.view store) → (office : Office) → Stands (state g conn) office
+      → (db : Trees) → g.recovers store db → LeftAs db office

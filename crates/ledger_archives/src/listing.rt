@@ -3,11 +3,13 @@
 ghost use Rattle.std.specs.Prelude.{◌≡◌, ◌≤◌, ◌++◌, decimal, map, option_map, Some, IfOk, IsTrue, OnOk};
 ghost use Rattle.office.specs.Jobs.{Job};
 ghost use Rattle.office.specs.Kept.{kept_of, summary_of};
-ghost use Rattle.office.specs.Office.{job_of};
+ghost use Rattle.office.specs.Office.{Office, job_of};
 ghost use Rattle.sqlite.specs.Held.{state};
+ghost use Rattle.ledger.specs.Standing.{named};
+ghost use Rattle.ledger_tables.specs.Tables.{AreDistinct};
 ghost use Rattle.sqlite.specs.State.{HasCleanDisk};
 ghost use Rattle.sqlite.specs.View.{IsClean, doubt};
-ghost use Rattle.ledger_archives.specs.Lists.{AddsNamed, FindsStill, Lists, ListsAlone, count_line, flag_words, if_set, is_of, list_text, listed_line, made_words, summary_words};
+ghost use Rattle.ledger_archives.specs.Lists.{AddsNamed, FindsStill, Leaves, LeavesAlone, Lists, ListsAlone, count_line, flag_words, if_set, is_of, list_text, listed_line, made_words, summary_words};
 ghost use Rattle.ledger_archives.specs.Names.{IsNamed, name_row};
 
 use crate::lines::push_decimal;
@@ -92,6 +94,8 @@ fn ask<S: Alter>(alloc: Global, bureau: &mut Bureau<S>, name: JobName<'_>) -> Re
         (λ office summary. (job : Job)
         → job_of name.entry.customer.now name.entry.number office ≡ Some job
         → summary ≡ summary_of (kept_of job)) }
+    ensures left { (office : Office) → AreDistinct (map named office)
+        → Leaves S.Store bureau.old.conn bureau.new.conn office }
     ensures clean { doubt (state S.Store bureau.old.conn).is_clean
         ≤ doubt (state S.Store bureau.new.conn).is_clean }
 {
@@ -127,6 +131,8 @@ fn push_named<S: Alter>(
     ensures added { AddsNamed S.Store bureau.old.conn bureau.new.conn result
         (IsNamed name.entry.customer.now name.entry.number)
         (option_map (λ it. it.now) asked.entry) out.old.items out.new.items }
+    ensures left { (office : Office) → AreDistinct (map named office)
+        → Leaves S.Store bureau.old.conn bureau.new.conn office }
     ensures one { IfOk result (λ count. count ≤ 1) }
     ensures clean { doubt (state S.Store bureau.old.conn).is_clean
         ≤ doubt (state S.Store bureau.new.conn).is_clean }
@@ -151,6 +157,8 @@ fn push_row<S: Alter>(
     ensures added { AddsNamed S.Store bureau.old.conn bureau.new.conn result
         (λ e. row.now ≡ name_row e)
         (option_map (λ it. it.now) asked.entry) out.old.items out.new.items }
+    ensures left { (office : Office) → AreDistinct (map named office)
+        → Leaves S.Store bureau.old.conn bureau.new.conn office }
     ensures one { IfOk result (λ count. count ≤ 1) }
     ensures clean { doubt (state S.Store bureau.old.conn).is_clean
         ≤ doubt (state S.Store bureau.new.conn).is_clean }
@@ -178,6 +186,8 @@ fn list_named<S: Alter>(
     ensures listed { FindsStill S.Store bureau.old.conn bureau.new.conn result
         (λ office text. rows.now ≡ map name_row office
         → text.items ≡ list_text (option_map (λ it. it.now) asked.entry) office) }
+    ensures left { (office : Office) → AreDistinct (map named office)
+        → Leaves S.Store bureau.old.conn bureau.new.conn office }
     ensures clean { doubt (state S.Store bureau.old.conn).is_clean
         ≤ doubt (state S.Store bureau.new.conn).is_clean }
 {
@@ -206,6 +216,7 @@ fn list_in<S: Alter + Drop>(
 ) -> (Result<Vec<u8>, OpenFault>, Connection<S>)
     ensures listed { Lists S.Store conn result.1 result.0
         (option_map (λ it. it.now) asked.entry) }
+    ensures left { (office : Office) → Leaves S.Store conn result.1 office }
     ensures opened { HasCleanDisk (state S.Store result.1)
         → OnOk result.0 (IsTrue (state S.Store conn).is_open) }
 {
@@ -237,6 +248,7 @@ pub fn list_jobs<S: Alter + Drop>(
 ) -> (Result<Vec<u8>, OpenFault>, S)
     ensures listed { ListsAlone S.Store conn result.1 result.0
         (option_map (λ it. it.now) asked.entry) }
+    ensures left { LeavesAlone S.Store conn result.1 }
     ensures opened { IsClean (S.Store.view result.1)
         → OnOk result.0 (IsTrue (state S.Store conn).is_open) }
 {

@@ -11,6 +11,7 @@ ghost use Rattle.sqlite.specs.View.{doubt};
 ghost use Rattle.sqlite.specs.declared.types.Value.TheVariants.{Int, Text};
 ghost use Rattle.ledger.specs.Standing.{Stands, StandsIn, named};
 ghost use Rattle.ledger_tables.specs.Tables.{AreDistinct};
+ghost use Rattle.ledger_archives.specs.Lists.{Leaves};
 ghost use Rattle.ledger_archives.specs.Names.{IsNamed, name_row};
 
 use ledger_tables::{Fault, JobName};
@@ -31,6 +32,7 @@ pub(crate) fn read_names<S: Alter>(conn: &mut Connection<S>) -> Result<Vec<Row>,
     ensures names { HasCleanDisk (state S.Store conn.new) → IfOk result (λ rows. (office : Office)
         → StandsIn (state S.Store conn.old) office → AreDistinct (map named office)
         × Stands (state S.Store conn.new) office × (rows.items ≡ map name_row office)) }
+    ensures left { (office : Office) → Leaves S.Store conn.old conn.new office }
     ensures opened { HasCleanDisk (state S.Store conn.new)
         → OnOk result (IsTrue (state S.Store conn.old).is_open) }
     ensures clean { doubt (state S.Store conn.old).is_clean

@@ -34,3 +34,9 @@ returns-clause-listed g c clean office distinct s =
           let many : length office ≤ c.loop-row.row-index = omega (arith, c.loop-row-test.false, ap length is, length-map office name_row) in
           whole_list _ office c.loop-row.row-index _ _ _ (take_all c.loop-row.row-index office many) (last.1 is) c.in_ok-push_count.ensures,
     )
+
+pub returns-in_err-jobs-clause-left : goal.returns-in_err-jobs-clause-left
+returns-in_err-jobs-clause-left g c office distinct clean s db may =
+    let early : HasCleanDisk (state g.S.Store c.loop-row.bureau.conn) = omega (arith, c.push_row.ensures.clean, clean) in
+    let before = c.loop-row.invariant.listed early office distinct s in
+    c.push_row.ensures.left office distinct clean before.0 db may

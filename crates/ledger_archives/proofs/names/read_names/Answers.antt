@@ -1,9 +1,9 @@
-use Rattle.std.proofs.Common.{◌≡◌, false, IsTrue, subst, rules}
+use Rattle.std.proofs.Common.{◌≡◌, false, IsTrue, sym, subst, rules}
 use Rattle.sqlite.specs.State.{HasCleanDisk, KeepsCommit}
 use Rattle.sqlite.specs.Held.{state}
 use Rattle.ledger.specs.Standing.{Stands, StandsIn}
 use Rattle.ledger.proofs.BureauTransactions.{rolled_untouched}
-use Rattle.ledger_archives.proofs.NameReads.{names_read, open_if_shown, stands_settled, still_stands}
+use Rattle.ledger_archives.proofs.NameReads.{left_before, names_read, open_if_shown, stands_settled, still_stands}
 use Rattle.ledger_archives.proofs.names.read_names.Goals as goal
 
 pub returns-in-Ok-clause-names : goal.returns-in-Ok-clause-names
@@ -33,3 +33,29 @@ returns-in-Ok-clause-opened g c clean =
     let late : HasCleanDisk (state g.S.Store end) = search rules in
     let early : HasCleanDisk (state g.S.Store mid) = search (rules, c.rollback.ensures.survives.clean) in
     rw begun at (open_if_shown _ _ _ _ _ (c.in-Ok.ensures.ok early))
+
+pub returns-in-Ok-clause-left : goal.returns-in-Ok-clause-left
+returns-in-Ok-clause-left g c office clean s db may =
+    let begun = c.transaction-tx.ensures.begun in
+    let tx = c.transaction-tx.result.conn.now in
+    let mid = c.query_all-found.new.self.conn.now in
+    let end = c.rollback.new.self.0 in
+    let same : end ≡ c.conn-1.given.0 = search rules in
+    let late : HasCleanDisk (state g.S.Store end) = search rules in
+    let early : HasCleanDisk (state g.S.Store mid) = search (rules, c.rollback.ensures.survives.clean) in
+    let there : g.S.Store.recovers end.store db = subst (λ h. g.S.Store.recovers h.store db) (sym same) may in
+    let before : g.S.Store.recovers tx.store db = left_before (state g.S.Store tx) (state g.S.Store mid) (state g.S.Store end) c.query_all-found.ensures.survives c.rollback.ensures.survives early late db there in
+    s.left db (subst (λ h. g.S.Store.recovers h.store db) begun before)
+
+pub returns-in-Err-clause-left : goal.returns-in-Err-clause-left
+returns-in-Err-clause-left g c office clean s db may =
+    let begun = c.transaction-tx.ensures.begun in
+    let tx = c.transaction-tx.result.conn.now in
+    let mid = c.query_all-found.new.self.conn.now in
+    let end = c.rollback.new.self.0 in
+    let same : end ≡ c.conn-1.given.0 = search rules in
+    let late : HasCleanDisk (state g.S.Store end) = search rules in
+    let early : HasCleanDisk (state g.S.Store mid) = search (rules, c.rollback.ensures.survives.clean) in
+    let there : g.S.Store.recovers end.store db = subst (λ h. g.S.Store.recovers h.store db) (sym same) may in
+    let before : g.S.Store.recovers tx.store db = left_before (state g.S.Store tx) (state g.S.Store mid) (state g.S.Store end) c.query_all-found.ensures.survives c.rollback.ensures.survives early late db there in
+    s.left db (subst (λ h. g.S.Store.recovers h.store db) begun before)
