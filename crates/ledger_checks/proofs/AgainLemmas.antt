@@ -5,7 +5,7 @@ use Rattle.machine.specs.Run.{State, after, started}
 use Rattle.machine.specs.declared.standings.Standing.TheVariants.{Halted}
 use Rattle.office.specs.Jobs.{resumed, AreStretches}
 use Rattle.office.specs.declared.stretches.Stretch.{Stretch}
-use Rattle.ledger_checks.specs.Again.{GoesThrough, HasResumed}
+use Rattle.ledger_checks.specs.Again.{GoesThrough, HasResumed, StartsAtHalts}
 
 -- one stretch more
 pub resumed_push : (m : State) (xs : List Stretch) (s : Stretch) → resumed m (xs ++ s ∷ []) ≡ after (started (resumed m xs) s.switches) s.granted
@@ -29,3 +29,8 @@ resumed_first m now s others allowed went = record {
   halts = λ n some within. elim n as (λ n. 0 < n → n < length (s ∷ others) → (resumed m (take n (s ∷ others))).standing ≡ Halted)
       [ zero ↦ λ some within. absurd (omega (arith, some)) | suc k ↦ λ some within. went.halts k (omega (arith, within)) ] some within;
 }
+
+-- a machine that goes through a first stretch and others is at a halt before each of these
+pub halts_after_first : (m now : State) (s : Stretch) (others : List Stretch) → HasResumed m (s ∷ others) now → StartsAtHalts (after (started m s.switches) s.granted) others
+unfolding resumed
+halts_after_first m now s others went = λ n within. went.halts (suc n) (omega arith) (omega (arith, within))

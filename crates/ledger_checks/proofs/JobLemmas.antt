@@ -1,21 +1,23 @@
 -- A job that was run again is as its rows say.
-use Rattle.std.proofs.Common.{◌≡◌, ℕ, List, All, take, ap, subst, ◌∙◌}
+use Rattle.std.proofs.Common.{◌≡◌, ℕ, pos, List, All, take, refl, sym, ap, subst, ◌∙◌}
 use Rattle.cards.specs.declared.decks.Card.{Card}
 use Rattle.cards.specs.Decks.{deck_bytes, IsDeck}
 use Rattle.machine.specs.Run.{State, lines_of}
 use Rattle.machine.specs.Run as run
 use Rattle.machine.specs.declared.standings.Standing.TheVariants.{Halted}
 use Rattle.units.specs.declared.profiles.Profile.{Profile}
-use Rattle.office.specs.Jobs.{all_off, loaded_of, picture, resumed, IsJob}
+use Rattle.office.specs.Jobs.{all_off, loaded_deck, loaded_of, picture, resumed, IsJob}
 use Rattle.office.specs.Office.{Entry}
 use Rattle.office.specs.declared.stretches.Stretch.{Stretch}
 use Rattle.ledger_rows.specs.Columns.{HoldsCharacters, IsLine}
 use Rattle.ledger_rows.specs.Pockets.{IsPunched}
-use Rattle.sqlite.specs.Order.{Row}
-use Rattle.ledger.specs.Standing.{CanBeKept}
+use Rattle.sqlite.specs.Order.{Row, column}
+use Rattle.sqlite.specs.declared.types.Value.TheVariants.{Int, Text}
+use Rattle.ledger_tables.specs.Tables.{job_row}
+use Rattle.ledger.specs.Standing.{named, CanBeKept}
 use Rattle.ledger_checks.specs.Again.{HasResumed, IsLoading}
-use Rattle.ledger_checks.specs.Jobs.{HasComeTo, HasRunAs, entry_of, row_of}
-use Rattle.ledger_checks.specs.Kept.{HasMachine, IsKept, rows_of_stretches}
+use Rattle.ledger_checks.specs.Jobs.{HasComeTo, HasRunAs, IsNameOf, entry_of, numbers_of, row_of}
+use Rattle.ledger_checks.specs.Kept.{HasMachine, IsKept, IsNamed, rows_of_stretches}
 use Rattle.ledger_checks.specs.Tables.{rows_of}
 use Rattle.ledger_checks.specs.declared.all_rows.AllRows.{AllRows}
 use Rattle.ledger_checks.specs.declared.submitted.Numbers.{Numbers}
@@ -54,8 +56,8 @@ module _ (all : AllRows) (it : Row) (customer : List ℕ) (number : ℕ) (number
   kept : IsKept all e
   kept = record { can = can; stretches = has_stretches; machine = subst (HasMachine customer number all) picture_is machine }
 
-  pub come_to : HasComeTo e m
-  come_to = record { can = can; machine = picture_is }
+  pub come_to : IsNamed e → HasComeTo e m
+  come_to named = record { named = named; can = can; machine = picture_is }
 
   pub run_as : HasRunAs all it e
   run_as = record {
@@ -63,3 +65,35 @@ module _ (all : AllRows) (it : Row) (customer : List ℕ) (number : ℕ) (number
         ∙ ap (λ b. row_of customer number numbers (deck_bytes deck) b) (loaded_is ∙ ap deck_bytes loading.loaded_is);
     kept = kept;
   }
+
+-- a machine that went through a job's stretches is as in the job's picture
+pub came_to : (customer : List ℕ) (number : ℕ) (numbers : Numbers) (deck loaded : List Card) (profile : Profile) (stretches : List Stretch) (m : State) → IsLoading numbers.kind deck loaded → HasResumed (run.loaded loaded numbers.size all_off profile) stretches m
+    → m ≡ picture (entry_of customer number numbers deck profile stretches).job
+came_to customer number numbers deck loaded profile stretches m loading went = went.machine ∙ ap (λ d. resumed (run.loaded d numbers.size all_off profile) stretches) loading.loaded_is
+
+-- ---- a job whose rows are in the tables
+
+module _ (all : AllRows) (it : Row) (e : Entry) (ran : HasRunAs all it e) where
+  pub loading_of : IsLoading e.job.kind e.job.deck (loaded_deck e.job)
+  loading_of =
+      let job = ran.kept.can.job in
+      record { is_deck = job.deck; card = job.card; faultless = job.faultless; loaded_is = refl; is_loaded = job.loaded }
+
+  pub resumed_of : HasResumed (run.loaded (loaded_deck e.job) e.job.size all_off e.job.profile) e.job.stretches (picture e.job)
+  resumed_of = record { allowed = ran.kept.can.job.stretches; halts = ran.kept.can.job.halts; machine = refl }
+
+-- ---- the entry whose job was run again
+
+pub same_entry : (e : Entry) (customer : List ℕ) (number : ℕ) (numbers : Numbers) (deck : List Card) (profile : Profile) (stretches : List Stretch) → customer ≡ e.customer → number ≡ e.number → numbers ≡ numbers_of e.job → deck ≡ e.job.deck
+    → profile ≡ e.job.profile → stretches ≡ e.job.stretches → entry_of customer number numbers deck profile stretches ≡ e
+same_entry e customer number numbers deck profile stretches one two three four five six =
+    ap (λ (x : List ℕ). entry_of x number numbers deck profile stretches) one ∙ ap (λ (x : ℕ). entry_of e.customer x numbers deck profile stretches) two
+    ∙ ap (λ (x : Numbers). entry_of e.customer e.number x deck profile stretches) three ∙ ap (λ (x : List Card). entry_of e.customer e.number (numbers_of e.job) x profile stretches) four
+    ∙ ap (λ (x : Profile). entry_of e.customer e.number (numbers_of e.job) e.job.deck x stretches) five ∙ ap (λ (x : List Stretch). entry_of e.customer e.number (numbers_of e.job) e.job.deck e.job.profile x) six
+
+-- a row begins with one name
+pub named_by : (it : Row) (e : Entry) (customer : List ℕ) (number : ℕ) → IsNameOf it customer number → it ≡ job_row (named e) → (customer ≡ e.customer) × (number ≡ e.number)
+named_by it e customer number is row =
+    let text : Text customer ≡ Text e.customer = sym is.text ∙ ap (λ (r : Row). column r 0) row in
+    let int : Int (pos number) ≡ Int (pos e.number) = sym is.int ∙ ap (λ (r : Row). column r 1) row in
+    (cc, cc)

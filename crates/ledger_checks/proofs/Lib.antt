@@ -1,3 +1,4 @@
+pub mod DifferLemmas
 pub mod RowLemmas
 pub mod AgainLemmas
 pub mod LoadedLemmas
@@ -13,3 +14,8 @@ pub mod AmongLemmas
 pub mod StandingLemmas
 pub mod StandingRows
 pub mod OrderLemmas
+pub mod StretchLemmas
+pub mod NameLemmas
+pub mod RisingLemmas
+pub mod KeptLemmas
+pub mod KeptRows

@@ -1,5 +1,5 @@
 -- Rows that are passed one after the other.
-use Rattle.std.proofs.Common.{◌≡◌, ◌<◌, ◌≤◌, ◌+◌, ◌++◌, ℕ, zero, suc, List, [], ◌∷◌, map, drop, length, get_or, Option, Some, refl, sym, ap, subst, ◌∙◌, arith}
+use Rattle.std.proofs.Common.{◌≡◌, ◌<◌, ◌≤◌, ◌↔◌, ◌+◌, ◌++◌, ℕ, zero, suc, List, [], ◌∷◌, map, drop, length, get_or, Option, Some, None, refl, sym, ap, subst, ◌∙◌, arith}
 use Rattle.std.specs.Option.{option_to_list}
 use Rattle.std.proofs.lemmas.List.{drop_more}
 use Rattle.std.proofs.Math.ListN.{drop_of_length-le}
@@ -10,23 +10,40 @@ use Rattle.core_store.specs.Storage.{Storage}
 use Rattle.ledger_rows.specs.Pages.{page_bytes}
 use Rattle.ledger_checks.specs.Tables.{pages_from, placed_some}
 
--- the rows that are left lead to all of them
+-- the rows that are left are these exactly if all rows are those that are wanted
 abbrev pub Leads : List Row → List Row → List Row → List Row → Type 0
-Leads whole wanted rest left = rest ≡ left → whole ≡ wanted
+Leads whole wanted rest left = (rest ≡ left) ↔ (whole ≡ wanted)
 
 module _ {X Y : Type 0} (row : ℕ → Y → Row) (f : X → Y) (first : ℕ) (xs : List X) where
   -- the rows from a place on
   abbrev pub placed_from : ℕ → List Row
   placed_from at = placed row (first + at) (map f (drop at xs))
 
-  pub placed_step : (at : ℕ) (d : X) (old new whole wanted : List Row) (it : Row) → at < length xs → Leads whole wanted old (placed_from at) → old ≡ it ∷ new → it ≡ row (first + at) (f (get_or xs at d)) → Leads whole wanted new (placed_from (at + 1))
-  placed_step at d old new whole wanted it less leads passed is left =
-      let more : placed_from at ≡ row (first + at) (f (get_or xs at d)) ∷ placed row (first + at + 1) (map f (drop (at + 1) xs)) = ap (λ ys. placed row (first + at) (map f ys)) (drop_more xs at d less) in
+  pub placed_more : (at : ℕ) (d : X) → at < length xs → placed_from at ≡ row (first + at) (f (get_or xs at d)) ∷ placed_from (at + 1)
+  placed_more at d less =
       let on : first + at + 1 ≡ first + (at + 1) = omega arith in
-      leads (passed ∙ ap (λ v. v ∷ new) is ∙ ap (λ vs. row (first + at) (f (get_or xs at d)) ∷ vs) (left ∙ sym (ap (λ n. placed row n (map f (drop (at + 1) xs))) on)) ∙ sym more)
+      ap (λ ys. placed row (first + at) (map f ys)) (drop_more xs at d less)
+      ∙ ap (λ n. row (first + at) (f (get_or xs at d)) ∷ placed row n (map f (drop (at + 1) xs))) on
 
-  pub placed_ends : (at : ℕ) (rest whole wanted : List Row) → length xs ≤ at → Leads whole wanted rest (placed_from at) → rest ≡ [] → whole ≡ wanted
-  placed_ends at rest whole wanted past leads none = leads (none ∙ sym (ap (λ ys. placed row (first + at) (map f ys)) (drop_of_length-le xs past)))
+  pub placed_step : (at : ℕ) (d : X) (old new whole wanted : List Row) (it : Row) → at < length xs → Leads whole wanted old (placed_from at) → old ≡ it ∷ new → it ≡ row (first + at) (f (get_or xs at d)) → Leads whole wanted new (placed_from (at + 1))
+  placed_step at d old new whole wanted it less leads passed is =
+      let this : placed_from at ≡ it ∷ placed_from (at + 1) = placed_more at d less ∙ ap (λ v. v ∷ placed_from (at + 1)) (sym is) in
+      (λ left. leads.0 (passed ∙ ap (λ vs. it ∷ vs) left ∙ sym this), λ all. ap (drop 1) (sym passed ∙ leads.1 all ∙ this))
+
+  -- a row that is another one shows that not all are those that are wanted
+  pub placed_fails : (at : ℕ) (d : X) (old whole wanted : List Row) (it : Row) → at < length xs → Leads whole wanted old (placed_from at) → ((rest : List Row) → ¬ (old ≡ it ∷ rest)) → it ≡ row (first + at) (f (get_or xs at d)) → ¬ (whole ≡ wanted)
+  placed_fails at d old whole wanted it less leads other is =
+      λ all. other (placed_from (at + 1)) (leads.1 all ∙ placed_more at d less ∙ ap (λ v. v ∷ placed_from (at + 1)) (sym is))
+
+  pub placed_ends : (at : ℕ) (rest whole wanted : List Row) → length xs ≤ at → Leads whole wanted rest (placed_from at) → Leads whole wanted rest []
+  placed_ends at rest whole wanted past leads =
+      let none : placed_from at ≡ [] = ap (λ ys. placed row (first + at) (map f ys)) (drop_of_length-le xs past) in
+      (λ is. leads.0 (is ∙ sym none), λ all. leads.1 all ∙ none)
+
+-- the same rows before two lists that are equal
+cancel : {Y : Type 0} (o : Option Y) (f : Y → Row) (xs ys : List Row) → map f (option_to_list o) ++ xs ≡ map f (option_to_list o) ++ ys → xs ≡ ys
+cancel None f xs ys is = is
+cancel (Some y) f xs ys is = ap (drop 1) is
 
 module _ {X Y : Type 0} (cell : X → Option Y) (row : ℕ → Y → Row) (first : ℕ) (xs : List X) where
   -- the rows from a place on, of those that have one
@@ -40,11 +57,18 @@ module _ {X Y : Type 0} (cell : X → Option Y) (row : ℕ → Y → Row) (first
       ∙ ap (λ n. map (row (first + at)) (option_to_list (cell (get_or xs at d))) ++ placed_some cell row n (drop (at + 1) xs)) on
 
   pub some_step : (at : ℕ) (d : X) (old new whole wanted : List Row) → at < length xs → Leads whole wanted old (some_from at) → old ≡ map (row (first + at)) (option_to_list (cell (get_or xs at d))) ++ new → Leads whole wanted new (some_from (at + 1))
-  some_step at d old new whole wanted less leads passed left =
-      leads (passed ∙ ap (λ vs. map (row (first + at)) (option_to_list (cell (get_or xs at d))) ++ vs) left ∙ sym (some_more at d less))
+  some_step at d old new whole wanted less leads passed = (
+    λ left. leads.0 (passed ∙ ap (λ vs. map (row (first + at)) (option_to_list (cell (get_or xs at d))) ++ vs) left ∙ sym (some_more at d less)),
+    λ all. cancel (cell (get_or xs at d)) (row (first + at)) new (some_from (at + 1)) (sym passed ∙ leads.1 all ∙ some_more at d less),
+  )
 
-  pub some_ends : (at : ℕ) (rest whole wanted : List Row) → length xs ≤ at → Leads whole wanted rest (some_from at) → rest ≡ [] → whole ≡ wanted
-  some_ends at rest whole wanted past leads none = leads (none ∙ sym (ap (placed_some cell row (first + at)) (drop_of_length-le xs past)))
+  pub some_fails : (at : ℕ) (d : X) (old whole wanted here : List Row) → at < length xs → Leads whole wanted old (some_from at) → ((rest : List Row) → ¬ (old ≡ here ++ rest)) → here ≡ map (row (first + at)) (option_to_list (cell (get_or xs at d))) → ¬ (whole ≡ wanted)
+  some_fails at d old whole wanted here less leads other is = λ all. other (some_from (at + 1)) (leads.1 all ∙ some_more at d less ∙ ap (λ vs. vs ++ some_from (at + 1)) (sym is))
+
+  pub some_ends : (at : ℕ) (rest whole wanted : List Row) → length xs ≤ at → Leads whole wanted rest (some_from at) → Leads whole wanted rest []
+  some_ends at rest whole wanted past leads =
+      let none : some_from at ≡ [] = ap (placed_some cell row (first + at)) (drop_of_length-le xs past) in
+      (λ is. leads.0 (is ∙ sym none), λ all. leads.1 all ∙ none)
 
 -- ---- the pages of a storage
 
@@ -62,15 +86,22 @@ page_there s first (suc count) (suc k) d less =
 abbrev pub page_cell : List ℕ → Option (List ℕ)
 page_cell bytes = unless_blank (Some bytes)
 
-pub page_step : (s : Storage) (count page : ℕ) (row : ℕ → List ℕ → Row) (bytes : List ℕ) (old new whole wanted : List Row) → page < count → Leads whole wanted old (some_from page_cell row 0 (pages_from s 0 count) page) → bytes ≡ page_bytes s page → old ≡ map (row page) (option_to_list (page_cell bytes)) ++ new
-    → Leads whole wanted new (some_from page_cell row 0 (pages_from s 0 count) (page + 1))
-page_step s count page row bytes old new whole wanted less leads is passed =
-    let pages = pages_from s 0 count in
-    let within : page < length pages = subst (λ n. page < n) (sym (pages_long s 0 count)) less in
-    let zeroth : page ≡ 0 + page = omega arith in
-    let same : bytes ≡ get_or pages page [] = is ∙ ap (page_bytes s) zeroth ∙ sym (page_there s 0 count page [] less) in
-    some_step page_cell row 0 pages page [] old new whole wanted within leads
-    (passed ∙ ap (λ n. map (row n) (option_to_list (page_cell bytes)) ++ new) zeroth ∙ ap (λ b. map (row (0 + page)) (option_to_list (page_cell b)) ++ new) same)
+module _ (s : Storage) (count page : ℕ) (row : ℕ → List ℕ → Row) (bytes : List ℕ) (old whole wanted : List Row) (less : page < count) (leads : Leads whole wanted old (some_from page_cell row 0 (pages_from s 0 count) page)) (is : bytes ≡ page_bytes s page) where
+  within : page < length (pages_from s 0 count)
+  within = subst (λ n. page < n) (sym (pages_long s 0 count)) less
 
-pub page_ends : (s : Storage) (count page : ℕ) (row : ℕ → List ℕ → Row) (rest whole wanted : List Row) → count ≤ page → Leads whole wanted rest (some_from page_cell row 0 (pages_from s 0 count) page) → rest ≡ [] → whole ≡ wanted
-page_ends s count page row rest whole wanted past leads none = some_ends page_cell row 0 (pages_from s 0 count) page rest whole wanted (subst (λ n. n ≤ page) (sym (pages_long s 0 count)) past) leads none
+  -- the row of the page, if it has one
+  same : map (row page) (option_to_list (page_cell bytes)) ≡ map (row (0 + page)) (option_to_list (page_cell (get_or (pages_from s 0 count) page [])))
+  same =
+      let zeroth : page ≡ 0 + page = omega arith in
+      let there : bytes ≡ get_or (pages_from s 0 count) page [] = is ∙ ap (page_bytes s) zeroth ∙ sym (page_there s 0 count page [] less) in
+      ap (λ n. map (row n) (option_to_list (page_cell bytes))) zeroth ∙ ap (λ b. map (row (0 + page)) (option_to_list (page_cell b))) there
+
+  pub page_step : (new : List Row) → old ≡ map (row page) (option_to_list (page_cell bytes)) ++ new → Leads whole wanted new (some_from page_cell row 0 (pages_from s 0 count) (page + 1))
+  page_step new passed = some_step page_cell row 0 (pages_from s 0 count) page [] old new whole wanted within leads (passed ∙ ap (λ vs. vs ++ new) same)
+
+  pub page_fails : ((rest : List Row) → ¬ (old ≡ map (row page) (option_to_list (page_cell bytes)) ++ rest)) → ¬ (whole ≡ wanted)
+  page_fails other = some_fails page_cell row 0 (pages_from s 0 count) page [] old whole wanted _ within leads other same
+
+pub page_ends : (s : Storage) (count page : ℕ) (row : ℕ → List ℕ → Row) (rest whole wanted : List Row) → count ≤ page → Leads whole wanted rest (some_from page_cell row 0 (pages_from s 0 count) page) → Leads whole wanted rest []
+page_ends s count page row rest whole wanted past leads = some_ends page_cell row 0 (pages_from s 0 count) page rest whole wanted (subst (λ n. n ≤ page) (sym (pages_long s 0 count)) past) leads

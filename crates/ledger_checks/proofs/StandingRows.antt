@@ -108,7 +108,7 @@ pages_at s first (suc count) place from = go (first == place) refl (pages_at s (
         ap (λ b. cond b (page_cell (page_bytes s first)) (thing_at page_cell (first + 1) (pages_from s (first + 1) count) place)) is
         ∙ others apart ∙ ap (λ n. unless_blank (cond (nat_lt place n) (Some (page_bytes s place)) None)) same
 
-pages_all : (s : Storage) (place : ℕ) → thing_at page_cell 0 (pages_from s 0 (page_count s)) place ≡ page_rows_of s place
+pub pages_all : (s : Storage) (place : ℕ) → thing_at page_cell 0 (pages_from s 0 (page_count s)) place ≡ page_rows_of s place
 pages_all s place =
     let none : 0 + page_count s ≡ page_count s = omega arith in
     pages_at s 0 (page_count s) place (omega arith) ∙ ap (λ n. unless_blank (cond (nat_lt place n) (Some (page_bytes s place)) None)) none
@@ -116,7 +116,7 @@ pages_all s place =
 abbrev card_pocket : Punched → Option ℕ
 card_pocket c = pocket_cell c.pocket
 
-pockets_at : (first : ℕ) (cards : List Punched) (place : ℕ) → thing_at card_pocket first cards place ≡ pocket_rows_from first cards place
+pub pockets_at : (first : ℕ) (cards : List Punched) (place : ℕ) → thing_at card_pocket first cards place ≡ pocket_rows_from first cards place
 pockets_at first [] place = refl
 pockets_at first (c ∷ cards) place = ap (λ o. cond (first == place) (pocket_cell c.pocket) o) (pockets_at (first + 1) cards place)
 
@@ -213,4 +213,4 @@ module _ (db : Database) (all : AllRows) (jobs : Office) (bureaus : IsBureaus db
   }
 
 pub stands_for : (db : Database) (all : AllRows) (report : Report) → IsBureaus db → AreRowsOf db.trees all → KeepsTold all report → StandsFor db report
-stands_for db all report bureaus read told = record { office = told.office; rows = rows_stand db all told.office bureaus read told.kept; tells = told.tells }
+stands_for db all report bureaus read told = record { office = told.office; named = told.named; rows = rows_stand db all told.office bureaus read told.kept; tells = told.tells }

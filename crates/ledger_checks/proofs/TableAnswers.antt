@@ -1,11 +1,14 @@
 -- What a query for a whole table answers.
-use Rattle.std.proofs.Common.{◌≡◌, ℕ, ℤ, List, [], ◌∷◌, map, filter, flat_map, IsTrue, Less, refl, sym, ap, subst, ◌∙◌, true≢false}
+use Rattle.std.proofs.Common.{◌≡◌, ℕ, ℤ, suc, List, [], ◌∷◌, map, filter, flat_map, get_or, All, false, IsTrue, IsSorted, Ordering, Less, Greater, is_lt, refl, sym, ap, ap₂, subst, ◌∙◌, add-one, arith, true≢false}
+use Rattle.std.specs.Cmp.{IsTotalOrder}
 use Rattle.std.specs.List.{AllByRecursion}
 use Rattle.std.specs.List.Sorted.{IsPermutation}
-use Rattle.std.proofs.lemmas.List.Sorted.{IsPermutation-map}
+use Rattle.std.specs.Ordering.{ordering_reverse}
+use Rattle.std.proofs.lemmas.List.Elements.{recursion_from_All, All-from_recursion}
+use Rattle.std.proofs.lemmas.List.Sorted.{All-permutation, IsPermutation-map, ranks_by, sorted_far}
 use Rattle.sqlite.specs.declared.types.Value.{Value}
 use Rattle.sqlite.specs.declared.types.Value.TheVariants.{Null, Int, Real, Text, Blob}
-use Rattle.sqlite.specs.Order.{Row, value_cmp}
+use Rattle.sqlite.specs.Order.{Row, column, value_cmp}
 use Rattle.sqlite.specs.Program.{overlay}
 use Rattle.sqlite.specs.Query.{Query, Output, output, output_cmp, IsAnswer, IsSureAnswer}
 use Rattle.sqlite.specs.Term.{Term, Env, col, eval}
@@ -14,8 +17,11 @@ use Rattle.sqlite.specs.View.{IsShaped}
 use Rattle.sqlite_trees.specs.declared.store.Shape.TheVariants.{Table}
 use Rattle.sqlite_trees.specs.Tree.{rowid}
 use Rattle.sqlite_trees.specs.View.{is_int}
-use Rattle.sqlite_keyed.proofs.ListLemmas.{ascending-map}
+use Rattle.sqlite_sql.proofs.QueryLemmas.{output_cmp_total}
+use Rattle.sqlite_value.proofs.OrderLemmas.{then-Equal}
+use Rattle.sqlite_keyed.proofs.ListLemmas.{all-map, ascending-map}
 use Rattle.ledger_tables.proofs.LookupStatement.{passes, show, ordered_query, ordered_answer, keyed_pair}
+use Rattle.ledger_checks.specs.Tables.{RiseByPlace}
 
 -- each row passes no tests
 pub all_pass : (params : Row) (rows : List Row) → filter (passes [] params) rows ≡ rows
@@ -34,7 +40,7 @@ module _ {X : Type 0} (P : X → Type 0) (R S : X → X → Type 0) (so : (a b :
   all_so a [] here each above = tt
   all_so a (x ∷ xs) here each above = (so a x here each.0 above.0, all_so a xs here each.1 above.1)
 
-  ascending_so : (xs : List X) → AllByRecursion P xs → IsAscending R xs → IsAscending S xs
+  pub ascending_so : (xs : List X) → AllByRecursion P xs → IsAscending R xs → IsAscending S xs
   ascending_so [] each up = tt
   ascending_so (x ∷ xs) each up = (all_so x xs each.0 each.1 up.0, ascending_so xs each.1 up.1)
 
@@ -63,9 +69,21 @@ module _ (tree : ℕ) (shown : List Term) where
       ordered_answer tree [] shown (col 1 0) [] db rows below sure (subst (λ xs. IsAscending (λ a b. output_cmp by_rowid a b ≡ Less) (map pair xs)) (sym (all_pass [] (db tree))) (rise (db tree) shaped))
       ∙ ap (map (show shown [])) (all_pass [] (db tree))
 
--- ---- in some order
+-- ---- in the order of their places
 
-module _ (tree : ℕ) (shown : List Term) (key : Term) where
+-- no item of a sorted list is greater than a later one
+module _ {X : Type 0} (cmp : X → X → Ordering) (total : IsTotalOrder cmp) where
+  not_greater : (a b : X) → is_lt (cmp b a) ≡ false → ¬ (cmp a b ≡ Greater)
+  not_greater a b low is = absurd (true≢false (sym (ap is_lt (total.antisymm b a ∙ ap ordering_reverse is)) ∙ low))
+
+  rising : (xs : List X) → IsSorted cmp xs → IsAscending (λ a b. ¬ (cmp a b ≡ Greater)) xs
+  rising [] sorted = tt
+  rising (x ∷ xs) sorted =
+      let order = ranks_by total (λ z. z) in
+      let each : All (λ y. ¬ (cmp x y ≡ Greater)) xs = λ k d less. not_greater x (get_or xs k d) (sorted_far (λ a b. is_lt (cmp a b)) order (x ∷ xs) sorted 0 (suc k) d (omega arith) (omega (arith, less))) in
+      (recursion_from_All (λ y. ¬ (cmp x y ≡ Greater)) xs each, rising xs (λ k d from within. rw add-one (rw add-one at (sorted (suc k) d (omega arith) (omega (arith, within))))))
+
+module _ (tree : ℕ) (shown : List Term) (key : Term) (shows : (row : Row) → column (show shown [] row) 2 ≡ eval key ([] ∷ row ∷ [])) where
   abbrev by_key : Query
   by_key = ordered_query tree [] shown key
 
@@ -83,10 +101,28 @@ module _ (tree : ℕ) (shown : List Term) (key : Term) where
   firsts [] = refl
   firsts (r ∷ rows) = ap (λ xs. show shown [] r ∷ xs) (firsts rows)
 
-  pub whole_in_some_order : (db : Trees) (rows : List Row) → overlay db [] tree ≡ db tree → IsSureAnswer by_key (overlay db []) [] rows → IsPermutation (map (show shown []) (db tree)) rows
-  whole_in_some_order db rows below sure =
+  -- an output is sorted by the third column of what it shows
+  abbrev ShowsKey : Output → Type 0
+  ShowsKey it = column it.1 2 ≡ column it.0 0
+
+  by_place : (a b : Output) → ShowsKey a → ShowsKey b → ¬ (output_cmp by_key a b ≡ Greater) → ¬ (value_cmp (column a.1 2) (column b.1 2) ≡ Greater)
+  by_place a b here there up is = up (then-Equal (value_cmp (column a.0 0) (column b.0 0)) ∙ ap₂ value_cmp (sym here) (sym there) ∙ is)
+
+  shown_rise : (rows : List Row) (outs : List Output) → IsPermutation (map key_pair rows) outs → IsSorted (output_cmp by_key) outs → RiseByPlace (map (λ (p : Output). p.1) outs)
+  shown_rise rows outs same sorted =
+      let each : All ShowsKey (map key_pair rows) = All-from_recursion ShowsKey (map key_pair rows) (all-map ShowsKey key_pair shows rows) in
+      let keyed : AllByRecursion ShowsKey outs = recursion_from_All ShowsKey outs (All-permutation ShowsKey (map key_pair rows) outs same each) in
+      let up : IsAscending (λ a b. ¬ (output_cmp by_key a b ≡ Greater)) outs = rising (output_cmp by_key) (output_cmp_total by_key) outs sorted in
+      ascending-map (λ (a b : Row). ¬ (value_cmp (column a 2) (column b 2) ≡ Greater)) (λ (p : Output). p.1) outs
+      (ascending_so ShowsKey (λ a b. ¬ (output_cmp by_key a b ≡ Greater)) (λ a b. ¬ (value_cmp (column a.1 2) (column b.1 2) ≡ Greater)) by_place outs keyed up)
+
+  pub whole_by_place : (db : Trees) (rows : List Row) → overlay db [] tree ≡ db tree → IsSureAnswer by_key (overlay db []) [] rows → IsPermutation (map (show shown []) (db tree)) rows × RiseByPlace rows
+  whole_by_place db rows below sure =
       let a : IsAnswer by_key (overlay db []) [] rows = sure Null in
       let staged = a.grouped ∙ ap (flat_map kept_env) below in
       let kept = a.distinct ∙ ap (map (output by_key)) staged ∙ outputs (db tree) in
-      let same = IsPermutation-map (λ (p : Output). p.1) _ _ (subst (λ k. IsPermutation k a.ordered) kept a.same) in
-      subst (IsPermutation (map (show shown []) (db tree))) (sym a.shown) (subst (λ xs. IsPermutation xs (map (λ (p : Output). p.1) a.ordered)) (firsts (db tree)) same)
+      let outs : IsPermutation (map key_pair (db tree)) a.ordered = subst (λ k. IsPermutation k a.ordered) kept a.same in
+      let same = IsPermutation-map (λ (p : Output). p.1) _ _ outs in (
+        subst (IsPermutation (map (show shown []) (db tree))) (sym a.shown) (subst (λ xs. IsPermutation xs (map (λ (p : Output). p.1) a.ordered)) (firsts (db tree)) same),
+        subst RiseByPlace (sym a.shown) (shown_rise (db tree) a.ordered outs a.sorted),
+      )

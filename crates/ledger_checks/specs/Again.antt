@@ -38,8 +38,12 @@ pub record LoadsAs (contents : Contents) (loaded : List Card) : Type 0 where
   pub is_loading : IsDeck contents.deck → IsDeck loaded
       → IsLoading contents.kind contents.deck loaded
 
+-- a machine that goes through these stretches is at a halt before each
+abbrev pub StartsAtHalts : State → List Stretch → Type 0
+StartsAtHalts m stretches = (n : ℕ) → n < length stretches
+    → (resumed m (take n stretches)).standing ≡ Halted
+
 -- a machine went through these stretches, and was at a halt before each
 pub record GoesThrough (old new : State) (stretches : List Stretch) : Type 0 where
   pub machine : new ≡ resumed old stretches
-  pub halts : (n : ℕ) → n < length stretches
-      → (resumed old (take n stretches)).standing ≡ Halted
+  pub halts : StartsAtHalts old stretches

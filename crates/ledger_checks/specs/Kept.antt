@@ -1,5 +1,5 @@
 -- the rows of a job are those of an entry of an office
-use Rattle.std.specs.Prelude.{◌≡◌, ℕ, pos, List, [], ◌∷◌, map, Contains, Some}
+use Rattle.std.specs.Prelude.{◌≡◌, ℕ, pos, true, List, [], ◌∷◌, map, Contains, Some}
 use Rattle.std.specs.List.{AllByRecursion}
 use Rattle.core_store.specs.Pages.{page_count}
 use Rattle.core_store.specs.Storage.{Storage}
@@ -8,6 +8,7 @@ use Rattle.units.specs.Stacked.{Stacked}
 use Rattle.units.specs.declared.printer.Line.{Line}
 use Rattle.units.specs.declared.punch.Punched.{Punched}
 use Rattle.office.specs.Jobs.{picture}
+use Rattle.office.specs.Names.{is_customer, is_number}
 use Rattle.office.specs.Office.{Entry, Office, AreDistinct}
 use Rattle.office.specs.declared.stretches.Stretch.{Stretch}
 use Rattle.ledger_rows.specs.Columns.{line_cells, profile_row, state_row}
@@ -65,6 +66,11 @@ module _ (customer : List ℕ) (number : ℕ) where
         ≡ rows_of_profile m.works.units.punch
     pub pockets : rows_of customer number all.pockets.items
         ≡ rows_of_pockets m.works.units.punch.cards
+
+-- the entry's name is one that a job may have
+pub record IsNamed (e : Entry) : Type 0 where
+  pub customer : is_customer e.customer ≡ true
+  pub number : is_number e.number ≡ true
 
 -- the rows of the entry's job, other than that in `jobs`, are in the tables, and no others of it
 pub record IsKept (all : AllRows) (e : Entry) : Type 0 where

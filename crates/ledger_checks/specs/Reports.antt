@@ -1,14 +1,13 @@
 -- what a report tells
 use Rattle.std.specs.Prelude.{◌≡◌, ℕ, pos, Bool, true, false, All, List, [], ◌∷◌, drop, ⊤}
-use Rattle.std.specs.List.{AllZip}
+use Rattle.std.specs.List.{AllByRecursion, AllZip}
 use Rattle.office.specs.Kept.{kept_of, summary_of}
 use Rattle.office.specs.Office.{Entry, Office}
 use Rattle.sqlite.specs.Effect.{Database}
 use Rattle.sqlite.specs.Order.{Row}
-use Rattle.ledger_tables.specs.Tables.{job_row}
-use Rattle.ledger.specs.Standing.{named, Rows}
-use Rattle.ledger_checks.specs.Kept.{IsKept}
-use Rattle.ledger_checks.specs.Tables.{rows_of}
+use Rattle.ledger.specs.Standing.{Rows}
+use Rattle.ledger_checks.specs.Jobs.{HasRun}
+use Rattle.ledger_checks.specs.Kept.{IsNamed}
 use Rattle.ledger_checks.specs.declared.all_rows.AllRows.{AllRows}
 use Rattle.ledger_checks.specs.declared.reports.JobReport.{JobReport}
 use Rattle.ledger_checks.specs.declared.reports.Outcome.{Outcome}
@@ -36,16 +35,19 @@ pub record Tells (report : JobReport) (e : Entry) : Type 0 where
   pub number : report.number ≡ pos e.number
   pub summary : report.outcome ≡ AsItRan (summary_of (kept_of e.job))
 
--- the row is that of the job of an entry that the report tells, whose name no later row has
-pub record IsReported (all : AllRows) (later : List Row) (it : Row) (report : JobReport)
-    : Type 0 where
+-- the row is that of the job of an entry that the report tells
+pub record IsRun (all : AllRows) (later : List Row) (it : Row) (report : JobReport) : Type 0 where
   pub entry : Entry
-  pub row : it ≡ job_row (named entry)
-  pub kept : IsKept all entry
-  pub once : rows_of entry.customer entry.number later ≡ []
+  pub run : HasRun all later it entry
   pub tells : Tells report entry
 
--- the row at a place among those of `jobs` is that of the job of an entry that the report tells
+-- a row is reported as it ran exactly if it is that of a job, and then the report tells of this job
+pub record IsReported (all : AllRows) (later : List Row) (it : Row) (report : JobReport)
+    : Type 0 where
+  pub ran : IsAsItRan report.outcome → IsRun all later it report
+  pub each : (e : Entry) → HasRun all later it e → IsAsItRan report.outcome
+
+-- the row at a place among those of `jobs` is so reported
 pub record IsReportedAt (all : AllRows) (jobs : List Row) (at : ℕ) (report : JobReport)
     : Type 0 where
   pub it : Row
@@ -53,17 +55,22 @@ pub record IsReportedAt (all : AllRows) (jobs : List Row) (at : ℕ) (report : J
   pub there : drop at jobs ≡ it ∷ later
   pub reported : IsReported all later it report
 
--- each job that is reported as it ran is that of an entry
+-- each row is so reported
 abbrev pub AreReported : AllRows → List Row → List JobReport → Type 0
 AreReported all [] [] = ⊤
 AreReported all [] (report ∷ reports) = ⊥
 AreReported all (row ∷ later) [] = ⊥
 AreReported all (row ∷ later) (report ∷ reports) =
-    (IsAsItRan report.outcome → IsReported all later row report)
-    × AreReported all later reports
+    IsReported all later row report × AreReported all later reports
 
--- the tables stand for an office, of each of whose jobs the report tells
+-- each job of an office has a name that a job may have
+abbrev pub AreNamed : Office → Type 0
+AreNamed = AllByRecursion IsNamed
+
+-- the tables stand for an office whose jobs have names that jobs may have, and the report tells of
+-- each of its jobs
 pub record StandsFor (db : Database) (report : Report) : Type 0 where
   pub office : Office
+  pub named : AreNamed office
   pub rows : Rows db office
   pub tells : AllZip Tells report.jobs.items office

@@ -1,10 +1,11 @@
 -- whole tables, as they were read
 use Rattle.std.specs.Prelude.{◌≡◌, ℕ, ◌+◌, ◌++◌, zero, suc, List, [], ◌∷◌, map, filter, Option, Result, IfOk, IsPermutation, Vec}
 use Rattle.std.specs.Option.{option_to_list}
+use Rattle.std.specs.declared.cmp.Ordering.TheVariants.{Greater}
 use Rattle.core_store.specs.Storage.{Storage}
 use Rattle.sqlite.specs.Effect.{Database, IsDatabase}
-use Rattle.sqlite.specs.Order.{Row, column}
-use Rattle.sqlite.specs.Tree.{Trees}
+use Rattle.sqlite.specs.Order.{Row, column, value_cmp}
+use Rattle.sqlite.specs.Tree.{IsAscending, Trees}
 use Rattle.sqlite.specs.Held.{Held, state}
 use Rattle.sqlite.specs.State.{HasCleanDisk, IsUnchanged}
 use Rattle.std.specs.declared.alloc.Global.{Global}
@@ -38,8 +39,16 @@ pub record IsBureaus (db : Database) : Type 0 where
 abbrev pub version_columns : Row → Row
 version_columns row = column row 0 ∷ column row 2 ∷ []
 
+-- these rows rise by the number of a page or of a place in their third column
+abbrev pub RiseByPlace : List Row → Type 0
+RiseByPlace = IsAscending (λ a b. ¬ (value_cmp (column a 2) (column b 2) ≡ Greater))
+
+-- these are the rows of a table without their rowids, and rise by their pages or places
+abbrev pub AreByPlace : List Row → List Row → Type 0
+AreByPlace table rows = IsPermutation (cells table) rows × RiseByPlace rows
+
 -- the rows read are those of the tables without their rowids, each table's in its order, and those
--- of pages and of pockets in some order
+-- of pages and of pockets in the order of their pages and places
 pub record AreRowsOf (db : Trees) (t : AllRows) : Type 0 where
   pub version : IsPermutation (map version_columns (db 0)) t.version.items
   pub jobs : t.jobs.items ≡ cells (db 1)
@@ -48,8 +57,10 @@ pub record AreRowsOf (db : Trees) (t : AllRows) : Type 0 where
   pub lines : t.lines.items ≡ cells (db 9)
   pub states : t.states.items ≡ cells (db 11)
   pub pages : IsPermutation (cells (db 13)) t.pages.items
+  pub pages_rise : RiseByPlace t.pages.items
   pub profiles : t.profiles.items ≡ cells (db 15)
   pub pockets : IsPermutation (cells (db 17)) t.pockets.items
+  pub pockets_rise : RiseByPlace t.pockets.items
 
 -- the rows of a job among these
 abbrev pub rows_of : List ℕ → ℕ → List Row → List Row

@@ -1,10 +1,14 @@
 //! Running a job again.
 
-ghost use Rattle.std.specs.Prelude.{◌≡◌, ◌<◌, ◌++◌, ◌-◌, ◌^◌, ◌↔◌, [], All, length, min, IfOk, OnOk, IsTrue};
+ghost use Rattle.std.specs.Prelude.{◌≡◌, ◌<◌, ◌++◌, ◌-◌, ◌^◌, ◌↔◌, ℕ, [], All, List, length, min, take, IfOk, OnOk, IsTrue};
 ghost use Rattle.cards.specs.Decks.{deck_bytes};
-ghost use Rattle.machine.specs.Run.{after, loaded as begun, started};
-ghost use Rattle.office.specs.Jobs.{all_off, granted, AreStretches, HasSwitches};
-ghost use Rattle.ledger_checks.specs.Again.{GoesThrough, HasResumed, IsLoading, LoadsAs};
+ghost use Rattle.cards.specs.declared.decks.Card.{Card};
+ghost use Rattle.core_store.specs.Storage.{positions_of};
+ghost use Rattle.core_store.specs.declared.sizes.Size.{Size as AnySize};
+ghost use Rattle.machine.specs.Run.{State, after, loaded as begun, started};
+ghost use Rattle.office.specs.Jobs.{all_off, granted, resumed, AreStretches, HasSwitches};
+ghost use Rattle.ledger_checks.specs.Again.{GoesThrough, HasResumed, IsLoading, LoadsAs, StartsAtHalts};
+ghost use Rattle.ledger_checks.specs.Stops.{IfDiffers};
 
 use crate::differences::{Difference, Stop};
 use bitflags::Flags;
@@ -51,7 +55,10 @@ fn copy_of(alloc: Global, deck: &Deck) -> Result<Deck, AllocError>
 
 /// The deck that the machine of these contents loads, or why they are refused.
 fn loaded_for(alloc: Global, contents: &Contents) -> Result<Deck, Stop>
-    ensures { IfOk result (LoadsAs contents.now) }
+    ensures loads { IfOk result (LoadsAs contents.now) }
+    ensures refused { IfDiffers result ((size : AnySize) → (loaded : List Card)
+        → contents.now.size ≡ positions_of size
+        → ¬ IsLoading contents.now.kind contents.now.deck loaded) }
 {
     // A law, for the proof: it does nothing.
     commands_keep_jobs();
@@ -71,6 +78,8 @@ pub(crate) fn load(alloc: Global, kind: Kind, size: Size, deck: Deck) -> Result<
         × (it.deck_bytes.items ≡ deck_bytes deck)
         × (it.loaded_bytes.items ≡ deck_bytes it.loaded)) }
     ensures same { IfOk result (λ it. it.deck ≡ deck) }
+    ensures card { IfOk result (λ it. 0 < length it.loaded) }
+    ensures refused { IfDiffers result ((loaded : List Card) → ¬ IsLoading kind deck loaded) }
 {
     let contents = Contents {
         kind,
@@ -103,7 +112,7 @@ pub(crate) fn granted_in(stretches: &[Stretch]) -> u32
 
 /// Whether no stretch has the eighth bit, which is not a switch.
 fn have_switches(stretches: &[Stretch]) -> bool
-    ensures { IsTrue result → All HasSwitches stretches.now }
+    ensures { IsTrue result ↔ All HasSwitches stretches.now }
 {
     for stretch in stretches {
         if !stretch.switches.are_seven() {
@@ -115,7 +124,7 @@ fn have_switches(stretches: &[Stretch]) -> bool
 
 /// Whether a job may have these stretches.
 fn are_stretches(stretches: &[Stretch]) -> bool
-    ensures { IsTrue result → AreStretches stretches.now }
+    ensures { IsTrue result ↔ AreStretches stretches.now }
 {
     !stretches.is_empty() && have_switches(stretches) && granted_in(stretches) <= MOST_GRANTED
 }
@@ -137,7 +146,8 @@ fn resume(
 
 /// Goes through these stretches, each of which begins at a halt.
 fn go_on(machine: &mut Machine<PlaneCore>, stretches: &[Stretch]) -> Result<(), Stop>
-    ensures { OnOk result (GoesThrough machine.old machine.new stretches.now) }
+    ensures goes { OnOk result (GoesThrough machine.old machine.new stretches.now) }
+    ensures other { IfDiffers result (¬ StartsAtHalts machine.old stretches.now) }
 {
     let mut meter = Meter::new();
     for at in 0..stretches.len() {
@@ -157,9 +167,12 @@ pub(crate) fn run_again(
     profile: Profile,
     stretches: &[Stretch],
 ) -> Result<Machine<PlaneCore>, Stop>
-    ensures { IfOk result (HasResumed (begun loaded size all_off profile) stretches.now) }
+    requires { 0 < length loaded }
+    ensures resumed { IfOk result (HasResumed (begun loaded size all_off profile) stretches.now) }
+    ensures other { IfDiffers result ((m : State)
+        → ¬ HasResumed (begun loaded size all_off profile) stretches.now m) }
 {
-    if loaded.cards().is_empty() || !are_stretches(stretches) {
+    if !are_stretches(stretches) {
         return Err(Stop::Differs(Difference::NoStretches));
     }
     let Some((first, others)) = stretches.split_first() else {
@@ -167,6 +180,8 @@ pub(crate) fn run_again(
     };
     let mut machine = Machine::load(alloc, loaded, size, first.switches, profile)?;
     machine.run(first.granted, &mut Meter::new())?;
-    go_on(&mut machine, others)?;
-    Ok(machine)
+    match go_on(&mut machine, others) {
+        Ok(()) => Ok(machine),
+        Err(stop) => Err(stop),
+    }
 }

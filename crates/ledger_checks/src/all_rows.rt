@@ -6,7 +6,7 @@ ghost use Rattle.sqlite.specs.Order.{Row as Values};
 ghost use Rattle.sqlite.specs.State.{HasCleanDisk, Shown};
 ghost use Rattle.sqlite.specs.View.{doubt};
 ghost use Rattle.ledger_tables.specs.Tables.{cells};
-ghost use Rattle.ledger_checks.specs.Tables.{AreRowsOf, Reads, ReadsAll, version_columns};
+ghost use Rattle.ledger_checks.specs.Tables.{AreByPlace, AreRowsOf, Reads, ReadsAll, version_columns};
 
 use ledger_tables::Fault;
 use sqlite::{Alter, Connection, Error, ErrorCode, Row};
@@ -94,8 +94,7 @@ fn state_rows<S: Alter>(conn: &mut Connection<S>) -> Result<Vec<Row>, Fault>
 }
 
 fn page_rows<S: Alter>(conn: &mut Connection<S>) -> Result<Vec<Row>, Fault>
-    ensures read { Reads S.Store conn.old conn.new result
-        (λ db rows. IsPermutation (cells (db 13)) rows) }
+    ensures read { Reads S.Store conn.old conn.new result (λ db rows. AreByPlace (db 13) rows) }
     ensures clean { doubt (state S.Store conn.old).is_clean
         ≤ doubt (state S.Store conn.new).is_clean }
 {
@@ -139,8 +138,7 @@ fn profile_rows<S: Alter>(conn: &mut Connection<S>) -> Result<Vec<Row>, Fault>
 }
 
 fn pocket_rows<S: Alter>(conn: &mut Connection<S>) -> Result<Vec<Row>, Fault>
-    ensures read { Reads S.Store conn.old conn.new result
-        (λ db rows. IsPermutation (cells (db 17)) rows) }
+    ensures read { Reads S.Store conn.old conn.new result (λ db rows. AreByPlace (db 17) rows) }
     ensures clean { doubt (state S.Store conn.old).is_clean
         ≤ doubt (state S.Store conn.new).is_clean }
 {

@@ -1,35 +1,31 @@
 //! The values of a row.
 
-ghost use Rattle.std.specs.Prelude.{◌≡◌, map, IsNone, IsTrue};
+ghost use Rattle.std.specs.Prelude.{◌≡◌, ◌<◌, ◌^◌, ◌↔◌, ℕ, List, map, pos, IfSome, IsNone, IsUtf8};
+ghost use Rattle.sqlite.specs.Order.{column};
+ghost use Rattle.sqlite.specs.declared.types.Value.TheVariants.{Blob, Int, Text};
 ghost use Rattle.sqlite_value.specs.Value.{owned};
 
 use sqlite::Row;
 use sqlite::types::ValueRef;
+use sqlite_value::order::is_same;
 
-/// Whether two values are the same; a real number is the same as none.
-pub(crate) fn is_same(found: ValueRef<'_>, wanted: ValueRef<'_>) -> bool
-    ensures { IsTrue result → owned found.entry ≡ owned wanted.entry }
+/// The value in a column, and NULL past the end.
+pub(crate) fn value_at(row: &Row, at: usize) -> ValueRef<'_>
+    ensures { owned result ≡ column row.now at }
 {
-    match (found, wanted) {
-        (ValueRef::Int(a), ValueRef::Int(b)) => a == b,
-        (ValueRef::Text(a), ValueRef::Text(b)) => a == b,
-        (ValueRef::Blob(a), ValueRef::Blob(b)) => a == b,
-        _ => false,
+    match row.get_ref(at) {
+        Ok(value) => value,
+        Err(_) => ValueRef::Null,
     }
 }
 
 /// The first column in which a row differs from the one that is wanted, if there is one.
 pub(crate) fn first_other(row: &Row, wanted: &[ValueRef<'_>]) -> Option<usize>
-    ensures { IsNone result → row.now ≡ map owned wanted.now }
+    ensures { IsNone result ↔ (row.now ≡ map owned wanted.now) }
 {
     for at in 0..wanted.len() {
-        match row.get_ref(at) {
-            Ok(found) => {
-                if !is_same(found, wanted[at]) {
-                    return Some(at);
-                }
-            }
-            Err(_) => return Some(at),
+        if !is_same(value_at(row, at), wanted[at]) {
+            return Some(at);
         }
     }
     if row.column_count() == wanted.len() {
@@ -40,25 +36,36 @@ pub(crate) fn first_other(row: &Row, wanted: &[ValueRef<'_>]) -> Option<usize>
 }
 
 /// The number in a column, if it is one of 32 bits.
-pub(crate) fn number_at(row: &Row, at: usize) -> Option<u32> {
-    match row.get_ref(at) {
-        Ok(ValueRef::Int(number)) => u32::try_from(number).ok(),
+pub(crate) fn number_at(row: &Row, at: usize) -> Option<u32>
+    ensures found { IfSome result (λ number. column row.now at ≡ Int (pos number)) }
+    ensures none { IsNone result → (number : ℕ) → number < 2 ^ 32
+        → ¬ (column row.now at ≡ Int (pos number)) }
+{
+    match value_at(row, at) {
+        ValueRef::Int(number) => u32::try_from(number).ok(),
         _ => None,
     }
 }
 
 /// The text in a column, if it is one.
-pub(crate) fn text_at(row: &Row, at: usize) -> Option<&str> {
-    match row.get_ref(at) {
-        Ok(ValueRef::Text(bytes)) => std::str::from_utf8(bytes).ok(),
+pub(crate) fn text_at(row: &Row, at: usize) -> Option<&str>
+    ensures found { IfSome result (λ text. column row.now at ≡ Text text.now) }
+    ensures none { IsNone result → (text : List ℕ) → IsUtf8 text
+        → ¬ (column row.now at ≡ Text text) }
+{
+    match value_at(row, at) {
+        ValueRef::Text(bytes) => std::str::from_utf8(bytes).ok(),
         _ => None,
     }
 }
 
 /// The bytes in a column, if there are any.
-pub(crate) fn bytes_at(row: &Row, at: usize) -> Option<&[u8]> {
-    match row.get_ref(at) {
-        Ok(ValueRef::Blob(bytes)) => Some(bytes),
+pub(crate) fn bytes_at(row: &Row, at: usize) -> Option<&[u8]>
+    ensures found { IfSome result (λ bytes. column row.now at ≡ Blob bytes.now) }
+    ensures none { IsNone result → (bytes : List ℕ) → ¬ (column row.now at ≡ Blob bytes) }
+{
+    match value_at(row, at) {
+        ValueRef::Blob(bytes) => Some(bytes),
         _ => None,
     }
 }

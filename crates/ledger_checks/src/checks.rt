@@ -1,7 +1,7 @@
 //! The check of all tables.
 
-ghost use Rattle.std.specs.Prelude.{◌≡◌, [], IfOk, OnOk, IsNone};
-ghost use Rattle.ledger_checks.specs.Checks.{FindsAlone, IsSoundFor};
+ghost use Rattle.std.specs.Prelude.{◌≡◌, ◌↔◌, [], IfOk, OnOk, IsNone};
+ghost use Rattle.ledger_checks.specs.Checks.{FindsAlone, IsExactFor};
 ghost use Rattle.ledger_checks.specs.Kept.{AreOwned, version_row};
 
 use crate::all_rows::AllRows;
@@ -17,7 +17,7 @@ use std::alloc::{AllocError, Global};
 /// The first row of `bureau`, counted from 1, that is not as it is to be: one row, with the
 /// version.
 fn first_other_version(rows: &[Row]) -> Option<usize>
-    ensures { IsNone result → rows.now ≡ version_row }
+    ensures { IsNone result ↔ (rows.now ≡ version_row) }
 {
     let [row] = rows else {
         return Some(2);
@@ -30,7 +30,7 @@ fn first_other_version(rows: &[Row]) -> Option<usize>
 
 /// Adds the first stray row of a table, if there is one.
 fn add(strays: &mut Vec<Stray>, table: Table, row: Option<usize>) -> Result<(), AllocError>
-    ensures { OnOk result (strays.new.items ≡ [] → (strays.old.items ≡ []) × IsNone row) }
+    ensures { OnOk result ((strays.new.items ≡ []) ↔ ((strays.old.items ≡ []) × IsNone row)) }
 {
     if let Some(row) = row {
         strays.try_reserve(1)?;
@@ -41,8 +41,8 @@ fn add(strays: &mut Vec<Stray>, table: Table, row: Option<usize>) -> Result<(), 
 
 /// The first stray row of each table.
 pub fn find_strays(alloc: Global, all: &AllRows) -> Result<Vec<Stray>, AllocError>
-    ensures { IfOk result (λ strays. strays.items ≡ []
-        → (all.now.version.items ≡ version_row) × AreOwned all.now) }
+    ensures { IfOk result (λ strays. (strays.items ≡ [])
+        ↔ ((all.now.version.items ≡ version_row) × AreOwned all.now)) }
 {
     let jobs = all.jobs.as_slice();
     let mut strays = Vec::new(alloc);
@@ -71,7 +71,7 @@ pub fn find_strays(alloc: Global, all: &AllRows) -> Result<Vec<Stray>, AllocErro
 
 /// Compares the rows of all tables with what the jobs make, each run again.
 fn check_rows(alloc: Global, all: &AllRows) -> Result<Report, AllocError>
-    ensures { IfOk result (IsSoundFor all.now) }
+    ensures { IfOk result (IsExactFor all.now) }
 {
     let jobs = check_jobs(alloc, all, all.jobs.as_slice())?;
     let strays = find_strays(alloc, all)?;
@@ -80,16 +80,16 @@ fn check_rows(alloc: Global, all: &AllRows) -> Result<Report, AllocError>
 
 /// Compares the rows of all tables with what the jobs make, each run again.
 fn check_read(alloc: Global, all: &AllRows) -> Result<Report, Fault>
-    ensures { IfOk result (IsSoundFor all.now) }
+    ensures { IfOk result (IsExactFor all.now) }
 {
     let report = check_rows(alloc, all)?;
     Ok(report)
 }
 
 /// Runs each job of a bureau again, and compares the rows of all tables with what it makes. Nothing
-/// is written, and the store is handed back. If nothing differs, the tables stand for an office,
-/// and the report tells of each of its jobs. Fails with 1 if there is no memory, and with 2 if the
-/// store fails.
+/// is written, and the store is handed back. No difference is told exactly where the tables stand
+/// for an office whose jobs have names that jobs may have, and then the report tells of each of its
+/// jobs. Fails with 1 if there is no memory, and with 2 if the store fails.
 pub fn check<S: Alter + Drop>(alloc: Global, conn: Connection<S>) -> (Result<Report, Fault>, S)
     ensures { FindsAlone S.Store conn result.1 result.0 }
 {

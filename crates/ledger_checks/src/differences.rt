@@ -1,5 +1,8 @@
 //! What differs first in the rows of a job.
 
+ghost use Rattle.std.specs.Prelude.{◌≡◌};
+ghost use Rattle.ledger_checks.specs.declared.differences.Stop.TheVariants.{Differs, NoMemory};
+
 use office::Refusal;
 use sqlite::Row;
 use sqlite::types::ValueRef;
@@ -71,6 +74,8 @@ pub(crate) enum Stop {
 }
 
 impl From<AllocError> for Stop {
+    ghost from_gives = { λ _ stop. stop ≡ NoMemory };
+
     /// No memory.
     fn from(_: AllocError) -> Stop {
         Stop::NoMemory
@@ -78,6 +83,8 @@ impl From<AllocError> for Stop {
 }
 
 impl From<Difference> for Stop {
+    ghost from_gives = { λ difference stop. stop ≡ Differs difference };
+
     /// A difference.
     fn from(difference: Difference) -> Stop {
         Stop::Differs(difference)

@@ -1,6 +1,7 @@
 //! The rows of a job, one after the other.
 
-ghost use Rattle.std.specs.Prelude.{◌≡◌, [], ◌∷◌, map, IfOk, IfSome, IsNone, OnOk};
+ghost use Rattle.std.specs.Prelude.{◌≡◌, [], ◌∷◌, List, map, IfErr, IfOk, IfSome, IsNone, OnErr, OnOk};
+ghost use Rattle.sqlite.specs.Order.{Row as Values};
 ghost use Rattle.sqlite_value.specs.Value.{owned};
 ghost use Rattle.ledger_checks.specs.Tables.{rows_of};
 
@@ -33,8 +34,11 @@ pub(crate) fn pass<'a>(
     place: Place,
     wanted: &[ValueRef<'_>],
 ) -> Result<&'a [Row], Difference>
-    ensures { IfOk result (λ rest. rows_of name.entry.customer.now name.entry.number rows.now
+    ensures passed { IfOk result (λ rest. rows_of name.entry.customer.now name.entry.number rows.now
         ≡ map owned wanted.now ∷ rows_of name.entry.customer.now name.entry.number rest.now) }
+    ensures other { IfErr result (λ difference. (rest : List Values)
+        → ¬ (rows_of name.entry.customer.now name.entry.number rows.now
+        ≡ map owned wanted.now ∷ rest)) }
 {
     let Some((row, rest)) = next_of(rows, name) else {
         return Err(Difference::Row(place, Found::Nothing));
@@ -47,7 +51,9 @@ pub(crate) fn pass<'a>(
 
 /// Tests that there are no more rows of a job.
 pub(crate) fn pass_none(rows: &[Row], name: JobName<'_>, place: Place) -> Result<(), Difference>
-    ensures { OnOk result (rows_of name.entry.customer.now name.entry.number rows.now ≡ []) }
+    ensures none { OnOk result (rows_of name.entry.customer.now name.entry.number rows.now ≡ []) }
+    ensures some { OnErr result (¬ (rows_of name.entry.customer.now name.entry.number rows.now
+        ≡ [])) }
 {
     match next_of(rows, name) {
         None => Ok(()),

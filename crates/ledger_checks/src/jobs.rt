@@ -1,11 +1,14 @@
 //! One job, run again and compared with its rows.
 
-ghost use Rattle.std.specs.Prelude.{◌≡◌, ◌<◌, ℕ, ℤ, List, length, IfErr, IfOk, OnOk};
+ghost use Rattle.std.specs.Prelude.{◌≡◌, ◌<◌, ℕ, ℤ, List, length, pos, true, IfErr, IfOk, OnErr, OnOk};
 ghost use Rattle.ledger.specs.Standing.{kind_number};
 ghost use Rattle.sqlite.specs.Order.{column};
 ghost use Rattle.sqlite.specs.declared.types.Value.TheVariants.{Int, Text};
-ghost use Rattle.ledger_checks.specs.Jobs.{HasRun, HasRunAs, HasRunAt, entry_of, row_of};
+ghost use Rattle.ledger_checks.specs.Jobs.{HasRun, HasRunAs, HasRunAt, IsNameOf, entry_of, row_of};
 ghost use Rattle.ledger_checks.specs.Reports.{AreReported, IsAsItRan, IsReportedAt};
+ghost use Rattle.ledger_checks.specs.Stops.{IfDiffers};
+ghost use Rattle.office.specs.Names.{is_customer, is_number};
+ghost use Rattle.office.specs.Office.{Entry};
 
 use crate::again::{Loaded, load, run_again};
 use crate::all_rows::AllRows;
@@ -18,7 +21,7 @@ use crate::runs::JobRun;
 use crate::submitted::{Numbers, Submitted, read_profile, read_stretches, read_submitted};
 use ledger_rows::truth;
 use ledger_tables::JobName;
-use office::{Kind, Stretch};
+use office::{Kind, Stretch, is_customer, is_number};
 use sqlite::types::ValueRef;
 use sqlite::{Row, params};
 use std::alloc::{AllocError, Global};
@@ -36,8 +39,10 @@ fn kind_number(kind: Kind) -> u32
 
 /// The job's row is this one.
 fn check_row(row: &Row, name: JobName<'_>, job: Numbers, loaded: &Loaded) -> Result<(), Difference>
-    ensures { OnOk result (row.now ≡ row_of name.entry.customer.now name.entry.number job
+    ensures same { OnOk result (row.now ≡ row_of name.entry.customer.now name.entry.number job
         loaded.now.deck_bytes.items loaded.now.loaded_bytes.items) }
+    ensures other { OnErr result (¬ (row.now ≡ row_of name.entry.customer.now name.entry.number
+        job loaded.now.deck_bytes.items loaded.now.loaded_bytes.items)) }
 {
     let size = job.size.positions() as u32;
     let wanted = params![
@@ -70,9 +75,13 @@ fn check_again(
     profile: Profile,
     stretches: Vec<Stretch>,
 ) -> Result<JobRun, Stop>
+    requires { IsNameOf row.now name.customer.now name.number }
     ensures same { IfOk result (λ run. run ≡ entry_of name.entry.customer.now name.entry.number
         submitted.numbers submitted.deck profile stretches.items) }
     ensures kept { IfOk result (λ run. HasRunAs all.now row.now run) }
+    ensures other { IfDiffers result (¬ HasRunAs all.now row.now (entry_of
+        name.entry.customer.now name.entry.number submitted.numbers submitted.deck profile
+        stretches.items)) }
 {
     let Submitted { numbers, deck } = submitted;
     let loaded = load(alloc, numbers.kind, numbers.size, deck)?;
@@ -94,6 +103,27 @@ fn check_again(
     Ok(run)
 }
 
+/// The name of the job of a row, or the name of the column with a value that no name has.
+fn name_of(row: &Row) -> Result<JobName<'_>, &'static str>
+    ensures name { IfOk result (λ name. IsNameOf row.now name.customer.now name.number) }
+    ensures none { IfErr result (λ column. (customer : List ℕ) → (number : ℕ)
+        → ¬ IsNameOf row.now customer number) }
+{
+    let Some(customer) = text_at(row, 0) else {
+        return Err("customer");
+    };
+    if !is_customer(customer) {
+        return Err("customer");
+    }
+    let Some(number) = number_at(row, 1) else {
+        return Err("number");
+    };
+    if !is_number(number) {
+        return Err("number");
+    }
+    Ok(JobName { customer, number })
+}
+
 /// The job of this name and row is run again, and compared with its rows.
 fn check_named(
     alloc: Global,
@@ -102,7 +132,9 @@ fn check_named(
     row: &Row,
     name: JobName<'_>,
 ) -> Result<JobRun, Stop>
-    ensures { IfOk result (HasRun all.now later.now row.now) }
+    requires { IsNameOf row.now name.customer.now name.number }
+    ensures run { IfOk result (HasRun all.now later.now row.now) }
+    ensures other { IfDiffers result ((e : Entry) → ¬ HasRun all.now later.now row.now e) }
 {
     let submitted = read_submitted(alloc, row)?;
     let stretches = read_stretches(alloc, &all.stretches, name)?;
@@ -113,15 +145,13 @@ fn check_named(
 
 /// The job of this row is run again, and compared with its rows.
 fn check_row_of(alloc: Global, all: &AllRows, later: &[Row], row: &Row) -> Result<JobRun, Stop>
-    ensures { IfOk result (HasRun all.now later.now row.now) }
+    ensures run { IfOk result (HasRun all.now later.now row.now) }
+    ensures other { IfDiffers result ((e : Entry) → ¬ HasRun all.now later.now row.now e) }
 {
-    let Some(customer) = text_at(row, 0) else {
-        return Err(Stop::Differs(Difference::NoJob { name: "customer" }));
-    };
-    let Some(number) = number_at(row, 1) else {
-        return Err(Stop::Differs(Difference::NoJob { name: "number" }));
-    };
-    check_named(alloc, all, later, row, JobName { customer, number })
+    match name_of(row) {
+        Ok(name) => check_named(alloc, all, later, row, name),
+        Err(name) => Err(Stop::Differs(Difference::NoJob { name })),
+    }
 }
 
 /// The bytes of the text in a column, or none.
@@ -167,6 +197,8 @@ fn run_one(
     requires { at < length jobs.now }
     ensures run { IfOk result (λ found. IfOk found (HasRunAt all.now jobs.now at)) }
     ensures told { IfOk result (λ found. IfErr found (λ report. ¬ IsAsItRan report.outcome)) }
+    ensures other { IfOk result (λ found. IfErr found (λ report. (e : Entry)
+        → ¬ HasRunAt all.now jobs.now at e)) }
 {
     match check_row_of(alloc, all, &jobs[at + 1..], &jobs[at]) {
         Ok(run) => Ok(Ok(run)),
@@ -176,8 +208,8 @@ fn run_one(
 }
 
 /// Runs the job of the row of `jobs` at this place, counted from 0, again, and compares its rows
-/// with what it makes. Returns the job if its rows are these, else what is told of it. Fails only
-/// if there is no memory.
+/// with what it makes. Returns the job if its rows are these, else what is told of it: then no job
+/// has these rows. Fails only if there is no memory.
 pub fn run_job(
     alloc: Global,
     all: &AllRows,
@@ -186,6 +218,8 @@ pub fn run_job(
     requires { at < length all.now.jobs.items }
     ensures run { IfOk result (λ found. IfOk found (HasRunAt all.now all.now.jobs.items at)) }
     ensures told { IfOk result (λ found. IfErr found (λ report. ¬ IsAsItRan report.outcome)) }
+    ensures other { IfOk result (λ found. IfErr found (λ report. (e : Entry)
+        → ¬ HasRunAt all.now all.now.jobs.items at e)) }
 {
     run_one(alloc, all, all.jobs.as_slice(), at)
 }
@@ -193,8 +227,7 @@ pub fn run_job(
 /// What is told of the job of the row at this place.
 fn check_job(alloc: Global, all: &AllRows, jobs: &[Row], at: usize) -> Result<JobReport, AllocError>
     requires { at < length jobs.now }
-    ensures { IfOk result (λ report. IsAsItRan report.outcome
-        → IsReportedAt all.now jobs.now at report) }
+    ensures { IfOk result (IsReportedAt all.now jobs.now at) }
 {
     match run_one(alloc, all, jobs, at)? {
         Ok(run) => run.report(alloc),

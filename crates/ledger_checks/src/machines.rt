@@ -1,6 +1,6 @@
 //! The rows of a machine that was run again, compared with those of the tables.
 
-ghost use Rattle.std.specs.Prelude.{◌≡◌, ◌≤◌, ◌++◌, ◌∷◌, All, length, map, Some, IfOk, OnOk};
+ghost use Rattle.std.specs.Prelude.{◌≡◌, ◌<◌, ◌≤◌, ◌++◌, ◌∷◌, ◌^◌, All, List, length, map, Some, IfErr, IfOk, OnErr, OnOk};
 ghost use Rattle.std.specs.Option.{option_to_list};
 ghost use Rattle.cards.specs.Decks.{AreCharacters};
 ghost use Rattle.core_store.specs.Pages.{cells_of};
@@ -12,6 +12,7 @@ ghost use Rattle.ledger_rows.specs.Columns.{HoldsCharacters, IsLine, line_cells}
 ghost use Rattle.ledger_rows.specs.Pockets.{IsPunched, pocket_cell};
 ghost use Rattle.ledger_checks.specs.Kept.{rows_of_cards, rows_of_lines, rows_of_pages, rows_of_pockets, rows_of_profile, rows_of_state, rows_of_stretches, HasMachine};
 ghost use Rattle.ledger_checks.specs.Tables.{rows_of};
+ghost use Rattle.sqlite.specs.Order.{Row as Values};
 ghost use Rattle.ledger_tables.specs.Cells.{unless_blank};
 ghost use Rattle.ledger_tables.specs.Tables.{line_row, page_row, pocket_row, stretch_row};
 
@@ -36,18 +37,20 @@ fn pass_stretch<'a>(
     place: usize,
     stretch: Stretch,
 ) -> Result<&'a [Row], Difference>
-    ensures { IfOk result (λ rest. rows_of name.entry.customer.now name.entry.number rows.now
+    requires { place < 2 ^ 63 }
+    ensures passed { IfOk result (λ rest. rows_of name.entry.customer.now name.entry.number rows.now
         ≡ stretch_row name.entry.customer.now name.entry.number place (stretch_cells stretch)
         ∷ rows_of name.entry.customer.now name.entry.number rest.now) }
+    ensures other { IfErr result (λ difference. (rest : List Values)
+        → ¬ (rows_of name.entry.customer.now name.entry.number rows.now
+        ≡ stretch_row name.entry.customer.now name.entry.number place (stretch_cells stretch)
+        ∷ rest)) }
 {
-    let Ok(number) = u32::try_from(place) else {
-        return Err(Difference::NoStretch(place));
-    };
     let switches = switches_number(stretch.switches);
     let wanted = params![
         name.customer,
         name.number,
-        number,
+        place as i64,
         switches,
         stretch.granted
     ];
@@ -60,8 +63,10 @@ pub(crate) fn check_stretches(
     name: JobName<'_>,
     stretches: &[Stretch],
 ) -> Result<(), Difference>
-    ensures { OnOk result (rows_of name.entry.customer.now name.entry.number rows.now
+    ensures same { OnOk result (rows_of name.entry.customer.now name.entry.number rows.now
         ≡ rows_of_stretches name.entry.customer.now name.entry.number stretches.now) }
+    ensures other { OnErr result (¬ (rows_of name.entry.customer.now name.entry.number rows.now
+        ≡ rows_of_stretches name.entry.customer.now name.entry.number stretches.now)) }
 {
     let mut rest = rows;
     for at in 0..stretches.len() {
@@ -75,6 +80,8 @@ fn check_cards(rows: &[Row], name: JobName<'_>, cards: &[Punched]) -> Result<(),
     requires { length cards.now ≤ 20000 }
     ensures same { OnOk result (rows_of name.entry.customer.now name.entry.number rows.now
         ≡ rows_of_cards name.entry.customer.now name.entry.number cards.now) }
+    ensures other { OnErr result (¬ (rows_of name.entry.customer.now name.entry.number rows.now
+        ≡ rows_of_cards name.entry.customer.now name.entry.number cards.now)) }
     ensures characters { OnOk result (All IsPunched cards.now) }
 {
     let mut rest = rows;
@@ -94,10 +101,14 @@ fn pass_pocket<'a>(
     place: u32,
     pocket: Pocket,
 ) -> Result<&'a [Row], Difference>
-    ensures { IfOk result (λ rest. rows_of name.entry.customer.now name.entry.number rows.now
+    ensures passed { IfOk result (λ rest. rows_of name.entry.customer.now name.entry.number rows.now
         ≡ map (pocket_row name.entry.customer.now name.entry.number place)
         (option_to_list (pocket_cell pocket))
         ++ rows_of name.entry.customer.now name.entry.number rest.now) }
+    ensures other { IfErr result (λ difference. (rest : List Values)
+        → ¬ (rows_of name.entry.customer.now name.entry.number rows.now
+        ≡ map (pocket_row name.entry.customer.now name.entry.number place)
+        (option_to_list (pocket_cell pocket)) ++ rest)) }
 {
     match pocket_cell(pocket) {
         Some(number) => {
@@ -111,8 +122,10 @@ fn pass_pocket<'a>(
 /// The rows of the pockets of a job's cards are these.
 fn check_pockets(rows: &[Row], name: JobName<'_>, cards: &[Punched]) -> Result<(), Difference>
     requires { length cards.now ≤ 20000 }
-    ensures { OnOk result (rows_of name.entry.customer.now name.entry.number rows.now
+    ensures same { OnOk result (rows_of name.entry.customer.now name.entry.number rows.now
         ≡ rows_of_pockets name.entry.customer.now name.entry.number cards.now) }
+    ensures other { OnErr result (¬ (rows_of name.entry.customer.now name.entry.number rows.now
+        ≡ rows_of_pockets name.entry.customer.now name.entry.number cards.now)) }
 {
     let mut rest = rows;
     for at in 0..cards.len() {
@@ -150,9 +163,13 @@ fn pass_line<'a>(
     place: u32,
     line: &Line,
 ) -> Result<&'a [Row], Difference>
-    ensures row { IfOk result (λ rest. rows_of name.entry.customer.now name.entry.number rows.now
+    ensures passed { IfOk result (λ rest. rows_of name.entry.customer.now name.entry.number rows.now
         ≡ line_row name.entry.customer.now name.entry.number place (line_cells line.now)
         ∷ rows_of name.entry.customer.now name.entry.number rest.now) }
+    ensures other { IfErr result (λ difference. (rest : List Values)
+        → ¬ (rows_of name.entry.customer.now name.entry.number rows.now
+        ≡ line_row name.entry.customer.now name.entry.number place (line_cells line.now)
+        ∷ rest)) }
     ensures line { IsLine line.now }
 {
     let image = line_bytes(line);
@@ -173,6 +190,8 @@ fn check_lines(rows: &[Row], name: JobName<'_>, lines: &[Line]) -> Result<(), Di
     requires { length lines.now ≤ 20000 }
     ensures same { OnOk result (rows_of name.entry.customer.now name.entry.number rows.now
         ≡ rows_of_lines name.entry.customer.now name.entry.number lines.now) }
+    ensures other { OnErr result (¬ (rows_of name.entry.customer.now name.entry.number rows.now
+        ≡ rows_of_lines name.entry.customer.now name.entry.number lines.now)) }
     ensures characters { OnOk result (All IsLine lines.now) }
 {
     let mut rest = rows;
@@ -189,8 +208,10 @@ fn check_state(
     machine: &Parts<PlaneCore>,
 ) -> Result<(), Difference>
     requires { IsInRange machine.now }
-    ensures { OnOk result (rows_of name.entry.customer.now name.entry.number rows.now
+    ensures same { OnOk result (rows_of name.entry.customer.now name.entry.number rows.now
         ≡ rows_of_state name.entry.customer.now name.entry.number machine.now) }
+    ensures other { OnErr result (¬ (rows_of name.entry.customer.now name.entry.number rows.now
+        ≡ rows_of_state name.entry.customer.now name.entry.number machine.now)) }
 {
     let s = state_row(machine);
     let wanted = params![
@@ -216,8 +237,10 @@ fn check_state(
 
 /// The row of a job's profile is this punch's.
 fn check_profile(rows: &[Row], name: JobName<'_>, punch: &Punch) -> Result<(), Difference>
-    ensures { OnOk result (rows_of name.entry.customer.now name.entry.number rows.now
+    ensures same { OnOk result (rows_of name.entry.customer.now name.entry.number rows.now
         ≡ rows_of_profile name.entry.customer.now name.entry.number punch.now) }
+    ensures other { OnErr result (¬ (rows_of name.entry.customer.now name.entry.number rows.now
+        ≡ rows_of_profile name.entry.customer.now name.entry.number punch.now)) }
 {
     let p = profile_row(punch);
     let wanted = params![name.customer, name.number, p.profile, p.chosen];
@@ -232,10 +255,14 @@ fn pass_page<'a>(
     page: u32,
     bytes: &[u8; 100],
 ) -> Result<&'a [Row], Difference>
-    ensures { IfOk result (λ rest. rows_of name.entry.customer.now name.entry.number rows.now
+    ensures passed { IfOk result (λ rest. rows_of name.entry.customer.now name.entry.number rows.now
         ≡ map (page_row name.entry.customer.now name.entry.number page)
         (option_to_list (unless_blank (Some bytes.now)))
         ++ rows_of name.entry.customer.now name.entry.number rest.now) }
+    ensures other { IfErr result (λ difference. (rest : List Values)
+        → ¬ (rows_of name.entry.customer.now name.entry.number rows.now
+        ≡ map (page_row name.entry.customer.now name.entry.number page)
+        (option_to_list (unless_blank (Some bytes.now))) ++ rest)) }
 {
     if is_blank_page(bytes) {
         return Ok(rows);
@@ -247,8 +274,10 @@ fn pass_page<'a>(
 /// The rows of a job's pages are those of this storage.
 fn check_pages(rows: &[Row], name: JobName<'_>, core: &PlaneCore) -> Result<(), Difference>
     requires { length (cells_of core.now) ≤ largest_size }
-    ensures { OnOk result (rows_of name.entry.customer.now name.entry.number rows.now
+    ensures same { OnOk result (rows_of name.entry.customer.now name.entry.number rows.now
         ≡ rows_of_pages name.entry.customer.now name.entry.number (cells_of core.now)) }
+    ensures other { OnErr result (¬ (rows_of name.entry.customer.now name.entry.number rows.now
+        ≡ rows_of_pages name.entry.customer.now name.entry.number (cells_of core.now))) }
 {
     let count = core.size() / PAGE_SIZE;
     let mut rest = rows;
@@ -263,6 +292,24 @@ fn storage_holds_characters(core: &PlaneCore)
     ensures { HoldsCharacters (cells_of core.now) }
 {}
 
+/// The rows of a job's pages are those of this machine's storage.
+fn check_storage(
+    rows: &[Row],
+    name: JobName<'_>,
+    machine: &Parts<PlaneCore>,
+) -> Result<(), Difference>
+    requires { IsInRange machine.now }
+    ensures same { OnOk result (rows_of name.entry.customer.now name.entry.number rows.now
+        ≡ rows_of_pages name.entry.customer.now name.entry.number machine.now.works.storage) }
+    ensures other { OnErr result (¬ (rows_of name.entry.customer.now name.entry.number rows.now
+        ≡ rows_of_pages name.entry.customer.now name.entry.number machine.now.works.storage)) }
+    ensures characters { HoldsCharacters machine.now.works.storage }
+{
+    // A law, for the proof: it does nothing.
+    storage_holds_characters(&machine.core);
+    check_pages(rows, name, &machine.core)
+}
+
 /// The rows of a job's machine are those of this one.
 pub(crate) fn check_machine(
     all: &AllRows,
@@ -274,18 +321,18 @@ pub(crate) fn check_machine(
     requires lines { length (lines_of machine.now) ≤ 20000 }
     ensures rows { OnOk result (HasMachine name.entry.customer.now name.entry.number all.now
         machine.now) }
+    ensures other { OnErr result (¬ HasMachine name.entry.customer.now name.entry.number all.now
+        machine.now) }
     ensures cards { OnOk result (All IsPunched machine.now.works.units.punch.cards) }
     ensures lines { OnOk result (All IsLine (lines_of machine.now)) }
     ensures characters { OnOk result (HoldsCharacters machine.now.works.storage) }
 {
-    // A law, for the proof: it does nothing.
-    storage_holds_characters(&machine.core);
     let cards = machine.units.punch.cards.as_slice();
     check_state(&all.states, name, machine)?;
     check_profile(&all.profiles, name, &machine.units.punch)?;
     check_cards(&all.cards, name, cards)?;
     check_pockets(&all.pockets, name, cards)?;
     check_lines(&all.lines, name, machine.units.printer.lines.as_slice())?;
-    check_pages(&all.pages, name, &machine.core)?;
+    check_storage(&all.pages, name, machine)?;
     Ok(())
 }

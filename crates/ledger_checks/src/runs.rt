@@ -1,9 +1,10 @@
 //! A job that was run again.
 
-ghost use Rattle.std.specs.Prelude.{◌≡◌, pos, string_bytes, IfOk};
+ghost use Rattle.std.specs.Prelude.{◌≡◌, pos, string_bytes, true, IfOk};
 ghost use Rattle.machine.specs.Ranges.{IsInRange};
 ghost use Rattle.office.specs.Jobs.{loaded_deck, picture};
 ghost use Rattle.office.specs.Kept.{kept_of, summary_of};
+ghost use Rattle.office.specs.Names.{is_customer, is_number};
 ghost use Rattle.ledger.specs.Standing.{CanBeKept};
 ghost use Rattle.ledger_checks.specs.Jobs.{HasComeTo, entry_of};
 ghost use Rattle.ledger_checks.specs.Reports.{Tells};
@@ -75,14 +76,16 @@ impl JobRun {
 
     /// Its customer.
     pub fn customer(&self) -> &str
-        ensures { result.now ≡ self.now.customer }
+        ensures its { result.now ≡ self.now.customer }
+        ensures customer { is_customer result.now ≡ true }
     {
         self.customer.as_str()
     }
 
     /// Its number.
     pub fn number(&self) -> u32
-        ensures { result ≡ self.now.number }
+        ensures its { result ≡ self.now.number }
+        ensures number { is_number result ≡ true }
     {
         self.number
     }
@@ -122,8 +125,8 @@ impl JobRun {
         &self.deck
     }
 
-    /// The deck that its machine loads: an object deck itself, or for a source its loading cards and
-    /// then its data.
+    /// The deck that its machine loads: an object deck itself, or for a source its loading cards
+    /// and then its data.
     pub fn loaded_deck(&self) -> &Deck
         ensures { result.now ≡ loaded_deck self.now.job }
     {

@@ -1,5 +1,22 @@
 //! What a job's rows say that its customer handed in.
 
+ghost use Rattle.std.specs.Prelude.{◌≡◌, ◌<◌, ◌^◌, ℕ, List, pos, Bool, IfErr, IfOk, Ok, Some};
+ghost use Rattle.cards.specs.Decks.{IsDeck, deck_bytes};
+ghost use Rattle.cards.specs.declared.decks.Card.{Card};
+ghost use Rattle.core_store.specs.Storage.{positions_of};
+ghost use Rattle.ledger.specs.Standing.{kind_number, named, stretch_row as stretch_cells};
+ghost use Rattle.ledger_checks.specs.Jobs.{numbers_of, row_of};
+ghost use Rattle.ledger_checks.specs.Kept.{rows_of_profile, rows_of_stretches};
+ghost use Rattle.ledger_checks.specs.Stops.{Gives, IfDiffers};
+ghost use Rattle.ledger_checks.specs.Tables.{rows_of};
+ghost use Rattle.ledger_rows.specs.Columns.{truth};
+ghost use Rattle.ledger_tables.specs.Tables.{job_row, stretch_row};
+ghost use Rattle.office.specs.Jobs.{AreStretches, HasSwitches};
+ghost use Rattle.office.specs.Office.{Entry};
+ghost use Rattle.sqlite.specs.Order.{column};
+ghost use Rattle.sqlite.specs.declared.types.Value.TheVariants.{Blob, Int};
+ghost use Rattle.units.specs.Stacked.{Stacked};
+
 use crate::cells::{bytes_at, number_at};
 use crate::differences::{Difference, Found, Place, Stop};
 use crate::following::next_of;
@@ -30,7 +47,9 @@ pub(crate) struct Submitted {
 }
 
 /// The kind with this number.
-fn read_kind(number: u32) -> Option<Kind> {
+fn read_kind(number: u32) -> Option<Kind>
+    ensures { (kind : Kind) → number ≡ kind_number kind → result ≡ Some kind }
+{
     match number {
         0 => Some(Kind::Object),
         1 => Some(Kind::Autocoder),
@@ -39,22 +58,33 @@ fn read_kind(number: u32) -> Option<Kind> {
 }
 
 /// The kind in a column, if it holds one.
-fn kind_at(row: &Row, at: usize) -> Option<Kind> {
+fn kind_at(row: &Row, at: usize) -> Option<Kind>
+    ensures { (kind : Kind) → column row.now at ≡ Int (pos (kind_number kind))
+        → result ≡ Some kind }
+{
     read_kind(number_at(row, at)?)
 }
 
 /// The size in a column, if it holds one.
-fn size_at(row: &Row, at: usize) -> Option<Size> {
+fn size_at(row: &Row, at: usize) -> Option<Size>
+    ensures { (size : Size) → column row.now at ≡ Int (pos (positions_of size))
+        → result ≡ Some size }
+{
     Size::of_positions(number_at(row, at)?)
 }
 
 /// The flag in a column, if it holds one.
-fn truth_at(row: &Row, at: usize) -> Option<bool> {
+fn truth_at(row: &Row, at: usize) -> Option<bool>
+    ensures { (flag : Bool) → column row.now at ≡ Int (pos (truth flag)) → result ≡ Some flag }
+{
     read_truth(number_at(row, at)?)
 }
 
 /// The numbers of a row of `jobs`, or the name of the first column with a value that no job has.
-fn read_numbers(row: &Row) -> Result<Numbers, &'static str> {
+fn read_numbers(row: &Row) -> Result<Numbers, &'static str>
+    ensures { (customer deck loaded : List ℕ) → (number : ℕ) → (it : Numbers)
+        → row.now ≡ row_of customer number it deck loaded → result ≡ Ok it }
+{
     let Some(kind) = kind_at(row, 2) else {
         return Err("kind");
     };
@@ -76,7 +106,10 @@ fn read_numbers(row: &Row) -> Result<Numbers, &'static str> {
 }
 
 /// The deck that was handed in.
-fn read_deck_of(alloc: Global, row: &Row) -> Result<Deck, Stop> {
+fn read_deck_of(alloc: Global, row: &Row) -> Result<Deck, Stop>
+    ensures { (deck : List Card) → IsDeck deck → column row.now 4 ≡ Blob (deck_bytes deck)
+        → Gives result deck }
+{
     let Some(bytes) = bytes_at(row, 4) else {
         return Err(Stop::Differs(Difference::NoJob { name: "deck" }));
     };
@@ -87,7 +120,10 @@ fn read_deck_of(alloc: Global, row: &Row) -> Result<Deck, Stop> {
 }
 
 /// What a row of `jobs` holds.
-pub(crate) fn read_submitted(alloc: Global, row: &Row) -> Result<Submitted, Stop> {
+pub(crate) fn read_submitted(alloc: Global, row: &Row) -> Result<Submitted, Stop>
+    ensures { (e : Entry) → IsDeck e.job.deck → row.now ≡ job_row (named e)
+        → Gives result (record { numbers = numbers_of e.job; deck = e.job.deck }) }
+{
     let numbers = match read_numbers(row) {
         Ok(numbers) => numbers,
         Err(name) => return Err(Stop::Differs(Difference::NoJob { name })),
@@ -97,7 +133,12 @@ pub(crate) fn read_submitted(alloc: Global, row: &Row) -> Result<Submitted, Stop
 }
 
 /// The stretch of a row of `stretches`.
-fn read_stretch(row: &Row) -> Option<Stretch> {
+fn read_stretch(row: &Row) -> Option<Stretch>
+    ensures { (customer : List ℕ) → (number place : ℕ) → (stretch : Stretch)
+        → HasSwitches stretch → stretch.granted < 2 ^ 32
+        → row.now ≡ stretch_row customer number place (stretch_cells stretch)
+        → result ≡ Some stretch }
+{
     let switches = read_switches(number_at(row, 3)?)?;
     let granted = number_at(row, 4)?;
     Some(Stretch { switches, granted })
@@ -108,7 +149,13 @@ pub(crate) fn read_stretches(
     alloc: Global,
     rows: &[Row],
     name: JobName<'_>,
-) -> Result<Vec<Stretch>, Stop> {
+) -> Result<Vec<Stretch>, Stop>
+    ensures { (stretches : List Stretch) → AreStretches stretches
+        → rows_of name.entry.customer.now name.entry.number rows.now
+        ≡ rows_of_stretches name.entry.customer.now name.entry.number stretches
+        → IfOk result (λ read. read.items ≡ stretches)
+        × IfErr result (λ stop. stop ≡ Stop.NoMemory) }
+{
     let mut stretches = Vec::new(alloc);
     for row in rows {
         if is_row_of(row, name) {
@@ -123,7 +170,12 @@ pub(crate) fn read_stretches(
 }
 
 /// The profile of a job's row of `profiles`.
-pub(crate) fn read_profile(rows: &[Row], name: JobName<'_>) -> Result<Profile, Difference> {
+pub(crate) fn read_profile(rows: &[Row], name: JobName<'_>) -> Result<Profile, Difference>
+    ensures { (punch : Stacked)
+        → rows_of name.entry.customer.now name.entry.number rows.now
+        ≡ rows_of_profile name.entry.customer.now name.entry.number punch
+        → result ≡ Ok punch.profile }
+{
     let Some((row, _)) = next_of(rows, name) else {
         return Err(Difference::Row(Place::Profile, Found::Nothing));
     };

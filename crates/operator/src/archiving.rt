@@ -9,7 +9,6 @@ use ledger_checks::{
 };
 use ledger_files::{Look, look_into};
 use ledger_tables::{Fault, OpenFault};
-use office::{is_customer, is_number};
 use sqlite::{Alter, Connection};
 use std::alloc::Global;
 use std::io::Write;
@@ -87,17 +86,8 @@ impl Archiving<'_> {
 
     /// Files a job that is as it ran.
     fn file<W: Write>(&mut self, rt: &HostRuntime, run: &JobRun, output: &mut W) -> io::Result<()> {
-        let customer = run.customer();
-        let number = run.number();
-        if !is_customer(customer) || !is_number(number) {
-            self.counts.differing = self.counts.differing.saturating_add(1);
-            return writeln!(
-                output,
-                "{customer} {number}: no bureau gives a job this name"
-            );
-        }
         let archive = files_of(rt.alloc(), run)?;
-        let filed = file_job(rt, self.folder, customer, number, &archive)?;
+        let filed = file_job(rt, self.folder, run.customer(), run.number(), &archive)?;
         self.tell(run, &filed, output)
     }
 

@@ -1,5 +1,8 @@
 //! The folders of archived jobs: each is written whole, or compared and left as it is.
 
+ghost use Rattle.std.specs.Prelude.{◌≡◌, true};
+ghost use Rattle.office.specs.Names.{is_customer};
+
 use ledger_archives::{Archive, ArchivedFile};
 use std::alloc::AllocError;
 use std::fs::{File, OpenOptions};
@@ -183,15 +186,17 @@ fn make_folder(rt: &HostRuntime, folder: &str, path: &str) -> io::Result<bool> {
     }
 }
 
-/// Files the archive of a job in a folder, as `CUSTOMER/NUMBER`. A folder of this name is compared
-/// with it and stays as it is.
+/// Files the archive of a job in a folder, as `CUSTOMER/NUMBER`: the customer's name is no path. A
+/// folder of this name is compared with it and stays as it is.
 pub(crate) fn file_job(
     rt: &HostRuntime,
     folder: &str,
     customer: &str,
     number: u32,
     archive: &Archive,
-) -> io::Result<Filed> {
+) -> io::Result<Filed>
+    requires { is_customer customer.now ≡ true }
+{
     let customer = format!(in rt.alloc(); "{folder}/{customer}")?;
     if !make_folder(rt, folder, &customer)? {
         return Ok(Filed::Hindered(customer));

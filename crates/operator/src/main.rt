@@ -1,8 +1,8 @@
 //! The program `operator`: what the operator of a bureau does, beside the bureau's own program.
 //!
 //! What a check finds is said exactly by `ledger_checks`, and the requests of the work on a queue
-//! by `queue_rounds`. Here they are joined to the process's words, files and sockets. The clauses of
-//! the kit do not mention these, so what is read and sent where is tested by
+//! by `queue_rounds`. Here they are joined to the process's words, files and sockets. The clauses
+//! of the kit do not mention these, so what is read and sent where is tested by
 //! `cases/check-operator`.
 #![tactic(auto)]
 

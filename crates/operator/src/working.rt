@@ -4,7 +4,7 @@ use crate::clients::{QUEUE, ask};
 use crate::tallies::Tally;
 use command_line::Status;
 use queue_rounds::{
-    Heard, JobName, MOST_BARREN, MOST_TRIES, Next, Passed, Ran, Rounds, Why, hear_queue, hear_slice,
+    Heard, JobName, MOST_TRIES, Next, Passed, Ran, Rounds, Why, hear_queue, hear_slice,
 };
 use std::io::Write;
 use std::time::Duration;
@@ -74,8 +74,14 @@ impl Work {
 }
 
 /// Prints why no slice ran, and the way out.
-fn tell_barren<E: Write>(port: u16, heard: Option<Passed>, errors: &mut E) -> io::Result<()> {
-    write!(errors, "port {port}: no slice ran in {MOST_BARREN} rounds")?;
+fn tell_barren<E: Write>(
+    port: u16,
+    rounds: u32,
+    heard: Option<Passed>,
+    errors: &mut E,
+) -> io::Result<()> {
+    let word = if rounds == 1 { "round" } else { "rounds" };
+    write!(errors, "port {port}: no slice ran in {rounds} {word}")?;
     match heard {
         Some(Passed::Refused(number)) => writeln!(
             errors,
@@ -99,12 +105,13 @@ fn tell_barren<E: Write>(port: u16, heard: Option<Passed>, errors: &mut E) -> io
 fn tell_end<E: Write>(
     port: u16,
     why: Why,
+    barren: u32,
     heard: Option<Passed>,
     errors: &mut E,
 ) -> io::Result<Status> {
     match why {
         Why::Empty | Why::Rounds => return Ok(Status::Done),
-        Why::Barren => tell_barren(port, heard, errors)?,
+        Why::Barren => tell_barren(port, barren, heard, errors)?,
         Why::Away => writeln!(
             errors,
             "port {port}: no answer in {MOST_TRIES} tries; is bureau serve running there?"
@@ -143,7 +150,7 @@ pub(crate) fn run_queue<W: Write, E: Write>(
         match rounds.hear(heard) {
             Next::GoOn => {}
             Next::Pause => thread::sleep(rt, Duration::from_secs(u64::from(options.pause))),
-            Next::End(why) => return tell_end(port, why, passed, errors),
+            Next::End(why) => return tell_end(port, why, rounds.barren(), passed, errors),
         }
     }
     Ok(Status::NotDone)

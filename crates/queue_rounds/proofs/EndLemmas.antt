@@ -1,5 +1,5 @@
 -- the end of work in which no slice runs
-use Rattle.std.proofs.Common.{◌≡◌, ℕ, zero, suc, ◌+◌, ◌-◌, ◌≤◌, ◌&&◌, ◌==◌, Bool, true, false, if◌then◌else◌, List, [], ◌∷◌, refl, arith}
+use Rattle.std.proofs.Common.{◌≡◌, ℕ, zero, suc, ◌+◌, ◌-◌, ◌≤◌, ◌&&◌, ◌||◌, ◌==◌, Bool, true, false, if◌then◌else◌, List, [], ◌∷◌, refl, arith}
 use Rattle.std.specs.Prelude.{Option}
 use Rattle.std.specs.List.{list_all}
 use Rattle.queue_rounds.specs.Rounds.{State, after, is_last, listed, listed_next, next_after, start, turned, turned_next}
@@ -18,10 +18,9 @@ both_true false c is = cc
 
 -- what follows on a round without a slice
 abbrev after_barren : ℕ → Bool → Next
-after_barren q last = if q == 0 then End why.Barren else (if last then End why.Rounds else Pause)
+after_barren q last = if q == 0 || last then End why.Barren else Pause
 
-by_test : (b last : Bool) → goes_on (if b then End why.Barren else (if last then End why.Rounds else Pause)) ≡ true
-    → (b ≡ false) × (pauses (if b then End why.Barren else (if last then End why.Rounds else Pause)) ≡ 1)
+by_test : (b last : Bool) → goes_on (if b || last then End why.Barren else Pause) ≡ true → (b ≡ false) × (pauses (if b || last then End why.Barren else Pause) ≡ 1)
 by_test true last is = cc
 by_test false true is = cc
 by_test false false is = (refl, refl)

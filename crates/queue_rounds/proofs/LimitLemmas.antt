@@ -1,5 +1,5 @@
 -- as many rounds as are asked for
-use Rattle.std.proofs.Common.{◌≡◌, ℕ, ◌+◌, ◌-◌, ◌≤◌, ◌==◌, Bool, true, false, if◌then◌else◌, List, [], ◌∷◌, Some, refl, sym, ap, subst, arith}
+use Rattle.std.proofs.Common.{◌≡◌, ℕ, ◌+◌, ◌-◌, ◌≤◌, ◌||◌, ◌==◌, Bool, true, false, if◌then◌else◌, List, [], ◌∷◌, Some, refl, sym, ap, subst, arith}
 use Rattle.queue_rounds.specs.Rounds.{State, after, listed, listed_next, next_after, start, turned, turned_next}
 use Rattle.queue_rounds.specs.Runs.{all_go_on, begins, begun_by, goes_on, total}
 use Rattle.queue_rounds.specs.declared.jobs.JobName.{JobName}
@@ -23,7 +23,7 @@ record IsLeft (s : State) (begun m : ℕ) : Type 0 where
   may : MayBegin s.waiting k
 
 not_last : (ran b last : Bool)
-    → goes_on (if ran then (if last then End why.Rounds else GoOn) else (if b then End why.Barren else (if last then End why.Rounds else Pause))) ≡ true
+    → goes_on (if ran then (if last then End why.Rounds else GoOn) else (if b || last then End why.Barren else Pause)) ≡ true
     → last ≡ false
 not_last true b true is = cc
 not_last true b false is = refl

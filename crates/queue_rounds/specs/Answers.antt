@@ -81,6 +81,7 @@ standing_in value =
     (flag_at (codes "held") value)) (text_at (codes "standing") value)
 
 -- what a body tells by a rule is this, and nothing if it is no text or no JSON
-pub record Tells {X : Type 0} (rule : Data → Option X) (body : List ℕ) (it : Option X) : Type 0 where
+pub record Tells {X : Type 0} (rule : Data → Option X) (body : List ℕ) (it : Option X)
+    : Type 0 where
   pub is_text : IfSome it (λ found. IsUtf8 body)
   pub is_told : IsUtf8 body → it ≡ option_and_then rule (read_text body)

@@ -77,8 +77,11 @@ ended s = record s { patience = if s.ran then 10 else s.patience - 1 }
 abbrev pub ended_next : State → Next
 ended_next s =
     if s.ran then (if is_last s.left then End why.Rounds else GoOn)
-    else (if s.patience - 1 == 0 then End why.Barren
-    else (if is_last s.left then End why.Rounds else Pause))
+    else (if s.patience - 1 == 0 || is_last s.left then End why.Barren else Pause)
+
+-- how many rounds in a row, up to now, were without a slice that ran
+abbrev pub barren : State → ℕ
+barren s = 10 - s.patience
 
 -- the work once the first job had its turn, in which its slice ran or did not
 abbrev pub taken : Bool → State → State

@@ -114,8 +114,8 @@ fn queue_in(alloc: Global, value: &Value) -> Result<Option<Vec<JobName>>, AllocE
     }
 }
 
-/// Returns the jobs of the queue that a body tells, in its order; none if it is no queue, as where a
-/// name is none of a bureau's. Fails only if there is no memory.
+/// Returns the jobs of the queue that a body tells, in its order; none if it is no queue, as where
+/// a name is none of a bureau's. Fails only if there is no memory.
 pub fn read_queue(alloc: Global, body: &[u8]) -> Result<Option<Vec<JobName>>, AllocError>
     ensures told { IfOk result (λ found.
         Tells queue_in body.now (option_map (λ jobs. map name_of jobs.items) found)) }

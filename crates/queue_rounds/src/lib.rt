@@ -30,5 +30,5 @@ pub use laws::{
     no_more_rounds_than_asked_for, turns_are_fair, work_in_which_no_slice_runs_ends,
 };
 pub use replies::{Heard, Passed, Reply, hear_queue, hear_slice};
-pub use rounds::{MOST_BARREN, MOST_TRIES, Next, Rounds, Why};
+pub use rounds::{MOST_TRIES, Next, Rounds, Why};
 pub use standings::{Standing, read_standing};

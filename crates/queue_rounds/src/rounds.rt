@@ -1,7 +1,7 @@
 //! The rounds in which the queue of a bureau is run.
 
 ghost use Rattle.std.specs.Prelude.{◌≡◌, option_copied, slice_get};
-ghost use Rattle.queue_rounds.specs.Rounds.{after, ended, ended_next, failed, failed_next, is_last, listed, listed_next, next_after, one_less, start, state_of, turned, turned_next};
+ghost use Rattle.queue_rounds.specs.Rounds.{after, barren, ended, ended_next, failed, failed_next, is_last, listed, listed_next, next_after, one_less, start, state_of, turned, turned_next};
 
 use crate::jobs::JobName;
 use crate::replies::Heard;
@@ -12,16 +12,17 @@ use std::alloc::Global;
 pub const MOST_TRIES: u32 = 10;
 
 /// After how many rounds in a row in which no slice ran the work ends.
-pub const MOST_BARREN: u32 = 10;
+const MOST_BARREN: u32 = 10;
 
 /// Why the work ends.
 #[derive(Clone, Copy)]
 pub enum Why {
     /// The queue is empty.
     Empty,
-    /// As many rounds were done as were asked for.
+    /// As many rounds were done as were asked for, and a slice ran in the last.
     Rounds,
-    /// No slice ran in [`MOST_BARREN`] rounds.
+    /// No slice ran in the last rounds, which are [`MOST_BARREN`], or fewer if no more were asked
+    /// for.
     Barren,
     /// A request failed, and failed again [`MOST_TRIES`] times.
     Away,
@@ -129,14 +130,18 @@ impl Rounds {
             };
         }
         self.patience = self.patience.saturating_sub(1);
-        if self.patience == 0 {
-            return Next::End(Why::Barren);
-        }
-        if is_last {
-            Next::End(Why::Rounds)
+        if self.patience == 0 || is_last {
+            Next::End(Why::Barren)
         } else {
             Next::Pause
         }
+    }
+
+    /// How many rounds in a row, up to now, were without a slice that ran.
+    pub fn barren(&self) -> u32
+        ensures { result ≡ barren (state_of self.now) }
+    {
+        MOST_BARREN.saturating_sub(self.patience)
     }
 
     /// The first job that waited had its turn, in which its slice ran or did not.

@@ -12,4 +12,4 @@ pub returns : goal.returns
 returns c =
     let xs = c.args.stretches.now in
     let i = c.loop-stretch.stretch-index in
-    λ _. All-same HasSwitches xs (take i xs) (sym (take_all i xs c.loop-stretch-test.false)) c.loop-stretch.invariant
+    (λ _. All-same HasSwitches xs (take i xs) (sym (take_all i xs c.loop-stretch-test.false)) c.loop-stretch.invariant, λ _. refl)

@@ -5,6 +5,7 @@ use Rattle.ledger_tables.specs.Schema.{bureau_schema}
 use Rattle.ledger_tables.specs.declared.faults.Fault.{Fault}
 use Rattle.ledger_checks.specs.Tables.{HasRows}
 use Rattle.ledger_checks.specs.declared.all_rows.AllRows.{AllRows}
+use Rattle.ledger_checks.proofs.KeptRows.{kept_by}
 use Rattle.ledger_checks.proofs.StandingRows.{stands_for}
 use Rattle.ledger_checks.proofs.checks.check.Goals as goal
 
@@ -14,5 +15,7 @@ returns-in-Ok g c clean =
     let all = c.in-Ok.all in
     let read = subst (λ (r : Result AllRows Fault). IfOk r (λ all. db.schema ≡ bureau_schema → HasRows db all)) c.in-Ok.is (c.read_rows-read.ensures clean) in
     if_ok_then c.check_read.result _ _
-    (λ report sound ours none. stands_for db all report (read ours).bureaus (read ours).rows (sound none))
+    (λ report exact ours.
+    let has = read ours in
+    record { sound = λ none. stands_for db all report has.bureaus has.rows (exact.sound none); complete = λ office named rows. exact.complete office named (kept_by db all office has rows) })
     c.check_read.ensures

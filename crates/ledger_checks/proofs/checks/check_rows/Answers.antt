@@ -1,13 +1,13 @@
 use Rattle.std.proofs.Common.{List, subst}
 use Rattle.sqlite.specs.Order.{Row}
 use Rattle.ledger_checks.specs.Reports.{AreReported}
-use Rattle.ledger_checks.proofs.OfficeLemmas.{keeps_told}
+use Rattle.ledger_checks.proofs.OfficeLemmas.{exact_for}
 use Rattle.ledger_checks.proofs.checks.check_rows.Goals as goal
 
 pub returns : goal.returns
 returns c =
     let all = c.args.all.now in
     let jobs = c.in_ok-jobs.jobs in
-    keeps_told all (record { jobs = jobs; strays = c.in_ok-strays.strays })
+    exact_for all (record { jobs = jobs; strays = c.in_ok-strays.strays })
     (subst (λ (rows : List Row). AreReported all rows jobs.items) c.as_slice.ensures.value c.in_ok-jobs.ensures)
     c.in_ok-strays.ensures

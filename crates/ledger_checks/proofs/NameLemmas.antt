@@ -1,0 +1,31 @@
+-- A customer's name is a text.
+use Rattle.std.proofs.Common.{◌≡◌, ◌<◌, ◌⊎◌, inl, inr, ℕ, zero, suc, List, [], ◌∷◌, Bool, true, false, ◌==◌, ◌||◌, nat_lt, codes, length, refl, sym, subst, arith, true≢false}
+use Rattle.std.specs.Prelude.{slice_index, IsAscii, IsUtf8}
+use Rattle.std.specs.List.{list_all, list_any}
+use Rattle.std.proofs.lemmas.Bool.{and_parts, eqb-true}
+use Rattle.std.proofs.lemmas.Bool.Decides.{nat_tests}
+use Rattle.std.proofs.lemmas.Str.{IsUtf8-from_ascii}
+use Rattle.office.specs.Names.{is_customer, is_letter_or_digit, is_name_length}
+
+either_of : (b r : Bool) → (b || r) ≡ true → (b ≡ true) ⊎ (r ≡ true)
+either_of true r is = inl refl
+either_of false r is = inr is
+
+here_or_later : (c byte : ℕ) (later : Bool) → nat_lt c 128 ≡ true → (later ≡ true → byte < 128) → ((c == byte) ≡ true) ⊎ (later ≡ true) → byte < 128
+here_or_later c byte later below rest (inl here) = subst (λ n. n < 128) (eqb-true c byte here) (grind (arith, nat_tests, below))
+here_or_later c byte later below rest (inr there) = rest there
+
+-- a byte that is one of these is ASCII as they are
+one_below : (cs : List ℕ) (byte : ℕ) → list_all (λ c. nat_lt c 128) cs ≡ true → list_any (λ c. c == byte) cs ≡ true → byte < 128
+one_below [] byte all any = absurd (true≢false (sym any))
+one_below (c ∷ cs) byte all any =
+    let below = and_parts (nat_lt c 128) (list_all (λ c. nat_lt c 128) cs) all in
+    here_or_later c byte (list_any (λ c. c == byte) cs) below.0 (one_below cs byte below.1) (either_of (c == byte) (list_any (λ c. c == byte) cs) any)
+
+each_below : (name : List ℕ) → list_all is_letter_or_digit name ≡ true → IsAscii name
+each_below [] all i = omega arith
+each_below (c ∷ cs) all zero = one_below (codes "ABCDEFGHIJKLMNOPQRSTUVWXYZ0123456789") c refl (and_parts (is_letter_or_digit c) (list_all is_letter_or_digit cs) all).0
+each_below (c ∷ cs) all (suc i) = each_below cs (and_parts (is_letter_or_digit c) (list_all is_letter_or_digit cs) all).1 i
+
+pub names_are_texts : (name : List ℕ) → is_customer name ≡ true → IsUtf8 name
+names_are_texts name is = IsUtf8-from_ascii name (each_below name (and_parts (is_name_length (length name)) (list_all is_letter_or_digit name) is).1)
