@@ -1,6 +1,5 @@
-use Rattle.std.proofs.Common.{◌≡◌, ◌≤◌, ◌+◌, [], ◌∷◌, ◌++◌, List, ℕ, Option, length, take, option_map, sym, ap, subst, ◌∙◌, arith, rules}
+use Rattle.std.proofs.Common.{◌≤◌, ◌+◌, [], List, ℕ, Option, length, take, option_map, ap, arith, rules}
 use Rattle.std.proofs.lemmas.List.{length-map, take_all}
-use Rattle.office.specs.Office.{Entry, Office}
 use Rattle.sqlite.specs.Held.{state}
 use Rattle.sqlite.specs.State.{HasCleanDisk}
 use Rattle.ledger.specs.Listed.{IsIts}
