@@ -1,3 +1,5 @@
 pub mod ReadingLaw
 pub mod NameReads
 pub mod AskedLemmas
+pub mod NameTexts
+pub mod ListingLines

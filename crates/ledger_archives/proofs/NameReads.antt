@@ -1,8 +1,12 @@
 -- The names of the jobs, as they are read.
-use Rattle.std.proofs.Common.{◌≡◌, List, ℕ, [], ◌∷◌, map, drop, get_or, codes, refl, sym, ap, subst, ◌∙◌}
+use Rattle.std.proofs.Common.{◌≡◌, inl, inr, List, ℕ, [], ◌∷◌, map, drop, get_or, codes, false, IsTrue, Option, Some, None, refl, sym, ap, subst, ◌∙◌}
 use Rattle.sqlite.specs.Listing.{understood}
 use Rattle.sqlite.specs.Order.{Row, column}
-use Rattle.sqlite.specs.State.{State, IsUnchanged, Shown}
+use Rattle.sqlite.specs.Effect.{Database}
+use Rattle.sqlite.specs.State.{State, HasCleanDisk, IsUnchanged, Shown, ShowsRows, Survives}
+use Rattle.sqlite.specs.Tree.{Trees}
+use Rattle.sqlite_resolve.specs.declared.compiled.Compiled.{Compiled}
+use Rattle.sqlite_schema.specs.declared.command.Returning.{Returning}
 use Rattle.sqlite.specs.Term.{col}
 use Rattle.sqlite_tied.specs.Compute.{everything}
 use Rattle.ledger_tables.specs.Tables.{cells, job_row}
@@ -12,7 +16,8 @@ use Rattle.ledger_tables.proofs.LookupStatement.{ordered_query, show}
 use Rattle.ledger_tables.proofs.ReadTexts.{Selects}
 use Rattle.office.specs.Office.{Office}
 use Rattle.ledger.specs.Adopting.{IsUntouched}
-use Rattle.ledger.specs.Standing.{Rows, Stands, StandsIn, named}
+use Rattle.ledger.specs.Standing.{LeftAs, Rows, Stands, StandsIn, named}
+use Rattle.ledger.proofs.BureauTransactions.{left_as}
 use Rattle.ledger_checks.proofs.TableAnswers.{whole_in_order}
 use Rattle.ledger_checks.proofs.WidthLemmas.{upto}
 use Rattle.ledger_archives.specs.Names.{name_row}
@@ -49,3 +54,29 @@ still_stands old end office all seen s = record {
   now = λ opened. subst (λ db. Rows db office) (sym (all.now opened)) seen;
   left = λ db may. s.left db (all.left db may);
 }
+
+-- ---- the connection that is asked
+
+shown_by : (old new : State) (sql : List ℕ) (c : Compiled) (params : Row) (rows : List Row) (returning : Option Returning) → ShowsRows old new sql c params rows returning → IsTrue old.is_open
+shown_by old new sql c params rows None it = it.3.0.was_open
+shown_by old new sql c params rows (Some what) it = it.1.shown.was_open
+
+-- rows are shown by an open connection alone
+pub open_if_shown : (sql : List ℕ) (params : Row) (old new : State) (rows : List Row) → Shown sql params old new rows → IsTrue old.is_open
+unfolding Shown
+open_if_shown sql params old new rows it = shown_by old new sql it.0 _ rows it.0.returning it.2
+
+-- outside a transaction, a crash leaves what the connection sees
+pub stands_settled : (s : State) (office : Office) → s.in_transaction ≡ false → s.now ≡ s.committed → ((db : Trees) → s.may_leave db → db ≡ s.committed.trees) → StandsIn s office → Stands s office
+stands_settled s office outside settled left seen = record {
+  outside = outside;
+  now = λ opened. seen;
+  left = λ db may. subst (λ d. LeftAs d office) (sym (left db may ∙ sym (ap (λ (d : Database). d.trees) settled))) (left_as s.now office seen);
+}
+
+-- after two calls that commit nothing a crash leaves nothing new
+pub left_before : (old mid new : State) → Survives old mid (λ _. ⊥) → Survives mid new (λ _. ⊥) → HasCleanDisk mid → HasCleanDisk new → (db : Trees) → new.may_leave db → old.may_leave db
+left_before old mid new one two early late db may = elim (two.crash late db may) [
+  | inr none ↦ absurd none
+  | inl before ↦ elim (one.crash early db before) [ inl first ↦ first | inr none ↦ absurd none ]
+]

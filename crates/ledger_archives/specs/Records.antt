@@ -65,8 +65,8 @@ digest_lines deck loaded lines punched cards = digest_line (codes "deck.text") d
     ++ digest_line (codes "loaded.text") loaded ++ digest_line (codes "lines.text") lines
     ++ digest_line (codes "cards.punch") punched ++ digest_line (codes "cards.text") cards
 
--- the record of a job with these files: its name, its kind and size, a line for each stretch, how it
--- stands, how much it has made, and its files
+-- the record of a job with these files: its name, its kind and size, a line for each stretch, how
+-- it stands, how much it has made, and its files
 unfoldable pub record_of : Entry → List ℕ → List ℕ → List ℕ → List ℕ → List ℕ → List ℕ
 record_of e deck loaded lines punched cards =
     let summary : Summary = summary_of (kept_of e.job) in

@@ -5,6 +5,10 @@
 //! the digests of these. The contract for the layer above: each file's bytes are those that a
 //! definition gives for the job (`specs/Archives.antt`, `specs/Records.antt`), and what they hold
 //! can be read back ([`archives_are_read`]).
+//!
+//! [`list_jobs`] returns the list of a bureau's jobs: the text that a definition gives for the
+//! office that the tables stand for (`specs/Lists.antt`), and what a crash may leave of the store
+//! stands for that office whatever it returns.
 #![tactic(auto)]
 
 mod archives;

@@ -1,20 +1,23 @@
 //! The list of a bureau's jobs.
 
-ghost use Rattle.std.specs.Prelude.{◌≡◌, ◌≤◌, ◌++◌, decimal, option_map, Some, IfOk, OnOk};
+ghost use Rattle.std.specs.Prelude.{◌≡◌, ◌≤◌, ◌++◌, decimal, map, option_map, Some, IfOk, IsTrue, OnOk};
 ghost use Rattle.office.specs.Jobs.{Job};
 ghost use Rattle.office.specs.Kept.{kept_of, summary_of};
-ghost use Rattle.office.specs.Office.{job_of};
+ghost use Rattle.office.specs.Office.{Office, job_of};
 ghost use Rattle.sqlite.specs.Held.{state};
-ghost use Rattle.sqlite.specs.View.{doubt};
-ghost use Rattle.ledger_archives.specs.Lists.{FindsStill, flag_words, if_set, is_of, listed_line, made_words, summary_words};
+ghost use Rattle.ledger.specs.Standing.{named};
+ghost use Rattle.ledger_tables.specs.Tables.{AreDistinct};
+ghost use Rattle.sqlite.specs.State.{HasCleanDisk};
+ghost use Rattle.sqlite.specs.View.{IsClean, doubt};
+ghost use Rattle.ledger_archives.specs.Lists.{AddsNamed, FindsStill, Leaves, LeavesAlone, Lists, ListsAlone, count_line, flag_words, if_set, is_of, list_text, listed_line, made_words, summary_words};
+ghost use Rattle.ledger_archives.specs.Names.{IsNamed, name_row};
 
 use crate::lines::push_decimal;
-use crate::names::read_names;
+use crate::names::{name_in, read_names};
 use ledger::Bureau;
 use ledger_tables::{Fault, JobName, OpenFault};
 use machine::Meter;
 use office::{Command, JobCommand, Reply, Summary};
-use sqlite::types::ValueRef;
 use sqlite::{Alter, Connection, Row};
 use sqlite_trees::store::Store;
 use std::alloc::{AllocError, Global};
@@ -91,6 +94,8 @@ fn ask<S: Alter>(alloc: Global, bureau: &mut Bureau<S>, name: JobName<'_>) -> Re
         (λ office summary. (job : Job)
         → job_of name.entry.customer.now name.entry.number office ≡ Some job
         → summary ≡ summary_of (kept_of job)) }
+    ensures left { (office : Office) → AreDistinct (map named office)
+        → Leaves S.Store bureau.old.conn bureau.new.conn office }
     ensures clean { doubt (state S.Store bureau.old.conn).is_clean
         ≤ doubt (state S.Store bureau.new.conn).is_clean }
 {
@@ -103,30 +108,6 @@ fn ask<S: Alter>(alloc: Global, bureau: &mut Bureau<S>, name: JobName<'_>) -> Re
         Reply::Standing(summary) => Ok(summary),
         _ => Err(Fault::Store),
     }
-}
-
-/// The customer in the first column of a row.
-fn customer_in(row: &Row) -> Option<&str> {
-    match row.get_ref(0) {
-        Ok(ValueRef::Text(bytes)) => std::str::from_utf8(bytes).ok(),
-        _ => None,
-    }
-}
-
-/// The number in the second column of a row.
-fn number_in(row: &Row) -> Option<u32> {
-    match row.get_ref(1) {
-        Ok(ValueRef::Int(number)) => u32::try_from(number).ok(),
-        _ => None,
-    }
-}
-
-/// The name of the job that a row names.
-fn name_in(row: &Row) -> Result<JobName<'_>, Fault> {
-    let (Some(customer), Some(number)) = (customer_in(row), number_in(row)) else {
-        return Err(Fault::Store);
-    };
-    Ok(JobName { customer, number })
 }
 
 /// Whether a job of this customer is asked for.
@@ -147,6 +128,11 @@ fn push_named<S: Alter>(
     asked: Option<&str>,
     name: JobName<'_>,
 ) -> Result<usize, Fault>
+    ensures added { AddsNamed S.Store bureau.old.conn bureau.new.conn result
+        (IsNamed name.entry.customer.now name.entry.number)
+        (option_map (λ it. it.now) asked.entry) out.old.items out.new.items }
+    ensures left { (office : Office) → AreDistinct (map named office)
+        → Leaves S.Store bureau.old.conn bureau.new.conn office }
     ensures one { IfOk result (λ count. count ≤ 1) }
     ensures clean { doubt (state S.Store bureau.old.conn).is_clean
         ≤ doubt (state S.Store bureau.new.conn).is_clean }
@@ -159,7 +145,8 @@ fn push_named<S: Alter>(
     Ok(1)
 }
 
-/// Adds the line of the job that a row names, if it is asked for. Returns how many lines were added.
+/// Adds the line of the job that a row names, if it is asked for. Returns how many lines were
+/// added.
 fn push_row<S: Alter>(
     alloc: Global,
     bureau: &mut Bureau<S>,
@@ -167,12 +154,26 @@ fn push_row<S: Alter>(
     asked: Option<&str>,
     row: &Row,
 ) -> Result<usize, Fault>
+    ensures added { AddsNamed S.Store bureau.old.conn bureau.new.conn result
+        (λ e. row.now ≡ name_row e)
+        (option_map (λ it. it.now) asked.entry) out.old.items out.new.items }
+    ensures left { (office : Office) → AreDistinct (map named office)
+        → Leaves S.Store bureau.old.conn bureau.new.conn office }
     ensures one { IfOk result (λ count. count ≤ 1) }
     ensures clean { doubt (state S.Store bureau.old.conn).is_clean
         ≤ doubt (state S.Store bureau.new.conn).is_clean }
 {
     let name = name_in(row)?;
     push_named(alloc, bureau, out, asked, name)
+}
+
+/// Adds the line of how many jobs the list has.
+#[tactic(auto, unfolding(crate::specs::Lists::count_line))]
+fn push_count(out: &mut Vec<u8>, jobs: usize) -> Result<(), AllocError>
+    ensures { OnOk result (out.new.items ≡ out.old.items ++ count_line jobs) }
+{
+    push_counted(out, "jobs ", jobs)?;
+    out.extend_from_slice(b"\n")
 }
 
 /// The list of the jobs that these rows name.
@@ -182,6 +183,11 @@ fn list_named<S: Alter>(
     asked: Option<&str>,
     rows: &[Row],
 ) -> Result<Vec<u8>, Fault>
+    ensures listed { FindsStill S.Store bureau.old.conn bureau.new.conn result
+        (λ office text. rows.now ≡ map name_row office
+        → text.items ≡ list_text (option_map (λ it. it.now) asked.entry) office) }
+    ensures left { (office : Office) → AreDistinct (map named office)
+        → Leaves S.Store bureau.old.conn bureau.new.conn office }
     ensures clean { doubt (state S.Store bureau.old.conn).is_clean
         ≤ doubt (state S.Store bureau.new.conn).is_clean }
 {
@@ -190,8 +196,7 @@ fn list_named<S: Alter>(
     for row in rows {
         jobs += push_row(alloc, bureau, &mut out, asked, row)?;
     }
-    push_counted(&mut out, "jobs ", jobs)?;
-    out.extend_from_slice(b"\n")?;
+    push_count(&mut out, jobs)?;
     Ok(out)
 }
 
@@ -208,7 +213,13 @@ fn list_in<S: Alter + Drop>(
     alloc: Global,
     conn: Connection<S>,
     asked: Option<&str>,
-) -> (Result<Vec<u8>, OpenFault>, Connection<S>) {
+) -> (Result<Vec<u8>, OpenFault>, Connection<S>)
+    ensures listed { Lists S.Store conn result.1 result.0
+        (option_map (λ it. it.now) asked.entry) }
+    ensures left { (office : Office) → Leaves S.Store conn result.1 office }
+    ensures opened { HasCleanDisk (state S.Store result.1)
+        → OnOk result.0 (IsTrue (state S.Store conn).is_open) }
+{
     let mut conn = conn;
     let rows = match read_names(&mut conn) {
         Ok(rows) => rows,
@@ -234,7 +245,13 @@ pub fn list_jobs<S: Alter + Drop>(
     alloc: Global,
     conn: Connection<S>,
     asked: Option<&str>,
-) -> (Result<Vec<u8>, OpenFault>, S) {
+) -> (Result<Vec<u8>, OpenFault>, S)
+    ensures listed { ListsAlone S.Store conn result.1 result.0
+        (option_map (λ it. it.now) asked.entry) }
+    ensures left { LeavesAlone S.Store conn result.1 }
+    ensures opened { IsClean (S.Store.view result.1)
+        → OnOk result.0 (IsTrue (state S.Store conn).is_open) }
+{
     let (listed, conn) = list_in(alloc, conn, asked);
     let store = conn.into_store();
     if store.is_broken() {

@@ -1,15 +1,21 @@
 //! The names of a bureau's jobs.
 
-ghost use Rattle.std.specs.Prelude.{◌≡◌, ◌≤◌, map, IfOk};
-ghost use Rattle.office.specs.Office.{Office};
+ghost use Rattle.std.specs.Prelude.{◌≡◌, ◌≤◌, ◌<◌, ◌^◌, ℕ, List, pos, map, true, IfErr, IfOk, IfSome, IsOk, IsSome, IsTrue, OnOk};
+ghost use Rattle.std.specs.Str.{IsUtf8};
+ghost use Rattle.office.specs.Names.{is_customer, is_number};
+ghost use Rattle.office.specs.Office.{Entry, Office};
 ghost use Rattle.sqlite.specs.Held.{state};
+ghost use Rattle.sqlite.specs.Order.{column};
 ghost use Rattle.sqlite.specs.State.{HasCleanDisk};
 ghost use Rattle.sqlite.specs.View.{doubt};
+ghost use Rattle.sqlite.specs.declared.types.Value.TheVariants.{Int, Text};
 ghost use Rattle.ledger.specs.Standing.{Stands, StandsIn, named};
 ghost use Rattle.ledger_tables.specs.Tables.{AreDistinct};
-ghost use Rattle.ledger_archives.specs.Names.{name_row};
+ghost use Rattle.ledger_archives.specs.Lists.{Leaves};
+ghost use Rattle.ledger_archives.specs.Names.{IsNamed, name_row};
 
-use ledger_tables::Fault;
+use ledger_tables::{Fault, JobName};
+use sqlite::types::ValueRef;
 use sqlite::{Alter, Connection, Error, ErrorCode, Row};
 
 /// The fault of a failed call of the database.
@@ -24,9 +30,11 @@ fn fault_of(error: Error) -> Fault {
 /// transaction that is rolled back.
 pub(crate) fn read_names<S: Alter>(conn: &mut Connection<S>) -> Result<Vec<Row>, Fault>
     ensures names { HasCleanDisk (state S.Store conn.new) → IfOk result (λ rows. (office : Office)
-        → StandsIn (state S.Store conn.old) office → Stands (state S.Store conn.old) office
-        → AreDistinct (map named office)
+        → StandsIn (state S.Store conn.old) office → AreDistinct (map named office)
         × Stands (state S.Store conn.new) office × (rows.items ≡ map name_row office)) }
+    ensures left { (office : Office) → Leaves S.Store conn.old conn.new office }
+    ensures opened { HasCleanDisk (state S.Store conn.new)
+        → OnOk result (IsTrue (state S.Store conn.old).is_open) }
     ensures clean { doubt (state S.Store conn.old).is_clean
         ≤ doubt (state S.Store conn.new).is_clean }
 {
@@ -40,4 +48,42 @@ pub(crate) fn read_names<S: Alter>(conn: &mut Connection<S>) -> Result<Vec<Row>,
         Ok(rows) => Ok(rows),
         Err(error) => Err(fault_of(error)),
     }
+}
+
+/// The customer in the first column of a row.
+fn customer_in(row: &Row) -> Option<&str>
+    ensures found { IfSome result (λ customer. column row.now 0 ≡ Text customer.now) }
+    ensures text { (customer : List ℕ) → column row.now 0 ≡ Text customer → IsUtf8 customer
+        → IsSome result }
+{
+    match row.get_ref(0) {
+        Ok(ValueRef::Text(bytes)) => std::str::from_utf8(bytes).ok(),
+        _ => None,
+    }
+}
+
+/// The number in the second column of a row.
+fn number_in(row: &Row) -> Option<u32>
+    ensures found { IfSome result (λ number. column row.now 1 ≡ Int (pos number)) }
+    ensures fits { (number : ℕ) → column row.now 1 ≡ Int (pos number) → number < 2 ^ 32
+        → IsSome result }
+{
+    match row.get_ref(1) {
+        Ok(ValueRef::Int(number)) => u32::try_from(number).ok(),
+        _ => None,
+    }
+}
+
+/// The name of the job that a row names. Fails with 2 if the row has no name.
+pub(crate) fn name_in(row: &Row) -> Result<JobName<'_>, Fault>
+    ensures found { IfOk result (λ name. (e : Entry) → row.now ≡ name_row e
+        → IsNamed name.customer.now name.number e) }
+    ensures damaged { IfErr result (λ fault. fault ≡ Fault.Store) }
+    ensures lawful { (e : Entry) → row.now ≡ name_row e → is_customer e.customer ≡ true
+        → is_number e.number ≡ true → IsOk result }
+{
+    let (Some(customer), Some(number)) = (customer_in(row), number_in(row)) else {
+        return Err(Fault::Store);
+    };
+    Ok(JobName { customer, number })
 }
