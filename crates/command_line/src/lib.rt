@@ -15,6 +15,7 @@
 //! the writer failed.
 #![tactic(auto)]
 
+mod arguments;
 mod asked;
 mod commands;
 mod errors;
@@ -22,21 +23,26 @@ mod faults;
 mod found;
 mod help;
 mod misreading;
+mod mistakes;
 mod options;
 mod parsing;
 mod ports;
+mod programs;
 mod row_names;
 mod statuses;
 mod tables;
 mod tasks;
 mod telling;
 
+pub use arguments::Found;
 pub use asked::{Words, WordsFault};
 pub use errors::Unfailing;
 pub use faults::Fault;
+pub use mistakes::{Mistake, tell_mistake};
 pub use parsing::words;
+pub use programs::{Asked, Line, Program, asked_by};
 pub use row_names::RowName;
 pub use statuses::{Status, exit_code};
-pub use tables::{Kind, Unread, named_command, parse, with_row};
+pub use tables::Kind;
 pub use tasks::{Input, Misuse, SIZE_COMPLAINT, SWITCHES_COMPLAINT, Task, task_of};
 pub use telling::{put_out, show_help, show_text, show_version, tell_fault, tell_misuse};

@@ -1,13 +1,14 @@
 -- the tasks that words ask for
-use Rattle.std.specs.Prelude.{ℕ, ◌≡◌, ◌⊎◌, List, [], ◌∷◌, Some, None, codes, option_map}
-use Rattle.clap.specs.Words.{Row, Text, fault_of, first_of, subcommand_of}
-use Rattle.operator_words.specs.Command.{operator}
-use Rattle.operator_words.specs.Rows.{name_of}
+use Rattle.std.specs.Prelude.{ℕ, ◌≡◌, List, Some, codes, option_map}
+use Rattle.clap.specs.Words.{Row, Text, first_of}
+use Rattle.command_line.specs.Programs.{AsksFor, Wish, for_help, for_row, for_version}
+use Rattle.operator_words.specs.Printed.{page_of, version_text}
+use Rattle.operator_words.specs.Rows.{operator}
 use Rattle.operator_words.specs.Values.{IsUpTo, IsUpToIf, IsUpToOr}
 use Rattle.operator_words.specs.declared.rows.RowName.{RowName}
 use Rattle.operator_words.specs.declared.rows.RowName.TheVariants as name
 use Rattle.operator_words.specs.declared.tasks.Task.{Task}
-use Rattle.operator_words.specs.declared.tasks.Task.TheVariants.{Help, Version, Check, Jobs, Copy, Archive, Work, Watch}
+use Rattle.operator_words.specs.declared.tasks.Task.TheVariants.{Show, Check, Jobs, Copy, Archive, Work, Watch}
 use Rattle.operator_words.specs.declared.tasks.Rounds.{Rounds}
 
 -- the task of `check`
@@ -66,19 +67,13 @@ WantsTask name.Archive found task = WantsArchive found task
 WantsTask name.Work found task = WantsWork found task
 WantsTask name.Watch found task = WantsWatch found task
 
--- clap takes the words by the program's command, and the task is that of the row and the arguments
--- that it finds
-pub record WantsRow (words : List Text) (task : Task) : Type 0 where
-  pub row : RowName
-  pub found : List Row
-  pub taken : fault_of operator words ≡ []
-  pub is_row : subcommand_of operator words ≡ Some (name_of row, found)
-  pub is_task : WantsTask row found task
+-- the task of what words can ask for
+abbrev pub IsTask : Wish RowName → Task → Type 0
+IsTask (for_help page) (Show text) = text.now ≡ page_of page
+IsTask for_version (Show text) = text.now ≡ version_text
+IsTask (for_row row found) task = WantsTask row found task
+IsTask _ _ = ⊥
 
 -- the words ask for this task
 abbrev pub Wants : List Text → Task → Type 0
-Wants words (Help None) = (words ≡ codes "--help" ∷ []) ⊎ (words ≡ codes "-h" ∷ [])
-Wants words (Help (Some row)) =
-    (words ≡ name_of row ∷ codes "--help" ∷ []) ⊎ (words ≡ name_of row ∷ codes "-h" ∷ [])
-Wants words Version = words ≡ codes "--version" ∷ []
-Wants words task = WantsRow words task
+Wants words task = (wish : Wish RowName) × AsksFor operator words wish × IsTask wish task

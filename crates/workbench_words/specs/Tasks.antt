@@ -1,8 +1,7 @@
 -- the tasks that words ask for
-use Rattle.std.specs.Prelude.{ℕ, ◌≡◌, ◌<◌, ◌≤◌, ◌⊎◌, Bool, false, List, [], ◌∷◌, Option, Some, None, codes, decimal, map, option_map, unwrap_or}
-use Rattle.std.specs.Str.{bytes_eq}
+use Rattle.std.specs.Prelude.{ℕ, ◌≡◌, ◌<◌, ◌≤◌, Bool, false, List, [], Option, Some, None, codes, decimal, map, option_map, unwrap_or}
 use Rattle.std.specs.Borrow.{Bor}
-use Rattle.clap.specs.Words.{Row, Text, all_of, fault_of, first_of, subcommand_of}
+use Rattle.clap.specs.Words.{Row, Text, all_of, first_of}
 use Rattle.core_store.specs.Storage.{positions_of}
 use Rattle.units.specs.Switches.{AreSeven}
 use Rattle.texts.specs.Switches.{text_of}
@@ -13,18 +12,16 @@ use Rattle.card_texts.specs.declared.Signs.{Signs}
 use Rattle.card_texts.specs.declared.Signs.TheVariants.{Bureau}
 use Rattle.card_texts.specs.declared.EmptyLine as line
 use Rattle.card_texts.specs.declared.EmptyLine.TheVariants as empty
-use Rattle.workbench_words.specs.Command.{workbench}
-use Rattle.workbench_words.specs.Rows.{name_of}
+use Rattle.command_line.specs.Arguments.{has_flag}
+use Rattle.command_line.specs.Programs.{AsksFor, Wish, for_help, for_row, for_version}
+use Rattle.workbench_words.specs.Printed.{page_of, version_text}
+use Rattle.workbench_words.specs.Rows.{workbench}
 use Rattle.workbench_words.specs.Values.{AreStops, IsCount, IsNumeral, word_of_empty, word_of_signs, word_of_width}
 use Rattle.workbench_words.specs.declared.rows.RowName.{RowName}
 use Rattle.workbench_words.specs.declared.rows.RowName.TheVariants as name
 use Rattle.workbench_words.specs.declared.tasks.Setup.{Setup}
 use Rattle.workbench_words.specs.declared.tasks.Task.{Task}
-use Rattle.workbench_words.specs.declared.tasks.Task.TheVariants.{Help, Version, Punch, List as ListCards, Compare, Convert, Number, CheckNumbers, Source, Manifest, Trace, Dump, Profile, Console, Card, Deck, Pages, Page}
-
--- whether an option without a value was given
-unfoldable pub has_flag : Text → List Row → Bool
-has_flag id found = bytes_eq (unwrap_or (first_of id found) []) (codes "true")
+use Rattle.workbench_words.specs.declared.tasks.Task.TheVariants.{Show, Punch, List as ListCards, Compare, Convert, Number, CheckNumbers, Source, Manifest, Trace, Dump, Profile, Console, Card, Deck, Pages, Page}
 
 -- this is the value of an argument
 abbrev pub WantsOption : Text → List Row → Text → Type 0
@@ -259,19 +256,13 @@ WantsTask name.Deck found task = WantsDeck found task
 WantsTask name.Pages found task = WantsPages found task
 WantsTask name.Page found task = WantsPage found task
 
--- clap takes the words by the program's command, and the task is that of the row and the arguments
--- that it finds
-pub record WantsRow (words : List Text) (task : Task) : Type 0 where
-  pub row : RowName
-  pub found : List Row
-  pub taken : fault_of workbench words ≡ []
-  pub is_row : subcommand_of workbench words ≡ Some (name_of row, found)
-  pub is_task : WantsTask row found task
+-- the task of what words can ask for
+abbrev pub IsTask : Wish RowName → Task → Type 0
+IsTask (for_help page) (Show text) = text.now ≡ page_of page
+IsTask for_version (Show text) = text.now ≡ version_text
+IsTask (for_row row found) task = WantsTask row found task
+IsTask _ _ = ⊥
 
 -- the words ask for this task
 abbrev pub Wants : List Text → Task → Type 0
-Wants words (Help None) = (words ≡ codes "--help" ∷ []) ⊎ (words ≡ codes "-h" ∷ [])
-Wants words (Help (Some row)) =
-    (words ≡ name_of row ∷ codes "--help" ∷ []) ⊎ (words ≡ name_of row ∷ codes "-h" ∷ [])
-Wants words Version = words ≡ codes "--version" ∷ []
-Wants words task = WantsRow words task
+Wants words task = (wish : Wish RowName) × AsksFor workbench words wish × IsTask wish task
