@@ -1,8 +1,8 @@
 //! The arguments that clap found after a row's name.
 
-ghost use Rattle.std.specs.Prelude.{◌≡◌, [], Some, IfOk, map, option_map, unwrap_or};
-ghost use Rattle.clap.specs.Words.{all_of, first_of, found_of, rows_of};
-ghost use Rattle.command_line.specs.Arguments.{given, has_flag};
+ghost use Rattle.std.specs.Prelude.{◌≡◌, [], IfOk, map, unwrap_or};
+ghost use Rattle.clap.specs.Words.{all_of, found_of, rows_of};
+ghost use Rattle.command_line.specs.Arguments.{HasArgument, MayHaveArgument, given, has_flag};
 
 use crate::mistakes::Mistake;
 use clap::ArgMatches;
@@ -25,14 +25,14 @@ impl<'a> Found<'a> {
 
     /// Returns the value of an argument, if one was given.
     pub fn value(&self, name: &str) -> Option<&'a str>
-        ensures { option_map (λ s. s.now) result ≡ first_of name.now (given self.now) }
+        ensures { MayHaveArgument name.now (given self.now) result }
     {
         self.matches.get_str(name)
     }
 
     /// Returns the value of an argument that the row cannot lack.
     pub fn needed(&self, name: &str) -> Result<&'a str, Mistake>
-        ensures { IfOk result (λ text. first_of name.now (given self.now) ≡ Some text.now) }
+        ensures { IfOk result (λ text. HasArgument name.now (given self.now) text.now) }
     {
         match self.value(name) {
             Some(text) => Ok(text),

@@ -2,8 +2,8 @@
 
 ghost use Rattle.std.specs.Prelude.{IfOk, IfSome};
 ghost use Rattle.clap.specs.Words.{first_of};
-ghost use Rattle.command_line.specs.Arguments.{given};
-ghost use Rattle.operator_words.specs.Values.{IsUpTo, IsUpToIf, IsUpToOr};
+ghost use Rattle.command_line.specs.Arguments.{ReadsIf, ReadsOr, given};
+ghost use Rattle.operator_words.specs.Values.{IsUpTo};
 
 use command_line::{Found, Mistake};
 use texts::number_of;
@@ -25,7 +25,7 @@ pub(crate) fn up_to(text: &str, most: u32) -> Option<u32>
 /// The number of an option, or another where it is not given.
 pub(crate) fn up_to_or(found: &Found<'_>, name: &str, most: u32, other: u32) -> Result<u32, Mistake>
     ensures { IfOk result
-        (IsUpToOr most other (first_of name.now (given found.now))) }
+        (ReadsOr (IsUpTo most) other (first_of name.now (given found.now))) }
 {
     let Some(text) = found.value(name) else {
         return Ok(other);
@@ -38,7 +38,7 @@ pub(crate) fn up_to_or(found: &Found<'_>, name: &str, most: u32, other: u32) -> 
 
 /// The number of an option, if it is given.
 pub(crate) fn up_to_if(found: &Found<'_>, name: &str, most: u32) -> Result<Option<u32>, Mistake>
-    ensures { IfOk result (IsUpToIf most (first_of name.now (given found.now))) }
+    ensures { IfOk result (ReadsIf (IsUpTo most) (first_of name.now (given found.now))) }
 {
     let Some(text) = found.value(name) else {
         return Ok(None);

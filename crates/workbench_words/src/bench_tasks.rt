@@ -1,11 +1,11 @@
 //! The tasks of the rows that run a machine on the bench.
 
 ghost use Rattle.std.specs.Prelude.{◌≡◌, IfOk, codes, decimal};
-ghost use Rattle.command_line.specs.Arguments.{given};
+ghost use Rattle.command_line.specs.Arguments.{HasArgument, given};
 ghost use Rattle.core_store.specs.Storage.{positions_of};
 ghost use Rattle.texts.specs.Switches.{text_of};
 ghost use Rattle.units.specs.Switches.{AreSeven};
-ghost use Rattle.workbench_words.specs.Tasks.{GivesCount, GivesNumber, HasCount, HasNumber, IsSetup, WantsConsole, WantsDump, WantsOption, WantsProfile, WantsTrace};
+ghost use Rattle.workbench_words.specs.Tasks.{GivesCount, GivesNumber, HasCount, HasNumber, IsSetup, WantsConsole, WantsDump, WantsProfile, WantsTrace};
 ghost use Rattle.workbench_words.specs.Values.{IsCount};
 
 use crate::complaints::NO_NUMBER;
@@ -19,7 +19,7 @@ use units::Switches;
 /// The size of storage in SIZE.
 fn size_in(found: &Found<'_>) -> Result<Size, Mistake>
     ensures { IfOk result (λ size.
-        WantsOption (codes "SIZE") (given found.now) (decimal (positions_of size))) }
+        HasArgument (codes "SIZE") (given found.now) (decimal (positions_of size))) }
 {
     match size_of(found.needed("SIZE")?) {
         Some(size) => Ok(size),
@@ -31,7 +31,7 @@ fn size_in(found: &Found<'_>) -> Result<Size, Mistake>
 fn switches_in(found: &Found<'_>) -> Result<Switches, Mistake>
     ensures seven { IfOk result AreSeven }
     ensures switches { IfOk result (λ switches.
-        WantsOption (codes "SWITCHES") (given found.now) (text_of switches)) }
+        HasArgument (codes "SWITCHES") (given found.now) (text_of switches)) }
 {
     match switches_of(found.needed("SWITCHES")?) {
         Some(switches) => Ok(switches),

@@ -1,12 +1,12 @@
 //! The tasks that the words ask for.
 
 ghost use Rattle.std.specs.Prelude.{IfOk};
-ghost use Rattle.command_line.specs.Arguments.{given};
+ghost use Rattle.command_line.specs.Arguments.{HasArgument, given};
 ghost use Rattle.command_line.specs.Plain.{texts};
 ghost use Rattle.command_line.specs.Programs.{AsksFor, wish_as};
 ghost use Rattle.workbench_words.specs.Rows.{workbench};
 ghost use Rattle.card_forms.specs.Forms.{word_of};
-ghost use Rattle.workbench_words.specs.Tasks.{HasEmpty, HasForm, HasKept, HasSigns, HasTabs, IsNarrow, Wants, WantsCompare, WantsConvert, WantsList, WantsManifest, WantsOption, WantsPunch, WantsSequence, WantsSource, WantsTask};
+ghost use Rattle.workbench_words.specs.Tasks.{HasEmpty, HasForm, HasKept, HasSigns, HasTabs, IsNarrow, Wants, WantsCompare, WantsConvert, WantsList, WantsManifest, WantsPunch, WantsSequence, WantsSource, WantsTask};
 ghost use Rattle.workbench_words.specs.Values.{IsNumeral};
 
 use crate::bench_tasks::{console_task, dump_task, profile_task, trace_task};
@@ -336,7 +336,7 @@ fn sequence_task<'a>(found: &Found<'a>) -> Result<Task<'a>, Mistake>
 /// The form that an argument names.
 fn form_in(found: &Found<'_>, name: &str) -> Result<Form, Mistake>
     ensures { IfOk result (λ form.
-        WantsOption name.now (given found.now) (word_of form)) }
+        HasArgument name.now (given found.now) (word_of form)) }
 {
     match Form::of(found.needed(name)?) {
         Some(form) => Ok(form),
