@@ -1,5 +1,5 @@
 -- the tasks that words ask for
-use Rattle.std.specs.Prelude.{ℕ, ◌≡◌, List, Some, codes, option_map}
+use Rattle.std.specs.Prelude.{ℕ, ◌≡◌, List, codes}
 use Rattle.clap.specs.Words.{Row, Text, first_of}
 use Rattle.command_line.specs.Arguments.{HasArgument, MayHaveArgument, ReadsIf, ReadsOr}
 use Rattle.command_line.specs.Programs.{AsksFor, Wish, for_help, for_row, for_version}

@@ -1,11 +1,10 @@
-use Rattle.std.proofs.Common.{◌≡◌, ◌∙◌, ap, sym, map}
+use Rattle.std.proofs.Common.{◌∙◌, ap, sym}
 use Rattle.std.proofs.lemmas.List.Folds.{fold-map}
 use Rattle.std.proofs.lemmas.Result.{IfOk-weaker}
 use Rattle.std.specs.Prelude.{fold}
-use Rattle.clap.specs.Words.{App, app_of}
+use Rattle.clap.specs.Words.{App}
 use Rattle.command_line.specs.Programs.{Line, command, line_as}
 use Rattle.command_line.specs.Tables.{with_row}
-use Rattle.command_line.specs.declared.programs.Line as line
 use Rattle.command_line.proofs.programs.command_of.Goals as goal
 
 abbrev with_line : {R : Type 0} → App → Line R → App
