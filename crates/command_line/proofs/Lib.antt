@@ -7,3 +7,4 @@ pub mod CommandRows
 pub mod CommandWords
 pub mod AskedWays
 pub mod FoundRows
+pub mod MistakeLines

@@ -3,5 +3,8 @@ pub mod Rows
 pub mod Tables
 pub mod Command
 pub mod Asked
+pub mod Arguments
+pub mod Programs
 pub mod Printed
+pub mod Mistakes
 pub mod Tasks

@@ -13,8 +13,14 @@
 //! ask for, or else the misuse is what is wrong with them (`specs/Tasks.antt`); and what is
 //! printed, for a fault, for a misuse or as help, is exactly the text of `specs/Printed.antt`, or
 //! the writer failed.
+//!
+//! Programs with options have their words as a table of rows, a [`Program`], from which clap's command
+//! is made. [`asked_by`] returns only what words ask for by such a table (`specs/Programs.antt`), a row
+//! with its arguments as they were [`Found`], and [`tell_mistake`] prints exactly what is wrong with
+//! other words (`specs/Mistakes.antt`).
 #![tactic(auto)]
 
+mod arguments;
 mod asked;
 mod commands;
 mod errors;
@@ -22,21 +28,26 @@ mod faults;
 mod found;
 mod help;
 mod misreading;
+mod mistakes;
 mod options;
 mod parsing;
 mod ports;
+mod programs;
 mod row_names;
 mod statuses;
 mod tables;
 mod tasks;
 mod telling;
 
+pub use arguments::Found;
 pub use asked::{Words, WordsFault};
 pub use errors::Unfailing;
 pub use faults::Fault;
+pub use mistakes::{Mistake, tell_mistake};
 pub use parsing::words;
+pub use programs::{Asked, Line, Program, asked_by};
 pub use row_names::RowName;
 pub use statuses::{Status, exit_code};
-pub use tables::{Kind, Unread, named_command, parse, with_row};
+pub use tables::Kind;
 pub use tasks::{Input, Misuse, SIZE_COMPLAINT, SWITCHES_COMPLAINT, Task, task_of};
 pub use telling::{put_out, show_help, show_text, show_version, tell_fault, tell_misuse};

@@ -1,4 +1,4 @@
-//! Commands of clap that are made from tables of rows, and what clap finds in words by them.
+//! Commands of clap that are made from rows, and what clap finds in words by them.
 
 ghost use Rattle.std.specs.Prelude.{◌≡◌, ◌≢◌, ◌⊎◌, [], true, false, IfOk, IfErr, map};
 ghost use Rattle.clap.specs.Words.{app_of, fault_of, is_simple_and_free, rule_of, subcommand_of, subcommand_rows_of};
@@ -58,7 +58,7 @@ fn row<'a>(
 }
 
 /// Returns the command with one more row. Fails only if there is no memory.
-pub fn with_row<'a>(
+pub(crate) fn with_row<'a>(
     alloc: Global,
     command: Command<'a>,
     name: &'a str,
@@ -72,7 +72,7 @@ pub fn with_row<'a>(
 
 /// Returns the command of this name without rows: it takes no program's name as the first word, and
 /// has no help of clap's own.
-pub fn named_command<'a>(alloc: Global, name: &'a str) -> Command<'a>
+pub(crate) fn named_command<'a>(alloc: Global, name: &'a str) -> Command<'a>
     ensures { app_of result ≡ named name.entry.now }
 {
     Command::new(alloc, name)
@@ -83,7 +83,7 @@ pub fn named_command<'a>(alloc: Global, name: &'a str) -> Command<'a>
 
 /// Why clap found nothing in words.
 #[derive(Clone, Copy)]
-pub enum Unread {
+pub(crate) enum Unread {
     /// There is no memory.
     Memory,
     /// They are not those of a row.
@@ -92,7 +92,7 @@ pub enum Unread {
 
 /// Returns what clap finds in words by a command. The error is that there is no memory, or that the
 /// words have a fault.
-pub fn parse<'a>(command: Command<'a>, words: &'a [String]) -> Result<ArgMatches<'a>, Unread>
+pub(crate) fn parse<'a>(command: Command<'a>, words: &'a [String]) -> Result<ArgMatches<'a>, Unread>
     requires simple { is_simple (app_of command) ≡ true }
     requires free { is_simple_and_free (app_of command) ≡ true }
     ensures ok { IfOk result (λ m.

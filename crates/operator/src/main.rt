@@ -23,14 +23,14 @@ use crate::copying::copy_file;
 use crate::listing::show_jobs;
 use crate::watching::watch_queue;
 use crate::working::run_queue;
-use command_line::{Status, Unfailing, exit_code};
-use operator_words::{Misuse, Task, show_help, show_version, task_of, tell_misuse};
+use command_line::{Mistake, Status, Unfailing, exit_code, show_text, tell_mistake};
+use operator_words::{Task, task_of};
 use std::io::Write;
 use std::process::ExitCode;
 use std::{env, io};
 
 /// The words of the process. The first is the program's name.
-fn words_given(rt: &HostRuntime) -> Result<Vec<String>, Misuse> {
+fn words_given(rt: &HostRuntime) -> Result<Vec<String>, Mistake> {
     Ok(env::args(rt)?.collect(rt.alloc())?)
 }
 
@@ -42,8 +42,7 @@ fn carry_out<W: Write, E: Write>(
     errors: &mut E,
 ) -> io::Result<Status> {
     match task {
-        Task::Help(row) => show_help(output, errors, row),
-        Task::Version => show_version(output, errors),
+        Task::Show(text) => show_text(text, output, errors),
         Task::Check { file } => check_file(rt, file, output, errors),
         Task::Jobs { file, customer } => show_jobs(rt, file, customer, output, errors),
         Task::Copy { file, new } => copy_file(rt, file, new, output, errors),
@@ -79,13 +78,13 @@ fn answer(rt: &HostRuntime) -> io::Result<Status> {
     let mut errors = Unfailing::new(rt.stderr());
     let words = match words_given(rt) {
         Ok(words) => words,
-        Err(misuse) => return tell_misuse(&mut errors, misuse),
+        Err(mistake) => return tell_mistake(&mut errors, "operator", mistake),
     };
     let words = words.as_slice();
     let after_name = if words.is_empty() { words } else { &words[1..] };
     match task_of(rt.alloc(), after_name) {
         Ok(task) => carry_out_or_tell(rt, task, &mut output, &mut errors),
-        Err(misuse) => tell_misuse(&mut errors, misuse),
+        Err(mistake) => tell_mistake(&mut errors, "operator", mistake),
     }
 }
 

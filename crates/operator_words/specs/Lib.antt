@@ -1,5 +1,4 @@
 pub mod Rows
-pub mod Command
+pub mod Printed
 pub mod Values
 pub mod Tasks
-pub mod Printed

@@ -1,11 +1,7 @@
--- what the program prints of itself, and its exit status for words that ask for nothing
+-- what the program prints of itself
 use Rattle.std.specs.Prelude.{List, ℕ, Option, Some, None, codes}
-use Rattle.command_line.specs.declared.Status.{Status}
-use Rattle.command_line.specs.declared.Status.TheVariants.{NotDone, Misused}
 use Rattle.operator_words.specs.declared.rows.RowName.{RowName}
 use Rattle.operator_words.specs.declared.rows.RowName.TheVariants as name
-use Rattle.operator_words.specs.declared.tasks.Misuse.{Misuse}
-use Rattle.operator_words.specs.declared.tasks.Misuse.TheVariants.{Memory}
 use Rattle.operator_words.specs.declared.help.TheConstants.{ARCHIVE_HELP, CHECK_HELP, COPY_HELP, HELP, JOBS_HELP, WATCH_HELP, WORK_HELP}
 
 -- the text of the help of a row, or of the whole help
@@ -21,8 +17,3 @@ page_of (Some name.Watch) = WATCH_HELP.now
 -- the text of the version, with the logic that the program is proved in
 abbrev pub version_text : List ℕ
 version_text = codes "operator 1\nRattle logic dac8208d650f15bf\n"
-
--- the exit status for words that ask for no task
-abbrev pub misuse_status : Misuse → Status
-misuse_status Memory = NotDone
-misuse_status other = Misused

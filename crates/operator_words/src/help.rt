@@ -158,15 +158,3 @@ pub(crate) fn page(row: Option<RowName>) -> &'static str
         Some(RowName::Watch) => WATCH_HELP,
     }
 }
-
-/// The words that belong after a row's name.
-pub(crate) fn usage(row: RowName) -> &'static str {
-    match row {
-        RowName::Check => "check FILE",
-        RowName::Jobs => "jobs FILE [CUSTOMER]",
-        RowName::Copy => "copy FILE NEW",
-        RowName::Archive => "archive FILE FOLDER",
-        RowName::Work => "work PORT [--slice N] [--rounds N] [--pause SECONDS]",
-        RowName::Watch => "watch PORT [--rounds N] [--pause SECONDS]",
-    }
-}

@@ -1,19 +1,17 @@
 //! The task that the words ask for.
 
-ghost use Rattle.std.specs.Prelude.{◌≡◌, ◌∷◌, [], IfOk, IfSome, Some};
-ghost use Rattle.clap.specs.Words.{first_of, found_of, rows_of};
+ghost use Rattle.std.specs.Prelude.{IfOk};
+ghost use Rattle.command_line.specs.Arguments.{given};
 ghost use Rattle.command_line.specs.Plain.{texts};
+ghost use Rattle.command_line.specs.Programs.{AsksFor, wish_as};
+ghost use Rattle.operator_words.specs.Rows.{operator};
 ghost use Rattle.operator_words.specs.Tasks.{AreRounds, IsPortIn, Wants, WantsArchive, WantsCheck, WantsCopy, WantsJobs, WantsTask, WantsWatch, WantsWork};
-ghost use Rattle.operator_words.specs.declared.tasks.Misuse.TheVariants.{Memory};
 
-use crate::commands::parse;
-use crate::rows::RowName;
-use crate::values::{up_to, up_to_if, up_to_or, value};
-use clap::ArgMatches;
-use command_line::Unread;
-use std::alloc::{AllocError, Global};
-use std::io;
-use std::io::ErrorKind;
+use crate::help::{VERSION, page};
+use crate::rows::{OPERATOR, RowName};
+use crate::values::{up_to, up_to_if, up_to_or};
+use command_line::{Asked, Found, Mistake, asked_by};
+use std::alloc::Global;
 
 /// The rounds in which a queue is run.
 #[derive(Clone, Copy)]
@@ -29,10 +27,8 @@ pub struct Rounds {
 /// What the words ask for.
 #[derive(Clone, Copy)]
 pub enum Task<'a> {
-    /// Print the help of a row, or the whole help.
-    Help(Option<RowName>),
-    /// Print the version.
-    Version,
+    /// Print a text: a page of the help, or the version.
+    Show(&'static str),
     /// Run each job of a bureau's file again, and compare.
     Check {
         /// The path of the file.
@@ -77,100 +73,58 @@ pub enum Task<'a> {
     },
 }
 
-/// What is wrong with words.
-#[derive(Clone, Copy)]
-pub enum Misuse {
-    /// There is no memory to read them.
-    Memory,
-    /// One is not UTF-8 text.
-    NoText,
-    /// The first names no row.
-    Row,
-    /// Those after this row's name are not as it has them.
-    Arguments(RowName),
-    /// PORT is none.
-    Port,
-    /// The number of an option is none, or too great.
-    Number,
-}
-
-impl From<AllocError> for Misuse {
-    ghost from_gives = { λ _ misuse. misuse ≡ Memory };
-
-    fn from(_error: AllocError) -> Misuse {
-        Misuse::Memory
-    }
-}
-
-/// The misuse of a process whose words cannot be read.
-impl From<io::Error> for Misuse {
-    fn from(error: io::Error) -> Misuse {
-        match error.kind() {
-            ErrorKind::OutOfMemory => Misuse::Memory,
-            _ => Misuse::NoText,
-        }
-    }
-}
-
-/// The value that a row must have at an argument.
-fn needed<'a>(found: &ArgMatches<'a>, name: &str, row: RowName) -> Result<&'a str, Misuse>
-    ensures { IfOk result (λ s. first_of name.now (rows_of (found_of found.now)) ≡ Some s.now) }
-{
-    match value(found, name) {
-        Some(value) => Ok(value),
-        None => Err(Misuse::Arguments(row)),
-    }
-}
+/// What is said of a text that is no port.
+const NO_PORT: &str = "PORT must be a number from 1 to 65535";
 
 /// The task of a row `check`.
-fn check_task<'a>(found: &ArgMatches<'a>) -> Result<Task<'a>, Misuse>
-    ensures { IfOk result (WantsCheck (rows_of (found_of found.now))) }
+fn check_task<'a>(found: &Found<'a>) -> Result<Task<'a>, Mistake>
+    ensures { IfOk result (WantsCheck (given found.now)) }
 {
-    let file = needed(found, "FILE", RowName::Check)?;
+    let file = found.needed("FILE")?;
     Ok(Task::Check { file })
 }
 
 /// The task of a row `jobs`.
-fn jobs_task<'a>(found: &ArgMatches<'a>) -> Result<Task<'a>, Misuse>
-    ensures { IfOk result (WantsJobs (rows_of (found_of found.now))) }
+fn jobs_task<'a>(found: &Found<'a>) -> Result<Task<'a>, Mistake>
+    ensures { IfOk result (WantsJobs (given found.now)) }
 {
-    let file = needed(found, "FILE", RowName::Jobs)?;
-    let customer = value(found, "CUSTOMER");
+    let file = found.needed("FILE")?;
+    let customer = found.value("CUSTOMER");
     Ok(Task::Jobs { file, customer })
 }
 
 /// The task of a row `copy`.
-fn copy_task<'a>(found: &ArgMatches<'a>) -> Result<Task<'a>, Misuse>
-    ensures { IfOk result (WantsCopy (rows_of (found_of found.now))) }
+fn copy_task<'a>(found: &Found<'a>) -> Result<Task<'a>, Mistake>
+    ensures { IfOk result (WantsCopy (given found.now)) }
 {
-    let file = needed(found, "FILE", RowName::Copy)?;
-    let new = needed(found, "NEW", RowName::Copy)?;
+    let file = found.needed("FILE")?;
+    let new = found.needed("NEW")?;
     Ok(Task::Copy { file, new })
 }
 
 /// The task of a row `archive`.
-fn archive_task<'a>(found: &ArgMatches<'a>) -> Result<Task<'a>, Misuse>
-    ensures { IfOk result (WantsArchive (rows_of (found_of found.now))) }
+fn archive_task<'a>(found: &Found<'a>) -> Result<Task<'a>, Mistake>
+    ensures { IfOk result (WantsArchive (given found.now)) }
 {
-    let file = needed(found, "FILE", RowName::Archive)?;
-    let folder = needed(found, "FOLDER", RowName::Archive)?;
+    let file = found.needed("FILE")?;
+    let folder = found.needed("FOLDER")?;
     Ok(Task::Archive { file, folder })
 }
 
 /// The port in PORT of a row.
-fn port_in(found: &ArgMatches<'_>, row: RowName) -> Result<u16, Misuse>
-    ensures { IfOk result (IsPortIn (rows_of (found_of found.now))) }
+fn port_in(found: &Found<'_>) -> Result<u16, Mistake>
+    ensures { IfOk result (IsPortIn (given found.now)) }
 {
-    let text = needed(found, "PORT", row)?;
+    let text = found.needed("PORT")?;
     match up_to(text, 65_535) {
         Some(port) => Ok(port as u16),
-        None => Err(Misuse::Port),
+        None => Err(Mistake::Value(NO_PORT)),
     }
 }
 
 /// The rounds that the options name.
-fn rounds_in(found: &ArgMatches<'_>) -> Result<Rounds, Misuse>
-    ensures { IfOk result (AreRounds (rows_of (found_of found.now))) }
+fn rounds_in(found: &Found<'_>) -> Result<Rounds, Mistake>
+    ensures { IfOk result (AreRounds (given found.now)) }
 {
     let slice = up_to_or(found, "slice", 2_000, 2_000)?;
     let most = up_to_if(found, "rounds", 999_999_999)?;
@@ -179,19 +133,19 @@ fn rounds_in(found: &ArgMatches<'_>) -> Result<Rounds, Misuse>
 }
 
 /// The task of a row `work`.
-fn work_task<'a>(found: &ArgMatches<'a>) -> Result<Task<'a>, Misuse>
-    ensures { IfOk result (WantsWork (rows_of (found_of found.now))) }
+fn work_task<'a>(found: &Found<'a>) -> Result<Task<'a>, Mistake>
+    ensures { IfOk result (WantsWork (given found.now)) }
 {
-    let port = port_in(found, RowName::Work)?;
+    let port = port_in(found)?;
     let rounds = rounds_in(found)?;
     Ok(Task::Work { port, rounds })
 }
 
 /// The task of a row `watch`.
-fn watch_task<'a>(found: &ArgMatches<'a>) -> Result<Task<'a>, Misuse>
-    ensures { IfOk result (WantsWatch (rows_of (found_of found.now))) }
+fn watch_task<'a>(found: &Found<'a>) -> Result<Task<'a>, Mistake>
+    ensures { IfOk result (WantsWatch (given found.now)) }
 {
-    let port = port_in(found, RowName::Watch)?;
+    let port = port_in(found)?;
     let rounds = up_to_if(found, "rounds", 999_999_999)?;
     let pause = up_to_or(found, "pause", 3_600, 5)?;
     Ok(Task::Watch {
@@ -202,8 +156,8 @@ fn watch_task<'a>(found: &ArgMatches<'a>) -> Result<Task<'a>, Misuse>
 }
 
 /// The task of a row, by what clap found after its name.
-fn row_task<'a>(row: RowName, found: &ArgMatches<'a>) -> Result<Task<'a>, Misuse>
-    ensures { IfOk result (WantsTask row (rows_of (found_of found.now))) }
+fn row_task<'a>(row: RowName, found: &Found<'a>) -> Result<Task<'a>, Mistake>
+    ensures { IfOk result (WantsTask row (given found.now)) }
 {
     match row {
         RowName::Check => check_task(found),
@@ -215,85 +169,22 @@ fn row_task<'a>(row: RowName, found: &ArgMatches<'a>) -> Result<Task<'a>, Misuse
     }
 }
 
-/// The misuse of words that clap does not take.
-fn misuse_of(words: &[String]) -> Misuse {
-    match words.first() {
-        Some(word) => match RowName::of(word.as_str()) {
-            Some(row) => Misuse::Arguments(row),
-            None => Misuse::Row,
-        },
-        None => Misuse::Row,
-    }
-}
-
-/// The task of the words that clap takes.
-fn parsed_task<'a>(alloc: Global, words: &'a [String]) -> Result<Task<'a>, Misuse>
-    ensures { IfOk result (Wants (texts words.entry.now)) }
+/// What the words ask for.
+fn wish_of<'a>(alloc: Global, words: &'a [String]) -> Result<Asked<'a, RowName>, Mistake>
+    ensures { IfOk result (λ asked. AsksFor operator (texts words.entry.now) (wish_as asked)) }
 {
-    let matches = match parse(alloc, words) {
-        Ok(matches) => matches,
-        Err(Unread::Memory) => return Err(Misuse::Memory),
-        Err(Unread::Words) => return Err(misuse_of(words)),
-    };
-    let Some((name, found)) = matches.subcommand() else {
-        return Err(Misuse::Row);
-    };
-    match RowName::of(name) {
-        Some(row) => row_task(row, found),
-        None => Err(Misuse::Row),
-    }
-}
-
-/// What two words ask for in place of a row: the help of the row that the first names.
-fn help_of<'a>(name: &str, word: &str) -> Option<Task<'a>>
-    ensures { IfSome result (Wants (name.now ∷ word.now ∷ [])) }
-{
-    let Some(row) = RowName::of(name) else {
-        return None;
-    };
-    if word == "--help" {
-        return Some(Task::Help(Some(row)));
-    }
-    if word == "-h" {
-        return Some(Task::Help(Some(row)));
-    }
-    None
-}
-
-/// What one word asks for in place of a row.
-fn option_of<'a>(word: &str) -> Option<Task<'a>>
-    ensures { IfSome result (Wants (word.now ∷ [])) }
-{
-    if word == "--help" {
-        return Some(Task::Help(None));
-    }
-    if word == "-h" {
-        return Some(Task::Help(None));
-    }
-    if word == "--version" {
-        return Some(Task::Version);
-    }
-    None
-}
-
-/// What words ask for in place of a row.
-fn option_in<'a>(words: &[String]) -> Option<Task<'a>>
-    ensures { IfSome result (Wants (texts words.now)) }
-{
-    match words {
-        [word] => option_of(word.as_str()),
-        [name, word] => help_of(name.as_str(), word.as_str()),
-        _ => None,
-    }
+    asked_by(alloc, &OPERATOR, words)
 }
 
 /// Returns the task that the words after the program's name ask for, or else what is wrong with
 /// them.
-pub fn task_of<'a>(alloc: Global, words: &'a [String]) -> Result<Task<'a>, Misuse>
+pub fn task_of<'a>(alloc: Global, words: &'a [String]) -> Result<Task<'a>, Mistake>
     ensures { IfOk result (Wants (texts words.entry.now)) }
 {
-    match option_in(words) {
-        Some(task) => Ok(task),
-        None => parsed_task(alloc, words),
+    let asked = wish_of(alloc, words)?;
+    match asked {
+        Asked::Help(row) => Ok(Task::Show(page(row))),
+        Asked::Version => Ok(Task::Show(VERSION)),
+        Asked::Row(row, found) => row_task(row, &found),
     }
 }

@@ -20,10 +20,6 @@ mod punching;
 mod sources;
 mod talking;
 
-ghost use Rattle.std.specs.Prelude.{IfOk};
-ghost use Rattle.command_line.specs.Printed.{IsTextShown};
-ghost use Rattle.workbench_words.specs.Printed.{page_of, version_text};
-
 use crate::benching::{dump_deck, profile_deck, trace_deck};
 use crate::converting::convert;
 use crate::drawing::{draw_card, draw_deck, draw_pages};
@@ -35,14 +31,14 @@ use crate::numbering::{check_numbers, number_deck};
 use crate::punching::punch_text;
 use crate::sources::{Showing, show_source};
 use crate::talking::talk;
-use command_line::{Status, Unfailing, exit_code};
+use command_line::{Mistake, Status, Unfailing, exit_code, show_text, tell_mistake};
 use std::io::Write;
 use std::process::ExitCode;
 use std::{env, io};
-use workbench_words::{Misuse, Task, show_help, show_version, task_of, tell_misuse};
+use workbench_words::{Task, task_of};
 
 /// The words of the process. The first is the program's name.
-fn words_given(rt: &HostRuntime) -> Result<Vec<String>, Misuse> {
+fn words_given(rt: &HostRuntime) -> Result<Vec<String>, Mistake> {
     Ok(env::args(rt)?.collect(rt.alloc())?)
 }
 
@@ -54,8 +50,7 @@ fn work<W: Write, E: Write>(
     errors: &mut E,
 ) -> io::Result<Status> {
     match task {
-        Task::Help(row) => show_help(output, errors, *row),
-        Task::Version => show_version(output, errors),
+        Task::Show(text) => show_text(text, output, errors),
         Task::Punch(punching) => punch_text(rt, punching, output, errors),
         Task::List {
             deck,
@@ -97,7 +92,7 @@ fn carry_out(rt: &HostRuntime) -> io::Result<Status> {
     let mut errors = Unfailing::new(rt.stderr());
     let words = match words_given(rt) {
         Ok(words) => words,
-        Err(misuse) => return tell_misuse(&mut errors, misuse),
+        Err(mistake) => return tell_mistake(&mut errors, "workbench", mistake),
     };
     let words = words.as_slice();
     let after_name = if words.is_empty() { words } else { &words[1..] };
@@ -106,7 +101,7 @@ fn carry_out(rt: &HostRuntime) -> io::Result<Status> {
             Ok(status) => Ok(status),
             Err(_) => tell_memory(&mut errors),
         },
-        Err(misuse) => tell_misuse(&mut errors, misuse),
+        Err(mistake) => tell_mistake(&mut errors, "workbench", mistake),
     }
 }
 

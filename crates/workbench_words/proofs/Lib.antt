@@ -1,3 +1,1 @@
-mod CommandParses
-mod RowNames
-mod RowTasks
+mod WorkbenchCommand

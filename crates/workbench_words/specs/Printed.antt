@@ -1,11 +1,7 @@
--- what the program prints of itself, and its exit status for words that ask for nothing
+-- what the program prints of itself
 use Rattle.std.specs.Prelude.{List, ℕ, Option, Some, None, codes}
-use Rattle.command_line.specs.declared.Status.{Status}
-use Rattle.command_line.specs.declared.Status.TheVariants.{NotDone, Misused}
 use Rattle.workbench_words.specs.declared.rows.RowName.{RowName}
 use Rattle.workbench_words.specs.declared.rows.RowName.TheVariants as name
-use Rattle.workbench_words.specs.declared.tasks.Misuse.{Misuse}
-use Rattle.workbench_words.specs.declared.tasks.Misuse.TheVariants.{Memory}
 use Rattle.workbench_words.specs.declared.help.TheConstants.{CARD_HELP, COMPARE_HELP, CONSOLE_HELP, CONVERT_HELP, DECK_HELP, DUMP_HELP, HELP, LIST_HELP, MANIFEST_HELP, PAGE_HELP, PAGES_HELP, PROFILE_HELP, PUNCH_HELP, SEQUENCE_HELP, SOURCE_HELP, TRACE_HELP}
 
 -- the text of the help of a row, or of the whole help
@@ -30,8 +26,3 @@ page_of (Some name.Page) = PAGE_HELP.now
 -- the text of the version, with the logic that the program is proved in
 abbrev pub version_text : List ℕ
 version_text = codes "workbench 1\nRattle logic dac8208d650f15bf\n"
-
--- the exit status for words that ask for no task
-abbrev pub misuse_status : Misuse → Status
-misuse_status Memory = NotDone
-misuse_status other = Misused

@@ -1,5 +1,5 @@
 -- the values of the rows' arguments, as texts
-use Rattle.std.specs.Prelude.{ℕ, ◌≡◌, ◌<◌, ◌^◌, nat_lt, nat_le, Bool, true, false, ◌&&◌, List, [], ◌∷◌, ◌++◌, codes, decimal, flat_map}
+use Rattle.std.specs.Prelude.{ℕ, ◌≡◌, ◌<◌, ◌≤◌, ◌^◌, nat_lt, nat_le, Bool, true, false, ◌&&◌, List, [], ◌∷◌, ◌++◌, codes, decimal, flat_map}
 use Rattle.card_texts.specs.declared.Signs.{Signs}
 use Rattle.card_texts.specs.declared.Signs.TheVariants.{Bureau, Simh}
 use Rattle.card_texts.specs.declared.EmptyLine as line
@@ -12,6 +12,10 @@ IsNumeral text number = (0 < number) × (number < 10 ^ 9) × (text ≡ decimal n
 -- the same, or 0 alone
 abbrev pub IsCount : List ℕ → ℕ → Type 0
 IsCount text number = (number < 10 ^ 9) × (text ≡ decimal number)
+
+-- the text is that of a column of a card, 1 to 80
+abbrev pub IsColumn : List ℕ → ℕ → Type 0
+IsColumn text column = (0 < column) × (column ≤ 80) × (text ≡ decimal column)
 
 -- whether columns rise from behind this one, and end at 80 at most
 unfoldable pub rises : ℕ → List ℕ → Bool

@@ -352,27 +352,3 @@ pub(crate) fn page(row: Option<RowName>) -> &'static str
         Some(RowName::Page) => PAGE_HELP,
     }
 }
-
-/// The words that belong after a row's name.
-pub(crate) fn usage(row: RowName) -> &'static str {
-    match row {
-        RowName::Punch => "punch IN OUT [--fold] [--tabs LIST] [--signs TABLE] [--keep COLUMN] \
-             [--empty MODE] [--report]",
-        RowName::List => "list DECK [--ruler] [--punches]",
-        RowName::Compare => "compare ONE OTHER",
-        RowName::Sequence => "sequence IN [OUT IDENT FIRST STEP]",
-        RowName::Convert => "convert IN OUT FROM TO",
-        RowName::Source => "source IN [--data] [--width 80|120]",
-        RowName::Manifest => "manifest FILE.. [--form FORM] [--check KNOWN]",
-        RowName::Trace => "trace DECK SIZE SWITCHES [--from N] [--count N] [--stop ADDRESS] \
-             [--names SOURCE] [--fields]",
-        RowName::Dump => "dump DECK SIZE SWITCHES [--after N] [--stop ADDRESS] [--first N] \
-             [--last N]",
-        RowName::Profile => "profile DECK SIZE SWITCHES [--names SOURCE]",
-        RowName::Console => "console DECK SIZE SWITCHES [--names SOURCE]",
-        RowName::Card => "card DECK N OUT",
-        RowName::Deck => "deck DECK OUT",
-        RowName::Pages => "pages LISTING OUT",
-        RowName::Page => "page SOURCE SIZE SWITCHES OUT",
-    }
-}

@@ -1,24 +1,20 @@
 //! The words of the program `workbench`: the task that they ask for.
 //!
 //! A call is a row's name, its values in their places and its options, in any order after the name,
-//! or a word that asks for the help or the version. Clap reads them by a command that is made from
-//! one table (`src/rows.rt`), without a help of its own. The values of options (columns, a form, a
-//! number) are read after that, before any file is opened. The contract for the layer above:
-//! [`task_of`] returns a task only if the words ask for it (`specs/Tasks.antt`).
+//! or a word that asks for the help or the version. They are read by one table (`src/rows.rt`). The
+//! values of options (columns, a form, a number) are read after that, before any file is opened. The
+//! contract for the layer above: [`task_of`] returns a task only if the words ask for it
+//! (`specs/Tasks.antt`).
 #![tactic(auto)]
 
 mod bench_tasks;
-mod commands;
-mod found;
+mod complaints;
 mod help;
-mod parsing;
 mod picture_tasks;
 mod rows;
 mod tasks;
-mod telling;
 mod values;
 
 pub use help::VERSION;
-pub use rows::RowName;
-pub use tasks::{Dumping, Misuse, Numbering, Punching, Setup, Task, Tracing, task_of};
-pub use telling::{show_help, show_version, tell_misuse};
+pub use rows::{RowName, WORKBENCH};
+pub use tasks::{Dumping, Numbering, Punching, Setup, Task, Tracing, task_of};

@@ -1,47 +1,46 @@
 //! The tasks of the rows that draw cards and listings.
 
 ghost use Rattle.std.specs.Prelude.{IfOk};
-ghost use Rattle.clap.specs.Words.{found_of, rows_of};
+ghost use Rattle.command_line.specs.Arguments.{given};
 ghost use Rattle.workbench_words.specs.Tasks.{WantsCard, WantsDeck, WantsPage, WantsPages};
 
 use crate::bench_tasks::setup_in;
-use crate::rows::RowName;
-use crate::tasks::{Misuse, Task, needed, number};
-use clap::ArgMatches;
+use crate::tasks::{Task, number};
+use command_line::{Found, Mistake};
 
 /// The task of a row `card`.
-pub(crate) fn card_task<'a>(found: &ArgMatches<'a>) -> Result<Task<'a>, Misuse>
-    ensures { IfOk result (WantsCard (rows_of (found_of found.now))) }
+pub(crate) fn card_task<'a>(found: &Found<'a>) -> Result<Task<'a>, Mistake>
+    ensures { IfOk result (WantsCard (given found.now)) }
 {
-    let deck = needed(found, "DECK", RowName::Card)?;
-    let number = number(needed(found, "N", RowName::Card)?)?;
-    let out = needed(found, "OUT", RowName::Card)?;
+    let deck = found.needed("DECK")?;
+    let number = number(found.needed("N")?)?;
+    let out = found.needed("OUT")?;
     Ok(Task::Card { deck, number, out })
 }
 
 /// The task of a row `deck`.
-pub(crate) fn deck_task<'a>(found: &ArgMatches<'a>) -> Result<Task<'a>, Misuse>
-    ensures { IfOk result (WantsDeck (rows_of (found_of found.now))) }
+pub(crate) fn deck_task<'a>(found: &Found<'a>) -> Result<Task<'a>, Mistake>
+    ensures { IfOk result (WantsDeck (given found.now)) }
 {
-    let deck = needed(found, "DECK", RowName::Deck)?;
-    let out = needed(found, "OUT", RowName::Deck)?;
+    let deck = found.needed("DECK")?;
+    let out = found.needed("OUT")?;
     Ok(Task::Deck { deck, out })
 }
 
 /// The task of a row `pages`.
-pub(crate) fn pages_task<'a>(found: &ArgMatches<'a>) -> Result<Task<'a>, Misuse>
-    ensures { IfOk result (WantsPages (rows_of (found_of found.now))) }
+pub(crate) fn pages_task<'a>(found: &Found<'a>) -> Result<Task<'a>, Mistake>
+    ensures { IfOk result (WantsPages (given found.now)) }
 {
-    let listing = needed(found, "LISTING", RowName::Pages)?;
-    let out = needed(found, "OUT", RowName::Pages)?;
+    let listing = found.needed("LISTING")?;
+    let out = found.needed("OUT")?;
     Ok(Task::Pages { listing, out })
 }
 
 /// The task of a row `page`.
-pub(crate) fn page_task<'a>(found: &ArgMatches<'a>) -> Result<Task<'a>, Misuse>
-    ensures { IfOk result (WantsPage (rows_of (found_of found.now))) }
+pub(crate) fn page_task<'a>(found: &Found<'a>) -> Result<Task<'a>, Mistake>
+    ensures { IfOk result (WantsPage (given found.now)) }
 {
-    let setup = setup_in(found, "SOURCE", RowName::Page)?;
-    let out = needed(found, "OUT", RowName::Page)?;
+    let setup = setup_in(found, "SOURCE")?;
+    let out = found.needed("OUT")?;
     Ok(Task::Page { setup, out })
 }

@@ -1,10 +1,6 @@
 //! The table of the rows.
 
-ghost use Rattle.std.specs.Prelude.{◌≡◌, find, map, option_map};
-ghost use Rattle.std.specs.Str.{bytes_eq};
-ghost use Rattle.workbench_words.specs.Rows.{arguments_of, name_of, row_named};
-
-use command_line::Kind;
+use command_line::{Kind, Line, Program};
 
 /// The name of a row.
 #[derive(Clone, Copy)]
@@ -41,12 +37,12 @@ pub enum RowName {
     Page,
 }
 
-/// The rows, in the order of [`RowName`]: each with its name, and with its arguments.
-pub(crate) const ROWS: [(RowName, &str, &[(&str, Kind)]); 15] = [
-    (
-        RowName::Punch,
-        "punch",
-        &[
+/// The rows.
+const ROWS: [Line<RowName>; 15] = [
+    Line {
+        row: RowName::Punch,
+        name: "punch",
+        arguments: &[
             ("IN", Kind::Value),
             ("OUT", Kind::Value),
             ("fold", Kind::Flag),
@@ -56,64 +52,72 @@ pub(crate) const ROWS: [(RowName, &str, &[(&str, Kind)]); 15] = [
             ("empty", Kind::Setting),
             ("report", Kind::Flag),
         ],
-    ),
-    (
-        RowName::List,
-        "list",
-        &[
+        usage: "punch IN OUT [--fold] [--tabs LIST] [--signs TABLE] [--keep COLUMN] \
+             [--empty MODE] [--report]",
+    },
+    Line {
+        row: RowName::List,
+        name: "list",
+        arguments: &[
             ("DECK", Kind::Value),
             ("ruler", Kind::Flag),
             ("punches", Kind::Flag),
         ],
-    ),
-    (
-        RowName::Compare,
-        "compare",
-        &[("ONE", Kind::Value), ("OTHER", Kind::Value)],
-    ),
-    (
-        RowName::Sequence,
-        "sequence",
-        &[
+        usage: "list DECK [--ruler] [--punches]",
+    },
+    Line {
+        row: RowName::Compare,
+        name: "compare",
+        arguments: &[("ONE", Kind::Value), ("OTHER", Kind::Value)],
+        usage: "compare ONE OTHER",
+    },
+    Line {
+        row: RowName::Sequence,
+        name: "sequence",
+        arguments: &[
             ("IN", Kind::Value),
             ("OUT", Kind::Further),
             ("IDENT", Kind::Further),
             ("FIRST", Kind::Further),
             ("STEP", Kind::Further),
         ],
-    ),
-    (
-        RowName::Convert,
-        "convert",
-        &[
+        usage: "sequence IN [OUT IDENT FIRST STEP]",
+    },
+    Line {
+        row: RowName::Convert,
+        name: "convert",
+        arguments: &[
             ("IN", Kind::Value),
             ("OUT", Kind::Value),
             ("FROM", Kind::Value),
             ("TO", Kind::Value),
         ],
-    ),
-    (
-        RowName::Source,
-        "source",
-        &[
+        usage: "convert IN OUT FROM TO",
+    },
+    Line {
+        row: RowName::Source,
+        name: "source",
+        arguments: &[
             ("IN", Kind::Value),
             ("data", Kind::Flag),
             ("width", Kind::Setting),
         ],
-    ),
-    (
-        RowName::Manifest,
-        "manifest",
-        &[
+        usage: "source IN [--data] [--width 80|120]",
+    },
+    Line {
+        row: RowName::Manifest,
+        name: "manifest",
+        arguments: &[
             ("FILE", Kind::Several),
             ("form", Kind::Setting),
             ("check", Kind::Setting),
         ],
-    ),
-    (
-        RowName::Trace,
-        "trace",
-        &[
+        usage: "manifest FILE.. [--form FORM] [--check KNOWN]",
+    },
+    Line {
+        row: RowName::Trace,
+        name: "trace",
+        arguments: &[
             ("DECK", Kind::Value),
             ("SIZE", Kind::Value),
             ("SWITCHES", Kind::Value),
@@ -123,11 +127,13 @@ pub(crate) const ROWS: [(RowName, &str, &[(&str, Kind)]); 15] = [
             ("names", Kind::Setting),
             ("fields", Kind::Flag),
         ],
-    ),
-    (
-        RowName::Dump,
-        "dump",
-        &[
+        usage: "trace DECK SIZE SWITCHES [--from N] [--count N] [--stop ADDRESS] \
+             [--names SOURCE] [--fields]",
+    },
+    Line {
+        row: RowName::Dump,
+        name: "dump",
+        arguments: &[
             ("DECK", Kind::Value),
             ("SIZE", Kind::Value),
             ("SWITCHES", Kind::Value),
@@ -136,86 +142,68 @@ pub(crate) const ROWS: [(RowName, &str, &[(&str, Kind)]); 15] = [
             ("first", Kind::Setting),
             ("last", Kind::Setting),
         ],
-    ),
-    (
-        RowName::Profile,
-        "profile",
-        &[
+        usage: "dump DECK SIZE SWITCHES [--after N] [--stop ADDRESS] [--first N] \
+             [--last N]",
+    },
+    Line {
+        row: RowName::Profile,
+        name: "profile",
+        arguments: &[
             ("DECK", Kind::Value),
             ("SIZE", Kind::Value),
             ("SWITCHES", Kind::Value),
             ("names", Kind::Setting),
         ],
-    ),
-    (
-        RowName::Console,
-        "console",
-        &[
+        usage: "profile DECK SIZE SWITCHES [--names SOURCE]",
+    },
+    Line {
+        row: RowName::Console,
+        name: "console",
+        arguments: &[
             ("DECK", Kind::Value),
             ("SIZE", Kind::Value),
             ("SWITCHES", Kind::Value),
             ("names", Kind::Setting),
         ],
-    ),
-    (
-        RowName::Card,
-        "card",
-        &[
+        usage: "console DECK SIZE SWITCHES [--names SOURCE]",
+    },
+    Line {
+        row: RowName::Card,
+        name: "card",
+        arguments: &[
             ("DECK", Kind::Value),
             ("N", Kind::Value),
             ("OUT", Kind::Value),
         ],
-    ),
-    (
-        RowName::Deck,
-        "deck",
-        &[("DECK", Kind::Value), ("OUT", Kind::Value)],
-    ),
-    (
-        RowName::Pages,
-        "pages",
-        &[("LISTING", Kind::Value), ("OUT", Kind::Value)],
-    ),
-    (
-        RowName::Page,
-        "page",
-        &[
+        usage: "card DECK N OUT",
+    },
+    Line {
+        row: RowName::Deck,
+        name: "deck",
+        arguments: &[("DECK", Kind::Value), ("OUT", Kind::Value)],
+        usage: "deck DECK OUT",
+    },
+    Line {
+        row: RowName::Pages,
+        name: "pages",
+        arguments: &[("LISTING", Kind::Value), ("OUT", Kind::Value)],
+        usage: "pages LISTING OUT",
+    },
+    Line {
+        row: RowName::Page,
+        name: "page",
+        arguments: &[
             ("SOURCE", Kind::Value),
             ("SIZE", Kind::Value),
             ("SWITCHES", Kind::Value),
             ("OUT", Kind::Value),
         ],
-    ),
+        usage: "page SOURCE SIZE SWITCHES OUT",
+    },
 ];
 
-/// The first line of a table with this name.
-fn line_in<'a>(
-    table: &'a [(RowName, &'a str, &'a [(&'a str, Kind)])],
-    word: &str,
-) -> Option<&'a (RowName, &'a str, &'a [(&'a str, Kind)])>
-    ensures { option_map (λ line. line.now) result
-        ≡ find (λ line. bytes_eq line.1.now word.now) table.entry.now }
-{
-    table.iter().find(|line| line.1 == word)
-}
-
-/// The first row with this name, by a table that has their names.
-fn row_in(table: &[(RowName, &str, &[(&str, Kind)])], word: &str) -> Option<RowName>
-    requires { map (λ line. line.1.now) table.now ≡ map (λ line. name_of line.0) table.now }
-    ensures { result
-        ≡ find (λ row. bytes_eq (name_of row) word.now) (map (λ line. line.0) table.now) }
-{
-    match line_in(table, word) {
-        Some(line) => Some(line.0),
-        None => None,
-    }
-}
-
-impl RowName {
-    /// The row with this name.
-    pub(crate) fn of(word: &str) -> Option<RowName>
-        ensures { result ≡ row_named word.now }
-    {
-        row_in(&ROWS, word)
-    }
-}
+/// The program by its words.
+pub const WORKBENCH: Program<RowName> = Program {
+    name: "workbench",
+    rows: &ROWS,
+};

@@ -1,27 +1,27 @@
 //! The tasks that the words ask for.
 
-ghost use Rattle.std.specs.Prelude.{◌≡◌, ◌∷◌, [], IfOk, IfSome};
-ghost use Rattle.clap.specs.Words.{found_of, rows_of};
+ghost use Rattle.std.specs.Prelude.{IfOk};
+ghost use Rattle.command_line.specs.Arguments.{HasArgument, given};
 ghost use Rattle.command_line.specs.Plain.{texts};
+ghost use Rattle.command_line.specs.Programs.{AsksFor, wish_as};
+ghost use Rattle.workbench_words.specs.Rows.{workbench};
 ghost use Rattle.card_forms.specs.Forms.{word_of};
-ghost use Rattle.workbench_words.specs.Tasks.{HasEmpty, HasForm, HasKept, HasSigns, HasTabs, IsNarrow, Wants, WantsCompare, WantsConvert, WantsList, WantsManifest, WantsOption, WantsPunch, WantsSequence, WantsSource, WantsTask};
+ghost use Rattle.workbench_words.specs.Tasks.{HasEmpty, HasForm, HasKept, HasSigns, HasTabs, IsNarrow, Wants, WantsCompare, WantsConvert, WantsList, WantsManifest, WantsPunch, WantsSequence, WantsSource, WantsTask};
 ghost use Rattle.workbench_words.specs.Values.{IsNumeral};
-ghost use Rattle.workbench_words.specs.declared.tasks.Misuse.TheVariants.{Memory};
 
 use crate::bench_tasks::{console_task, dump_task, profile_task, trace_task};
-use crate::found::{has_flag, value, values};
-use crate::parsing::parse;
+use crate::complaints::{
+    NO_COLUMN, NO_EMPTY_LINE, NO_FORM, NO_NUMBER, NO_SIGNS, NO_TABS, NO_WIDTH,
+};
+use crate::help::{VERSION, page};
 use crate::picture_tasks::{card_task, deck_task, page_task, pages_task};
-use crate::rows::RowName;
+use crate::rows::{RowName, WORKBENCH};
 use crate::values::{column_of, empty_of, narrow_of, signs_of, stops_of};
 use card_forms::Form;
 use card_texts::{EmptyLine, Rules, Signs};
-use clap::ArgMatches;
-use command_line::Unread;
+use command_line::{Asked, Found, Mistake, asked_by};
 use core_store::Size;
-use std::alloc::{AllocError, Global};
-use std::io;
-use std::io::ErrorKind;
+use std::alloc::Global;
 use texts::number_of;
 use units::Switches;
 
@@ -99,10 +99,8 @@ pub struct Dumping<'a> {
 /// What the program is to do. A path that is `-` stands for the standard input or output.
 #[derive(Drop)]
 pub enum Task<'a> {
-    /// Print the help of a row, or the whole help.
-    Help(Option<RowName>),
-    /// Print the version.
-    Version,
+    /// Print a text: a page of the help, or the version.
+    Show(&'static str),
     /// Take a text as a deck.
     Punch(Punching<'a>),
     /// Print the cards of a deck.
@@ -207,135 +205,72 @@ pub enum Task<'a> {
     },
 }
 
-/// Why words do not ask for a task.
-#[derive(Clone, Copy)]
-pub enum Misuse {
-    /// There is no memory to read them.
-    Memory,
-    /// A word is not valid text.
-    NoText,
-    /// The first word is not the name of a row.
-    Row,
-    /// The words after this row's name are not as the row has them.
-    Arguments(RowName),
-    /// The value of `--tabs` is no list of columns.
-    Tabs,
-    /// The value of `--signs` names no table.
-    Signs,
-    /// The value of `--keep` is no column.
-    Keep,
-    /// The value of `--empty` is none of three.
-    Empty,
-    /// FROM, TO or the value of `--form` names no form.
-    Form,
-    /// The value of `--width` is none of two.
-    Width,
-    /// A number is none.
-    Number,
-    /// SIZE is no size of storage.
-    Size,
-    /// SWITCHES does not name a set of sense switches.
-    Switches,
-}
-
-impl From<AllocError> for Misuse {
-    ghost from_gives = { λ _ misuse. misuse ≡ Memory };
-
-    fn from(_error: AllocError) -> Misuse {
-        Misuse::Memory
-    }
-}
-
-/// The misuse of a process whose words cannot be read.
-impl From<io::Error> for Misuse {
-    fn from(error: io::Error) -> Misuse {
-        match error.kind() {
-            ErrorKind::OutOfMemory => Misuse::Memory,
-            _ => Misuse::NoText,
-        }
-    }
-}
-
 /// The columns of `--tabs`; none where it is not given.
-fn tabs_in(alloc: Global, found: &ArgMatches<'_>) -> Result<Vec<u8>, Misuse>
-    ensures { IfOk result (λ tabs. HasTabs (rows_of (found_of found.now)) tabs.items) }
+fn tabs_in(alloc: Global, found: &Found<'_>) -> Result<Vec<u8>, Mistake>
+    ensures { IfOk result (λ tabs. HasTabs (given found.now) tabs.items) }
 {
-    let Some(text) = value(found, "tabs") else {
+    let Some(text) = found.value("tabs") else {
         return Ok(Vec::new(alloc));
     };
     match stops_of(alloc, text)? {
         Some(tabs) => Ok(tabs),
-        None => Err(Misuse::Tabs),
+        None => Err(Mistake::Value(NO_TABS)),
     }
 }
 
 /// The table of `--signs`; the glyphs of a deck text where it is not given.
-fn signs_in(found: &ArgMatches<'_>) -> Result<Signs, Misuse>
-    ensures { IfOk result (λ signs. HasSigns (rows_of (found_of found.now)) signs) }
+fn signs_in(found: &Found<'_>) -> Result<Signs, Mistake>
+    ensures { IfOk result (λ signs. HasSigns (given found.now) signs) }
 {
-    let Some(word) = value(found, "signs") else {
+    let Some(word) = found.value("signs") else {
         return Ok(Signs::Bureau);
     };
     match signs_of(word) {
         Some(signs) => Ok(signs),
-        None => Err(Misuse::Signs),
+        None => Err(Mistake::Value(NO_SIGNS)),
     }
 }
 
 /// The column of `--keep`, if it is given.
-fn kept_in(found: &ArgMatches<'_>) -> Result<Option<u8>, Misuse>
-    ensures { IfOk result (λ keeps. HasKept (rows_of (found_of found.now)) keeps) }
+fn kept_in(found: &Found<'_>) -> Result<Option<u8>, Mistake>
+    ensures { IfOk result (λ keeps. HasKept (given found.now) keeps) }
 {
-    let Some(text) = value(found, "keep") else {
+    let Some(text) = found.value("keep") else {
         return Ok(None);
     };
     match column_of(text) {
         Some(column) => Ok(Some(column)),
-        None => Err(Misuse::Keep),
+        None => Err(Mistake::Value(NO_COLUMN)),
     }
 }
 
 /// What an empty line is by `--empty`; a card where it is not given.
-fn empty_in(found: &ArgMatches<'_>) -> Result<EmptyLine, Misuse>
-    ensures { IfOk result (λ empty. HasEmpty (rows_of (found_of found.now)) empty) }
+fn empty_in(found: &Found<'_>) -> Result<EmptyLine, Mistake>
+    ensures { IfOk result (λ empty. HasEmpty (given found.now) empty) }
 {
-    let Some(word) = value(found, "empty") else {
+    let Some(word) = found.value("empty") else {
         return Ok(EmptyLine::Card);
     };
     match empty_of(word) {
         Some(empty) => Ok(empty),
-        None => Err(Misuse::Empty),
-    }
-}
-
-/// The value of an argument that a row cannot lack.
-pub(crate) fn needed<'a>(
-    found: &ArgMatches<'a>,
-    name: &str,
-    row: RowName,
-) -> Result<&'a str, Misuse>
-    ensures { IfOk result (λ text. WantsOption name.now (rows_of (found_of found.now)) text.now) }
-{
-    match value(found, name) {
-        Some(text) => Ok(text),
-        None => Err(Misuse::Arguments(row)),
+        None => Err(Mistake::Value(NO_EMPTY_LINE)),
     }
 }
 
 /// The task of a row `punch`.
-fn punch_task<'a>(alloc: Global, found: &ArgMatches<'a>) -> Result<Task<'a>, Misuse>
-    ensures { IfOk result (WantsPunch (rows_of (found_of found.now))) }
+fn punch_task<'a>(alloc: Global, found: &Found<'a>) -> Result<Task<'a>, Mistake>
+    ensures { IfOk result (WantsPunch (given found.now)) }
 {
-    let text = needed(found, "IN", RowName::Punch)?;
-    let out = needed(found, "OUT", RowName::Punch)?;
+    let text = found.needed("IN")?;
+    let out = found.needed("OUT")?;
     let rules = Rules {
-        folds: has_flag(found, "fold"),
+        folds: found.has_flag("fold"),
         tabs: tabs_in(alloc, found)?,
         signs: signs_in(found)?,
         keeps: kept_in(found)?,
         empty: empty_in(found)?,
     };
-    let reports = has_flag(found, "report");
+    let reports = found.has_flag("report");
     Ok(Task::Punch(Punching {
         text,
         out,
@@ -345,12 +280,12 @@ fn punch_task<'a>(alloc: Global, found: &ArgMatches<'a>) -> Result<Task<'a>, Mis
 }
 
 /// The task of a row `list`.
-fn list_task<'a>(found: &ArgMatches<'a>) -> Result<Task<'a>, Misuse>
-    ensures { IfOk result (WantsList (rows_of (found_of found.now))) }
+fn list_task<'a>(found: &Found<'a>) -> Result<Task<'a>, Mistake>
+    ensures { IfOk result (WantsList (given found.now)) }
 {
-    let deck = needed(found, "DECK", RowName::List)?;
-    let ruler = has_flag(found, "ruler");
-    let punches = has_flag(found, "punches");
+    let deck = found.needed("DECK")?;
+    let ruler = found.has_flag("ruler");
+    let punches = found.has_flag("punches");
     Ok(Task::List {
         deck,
         ruler,
@@ -359,36 +294,36 @@ fn list_task<'a>(found: &ArgMatches<'a>) -> Result<Task<'a>, Misuse>
 }
 
 /// The task of a row `compare`.
-fn compare_task<'a>(found: &ArgMatches<'a>) -> Result<Task<'a>, Misuse>
-    ensures { IfOk result (WantsCompare (rows_of (found_of found.now))) }
+fn compare_task<'a>(found: &Found<'a>) -> Result<Task<'a>, Mistake>
+    ensures { IfOk result (WantsCompare (given found.now)) }
 {
-    let one = needed(found, "ONE", RowName::Compare)?;
-    let other = needed(found, "OTHER", RowName::Compare)?;
+    let one = found.needed("ONE")?;
+    let other = found.needed("OTHER")?;
     Ok(Task::Compare { one, other })
 }
 
 /// A number of 1 to 9 digits without a zero in front.
-pub(crate) fn number(text: &str) -> Result<u32, Misuse>
+pub(crate) fn number(text: &str) -> Result<u32, Mistake>
     ensures { IfOk result (IsNumeral text.now) }
 {
     match number_of(text) {
         Some(number) => Ok(number),
-        None => Err(Misuse::Number),
+        None => Err(Mistake::Value(NO_NUMBER)),
     }
 }
 
 /// The task of a row `sequence`: with one value a check, with five a numbering.
-fn sequence_task<'a>(found: &ArgMatches<'a>) -> Result<Task<'a>, Misuse>
-    ensures { IfOk result (WantsSequence (rows_of (found_of found.now))) }
+fn sequence_task<'a>(found: &Found<'a>) -> Result<Task<'a>, Mistake>
+    ensures { IfOk result (WantsSequence (given found.now)) }
 {
-    let deck = needed(found, "IN", RowName::Sequence)?;
-    if value(found, "OUT").is_none() {
+    let deck = found.needed("IN")?;
+    if found.value("OUT").is_none() {
         return Ok(Task::CheckNumbers { deck });
     }
-    let out = needed(found, "OUT", RowName::Sequence)?;
-    let ident = needed(found, "IDENT", RowName::Sequence)?;
-    let first = number(needed(found, "FIRST", RowName::Sequence)?)?;
-    let step = number(needed(found, "STEP", RowName::Sequence)?)?;
+    let out = found.needed("OUT")?;
+    let ident = found.needed("IDENT")?;
+    let first = number(found.needed("FIRST")?)?;
+    let step = number(found.needed("STEP")?)?;
     Ok(Task::Number(Numbering {
         deck,
         out,
@@ -399,22 +334,22 @@ fn sequence_task<'a>(found: &ArgMatches<'a>) -> Result<Task<'a>, Misuse>
 }
 
 /// The form that an argument names.
-fn form_in(found: &ArgMatches<'_>, name: &str) -> Result<Form, Misuse>
+fn form_in(found: &Found<'_>, name: &str) -> Result<Form, Mistake>
     ensures { IfOk result (λ form.
-        WantsOption name.now (rows_of (found_of found.now)) (word_of form)) }
+        HasArgument name.now (given found.now) (word_of form)) }
 {
-    match Form::of(needed(found, name, RowName::Convert)?) {
+    match Form::of(found.needed(name)?) {
         Some(form) => Ok(form),
-        None => Err(Misuse::Form),
+        None => Err(Mistake::Value(NO_FORM)),
     }
 }
 
 /// The task of a row `convert`.
-fn convert_task<'a>(found: &ArgMatches<'a>) -> Result<Task<'a>, Misuse>
-    ensures { IfOk result (WantsConvert (rows_of (found_of found.now))) }
+fn convert_task<'a>(found: &Found<'a>) -> Result<Task<'a>, Mistake>
+    ensures { IfOk result (WantsConvert (given found.now)) }
 {
-    let deck = needed(found, "IN", RowName::Convert)?;
-    let out = needed(found, "OUT", RowName::Convert)?;
+    let deck = found.needed("IN")?;
+    let out = found.needed("OUT")?;
     let reads = form_in(found, "FROM")?;
     let writes = form_in(found, "TO")?;
     Ok(Task::Convert {
@@ -426,25 +361,25 @@ fn convert_task<'a>(found: &ArgMatches<'a>) -> Result<Task<'a>, Misuse>
 }
 
 /// Whether `--width` asks for 80 columns; not where it is not given.
-fn narrow_in(found: &ArgMatches<'_>) -> Result<bool, Misuse>
-    ensures { IfOk result (λ narrow. IsNarrow (rows_of (found_of found.now)) narrow) }
+fn narrow_in(found: &Found<'_>) -> Result<bool, Mistake>
+    ensures { IfOk result (λ narrow. IsNarrow (given found.now) narrow) }
 {
-    let Some(word) = value(found, "width") else {
+    let Some(word) = found.value("width") else {
         return Ok(false);
     };
     match narrow_of(word) {
         Some(narrow) => Ok(narrow),
-        None => Err(Misuse::Width),
+        None => Err(Mistake::Value(NO_WIDTH)),
     }
 }
 
 /// The task of a row `source`.
-fn source_task<'a>(found: &ArgMatches<'a>) -> Result<Task<'a>, Misuse>
-    ensures { IfOk result (WantsSource (rows_of (found_of found.now))) }
+fn source_task<'a>(found: &Found<'a>) -> Result<Task<'a>, Mistake>
+    ensures { IfOk result (WantsSource (given found.now)) }
 {
-    let source = needed(found, "IN", RowName::Source)?;
+    let source = found.needed("IN")?;
     let narrow = narrow_in(found)?;
-    let with_data = has_flag(found, "data");
+    let with_data = found.has_flag("data");
     Ok(Task::Source {
         source,
         narrow,
@@ -453,31 +388,31 @@ fn source_task<'a>(found: &ArgMatches<'a>) -> Result<Task<'a>, Misuse>
 }
 
 /// The form that `--form` names, if it is given.
-fn option_form_in(found: &ArgMatches<'_>) -> Result<Option<Form>, Misuse>
-    ensures { IfOk result (λ form. HasForm (rows_of (found_of found.now)) form) }
+fn option_form_in(found: &Found<'_>) -> Result<Option<Form>, Mistake>
+    ensures { IfOk result (λ form. HasForm (given found.now) form) }
 {
-    let Some(word) = value(found, "form") else {
+    let Some(word) = found.value("form") else {
         return Ok(None);
     };
     match Form::of(word) {
         Some(form) => Ok(Some(form)),
-        None => Err(Misuse::Form),
+        None => Err(Mistake::Value(NO_FORM)),
     }
 }
 
 /// The task of a row `manifest`.
-fn manifest_task<'a>(alloc: Global, found: &ArgMatches<'a>) -> Result<Task<'a>, Misuse>
-    ensures { IfOk result (WantsManifest (rows_of (found_of found.now))) }
+fn manifest_task<'a>(alloc: Global, found: &Found<'a>) -> Result<Task<'a>, Mistake>
+    ensures { IfOk result (WantsManifest (given found.now)) }
 {
-    let decks = values(alloc, found, "FILE")?;
+    let decks = found.values(alloc, "FILE")?;
     let form = option_form_in(found)?;
-    let known = value(found, "check");
+    let known = found.value("check");
     Ok(Task::Manifest { decks, form, known })
 }
 
 /// The task of a row, by what clap found after its name.
-fn row_task<'a>(alloc: Global, row: RowName, found: &ArgMatches<'a>) -> Result<Task<'a>, Misuse>
-    ensures { IfOk result (WantsTask row (rows_of (found_of found.now))) }
+fn row_task<'a>(alloc: Global, row: RowName, found: &Found<'a>) -> Result<Task<'a>, Mistake>
+    ensures { IfOk result (WantsTask row (given found.now)) }
 {
     match row {
         RowName::Punch => punch_task(alloc, found),
@@ -498,85 +433,22 @@ fn row_task<'a>(alloc: Global, row: RowName, found: &ArgMatches<'a>) -> Result<T
     }
 }
 
-/// The misuse of words that clap does not take.
-fn misuse_of(words: &[String]) -> Misuse {
-    match words.first() {
-        Some(word) => match RowName::of(word.as_str()) {
-            Some(row) => Misuse::Arguments(row),
-            None => Misuse::Row,
-        },
-        None => Misuse::Row,
-    }
-}
-
-/// The task of the words that clap takes.
-fn parsed_task<'a>(alloc: Global, words: &'a [String]) -> Result<Task<'a>, Misuse>
-    ensures { IfOk result (Wants (texts words.entry.now)) }
+/// What the words ask for.
+fn wish_of<'a>(alloc: Global, words: &'a [String]) -> Result<Asked<'a, RowName>, Mistake>
+    ensures { IfOk result (λ asked. AsksFor workbench (texts words.entry.now) (wish_as asked)) }
 {
-    let matches = match parse(alloc, words) {
-        Ok(matches) => matches,
-        Err(Unread::Memory) => return Err(Misuse::Memory),
-        Err(Unread::Words) => return Err(misuse_of(words)),
-    };
-    let Some((name, found)) = matches.subcommand() else {
-        return Err(Misuse::Row);
-    };
-    match RowName::of(name) {
-        Some(row) => row_task(alloc, row, found),
-        None => Err(Misuse::Row),
-    }
-}
-
-/// What two words ask for in place of a row: the help of the row that the first names.
-fn help_of<'a>(name: &str, word: &str) -> Option<Task<'a>>
-    ensures { IfSome result (Wants (name.now ∷ word.now ∷ [])) }
-{
-    let Some(row) = RowName::of(name) else {
-        return None;
-    };
-    if word == "--help" {
-        return Some(Task::Help(Some(row)));
-    }
-    if word == "-h" {
-        return Some(Task::Help(Some(row)));
-    }
-    None
-}
-
-/// What one word asks for in place of a row.
-fn option_of<'a>(word: &str) -> Option<Task<'a>>
-    ensures { IfSome result (Wants (word.now ∷ [])) }
-{
-    if word == "--help" {
-        return Some(Task::Help(None));
-    }
-    if word == "-h" {
-        return Some(Task::Help(None));
-    }
-    if word == "--version" {
-        return Some(Task::Version);
-    }
-    None
-}
-
-/// What words ask for in place of a row.
-fn option_in<'a>(words: &[String]) -> Option<Task<'a>>
-    ensures { IfSome result (Wants (texts words.now)) }
-{
-    match words {
-        [word] => option_of(word.as_str()),
-        [name, word] => help_of(name.as_str(), word.as_str()),
-        _ => None,
-    }
+    asked_by(alloc, &WORKBENCH, words)
 }
 
 /// Returns the task that the words after the program's name ask for, or else what is wrong with
 /// them.
-pub fn task_of<'a>(alloc: Global, words: &'a [String]) -> Result<Task<'a>, Misuse>
+pub fn task_of<'a>(alloc: Global, words: &'a [String]) -> Result<Task<'a>, Mistake>
     ensures { IfOk result (Wants (texts words.entry.now)) }
 {
-    match option_in(words) {
-        Some(task) => Ok(task),
-        None => parsed_task(alloc, words),
+    let asked = wish_of(alloc, words)?;
+    match asked {
+        Asked::Help(row) => Ok(Task::Show(page(row))),
+        Asked::Version => Ok(Task::Show(VERSION)),
+        Asked::Row(row, found) => row_task(alloc, row, &found),
     }
 }

@@ -1,7 +1,7 @@
 //! The values of the rows' arguments.
 
-ghost use Rattle.std.specs.Prelude.{◌≡◌, ◌≤◌, ◌<◌, ◌++◌, ◌∷◌, [], true, IfSome, IfOk, decimal};
-ghost use Rattle.workbench_words.specs.Values.{AreStops, IsCount, rises, stops_text, word_of_empty, word_of_signs, word_of_width};
+ghost use Rattle.std.specs.Prelude.{◌≡◌, ◌++◌, ◌∷◌, [], true, IfSome, IfOk};
+ghost use Rattle.workbench_words.specs.Values.{AreStops, IsColumn, IsCount, rises, stops_text, word_of_empty, word_of_signs, word_of_width};
 
 use card_texts::{EmptyLine, Signs};
 use itoa::Buffer;
@@ -13,7 +13,7 @@ const COLUMNS: u8 = 80;
 
 /// The column, 1 to 80, that a text names in plain decimal.
 pub(crate) fn column_of(text: &str) -> Option<u8>
-    ensures { IfSome result (λ column. (0 < column) × (column ≤ 80) × (text.now ≡ decimal column)) }
+    ensures { IfSome result (IsColumn text.now) }
 {
     let Some(number) = number_of(text) else {
         return None;

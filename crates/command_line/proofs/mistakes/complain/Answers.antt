@@ -1,0 +1,19 @@
+use Rattle.std.proofs.Common.{ap, sym}
+use Rattle.command_line.specs.Mistakes.{complaint_line}
+use Rattle.command_line.proofs.MistakeLines.{same_text}
+use Rattle.command_line.proofs.mistakes.complain.Goals as goal
+
+pub returns-in-Memory : goal.returns-in-Memory
+returns-in-Memory g c = same_text _ _ _ (sym (ap (complaint_line c.args.program.now) c.in-Memory.is)) c.writeln.ensures.bytes
+
+pub returns-in-NoText : goal.returns-in-NoText
+returns-in-NoText g c = same_text _ _ _ (sym (ap (complaint_line c.args.program.now) c.in-NoText.is)) c.writeln-in-NoText.ensures.bytes
+
+pub returns-in-Row : goal.returns-in-Row
+returns-in-Row g c = same_text _ _ _ (sym (ap (complaint_line c.args.program.now) c.in-Row.is)) c.writeln-in-Row.ensures.bytes
+
+pub returns-in-Arguments : goal.returns-in-Arguments
+returns-in-Arguments g c = same_text _ _ _ (sym (ap (complaint_line c.args.program.now) c.in-Arguments.is)) c.writeln-in-Arguments.ensures.bytes
+
+pub returns-in-Value : goal.returns-in-Value
+returns-in-Value g c = same_text _ _ _ (sym (ap (complaint_line c.args.program.now) c.in-Value.is)) c.writeln-in-Value.ensures.bytes

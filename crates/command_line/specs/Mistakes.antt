@@ -1,0 +1,36 @@
+-- what a program of rows prints of words that ask for nothing, and its exit status
+use Rattle.std.specs.Prelude.{List, [], ◌∷◌, ◌++◌, ℕ, codes}
+use Rattle.cards.specs.Files.{line_feed}
+use Rattle.command_line.specs.Printed.{fault_words}
+use Rattle.command_line.specs.declared.faults.Fault.TheVariants as fault
+use Rattle.command_line.specs.declared.mistakes.Mistake.{Mistake}
+use Rattle.command_line.specs.declared.mistakes.Mistake.TheVariants.{Memory, NoText, Row, Arguments, Value}
+use Rattle.command_line.specs.declared.statuses.Status.{Status}
+use Rattle.command_line.specs.declared.statuses.Status.TheVariants.{NotDone, Misused}
+
+-- the line on what is wrong with the words
+abbrev pub complaint_line : List ℕ → Mistake → List ℕ
+complaint_line program Memory = program ++ codes ": no memory to read the words\n"
+complaint_line program NoText = program ++ codes ": a word is not UTF-8 text\n"
+complaint_line program Row = program
+    ++ (codes ": the first word names nothing that the " ++ (program ++ codes " does\n"))
+complaint_line program (Arguments usage) =
+    program ++ codes ": the words after the row's name are not as it has them\n"
+complaint_line program (Value said) = program ++ (codes ": " ++ (said.now ++ codes "\n"))
+
+-- the line on how the words should be: those of the row, or how all rows are listed
+abbrev pub usage_line : List ℕ → Mistake → List ℕ
+usage_line program (Arguments usage) = codes "usage: "
+    ++ (program ++ (codes " " ++ (usage.now ++ codes "; --help after its name has an example\n")))
+usage_line program other = codes "usage: "
+    ++ (program ++ (codes " ROW WORDS..; " ++ (program ++ codes " --help lists them\n")))
+
+-- what is printed: the fault of memory, or else both lines
+abbrev pub mistake_message : List ℕ → Mistake → List ℕ
+mistake_message program Memory = fault_words fault.Memory ++ line_feed ∷ []
+mistake_message program mistake = complaint_line program mistake ++ usage_line program mistake
+
+-- the exit status
+abbrev pub mistake_status : Mistake → Status
+mistake_status Memory = NotDone
+mistake_status other = Misused

@@ -1,0 +1,75 @@
+-- programs as tables of rows, and what words ask for by them
+use Rattle.std.specs.Prelude.{◌≡◌, ◌⊎◌, List, [], ◌∷◌, Option, Some, None, codes, find, fold, map, option_map}
+use Rattle.std.specs.Str.{bytes_eq}
+use Rattle.clap.specs.Words.{App, Row, Text, fault_of, subcommand_of}
+use Rattle.command_line.specs.Arguments.{given}
+use Rattle.command_line.specs.Asked.{IsVersion}
+use Rattle.command_line.specs.Tables.{named, with_row}
+use Rattle.command_line.specs.declared.programs.Asked.{Asked}
+use Rattle.command_line.specs.declared.programs.Asked.TheVariants as asked
+use Rattle.command_line.specs.declared.programs.Line as line
+use Rattle.command_line.specs.declared.programs.Program as code
+use Rattle.command_line.specs.declared.tables.Kind.{Kind}
+
+-- a row of a program: the row, its name, and its arguments in order
+abbrev pub Line : Type 0 → Type 0
+Line R = R × Text × List (Text × Kind)
+
+-- a program by its words: its name, and its rows
+pub record Program (R : Type 0) : Type 0 where
+  pub name : Text
+  pub rows : List (Line R)
+
+-- a row as the code has it
+abbrev pub line_as : {R : Type 0} → line.Line R → Line R
+line_as line = (line.row, line.name.now, map (λ g. (g.0.now, g.1)) line.arguments.now)
+
+-- a program as the code has it
+abbrev pub program_as : {R : Type 0} → code.Program R → Program R
+program_as program = record { name = program.name.now; rows = map line_as program.rows.now }
+
+-- the row with this name, if there is one
+abbrev pub row_named : {R : Type 0} → Program R → Text → Option R
+row_named program word =
+    option_map (λ line. line.0) (find (λ line. bytes_eq line.1 word) program.rows)
+
+-- the program's whole command: with each row, and the row's arguments
+unfoldable pub command : {R : Type 0} → Program R → App
+command program = fold (λ a line. with_row a line.1 line.2) (named program.name) program.rows
+
+-- what words can ask for: the help of a row or the whole help, the version, or a row with what is
+-- found of its arguments
+pub data Wish (R : Type 0) : Type 0 where
+  for_help : Option R → Wish R
+  for_version : Wish R
+  for_row : R → List Row → Wish R
+
+-- the word asks for help
+abbrev pub IsHelpWord : Text → Type 0
+IsHelpWord word = (word ≡ codes "--help") ⊎ (word ≡ codes "-h")
+
+-- the words ask for the help of the row that the first one names, or for the whole help
+abbrev pub AsksForHelp : {R : Type 0} → Program R → List Text → Option R → Type 0
+AsksForHelp program (word ∷ []) None = IsHelpWord word
+AsksForHelp program (name ∷ word ∷ []) (Some row) =
+    IsHelpWord word × (row_named program name ≡ Some row)
+AsksForHelp program _ _ = ⊥
+
+-- clap takes the words by the program's command, and finds this row with these arguments
+pub record HasRow {R : Type 0} (program : Program R) (words : List Text) (row : R) (found : List Row) : Type 0 where
+  pub name : Text
+  pub taken : fault_of (command program) words ≡ []
+  pub is_row : subcommand_of (command program) words ≡ Some (name, found)
+  pub named : row_named program name ≡ Some row
+
+-- the words ask for this
+abbrev pub AsksFor : {R : Type 0} → Program R → List Text → Wish R → Type 0
+AsksFor program words (for_help page) = AsksForHelp program words page
+AsksFor program words for_version = IsVersion words
+AsksFor program words (for_row row found) = HasRow program words row found
+
+-- what is asked for, as the code has it
+abbrev pub wish_as : {R : Type 0} → Asked R → Wish R
+wish_as (asked.Help page) = for_help page
+wish_as asked.Version = for_version
+wish_as (asked.Row row found) = for_row row (given found)

@@ -1,0 +1,102 @@
+//! What can be wrong with the words of a program of rows, and what is told of it.
+
+ghost use Rattle.std.specs.Prelude.{◌≡◌, IfOk, OnOk};
+ghost use Rattle.std.specs.Io.KnownBytes.{Appends};
+ghost use Rattle.command_line.specs.Mistakes.{complaint_line, mistake_message, mistake_status, usage_line};
+
+use crate::faults::Fault;
+use crate::statuses::Status;
+use crate::telling::tell_fault;
+use std::alloc::AllocError;
+use std::io;
+use std::io::{ErrorKind, Write};
+
+/// Why words do not ask for anything.
+#[derive(Clone, Copy)]
+pub enum Mistake {
+    /// There is no memory to read them.
+    Memory,
+    /// A word is not valid text.
+    NoText,
+    /// The first word is not the name of a row.
+    Row,
+    /// The words after the name of a row that is used so are others.
+    Arguments(&'static str),
+    /// A value is none, of which this is said.
+    Value(&'static str),
+}
+
+impl From<AllocError> for Mistake {
+    ghost use Rattle.command_line.specs.declared.mistakes.Mistake.TheVariants.{Memory};
+
+    ghost from_gives = { λ _ mistake. mistake ≡ Memory };
+
+    fn from(_error: AllocError) -> Mistake {
+        Mistake::Memory
+    }
+}
+
+/// The mistake of a process whose words cannot be read.
+impl From<io::Error> for Mistake {
+    fn from(error: io::Error) -> Mistake {
+        match error.kind() {
+            ErrorKind::OutOfMemory => Mistake::Memory,
+            _ => Mistake::NoText,
+        }
+    }
+}
+
+/// Writes what is wrong with words of a program.
+fn complain<E: Write>(errors: &mut E, program: &str, mistake: Mistake) -> io::Result<()>
+    ensures { OnOk result (Appends (E.contents errors.old) (E.contents errors.new)
+        (complaint_line program.now mistake)) }
+{
+    match mistake {
+        Mistake::Memory => writeln!(errors, "{program}: no memory to read the words"),
+        Mistake::NoText => writeln!(errors, "{program}: a word is not UTF-8 text"),
+        Mistake::Row => {
+            writeln!(
+                errors,
+                "{program}: the first word names nothing that the {program} does"
+            )
+        }
+        Mistake::Arguments(_) => {
+            writeln!(
+                errors,
+                "{program}: the words after the row's name are not as it has them"
+            )
+        }
+        Mistake::Value(said) => writeln!(errors, "{program}: {said}"),
+    }
+}
+
+/// Writes how words of a program should be.
+fn show_usage<E: Write>(errors: &mut E, program: &str, mistake: Mistake) -> io::Result<()>
+    ensures { OnOk result (Appends (E.contents errors.old) (E.contents errors.new)
+        (usage_line program.now mistake)) }
+{
+    match mistake {
+        Mistake::Arguments(usage) => writeln!(
+            errors,
+            "usage: {program} {usage}; --help after its name has an example"
+        ),
+        _ => writeln!(
+            errors,
+            "usage: {program} ROW WORDS..; {program} --help lists them"
+        ),
+    }
+}
+
+/// Prints what is wrong with words of a program, and how they should be. An error is the writer's.
+pub fn tell_mistake<E: Write>(errors: &mut E, program: &str, mistake: Mistake) -> io::Result<Status>
+    ensures { IfOk result (λ status. (status ≡ mistake_status mistake)
+        × Appends (E.contents errors.old) (E.contents errors.new)
+        (mistake_message program.now mistake)) }
+{
+    if let Mistake::Memory = mistake {
+        return tell_fault(errors, Fault::Memory);
+    }
+    complain(errors, program, mistake)?;
+    show_usage(errors, program, mistake)?;
+    Ok(Status::Misused)
+}
