@@ -108,8 +108,9 @@ A round asks for the queue, and then for one slice of each job in it. A job that
 printed with its standing and the instructions that it did here. A job that another request was
 faster for is passed over. A request that could not be made is made again after the pause, ten times
 at most; one that was sent and not answered is never sent again within its round. After a round in
-which no slice ran the next one waits for the pause, and after ten such rounds the work ends with
-status 1. Status 1 also: the bureau did not answer, or what answers is no bureau.
+which no slice ran the next one waits for the pause. After ten such rounds, or one that is the last
+of --rounds, the work ends with status 1. Status 1 also: the bureau did not answer, or what answers
+is no bureau.
 ";
 
 /// The text that `watch --help` prints.
