@@ -1,12 +1,12 @@
 -- A job that was run again is as its rows say.
-use Rattle.std.proofs.Common.{◌≡◌, ℕ, pos, List, All, take, refl, sym, ap, subst, ◌∙◌}
+use Rattle.std.proofs.Common.{◌≡◌, ℕ, pos, List, All, take, sym, ap, subst, ◌∙◌}
 use Rattle.cards.specs.declared.decks.Card.{Card}
 use Rattle.cards.specs.Decks.{deck_bytes, IsDeck}
 use Rattle.machine.specs.Run.{State, lines_of}
 use Rattle.machine.specs.Run as run
 use Rattle.machine.specs.declared.standings.Standing.TheVariants.{Halted}
 use Rattle.units.specs.declared.profiles.Profile.{Profile}
-use Rattle.office.specs.Jobs.{all_off, loaded_deck, loaded_of, picture, resumed, IsJob}
+use Rattle.office.specs.Jobs.{all_off, loaded_of, picture, resumed, IsJob}
 use Rattle.office.specs.Office.{Entry}
 use Rattle.office.specs.declared.stretches.Stretch.{Stretch}
 use Rattle.ledger_rows.specs.Columns.{HoldsCharacters, IsLine}
@@ -70,17 +70,6 @@ module _ (all : AllRows) (it : Row) (customer : List ℕ) (number : ℕ) (number
 pub came_to : (customer : List ℕ) (number : ℕ) (numbers : Numbers) (deck loaded : List Card) (profile : Profile) (stretches : List Stretch) (m : State) → IsLoading numbers.kind deck loaded → HasResumed (run.loaded loaded numbers.size all_off profile) stretches m
     → m ≡ picture (entry_of customer number numbers deck profile stretches).job
 came_to customer number numbers deck loaded profile stretches m loading went = went.machine ∙ ap (λ d. resumed (run.loaded d numbers.size all_off profile) stretches) loading.loaded_is
-
--- ---- a job whose rows are in the tables
-
-module _ (all : AllRows) (it : Row) (e : Entry) (ran : HasRunAs all it e) where
-  pub loading_of : IsLoading e.job.kind e.job.deck (loaded_deck e.job)
-  loading_of =
-      let job = ran.kept.can.job in
-      record { is_deck = job.deck; card = job.card; faultless = job.faultless; loaded_is = refl; is_loaded = job.loaded }
-
-  pub resumed_of : HasResumed (run.loaded (loaded_deck e.job) e.job.size all_off e.job.profile) e.job.stretches (picture e.job)
-  resumed_of = record { allowed = ran.kept.can.job.stretches; halts = ran.kept.can.job.halts; machine = refl }
 
 -- ---- the entry whose job was run again
 

@@ -1,6 +1,6 @@
 -- A customer's name is a text.
 use Rattle.std.proofs.Common.{◌≡◌, ◌<◌, ◌⊎◌, inl, inr, ℕ, zero, suc, List, [], ◌∷◌, Bool, true, false, ◌==◌, ◌||◌, nat_lt, codes, length, refl, sym, subst, arith, true≢false}
-use Rattle.std.specs.Prelude.{slice_index, IsAscii, IsUtf8}
+use Rattle.std.specs.Prelude.{IsAscii, IsUtf8}
 use Rattle.std.specs.List.{list_all, list_any}
 use Rattle.std.proofs.lemmas.Bool.{and_parts, eqb-true}
 use Rattle.std.proofs.lemmas.Bool.Decides.{nat_tests}

@@ -6,9 +6,9 @@ use Rattle.sqlite.specs.Order.{Row}
 use Rattle.ledger_tables.specs.Tables.{job_row}
 use Rattle.sqlite_trees.proofs.ListLemmas.{all-get_or}
 use Rattle.ledger.specs.Standing.{named}
-use Rattle.ledger_checks.specs.Checks.{IsExactFor, KeepsTold}
+use Rattle.ledger_checks.specs.Checks.{IsExactFor}
 use Rattle.ledger_checks.specs.Kept.{AreOwned, IsKept, version_row}
-use Rattle.ledger_checks.specs.Reports.{AreNamed, AreReported, HasNoDifference, IsAsItRan, Tells}
+use Rattle.ledger_checks.specs.Reports.{AreNamed, AreReported, IsAsItRan, Tells}
 use Rattle.ledger_checks.specs.Tables.{rows_of}
 use Rattle.ledger_checks.specs.declared.all_rows.AllRows.{AllRows}
 use Rattle.ledger_checks.specs.declared.reports.JobReport.{JobReport}

@@ -16,22 +16,6 @@ same_row (v ∷ row) (w ∷ ws) long each =
     let others : row ≡ map owned ws = same_row row ws (omega (arith, long)) (λ k d less. each (suc k) d (omega (arith, less))) in
     ap (λ x. x ∷ row) first ∙ ap (λ xs. owned w ∷ xs) others
 
-pub as_long : (row : Row) (wanted : List ValueRef) → row ≡ map owned wanted → length row ≡ length wanted
-as_long row wanted is = ap length is ∙ mapped_long wanted
-  where
-    mapped_long : (ws : List ValueRef) → length (map owned ws) ≡ length ws
-    mapped_long [] = refl
-    mapped_long (w ∷ ws) = ap suc (mapped_long ws)
-
--- a row with just these values has each of them
-pub each_same : (row : Row) (wanted : List ValueRef) (k : ℕ) (d : ValueRef) → row ≡ map owned wanted → k < length wanted → column row k ≡ owned (get_or wanted k d)
-each_same row wanted k d is less = ap (λ (r : Row). column r k) is ∙ mapped wanted k less
-  where
-    mapped : (ws : List ValueRef) (i : ℕ) → i < length ws → column (map owned ws) i ≡ owned (get_or ws i d)
-    mapped [] i less = absurd (omega (arith, less))
-    mapped (w ∷ ws) zero less = refl
-    mapped (w ∷ ws) (suc i) less = mapped ws i (omega (arith, less))
-
 -- what holds at each place holds of all
 pub all_of : {X : Type 0} (P : X → Type 0) (xs : List X) → ((k : ℕ) (d : X) → k < length xs → P (get_or xs k d)) → AllByRecursion P xs
 all_of P [] each = tt

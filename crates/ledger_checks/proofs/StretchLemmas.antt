@@ -1,8 +1,7 @@
 -- The stretches that a job's rows hold, read one after the other.
-use Rattle.std.proofs.Common.{◌≡◌, ◌<◌, ◌≤◌, ◌+◌, ◌++◌, ◌^◌, ℕ, zero, suc, List, [], ◌∷◌, map, take, drop, length, get_or, Bool, true, false, nat_lt, refl, sym, ap, subst, ◌∙◌, arith}
-use Rattle.std.specs.List.{All}
+use Rattle.std.proofs.Common.{◌≡◌, ◌<◌, ◌≤◌, ◌+◌, ◌++◌, ◌^◌, ℕ, zero, suc, List, [], ◌∷◌, map, take, drop, length, get_or, Bool, true, false, nat_lt, refl, sym, ap, ◌∙◌, arith}
 use Rattle.std.proofs.lemmas.Bool.Decides.{nat_tests}
-use Rattle.std.proofs.lemmas.List.{drop_more, take_all, take_more}
+use Rattle.std.proofs.lemmas.List.{take_all, take_more}
 use Rattle.std.proofs.lemmas.List.Sums.{sum_by-cons}
 use Rattle.std.proofs.Math.ListN.{drop_of_length-le}
 use Rattle.office.specs.Jobs.{granted, AreStretches, HasSwitches}
@@ -10,7 +9,6 @@ use Rattle.office.specs.declared.stretches.Stretch.{Stretch}
 use Rattle.sqlite.specs.Order.{Row}
 use Rattle.ledger.specs.Standing.{stretch_row}
 use Rattle.ledger_tables.specs.Tables as row
-use Rattle.ledger_checks.specs.Kept.{rows_of_stretches}
 use Rattle.ledger_checks.specs.Tables.{rows_of}
 use Rattle.ledger_checks.proofs.PlacedLemmas.{placed_from, placed_more}
 use Rattle.ledger_checks.proofs.RowLemmas.{kept_here, left_here}

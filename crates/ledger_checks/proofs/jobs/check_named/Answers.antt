@@ -1,7 +1,5 @@
 use Rattle.std.proofs.Common.{◌≡◌, ℕ, List, Ok, sym, ap, subst, ◌∙◌}
 use Rattle.office.specs.Jobs.{picture}
-use Rattle.sqlite.specs.Order.{Row}
-use Rattle.units.specs.declared.profiles.Profile.{Profile}
 use Rattle.ledger.proofs.ReadingLemmas.{picture_profile}
 use Rattle.ledger_checks.specs.Jobs.{HasRunAs}
 use Rattle.ledger_checks.specs.Kept.{rows_of_profile, rows_of_stretches}

@@ -1,8 +1,7 @@
 use Rattle.std.proofs.Common.{◌≡◌, ◌+◌, ◌++◌, ◌∷◌, [], List, length, Some, sym, ap, subst, ◌∙◌}
-use Rattle.sqlite.specs.Order.{Row}
 use Rattle.office.specs.declared.stretches.Stretch.{Stretch}
 use Rattle.ledger_tables.specs.Tables.{is_row_of}
-use Rattle.ledger_checks.proofs.StretchLemmas.{HasRead, IsNext, at_place, next_held, next_is, passed_over, read_all, read_more}
+use Rattle.ledger_checks.proofs.StretchLemmas.{HasRead, at_place, next_held, next_is, passed_over, read_all, read_more}
 use Rattle.ledger_checks.proofs.submitted.read_stretches.Goals as goal
 use Rattle.ledger_checks.proofs.submitted.read_stretches.Goals.{then-is_row_of+in-Some+in_ok-try_reserve, else-is_row_of}
 
