@@ -56,7 +56,8 @@ AsksForHelp program (name ∷ word ∷ []) (Some row) =
 AsksForHelp program _ _ = ⊥
 
 -- clap takes the words by the program's command, and finds this row with these arguments
-pub record HasRow {R : Type 0} (program : Program R) (words : List Text) (row : R) (found : List Row) : Type 0 where
+pub record HasRow {R : Type 0} (program : Program R) (words : List Text) (row : R)
+    (found : List Row) : Type 0 where
   pub name : Text
   pub taken : fault_of (command program) words ≡ []
   pub is_row : subcommand_of (command program) words ≡ Some (name, found)

@@ -14,10 +14,10 @@
 //! printed, for a fault, for a misuse or as help, is exactly the text of `specs/Printed.antt`, or
 //! the writer failed.
 //!
-//! Programs with options have their words as a table of rows, a [`Program`], from which clap's command
-//! is made. [`asked_by`] returns only what words ask for by such a table (`specs/Programs.antt`), a row
-//! with its arguments as they were [`Found`], and [`tell_mistake`] prints exactly what is wrong with
-//! other words (`specs/Mistakes.antt`).
+//! Programs with options have their words as a table of rows, a [`Program`], from which clap's
+//! command is made. [`asked_by`] returns only what words ask for by such a table
+//! (`specs/Programs.antt`), a row with its arguments as they were [`Found`], and [`tell_mistake`]
+//! prints exactly what is wrong with other words (`specs/Mistakes.antt`).
 #![tactic(auto)]
 
 mod arguments;

@@ -92,7 +92,7 @@ WantsConvert found other = ⊥
 -- this is whether `--width` asks for 80 columns; without it the listing has 120 and more
 abbrev pub IsNarrow : List Row → Bool → Type 0
 IsNarrow found narrow =
-    ReadsOr (λ word narrow. word ≡ word_of_width narrow) false (first_of (codes "width") found) narrow
+    ReadsOr (λ word is. word ≡ word_of_width is) false (first_of (codes "width") found) narrow
 
 -- the task of `source`
 abbrev pub WantsSource : List Row → Task → Type 0

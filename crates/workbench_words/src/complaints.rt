@@ -20,4 +20,5 @@ pub(crate) const NO_WIDTH: &str = "--width must be 80 or 120";
 
 /// Of a number.
 pub(crate) const NO_NUMBER: &str =
-    "a number must have 1 to 9 digits without a zero in front; --count, --after and --first may be 0";
+    "a number must have 1 to 9 digits without a zero in front; --count, --after and --first may \
+     be 0";

@@ -2,8 +2,8 @@
 //!
 //! A call is a row's name, its values in their places and its options, in any order after the name,
 //! or a word that asks for the help or the version. They are read by one table (`src/rows.rt`). The
-//! values of options (columns, a form, a number) are read after that, before any file is opened. The
-//! contract for the layer above: [`task_of`] returns a task only if the words ask for it
+//! values of options (columns, a form, a number) are read after that, before any file is opened.
+//! The contract for the layer above: [`task_of`] returns a task only if the words ask for it
 //! (`specs/Tasks.antt`).
 #![tactic(auto)]
 
