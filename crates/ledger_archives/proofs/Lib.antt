@@ -1,5 +1,4 @@
 pub mod ReadingLaw
 pub mod NameReads
 pub mod AskedLemmas
-pub mod NameTexts
 pub mod ListingLines

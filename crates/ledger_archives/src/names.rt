@@ -14,8 +14,8 @@ ghost use Rattle.ledger_tables.specs.Tables.{AreDistinct};
 ghost use Rattle.ledger_archives.specs.Lists.{Leaves};
 ghost use Rattle.ledger_archives.specs.Names.{IsNamed, name_row};
 
+use ledger_checks::{number_at, text_at};
 use ledger_tables::{Fault, JobName};
-use sqlite::types::ValueRef;
 use sqlite::{Alter, Connection, Error, ErrorCode, Row};
 
 /// The fault of a failed call of the database.
@@ -50,30 +50,6 @@ pub(crate) fn read_names<S: Alter>(conn: &mut Connection<S>) -> Result<Vec<Row>,
     }
 }
 
-/// The customer in the first column of a row.
-fn customer_in(row: &Row) -> Option<&str>
-    ensures found { IfSome result (λ customer. column row.now 0 ≡ Text customer.now) }
-    ensures text { (customer : List ℕ) → column row.now 0 ≡ Text customer → IsUtf8 customer
-        → IsSome result }
-{
-    match row.get_ref(0) {
-        Ok(ValueRef::Text(bytes)) => std::str::from_utf8(bytes).ok(),
-        _ => None,
-    }
-}
-
-/// The number in the second column of a row.
-fn number_in(row: &Row) -> Option<u32>
-    ensures found { IfSome result (λ number. column row.now 1 ≡ Int (pos number)) }
-    ensures fits { (number : ℕ) → column row.now 1 ≡ Int (pos number) → number < 2 ^ 32
-        → IsSome result }
-{
-    match row.get_ref(1) {
-        Ok(ValueRef::Int(number)) => u32::try_from(number).ok(),
-        _ => None,
-    }
-}
-
 /// The name of the job that a row names. Fails with 2 if the row has no name.
 pub(crate) fn name_in(row: &Row) -> Result<JobName<'_>, Fault>
     ensures found { IfOk result (λ name. (e : Entry) → row.now ≡ name_row e
@@ -82,7 +58,10 @@ pub(crate) fn name_in(row: &Row) -> Result<JobName<'_>, Fault>
     ensures lawful { (e : Entry) → row.now ≡ name_row e → is_customer e.customer ≡ true
         → is_number e.number ≡ true → IsOk result }
 {
-    let (Some(customer), Some(number)) = (customer_in(row), number_in(row)) else {
+    let Some(customer) = text_at(row, 0) else {
+        return Err(Fault::Store);
+    };
+    let Some(number) = number_at(row, 1) else {
         return Err(Fault::Store);
     };
     Ok(JobName { customer, number })

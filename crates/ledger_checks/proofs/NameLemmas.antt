@@ -1,11 +1,11 @@
--- A customer's name is a text.
-use Rattle.std.proofs.Common.{◌≡◌, ◌<◌, ◌⊎◌, inl, inr, ℕ, zero, suc, List, [], ◌∷◌, Bool, true, false, ◌==◌, ◌||◌, nat_lt, codes, length, refl, sym, subst, arith, true≢false}
+-- A customer's name is a text, and a job's number one of 32 bits.
+use Rattle.std.proofs.Common.{◌≡◌, ◌<◌, ◌⊎◌, inl, inr, ℕ, zero, suc, List, [], ◌∷◌, Bool, true, false, ◌==◌, ◌||◌, nat_lt, nat_le, ◌^◌, codes, length, refl, sym, subst, arith, true≢false}
 use Rattle.std.specs.Prelude.{IsAscii, IsUtf8}
 use Rattle.std.specs.List.{list_all, list_any}
-use Rattle.std.proofs.lemmas.Bool.{and_parts, eqb-true}
+use Rattle.std.proofs.lemmas.Bool.{and_parts, eqb-true, leb-true}
 use Rattle.std.proofs.lemmas.Bool.Decides.{nat_tests}
 use Rattle.std.proofs.lemmas.Str.{IsUtf8-from_ascii}
-use Rattle.office.specs.Names.{is_customer, is_letter_or_digit, is_name_length}
+use Rattle.office.specs.Names.{is_customer, is_letter_or_digit, is_name_length, is_number}
 
 either_of : (b r : Bool) → (b || r) ≡ true → (b ≡ true) ⊎ (r ≡ true)
 either_of true r is = inl refl
@@ -29,3 +29,6 @@ each_below (c ∷ cs) all (suc i) = each_below cs (and_parts (is_letter_or_digit
 
 pub names_are_texts : (name : List ℕ) → is_customer name ≡ true → IsUtf8 name
 names_are_texts name is = IsUtf8-from_ascii name (each_below name (and_parts (is_name_length (length name)) (list_all is_letter_or_digit name) is).1)
+
+pub numbers_fit : (number : ℕ) → is_number number ≡ true → number < 2 ^ 32
+numbers_fit number is = omega (arith, leb-true number 999999 (and_parts (nat_le 1 number) (nat_le number 999999) is).1)

@@ -9,8 +9,8 @@ use sqlite::Row;
 use sqlite::types::ValueRef;
 use sqlite_value::order::is_same;
 
-/// The value in a column, and NULL past the end.
-pub(crate) fn value_at(row: &Row, at: usize) -> ValueRef<'_>
+/// Returns the value in a column, and NULL past the end.
+pub fn value_at(row: &Row, at: usize) -> ValueRef<'_>
     ensures { owned result ≡ column row.now at }
 {
     match row.get_ref(at) {
@@ -37,8 +37,8 @@ pub(crate) fn first_other(row: &Row, wanted: &[ValueRef<'_>]) -> Option<usize>
     }
 }
 
-/// The number in a column, if it is one of 32 bits.
-pub(crate) fn number_at(row: &Row, at: usize) -> Option<u32>
+/// Returns the number in a column, if there is one of 32 bits.
+pub fn number_at(row: &Row, at: usize) -> Option<u32>
     ensures found { IfSome result (λ number. column row.now at ≡ Int (pos number)) }
     ensures none { IsNone result → (number : ℕ) → number < 2 ^ 32
         → ¬ (column row.now at ≡ Int (pos number)) }
@@ -49,8 +49,8 @@ pub(crate) fn number_at(row: &Row, at: usize) -> Option<u32>
     }
 }
 
-/// The text in a column, if it is one.
-pub(crate) fn text_at(row: &Row, at: usize) -> Option<&str>
+/// Returns the text in a column, if there is one, of UTF-8.
+pub fn text_at(row: &Row, at: usize) -> Option<&str>
     ensures found { IfSome result (λ text. column row.now at ≡ Text text.now) }
     ensures none { IsNone result → (text : List ℕ) → IsUtf8 text
         → ¬ (column row.now at ≡ Text text) }

@@ -19,6 +19,7 @@ mod submitted;
 mod texts;
 
 pub use all_rows::AllRows;
+pub use cells::{number_at, text_at, value_at};
 pub use checks::{check, find_strays};
 pub use differences::{Difference, Found, Place};
 pub use jobs::run_job;

@@ -4,19 +4,9 @@ ghost use Rattle.std.specs.Prelude.{◌≡◌, ◌↔◌, IsTrue};
 ghost use Rattle.sqlite_value.specs.Order.{column};
 ghost use Rattle.sqlite_value.specs.Value.{owned};
 
+use ledger_checks::value_at;
 use sqlite::Row;
-use sqlite::types::ValueRef;
 use sqlite_value::order::is_same;
-
-/// The value in a column, and NULL past the end.
-fn value_at(row: &Row, at: usize) -> ValueRef<'_>
-    ensures { owned result ≡ column row.now at }
-{
-    match row.get_ref(at) {
-        Ok(value) => value,
-        Err(_) => ValueRef::Null,
-    }
-}
 
 /// Whether two rows have the same values.
 fn is_same_row(first: &Row, second: &Row) -> bool
