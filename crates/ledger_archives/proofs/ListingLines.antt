@@ -9,10 +9,10 @@ use Rattle.office.specs.Office.{Entry, Office, job_of}
 use Rattle.office.specs.declared.summaries.Summary.{Summary}
 use Rattle.ledger.specs.Listed.{IsIts}
 use Rattle.ledger_archives.specs.Lists.{AddsLines, asked_for, count_line, entry_line, is_of, list_text, listed_line}
-use Rattle.ledger_archives.specs.Names.{IsNamed}
+use Rattle.ledger_archives.specs.Names.{HasName}
 
 -- the line that is made of what is told of a job is the job's own
-pub named_line : (customer : List ℕ) (number : ℕ) (e : Entry) (office : Office) (summary : Summary) → IsNamed customer number e → IsIts office e
+pub named_line : (customer : List ℕ) (number : ℕ) (e : Entry) (office : Office) (summary : Summary) → HasName customer number e → IsIts office e
     → ((job : Job) → job_of customer number office ≡ Some job → summary ≡ summary_of (kept_of job)) → listed_line customer number summary ≡ entry_line e
 unfolding entry_line
 named_line customer number e office summary name its told =

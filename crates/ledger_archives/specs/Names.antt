@@ -9,5 +9,5 @@ abbrev pub name_row : Entry → Row
 name_row e = Text e.customer ∷ Int (pos e.number) ∷ []
 
 -- the entry's job has this name
-abbrev pub IsNamed : List ℕ → ℕ → Entry → Type 0
-IsNamed customer number e = (customer ≡ e.customer) × (number ≡ e.number)
+abbrev pub HasName : List ℕ → ℕ → Entry → Type 0
+HasName customer number e = (customer ≡ e.customer) × (number ≡ e.number)

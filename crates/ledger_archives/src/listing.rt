@@ -10,7 +10,7 @@ ghost use Rattle.ledger_tables.specs.Tables.{AreDistinct};
 ghost use Rattle.sqlite.specs.State.{HasCleanDisk};
 ghost use Rattle.sqlite.specs.View.{IsClean, doubt};
 ghost use Rattle.ledger_archives.specs.Lists.{AddsNamed, FindsStill, Leaves, LeavesAlone, Lists, ListsAlone, count_line, flag_words, if_set, is_of, list_text, listed_line, made_words, summary_words};
-ghost use Rattle.ledger_archives.specs.Names.{IsNamed, name_row};
+ghost use Rattle.ledger_archives.specs.Names.{HasName, name_row};
 
 use crate::lines::push_decimal;
 use crate::names::{name_in, read_names};
@@ -129,7 +129,7 @@ fn push_named<S: Alter>(
     name: JobName<'_>,
 ) -> Result<usize, Fault>
     ensures added { AddsNamed S.Store bureau.old.conn bureau.new.conn result
-        (IsNamed name.entry.customer.now name.entry.number)
+        (HasName name.entry.customer.now name.entry.number)
         (option_map (λ it. it.now) asked.entry) out.old.items out.new.items }
     ensures left { (office : Office) → AreDistinct (map named office)
         → Leaves S.Store bureau.old.conn bureau.new.conn office }

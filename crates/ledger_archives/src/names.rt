@@ -12,7 +12,7 @@ ghost use Rattle.sqlite.specs.declared.types.Value.TheVariants.{Int, Text};
 ghost use Rattle.ledger.specs.Standing.{Stands, StandsIn, named};
 ghost use Rattle.ledger_tables.specs.Tables.{AreDistinct};
 ghost use Rattle.ledger_archives.specs.Lists.{Leaves};
-ghost use Rattle.ledger_archives.specs.Names.{IsNamed, name_row};
+ghost use Rattle.ledger_archives.specs.Names.{HasName, name_row};
 
 use ledger_checks::{number_at, text_at};
 use ledger_tables::{Fault, JobName};
@@ -53,7 +53,7 @@ pub(crate) fn read_names<S: Alter>(conn: &mut Connection<S>) -> Result<Vec<Row>,
 /// The name of the job that a row names. Fails with 2 if the row has no name.
 pub(crate) fn name_in(row: &Row) -> Result<JobName<'_>, Fault>
     ensures found { IfOk result (λ name. (e : Entry) → row.now ≡ name_row e
-        → IsNamed name.customer.now name.number e) }
+        → HasName name.customer.now name.number e) }
     ensures damaged { IfErr result (λ fault. fault ≡ Fault.Store) }
     ensures lawful { (e : Entry) → row.now ≡ name_row e → is_customer e.customer ≡ true
         → is_number e.number ≡ true → IsOk result }

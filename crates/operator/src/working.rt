@@ -105,13 +105,13 @@ fn tell_barren<E: Write>(
 fn tell_end<E: Write>(
     port: u16,
     why: Why,
-    barren: u32,
+    rounds: u32,
     heard: Option<Passed>,
     errors: &mut E,
 ) -> io::Result<Status> {
     match why {
         Why::Empty | Why::Rounds => return Ok(Status::Done),
-        Why::Barren => tell_barren(port, barren, heard, errors)?,
+        Why::Barren => tell_barren(port, rounds, heard, errors)?,
         Why::Away => writeln!(
             errors,
             "port {port}: no answer in {MOST_TRIES} tries; is bureau serve running there?"
@@ -150,7 +150,7 @@ pub(crate) fn run_queue<W: Write, E: Write>(
         match rounds.hear(heard) {
             Next::GoOn => {}
             Next::Pause => thread::sleep(rt, Duration::from_secs(u64::from(options.pause))),
-            Next::End(why) => return tell_end(port, why, rounds.barren(), passed, errors),
+            Next::End(why) => return tell_end(port, why, rounds.barren_rounds(), passed, errors),
         }
     }
     Ok(Status::NotDone)

@@ -80,8 +80,8 @@ ended_next s =
     else (if s.patience - 1 == 0 || is_last s.left then End why.Barren else Pause)
 
 -- how many rounds in a row, up to now, were without a slice that ran
-abbrev pub barren : State → ℕ
-barren s = 10 - s.patience
+abbrev pub barren_rounds : State → ℕ
+barren_rounds s = 10 - s.patience
 
 -- the work once the first job had its turn, in which its slice ran or did not
 abbrev pub taken : Bool → State → State

@@ -1,7 +1,7 @@
 //! The rounds in which the queue of a bureau is run.
 
 ghost use Rattle.std.specs.Prelude.{◌≡◌, option_copied, slice_get};
-ghost use Rattle.queue_rounds.specs.Rounds.{after, barren, ended, ended_next, failed, failed_next, is_last, listed, listed_next, next_after, one_less, start, state_of, turned, turned_next};
+ghost use Rattle.queue_rounds.specs.Rounds.{after, barren_rounds, ended, ended_next, failed, failed_next, is_last, listed, listed_next, next_after, one_less, start, state_of, turned, turned_next};
 
 use crate::jobs::JobName;
 use crate::replies::Heard;
@@ -138,8 +138,8 @@ impl Rounds {
     }
 
     /// How many rounds in a row, up to now, were without a slice that ran.
-    pub fn barren(&self) -> u32
-        ensures { result ≡ barren (state_of self.now) }
+    pub fn barren_rounds(&self) -> u32
+        ensures { result ≡ barren_rounds (state_of self.now) }
     {
         MOST_BARREN.saturating_sub(self.patience)
     }
