@@ -12,14 +12,15 @@ ghost use Rattle.command_line.specs.Printed.{IsTextShown, version_text};
 ghost use Rattle.command_line.specs.Asked.{IsHelp, IsVersion, page_of};
 ghost use Rattle.command_line.specs.Plain.{texts};
 ghost use Rattle.command_line.specs.declared.row_names.RowName.{RowName};
-ghost use Rattle.bureau.specs.Answers.{HasAnswered, HasAssembled, HasEndedMigration, HasEndedScript};
+ghost use Rattle.bureau.specs.Answers.{HasAnswered, HasAssembled, HasEnded, HasEndedMigration, HasEndedScript};
 
 use command_line::{
     Fault, Misuse, Status, Task, Unfailing, exit_code, show_help, show_version, task_of,
     tell_fault, tell_misuse,
 };
 use counter::{assemble_deck, run_input, write_out};
-use service::{apply, export, init, migrate, serve, show_outcome};
+use service::{Outcome, apply, export, init, migrate, serve, show_outcome, tell_migrated};
+use sqlite::Unknown;
 use std::fs::File;
 use std::io::Write;
 use std::process::ExitCode;
@@ -50,6 +51,45 @@ fn assemble<W: Write, E: Write>(
     write_out(rt, out, answer, errors)
 }
 
+/// Creates a bureau's file.
+fn make_file<E: Write>(rt: &HostRuntime, file: &str, errors: &mut E) -> io::Result<Status>
+    ensures { IfOk result (λ status. HasEnded status
+        (E.contents errors.old) (E.contents errors.new)) }
+{
+    let made = init(rt, file, Unknown);
+    show_outcome(errors, Outcome::of_made(&made))
+}
+
+/// Serves requests from the bureau in a file.
+fn serve_file<E: Write>(
+    rt: &HostRuntime,
+    file: &str,
+    port: u16,
+    count: u32,
+    errors: &mut E,
+) -> io::Result<Status>
+    ensures { IfOk result (λ status. HasEnded status
+        (E.contents errors.old) (E.contents errors.new)) }
+{
+    let ended = serve(rt, file, Unknown, port, count);
+    show_outcome(errors, ended.outcome())
+}
+
+/// Writes what a job of the bureau in a file has made to files.
+fn export_job<E: Write>(
+    rt: &HostRuntime,
+    file: &str,
+    customer: &str,
+    number: u32,
+    errors: &mut E,
+) -> io::Result<Status>
+    ensures { IfOk result (λ status. HasEnded status
+        (E.contents errors.old) (E.contents errors.new)) }
+{
+    let ended = export(rt, file, Unknown, customer, number);
+    show_outcome(errors, ended.outcome())
+}
+
 /// Applies the script in a file to the bureau in a file.
 fn apply_script<W: Write, E: Write>(
     rt: &HostRuntime,
@@ -62,8 +102,8 @@ fn apply_script<W: Write, E: Write>(
         (W.contents output.old) (W.contents output.new)
         (E.contents errors.old) (E.contents errors.new)) }
 {
-    let outcome = apply(rt, file, script, output);
-    show_outcome(errors, outcome)
+    let ended = apply(rt, file, Unknown, script, output);
+    show_outcome(errors, ended.outcome())
 }
 
 /// Makes the bureau's file one of this version.
@@ -77,7 +117,8 @@ fn migrate_file<W: Write, E: Write>(
         (W.contents output.old) (W.contents output.new)
         (E.contents errors.old) (E.contents errors.new)) }
 {
-    let outcome = migrate(rt, file, output);
+    let migrated = migrate(rt, file, Unknown);
+    let outcome = tell_migrated(output, &migrated);
     show_outcome(errors, outcome)
 }
 
@@ -111,19 +152,17 @@ fn answer<W: Write, E: Write>(
             },
         ) => run_input(rt, deck, size, switches, output, errors),
         Ok(Task::Assemble { source, out }) => assemble(rt, source, out, output, errors),
-        Ok(Task::Init { file }) => show_outcome(errors, init(rt, file)),
+        Ok(Task::Init { file }) => make_file(rt, file, errors),
         Ok(Task::Apply { file, script }) => apply_script(rt, file, script, output, errors),
         Ok(Task::Migrate { file }) => migrate_file(rt, file, output, errors),
-        Ok(Task::Serve { file, port, count }) => {
-            show_outcome(errors, serve(rt, file, port, count))
-        }
+        Ok(Task::Serve { file, port, count }) => serve_file(rt, file, port, count, errors),
         Ok(
             Task::Export {
                 file,
                 customer,
                 number,
             },
-        ) => show_outcome(errors, export(rt, file, customer, number)),
+        ) => export_job(rt, file, customer, number, errors),
         Err(misuse) => tell_misuse(errors, misuse),
     }
 }

@@ -12,10 +12,11 @@ use Rattle.ledger.specs.Older.{LeftOf, RowsOf, schema_of}
 use Rattle.ledger.specs.Standing.{Rows, LeftAs}
 use Rattle.ledger_files.specs.Migrating.{AreOfVersion}
 use Rattle.ledger_files.specs.Opening.{AreOf, IsAnswerFor}
+use Rattle.ledger_files.specs.Unfinished.{HoldSame}
 use Rattle.ledger.proofs.BureauVersions.{own_rows, rows_version, same_version}
 use Rattle.ledger.proofs.WorkLemmas.{fold_both}
 use Rattle.ledger.specs.WholeRows.{HaveWholeRows}
-use Rattle.bureau_laws.specs.Rounds.{AreWholeOf, Round, Link, worked, migrated, rounds_of, AreLinks, files_after, AreKept, AreLeftWhole, AreStillOf}
+use Rattle.bureau_laws.specs.Rounds.{AreWholeOf, Round, Link, worked, migrated, refused, rounds_of, AreLinks, files_after, AreKept, AreLeftWhole, AreStillOf}
 
 -- ---- versions of files
 
@@ -45,6 +46,10 @@ found_own files found version o are = ∥∥₁_map are (λ it.
     let own = (found db it.1 (rows_sound version db o it.2)).1 of.0 in
     let r : (t : Trees) × HoldsDatabase files t × LeftAs t o = (it.0, it.1, left_as_own version it.0 o (same_version db own_version version own of.1) it.2) in r)
 
+-- files that hold the same database are of the same office, in the same version
+still_of_version : (first files : Image) → HoldSame first files → (version : ℕ) (o : Office) → AreOfVersion version first o → AreOfVersion version files o
+still_of_version first files same version o are = ∥∥₁_elim are squash₁ (λ it. ∥∥₁_map (same it.0 it.1) (λ held. let r : (db : Trees) × HoldsDatabase files db × LeftOf version db o = (it.0, held, it.2) in r))
+
 -- ---- links
 
 module _ (law : (db : Database) (o : Office) → Rows db o → HaveWholeRows db o) where
@@ -69,6 +74,8 @@ module _ (law : (db : Database) (o : Office) → Rows db o → HaveWholeRows db 
   links_lead first (migrated files ∷ links) all o are =
       ∥∥₁_elim (all.0 own_version o (of_own first o are)) squash₁ (λ here.
       links_lead files links all.1 o (elim here [ inl same ↦ own_of files o same | inr own ↦ own ]))
+  links_lead first (refused files ∷ links) all o are =
+      links_lead files links all.1 o (own_of files o (still_of_version first files all.0 own_version o (of_own first o are)))
 
   pub links_raise : (first : Image) (links : List Link) → AreLinks first links → (version : ℕ) (o : Office) → AreOfVersion version first o
       → ∥ (AreLeftWhole first links o ⊎ AreStillOf version first links o) ∥₁
@@ -79,3 +86,4 @@ module _ (law : (db : Database) (o : Office) → Rows db o → HaveWholeRows db 
         | inl same ↦ links_raise files links all.1 version o same
         | inr own ↦ ∣ inl (links_lead files links all.1 o own) ∣₁
       ])
+  links_raise first (refused files ∷ links) all version o are = links_raise files links all.1 version o (still_of_version first files all.0 version o are)

@@ -12,6 +12,7 @@ use Rattle.ledger.specs.WholeRows.{HaveWholeRows}
 use Rattle.ledger_files.specs.Migrating.{AreOfVersion, MigratesTo}
 use Rattle.ledger_files.specs.Opening.{IsAnswerFor}
 use Rattle.ledger_files.specs.Rounds.{LeadsBy}
+use Rattle.ledger_files.specs.Unfinished.{HoldSame}
 
 -- the two files hold a bureau's database of this office, and the rows of its jobs at a halt are
 -- whole
@@ -26,34 +27,40 @@ pub record Round : Type 0 where
   pub replies : List Reply
   pub files : Image
 
--- what was done with a bureau's files: a round of work, or a migration, which left these files
+-- what was done with a bureau's files, which left these: a round of work; a migration, whether it
+-- came to its end or failed; or an open that failed
 pub data Link : Type 0 where
   worked : Round → Link
   migrated : Image → Link
+  refused : Image → Link
 
 -- the rounds of work among the links
 abbrev pub rounds_of : List Link → List Round
 rounds_of [] = []
 rounds_of (worked round ∷ links) = round ∷ rounds_of links
 rounds_of (migrated files ∷ links) = rounds_of links
+rounds_of (refused files ∷ links) = rounds_of links
 
 -- from each link's files to the next. Before a round of work the files were found to be of this
 -- program's version; if they represent an office, the round's replies are that office's to its
 -- commands, to all or to all but the last, and the round's files represent the office after a
 -- beginning of its commands that holds every one that was replied to. After a migration the files
--- are of the same office, in the version that they had or in this program's
+-- are of the same office, in the version that they had or in this program's. After an open that
+-- failed they hold the database that they held
 abbrev pub AreLinks : Image → List Link → Type 0
 AreLinks first [] = ⊤
 AreLinks first (worked round ∷ links) =
     IsAnswerFor first (Ok tt) × (length round.given ≤ length round.replies + 1)
     × LeadsBy round.given round.replies first round.files × AreLinks round.files links
 AreLinks first (migrated files ∷ links) = MigratesTo first files × AreLinks files links
+AreLinks first (refused files ∷ links) = HoldSame first files × AreLinks files links
 
 -- the files after the last link, or the first files if there is no link
 abbrev pub files_after : Image → List Link → Image
 files_after first [] = first
 files_after first (worked round ∷ links) = files_after round.files links
 files_after first (migrated files ∷ links) = files_after files links
+files_after first (refused files ∷ links) = files_after files links
 
 -- from this office on, the commands are made of a beginning of each round's commands, one after the
 -- other, that holds every one that was replied to, and each round's replies are those of the office

@@ -15,11 +15,13 @@ use ledger::kept_offices_run_whole;
 /// The last files are of the office after beginnings of the commands that were carried out in each
 /// round, which contain every one that was replied to; the replies of each round are that office's;
 /// and each job at a halt there has the cards and lines of one uninterrupted run. In `ledger_files`
-/// `open_and_work` begins such a round, with any work, and `stop` or `finish` ends it.
+/// `with_bureau` is such a round, with any work, whether the files are closed at its end or not; so
+/// is `open_and_work` with `stop`. The first files may be those of `init`, of the office without
+/// jobs.
 ///
-/// Between the rounds the files may be migrated, as often as one likes: `migrate_from` begins a
-/// migration, and `leave` or `close_migrated` ends it. Where the first files are of an earlier
-/// version, no work is done before a migration has ended.
+/// Between the rounds the files may be migrated, as often as one likes, by `migrate`, whether it
+/// succeeds or not; and opens may fail. Where the first files are of an earlier version, no work is
+/// done before a migration has ended.
 pub fn stops_lose_nothing()
     ensures whole { (first : Image) → (links : List Link) → AreLinks first links
         → (office : Office) → AreOf first office → AreLeftWhole first links office }

@@ -87,6 +87,8 @@ fn make<S: Alter>(alloc: Global, conn: &mut Connection<S>) -> Result<(), Fault>
         → is_taken (state S.Store conn.old).now.schema ≡ true
         → IsErrAnd result (MakesNothing S.Store conn.old conn.new) }
     ensures crash { LeavesNone S.Store conn.old conn.new }
+    ensures clean { doubt (state S.Store conn.old).is_clean
+        ≤ doubt (state S.Store conn.new).is_clean }
 {
     if !conn.is_autocommit() {
         return Err(Fault::Store);
@@ -190,6 +192,10 @@ impl<S: Alter + Drop> Bureau<S> {
         ensures no_memory { IfErr result (λ e. HasCleanDisk (state S.Store e.1)
             → e.0 ≡ Fault.NoMemory → IsAsBefore (state S.Store conn) (state S.Store e.1)) }
         ensures crash { IfErr result (λ e. LeavesNone S.Store conn e.1) }
+        ensures clean { IfOk result (λ bureau. doubt (state S.Store conn).is_clean
+            ≤ doubt (state S.Store bureau.conn).is_clean) }
+        ensures clean_still { IfErr result (λ e. doubt (state S.Store conn).is_clean
+            ≤ doubt (state S.Store e.1).is_clean) }
     {
         match make(alloc, &mut conn) {
             Ok(()) => Ok(Bureau {

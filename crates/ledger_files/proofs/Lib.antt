@@ -4,3 +4,5 @@ pub mod OpeningLeftovers
 pub mod MigratingLemmas
 pub mod StopLemmas
 pub mod RoundLemmas
+pub mod LeavingLemmas
+pub mod MakingLemmas

@@ -21,6 +21,7 @@ use Rattle.ledger_files.specs.Closing.{StandsAlone}
 use Rattle.ledger_files.specs.Migrating.{AreOfVersion, IsMidway, IsMigrated, IsMigration}
 use Rattle.ledger_files.specs.Opening.{AreOf}
 use Rattle.ledger_files.specs.Rounds.{HoldsOneOf, MayLeave, MayLeaveFiles}
+use Rattle.ledger_files.proofs.ClosingLemmas.{closed_are_of}
 
 module _ {D : Type 0} {g : Ghosts D} (conn : Held (FileStore D g)) where
   -- the files that were closed are of the same office
@@ -28,9 +29,8 @@ module _ {D : Type 0} {g : Ghosts D} (conn : Held (FileStore D g)) where
       → (AreClean g files.log files.db → (o : Office) → Stands (file_state conn) o → (left : Image) → outcomes g files.log files.db left → StandsAlone left o)
       → (first : Image) (found : ℕ) → IsMigrated first found conn → IsMigration first (MayLeaveFiles g files)
   closed_migration files cleaned alone first found it image may version o are =
-      ∥∥₁_elim (it (cleaned may.0) version o are) squash₁ (λ is.
-      ∥∥₁_map (alone may.0 o is.1 image may.1) (λ one.
-      let r : AreOfVersion version image o ⊎ AreOf image o = inr ∣ (let f : (db : Trees) × HoldsDatabase image db × LeftAs db o = (one.0, one.1, one.3) in f) ∣₁ in r))
+      ∥∥₁_map (it (cleaned may.0) version o are) (λ is.
+      let r : AreOfVersion version image o ⊎ AreOf image o = inr (closed_are_of image may.1.0 o may.1.2 (alone may.0 o is.1 may.1.0 may.1.1)) in r)
 
   -- what a stop leaves is of the same office
   pub left_migration : (left : FileStore D g) → doubt (file_state conn).is_clean ≤ doubt (view left).is_clean

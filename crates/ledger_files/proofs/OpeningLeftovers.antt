@@ -138,6 +138,9 @@ pub if_some : {A : Type 0} {P Q : A → Type 0} (x : Option A) → ((a : A) → 
 if_some (Some a) f p = f a p
 if_some None f p = tt
 
+stored_is : (image : Image) (db : Trees) (held : HoldsDatabase image db) → AreStoredWith (is_summed held.0) image (λ d. d ≡ db)
+stored_is image db held = ∣ (let f : (d : Trees) × (h : HoldsDatabase image d) × (is_summed h.0 ≡ is_summed held.0) × (d ≡ db) = (db, held, refl, refl) in f) ∣₁
+
 module _ {D : Type 0} {g : Ghosts D} (start : Image) (error : Error) (known : IsKnown (store_fault error)) where
   -- an open that failed leaves this of files that were as `start` says
   abbrev pub IsLeftBy : Leftover D g → Type 0
@@ -154,6 +157,7 @@ module _ {D : Type 0} {g : Ghosts D} (start : Image) (error : Error) (known : Is
         answer = λ db held sound. known_answer (Unit {0}) db _ known;
         told = (error, files, found.seen, all.0, refl);
         untouched = λ db held. known;
+        same = λ db held. fresh_stands files left all.1 start (ap (λ (i : Image). i.log) found.seen) (ap (λ (i : Image). i.db) found.seen) found.log found.db (is_summed held.0) (λ d. d ≡ db) (stored_is start db held);
       }
   not_opened None far cause clean = record {
     known = λ office are. known;
@@ -161,6 +165,7 @@ module _ {D : Type 0} {g : Ghosts D} (start : Image) (error : Error) (known : Is
     answer = λ db held sound. known_answer (Unit {0}) db _ known;
     told = (error, far refl, refl);
     untouched = λ db held. known;
+    same = λ db held. tt;
   }
 
   -- .. nor migrated

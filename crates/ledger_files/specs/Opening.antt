@@ -107,6 +107,13 @@ module _ {D : Type 0} {g : Ghosts D} where
   KeptHolds fault (kept.Left rest) db = IsKnown fault
   KeptHolds fault kept.Nothing db = IsKnown fault
 
+  -- what is handed back still holds this database, whose pages end in sums or do not, and a crash
+  -- leaves it no other
+  abbrev pub KeptIs : Bool → Kept D g → Trees → Type 0
+  KeptIs has_sums (kept.Connection conn) db = HoldsOnly (file_state conn) db
+  KeptIs has_sums (kept.Left rest) db = LeftHolds has_sums rest (λ d. d ≡ db)
+  KeptIs has_sums kept.Nothing db = ⊤
+
   -- the files of this image were opened, and the answer is told right of the connection to them
   abbrev pub IsToldOpen : Image → Held (FileStore D g) → Result ⊤ OpenFault → Type 0
   IsToldOpen image conn answer = (first : Held (FileStore D g)) × IsOpened first
@@ -133,3 +140,4 @@ module _ {D : Type 0} {g : Ghosts D} where
     pub told : IsToldOf image fault rest
     -- what the files hold is not changed
     pub untouched : (db : Trees) → HoldsDatabase image db → KeptHolds fault rest db
+    pub same : (db : Trees) (held : HoldsDatabase image db) → KeptIs (is_summed held.0) rest db

@@ -1,5 +1,5 @@
 -- rounds of work on a bureau's files: what they tell, and what a crash leaves of them
-use Rattle.std.specs.Prelude.{◌≡◌, ◌≤◌, ◌⊎◌, ◌+◌, Bool, List, length, take as beginning_of, Ok, IsTrue}
+use Rattle.std.specs.Prelude.{◌≡◌, ◌≤◌, ◌⊎◌, ◌+◌, Bool, List, [], length, take as beginning_of, Ok, IsTrue}
 use Rattle.sqlite_disk.specs.declared.Disk.{Ghosts}
 use Rattle.sqlite_disk.specs.declared.Files.{Files}
 use Rattle.sqlite_pool.specs.Stored.{is_summed}
@@ -20,6 +20,7 @@ use Rattle.office.specs.declared.replies.Reply.{Reply}
 use Rattle.ledger.specs.Shifting.{LeavesWhole}
 use Rattle.ledger.specs.Standing.{Stands}
 use Rattle.ledger_files.specs.Opening.{AreOf, IsAnswerFor}
+use Rattle.ledger_files.specs.declared.closed.Closed.{Closed}
 
 -- the two files hold one of the databases that a crash may leave, with or without sums on its pages
 abbrev pub HoldsOneOf : Bool → Image → (Trees → Type 0) → Type 0
@@ -35,6 +36,13 @@ LeadsBy commands replies before after = (office : Office) → AreOf before offic
     → ∥ ((replies ≡ (fold (beginning_of (length replies) commands) office).1)
     × ((left : Office) × IsLeft office commands (length replies) left
     × AreOf after left)) ∥₁
+
+-- this is what a crash may leave of two files that were closed, whose disk has returned what was
+-- written to it: of both, or of the database file alone, since their log is removed
+abbrev pub MayLeaveFiles : {D : Type 0} → Ghosts D → Files D → Image → Type 0
+MayLeaveFiles g files image = AreClean g files.log files.db
+    × ((left : Image) × outcomes g files.log files.db left
+    × ((image ≡ left) ⊎ (image ≡ record left { log = [] })))
 
 module _ {D : Type 0} {g : Ghosts D} where
   -- after the commands were carried out for this office: the replies are the office's, whatever a
@@ -71,11 +79,9 @@ module _ {D : Type 0} {g : Ghosts D} where
   abbrev pub MayLeave : FileStore D g → Image → Type 0
   MayLeave left image = IsClean (view left) × (store.state left).may_leave image
 
--- this is what a crash may leave of the closed files, whose disk has returned what was written to
--- it
-abbrev pub MayLeaveFiles : {D : Type 0} → Ghosts D → Files D → Image → Type 0
-MayLeaveFiles g files image =
-    AreClean g files.log files.db × outcomes g files.log files.db image
+  -- this is what a crash may leave of the closed files
+  abbrev pub MayLeaveClosed : Closed D g → Image → Type 0
+  MayLeaveClosed closed = MayLeaveFiles g closed.files
 
 -- a link from these files, which were found to be of this program's version, to those that may be
 -- left: all of the commands, or all but the last, were replied to, and each of the files that may
@@ -94,9 +100,3 @@ pub record IsRound (files : Image) (may_leave : Image → Type 0)
   pub replies : List Reply
   pub told : Tells commands replies
   pub link : IsLink files may_leave commands replies
-
--- some commands were carried out and replied to, of which this is told
-pub record IsWork (Tells : List Command → List Reply → Type 0) : Type 0 where
-  pub commands : List Command
-  pub replies : List Reply
-  pub told : Tells commands replies

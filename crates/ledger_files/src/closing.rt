@@ -1,13 +1,13 @@
 //! Closing a bureau's file, or a connection to it.
 
-ghost use Rattle.std.specs.Prelude.{ℕ, IsTrue, IfOk, IfErr};
+ghost use Rattle.std.specs.Prelude.{◌≤◌, ℕ, IsTrue, IfOk, IfErr};
 ghost use Rattle.sqlite.specs.FileStore.{recovers, view};
 ghost use Rattle.sqlite.specs.Files.{file_state};
 ghost use Rattle.sqlite.specs.Held.{state};
 ghost use Rattle.sqlite.specs.Recovery.{Image};
 ghost use Rattle.sqlite.specs.State.{HasCleanDisk};
 ghost use Rattle.sqlite.specs.Tree.{Trees};
-ghost use Rattle.sqlite.specs.View.{IsClean};
+ghost use Rattle.sqlite.specs.View.{IsClean, doubt};
 ghost use Rattle.sqlite.specs.WalFiles.{outcomes};
 ghost use Rattle.sqlite_wal.specs.Reads.{AreClean};
 ghost use Rattle.office.specs.Office.{Office};
@@ -15,13 +15,14 @@ ghost use Rattle.ledger.specs.Standing.{LeftAs, Stands};
 ghost use Rattle.ledger_tables.specs.Versions.{IsKnown};
 ghost use Rattle.ledger_files.specs.Closing.{HindersClosing, StandsAlone};
 ghost use Rattle.ledger_files.specs.Migrating.{IsMigrated, IsMigration};
-ghost use Rattle.ledger_files.specs.Rounds.{MayLeaveFiles};
+ghost use Rattle.ledger_files.specs.Rounds.{MayLeaveClosed};
 
+use crate::closed::Closed;
 use crate::opening::store_fault_of;
 use ledger::Bureau;
 use ledger_tables::OpenFault;
 use sqlite::{Alter, Connection, FileStore};
-use sqlite_disk::{Disk, Files};
+use sqlite_disk::Disk;
 
 /// Proves that the last commit of an open connection represents the office that the connection
 /// represents. It is called only for its clause.
@@ -37,22 +38,24 @@ fn committed_stands<S: Alter>(conn: &Connection<S>)
 /// came before; the two files together are then the database, as before.
 pub fn close_connection<D: Disk + Drop>(
     conn: Connection<FileStore<D>>,
-) -> Result<Files<D>, (OpenFault, FileStore<D>)>
-    ensures alone { IfOk result (λ files. AreClean D.Disk files.log files.db → (office : Office)
+) -> Result<Closed<D>, (OpenFault, FileStore<D>)>
+    ensures alone { IfOk result (λ closed. AreClean D.Disk closed.files.log closed.files.db → (office : Office)
         → Stands (file_state conn) office → (left : Image)
-        → outcomes D.Disk files.log files.db left → StandsAlone left office) }
-    ensures clean { IfOk result (λ files. AreClean D.Disk files.log files.db
+        → outcomes D.Disk closed.files.log closed.files.db left → StandsAlone left office) }
+    ensures clean { IfOk result (λ closed. AreClean D.Disk closed.files.log closed.files.db
         → HasCleanDisk (file_state conn)) }
-    ensures migration { IfOk result (λ files. (first : Image) → (found : ℕ)
-        → IsMigrated first found conn → IsMigration first (MayLeaveFiles D.Disk files)) }
+    ensures migration { IfOk result (λ closed. (first : Image) → (found : ℕ)
+        → IsMigrated first found conn → IsMigration first (MayLeaveClosed closed)) }
     ensures kept { IfErr result (λ e. (db : Trees) → recovers e.1 db
         → (file_state conn).may_leave db) }
+    ensures clean_still { IfErr result (λ e. doubt (file_state conn).is_clean
+        ≤ doubt (view e.1).is_clean) }
     ensures cause { IfErr result (λ e. IsClean (view e.1) → HindersClosing conn e.1 e.0) }
     ensures known { IfErr result (λ e. IsKnown e.0) }
 {
     committed_stands(&conn);
     match conn.close_files() {
-        Ok(files) => Ok(files),
+        Ok(files) => Ok(Closed { files }),
         Err((error, store)) => Err((store_fault_of(error), store)),
     }
 }
@@ -63,14 +66,16 @@ pub fn close_connection<D: Disk + Drop>(
 /// came before; the two files together are then the bureau, as before.
 pub fn close<D: Disk + Drop>(
     bureau: Bureau<FileStore<D>>,
-) -> Result<Files<D>, (OpenFault, FileStore<D>)>
-    ensures alone { IfOk result (λ files. AreClean D.Disk files.log files.db → (office : Office)
+) -> Result<Closed<D>, (OpenFault, FileStore<D>)>
+    ensures alone { IfOk result (λ closed. AreClean D.Disk closed.files.log closed.files.db → (office : Office)
         → Stands (file_state bureau.conn) office → (left : Image)
-        → outcomes D.Disk files.log files.db left → StandsAlone left office) }
-    ensures clean { IfOk result (λ files. AreClean D.Disk files.log files.db
+        → outcomes D.Disk closed.files.log closed.files.db left → StandsAlone left office) }
+    ensures clean { IfOk result (λ closed. AreClean D.Disk closed.files.log closed.files.db
         → HasCleanDisk (file_state bureau.conn)) }
     ensures kept { IfErr result (λ e. (db : Trees) → recovers e.1 db
         → (file_state bureau.conn).may_leave db) }
+    ensures clean_still { IfErr result (λ e. doubt (file_state bureau.conn).is_clean
+        ≤ doubt (view e.1).is_clean) }
     ensures cause { IfErr result (λ e. IsClean (view e.1) → HindersClosing bureau.conn e.1 e.0) }
 {
     close_connection(bureau.into_connection())

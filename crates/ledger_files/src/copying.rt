@@ -2,13 +2,14 @@
 
 ghost use Rattle.std.specs.Prelude.{IsTrue, OnOk};
 
+use crate::closing::close;
+use crate::kept::Kept;
 use crate::making::is_place_free;
 use crate::opening::open_from;
-use crate::places::{Place, fault_of, sync, sync_folder_of};
-use crate::working::{close_at, let_go, look};
+use crate::places::{Part, Place, copy_bytes, fault_of, sync, sync_folder_of};
+use crate::working::let_go;
 use ledger_tables::OpenFault;
-use sqlite::{Alter, Connection, Unknown};
-use std::fs::{File, OpenOptions};
+use sqlite::{Alter, Connection, Leftover, Unknown};
 use std::io::ErrorKind;
 use std::os::unix::fs::MetadataExt;
 use std::{fs, io};
@@ -55,22 +56,10 @@ fn copy_fault(error: &io::Error) -> CopyFault {
     CopyFault::Copy(fault_of(error))
 }
 
-/// Copies the bytes of a file into one that is there, and has the disk keep them.
-fn copy_bytes(rt: &HostRuntime, from: &str, to: &str) -> io::Result<()> {
-    let mut source = File::open(rt, from)?;
-    let mut target = OpenOptions::new().write(true).open(rt, to)?;
-    io::copy(&mut source, &mut target)?;
-    target.sync_all()
-}
-
 /// Copies a file, and its log if it has one. No other program may have them open.
 fn copy_both(rt: &HostRuntime, place: &Place, part: &Place, mode: u32) -> io::Result<()> {
     copy_bytes(rt, &place.file, &part.file)?;
-    if place.log_length(rt).is_some() {
-        part.make_log(rt, mode)?;
-        copy_bytes(rt, &place.log, &part.log)?;
-    }
-    Ok(())
+    place.copy_log(rt, part, mode)
 }
 
 /// The mode of a copy: who may read and write it are those who may do so with the file.
@@ -80,16 +69,16 @@ fn mode_for(rt: &HostRuntime, place: &Place) -> io::Result<u32> {
 }
 
 /// Makes a copy beside a path, under a name that no other file has.
-fn make_part(rt: &HostRuntime, place: &Place, new: &str) -> Result<Place, CopyFault> {
+fn make_part(rt: &HostRuntime, place: &Place, new: &str) -> Result<Part, CopyFault> {
     let mode = match mode_for(rt, place) {
         Ok(mode) => mode,
         Err(error) => return Err(copy_fault(&error)),
     };
-    let part = match Place::reserve(rt, new, mode) {
+    let part = match Part::reserve(rt, new, mode) {
         Ok(part) => part,
         Err(fault) => return Err(CopyFault::Copy(fault)),
     };
-    match copy_both(rt, place, &part, mode) {
+    match copy_both(rt, place, part.place(), mode) {
         Ok(()) => Ok(part),
         Err(error) => {
             part.remove(rt);
@@ -105,14 +94,15 @@ fn copy_beside<C: Comparison>(
     place: &Place,
     new: &str,
     comparison: &mut C,
-) -> Result<Place, CopyFault> {
+) -> Result<Part, CopyFault> {
     let log = place.log_length(rt);
     match open_from(rt, &place.file, Unknown) {
         Ok(bureau) => {
             let store = comparison.read(bureau.into_connection());
-            place.restore_log(rt, log);
+            let kept = Kept::Left(Leftover::Store(store));
+            place.restore_log(rt, &kept, log);
             let part = make_part(rt, place, new);
-            drop(store);
+            drop(kept);
             part
         }
         Err((fault, kept)) => {
@@ -124,9 +114,16 @@ fn copy_beside<C: Comparison>(
 
 /// Opens a copy as a bureau, and closes it, so that all of it is in its one file.
 fn settle(rt: &HostRuntime, part: &Place) -> Result<(), OpenFault> {
-    match open_from(rt, &part.file, Unknown) {
-        Ok(bureau) => close_at(rt, bureau, part),
-        Err((fault, _kept)) => Err(fault),
+    let bureau = match open_from(rt, &part.file, Unknown) {
+        Ok(bureau) => bureau,
+        Err((fault, _kept)) => return Err(fault),
+    };
+    match close(bureau) {
+        Ok(closed) => {
+            part.remove_log(rt, &closed);
+            Ok(())
+        }
+        Err((fault, _store)) => Err(fault),
     }
 }
 
@@ -139,8 +136,7 @@ fn read_back<C: Comparison>(
     match open_from(rt, &part.file, Unknown) {
         Ok(bureau) => {
             let store = comparison.compare(bureau.into_connection());
-            part.restore_log(rt, None);
-            drop(store);
+            part.restore_log(rt, &Kept::Left(Leftover::Store(store)), None);
             Ok(())
         }
         Err((fault, _kept)) => Err(fault),
@@ -203,14 +199,6 @@ fn try_part<C: Comparison>(
     publish(rt, part, new)
 }
 
-/// The place of the file that is to be copied.
-fn find(rt: &HostRuntime, path: &str) -> Result<Place, OpenFault> {
-    let place = Place::find(rt, path)?;
-    look(rt, &place.file)?;
-    place.remove_part(rt)?;
-    Ok(place)
-}
-
 /// Copies the bureau whose file is at a path, with its log, into one new file at another path.
 /// Returns how many bytes that file has. The copy is made under another name beside it, read back
 /// and compared, and gets its name only if it is found to be the same: so it is there whole or not
@@ -228,12 +216,12 @@ pub fn copy<C: Comparison>(
         return Err(CopyFault::Name);
     }
     check_place(rt, new)?;
-    let place = match find(rt, path) {
+    let place = match Place::find(rt, path) {
         Ok(place) => place,
         Err(fault) => return Err(CopyFault::File(fault)),
     };
     let part = copy_beside(rt, &place, new, comparison)?;
-    let copied = try_part(rt, &part, new, comparison);
+    let copied = try_part(rt, part.place(), new, comparison);
     part.remove(rt);
     copied
 }

@@ -19,6 +19,7 @@
 //! that they had or in this program's.
 #![tactic(auto)]
 
+mod closed;
 mod closing;
 mod copying;
 mod kept;
@@ -28,14 +29,18 @@ mod migrating;
 mod opening;
 mod places;
 mod rounds;
+mod undoing;
+mod unfinished;
 mod working;
 
+pub use closed::Closed;
 pub use closing::{close, close_connection};
 pub use copying::{Comparison, CopyFault, copy};
 pub use kept::Kept;
 pub use looking::{Look, look_into};
 pub use making::init;
-pub use migrating::{close_migrated, migrate, migrate_from};
+pub use migrating::{Migrated, close_migrated, migrate, migrate_from};
 pub use opening::open_from;
-pub use rounds::{finish, leave, open_and_work, round, stop};
+pub use rounds::{finish, leave, open_and_work, stop};
+pub use unfinished::Unfinished;
 pub use working::{Work, with_bureau};

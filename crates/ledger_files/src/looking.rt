@@ -1,38 +1,50 @@
 //! Looking into the bureau whose file is at a path, without changing it.
 
-ghost use Rattle.std.specs.Prelude.{◌≡◌, OnErr};
+ghost use Rattle.std.specs.Prelude.{◌≡◌, OnErr, OnOk};
+ghost use Rattle.sqlite.specs.Held.{state};
+ghost use Rattle.sqlite.specs.Tree.{Trees};
+ghost use Rattle.sqlite.specs.View.{IsClean};
+ghost use Rattle.office.specs.Office.{Office};
+ghost use Rattle.ledger.specs.Standing.{LeftAs, Stands};
 
+use crate::kept::Kept;
 use crate::opening::open_from;
 use crate::places::Place;
-use crate::working::{let_go, look};
+use crate::working::let_go;
 use ledger_tables::OpenFault;
-use sqlite::{Alter, Connection, Unknown};
+use sqlite::{Alter, Connection, Leftover, Unknown};
 use std::alloc::Global;
 
 /// A look into the tables of a bureau, whatever its store is. It keeps what it has seen.
 pub trait Look {
-    /// Looks, and hands the store back. It writes nothing.
-    fn look<S: Alter + Drop>(&mut self, alloc: Global, conn: Connection<S>) -> S;
+    // What the look before it and after it tells of what it has seen.
+    ghost looked: { Self → Self → Type 0 };
+
+    /// Looks, and hands the store back. If the tables represent an office, whatever a crash leaves
+    /// of the store represents it still.
+    fn look<S: Alter + Drop>(&mut self, alloc: Global, conn: Connection<S>) -> S
+        ensures looked { looked self.old self.new }
+        ensures left { IsClean (S.Store.view result) → (office : Office)
+            → Stands (state S.Store conn) office → (db : Trees) → S.Store.recovers result db
+            → LeftAs db office };
 }
 
 /// Looks into the bureau whose file is at a path. The file and its log are after it what they were.
 /// Fails with the fault if the file cannot be opened, and then nothing is looked at.
 pub fn look_into<L: Look>(rt: &HostRuntime, path: &str, look_at: &mut L) -> Result<(), OpenFault>
+    ensures looked { OnOk result (L.looked look_at.old look_at.new) }
     ensures idle { OnErr result (look_at.new ≡ look_at.old) }
 {
     let place = Place::find(rt, path)?;
-    look(rt, &place.file)?;
-    place.remove_part(rt)?;
     let log = place.log_length(rt);
     match open_from(rt, &place.file, Unknown) {
         Ok(bureau) => {
             let store = look_at.look(rt.alloc(), bureau.into_connection());
-            place.restore_log(rt, log);
-            drop(store);
+            place.restore_log(rt, &Kept::Left(Leftover::Store(store)), log);
             Ok(())
         }
         Err((fault, kept)) => {
-            let_go(rt, kept, &place, log);
+            drop(let_go(rt, kept, &place, log));
             Err(fault)
         }
     }

@@ -1,67 +1,120 @@
 //! Creating a new bureau's file.
 
-use crate::places::{MODE, Place, beside, is_free, remove_part_of, sync_folder_of};
+ghost use Rattle.std.specs.Prelude.{◌≡◌, ◌≤◌, [], IfErr, IfOk};
+ghost use Rattle.sqlite.specs.Held.{state};
+ghost use Rattle.sqlite.specs.State.{HasCleanDisk, IsLive, Opens};
+ghost use Rattle.sqlite.specs.View.{doubt};
+ghost use Rattle.sqlite.specs.WalFiles.{image_at};
+ghost use Rattle.ledger.specs.Standing.{Stands};
+ghost use Rattle.ledger_tables.specs.Versions.{IsKnown};
+ghost use Rattle.ledger_files.specs.Making.{IsFirst, IsWithoutTables};
+
+use crate::closed::Closed;
+use crate::closing::close_connection;
+use crate::opening::store_fault_of;
+use crate::places::{MODE, Part, beside, is_free, remove_second_name, sync_folder_of};
 use ledger::{Bureau, Fault};
 use ledger_tables::OpenFault;
-use sqlite::{Alter, Connection, Unknown};
+use sqlite::{Alter, Connection, FileFrom, Start};
 use std::alloc::Global;
 use std::fs;
 
 /// The outcome for the file after a fault of the tables.
-fn fault_of(fault: Fault) -> OpenFault {
+fn fault_of(fault: Fault) -> OpenFault
+    ensures { IsKnown result }
+{
     match fault {
         Fault::NoMemory => OpenFault::NoMemory,
         Fault::Store => OpenFault::Store,
     }
 }
 
-/// Creates a bureau on a connection to an empty file.
-fn create_on<S: Alter + Drop>(
+/// Makes the tables of a bureau without jobs over a connection that was just opened.
+fn created<S: Alter + Drop>(
     alloc: Global,
     conn: Connection<S>,
-) -> Result<Connection<S>, OpenFault> {
+) -> Result<Connection<S>, (OpenFault, Connection<S>)>
+    ensures made { IfOk result (λ made. HasCleanDisk (state S.Store made)
+        → Opens (state S.Store conn) → IsLive (state S.Store conn)
+        → IsWithoutTables (state S.Store conn).committed.trees → Stands (state S.Store made) []) }
+    ensures clean { IfOk result (λ made. doubt (state S.Store conn).is_clean
+        ≤ doubt (state S.Store made).is_clean) }
+    ensures known { IfErr result (λ e. IsKnown e.0) }
+{
     match Bureau::create(alloc, conn) {
         Ok(bureau) => Ok(bureau.into_connection()),
-        Err((fault, _conn)) => Err(fault_of(fault)),
+        Err((fault, conn)) => Err((fault_of(fault), conn)),
     }
 }
 
 /// Creates a bureau in the empty file at a path, and closes it, so that all of it is in this one
 /// file.
-fn make_closed(rt: &HostRuntime, path: &str) -> Result<(), OpenFault> {
-    let Ok(conn) = Connection::open_from(rt, path, false, Unknown) else {
-        return Err(OpenFault::Store);
+fn make_closed<S: Start>(
+    rt: &HostRuntime,
+    path: &str,
+    start: S,
+) -> Result<Closed<FileFrom<S>>, OpenFault>
+    ensures first { IfOk result (IsFirst (image_at S.Start)) }
+    ensures known { IfErr result IsKnown }
+{
+    let conn = match Connection::open_from(rt, path, false, start) {
+        Ok(conn) => conn,
+        Err((error, _left)) => return Err(store_fault_of(error)),
     };
-    match create_on(rt.alloc(), conn)?.close() {
-        Ok(()) => Ok(()),
-        Err(_) => Err(OpenFault::Store),
+    let conn = match created(rt.alloc(), conn) {
+        Ok(conn) => conn,
+        Err((fault, _conn)) => return Err(fault),
+    };
+    match close_connection(conn) {
+        Ok(closed) => Ok(closed),
+        Err((fault, _store)) => Err(fault),
     }
 }
 
-/// Creates a bureau in a file of this name, and links it at a path, unless something is there. The
-/// disk keeps the new name before the other one is removed.
-fn make_part(rt: &HostRuntime, part: &Place, path: &str) -> Result<(), OpenFault> {
-    let made = make_closed(rt, &part.file);
-    part.remove_log(rt);
-    made?;
-    if fs::hard_link(rt, part.file.as_str(), path).is_err() {
+/// Links a file that is whole at a path, unless something is there. The disk keeps the new name.
+fn publish(rt: &HostRuntime, part: &Part, path: &str) -> Result<(), OpenFault>
+    ensures { IfErr result IsKnown }
+{
+    if fs::hard_link(rt, part.place().file.as_str(), path).is_err() {
         return Err(OpenFault::Store);
     }
     sync_folder_of(rt, path);
     Ok(())
 }
 
+/// Creates a bureau in a file of this name, and links it at a path, unless something is there.
+fn make_part<S: Start>(
+    rt: &HostRuntime,
+    part: &Part,
+    path: &str,
+    start: S,
+) -> Result<Closed<FileFrom<S>>, OpenFault>
+    ensures first { IfOk result (IsFirst (image_at S.Start)) }
+    ensures known { IfErr result IsKnown }
+{
+    let place = part.place();
+    let closed = make_closed(rt, &place.file, start)?;
+    place.remove_log(rt, &closed);
+    publish(rt, part, path)?;
+    Ok(closed)
+}
+
 /// Creates a bureau's file at a path where there is nothing.
-fn make(rt: &HostRuntime, path: &str) -> Result<(), OpenFault> {
-    let part = Place::reserve(rt, path, MODE)?;
-    let made = make_part(rt, &part, path);
-    let _ = fs::remove_file(rt, part.file.as_str());
+fn make<S: Start>(rt: &HostRuntime, path: &str, start: S) -> Result<Closed<FileFrom<S>>, OpenFault>
+    ensures first { IfOk result (IsFirst (image_at S.Start)) }
+    ensures known { IfErr result IsKnown }
+{
+    let part = Part::reserve(rt, path, MODE)?;
+    let made = make_part(rt, &part, path, start);
+    part.remove(rt);
     made
 }
 
 /// Whether there is no file at a path, and no log or journal beside it: a new file would be taken
 /// for the one that they belong to.
-pub(crate) fn is_place_free(rt: &HostRuntime, path: &str) -> Result<bool, OpenFault> {
+pub(crate) fn is_place_free(rt: &HostRuntime, path: &str) -> Result<bool, OpenFault>
+    ensures { IfErr result IsKnown }
+{
     for end in ["", "-wal", "-journal"] {
         if !is_free(rt, &beside(rt, path, end)?) {
             return Ok(false);
@@ -72,11 +125,20 @@ pub(crate) fn is_place_free(rt: &HostRuntime, path: &str) -> Result<bool, OpenFa
 
 /// Creates a new bureau's file at a path where there is no file yet, and no log or journal of one.
 /// It is created under another name beside it, so that it is there whole or not at all, even if the
-/// program is stopped. Fails with 2 if something is in its way, and changes nothing then.
-pub fn init(rt: &HostRuntime, path: &str) -> Result<(), OpenFault> {
-    remove_part_of(rt, path)?;
+/// program is stopped. It stays locked as long as what is returned is kept; whatever a crash leaves
+/// of it represents the office without jobs. Fails with 2 if something is in its way, and changes
+/// nothing then; with 1 if there is no memory.
+pub fn init<S: Start>(
+    rt: &HostRuntime,
+    path: &str,
+    start: S,
+) -> Result<Closed<FileFrom<S>>, OpenFault>
+    ensures first { IfOk result (IsFirst (image_at S.Start)) }
+    ensures known { IfErr result IsKnown }
+{
+    remove_second_name(rt, path)?;
     if !is_place_free(rt, path)? {
         return Err(OpenFault::Store);
     }
-    make(rt, path)
+    make(rt, path, start)
 }

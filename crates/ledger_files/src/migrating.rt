@@ -1,7 +1,8 @@
 //! Raising a bureau's file of an earlier version to this program's version.
 
-ghost use Rattle.std.specs.Prelude.{◌≡◌, ◌≤◌, ℕ, IfErr, IfOk, IsErrOf};
+ghost use Rattle.std.specs.Prelude.{◌≡◌, ◌≤◌, ℕ, IfErr, IfOk};
 ghost use Rattle.sqlite.specs.Effect.{Database, IsDatabase};
+ghost use Rattle.sqlite.specs.FileStore.{recovers, view};
 ghost use Rattle.sqlite.specs.Files.{HoldsDatabase, file_state};
 ghost use Rattle.sqlite.specs.Held.{state};
 ghost use Rattle.sqlite.specs.Recovery.{Image};
@@ -19,16 +20,19 @@ ghost use Rattle.ledger.specs.Standing.{Stands};
 ghost use Rattle.ledger_files.specs.Closing.{StandsAlone};
 ghost use Rattle.ledger_files.specs.Migrating.{AreNotMigrated, IsMidway, IsMigrated, IsMigration, IsVersionIn, IsVersionOf};
 ghost use Rattle.ledger_files.specs.Opening.{HoldsOnly, IsCleanKept};
-ghost use Rattle.ledger_files.specs.Rounds.{MayLeaveFiles};
+ghost use Rattle.ledger_files.specs.Rounds.{MayLeaveClosed};
+ghost use Rattle.ledger_files.specs.Unfinished.{IsFoundAs, IsUnmigrated, fault_in};
 
+use crate::closed::Closed;
 use crate::closing::close_connection;
 use crate::kept::Kept;
 use crate::opening::handed_on;
 use crate::places::Place;
-use crate::working::{let_go, look};
+use crate::unfinished::Unfinished;
+use crate::working::let_go;
 use ledger_tables::{OpenFault, VERSION};
-use sqlite::{Alter, Connection, FileFrom, FileStore, Start, Unknown};
-use sqlite_disk::{Disk, Files};
+use sqlite::{Alter, Connection, FileFrom, FileStore, Start};
+use sqlite_disk::Disk;
 use std::alloc::Global;
 
 /// Raises the tables of a connection that was just opened, and returns the version that they had.
@@ -103,61 +107,97 @@ pub fn migrate_from<S: Start>(
 pub fn close_migrated<D: Disk + Drop>(
     version: u32,
     conn: Connection<FileStore<D>>,
-) -> Result<Files<D>, (OpenFault, FileStore<D>)>
-    ensures alone { IfOk result (λ files. AreClean D.Disk files.log files.db → (office : Office)
-        → Stands (file_state conn) office → (left : Image)
-        → outcomes D.Disk files.log files.db left → StandsAlone left office) }
-    ensures migration { IfOk result (λ files. (first : Image) → IsMigrated first version conn
-        → IsMigration first (MayLeaveFiles D.Disk files)) }
+) -> Result<Closed<D>, (OpenFault, FileStore<D>)>
+    ensures alone { IfOk result (λ closed. AreClean D.Disk closed.files.log closed.files.db
+        → (office : Office) → Stands (file_state conn) office → (left : Image)
+        → outcomes D.Disk closed.files.log closed.files.db left → StandsAlone left office) }
+    ensures migration { IfOk result (λ closed. (first : Image) → IsMigrated first version conn
+        → IsMigration first (MayLeaveClosed closed)) }
+    ensures clean { IfOk result (λ closed. AreClean D.Disk closed.files.log closed.files.db
+        → HasCleanDisk (file_state conn)) }
+    ensures kept { IfErr result (λ e. (db : Trees) → recovers e.1 db
+        → (file_state conn).may_leave db) }
+    ensures clean_still { IfErr result (λ e. doubt (file_state conn).is_clean
+        ≤ doubt (view e.1).is_clean) }
     ensures memory { IfErr result (λ e. e.0 ≡ OpenFault.NoMemory → version ≡ own_version) }
     ensures told { IfErr result (λ e. IsNotOld e.0) }
 {
     match close_connection(conn) {
-        Ok(files) => Ok(files),
+        Ok(closed) => Ok(closed),
         Err((fault, store)) if version == VERSION => Err((fault, store)),
         Err((_, store)) => Err((OpenFault::Store, store)),
+    }
+}
+
+/// A bureau's file that was raised to this program's version, or was of it already.
+#[derive(Drop)]
+pub struct Migrated<D: Disk> {
+    version: u32,
+    closed: Closed<D>,
+}
+
+impl<D: Disk> Migrated<D> {
+    /// The version that the file had.
+    pub fn version(&self) -> u32
+        ensures { result ≡ self.now.version }
+    {
+        self.version
     }
 }
 
 /// Ends a migration of the file at a place from this version. Its log is removed while its file is
 /// still locked, so that no other program has begun to write to that log. If the file is not
 /// closed, the log stays.
-fn close_at<D: Disk + Drop>(
+fn end<D: Disk + Drop>(
     rt: &HostRuntime,
     version: u32,
     conn: Connection<FileStore<D>>,
     place: &Place,
-) -> Result<u32, OpenFault>
-    ensures ok { IfOk result (λ told. told ≡ version) }
-    ensures memory { IsErrOf result OpenFault.NoMemory → version ≡ own_version }
-    ensures told { IfErr result IsNotOld }
+) -> Result<Migrated<D>, Unfinished<D>>
+    ensures migration { IfOk result (λ done. (files : Image) → IsMigrated files version conn
+        → IsMigration files (MayLeaveClosed done.closed)) }
+    ensures version { IfOk result (λ done. (files : Image)
+        → (HasCleanDisk (file_state conn) → IsVersionOf files version)
+        → AreClean D.Disk done.closed.files.log done.closed.files.db
+        → IsVersionOf files done.version) }
+    ensures unmigrated { IfErr result (λ left. (files : Image) → IsMidway files conn
+        → IsUnmigrated files left) }
+    ensures memory { IfErr result (λ left. fault_in left ≡ OpenFault.NoMemory
+        → version ≡ own_version) }
 {
     match close_migrated(version, conn) {
-        Ok(_locked) => {
-            place.remove_log(rt);
-            Ok(version)
+        Ok(closed) => {
+            place.remove_log(rt, &closed);
+            Ok(Migrated { version, closed })
         }
-        Err((fault, _store)) => Err(fault),
+        Err((fault, store)) => Err(Unfinished::Unclosed(fault, store)),
     }
 }
 
-/// Raises the bureau's file at a path to this program's version, and returns the version that it
-/// had. After it the file alone is the bureau; if it was of this version, it holds what it held.
-/// Fails with 50 if the file is not a bureau's or is of a later version, with 1 if there is no
-/// memory, and else with 2. After 1 and 50 it holds what it held, after 2 it may be raised; it can
-/// be migrated again. If it was raised and could not be closed, its log stays.
-pub fn migrate(rt: &HostRuntime, path: &str) -> Result<u32, OpenFault>
-    ensures { IfErr result IsNotOld }
+/// Raises the bureau's file at a path to this program's version. After it the file alone is the
+/// bureau; if it was of this version, it holds what it held. It stays locked as long as what is
+/// returned is kept. Fails with 50 if the file is not a bureau's or is of a later version, with 1 if
+/// there is no memory, and else with 2. After 1 and 50 it holds what it held, after 2 it may be
+/// raised; it can be migrated again. If it was raised and could not be closed, its log stays. Either
+/// way whatever a crash leaves is of the same office, in the version that it had or in this
+/// program's.
+pub fn migrate<S: Start>(
+    rt: &HostRuntime,
+    path: &str,
+    start: S,
+) -> Result<Migrated<FileFrom<S>>, Unfinished<FileFrom<S>>>
+    ensures migration { IfOk result (λ done. IsMigration (image_at S.Start)
+        (MayLeaveClosed done.closed)) }
+    ensures version { IfOk result (λ done. IsFoundAs (image_at S.Start) done) }
+    ensures unmigrated { IfErr result (IsUnmigrated (image_at S.Start)) }
 {
-    let place = Place::find(rt, path)?;
-    look(rt, &place.file)?;
-    place.remove_part(rt)?;
+    let place = match Place::find(rt, path) {
+        Ok(place) => place,
+        Err(fault) => return Err(Unfinished::Unfound(fault)),
+    };
     let log = place.log_length(rt);
-    match migrate_from(rt, &place.file, Unknown) {
-        Ok((version, conn)) => close_at(rt, version, conn, &place),
-        Err((fault, kept)) => {
-            let_go(rt, kept, &place, log);
-            Err(fault)
-        }
+    match migrate_from(rt, &place.file, start) {
+        Ok((version, conn)) => end(rt, version, conn, &place),
+        Err((fault, kept)) => Err(Unfinished::Refused(fault, let_go(rt, kept, &place, log))),
     }
 }

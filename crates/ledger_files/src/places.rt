@@ -1,78 +1,70 @@
-//! Where a bureau's file lies, and the names beside it.
+//! Where a bureau's file lies.
 
-ghost use Rattle.std.specs.Prelude.{IfErr};
-ghost use Rattle.ledger_tables.specs.Versions.{IsNotOld};
+ghost use Rattle.std.specs.Prelude.{◌≡◌, IfErr};
+ghost use Rattle.std.specs.IoError.{error_kind};
+ghost use Rattle.ledger_tables.specs.Versions.{IsKnown, IsNotOld};
+ghost use Rattle.ledger_files.specs.Places.{AreLocked, BeginsAs, path_fault};
 
+mod parts;
+
+use crate::closed::Closed;
+use crate::kept::Kept;
+use crate::undoing::Undoing;
 use ledger_tables::OpenFault;
-use std::fs::{Metadata, OpenOptions};
-use std::io::ErrorKind;
-use std::os::unix::fs::{MetadataExt, OpenOptionsExt};
+pub(crate) use parts::{Part, remove_second_name};
+use sqlite_disk::Disk;
+use std::fs::{File, OpenOptions};
+use std::io::{ErrorKind, Read};
+use std::os::unix::fs::OpenOptionsExt;
 use std::{fs, io};
-
-/// The greatest number of names that are tried for a file that is not whole yet.
-const MOST_NAMES: u16 = 1000;
-
-/// The most bytes of a log that no transaction was written to.
-const EMPTY_LOG: u64 = 41;
-
-/// The number of bytes that an open adds to a log of another program.
-const ADDED: u64 = 9;
 
 /// Who may read and write a new file: its owner, and all others may read it.
 pub(crate) const MODE: u32 = 0o644;
 
-/// The paths of a bureau's file and of its log.
+/// The first bytes of a database's file.
+const BEGINNING: [u8; 16] = *b"SQLite format 3\0";
+
+/// The paths of a bureau's file and of its log. Nothing else here knows the name of a log, so what
+/// happens to one is all in the methods.
 #[derive(Drop)]
 pub(crate) struct Place {
     pub(crate) file: String,
-    pub(crate) log: String,
+    log: String,
 }
 
 impl Place {
-    /// The place of the file that is at a path. Links are followed, since the log is beside the
-    /// file itself.
+    /// The place of the bureau's file at a path. Links are followed, since the log is beside the
+    /// file itself. The file must begin as a database does: this comes before it is opened as one,
+    /// since that would create a missing file, and fill an empty one. If it has a second name, since
+    /// the program that made it was stopped, that name goes.
     pub(crate) fn find(rt: &HostRuntime, path: &str) -> Result<Place, OpenFault>
         ensures { IfErr result IsNotOld }
     {
-        match fs::canonicalize(rt, path) {
-            Ok(real) => Place::at(beside(rt, real.as_str(), "")?, rt),
-            Err(error) => Err(fault_of(&error)),
-        }
+        let place = match fs::canonicalize(rt, path) {
+            Ok(real) => Place::at(beside(rt, real.as_str(), "")?, rt)?,
+            Err(error) => return Err(fault_of(&error)),
+        };
+        look(rt, &place.file)?;
+        remove_second_name(rt, &place.file)?;
+        Ok(place)
     }
 
     /// The place of a file at a path without links.
     fn at(file: String, rt: &HostRuntime) -> Result<Place, OpenFault>
-        ensures { IfErr result IsNotOld }
+        ensures { IfErr result IsKnown }
     {
         let log = beside(rt, &file, "-wal")?;
         Ok(Place { file, log })
     }
 
-    /// Makes an empty file of a mode beside a path, under a name that no other file has:
-    /// `PATH.N.part`.
-    pub(crate) fn reserve(rt: &HostRuntime, path: &str, mode: u32) -> Result<Place, OpenFault> {
-        for number in 1..=MOST_NAMES {
-            let place = Place::at(part_name(rt, path, number)?, rt)?;
-            if is_free(rt, &place.log) {
-                match make_file(rt, &place.file, mode) {
-                    Ok(()) => return Ok(place),
-                    Err(error) if error.kind() == ErrorKind::AlreadyExists => {}
-                    Err(error) => return Err(fault_of(&error)),
-                }
-            }
+    /// Copies the log, if there is one, into a new log of a mode beside another file. Fails if that
+    /// has one.
+    pub(crate) fn copy_log(&self, rt: &HostRuntime, to: &Place, mode: u32) -> io::Result<()> {
+        if self.log_length(rt).is_none() {
+            return Ok(());
         }
-        Err(OpenFault::Store)
-    }
-
-    /// Makes an empty log of a mode. Fails if there is one.
-    pub(crate) fn make_log(&self, rt: &HostRuntime, mode: u32) -> io::Result<()> {
-        make_file(rt, &self.log, mode)
-    }
-
-    /// Removes the file and its log. Both must be this program's own.
-    pub(crate) fn remove(&self, rt: &HostRuntime) {
-        self.remove_log(rt);
-        let _ = fs::remove_file(rt, self.file.as_str());
+        make_file(rt, &to.log, mode)?;
+        copy_bytes(rt, &self.log, &to.log)
     }
 
     /// The length of the log, if there is one.
@@ -83,37 +75,73 @@ impl Place {
         }
     }
 
-    /// Removes the log. The file must be locked, so that no other program has this log.
-    pub(crate) fn remove_log(&self, rt: &HostRuntime) {
-        let _ = fs::remove_file(rt, self.log.as_str());
+    /// Removes the log of the files that are here. They were closed: they hold their database with
+    /// the log and without it. They are still locked, so that no other program has this log.
+    pub(crate) fn remove_log<D: Disk>(&self, rt: &HostRuntime, _closed: &Closed<D>) {
+        remove(rt, &self.log);
     }
 
-    /// Undoes what an open that failed did to the log, which had this length before, if there was
-    /// one. No transaction is lost: a log that is removed has none, and what is cut off one is
-    /// shorter than any. The file must be locked.
-    pub(crate) fn restore_log(&self, rt: &HostRuntime, before: Option<u64>) {
+    /// Undoes what an open that failed, or a look, did to the log, which had this length before, if
+    /// there was one. What the open handed back must still keep the files locked: the log of files
+    /// that were not reached is another program's.
+    pub(crate) fn restore_log<D: Disk>(
+        &self,
+        rt: &HostRuntime,
+        _kept: &Kept<D>,
+        before: Option<u64>,
+    )
+        requires { AreLocked _kept.now }
+    {
         let Some(now) = self.log_length(rt) else {
             return;
         };
-        match before {
-            None if now <= EMPTY_LOG => self.remove_log(rt),
-            Some(before) if now.checked_sub(before) == Some(ADDED) => cut(rt, &self.log, before),
-            _ => {}
+        match Undoing::of(before, now) {
+            Undoing::Keep => {}
+            Undoing::Remove => remove(rt, &self.log),
+            Undoing::Cut(length) => cut(rt, &self.log, length),
         }
-    }
-
-    /// Removes the second name of the file, `FILE.N.part`, which it has if the program that made it
-    /// was stopped at the end.
-    pub(crate) fn remove_part(&self, rt: &HostRuntime) -> Result<(), OpenFault>
-        ensures { IfErr result IsNotOld }
-    {
-        remove_part_of(rt, &self.file)
     }
 }
 
-/// The fault where a path cannot be used.
+/// Whether the first bytes of a file are a database's, or could not be read for an error of this
+/// kind.
+fn judge_beginning(read: Result<[u8; 16], ErrorKind>) -> Result<(), OpenFault>
+    ensures { BeginsAs read result }
+{
+    match read {
+        Ok(bytes) if bytes == BEGINNING => Ok(()),
+        Ok(_) | Err(ErrorKind::UnexpectedEof) => Err(OpenFault::NotABureau),
+        Err(_) => Err(OpenFault::Store),
+    }
+}
+
+/// The first bytes of a file, or the kind of the error by which they cannot be read.
+fn read_beginning(file: &mut File) -> Result<[u8; 16], ErrorKind> {
+    let mut bytes = [0u8; 16];
+    match file.read_exact(&mut bytes) {
+        Ok(()) => Ok(bytes),
+        Err(error) => Err(error.kind()),
+    }
+}
+
+/// Checks that there is a file at a path, and that it begins as a database does.
+fn look(rt: &HostRuntime, path: &str) -> Result<(), OpenFault>
+    ensures { IfErr result IsNotOld }
+{
+    match fs::metadata(rt, path) {
+        Ok(found) if found.is_file() => {}
+        _ => return Err(OpenFault::Store),
+    }
+    match File::open(rt, path) {
+        Ok(mut file) => judge_beginning(read_beginning(&mut file)),
+        Err(error) => Err(fault_of(&error)),
+    }
+}
+
+/// The fault where a path cannot be used: 1 for want of memory, else 2.
 pub(crate) fn fault_of(error: &io::Error) -> OpenFault
-    ensures { IsNotOld result }
+    ensures told { result ≡ path_fault (error_kind error.now) }
+    ensures known { IsKnown result }
 {
     match error.kind() {
         ErrorKind::OutOfMemory => OpenFault::NoMemory,
@@ -123,19 +151,9 @@ pub(crate) fn fault_of(error: &io::Error) -> OpenFault
 
 /// The path with more letters at its end.
 pub(crate) fn beside(rt: &HostRuntime, path: &str, end: &str) -> Result<String, OpenFault>
-    ensures { IfErr result IsNotOld }
+    ensures { IfErr result IsKnown }
 {
     match format!(in rt.alloc(); "{path}{end}") {
-        Ok(name) => Ok(name),
-        Err(_) => Err(OpenFault::NoMemory),
-    }
-}
-
-/// A name beside a path, for a file that is not whole yet.
-fn part_name(rt: &HostRuntime, path: &str, number: u16) -> Result<String, OpenFault>
-    ensures { IfErr result IsNotOld }
-{
-    match format!(in rt.alloc(); "{path}.{number}.part") {
         Ok(name) => Ok(name),
         Err(_) => Err(OpenFault::NoMemory),
     }
@@ -147,6 +165,19 @@ fn make_file(rt: &HostRuntime, path: &str, mode: u32) -> io::Result<()> {
     options.write(true).create_new(true).mode(mode);
     drop(options.open(rt, path)?);
     Ok(())
+}
+
+/// Copies the bytes of a file into one that is there, and has the disk keep them.
+pub(crate) fn copy_bytes(rt: &HostRuntime, from: &str, to: &str) -> io::Result<()> {
+    let mut source = File::open(rt, from)?;
+    let mut target = OpenOptions::new().write(true).open(rt, to)?;
+    io::copy(&mut source, &mut target)?;
+    target.sync_all()
+}
+
+/// Removes what is at a path, if it can be removed.
+fn remove(rt: &HostRuntime, path: &str) {
+    let _ = fs::remove_file(rt, path);
 }
 
 /// Cuts a file to a length.
@@ -162,34 +193,6 @@ pub(crate) fn is_free(rt: &HostRuntime, path: &str) -> bool {
         Ok(_) => false,
         Err(error) => error.kind() == ErrorKind::NotFound,
     }
-}
-
-/// Whether this is what is at a path.
-fn is_at(rt: &HostRuntime, file: &Metadata, path: &str) -> bool {
-    match fs::symlink_metadata(rt, path) {
-        Ok(found) if found.dev() == file.dev() => found.ino() == file.ino(),
-        _ => false,
-    }
-}
-
-/// Removes the second name of the file at a path, `PATH.N.part`, if it has one.
-pub(crate) fn remove_part_of(rt: &HostRuntime, path: &str) -> Result<(), OpenFault>
-    ensures { IfErr result IsNotOld }
-{
-    let Ok(file) = fs::symlink_metadata(rt, path) else {
-        return Ok(());
-    };
-    if !file.is_file() || file.nlink() == 1 {
-        return Ok(());
-    }
-    for number in 1..=MOST_NAMES {
-        let name = part_name(rt, path, number)?;
-        if is_at(rt, &file, &name) {
-            let _ = fs::remove_file(rt, name.as_str());
-            return Ok(());
-        }
-    }
-    Ok(())
 }
 
 /// Has the disk keep the bytes of a file. Returns how many there are.

@@ -18,8 +18,10 @@ ghost use Rattle.ledger.specs.Standing.{Stands};
 ghost use Rattle.ledger_files.specs.Closing.{HindersEnding, StandsAlone};
 ghost use Rattle.ledger_files.specs.Migrating.{IsMidway, IsMigration};
 ghost use Rattle.ledger_files.specs.Opening.{AreRefused, IsAnswerFor, IsCleanKept};
-ghost use Rattle.ledger_files.specs.Rounds.{HasDone, HasWorkedFrom, HoldsOneOf, IsLink, IsRound, MayLeave, MayLeaveFiles};
+ghost use Rattle.ledger_files.specs.Rounds.{HasDone, HasWorkedFrom, HoldsOneOf, IsLink, MayLeave, MayLeaveClosed};
+ghost use Rattle.ledger_files.specs.Unfinished.{IsUnclosed};
 
+use crate::closed::Closed;
 use crate::closing::close;
 use crate::kept::Kept;
 use crate::opening::open_from;
@@ -27,7 +29,7 @@ use crate::working::Work;
 use ledger::Bureau;
 use ledger_tables::OpenFault;
 use sqlite::{Connection, FileFrom, FileStore, Start};
-use sqlite_disk::{Disk, Files};
+use sqlite_disk::Disk;
 use std::io::Write;
 
 /// Opens the file at a path as a bureau, and does work with it. Fails as [`open_from`] does, and
@@ -89,18 +91,28 @@ pub fn stop<D: Disk + Drop>(bureau: Bureau<FileStore<D>>) -> FileStore<D>
 /// Ends the work with a bureau: its file is closed, so that it alone is the bureau. The file of a
 /// broken bureau is not, since it has to be opened again: what a crash may leave of it now is kept,
 /// as it is where the closing fails. Work that was done with the bureau is then a link from the
-/// files that were opened to whatever a crash leaves of the closed ones.
+/// files that were opened to whatever a crash leaves of the closed ones, with their log or without
+/// it, or of those of a broken bureau.
 pub fn finish<D: Disk + Drop>(
     bureau: Bureau<FileStore<D>>,
-) -> Result<Files<D>, (OpenFault, FileStore<D>)>
-    ensures alone { IfOk result (λ files. AreClean D.Disk files.log files.db → (office : Office)
+) -> Result<Closed<D>, (OpenFault, FileStore<D>)>
+    ensures alone { IfOk result (λ closed. AreClean D.Disk closed.files.log closed.files.db → (office : Office)
         → Stands (file_state bureau.conn) office → (left : Image)
-        → outcomes D.Disk files.log files.db left → StandsAlone left office) }
-    ensures link { IfOk result (λ files. (first : Image) → (commands : List Command)
+        → outcomes D.Disk closed.files.log closed.files.db left → StandsAlone left office) }
+    ensures link { IfOk result (λ closed. (first : Image) → (commands : List Command)
         → (replies : List Reply) → HasDone first bureau.conn bureau.broken commands replies
-        → IsLink first (MayLeaveFiles D.Disk files) commands replies) }
+        → IsLink first (MayLeaveClosed closed) commands replies) }
+    ensures stopped { IsTrue bureau.broken → IfErr result (λ e. (first : Image)
+        → (commands : List Command) → (replies : List Reply)
+        → HasDone first bureau.conn bureau.broken commands replies
+        → IsLink first (MayLeave e.1) commands replies) }
     ensures kept { IfErr result (λ e. (db : Trees) → recovers e.1 db
         → (file_state bureau.conn).may_leave db) }
+    ensures clean_still { IfErr result (λ e. doubt (file_state bureau.conn).is_clean
+        ≤ doubt (view e.1).is_clean) }
+    ensures unclosed { IfErr result (λ e. (first : Image) → (commands : List Command)
+        → (replies : List Reply) → HasDone first bureau.conn bureau.broken commands replies
+        → IsUnclosed first e.0 e.1 commands replies) }
     ensures cause { IfErr result (λ e. IsClean (view e.1)
         → HindersEnding bureau.broken bureau.conn e.1 e.0) }
     ensures broken { IsTrue bureau.broken → IsErrAnd result (λ e. e.0 ≡ OpenFault.Store) }
@@ -109,25 +121,4 @@ pub fn finish<D: Disk + Drop>(
         return Err((OpenFault::Store, stop(bureau)));
     }
     close(bureau)
-}
-
-/// Opens the file at a path as a bureau, does work with it, and stops. Fails as [`open_from`] does.
-pub fn round<S: Start, W: Work, O: Write>(
-    rt: &HostRuntime,
-    path: &str,
-    start: S,
-    work: &mut W,
-    output: &mut O,
-) -> Result<FileStore<FileFrom<S>>, (OpenFault, Kept<FileFrom<S>>)>
-    ensures round { IfOk result (λ left. IsRound (image_at S.Start) (MayLeave left)
-        (W.tells work.old work.new (O.contents output.old) (O.contents output.new))) }
-    ensures idle { IfErr result (λ e. (work.new ≡ work.old)
-        × (O.contents output.new ≡ O.contents output.old)) }
-    ensures refused { IfErr result (λ e. IsCleanKept e.1
-        → AreRefused (image_at S.Start) e.0 e.1) }
-{
-    match open_and_work(rt, path, start, work, output) {
-        Ok(bureau) => Ok(stop(bureau)),
-        Err((fault, kept)) => Err((fault, kept)),
-    }
 }

@@ -1,9 +1,18 @@
 -- What the rows' work tells.
-use Rattle.std.proofs.Common.{◌≡◌, ◌⊎◌, inl, inr, ℕ, ◌≤◌, Bool, false, List, [], ◌∷◌, ◌++◌, length, refl, ap, subst, ◌∙◌, Result, Ok, Err}
-use Rattle.std.specs.Prelude.{OnOk, OnErr}
-use Rattle.ledger_files.specs.Rounds.{IsWork}
-use Rattle.ledger_tables.specs.declared.openings.OpenFault.{OpenFault}
+use Rattle.std.proofs.Common.{◌≡◌, ◌⊎◌, inl, inr, ℕ, ◌≤◌, Bool, false, List, [], ◌∷◌, ◌++◌, length, refl, sym, ap, subst, Result, Ok, Err}
+use Rattle.std.specs.Prelude.{IfErr, IfOk}
+use Rattle.sqlite_disk.specs.declared.Disk as disk
+use Rattle.sqlite.specs.Recovery.{Image}
+use Rattle.ledger_files.specs.Rounds.{IsRound, MayLeaveClosed}
+use Rattle.ledger_files.specs.Unfinished.{IsUnfinished, IsUnmigrated}
+use Rattle.ledger_files.specs.declared.closed.Closed.{Closed}
+use Rattle.ledger_files.specs.declared.migrating.Migrated.{Migrated}
+use Rattle.ledger_files.specs.declared.unfinished.Unfinished.{Unfinished}
+use Rattle.ledger_files.specs.declared.unfinished.Unfinished.TheVariants as unfinished
+use Rattle.ledger_files.proofs.LeavingLemmas.{idle_as}
+use Rattle.service.specs.Migrating.{HasMigrated, TellsMigrated}
 use Rattle.service.specs.Outcomes.{closing_with, with_file}
+use Rattle.service.specs.declared.ended.Ended.{Ended}
 use Rattle.std.specs.List.{AllByRecursion}
 use Rattle.sqlite.specs.Held.{Held, state}
 use Rattle.sqlite.specs.View.{doubt}
@@ -13,7 +22,7 @@ use Rattle.ledger.specs.Working.{HasWorked}
 use Rattle.ledger_tables.specs.declared.openings.OpenFault.TheVariants as opening
 use Rattle.office.specs.declared.commands.Command.{Command}
 use Rattle.office.specs.declared.replies.Reply.{Reply}
-use Rattle.service.specs.Work.{AsksForMade, Bytes, HasApplied, IsOnJob, IsSomeWork, TellsApply, TellsAsked, TellsExport, TellsServe, query_for}
+use Rattle.service.specs.Work.{AsksForMade, Bytes, HasApplied, HasEndedFrom, HasNotApplied, IsOnJob, outcome_in, IsSomeWork, TellsApply, TellsAsked, TellsExport, TellsServe, query_for}
 use Rattle.service.specs.declared.exporting.Part.{Part}
 use Rattle.service.specs.declared.exporting.Part.TheVariants as part
 use Rattle.service.specs.declared.outcomes.Outcome.{Outcome}
@@ -70,10 +79,38 @@ module _ {S : Type 0} (g : Ghosts S) (old new : Held S) where
         worked_after g old mid new is_broken (TellsExport customer number) (TellsAsked customer number (query_for of)) (TellsExport customer number) early
         one two (λ cs ds rs qs a b. all_asked of cs ds a b)
 
--- ---- applying
+-- ---- ended, with what came of the file
 
-pub applied_so : (Same : Type 0) (old new : Bytes) (file : Result (Unit {0}) OpenFault) (own result : Outcome) → (Same → own ≡ outcome.Done) → result ≡ with_file file own
-    → OnOk file (IsWork (TellsApply old new own)) → OnErr file ((Same × (new ≡ old)) ⊎ IsWork (TellsApply old new own)) → HasApplied result old new
-applied_so Same old new (Ok done) own result own_is is told idle = inr (own, Ok done, is, told)
-applied_so Same old new (Err fault) own result own_is is told (inl none) = inl (fault, is ∙ ap (closing_with fault) (own_is none.0), none.1)
-applied_so Same old new (Err fault) own result own_is is told (inr work) = inr (own, Err fault, is, work)
+module _ {D : Type 0} {g : disk.Ghosts D} (files : Image) where
+  idle_err : (First Then : Type 0) (Tells : List Command → List Reply → Type 0) (file : Result (Closed D g) (Unfinished D g)) → (First → Then)
+      → IfErr file (IsUnfinished files First Tells) → IfErr file (IsUnfinished files Then Tells)
+  idle_err First Then Tells (Ok closed) f is = tt
+  idle_err First Then Tells (Err left) f is = idle_as files First Then Tells left f is
+
+  -- what is known of the work, and of what came of the file
+  pub ended_from : (ended : Ended D g) (work : Outcome) (file : Result (Closed D g) (Unfinished D g)) (First : Type 0) (Then : Outcome → Type 0) (Tells : Outcome → List Command → List Reply → Type 0)
+      → (ended.work ≡ work) × (ended.file ≡ file) → (First → Then work) → IfOk file (λ closed. IsRound files (MayLeaveClosed closed) (Tells work)) → IfErr file (IsUnfinished files First (Tells work))
+      → HasEndedFrom files ended (Then ended.work) (Tells ended.work)
+  ended_from ended work file First Then Tells is f round unfinished = (
+    subst (λ w. IfOk ended.file (λ closed. IsRound files (MayLeaveClosed closed) (Tells w))) (sym is.0) (subst (λ x. IfOk x (λ closed. IsRound files (MayLeaveClosed closed) (Tells work))) (sym is.1) round),
+    subst (λ w. IfErr ended.file (IsUnfinished files (Then w) (Tells w))) (sym is.0)
+        (subst (λ x. IfErr x (IsUnfinished files (Then work) (Tells work))) (sym is.1) (idle_err First (Then work) (Tells work) file f unfinished)),
+  )
+
+  applied_with : (old new : Bytes) (own : Outcome) (file : Result (Closed D g) (Unfinished D g)) → IfOk file (λ closed. IsRound files (MayLeaveClosed closed) (TellsApply old new own))
+      → IfErr file (IsUnfinished files (HasNotApplied own old new) (TellsApply old new own)) → HasApplied (with_file file own) old new
+  applied_with old new own (Ok closed) round is = inr (own, inl refl, record { commands = round.commands; replies = round.replies; told = round.told })
+  applied_with old new own (Err (unfinished.Unfound fault)) round is = inl (fault, ap (closing_with fault) is.0.0, is.0.1)
+  applied_with old new own (Err (unfinished.Refused fault rest)) round is = inl (fault, ap (closing_with fault) is.0.0, is.0.1)
+  applied_with old new own (Err (unfinished.Unclosed fault rest)) round is = inr (own, inr (fault, refl), record { commands = is.commands; replies = is.replies; told = is.told })
+
+  -- what a row says that has applied a script
+  pub applied_so : (old new : Bytes) (ended : Ended D g) → HasEndedFrom files ended (HasNotApplied ended.work old new) (TellsApply old new ended.work) → HasApplied (outcome_in ended) old new
+  applied_so old new ended it = applied_with old new ended.work ended.file it.0 it.1
+
+  -- what a row says that has migrated a file
+  pub migrated_so : (old new : Bytes) (it : Outcome) (migrated : Result (Migrated D g) (Unfinished D g)) → IfErr migrated (IsUnmigrated files) → TellsMigrated migrated it old new → HasMigrated it old new
+  migrated_so old new it (Ok done) is tells = inl (done.version, tells)
+  migrated_so old new it (Err (unfinished.Unfound fault)) is tells = inr (fault, is, tells.0, tells.1)
+  migrated_so old new it (Err (unfinished.Refused fault rest)) is tells = inr (fault, is.0, tells.0, tells.1)
+  migrated_so old new it (Err (unfinished.Unclosed fault rest)) is tells = inr (fault, is.0, tells.0, tells.1)

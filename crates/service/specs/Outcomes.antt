@@ -4,6 +4,11 @@ use Rattle.std.specs.Io.KnownBytes.{Appends, Keeps}
 use Rattle.cards.specs.Files.{line_feed}
 use Rattle.command_line.specs.declared.statuses.Status.{Status}
 use Rattle.command_line.specs.declared.statuses.Status.TheVariants as status
+use Rattle.sqlite_disk.specs.declared.Disk.{Ghosts}
+use Rattle.ledger_files.specs.Unfinished.{fault_in}
+use Rattle.ledger_files.specs.declared.closed.Closed.{Closed}
+use Rattle.ledger_files.specs.declared.unfinished.Unfinished.{Unfinished}
+use Rattle.ledger_tables.specs.Versions.{opening_number}
 use Rattle.ledger_tables.specs.declared.openings.OpenFault.{OpenFault}
 use Rattle.ledger_tables.specs.declared.openings.OpenFault.TheVariants as opening
 use Rattle.service.specs.declared.outcomes.Outcome.{Outcome}
@@ -29,18 +34,16 @@ closing_with fault (outcome.Fault earlier) = outcome.Fault earlier
 closing_with fault (outcome.Stopped acknowledged) = outcome.Stopped acknowledged
 closing_with fault other = outcome.Fault fault
 
--- the outcome of work with a bureau's file, by its own outcome and by what came of the file
-abbrev pub with_file : Result (Unit {0}) OpenFault → Outcome → Outcome
-with_file (Ok done) outcome = outcome
-with_file (Err fault) outcome = closing_with fault outcome
+-- the outcome of a row, by that of its work and by what came of the bureau's file
+abbrev pub with_file : {D : Type 0} {g : Ghosts D} → Result (Closed D g) (Unfinished D g)
+    → Outcome → Outcome
+with_file (Ok closed) outcome = outcome
+with_file (Err left) outcome = closing_with (fault_in left) outcome
 
--- the number of a fault at opening: of memory, of the store, of a file that is no bureau's or a
--- later version's, or of an earlier version's
-abbrev pub number_of : OpenFault → ℕ
-number_of opening.NoMemory = 1
-number_of opening.Store = 2
-number_of opening.NotABureau = 50
-number_of (opening.Old version) = 51
+-- the outcome where a file was made, or not, for this fault
+abbrev pub made_with : {D : Type 0} {g : Ghosts D} → Result (Closed D g) OpenFault → Outcome
+made_with (Ok closed) = outcome.Done
+made_with (Err fault) = outcome.Fault fault
 
 -- this line was printed, with a line feed
 abbrev pub IsLine : List ℕ → Option (List ℕ) → Option (List ℕ) → Type 0
@@ -55,5 +58,5 @@ HasShown (outcome.Stopped acknowledged) old new =
     IsLine (codes "acknowledged " ++ decimal acknowledged) old new
 HasShown (outcome.Refused number) old new = IsLine (codes "refused " ++ decimal number) old new
 HasShown (outcome.Fault fault) old new =
-    IsLine (codes "fault " ++ decimal (number_of fault)) old new
+    IsLine (codes "fault " ++ decimal (opening_number fault)) old new
 HasShown outcome.Device old new = IsLine (codes "fault device") old new

@@ -1,11 +1,13 @@
 //! Writing to files what a job has punched and printed.
 
-ghost use Rattle.std.specs.Prelude.{◌≡◌, ◌≤◌, false, OnOk};
+ghost use Rattle.std.specs.Prelude.{◌≡◌, ◌≤◌, ◌⊎◌, false, IsTrue, IfErr, OnOk};
 ghost use Rattle.sqlite.specs.Held.{state};
 ghost use Rattle.sqlite.specs.View.{doubt};
+ghost use Rattle.sqlite.specs.WalFiles.{image_at};
 ghost use Rattle.ledger.specs.Working.{HasWorked};
-ghost use Rattle.service.specs.Work.{TellsAsked, TellsExport, query_for};
+ghost use Rattle.service.specs.Work.{HasEndedFrom, IsFileFor, TellsAsked, TellsExport, query_for};
 
+use crate::ended::Ended;
 use crate::outcomes::Outcome;
 use cards::write_punched_cards;
 use command_line::Fault as WritingFault;
@@ -15,7 +17,7 @@ use ledger_files::{Work, with_bureau};
 use ledger_tables::OpenFault;
 use machine::Meter;
 use office::{Command, JobCommand, Reply, Stacker};
-use sqlite::Alter;
+use sqlite::{Alter, FileFrom, Start};
 use std::alloc::Global;
 use std::io;
 use std::io::Write;
@@ -70,6 +72,8 @@ fn ask<S: Alter>(
     ensures works { HasWorked S.Store bureau.old.conn bureau.new.conn bureau.new.broken
         (TellsAsked customer.now number command) }
     ensures whole { OnOk result (bureau.new.broken ≡ false) }
+    ensures told { IfErr result (λ own. (own ≡ Outcome.Fault OpenFault.NoMemory)
+        ⊎ ((own ≡ Outcome.Fault OpenFault.Store) × IsTrue bureau.new.broken)) }
     ensures clean { doubt (state S.Store bureau.old.conn).is_clean
         ≤ doubt (state S.Store bureau.new.conn).is_clean }
 {
@@ -91,7 +95,9 @@ fn ask<S: Alter>(
 }
 
 /// The bytes of the file for a reply of cards or of lines.
-fn bytes_of(alloc: Global, reply: &Reply) -> Result<Vec<u8>, Outcome> {
+fn bytes_of(alloc: Global, reply: &Reply) -> Result<Vec<u8>, Outcome>
+    ensures { IsFileFor reply.now result }
+{
     let bytes = match reply {
         Reply::Cards(cards) => write_punched_cards(alloc, &cards.0),
         Reply::Lines(lines) => render(alloc, &lines.0),
@@ -147,7 +153,10 @@ fn made_by<S: Alter>(
 }
 
 /// Replaces the job's file of a part, in the folder where the program runs.
-fn put(rt: &HostRuntime, customer: &str, number: u32, file: &Made) -> Result<(), Outcome> {
+fn put(rt: &HostRuntime, customer: &str, number: u32, file: &Made) -> Result<(), Outcome>
+    ensures { IfErr result (λ own. (own ≡ Outcome.Fault OpenFault.NoMemory)
+        ⊎ (own ≡ Outcome.Device)) }
+{
     let ending = file.ending;
     let Ok(name) = format!(in rt.alloc(); "{customer}-{number}.{ending}") else {
         return Err(NO_MEMORY);
@@ -206,12 +215,21 @@ impl Work for ExportWork<'_> {
 /// `CUSTOMER-NUMBER.cards` has all its cards, `.cards0`, `.cards4` and `.cards8` those of each
 /// pocket, and `.lines` its lines. Files of these names are replaced, each whole or not at all; if
 /// the job is refused, none is touched.
-pub fn export(rt: &HostRuntime, path: &str, customer: &str, number: u32) -> Outcome {
+pub fn export<S: Start>(
+    rt: &HostRuntime,
+    path: &str,
+    start: S,
+    customer: &str,
+    number: u32,
+) -> Ended<FileFrom<S>>
+    ensures { HasEndedFrom (image_at S.Start) result (result.work ≡ Outcome.Done)
+        (TellsExport customer.now number) }
+{
     let mut work = ExportWork {
         customer,
         number,
         outcome: Outcome::Done,
     };
-    let file = with_bureau(rt, path, &mut work, &mut io::sink());
-    work.outcome.with_file(file)
+    let file = with_bureau(rt, path, start, &mut work, &mut io::sink());
+    Ended::new(work.outcome, file)
 }

@@ -1,11 +1,13 @@
-//! Migrating a bureau's file of an earlier version.
+//! Telling what came of a migration of a bureau's file.
 
 ghost use Rattle.std.specs.Prelude.{OnOk};
-ghost use Rattle.service.specs.Migrating.{HasMigrated, TellsMigrated, version_words};
+ghost use Rattle.service.specs.Migrating.{TellsMigrated, version_words};
 ghost use Rattle.service.specs.Outcomes.{IsLine};
 
 use crate::outcomes::Outcome;
-use ledger_tables::{OpenFault, VERSION};
+use ledger_files::{Migrated, Unfinished};
+use ledger_tables::VERSION;
+use sqlite_disk::Disk;
 use std::io;
 use std::io::Write;
 
@@ -22,23 +24,18 @@ fn print_version<W: Write>(output: &mut W, found: u32) -> io::Result<()>
     output.flush()
 }
 
-/// Tells what came of a migration.
-fn tell<W: Write>(output: &mut W, migrated: Result<u32, OpenFault>) -> Outcome
-    ensures { TellsMigrated migrated result (W.contents output.old) (W.contents output.new) }
+/// Prints what came of a migration: of which version the file was. Returns the outcome.
+pub fn tell_migrated<D: Disk, W: Write>(
+    output: &mut W,
+    migrated: &Result<Migrated<D>, Unfinished<D>>,
+) -> Outcome
+    ensures { TellsMigrated migrated.now result (W.contents output.old) (W.contents output.new) }
 {
     match migrated {
-        Ok(found) => match print_version(output, found) {
+        Ok(done) => match print_version(output, done.version()) {
             Ok(()) => Outcome::Done,
             Err(_) => Outcome::Device,
         },
-        Err(fault) => Outcome::Fault(fault),
+        Err(left) => Outcome::Fault(left.fault()),
     }
-}
-
-/// Makes the bureau's file at `path` one of this version, and prints from which version on the
-/// output.
-pub fn migrate<W: Write>(rt: &HostRuntime, path: &str, output: &mut W) -> Outcome
-    ensures { HasMigrated result (W.contents output.old) (W.contents output.new) }
-{
-    tell(output, ledger_files::migrate(rt, path))
 }

@@ -1,10 +1,12 @@
 //! How a row of a bureau's file ends.
 
 ghost use Rattle.std.specs.Prelude.{◌≡◌, IfOk};
-ghost use Rattle.service.specs.Outcomes.{HasShown, closing_with, status_of, with_file};
+ghost use Rattle.service.specs.Outcomes.{HasShown, closing_with, made_with, status_of, with_file};
 
 use command_line::Status;
+use ledger_files::{Closed, Unfinished};
 use ledger_tables::OpenFault;
+use sqlite_disk::Disk;
 use std::io;
 use std::io::Write;
 
@@ -39,14 +41,24 @@ impl Outcome {
         }
     }
 
-    /// The outcome of work with a bureau's file that had this outcome itself: the fault if the file
-    /// could not be opened, or closed then.
-    pub(crate) fn with_file(self, file: Result<(), OpenFault>) -> Outcome
-        ensures { result ≡ with_file file self }
+    /// The outcome of a row whose work had this outcome itself: the fault if the bureau's file could
+    /// not be opened, or closed then.
+    pub(crate) fn with_file<D: Disk>(self, file: &Result<Closed<D>, Unfinished<D>>) -> Outcome
+        ensures { result ≡ with_file file.now self }
     {
         match file {
-            Ok(()) => self,
-            Err(fault) => self.then_fault(fault),
+            Ok(_) => self,
+            Err(left) => self.then_fault(left.fault()),
+        }
+    }
+
+    /// The outcome where a bureau's file was to be made.
+    pub fn of_made<D: Disk>(file: &Result<Closed<D>, OpenFault>) -> Outcome
+        ensures { result ≡ made_with file.now }
+    {
+        match file {
+            Ok(_) => Outcome::Done,
+            Err(fault) => Outcome::Fault(*fault),
         }
     }
 

@@ -3,15 +3,17 @@
 ghost use Rattle.std.specs.Prelude.{◌≡◌, ◌≤◌};
 ghost use Rattle.sqlite.specs.Held.{state};
 ghost use Rattle.sqlite.specs.View.{doubt};
+ghost use Rattle.sqlite.specs.WalFiles.{image_at};
 ghost use Rattle.ledger.specs.Working.{HasWorked};
-ghost use Rattle.service.specs.Work.{HasApplied, TellsApply, outcome_of};
+ghost use Rattle.service.specs.Work.{HasEndedFrom, HasNotApplied, TellsApply, outcome_of};
 
+use crate::ended::Ended;
 use crate::outcomes::Outcome;
 use exchanges::{ScriptEnd, Scripted, script};
 use ledger::{Bureau, Fault, kept_offices_run_whole};
 use ledger_files::{Work, with_bureau};
 use machine::Meter;
-use sqlite::Alter;
+use sqlite::{Alter, FileFrom, Start};
 use std::fs::File;
 use std::io::Write;
 
@@ -76,13 +78,21 @@ impl Work for ApplyWork<'_> {
 
 /// Carries out the commands of the script at `script_path`, in order, by the bureau whose file is
 /// at `path`. The line of each reply is written after its command is in the file.
-pub fn apply<W: Write>(rt: &HostRuntime, path: &str, script_path: &str, output: &mut W) -> Outcome
-    ensures applied { HasApplied result (W.contents output.old) (W.contents output.new) }
+pub fn apply<S: Start, W: Write>(
+    rt: &HostRuntime,
+    path: &str,
+    start: S,
+    script_path: &str,
+    output: &mut W,
+) -> Ended<FileFrom<S>>
+    ensures { HasEndedFrom (image_at S.Start) result
+        (HasNotApplied result.work (W.contents output.old) (W.contents output.new))
+        (TellsApply (W.contents output.old) (W.contents output.new) result.work) }
 {
     let mut work = ApplyWork {
         script_path,
         outcome: Outcome::Done,
     };
-    let file = with_bureau(rt, path, &mut work, output);
-    work.outcome.with_file(file)
+    let file = with_bureau(rt, path, start, &mut work, output);
+    Ended::new(work.outcome, file)
 }

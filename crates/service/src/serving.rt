@@ -3,10 +3,12 @@
 ghost use Rattle.std.specs.Prelude.{◌≡◌, ◌≤◌, length};
 ghost use Rattle.sqlite.specs.Held.{state};
 ghost use Rattle.sqlite.specs.View.{doubt};
+ghost use Rattle.sqlite.specs.WalFiles.{image_at};
 ghost use Rattle.ledger.specs.Working.{HasWorked};
-ghost use Rattle.service.specs.Work.{IsSomeWork, TellsServe};
+ghost use Rattle.service.specs.Work.{HasEndedFrom, IsSomeWork, TellsServe};
 
 use crate::connections::{Timed, close};
+use crate::ended::Ended;
 use crate::outcomes::Outcome;
 use exchanges::{Exchange, exchange};
 use http_requests::Routes;
@@ -14,7 +16,7 @@ use ledger::{Bureau, kept_offices_run_whole};
 use ledger_files::{Work, with_bureau};
 use ledger_tables::OpenFault;
 use machine::Meter;
-use sqlite::Alter;
+use sqlite::{Alter, FileFrom, Start};
 use std::io;
 use std::io::Write;
 use std::net::{Ipv4Addr, Net, SocketAddrV4, TcpListener, TcpStream};
@@ -145,12 +147,21 @@ impl Work for ServeWork {
 
 /// Serves this number of connections from the bureau's file at a path, on a port of 127.0.0.1, one
 /// after the other, with one request each.
-pub fn serve(rt: &HostRuntime, path: &str, port: u16, count: u32) -> Outcome {
+pub fn serve<S: Start>(
+    rt: &HostRuntime,
+    path: &str,
+    start: S,
+    port: u16,
+    count: u32,
+) -> Ended<FileFrom<S>>
+    ensures { HasEndedFrom (image_at S.Start) result (result.work ≡ Outcome.Done)
+        (TellsServe result.work) }
+{
     let mut work = ServeWork {
         port,
         count,
         outcome: Outcome::Done,
     };
-    let file = with_bureau(rt, path, &mut work, &mut io::sink());
-    work.outcome.with_file(file)
+    let file = with_bureau(rt, path, start, &mut work, &mut io::sink());
+    Ended::new(work.outcome, file)
 }

@@ -1,7 +1,12 @@
+use Rattle.std.proofs.Common.{subst, sym}
+use Rattle.service.specs.Work.{HasApplied}
+use Rattle.service.proofs.WorkLemmas.{applied_so}
 use Rattle.bureau.proofs.AnswerLemmas.{ended_script}
 use Rattle.bureau.proofs.apply_script.Goals as goal
 
 pub returns : goal.returns
 returns g c =
-    ended_script c.show_outcome.result c.apply-outcome.result (g.W.Write.contents c.args.output.now) (g.W.Write.contents c.apply-outcome.new.output)
-    (g.E.Write.contents c.args.errors.now) (g.E.Write.contents c.show_outcome.new.errors) c.apply-outcome.ensures.applied c.show_outcome.ensures
+    let old = g.W.Write.contents c.args.output.now in
+    let new = g.W.Write.contents c.apply-ended.new.output in
+    ended_script c.show_outcome.result c.outcome.result old new (g.E.Write.contents c.args.errors.now) (g.E.Write.contents c.show_outcome.new.errors)
+    (subst (λ it. HasApplied it old new) (sym c.outcome.ensures) (applied_so _ old new c.apply-ended.result c.apply-ended.ensures)) c.show_outcome.ensures

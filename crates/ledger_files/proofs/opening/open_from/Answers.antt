@@ -50,6 +50,7 @@ returns-in-Err-adopted-clause-refused g c clean =
       answer = λ db held sound. c.in-Err-adopted.ensures.answer clean opened.0 opened.1 db sound (found.holds db.trees held);
       told = (c.in-Ok.conn, opened, found, c.in-Err-adopted.ensures.told);
       untouched = λ db held. subst (λ t. HoldsOnly (file_state c.in-Err-adopted.conn) t) (found.holds db held) (c.in-Err-adopted.ensures.holds clean opened.0);
+      same = λ db held. subst (λ t. HoldsOnly (file_state c.in-Err-adopted.conn) t) (found.holds db held) (c.in-Err-adopted.ensures.holds clean opened.0);
     }
 
 -- the files were not opened

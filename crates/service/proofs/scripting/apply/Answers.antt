@@ -1,9 +1,12 @@
 use Rattle.std.proofs.Common.{ap}
-use Rattle.service.proofs.WorkLemmas.{applied_so}
+use Rattle.sqlite.specs.WalFiles.{image_at}
+use Rattle.service.specs.Work.{HasNotApplied, TellsApply}
+use Rattle.service.proofs.WorkLemmas.{ended_from}
 use Rattle.service.proofs.scripting.apply.Goals as goal
 
 pub returns : goal.returns
-returns g c = record {
-  applied = applied_so _ (g.W.Write.contents c.args.output.now) (g.W.Write.contents c.with_bureau-file.new.output) c.with_bureau-file.result c.with_bureau-file.new.work.outcome c.with_file.result
-      (λ same. ap (λ w. w.outcome) same) c.with_file.ensures c.with_bureau-file.ensures.told c.with_bureau-file.ensures.idle;
-}
+returns g c =
+    let old = g.W.Write.contents c.args.output.now in
+    let new = g.W.Write.contents c.with_bureau-file.new.output in
+    ended_from (image_at g.S.Start) c.new.result _ _ _ (λ own. HasNotApplied own old new) (λ own. TellsApply old new own) c.new.ensures (λ same. (ap (λ w. w.outcome) same.0, same.1))
+    c.with_bureau-file.ensures.round c.with_bureau-file.ensures.unfinished

@@ -1,0 +1,35 @@
+//! What undoes that an open failed.
+
+ghost use Rattle.ledger_files.specs.Places.{Undoes};
+
+/// The most bytes of a log that no transaction was written to.
+const EMPTY_LOG: u64 = 41;
+
+/// The number of bytes that an open adds to a log of another program.
+const ADDED: u64 = 9;
+
+/// What is done to a log after an open that failed, so that it is again what it was before. No
+/// transaction is lost by it.
+#[derive(Clone, Copy)]
+pub(crate) enum Undoing {
+    /// Nothing.
+    Keep,
+    /// The log is removed: it was not there, and has no transaction.
+    Remove,
+    /// The log is cut to this length: what an open adds to a log is shorter than a transaction.
+    Cut(u64),
+}
+
+impl Undoing {
+    /// What undoes an open that failed, for a log that had the length `before`, if there was one,
+    /// and has the length `now`.
+    pub(crate) fn of(before: Option<u64>, now: u64) -> Undoing
+        ensures { Undoes before now result }
+    {
+        match before {
+            None if now <= EMPTY_LOG => Undoing::Remove,
+            Some(before) if now.checked_sub(before) == Some(ADDED) => Undoing::Cut(before),
+            _ => Undoing::Keep,
+        }
+    }
+}

@@ -1,0 +1,11 @@
+use Rattle.std.proofs.Common.{◌≡◌, ap}
+use Rattle.sqlite.specs.WalFiles.{image_at}
+use Rattle.service.specs.Work.{TellsExport}
+use Rattle.service.specs.declared.outcomes.Outcome.TheVariants as outcome
+use Rattle.service.proofs.WorkLemmas.{ended_from}
+use Rattle.service.proofs.exporting.export.Goals as goal
+
+pub returns : goal.returns
+returns g c =
+    ended_from (image_at g.S.Start) c.new.result _ _ _ (λ own. own ≡ outcome.Done) (λ own. TellsExport c.args.customer.now c.args.number) c.new.ensures (λ same. ap (λ w. w.outcome) same.0)
+    c.with_bureau-file.ensures.round c.with_bureau-file.ensures.unfinished
