@@ -14,6 +14,8 @@ mod devices;
 #[cfg(test)]
 mod fixed_answers;
 #[cfg(test)]
+mod jobs;
+#[cfg(test)]
 mod request_bodies;
 #[cfg(test)]
 mod script_lines;

@@ -17,7 +17,7 @@ use Rattle.machine.specs.declared.named.Modifier.TheVariants.{Plain, OnCondition
 use Rattle.machine.specs.Branches.{condition_of, test_of}
 use Rattle.machine.specs.Instructions.{operation_by, modifier_by, addresses_by, is_form, is_last, form_or_first}
 use Rattle.machine.specs.Operations.{Last, says_nothing, names_condition, is_compared, names_test, names_order, names_pocket, Form, Row, row_of, form_among, meant, modifier_at}
-use Rattle.machine.specs.Word.{decoded_of, operands_of, LooksInside, WantsTwo}
+use Rattle.machine.specs.Word.{decoded_of, operands_of, LooksInside}
 use Rattle.machine.proofs.FormTables.{IsFormed, formed, form_is, looks, looks_at}
 
 -- ---- what is named
@@ -121,6 +121,15 @@ module _ (s : Storage) (count : ℕ) (r : Registers) (codes : List ℕ) (first l
       rw (is_first, is_end) (decoded_is s count r codes (rw is_first at form) (rw (is_first, is_end) at end) ∙ rw (sym (rw (same, is_first) at h)) refl)
 
 -- ---- a position that is tested is that of a second address
+
+-- a modifier that tests the position B requires an instruction with two addresses
+abbrev WantsTwo : Modifier → ℕ → Type 0
+WantsTwo Plain count = Unit {0}
+WantsTwo (OnCondition condition) count = Unit {0}
+WantsTwo (OnCharacter code) count = 1 < count
+WantsTwo (OnTest test) count = 1 < count
+WantsTwo (ByOrder order) count = Unit {0}
+WantsTwo (ToPocket pocket) count = Unit {0}
 
 condition_two : (found : Option Condition) (count : ℕ) → WantsTwo (unwrap_or (option_map (λ condition. OnCondition condition) found) Plain) count
 condition_two (Some condition) count = tt

@@ -1,14 +1,15 @@
 -- the report of a machine
-use Rattle.std.specs.Prelude.{ℕ, List, ◌++◌, length, codes, decimal}
-use Rattle.machine.specs.Run.{State, lines_of}
+use Rattle.std.specs.Prelude.{ℕ, List, ◌++◌, codes, decimal}
+use Rattle.units.specs.Units.{made_in_all}
+use Rattle.machine.specs.Run.{State}
 use Rattle.machine.specs.Standings.{standing_of, standing_words}
 use Rattle.machine.specs.declared.reports.Report.{Report}
 
--- the report of a machine: its counts of cards and lines, and its standing
+-- the report of a machine: how many cards and lines it has made in all, and its standing
 abbrev pub report_of : State → Report
 report_of m = record {
-  cards = length m.works.units.punch.cards;
-  lines = length (lines_of m);
+  cards = (made_in_all m.works.units).cards;
+  lines = (made_in_all m.works.units).lines;
   standing = standing_of m;
 }
 

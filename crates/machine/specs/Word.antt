@@ -80,15 +80,6 @@ decoded_of s count r codes =
 abbrev pub decoded : Storage → Registers → List ℕ → Result Decoded Check
 decoded s r codes = decoded_of s (length codes) r codes
 
--- a modifier that tests the position B requires an instruction with two addresses
-abbrev pub WantsTwo : Modifier → ℕ → Type 0
-WantsTwo Plain count = Unit {0}
-WantsTwo (OnCondition condition) count = Unit {0}
-WantsTwo (OnCharacter code) count = 1 < count
-WantsTwo (OnTest test) count = 1 < count
-WantsTwo (ByOrder order) count = Unit {0}
-WantsTwo (ToPocket pocket) count = Unit {0}
-
 -- a modifier that tests the position B does so within a storage of this size
 abbrev pub LooksInside : Modifier → ℕ → ℕ → Type 0
 LooksInside Plain b size = Unit {0}

@@ -12,22 +12,22 @@ use std::fmt::{Display, Formatter};
 /// What a machine has made, and its standing. Its `Display` is what is printed.
 #[derive(Clone, Copy)]
 pub struct Report {
-    /// The number of cards punched.
+    /// The number of cards punched, in all.
     pub cards: usize,
-    /// The number of lines printed.
+    /// The number of lines printed, in all.
     pub lines: usize,
     /// The standing.
     pub standing: StandingAt,
 }
 
 impl Report {
-    /// The report of a machine that has all of its cards and lines.
+    /// The report of a machine. Cards and lines that it made before and no longer has count too.
     pub fn of<C: Core>(parts: &Parts<C>) -> Report
         ensures { result ≡ report_of parts.now }
     {
         Report {
-            cards: parts.units.punch.cards.len(),
-            lines: parts.units.printer.lines.len(),
+            cards: parts.units.cards_in_all(),
+            lines: parts.units.lines_in_all(),
             standing: parts.standing_at(),
         }
     }

@@ -1,12 +1,12 @@
 -- a job with its machine, and the job that a command makes of it
-use Rattle.std.specs.Prelude.{◌≡◌, ℕ, ◌+◌, ◌&&◌, nat_lt, Bool, true, false, not, List, [], length, Option, Some, None, if◌then◌else◌}
+use Rattle.std.specs.Prelude.{◌≡◌, ℕ, ◌+◌, ◌&&◌, nat_lt, Bool, true, false, not, List, [], Option, Some, None, if◌then◌else◌}
 use Rattle.cards.specs.declared.decks.Card.{Card}
 use Rattle.core_store.specs.declared.sizes.Size.{Size}
 use Rattle.machine.specs.Ranges.{IsInRange}
 use Rattle.machine.specs.Run.{State, loaded, after, attempts, executed, lines_of, started}
 use Rattle.machine.specs.Standings.{standing_of, goes_on, is_at_halt}
 use Rattle.units.specs.Switches.{seven}
-use Rattle.units.specs.Units.{Makes}
+use Rattle.units.specs.Units.{Makes, made_in_all}
 use Rattle.units.specs.declared.profiles.Profile.TheVariants.{Selecting}
 use Rattle.units.specs.declared.switches.Switches.{Switches}
 use Rattle.office.specs.Limits.{most_granted}
@@ -55,15 +55,15 @@ pub record IsJobInRange (k : Kept) : Type 0 where
 -- ---- the standing of a job
 
 -- the summary of a job: its standing, its flags, the instructions granted, and how many cards and
--- lines it has made
+-- lines it has made in all
 abbrev pub summary_of : Kept → Summary
 summary_of k = record {
   standing = standing_of k.machine;
   held = k.held;
   collected = k.collected;
   granted = granted k.stretches;
-  cards = length k.machine.works.units.punch.cards;
-  lines = length (lines_of k.machine);
+  cards = (made_in_all k.machine.works.units).cards;
+  lines = (made_in_all k.machine.works.units).lines;
 }
 
 -- ---- what is refused

@@ -157,8 +157,8 @@ impl<C: Core> Job<C> {
             held: self.held,
             collected: self.collected,
             granted: self.stretches.total_grant(),
-            cards: parts.units.punch.cards.len() as u32,
-            lines: parts.units.printer.lines.len() as u32,
+            cards: parts.units.cards_in_all() as u32,
+            lines: parts.units.lines_in_all() as u32,
         }
     }
 

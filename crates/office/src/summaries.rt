@@ -10,8 +10,8 @@ pub struct Summary {
     pub collected: bool,
     /// The number of instructions granted, over all stretches.
     pub granted: u32,
-    /// The number of cards punched.
+    /// The number of cards punched, in all.
     pub cards: u32,
-    /// The number of lines printed.
+    /// The number of lines printed, in all.
     pub lines: u32,
 }

@@ -1,7 +1,7 @@
 //! The units of a machine, together.
 
 ghost use Rattle.std.specs.Prelude.{◌≡◌};
-ghost use Rattle.units.specs.Units.{is_last_card};
+ghost use Rattle.units.specs.Units.{is_last_card, made_in_all};
 
 use crate::printer::Printer;
 use crate::punch::Punch;
@@ -35,5 +35,19 @@ impl Units {
         ensures { result ≡ is_last_card self.now.switches self.now.hopper }
     {
         self.switches.contains(Switches::A) && self.hopper.is_empty()
+    }
+
+    /// How many cards were made in all: those before, and the punch's own.
+    pub fn cards_in_all(&self) -> usize
+        ensures { result ≡ (made_in_all self.now).cards }
+    {
+        self.before.cards as usize + self.punch.cards.len()
+    }
+
+    /// How many lines were made in all: those before, and the printer's own.
+    pub fn lines_in_all(&self) -> usize
+        ensures { result ≡ (made_in_all self.now).lines }
+    {
+        self.before.lines as usize + self.printer.lines.len()
     }
 }
