@@ -72,7 +72,7 @@ returns-in-Err-commit-clause-crash g c clean version office s db may =
 
 pub returns-in-Err-clause-known : goal.returns-in-Err-clause-known
 returns-in-Err-clause-known g c = (
-  c.in-Err.ensures.told,
+  c.in-Err.ensures.not_old,
   λ clean version office s.
       let begun = c.transaction-tx.ensures.begun in
       let mid = c.raise_found-found.new.tables.tx.now.conn.now in
