@@ -53,14 +53,6 @@ abbrev pub as_opened : Result ℕ OpenFault → Result ⊤ OpenFault
 as_opened (Ok version) = if version == own_version then Ok tt else Err (Old version)
 as_opened (Err fault) = Err fault
 
--- the tables were asked for their version, and the answer is that of the versions found, or of the
--- error by which the query failed; or an earlier version was found, and the answer is fault 1 or 2,
--- since the tables of that version could not be raised
-abbrev pub IsToldFrom : State → Result ℕ OpenFault → Type 0
-IsToldFrom before result = (asked : State) × (IsFoundVersion before asked (as_opened result)
-    ⊎ (IsErrAnd result IsKnown
-    × ((version : ℕ) × IsFoundVersion {X = ⊤} before asked (Err (Old version)))))
-
 module _ {S : Type 0} (g : Ghosts S) where
   -- on Ok, if the job had its whole storage and no pages of it, it now has its pages too
   abbrev pub AddsPages : {X : Type 0} → OpenTables S → OpenTables S → Result X Fault → JobName
@@ -139,9 +131,20 @@ module _ {S : Type 0} (g : Ghosts S) where
   RaisesFound old new result =
       Inside g old new (λ before after. IfOk result (IsRaisedFrom before after))
 
+  -- the tables were asked for their version, and the answer is that of the versions found, or of
+  -- the error by which the query failed; or an earlier version was found, and the answer is fault 1
+  -- or 2, since the tables of that version could not be raised
+  abbrev pub IsToldFrom : Held S → Result ℕ OpenFault → Type 0
+  IsToldFrom before result = (asked : Held S)
+      × (IsFoundVersion (state g before) (state g asked) (as_opened result)
+      ⊎ (IsErrAnd result IsKnown
+      × ((version : ℕ)
+      × IsFoundVersion {X = ⊤} (state g before) (state g asked) (Err (Old version)))))
+
   -- the answer is told right of the version that the tables were found to have
   abbrev pub TellsVersion : OpenTables S → OpenTables S → Result ℕ OpenFault → Type 0
-  TellsVersion old new result = Inside g old new (λ before after. IsToldFrom before result)
+  TellsVersion old new result =
+      Inside g old new (λ before after. IsToldFrom old.tx.now.conn.now result)
 
   -- a fault is not that the tables are no bureau's, if they represented an office in any version
   abbrev pub KnowsFault : {X : Type 0} → OpenTables S → OpenTables S → Result X OpenFault
@@ -195,7 +198,7 @@ module _ {S : Type 0} (g : Ghosts S) (old new : Held S) where
   abbrev pub IsToldOfVersion : Result ℕ OpenFault → Type 0
   IsToldOfVersion result = HasCleanDisk (state g new)
       → ((result ≡ Err Store) × IsTrue (state g old).in_transaction)
-      ⊎ IsToldFrom (state g (begun old)) result
+      ⊎ IsToldFrom g (begun old) result
 
   -- the fault is not that the tables are of an earlier version; and if the tables of any version
   -- represented an office, it is not that they are no bureau's

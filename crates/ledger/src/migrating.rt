@@ -9,7 +9,7 @@ ghost use Rattle.ledger.specs.Migrating.{AddsPages, AddsNext, AddsPagesOf, AddsA
 ghost use Rattle.ledger.specs.Older.{FirstRows, RowsOf, SecondRows, ThirdRows};
 
 use crate::page_saving::insert_pages;
-use crate::reading::told;
+use crate::reading::{stored, told};
 use core_store::PlaneCore;
 use ledger_rows::read_storage;
 use ledger_tables::{Fault, JobName, OpenFault, OpenTables, QueuedRow, VERSION};
@@ -25,9 +25,8 @@ fn raise_storage<S: Alter>(
     ensures step { IsStep S.Store tables.old tables.new result }
     ensures raised { AddsPages S.Store tables.old tables.new result name.entry }
 {
-    let Some(row) = tables.find_storage(name)? else {
-        return Err(Fault::Store);
-    };
+    let found = tables.find_storage(name)?;
+    let row = stored(found)?;
     let core: PlaneCore = told(read_storage(tables.alloc, &row.storage))?;
     insert_pages(tables, name, &core)
 }

@@ -36,3 +36,7 @@ returns-clause-found g c clean inside office s =
     let found = c.in_ok-row.ensures.found clean inside (tables_of office) s.tables in
     let none = row_none c.args.name.customer.now c.args.name.number office c.in_ok-row.field-0 found.1 c.in-None.is in
     (still old new office found.0 s, ap (commanded c.args.name.customer.now c.args.name.number c.args.command office) none)
+
+pub returns-in_err-row-clause-no_job : goal.returns-in_err-row-clause-no_job
+returns-in_err-row-clause-no_job g c clean inside store office has none =
+    c.in_err-row.ensures.failed clean inside ?
