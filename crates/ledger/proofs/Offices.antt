@@ -119,6 +119,10 @@ module _ {X : Type 0} (part : JobCells → X) where
       go None at = at
       go (Some job) at = absurd (let e : None ≡ Some (part (job_cells job)) = sym is ∙ part_told customer number office found (Some job) told at in cc)
 
+-- the tables of an office without the job have no part of its row
+pub part_absent : {X : Type 0} (part : JobCells → X) (customer : List ℕ) (number : ℕ) (office : Office) → job_of customer number office ≡ None → option_map part (option_map (λ (j : NamedJob). j.cells) (job_named customer number (map named office))) ≡ None
+part_absent part customer number office none = ap (option_map part) (row_absent customer number office none)
+
 pub kept_is : (stretches : List Stretch) (held collected : Bool) (machine : run.State) (job : Job) → stretches ≡ job.stretches → held ≡ job.held → collected ≡ job.collected → machine ≡ without_outputs (picture job)
     → ◌≡◌ {A = Kept} (record { stretches = stretches; held = held; collected = collected; machine = machine }) (kept_alone job)
 kept_is stretches held collected machine job one two three four = rw (one, two, three, four)

@@ -137,7 +137,8 @@ fn submit_new<S: Alter>(
     ensures done { ServesWhere S.Store tables.old tables.new result
         (IsFreeName name.entry) (with_taken name.entry contents.now) }
 {
-    match made(new_job(tables.alloc, contents))? {
+    let new = made(new_job(tables.alloc, contents))?;
+    match new {
         Ok(job) => add(tables, name, contents, &job),
         Err(reason) => Ok(Reply::Refused(reason)),
     }
