@@ -1,24 +1,28 @@
 -- The version that tables have, and transactions that raise them.
-use Rattle.std.proofs.Common.{◌≡◌, ◌≢◌, ◌⊎◌, inl, inr, ◌<◌, ℕ, pos, List, [], ◌∷◌, map, Bool, true, false, true≢false, IsTrue, Ok, Err, refl, sym, ap, subst, ◌∙◌, arith}
+use Rattle.std.proofs.Common.{◌≡◌, ◌≢◌, ◌⊎◌, inl, inr, ◌<◌, ◌==◌, ℕ, pos, List, [], ◌∷◌, map, Bool, true, false, true≢false, IsTrue, Result, Ok, Err, refl, sym, ap, subst, ◌∙◌, arith}
+use Rattle.std.proofs.lemmas.Bool.Decides.{nat_tests}
 use Rattle.sqlite.specs.declared.error.Error.{Error}
 use Rattle.sqlite.specs.declared.error.Error.TheVariants.{SqliteFailure, SqlInputError}
 use Rattle.sqlite.specs.declared.error.ErrorCode.TheVariants.{OutOfMemory as NoRoom}
 use Rattle.sqlite.specs.declared.types.Value.{Value}
 use Rattle.sqlite.specs.declared.types.Value.TheVariants.{Int}
 use Rattle.sqlite.specs.Effect.{Database}
+use Rattle.sqlite.specs.Held.{Held, state}
 use Rattle.sqlite.specs.Order.{Row, column}
 use Rattle.sqlite.specs.State.{State, HasCleanDisk, IsRolledBack, KeepsCommit, Shown, Survives}
 use Rattle.sqlite.specs.Tree.{Trees}
+use Rattle.sqlite_trees.specs.declared.store.Store.{Ghosts}
 use Rattle.office.specs.Office.{Office}
 use Rattle.ledger_tables.specs.Schema.{own_version}
-use Rattle.ledger_tables.specs.Versions.{select_version, opening_fault, versions_in, IsFaultOf, IsFoundVersion, IsKnown, IsOfVersion}
+use Rattle.ledger_tables.specs.Versions.{select_version, opening_fault, versions_in, IsAnswer, IsFaultOf, IsFoundVersion, IsKnown, IsOfVersion}
 use Rattle.ledger_tables.specs.declared.openings.OpenFault.{OpenFault}
 use Rattle.ledger_tables.specs.declared.openings.OpenFault.TheVariants.{NoMemory, Store, NotABureau, Old}
 use Rattle.ledger_tables.specs.Steps.{GoesOn}
 use Rattle.ledger_tables.proofs.Frames.{shown_goes_on, shown_opened, shown_same}
+use Rattle.ledger_tables.proofs.OpeningAnswers.{found_answer, known_answer}
 use Rattle.ledger_tables.proofs.OpeningVersion.{plain_in, shown_understood, versions_shown}
 use Rattle.ledger.specs.Adopting.{IsUntouched}
-use Rattle.ledger.specs.Migrating.{IsRaisedFrom, IsVersionOf}
+use Rattle.ledger.specs.Migrating.{as_opened, IsRaisedFrom, IsToldFrom, IsVersionOf}
 use Rattle.ledger.specs.Older.{FirstRows, LeftOf, RowsOf, SecondRows, StandsOf, ThirdRows}
 use Rattle.ledger.specs.Standing.{LeftAs, Rows, Stands}
 use Rattle.ledger.proofs.BureauTransactions.{left_as}
@@ -55,6 +59,37 @@ version_found old new version (rows, shown, is) = record {
 
 pub version_goes_on : (old new : State) (version : ℕ) → IsTrue old.in_transaction → ShowsOne old new version → GoesOn old new
 version_goes_on old new version inside (rows, shown, is) = shown_goes_on old new select_version [] rows inside shown
+
+-- ---- what a migration tells of it
+
+opened_other : (version : ℕ) → version ≢ own_version → as_opened (Ok version) ≡ Err (Old version)
+opened_other version other = let no : (version == own_version) ≡ false = grind (arith, nat_tests) in rw no
+
+old_other : (old new : State) (version : ℕ) → IsFoundVersion {X = Unit {0}} old new (Err (Old version)) → version ≢ own_version
+old_other old new version (inl shown) is = omega (arith, is, shown.2.2)
+old_other old new version (inr refused) is = absurd (not_old refused.0 version refused.2)
+
+module _ {S : Type 0} (g : Ghosts S) where
+  -- an earlier version that was found
+  pub told_earlier : (old new : Held S) (version : ℕ) (fault : OpenFault) → fault ≡ Old version → IsFoundVersion {X = Unit {0}} (state g old) (state g new) (Err fault) → IsToldFrom g old (Ok version)
+  told_earlier old new version fault is found =
+      let here = subst (λ (e : OpenFault). IsFoundVersion {X = Unit {0}} (state g old) (state g new) (Err e)) is found in
+      (new, inl (subst (IsFoundVersion {X = Unit {0}} (state g old) (state g new)) (sym (opened_other version (old_other (state g old) (state g new) version here))) here))
+
+  -- a fault that was found
+  pub told_fault : (old new : Held S) (fault kept : OpenFault) → fault ≡ kept → IsFoundVersion {X = Unit {0}} (state g old) (state g new) (Err fault) → IsToldFrom g old (Err kept)
+  told_fault old new fault kept is found = (new, inl (subst (λ (e : OpenFault). IsFoundVersion {X = Unit {0}} (state g old) (state g new) (Err e)) is found))
+
+  -- an earlier version whose tables could not be raised
+  pub told_unraised : (before : Held S) (version : ℕ) (fault : OpenFault) → version ≢ own_version → IsKnown fault → IsToldFrom g before (Ok version) → IsToldFrom g before (Err fault)
+  told_unraised before version fault other known (asked, inl found) = (asked, inr (known, (version, subst (IsFoundVersion {X = Unit {0}} (state g before) (state g asked)) (opened_other version other) found)))
+  told_unraised before version fault other known (asked, inr none) = absurd none.0
+
+  -- what is told of the version is an answer for the tables
+  pub told_answer : (before : Held S) (result : Result ℕ OpenFault) → IsToldFrom g before result → IsAnswer (state g before).now (as_opened result)
+  told_answer before result (asked, inl found) = found_answer (state g before) (state g asked) (as_opened result) found
+  told_answer before (Ok version) (asked, inr none) = absurd none.0
+  told_answer before (Err fault) (asked, inr known) = known_answer (Unit {0}) (state g before).now fault known.0
 
 -- ---- tables of a version
 

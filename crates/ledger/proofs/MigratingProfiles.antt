@@ -1,5 +1,5 @@
 -- The profiles and pockets of jobs from before version 4.
-use Rattle.std.proofs.Common.{inl, inr, ◌≡◌, ◌+◌, ◌==◌, ℕ, List, [], ◌∷◌, map, All, Bool, true, false, if◌then◌else◌, Option, None, Some, refl, sym, ap, ◌∙◌}
+use Rattle.std.proofs.Common.{inl, inr, ◌≡◌, ◌+◌, ◌==◌, ℕ, List, [], ◌∷◌, map, Bool, true, false, if◌then◌else◌, Option, None, Some, refl, sym, ap, ◌∙◌}
 use Rattle.std.proofs.Math.Path.{fun_ext}
 use Rattle.std.specs.List.{AllByRecursion}
 use Rattle.std.specs.Option.{option_map}
@@ -9,7 +9,7 @@ use Rattle.office.specs.Jobs.{Job, picture}
 use Rattle.office.specs.Office.{Entry, Office, is_entry, job_of}
 use Rattle.ledger_rows.specs.Columns.{profile_number, profile_row}
 use Rattle.ledger_rows.specs.Pockets.{pocket_cell, pocket_rows_from, pocket_rows_of}
-use Rattle.ledger_tables.specs.Cells.{Pockets, no_pockets}
+use Rattle.ledger_tables.specs.Cells.{no_pockets}
 use Rattle.ledger_tables.specs.Raising.{plain_profile, with_plain_profiles}
 use Rattle.ledger_tables.specs.Tables.{job_named}
 use Rattle.ledger_tables.specs.declared.rows.ProfileRow.{ProfileRow}
@@ -17,7 +17,6 @@ use Rattle.units.specs.Pockets.{pocket_number}
 use Rattle.units.specs.Stacked.{IsNormal}
 use Rattle.units.specs.declared.pockets.Pocket.{Pocket}
 use Rattle.units.specs.declared.profiles.Profile.{Profile}
-use Rattle.units.specs.declared.profiles.Profile.TheVariants.{Plain}
 use Rattle.units.specs.declared.punch.Punched.{Punched}
 use Rattle.ledger.specs.Older.{IsPlainJob}
 use Rattle.ledger.specs.Standing.{named, profile_of, pockets_of, tables_of}

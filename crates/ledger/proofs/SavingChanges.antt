@@ -24,7 +24,6 @@ use Rattle.ledger_tables.specs.declared.rows.StateRow.{StateRow}
 use Rattle.ledger_tables.proofs.InsertLast.{name_is, name_yes}
 use Rattle.units.specs.Pockets.{pocket_number}
 use Rattle.units.specs.Stacked.{Stacked}
-use Rattle.units.specs.declared.printer.Line.{Line}
 use Rattle.units.specs.declared.profiles.Profile.{Profile}
 use Rattle.units.specs.declared.punch.Punched.{Punched}
 use Rattle.units.specs.declared.switches.Switches.{Switches}

@@ -1,5 +1,5 @@
 -- the contracts of a migration and of its steps
-use Rattle.std.specs.Prelude.{◌≡◌, ◌≢◌, ◌⊎◌, ◌+◌, ◌++◌, ◌∷◌, [], pos, ℕ, List, length, map, take, IsTrue, Result, Ok, Err, IfErr, IfOk, OnOk}
+use Rattle.std.specs.Prelude.{◌≡◌, ◌≢◌, ◌⊎◌, ◌+◌, ◌++◌, ◌==◌, ◌∷◌, [], pos, ℕ, if◌then◌else◌, List, length, map, take, IsTrue, Result, Ok, Err, IfErr, IfOk, IsErrAnd, OnOk, ⊤}
 use Rattle.std.specs.List.{AllByRecursion}
 use Rattle.core_store.specs.Storage.{Storage}
 use Rattle.machine.specs.Ranges.{HasSize}
@@ -17,13 +17,13 @@ use Rattle.ledger_tables.specs.Schema.{own_version}
 use Rattle.ledger_tables.specs.Steps.{Inside}
 use Rattle.ledger_tables.specs.Raising.{with_plain_profiles}
 use Rattle.ledger_tables.specs.Tables.{ByJob, Tables, Holds, HoldsAs, pictured, paged}
-use Rattle.ledger_tables.specs.Versions.{HasVersions, versions_in, IsBureaus}
+use Rattle.ledger_tables.specs.Versions.{HasVersions, versions_in, IsAnswer, IsBureaus, IsFoundVersion, IsKnown}
 use Rattle.ledger_tables.specs.declared.faults.Fault.{Fault}
 use Rattle.ledger_tables.specs.declared.names.JobName.{JobName}
 use Rattle.ledger_tables.specs.declared.open_tables.OpenTables.{OpenTables}
 use Rattle.ledger_tables.specs.declared.openings.OpenFault.{OpenFault}
-use Rattle.ledger_tables.specs.declared.openings.OpenFault.TheVariants.{NoMemory, NotABureau, Old}
-use Rattle.ledger.specs.Adopting.{IsUntouched}
+use Rattle.ledger_tables.specs.declared.openings.OpenFault.TheVariants.{NoMemory, Store, NotABureau, Old}
+use Rattle.ledger.specs.Adopting.{IsUntouched, begun}
 use Rattle.ledger.specs.Listed.{IsIts}
 use Rattle.ledger.specs.Older.{storages_of, with_first_pages, HasWhole, LeftOf, RowsOf, StandsOf}
 use Rattle.ledger.specs.Saving.{with_storage}
@@ -46,6 +46,12 @@ pub record IsRaisedFrom (before after : State) (found : ℕ) : Type 0 where
   pub only : IsBureaus before.now.schema → versions_in before.now ≡ Int (pos found) ∷ []
   pub raised : (version : ℕ) (office : Office) → RowsOf version before.now office
       → (found ≡ version) × Rows after.now office
+
+-- what an opening would have answered where a migration answers this: an earlier version that it
+-- found is an old file's
+abbrev pub as_opened : Result ℕ OpenFault → Result ⊤ OpenFault
+as_opened (Ok version) = if version == own_version then Ok tt else Err (Old version)
+as_opened (Err fault) = Err fault
 
 module _ {S : Type 0} (g : Ghosts S) where
   -- on Ok, if the job had its whole storage and no pages of it, it now has its pages too
@@ -125,6 +131,21 @@ module _ {S : Type 0} (g : Ghosts S) where
   RaisesFound old new result =
       Inside g old new (λ before after. IfOk result (IsRaisedFrom before after))
 
+  -- the tables were asked for their version, and the answer is that of the versions found, or of
+  -- the error by which the query failed; or an earlier version was found, and the answer is fault 1
+  -- or 2, since the tables of that version could not be raised
+  abbrev pub IsToldFrom : Held S → Result ℕ OpenFault → Type 0
+  IsToldFrom before result = (asked : Held S)
+      × (IsFoundVersion (state g before) (state g asked) (as_opened result)
+      ⊎ (IsErrAnd result IsKnown
+      × ((version : ℕ)
+      × IsFoundVersion {X = ⊤} (state g before) (state g asked) (Err (Old version)))))
+
+  -- the answer is told right of the version that the tables were found to have
+  abbrev pub TellsVersion : OpenTables S → OpenTables S → Result ℕ OpenFault → Type 0
+  TellsVersion old new result =
+      Inside g old new (λ before after. IsToldFrom old.tx.now.conn.now result)
+
   -- a fault is not that the tables are no bureau's, if they represented an office in any version
   abbrev pub KnowsFault : {X : Type 0} → OpenTables S → OpenTables S → Result X OpenFault
       → Type 0
@@ -165,6 +186,19 @@ module _ {S : Type 0} (g : Ghosts S) (old new : Held S) where
   HasVersion found = HasCleanDisk (state g new) → HasVersions (state g old).now
       × (IsBureaus (state g old).now.schema
       → versions_in (state g old).now ≡ Int (pos found) ∷ [])
+
+  -- an opening that answered so, an earlier version being an old file's, would have answered right
+  -- for these tables
+  abbrev pub IsAnswerOf : Result ℕ OpenFault → Type 0
+  IsAnswerOf result =
+      HasCleanDisk (state g new) → IsAnswer (state g old).now (as_opened result)
+
+  -- the answer is told right of the version that the tables were found to have; or it is fault 2,
+  -- since a transaction was open
+  abbrev pub IsToldOfVersion : Result ℕ OpenFault → Type 0
+  IsToldOfVersion result = HasCleanDisk (state g new)
+      → ((result ≡ Err Store) × IsTrue (state g old).in_transaction)
+      ⊎ IsToldFrom g (begun old) result
 
   -- the fault is not that the tables are of an earlier version; and if the tables of any version
   -- represented an office, it is not that they are no bureau's

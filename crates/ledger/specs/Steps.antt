@@ -1,13 +1,16 @@
 -- the contracts of the steps of a command, each within one transaction
-use Rattle.std.specs.Prelude.{◌≡◌, ℕ, IsTrue, Result, IfOk, OnOk, OnErr}
+use Rattle.std.specs.Prelude.{◌≡◌, ℕ, None, IsTrue, Result, IfOk, OnOk, OnErr, IsErrOf}
 use Rattle.machine.specs.Run.{risen}
 use Rattle.sqlite_trees.specs.declared.store.Store.{Ghosts}
 use Rattle.ledger_tables.specs.declared.faults.Fault.{Fault}
+use Rattle.ledger_tables.specs.declared.faults.Fault.TheVariants.{Store}
+use Rattle.ledger_tables.specs.declared.names.JobName.{JobName}
 use Rattle.ledger_tables.specs.declared.open_tables.OpenTables.{OpenTables}
-use Rattle.ledger_tables.specs.Steps.{Inside}
+use Rattle.ledger_tables.specs.Steps.{HasFailed, Inside}
 use Rattle.office.specs.Meters.{RisenAtMost}
 use Rattle.office.specs.Office.{Office}
 use Rattle.office.specs.declared.replies.Reply.{Reply}
+use Rattle.ledger.specs.Saving.{job_in}
 use Rattle.ledger.specs.Standing.{StandsIn, Served}
 
 module _ {S : Type 0} (g : Ghosts S) where
@@ -18,6 +21,15 @@ module _ {S : Type 0} (g : Ghosts S) where
   FindsIn old new result Is =
       Inside g old new (λ before after. IfOk result (λ found. (office : Office)
       → StandsIn before office → StandsIn after office × Is office found))
+
+  -- if the tables represent an office without a job of this name as long as they are open, fault 2
+  -- comes only where the database failed
+  abbrev pub FindsNoJob : {X : Type 0} → OpenTables S → OpenTables S → Result X Fault → JobName
+      → Type 0
+  FindsNoJob old new result name =
+      Inside g old new (λ before after. IsErrOf result Store → (office : Office)
+      → (IsTrue before.is_open → StandsIn before office) → job_in name office ≡ None
+      → HasFailed before after)
 
   -- on Ok, if the tables represented an office that meets the premise, they represent the office
   -- after the change

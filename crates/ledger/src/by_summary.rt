@@ -4,7 +4,7 @@ ghost use Rattle.office.specs.declared.commands.JobCommand.{JobCommand};
 ghost use Rattle.ledger_tables.specs.Steps.{IsOpenStep};
 ghost use Rattle.ledger.specs.Allowed.{IsAllowed};
 ghost use Rattle.ledger.specs.Serving.{with_commanded};
-ghost use Rattle.ledger.specs.Steps.{FindsIn, Serves};
+ghost use Rattle.ledger.specs.Steps.{FindsIn, FindsNoJob, Serves};
 
 use crate::saving::note_flags;
 use crate::summaries::find_summary;
@@ -21,6 +21,7 @@ fn find_allowed<S: Alter>(
     ensures step { IsOpenStep S.Store tables.old tables.new result }
     ensures found { FindsIn S.Store tables.old tables.new result
         (λ office found. IsAllowed name.entry command office found) }
+    ensures no_job { FindsNoJob S.Store tables.old tables.new result name.entry }
 {
     match tables.find_job(name)? {
         Some(row) => {
@@ -39,6 +40,7 @@ pub fn hold<S: Alter>(tables: &mut OpenTables<'_, '_, S>, name: JobName<'_>) -> 
     ensures step { IsOpenStep S.Store tables.old tables.new result }
     ensures done { Serves S.Store tables.old tables.new result
         (with_commanded name.entry JobCommand.Hold) }
+    ensures no_job { FindsNoJob S.Store tables.old tables.new result name.entry }
 {
     match find_allowed(tables, name, JobCommand::Hold)? {
         Ok(job) => {
@@ -57,6 +59,7 @@ pub fn release<S: Alter>(
     ensures step { IsOpenStep S.Store tables.old tables.new result }
     ensures done { Serves S.Store tables.old tables.new result
         (with_commanded name.entry JobCommand.Release) }
+    ensures no_job { FindsNoJob S.Store tables.old tables.new result name.entry }
 {
     match find_allowed(tables, name, JobCommand::Release)? {
         Ok(job) => {
@@ -75,6 +78,7 @@ pub fn collect<S: Alter>(
     ensures step { IsOpenStep S.Store tables.old tables.new result }
     ensures done { Serves S.Store tables.old tables.new result
         (with_commanded name.entry JobCommand.Collect) }
+    ensures no_job { FindsNoJob S.Store tables.old tables.new result name.entry }
 {
     match find_allowed(tables, name, JobCommand::Collect)? {
         Ok(job) => {
@@ -96,6 +100,7 @@ pub fn tell_standing<S: Alter>(
     ensures step { IsOpenStep S.Store tables.old tables.new result }
     ensures done { Serves S.Store tables.old tables.new result
         (with_commanded name.entry JobCommand.Standing) }
+    ensures no_job { FindsNoJob S.Store tables.old tables.new result name.entry }
 {
     match find_allowed(tables, name, JobCommand::Standing)? {
         Ok(job) => Ok(Reply::Standing(job)),

@@ -10,7 +10,7 @@ ghost use Rattle.ledger_tables.specs.Steps.{IsStep, IsOpenStep};
 ghost use Rattle.ledger.specs.Earlier.{kept_alone, drives_machine};
 ghost use Rattle.ledger.specs.Saving.{job_in};
 ghost use Rattle.ledger.specs.Serving.{with_commanded, attempted_as};
-ghost use Rattle.ledger.specs.Steps.{Serves, ServesWhere, Ticks, TicksAtMost};
+ghost use Rattle.ledger.specs.Steps.{FindsNoJob, Serves, ServesWhere, Ticks, TicksAtMost};
 
 use crate::by_summary::{collect, hold, release, tell_standing};
 use crate::outputs::{tell_cards, tell_lines};
@@ -93,6 +93,7 @@ fn drive_machine<S: Alter>(
     ensures step { IsOpenStep S.Store tables.old tables.new result }
     ensures done { Serves S.Store tables.old tables.new result
         (with_commanded name.entry command) }
+    ensures no_job { FindsNoJob S.Store tables.old tables.new result name.entry }
     ensures meter { Ticks S.Store tables.old tables.new result
         meter.old meter.new (attempted_as name.entry command) }
     ensures given_up { TicksAtMost S.Store tables.old tables.new result
@@ -115,6 +116,7 @@ pub fn command_job<S: Alter>(
     ensures step { IsOpenStep S.Store tables.old tables.new result }
     ensures done { Serves S.Store tables.old tables.new result
         (with_commanded name.entry command) }
+    ensures no_job { FindsNoJob S.Store tables.old tables.new result name.entry }
     ensures meter { Ticks S.Store tables.old tables.new result
         meter.old meter.new (attempted_as name.entry command) }
     ensures given_up { TicksAtMost S.Store tables.old tables.new result

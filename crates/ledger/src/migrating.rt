@@ -4,12 +4,12 @@ ghost use Rattle.std.specs.Prelude.{◌≤◌, IfErr, IfOk, IsErrOf};
 ghost use Rattle.sqlite.specs.Held.{state};
 ghost use Rattle.sqlite.specs.View.{doubt};
 ghost use Rattle.ledger_tables.specs.Steps.{IsStep};
-ghost use Rattle.ledger_tables.specs.Versions.{IsKnown, IsNotOld};
-ghost use Rattle.ledger.specs.Migrating.{AddsPages, AddsNext, AddsPagesOf, AddsAllPages, EndsFirst, EndsThird, RaisesFrom, FindsVersion, RaisesFound, KnowsFault, IsRaised, IsKeptOf, LeavesEitherVersion, LeavesUntouched, IsNoFaultOfVersion, HasVersion};
+ghost use Rattle.ledger_tables.specs.Versions.{IsNotOld};
+ghost use Rattle.ledger.specs.Migrating.{AddsPages, AddsNext, AddsPagesOf, AddsAllPages, EndsFirst, EndsThird, RaisesFrom, FindsVersion, RaisesFound, KnowsFault, TellsVersion, IsRaised, IsKeptOf, LeavesEitherVersion, LeavesUntouched, IsNoFaultOfVersion, HasVersion, IsAnswerOf, IsToldOfVersion};
 ghost use Rattle.ledger.specs.Older.{FirstRows, RowsOf, SecondRows, ThirdRows};
 
 use crate::page_saving::insert_pages;
-use crate::reading::told;
+use crate::reading::{stored, told};
 use core_store::PlaneCore;
 use ledger_rows::read_storage;
 use ledger_tables::{Fault, JobName, OpenFault, OpenTables, QueuedRow, VERSION};
@@ -25,9 +25,8 @@ fn raise_storage<S: Alter>(
     ensures step { IsStep S.Store tables.old tables.new result }
     ensures raised { AddsPages S.Store tables.old tables.new result name.entry }
 {
-    let Some(row) = tables.find_storage(name)? else {
-        return Err(Fault::Store);
-    };
+    let found = tables.find_storage(name)?;
+    let row = stored(found)?;
     let core: PlaneCore = told(read_storage(tables.alloc, &row.storage))?;
     insert_pages(tables, name, &core)
 }
@@ -129,7 +128,8 @@ fn version_of<S: Alter>(tables: &mut OpenTables<'_, '_, S>) -> Result<u32, OpenF
     ensures step { IsStep S.Store tables.old tables.new result }
     ensures found { FindsVersion S.Store tables.old tables.new result }
     ensures known { KnowsFault S.Store tables.old tables.new result }
-    ensures told { IfErr result IsNotOld }
+    ensures not_old { IfErr result IsNotOld }
+    ensures told { TellsVersion S.Store tables.old tables.new result }
 {
     match tables.find_version() {
         Ok(()) => Ok(VERSION),
@@ -140,31 +140,20 @@ fn version_of<S: Alter>(tables: &mut OpenTables<'_, '_, S>) -> Result<u32, OpenF
     }
 }
 
-/// The same fault when a file is opened.
-fn as_open_fault(fault: Fault) -> OpenFault
-    ensures { IsKnown result }
-{
-    match fault {
-        Fault::NoMemory => OpenFault::NoMemory,
-        Fault::Store => OpenFault::Store,
-    }
-}
-
 /// Raises the tables from the version that they have, and returns that version.
 fn raise_found<S: Alter>(tables: &mut OpenTables<'_, '_, S>) -> Result<u32, OpenFault>
     ensures step { IsStep S.Store tables.old tables.new result }
     ensures found { RaisesFound S.Store tables.old tables.new result }
     ensures known { KnowsFault S.Store tables.old tables.new result }
-    ensures told { IfErr result IsNotOld }
+    ensures not_old { IfErr result IsNotOld }
+    ensures told { TellsVersion S.Store tables.old tables.new result }
 {
     let version = version_of(tables)?;
     if version == VERSION {
         return Ok(version);
     }
-    match raise(tables, version) {
-        Ok(()) => Ok(version),
-        Err(fault) => Err(as_open_fault(fault)),
-    }
+    raise(tables, version)?;
+    Ok(version)
 }
 
 /// Raises the tables of a connection to this program's version, in one transaction. Returns the
@@ -177,6 +166,8 @@ pub fn migrate<S: Alter>(alloc: Global, conn: &mut Connection<S>) -> Result<u32,
     ensures crash { LeavesEitherVersion S.Store conn.old conn.new }
     ensures known { IfErr result (IsNoFaultOfVersion S.Store conn.old conn.new) }
     ensures version { IfOk result (HasVersion S.Store conn.old conn.new) }
+    ensures answer { IsAnswerOf S.Store conn.old conn.new result }
+    ensures told { IsToldOfVersion S.Store conn.old conn.new result }
     ensures untouched { LeavesUntouched S.Store conn.old conn.new result }
     ensures clean { doubt (state S.Store conn.old).is_clean
         ≤ doubt (state S.Store conn.new).is_clean }

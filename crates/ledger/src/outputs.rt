@@ -12,9 +12,9 @@ ghost use Rattle.ledger_tables.specs.Steps.{IsOpenStep};
 ghost use Rattle.ledger.specs.Found.{HasCards, HasCarriageAt, HasLines, printed_with};
 ghost use Rattle.ledger.specs.Saving.{job_in};
 ghost use Rattle.ledger.specs.Serving.{with_commanded};
-ghost use Rattle.ledger.specs.Steps.{FindsIn, Serves};
+ghost use Rattle.ledger.specs.Steps.{FindsIn, FindsNoJob, Serves};
 
-use crate::reading::told;
+use crate::reading::{stored, told};
 use crate::summaries::find_progress;
 use ledger_rows::{read_carriage, read_punched, read_rows};
 use ledger_tables::{CardRow, Fault, JobName, LineRow, OpenTables, PocketRow};
@@ -77,13 +77,9 @@ fn find_carriage<S: Alter>(
 {
     // A law, for the proof: it does nothing.
     commands_keep_jobs();
-    let Some(row) = tables.find_state(name)? else {
-        return Err(Fault::Store);
-    };
-    match read_carriage(row) {
-        Some(carriage) => Ok(carriage),
-        None => Err(Fault::Store),
-    }
+    let found = tables.find_state(name)?;
+    let row = stored(found)?;
+    stored(read_carriage(row))
 }
 
 /// The lines of these rows, if there are so many, each is further down than the one before, and the
@@ -137,6 +133,7 @@ pub fn tell_cards<S: Alter>(
     ensures step { IsOpenStep S.Store tables.old tables.new result }
     ensures done { Serves S.Store tables.old tables.new result
         (with_commanded name.entry (JobCommand.Cards from)) }
+    ensures no_job { FindsNoJob S.Store tables.old tables.new result name.entry }
 {
     let Some(_row) = tables.find_loaded(name)? else {
         return Ok(Reply::Refused(Refusal::NoJob));
@@ -154,6 +151,7 @@ pub fn tell_lines<S: Alter>(
     ensures step { IsOpenStep S.Store tables.old tables.new result }
     ensures done { Serves S.Store tables.old tables.new result
         (with_commanded name.entry JobCommand.Lines) }
+    ensures no_job { FindsNoJob S.Store tables.old tables.new result name.entry }
 {
     let Some(_row) = tables.find_loaded(name)? else {
         return Ok(Reply::Refused(Refusal::NoJob));

@@ -1,7 +1,7 @@
 //! Reading a job from the tables: its machine has none of the cards and lines that the job has
 //! made, and counts them by its state.
 
-ghost use Rattle.std.specs.Prelude.{◌≡◌, ◌≢◌, ℕ, List, All, map, Some, None, Ok, IsErr, IsErrOf, IsSome, IfOk, IfSome, OnOk};
+ghost use Rattle.std.specs.Prelude.{◌≡◌, ◌≢◌, ℕ, List, All, map, Some, None, Ok, IsErr, IsErrOf, IsSome, IfOk, IfErr, IfSome, OnOk};
 ghost use Rattle.cards.specs.Decks.{deck_bytes, IsDeck};
 ghost use Rattle.machine.specs.Earlier.{without_outputs};
 ghost use Rattle.machine.specs.Ranges.{IsInRange};
@@ -16,7 +16,7 @@ ghost use Rattle.ledger_tables.specs.Steps.{Finds, IsOpenStep};
 ghost use Rattle.ledger.specs.Found.{IsMediaOf, IsFoundAs, IsHandedAs, CanBeOfJob, HasStretches, HasMachine, HasMachineWith, HasKept, HasPunch, BeganWith};
 ghost use Rattle.ledger.specs.Saving.{job_in};
 ghost use Rattle.ledger.specs.Standing.{job_cells, stretch_row, CanBeKept};
-ghost use Rattle.ledger.specs.Steps.{FindsIn};
+ghost use Rattle.ledger.specs.Steps.{FindsIn, FindsNoJob};
 
 use core_store::{Core, Size};
 use ledger_rows::{Media, read_deck, read_picture, read_punch, read_switches, read_truth};
@@ -38,6 +38,17 @@ pub fn told<T>(read: Result<Option<T>, AllocError>) -> Result<T, Fault>
         Ok(Some(it)) => Ok(it),
         Ok(None) => Err(Fault::Store),
         Err(_) => Err(Fault::NoMemory),
+    }
+}
+
+/// What the rows hold, if it is there, and else fault 2.
+pub fn stored<T>(found: Option<T>) -> Result<T, Fault>
+    ensures some { IfOk result (λ it. found ≡ Some it) }
+    ensures none { IfErr result (λ fault. (fault ≡ Fault.Store) × (found ≡ None)) }
+{
+    match found {
+        Some(it) => Ok(it),
+        None => Err(Fault::Store),
     }
 }
 
@@ -98,13 +109,9 @@ fn find_punch<S: Alter>(
     ensures found { FindsIn S.Store tables.old tables.new result
         (λ office found. HasPunch (job_in name.entry office) found) }
 {
-    let Some(row) = tables.find_profile(name)? else {
-        return Err(Fault::Store);
-    };
-    match read_punch(tables.alloc, row) {
-        Some(punch) => Ok(punch),
-        None => Err(Fault::Store),
-    }
+    let found = tables.find_profile(name)?;
+    let row = stored(found)?;
+    stored(read_punch(tables.alloc, row))
 }
 
 /// The deck and the switches of a machine, and its punch, without its cards and lines.
@@ -162,9 +169,8 @@ fn find_machine<S: Alter, C: Core>(
     commands_keep_jobs();
     outputs_are_put_back();
     runs_only_add();
-    let Some(row) = tables.find_state(name)? else {
-        return Err(Fault::Store);
-    };
+    let found = tables.find_state(name)?;
+    let row = stored(found)?;
     let pages = tables.find_pages(name)?;
     machine_of(tables.alloc, size, row, pages.as_slice(), media)
 }
@@ -246,6 +252,7 @@ pub fn find_to_run<S: Alter, C: Core>(
     ensures step { IsOpenStep S.Store tables.old tables.new result }
     ensures found { FindsIn S.Store tables.old tables.new result
         (λ office found. IsFoundAs found (job_in name.entry office)) }
+    ensures no_job { FindsNoJob S.Store tables.old tables.new result name.entry }
 {
     match tables.find_loaded(name)? {
         Some(row) => {
@@ -302,6 +309,7 @@ pub fn find_handed<S: Alter>(
     ensures step { IsOpenStep S.Store tables.old tables.new result }
     ensures found { FindsIn S.Store tables.old tables.new result
         (λ office found. IsHandedAs found (job_in name.entry office)) }
+    ensures no_job { FindsNoJob S.Store tables.old tables.new result name.entry }
     ensures checked { IfOk result (λ found. IfSome found (λ handed. CanBeOfJob handed.row)) }
 {
     match tables.find_job(name)? {

@@ -1,6 +1,6 @@
 //! Submissions: new jobs, and jobs that are handed in again.
 
-ghost use Rattle.std.specs.Prelude.{◌≡◌, length, IfOk, IsTrue};
+ghost use Rattle.std.specs.Prelude.{◌≡◌, length, Ok, Err, IfOk, IfErr, IsTrue};
 ghost use Rattle.cards.specs.Decks.{IsDeck};
 ghost use Rattle.office.specs.Jobs.{Job as KnownJob};
 ghost use Rattle.office.specs.Office.{has_most_jobs, is_same_kind, is_of, repeated};
@@ -112,6 +112,21 @@ fn add<S: Alter>(
     })
 }
 
+/// The job that was made, or why it is refused; fault 1 if there was no memory.
+fn made(new: Result<Job<PlaneCore>, NewFault>) -> Result<Result<Job<PlaneCore>, Refusal>, Fault>
+    ensures job { IfOk result (λ made. IfOk made (λ job. new ≡ Ok job)) }
+    ensures refused { IfOk result
+        (λ made. IfErr made (λ reason. new ≡ Err (NewFault.Refused reason))) }
+    ensures memory { IfErr result
+        (λ fault. (fault ≡ Fault.NoMemory) × (new ≡ Err NewFault.NoMemory)) }
+{
+    match new {
+        Ok(job) => Ok(Ok(job)),
+        Err(NewFault::Refused(reason)) => Ok(Err(reason)),
+        Err(NewFault::NoMemory) => Err(Fault::NoMemory),
+    }
+}
+
 /// Accepts a job whose name is free.
 fn submit_new<S: Alter>(
     tables: &mut OpenTables<'_, '_, S>,
@@ -122,10 +137,10 @@ fn submit_new<S: Alter>(
     ensures done { ServesWhere S.Store tables.old tables.new result
         (IsFreeName name.entry) (with_taken name.entry contents.now) }
 {
-    match new_job(tables.alloc, contents) {
+    let new = made(new_job(tables.alloc, contents))?;
+    match new {
         Ok(job) => add(tables, name, contents, &job),
-        Err(NewFault::Refused(reason)) => Ok(Reply::Refused(reason)),
-        Err(NewFault::NoMemory) => Err(Fault::NoMemory),
+        Err(reason) => Ok(Reply::Refused(reason)),
     }
 }
 

@@ -9,7 +9,7 @@ ghost use Rattle.ledger.specs.Found.{HasProgress, HasStanding, HasGranted, HasSu
 ghost use Rattle.ledger.specs.Saving.{job_in};
 ghost use Rattle.ledger.specs.Steps.{FindsIn};
 
-use crate::reading::find_stretches;
+use crate::reading::{find_stretches, stored};
 use ledger_rows::{Progress, read_progress, read_truth};
 use ledger_tables::{Fault, JobName, JobRow, OpenTables};
 use machine::StandingAt;
@@ -27,13 +27,9 @@ pub fn find_progress<S: Alter>(
 {
     // A law, for the proof: it does nothing.
     commands_keep_jobs();
-    let Some(row) = tables.find_progress(name)? else {
-        return Err(Fault::Store);
-    };
-    match read_progress(&row) {
-        Some(progress) => Ok(progress),
-        None => Err(Fault::Store),
-    }
+    let found = tables.find_progress(name)?;
+    let row = stored(found)?;
+    stored(read_progress(&row))
 }
 
 /// Finds the standing of the job of this name.

@@ -20,9 +20,11 @@ use Rattle.sqlite.proofs.Callers.{IsPlain}
 use Rattle.sqlite_resolve.specs.declared.compiled.Compiled.{Compiled}
 use Rattle.sqlite_resolve.specs.Lowering.{Checked, and_then}
 use Rattle.sqlite_schema.specs.declared.command.Returning.{Returning}
+use Rattle.ledger_tables.specs.declared.faults.Fault.{Fault}
+use Rattle.ledger_tables.specs.declared.faults.Fault.TheVariants as fault
 use Rattle.ledger_tables.specs.declared.openings.OpenFault.{OpenFault}
 use Rattle.ledger_tables.specs.declared.openings.OpenFault.TheVariants.{NoMemory, Store, NotABureau, Old}
-use Rattle.ledger_tables.specs.Versions.{select_version, versions_in, opening_fault, HasVersions, IsBureaus, ShowsVersions, IsVerdict, IsVerdictOrFault, IsShownAnswer, IsRefusedAs, IsAnswer}
+use Rattle.ledger_tables.specs.Versions.{select_version, versions_in, opening_fault, HasVersions, IsBureaus, ShowsVersions, IsVerdict, IsVerdictOrFault, IsShownAnswer, IsRefusedAs, IsFoundVersion, IsKnown, IsAnswer, as_open_fault}
 use Rattle.ledger_tables.proofs.CreateTexts.{Plan, given, with_plan}
 use Rattle.ledger_tables.proofs.OpeningVersion.{is_input, fails_without_input, plain_in, refused_to_read, one_left, versions_permuted}
 
@@ -133,3 +135,20 @@ pub refused_answer : (X : Type 0) (old new : State) (fault : OpenFault) → IsRe
 refused_answer X old new fault h =
     let why = fails_input old new h.0 h.1 in
     subst (λ f. IsAnswer {X = X} old.now (Err f)) (sym h.2) (unasked_shown X old.now h.0 why, unasked_held X old.now h.0 why)
+
+-- ---- what was found, and the faults that may come for any database
+
+pub found_answer : (old new : State) (r : Result (Unit {0}) OpenFault) → IsFoundVersion old new r → IsAnswer old.now r
+found_answer old new r (inl (rows, shown, is)) = judged_answer r old new rows shown is
+found_answer old new (Ok x) (inr none) = absurd none
+found_answer old new (Err fault) (inr refused) = refused_answer (Unit {0}) old new fault refused
+
+pub as_open_known : (f : Fault) → IsKnown (as_open_fault f)
+as_open_known fault.NoMemory = (λ is. cc, λ version is. cc)
+as_open_known fault.Store = (λ is. cc, λ version is. cc)
+
+pub known_answer : (X : Type 0) (db : Database) (f : OpenFault) → IsKnown f → IsAnswer {X = X} db (Err f)
+known_answer X db NoMemory known = (inr (λ same. absurd (known.0 same), known.1), λ has. tt)
+known_answer X db Store known = (inr (λ same. absurd (known.0 same), known.1), λ has. tt)
+known_answer X db NotABureau known = absurd (known.0 refl)
+known_answer X db (Old version) known = absurd (known.1 version refl)

@@ -1,9 +1,11 @@
 use Rattle.std.proofs.Common.{sym, ap, ◌∙◌, arith}
 use Rattle.sqlite.specs.State.{HasCleanDisk}
 use Rattle.office.specs.Office.{commanded}
+use Rattle.ledger_tables.specs.Shown.{shown_job}
 use Rattle.ledger_tables.specs.Steps.{seen}
 use Rattle.ledger.specs.Standing.{tables_of}
-use Rattle.ledger.proofs.Offices.{still, row_found, row_none}
+use Rattle.ledger.proofs.BureauResults.{store_passed}
+use Rattle.ledger.proofs.Offices.{absent_read, not_absent, row_absent, row_found, row_none, still}
 use Rattle.ledger.proofs.SummaryLemmas.{refused_as}
 use Rattle.ledger.proofs.by_summary.find_allowed.Goals as goal
 
@@ -36,3 +38,15 @@ returns-clause-found g c clean inside office s =
     let found = c.in_ok-row.ensures.found clean inside (tables_of office) s.tables in
     let none = row_none c.args.name.customer.now c.args.name.number office c.in_ok-row.field-0 found.1 c.in-None.is in
     (still old new office found.0 s, ap (commanded c.args.name.customer.now c.args.name.number c.args.command office) none)
+
+pub returns-in_err-row-clause-no_job : goal.returns-in_err-row-clause-no_job
+returns-in_err-row-clause-no_job g c clean inside store office has none =
+    c.in_err-row.ensures.failed clean inside (store_passed c.from_residual.result _ c.from_residual.ensures.1 store) (tables_of office) (λ opened. (has opened).tables) (absent_read shown_job _ (row_absent c.args.name.customer.now c.args.name.number office none))
+
+pub returns-in_err-job-in-Some-clause-no_job : goal.returns-in_err-job-in-Some-clause-no_job
+returns-in_err-job-in-Some-clause-no_job g c clean inside store office has none =
+    let early : HasCleanDisk (seen g.S.Store c.find_job.new.self) = omega (arith, clean, c.find_summary.ensures.step.survives.clean) in
+    let s = has (c.in_ok-row.ensures.step.opened early) in
+    let found = c.in_ok-row.ensures.found early inside (tables_of office) s.tables in
+    let it = row_found c.args.name.customer.now c.args.name.number office c.in_ok-row.field-0 c.in-Some.row found.1 c.in-Some.is in
+    absurd (not_absent it.0 _ it.1 none)

@@ -1,12 +1,14 @@
-use Rattle.std.proofs.Common.{◌≡◌, false, ap, sym, subst, ◌∙◌, arith, rules, IsTrue}
+use Rattle.std.proofs.Common.{◌≡◌, inr, false, ap, sym, subst, ◌∙◌, arith, rules, IsTrue, Ok, Err}
 use Rattle.sqlite.specs.State.{HasCleanDisk, IsRolledBack, Survives}
 use Rattle.sqlite.specs.Held.{state}
 use Rattle.ledger_tables.specs.Schema.{own_version}
-use Rattle.ledger.specs.Adopting.{IsUntouched}
+use Rattle.ledger_tables.specs.declared.openings.OpenFault.TheVariants.{Store}
+use Rattle.ledger.specs.Adopting.{IsUntouched, begun}
+use Rattle.ledger.specs.Migrating.{IsToldFrom}
 use Rattle.ledger.specs.Older.{RowsOf}
 use Rattle.ledger.specs.Standing.{Rows, Stands}
 use Rattle.ledger.proofs.BureauTransactions.{committed_stands, kept_by, rolled_untouched}
-use Rattle.ledger.proofs.BureauVersions.{left_in_either, stands_own, untouched_stands}
+use Rattle.ledger.proofs.BureauVersions.{left_in_either, stands_own, told_answer, told_unraised, untouched_stands}
 use Rattle.ledger.proofs.migrating.migrate.Goals as goal
 
 pub returns-in-Ok-commit-clause-raised : goal.returns-in-Ok-commit-clause-raised
@@ -72,7 +74,7 @@ returns-in-Err-commit-clause-crash g c clean version office s db may =
 
 pub returns-in-Err-clause-known : goal.returns-in-Err-clause-known
 returns-in-Err-clause-known g c = (
-  c.in-Err.ensures.told,
+  c.in-Err.ensures.not_old,
   λ clean version office s.
       let begun = c.transaction-tx.ensures.begun in
       let mid = c.raise_found-found.new.tables.tx.now.conn.now in
@@ -124,3 +126,66 @@ returns-then-version-eq-VERSION-clause-raised g c clean version office s =
     let own : version ≡ own_version = sym same_version ∙ c.if-version-eq-VERSION.true in
     let stands = stands_own (state g.S.Store old) version office own s in
     (same_version, subst (λ h. Stands (state g.S.Store h) office) same (untouched_stands (state g.S.Store old) (state g.S.Store end) office still stands))
+
+pub returns-then-version-eq-VERSION-clause-answer : goal.returns-then-version-eq-VERSION-clause-answer
+returns-then-version-eq-VERSION-clause-answer g c clean =
+    let tx = c.transaction-tx.result.conn.now in
+    let inside : IsTrue tx.in_transaction = ap (λ h. h.in_transaction) c.transaction-tx.ensures.begun in
+    let late : HasCleanDisk (state g.S.Store c.rollback.new.self.0) = search rules in
+    let early : HasCleanDisk (state g.S.Store c.raise_found-found.new.tables.tx.now.conn.now) = search (rules, c.rollback.ensures.survives.clean) in
+    let told = subst (λ h. IsToldFrom g.S.Store h (Ok c.in-Ok.version)) c.transaction-tx.ensures.begun (c.in-Ok.ensures.told early inside) in
+    told_answer g.S.Store (begun c.args.conn.now) (Ok c.in-Ok.version) told
+
+pub returns-then-version-eq-VERSION-clause-told : goal.returns-then-version-eq-VERSION-clause-told
+returns-then-version-eq-VERSION-clause-told g c clean =
+    let tx = c.transaction-tx.result.conn.now in
+    let inside : IsTrue tx.in_transaction = ap (λ h. h.in_transaction) c.transaction-tx.ensures.begun in
+    let late : HasCleanDisk (state g.S.Store c.rollback.new.self.0) = search rules in
+    let early : HasCleanDisk (state g.S.Store c.raise_found-found.new.tables.tx.now.conn.now) = search (rules, c.rollback.ensures.survives.clean) in
+    let told = subst (λ h. IsToldFrom g.S.Store h (Ok c.in-Ok.version)) c.transaction-tx.ensures.begun (c.in-Ok.ensures.told early inside) in
+    inr told
+
+pub returns-in-Ok-commit-clause-answer : goal.returns-in-Ok-commit-clause-answer
+returns-in-Ok-commit-clause-answer g c clean =
+    let tx = c.transaction-tx.result.conn.now in
+    let inside : IsTrue tx.in_transaction = ap (λ h. h.in_transaction) c.transaction-tx.ensures.begun in
+    let late : HasCleanDisk (state g.S.Store c.commit.new.self.0) = search rules in
+    let early : HasCleanDisk (state g.S.Store c.raise_found-found.new.tables.tx.now.conn.now) = search (rules, c.commit.ensures.survives.clean) in
+    let told = subst (λ h. IsToldFrom g.S.Store h (Ok c.in-Ok.version)) c.transaction-tx.ensures.begun (c.in-Ok.ensures.told early inside) in
+    told_answer g.S.Store (begun c.args.conn.now) (Ok c.in-Ok.version) told
+
+pub returns-in-Ok-commit-clause-told : goal.returns-in-Ok-commit-clause-told
+returns-in-Ok-commit-clause-told g c clean =
+    let tx = c.transaction-tx.result.conn.now in
+    let inside : IsTrue tx.in_transaction = ap (λ h. h.in_transaction) c.transaction-tx.ensures.begun in
+    let late : HasCleanDisk (state g.S.Store c.commit.new.self.0) = search rules in
+    let early : HasCleanDisk (state g.S.Store c.raise_found-found.new.tables.tx.now.conn.now) = search (rules, c.commit.ensures.survives.clean) in
+    let told = subst (λ h. IsToldFrom g.S.Store h (Ok c.in-Ok.version)) c.transaction-tx.ensures.begun (c.in-Ok.ensures.told early inside) in
+    inr told
+
+pub returns-in-Err-commit-clause-told : goal.returns-in-Err-commit-clause-told
+returns-in-Err-commit-clause-told g c clean =
+    let tx = c.transaction-tx.result.conn.now in
+    let inside : IsTrue tx.in_transaction = ap (λ h. h.in_transaction) c.transaction-tx.ensures.begun in
+    let late : HasCleanDisk (state g.S.Store c.commit.new.self.0) = search rules in
+    let early : HasCleanDisk (state g.S.Store c.raise_found-found.new.tables.tx.now.conn.now) = search (rules, c.commit.ensures.survives.clean) in
+    let told = subst (λ h. IsToldFrom g.S.Store h (Err Store)) c.transaction-tx.ensures.begun (told_unraised g.S.Store tx c.in-Ok.version Store c.if-version-eq-VERSION.false ((λ is. cc), (λ version is. cc)) (c.in-Ok.ensures.told early inside)) in
+    inr told
+
+pub returns-in-Err-clause-answer : goal.returns-in-Err-clause-answer
+returns-in-Err-clause-answer g c clean =
+    let tx = c.transaction-tx.result.conn.now in
+    let inside : IsTrue tx.in_transaction = ap (λ h. h.in_transaction) c.transaction-tx.ensures.begun in
+    let late : HasCleanDisk (state g.S.Store c.rollback-in-Err.new.self.0) = search rules in
+    let early : HasCleanDisk (state g.S.Store c.raise_found-found.new.tables.tx.now.conn.now) = search (rules, c.rollback-in-Err.ensures.survives.clean) in
+    let told = subst (λ h. IsToldFrom g.S.Store h (Err c.in-Err.fault)) c.transaction-tx.ensures.begun (c.in-Err.ensures.told early inside) in
+    told_answer g.S.Store (begun c.args.conn.now) (Err c.in-Err.fault) told
+
+pub returns-in-Err-clause-told : goal.returns-in-Err-clause-told
+returns-in-Err-clause-told g c clean =
+    let tx = c.transaction-tx.result.conn.now in
+    let inside : IsTrue tx.in_transaction = ap (λ h. h.in_transaction) c.transaction-tx.ensures.begun in
+    let late : HasCleanDisk (state g.S.Store c.rollback-in-Err.new.self.0) = search rules in
+    let early : HasCleanDisk (state g.S.Store c.raise_found-found.new.tables.tx.now.conn.now) = search (rules, c.rollback-in-Err.ensures.survives.clean) in
+    let told = subst (λ h. IsToldFrom g.S.Store h (Err c.in-Err.fault)) c.transaction-tx.ensures.begun (c.in-Err.ensures.told early inside) in
+    inr told

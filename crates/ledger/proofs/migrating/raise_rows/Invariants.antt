@@ -1,4 +1,4 @@
-use Rattle.std.proofs.Common.{◌≡◌, Some, map}
+use Rattle.std.proofs.Common.{◌≡◌, map}
 use Rattle.std.specs.List.{AllByRecursion}
 use Rattle.office.specs.Office.{Entry, Office}
 use Rattle.ledger_tables.proofs.Stepping.{HasStepped}

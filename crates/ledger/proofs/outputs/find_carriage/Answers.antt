@@ -4,19 +4,19 @@ use Rattle.ledger_rows.specs.Columns.{state_row}
 use Rattle.ledger_rows.proofs.PartPictures.{carriage_line, has_carriage}
 use Rattle.ledger_tables.specs.Steps.{seen}
 use Rattle.ledger.specs.Standing.{tables_of, state_of}
-use Rattle.ledger.proofs.Offices.{still, job_is}
+use Rattle.ledger.proofs.Offices.{still, if_ok_then, job_is}
 use Rattle.ledger.proofs.ReadingLemmas.{some_is}
 use Rattle.ledger.proofs.outputs.find_carriage.Goals as goal
 
-pub returns-in-Some-read_carriage-clause-found : goal.returns-in-Some-read_carriage-clause-found
-returns-in-Some-read_carriage-clause-found g c clean inside office s =
+pub returns-clause-found : goal.returns-clause-found
+returns-clause-found g c clean inside = if_ok_then _ _ c.stored-2.result (λ carriage is office s.
     let old = seen g.S.Store c.args.tables.now in
     let new = seen g.S.Store c.find_state.new.self in
-    let found = c.in_ok-row.ensures.found clean inside (tables_of office) s.tables in (
+    let found = c.in_ok-found.ensures.found clean inside (tables_of office) s.tables in (
       still old new office found.0 s,
-      λ job is.
-          let kept = job_is c.args.name.customer.now c.args.name.number office job s.jobs is in
+      λ job is_job.
+          let kept = job_is c.args.name.customer.now c.args.name.number office job s.jobs is_job in
           let range = (c.commands_keep_jobs.ensures.in_range job kept.job).machine in
-          let row : c.in-Some.row ≡ state_row (picture job) = some_is (sym c.in-Some.is ∙ found.1 ∙ ap state_of is) in
-          some_is (sym c.in-Some-read_carriage.is ∙ c.read_carriage.ensures.all (picture job).works.units.printer.carriage (carriage_line (picture job) range) (has_carriage c.in-Some.row (picture job) row)),
-    )
+          let row : c.in_ok-row.row ≡ state_row (picture job) = some_is (sym c.in_ok-row.ensures.some ∙ found.1 ∙ ap state_of is_job) in
+          some_is (sym is ∙ c.read_carriage.ensures.all (picture job).works.units.printer.carriage (carriage_line (picture job) range) (has_carriage c.in_ok-row.row (picture job) row)),
+    )) c.stored-2.ensures.some

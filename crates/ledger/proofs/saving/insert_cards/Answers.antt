@@ -1,7 +1,6 @@
 use Rattle.std.proofs.Common.{arith, ap, sym, subst, ◌+◌, ◌∙◌, ◌++◌, map, take}
 use Rattle.std.proofs.lemmas.List.{append-nil, take_all}
 use Rattle.std.specs.List.{All}
-use Rattle.units.specs.declared.punch.Punched.{Punched}
 use Rattle.ledger_rows.specs.Pockets.{punched_bytes, IsPunched}
 use Rattle.sqlite.specs.State.{HasCleanDisk}
 use Rattle.ledger_tables.specs.Steps.{seen}

@@ -1,6 +1,5 @@
-use Rattle.std.proofs.Common.{◌≡◌, None, ap, sym, subst, ◌∙◌}
+use Rattle.std.proofs.Common.{sym, ◌∙◌}
 use Rattle.ledger_tables.specs.Steps.{seen}
-use Rattle.ledger_tables.specs.Tables.{Holds}
 use Rattle.ledger.proofs.SavingPockets.{no_pocket_put}
 use Rattle.ledger.proofs.saving.insert_pocket.Goals as goal
 

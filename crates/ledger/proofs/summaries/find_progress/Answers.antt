@@ -5,19 +5,19 @@ use Rattle.ledger_rows.specs.Columns.{state_row}
 use Rattle.ledger_tables.specs.Listed.{progress_row}
 use Rattle.ledger_tables.specs.Steps.{seen}
 use Rattle.ledger.specs.Standing.{tables_of, state_of}
-use Rattle.ledger.proofs.Offices.{still, job_is}
+use Rattle.ledger.proofs.Offices.{still, if_ok_then, job_is}
 use Rattle.ledger.proofs.ReadingLemmas.{some_is}
 use Rattle.ledger.proofs.summaries.find_progress.Goals as goal
 
-pub returns-in-Some-read_progress-clause-found : goal.returns-in-Some-read_progress-clause-found
-returns-in-Some-read_progress-clause-found g c clean inside office s =
+pub returns-clause-found : goal.returns-clause-found
+returns-clause-found g c clean inside = if_ok_then _ _ c.stored-2.result (λ progress is office s.
     let old = seen g.S.Store c.args.tables.now in
     let new = seen g.S.Store c.find_progress.new.self in
-    let found = c.in_ok-row.ensures.found clean inside (tables_of office) s.tables in (
+    let found = c.in_ok-found.ensures.found clean inside (tables_of office) s.tables in (
       still old new office found.0 s,
-      λ job is.
-          let kept = job_is c.args.name.customer.now c.args.name.number office job s.jobs is in
+      λ job is_job.
+          let kept = job_is c.args.name.customer.now c.args.name.number office job s.jobs is_job in
           let range = (c.commands_keep_jobs.ensures.in_range job kept.job).machine in
-          let row : c.in-Some.row ≡ progress_row (state_row (picture job)) = some_is (sym c.in-Some.is ∙ found.1 ∙ ap (λ o. option_map progress_row (state_of o)) is) in
-          some_is (sym c.in-Some-read_progress.is ∙ c.read_progress.ensures.picture (picture job) range row),
-    )
+          let row : c.in_ok-row.row ≡ progress_row (state_row (picture job)) = some_is (sym c.in_ok-row.ensures.some ∙ found.1 ∙ ap (λ o. option_map progress_row (state_of o)) is_job) in
+          some_is (sym is ∙ c.read_progress.ensures.picture (picture job) range row),
+    )) c.stored-2.ensures.some
