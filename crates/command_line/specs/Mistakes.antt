@@ -1,5 +1,7 @@
 -- what a program of rows prints of words that ask for nothing, and its exit status
 use Rattle.std.specs.Prelude.{List, [], ◌∷◌, ◌++◌, ℕ, codes}
+use Rattle.std.specs.declared.io.ErrorKind.{ErrorKind}
+use Rattle.std.specs.declared.io.ErrorKind.TheVariants.{OutOfMemory}
 use Rattle.cards.specs.Files.{line_feed}
 use Rattle.command_line.specs.Printed.{fault_words}
 use Rattle.command_line.specs.declared.faults.Fault.TheVariants as fault
@@ -7,6 +9,11 @@ use Rattle.command_line.specs.declared.mistakes.Mistake.{Mistake}
 use Rattle.command_line.specs.declared.mistakes.Mistake.TheVariants.{Memory, NoText, Row, Arguments, Value}
 use Rattle.command_line.specs.declared.statuses.Status.{Status}
 use Rattle.command_line.specs.declared.statuses.Status.TheVariants.{NotDone, Misused}
+
+-- the mistake of a process whose words cannot be read, by the kind of its error
+abbrev pub mistake_of : ErrorKind → Mistake
+mistake_of OutOfMemory = Memory
+mistake_of _ = NoText
 
 -- the line on what is wrong with the words
 abbrev pub complaint_line : List ℕ → Mistake → List ℕ

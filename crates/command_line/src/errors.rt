@@ -1,6 +1,8 @@
 //! The standard error, where what went wrong is printed.
 
-ghost use Rattle.std.specs.Prelude.{◌≡◌, false};
+ghost use Rattle.std.specs.Prelude.{◌≡◌, None, Ok, true, false, is_err, length};
+ghost use Rattle.std.specs.Io.{WritesAtMost};
+ghost use Rattle.std.specs.Io.KnownBytes.{Appends, Keeps, WriteAppends};
 
 use std::io;
 use std::io::Write;
@@ -24,19 +26,41 @@ impl<W: Write> Unfailing<W> {
             failed: false,
         }
     }
+
+    /// Goes on without the other writer if its last call failed.
+    fn note(&mut self, outcome: io::Result<()>)
+        ensures over { self.new.inner ≡ self.old.inner }
+        ensures failed { self.new.failed ≡ is_err outcome }
+    {
+        self.failed = outcome.is_err();
+    }
 }
 
 impl<W: Write> Write for Unfailing<W> {
-    fn write(&mut self, buf: &[u8]) -> io::Result<usize> {
+    fn write(&mut self, buf: &[u8]) -> io::Result<usize>
+        ensures bound { WritesAtMost result buf.now }
+        ensures bytes { WriteAppends None None result buf.now }
+        ensures taken { result ≡ Ok (length buf.now) }
+        ensures printed { self.new.failed ≡ false
+            → Appends (W.contents self.old.inner) (W.contents self.new.inner) buf.now }
+        ensures silent { self.old.failed ≡ true → self.new ≡ self.old }
+    {
         if !self.failed {
-            self.failed = self.inner.write_all(buf).is_err();
+            let outcome = self.inner.write_all(buf);
+            self.note(outcome);
         }
         Ok(buf.len())
     }
 
-    fn flush(&mut self) -> io::Result<()> {
+    fn flush(&mut self) -> io::Result<()>
+        ensures bytes { Keeps None None }
+        ensures kept { self.new.failed ≡ false
+            → Keeps (W.contents self.old.inner) (W.contents self.new.inner) }
+        ensures silent { self.old.failed ≡ true → self.new ≡ self.old }
+    {
         if !self.failed {
-            self.failed = self.inner.flush().is_err();
+            let outcome = self.inner.flush();
+            self.note(outcome);
         }
         Ok(())
     }

@@ -27,7 +27,7 @@ pub enum Fault {
 }
 
 impl Fault {
-    /// The fault of a reader that fails with this error.
+    /// The fault of a deck that cannot be opened or read, by the error.
     pub fn of_reading(error: &io::Error) -> Fault
         ensures { result ≡ reading_fault (error_kind error.now) }
     {

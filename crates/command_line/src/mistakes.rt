@@ -38,6 +38,11 @@ impl From<AllocError> for Mistake {
 
 /// The mistake of a process whose words cannot be read.
 impl From<io::Error> for Mistake {
+    ghost use Rattle.std.specs.IoError.{error_kind};
+    ghost use Rattle.command_line.specs.Mistakes.{mistake_of};
+
+    ghost from_gives = { λ error mistake. mistake ≡ mistake_of (error_kind error) };
+
     fn from(error: io::Error) -> Mistake {
         match error.kind() {
             ErrorKind::OutOfMemory => Mistake::Memory,

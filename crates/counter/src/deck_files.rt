@@ -11,8 +11,8 @@ use std::io;
 use std::io::Write;
 use units::Switches;
 
-/// Runs the deck on the standard input, or in a file. If a file cannot be opened, the fault of a
-/// device is printed. Fails only if `errors` itself fails.
+/// Runs the deck on the standard input, or in a file. If a file cannot be opened, the fault is
+/// printed: want of memory, or a device. Fails only if `errors` itself fails.
 pub fn run_input<W: Write, E: Write>(
     rt: &HostRuntime,
     deck: Input<'_>,
@@ -29,7 +29,7 @@ pub fn run_input<W: Write, E: Write>(
         Input::Standard => run_deck(rt.alloc(), rt.stdin(), output, errors, size, switches),
         Input::File(path) => match File::open(rt, path) {
             Ok(file) => run_deck(rt.alloc(), file, output, errors, size, switches),
-            Err(_) => tell_fault(errors, Fault::Device),
+            Err(error) => tell_fault(errors, Fault::of_reading(&error)),
         },
     }
 }

@@ -1,6 +1,6 @@
 //! Running a deck from a reader.
 
-ghost use Rattle.std.specs.Prelude.{◌≡◌, ◌≢◌, ◌<◌, ◌⊎◌, List, ℕ, length, take, IfOk, IfErr, OnOk};
+ghost use Rattle.std.specs.Prelude.{◌≡◌, ◌≢◌, ◌<◌, ◌⊎◌, [], List, ℕ, length, take, IfOk, IfErr, OnOk};
 ghost use Rattle.std.specs.Io.KnownBytes.{Appends};
 ghost use Rattle.machine.specs.Run.{after, lines_of, loaded};
 ghost use Rattle.cards.specs.Decks.{IsDeck};
@@ -27,6 +27,17 @@ pub const MOST_BYTES: u64 = 162_001;
 /// The greatest number of instructions for which a deck runs.
 pub const MOST_INSTRUCTIONS: u32 = 1_000_000;
 
+/// Room for the bytes of a text, of which there are none yet.
+fn room(alloc: Global) -> Result<Vec<u8>, Fault>
+    ensures none { IfOk result (λ text. text.items ≡ []) }
+    ensures fault { IfErr result (λ fault. fault ≡ Fault.Card out_of_memory) }
+{
+    match Vec::with_capacity(alloc, MOST_BYTES as usize) {
+        Ok(text) => Ok(text),
+        Err(_) => Err(Fault::Card(OUT_OF_MEMORY)),
+    }
+}
+
 /// Reads a reader to its end, or up to `MOST_BYTES` bytes, for which memory is taken at once. Fails
 /// if the reader fails or if there is no memory.
 pub fn text_in<R: Read + Drop>(alloc: Global, reader: R) -> Result<Vec<u8>, Fault>
@@ -34,9 +45,7 @@ pub fn text_in<R: Read + Drop>(alloc: Global, reader: R) -> Result<Vec<u8>, Faul
     ensures fault { IfErr result (λ fault. (fault ≡ Fault.Card out_of_memory)
         ⊎ (fault ≡ Fault.Device)) }
 {
-    let Ok(mut text) = Vec::with_capacity(alloc, MOST_BYTES as usize) else {
-        return Err(Fault::Card(OUT_OF_MEMORY));
-    };
+    let mut text = room(alloc)?;
     match reader.take(MOST_BYTES).read_to_end(&mut text) {
         Ok(_) => Ok(text),
         Err(error) => Err(Fault::of_reading(&error)),

@@ -1,5 +1,6 @@
 //! Answers that are fixed, and that the program gives only where memory or the store fails.
 
+use http::StatusCode;
 use http_replies::{Fault, refusal_answer};
 use std::test::Fail;
 
@@ -29,7 +30,7 @@ const NO_ROOM: &[u8] = b"HTTP/1.1 500 Internal Server Error\r\n\
 
 /// Whether a fault has this status, number and answer.
 fn is_told(fault: Fault, status: u16, number: u8, answer: &[u8]) -> bool {
-    fault.status() == status && fault.number() == number && fault.answer() == answer
+    fault.status().as_u16() == status && fault.number() == number && fault.answer() == answer
 }
 
 #[test]
@@ -37,6 +38,6 @@ fn faults_of_the_bureau_are_told(rt: HostRuntime) -> Result<(), Fail> {
     assert!(rt; is_told(Fault::NoMemory, 503, 1, NO_MEMORY));
     assert!(rt; is_told(Fault::Store, 503, 2, STORE));
     assert!(rt; is_told(Fault::NoMemoryForReply, 500, 3, NO_ROOM));
-    assert!(rt; refusal_answer(200) == refusal_answer(400));
+    assert!(rt; refusal_answer(StatusCode::OK) == refusal_answer(StatusCode::BAD_REQUEST));
     Ok(())
 }

@@ -1,5 +1,5 @@
 -- What was read of a script, and what its commands did.
-use Rattle.std.proofs.Common.{◌≡◌, ℕ, ◌<◌, ◌≤◌, Bool, List, None, Some, inr, refl, sym, ap, subst, ◌∙◌, arith, length, take}
+use Rattle.std.proofs.Common.{◌≡◌, ℕ, ◌<◌, ◌≤◌, Bool, List, None, Some, inr, refl, sym, subst, ◌∙◌, arith, length}
 use Rattle.std.specs.Prelude.{◌≢◌, Option, ⊤, IsTrue}
 use Rattle.office.specs.Office.{Office}
 use Rattle.sqlite.specs.Effect.{Database}
@@ -9,7 +9,6 @@ use Rattle.ledger.proofs.WorkLemmas.{worked_in_turn}
 use Rattle.ledger.specs.Standing.{Rows}
 use Rattle.ledger.specs.WholeRows.{HaveWholeRows}
 use Rattle.ledger.specs.Working.{HasWorked}
-use Rattle.ledger_tables.specs.declared.faults.Fault.{Fault}
 use Rattle.ledger_tables.specs.declared.faults.Fault.TheVariants.{NoMemory, Store}
 use Rattle.exchanges.specs.Running.{IsCount, RunLeaves, RunStands, Runs, fault_of}
 use Rattle.exchanges.specs.Work.{TellsScript}

@@ -6,6 +6,7 @@ ghost use Rattle.sqlite.specs.Held.{state};
 ghost use Rattle.sqlite.specs.View.{doubt};
 ghost use Rattle.office.specs.Meters.{RisenAtMost};
 ghost use Rattle.http_requests.specs.Requests.{HasRefusingStatus, IsRefusingStatus};
+ghost use Rattle.http_requests.specs.declared.fault.RequestFault.TheVariants.{NoMemory, ReadFailed};
 ghost use Rattle.http_requests.specs.declared.request.Request.TheVariants as request;
 ghost use Rattle.exchanges.specs.Answers.{AnswersBroken, IsAnswer, IsOfFault, limit_of};
 ghost use Rattle.exchanges.specs.Exchanges.{Comes, ComesInEach, ComesOfBroken, TicksForRead};
@@ -16,6 +17,7 @@ ghost use Rattle.ledger.specs.Working.{HasWorked};
 use crate::laws::lines_rise;
 use crate::messages::{Bytes, Message, fault_message};
 use cards::CardFault;
+use http::StatusCode;
 use http_replies::{Fault, deck_fault, refusal_answer, reply_to, status_of};
 use http_requests::{Request, RequestFault, Routes};
 use ledger::{Bureau, kept_offices_run_whole};
@@ -26,7 +28,7 @@ use std::alloc::Global;
 use std::io::Read;
 
 /// The answer that refuses a request with this status.
-fn refusal(status: u16) -> Message
+fn refusal(status: StatusCode) -> Message
     requires { IsRefusingStatus status }
     ensures { IsAnswer (request.Refused status) [] result.status (bytes_in result.bytes) }
 {
@@ -43,7 +45,7 @@ fn bad_deck(alloc: Global, fault: CardFault) -> Message
 {
     match deck_fault(alloc, fault) {
         Ok(bytes) => Message {
-            status: 400,
+            status: StatusCode::BAD_REQUEST,
             bytes: Bytes::Made(bytes),
         },
         Err(_) => fault_message(Fault::NoMemory),
@@ -116,6 +118,18 @@ fn answer<S: Alter>(
     }
 }
 
+/// The answer where no request was read; `None` if the reader failed.
+fn unread(fault: RequestFault) -> Option<Message>
+    ensures none { IfNone result (fault ≡ ReadFailed) }
+    ensures some { IfSome result (λ message. (fault ≡ NoMemory)
+        × IsOfFault Fault.NoMemory message.status (bytes_in message.bytes)) }
+{
+    match fault {
+        RequestFault::NoMemory => Some(fault_message(Fault::NoMemory)),
+        RequestFault::ReadFailed => None,
+    }
+}
+
 /// Reads a request, carries it out and makes the answer; `None` if the reader fails.
 pub(crate) fn answer_next<R: Read, S: Alter>(
     alloc: Global,
@@ -144,7 +158,6 @@ pub(crate) fn answer_next<R: Read, S: Alter>(
     kept_offices_run_whole();
     match Request::read(alloc, routes, reader) {
         Ok(request) => Some(answer(alloc, &request, bureau, meter)),
-        Err(RequestFault::NoMemory) => Some(fault_message(Fault::NoMemory)),
-        Err(RequestFault::ReadFailed) => None,
+        Err(fault) => unread(fault),
     }
 }

@@ -4,6 +4,7 @@ ghost use Rattle.std.specs.Prelude.{◌≡◌};
 ghost use Rattle.http_replies.specs.Fixed.{fault_bytes, fault_status};
 ghost use Rattle.exchanges.specs.Messages.{bytes_in};
 
+use http::StatusCode;
 use http_replies::Fault;
 
 /// The bytes to be written.
@@ -18,7 +19,7 @@ pub(crate) enum Bytes {
 /// An answer: its status and its bytes.
 #[derive(Drop)]
 pub(crate) struct Message {
-    pub(crate) status: u16,
+    pub(crate) status: StatusCode,
     pub(crate) bytes: Bytes,
 }
 

@@ -1,5 +1,5 @@
 -- replies over HTTP: the head and the body
-use Rattle.std.specs.Prelude.{ℕ, ◌==◌, List, [], ◌++◌, if◌then◌else◌, codes, decimal, length, ⊤}
+use Rattle.std.specs.Prelude.{ℕ, ◌≡◌, ◌⊎◌, ◌==◌, List, [], ◌++◌, if◌then◌else◌, codes, decimal, length, ⊤}
 use Rattle.cards.specs.declared.faults.CardFault.{CardFault}
 use Rattle.office.specs.declared.refusals.Refusal.{Refusal}
 use Rattle.office.specs.declared.refusals.Refusal.TheVariants as refusal
@@ -22,6 +22,12 @@ phrase_of status =
     if status == 500 then codes "Internal Server Error" else
     if status == 503 then codes "Service Unavailable" else
     []
+
+-- a status that is answered, so that it has a reason phrase
+abbrev pub HasPhrase : ℕ → Type 0
+HasPhrase status =
+    (status ≡ 200) ⊎ (status ≡ 400) ⊎ (status ≡ 404) ⊎ (status ≡ 405) ⊎ (status ≡ 409)
+    ⊎ (status ≡ 411) ⊎ (status ≡ 413) ⊎ (status ≡ 431) ⊎ (status ≡ 500) ⊎ (status ≡ 503)
 
 -- the head of an answer with this status and reason phrase, for a body of this type and length
 abbrev pub head_bytes : ℕ → List ℕ → List ℕ → ℕ → List ℕ

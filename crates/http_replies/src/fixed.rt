@@ -4,6 +4,8 @@ ghost use Rattle.std.specs.Prelude.{◌≡◌};
 ghost use Rattle.http_replies.specs.Fixed.{fault_bytes, fault_number, fault_status, refusing_status};
 ghost use Rattle.http_replies.specs.Replies.{refused_bytes};
 
+use http::StatusCode;
+
 /// Why a request has no other answer: a fault of the bureau itself.
 #[derive(Clone, Copy, Debug, PartialEq, Eq)]
 pub enum Fault {
@@ -89,10 +91,10 @@ const NO_MEMORY_FOR_REPLY: &[u8] = b"HTTP/1.1 500 Internal Server Error\r\n\
 
 /// The answer that refuses a request by its status alone: 400, 404, 405, 411, 413 or 431. For any
 /// other status it is the answer of 400.
-pub fn refusal_answer(status: u16) -> &'static [u8]
+pub fn refusal_answer(status: StatusCode) -> &'static [u8]
     ensures { result.now ≡ refused_bytes (refusing_status status) }
 {
-    match status {
+    match status.as_u16() {
         404 => NOT_FOUND,
         405 => METHOD_NOT_ALLOWED,
         411 => LENGTH_REQUIRED,
@@ -115,12 +117,12 @@ impl Fault {
     }
 
     /// The status of its answer.
-    pub fn status(self) -> u16
+    pub fn status(self) -> StatusCode
         ensures { result ≡ fault_status self }
     {
         match self {
-            Fault::NoMemory | Fault::Store => 503,
-            Fault::NoMemoryForReply => 500,
+            Fault::NoMemory | Fault::Store => StatusCode::SERVICE_UNAVAILABLE,
+            Fault::NoMemoryForReply => StatusCode::INTERNAL_SERVER_ERROR,
         }
     }
 

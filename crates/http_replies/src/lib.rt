@@ -10,7 +10,9 @@
 //! Bodies are made by `serde_json`; `specs/Values.antt` has their members. This crate uses no
 //! database.
 //!
-//! By [`names_stand_as_they_are`] a customer's name is in the queue's body unchanged.
+//! Statuses are `http`'s, which also has the reason phrase of each. By [`phrases_are_standard`] these
+//! are the phrases of the profile, also in the fixed answers. By [`names_stand_as_they_are`] a
+//! customer's name is in the queue's body unchanged.
 #![tactic(auto)]
 
 mod answers;
@@ -22,5 +24,5 @@ mod replies;
 mod values;
 
 pub use fixed::{Fault, refusal_answer};
-pub use laws::names_stand_as_they_are;
+pub use laws::{names_stand_as_they_are, phrases_are_standard};
 pub use replies::{deck_fault, reply_to, status_of};

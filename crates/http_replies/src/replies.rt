@@ -1,17 +1,19 @@
 //! The bytes of each reply.
 
 ghost use Rattle.std.specs.Prelude.{◌≡◌, IfOk};
-ghost use Rattle.http_replies.specs.Replies.{HasLinesInOrder, content_type_of, deck_fault_bytes, refusal_status, reply_bytes, status_of};
+ghost use Rattle.http_replies.specs.Replies.{HasLinesInOrder, HasPhrase, content_type_of, deck_fault_bytes, refusal_status, reply_bytes, status_of};
 
 use crate::answers::answer;
 use crate::bodies::{body_of, deck_fault_body};
 use cards::CardFault;
+use http::StatusCode;
 use office::{Refusal, Reply};
 use std::alloc::{AllocError, Global};
 
 /// The status of a refusal.
-fn refusal_status(reason: &Refusal) -> u16
-    ensures { result ≡ refusal_status reason.now }
+fn refusal_status(reason: &Refusal) -> StatusCode
+    ensures status { result ≡ refusal_status reason.now }
+    ensures phrase { HasPhrase result }
 {
     match reason {
         Refusal::Customer
@@ -20,8 +22,8 @@ fn refusal_status(reason: &Refusal) -> u16
         | Refusal::Deck
         | Refusal::Assembly(_)
         | Refusal::Limit
-        | Refusal::NoSuchPocket => 400,
-        Refusal::NoJob => 404,
+        | Refusal::NoSuchPocket => StatusCode::BAD_REQUEST,
+        Refusal::NoJob => StatusCode::NOT_FOUND,
         Refusal::OtherContents
         | Refusal::TooManyJobs
         | Refusal::Held
@@ -30,17 +32,18 @@ fn refusal_status(reason: &Refusal) -> u16
         | Refusal::AlreadyHeld
         | Refusal::NotHeld
         | Refusal::Collected
-        | Refusal::TooMuch => 409,
+        | Refusal::TooMuch => StatusCode::CONFLICT,
     }
 }
 
 /// The status of a reply.
-pub fn status_of(reply: &Reply) -> u16
-    ensures { result ≡ status_of reply.now }
+pub fn status_of(reply: &Reply) -> StatusCode
+    ensures status { result ≡ status_of reply.now }
+    ensures phrase { HasPhrase result }
 {
     match reply {
         Reply::Refused(reason) => refusal_status(reason),
-        _ => 200,
+        _ => StatusCode::OK,
     }
 }
 
@@ -70,5 +73,5 @@ pub fn deck_fault(alloc: Global, fault: CardFault) -> Result<Vec<u8>, AllocError
     ensures { IfOk result (λ bytes. bytes.items ≡ deck_fault_bytes fault) }
 {
     let body = deck_fault_body(alloc, fault)?;
-    answer(alloc, 400, "application/json", &body)
+    answer(alloc, StatusCode::BAD_REQUEST, "application/json", &body)
 }

@@ -1,7 +1,7 @@
 -- what a head that was read says of all bytes of its reader
 use Rattle.std.proofs.Common.{◌≡◌, ◌∙◌, ℕ, ◌+◌, ◌≤◌, List, ◌++◌, length, take, drop, map, sym, ap, subst, refl, arith, append_assoc, inl, inr, ◌⊎◌, [], length-append}
 use Rattle.std.proofs.lemmas.List.{length-take, length-map}
-use Rattle.httparse.specs.Grammar.{HasNoRequest, RequestHead, print_request}
+use Rattle.httparse.specs.Grammar.{HasNoRequest, MayBecomeRequest, RequestHead, print_request}
 use Rattle.httparse.specs.Spans.{IsRequestAt, IsRequestOf, IsRequestWithin, RequestExceeds, header_bytes, name_and_value}
 use Rattle.httparse.specs.declared.spans.HeaderSpan.{HeaderSpan}
 use Rattle.httparse.specs.declared.spans.RequestSpans.{RequestSpans}
@@ -36,7 +36,6 @@ judged_of (verdict.Refused status) bytes rest fields spans room short of within 
 judged_of (verdict.Asks asked count begun) bytes rest fields spans room short of within on =
     let is = on of.0 of.1 in
     (of.0, begins bytes rest fields spans of.0 room short of.1 within, is.0, is.1, is.2, ap (λ (b : List ℕ). b ++ rest) is.3)
-judged_of verdict.ReadFailed bytes rest fields spans room short of within on = tt
 
 -- the verdict on a head that is whole
 pub judged : (v : Verdict) (input bytes rest : List ℕ) (fields : List HeaderSpan) (spans : RequestSpans)
@@ -54,8 +53,8 @@ too_large input bytes rest fields o (inl e) is come =
     let more : RequestExceeds 64 bytes = subst (ComesTo bytes fields 8192 (rest ≡ [])) e come in
     inl (inr (inl (bytes, rest, is, more), refl))
 too_large input bytes rest fields o (inr e) is come =
-    let long : HasNoRequest bytes × (length bytes ≡ 8192) = subst (ComesTo bytes fields 8192 (rest ≡ [])) e come in
-    let front : take 8192 (bytes ++ rest) ≡ bytes = ap (λ (n : ℕ). take n (bytes ++ rest)) (sym long.1) ∙ take-append_seam bytes rest in
+    let long : HasNoRequest bytes × MayBecomeRequest bytes × (length bytes ≡ 8192) = subst (ComesTo bytes fields 8192 (rest ≡ [])) e come in
+    let front : take 8192 (bytes ++ rest) ≡ bytes = ap (λ (n : ℕ). take n (bytes ++ rest)) (sym long.2) ∙ take-append_seam bytes rest in
     let whole : take 8192 input ≡ bytes = ap (take 8192) is ∙ front in
     let size : length input ≡ length bytes + length rest = ap length is ∙ length-append bytes rest in
-    inl (inr (inr (omega (arith, size, long.1), subst HasNoRequest (sym whole) long.0), refl))
+    inl (inr (inr (omega (arith, size, long.2), subst HasNoRequest (sym whole) long.0, subst MayBecomeRequest (sym whole) long.1), refl))

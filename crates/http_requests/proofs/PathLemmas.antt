@@ -8,6 +8,7 @@ use Rattle.matchit.specs.Rows.{RowsOf}
 use Rattle.matchit.specs.Router.{RouteOf}
 use Rattle.matchit.proofs.OnLiterals.{matchit_on_literals}
 use Rattle.http_requests.specs.declared.routes.Path.{Path}
+use Rattle.http_requests.specs.declared.routes.Route.{Route}
 use Rattle.http_requests.specs.declared.routes.Route.TheVariants.{Queue}
 use Rattle.http_requests.specs.Paths.{get, is_free, path_of, paths, routed, with_path}
 
@@ -52,3 +53,9 @@ pub all_rows : (table : List (Bor (List ℕ) × Path)) → map path_of table ≡
 all_rows table same place all rows is =
     let long : length table ≡ length paths = omega (arith, length-map table path_of, ap length same) in
     is ∙ ap routed (take_all place paths (omega (arith, long)))
+
+-- paths are the same by their methods and their routes
+pub same_path : (path other : Path) → path.method ≡ other.method → path.route ≡ other.route → path ≡ other
+same_path path other method route =
+    ap (λ (m : List ℕ). record { method = m; route = path.route }) method
+    ∙ ap (λ (r : Route). record { method = other.method; route = r }) route

@@ -1,5 +1,6 @@
 -- what was read of a reader says of all its bytes
-use Rattle.std.proofs.Common.{◌≡◌, ℕ, List, ◌++◌, Option, Some, None, Result, Ok, Err, IfOk, IfSome, inl, inr, sym, subst}
+use Rattle.std.specs.declared.alloc.Global.{Global}
+use Rattle.std.proofs.Common.{◌≡◌, ℕ, List, ◌++◌, Vec, Option, Some, None, Result, Ok, Err, IfOk, IfSome, inl, inr, sym, subst}
 use Rattle.std.specs.Borrow.{Bor}
 use Rattle.http_requests.specs.Heads.{IsReadOf, Judges, ReadsHead}
 use Rattle.http_requests.specs.declared.targets.Target.{Target}
@@ -7,10 +8,22 @@ use Rattle.http_requests.specs.declared.head.Head.{Head}
 use Rattle.http_requests.specs.declared.verdicts.Verdict.{Verdict}
 use Rattle.http_requests.specs.declared.verdicts.Verdict.TheVariants as verdict
 use Rattle.http_requests.specs.Requests.{IsAskedWith, IsRefusedFor, IsRefusingStatus, IsRequestOf}
+use Rattle.http_requests.specs.Asking.{IsAskedBy}
+use Rattle.http_requests.specs.Bodies.{IsBodyOf}
+use Rattle.http_requests.specs.declared.bodies.Body.{Body}
+use Rattle.http_requests.specs.declared.bodies.Body.TheVariants as body
 use Rattle.http_requests.specs.declared.fault.RequestFault.{RequestFault}
 use Rattle.http_requests.specs.declared.request.Request.{Request}
 use Rattle.http_requests.specs.declared.request.Request.TheVariants as request
 use Rattle.http_requests.proofs.RequestStatuses.{refuses_so}
+
+-- the whole body of what a head asks for was read
+pub asked_with : (old : Option (List ℕ)) (begun : List ℕ) (asked : Target) (count : ℕ) (b : Body) (bytes : Vec ℕ Global) (r : Request) → b ≡ body.Whole bytes
+    → IfSome old (λ rest. IsBodyOf (begun ++ rest) count b) → IsAskedBy asked bytes.items r → IfSome old (λ rest. IsAskedWith asked count (begun ++ rest) r)
+asked_with None begun asked count b bytes r is read asks = tt
+asked_with (Some rest) begun asked count b bytes r is read asks =
+    let whole = subst (IsBodyOf (begun ++ rest) count) is read in
+    inl (whole.0, subst (λ (found : List ℕ). IsAskedBy asked found r) whole.1 asks)
 
 -- the head is refused
 pub refused_request : (old mid : Option (List ℕ)) (head : Head) (v : Verdict) (status : ℕ) (r : Request) → ReadsHead old mid head → v ≡ verdict.Refused status

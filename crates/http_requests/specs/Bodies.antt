@@ -26,7 +26,6 @@ IsFilledAfter begun old new buffer filled.Failed = ⊤
 abbrev pub IsBodyOf : List ℕ → ℕ → Body → Type 0
 IsBodyOf after count (body.Whole bytes) = (count ≤ length after) × (bytes.items ≡ take count after)
 IsBodyOf after count body.Short = length after < count
-IsBodyOf after count body.ReadFailed = ⊤
 
 -- the reader lost exactly the bytes that the body lacked after those that were begun, and none that
 -- follow it; or it ended before
@@ -36,4 +35,3 @@ LosesMissing begun count old new (body.Whole bytes) =
 LosesMissing begun count old new body.Short =
     (missing : List ℕ) × (length begun + length missing < count) × Consumes old new missing
     × IsAtEnd new
-LosesMissing begun count old new body.ReadFailed = ⊤

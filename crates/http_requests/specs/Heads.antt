@@ -1,6 +1,6 @@
 -- how the first bytes of a request are judged
 use Rattle.std.specs.Prelude.{ℕ, ◌≡◌, ◌<◌, ◌≤◌, ◌⊎◌, List, ◌++◌, length, take, Option, Some, None, [], ⊤}
-use Rattle.httparse.specs.Grammar.{HasNoRequest, NeverHasRequest, ReadsRequest, RequestHead, print_request}
+use Rattle.httparse.specs.Grammar.{HasNoRequest, MayBecomeRequest, NeverHasRequest, ReadsRequest, RequestHead, print_request}
 use Rattle.httparse.specs.Spans.{RequestExceeds}
 use Rattle.http_requests.specs.Targets.{Asks}
 use Rattle.http_requests.specs.Fields.{body_length}
@@ -40,9 +40,10 @@ abbrev pub HasManyFields : List ℕ → Type 0
 HasManyFields input = (front : List ℕ) × (rest : List ℕ) × (input ≡ front ++ rest)
     × RequestExceeds most_fields front
 
--- no head ends within the most bytes of a head
+-- no head ends within the most bytes of a head, and one may end after them, or they end in its target
 abbrev pub IsTooLong : List ℕ → Type 0
 IsTooLong input = (most_bytes ≤ length input) × HasNoRequest (take most_bytes input)
+    × MayBecomeRequest (take most_bytes input)
 
 -- the bytes begin with no head, and are refused with this status
 abbrev pub IsUnread : List ℕ → ℕ → Type 0
@@ -76,13 +77,11 @@ IsVerdictOn h after (verdict.Refused status) = IsRefused h status
 IsVerdictOn h after (verdict.Asks asked count begun) =
     (status_of h ≡ None) × Asks h.target asked × (count ≡ count_of (body_length (fields_of h)))
     × (begun.now ≡ after)
-IsVerdictOn h after verdict.ReadFailed = ⊥
 
 -- the verdict on a reader's bytes, of which the rest was not read
 abbrev pub Judges : List ℕ → List ℕ → Verdict → Type 0
 Judges input rest (verdict.Refused status) = Refuses input status
 Judges input rest (verdict.Asks asked count begun) = AsksFor input asked count (begun.now ++ rest)
-Judges input rest verdict.ReadFailed = ⊤
 
 -- the bytes of the reader are those read for this head and then the rest, and the head's outcome is
 -- right

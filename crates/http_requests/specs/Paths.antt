@@ -8,7 +8,6 @@ use Rattle.matchit.specs.Rows.{RowsOf}
 use Rattle.matchit.specs.Seek.{first}
 use Rattle.matchit.specs.declared.error.InsertError.{InsertError}
 use Rattle.office.specs.declared.commands.Kind.TheVariants.{Object, Autocoder}
-use Rattle.http_requests.specs.declared.routes.Method.TheVariants.{Get, Post, Put}
 use Rattle.http_requests.specs.declared.routes.Path.{Path}
 use Rattle.http_requests.specs.declared.routes.Route.{Route}
 use Rattle.http_requests.specs.declared.routes.Route.TheVariants.{Submit, Job, Jobs, Queue}
@@ -16,15 +15,15 @@ use Rattle.http_requests.specs.declared.routes.Verb.TheVariants as verb
 
 -- a path whose requests submit a job, with PUT
 abbrev pub put : Route → Path
-put route = record { method = Put; route = route }
+put route = record { method = codes "PUT"; route = route }
 
 -- a path whose requests have a job act, with POST
 abbrev pub post : Route → Path
-post route = record { method = Post; route = route }
+post route = record { method = codes "POST"; route = route }
 
 -- a path whose requests are queries, with GET
 abbrev pub get : Route → Path
-get route = record { method = Get; route = route }
+get route = record { method = codes "GET"; route = route }
 
 -- the thirteen paths of the counter, each with its method and its route
 abbrev pub paths : List (List ℕ × Path)

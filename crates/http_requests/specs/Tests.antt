@@ -4,23 +4,14 @@ use Rattle.std.specs.Str.{bytes_eq}
 use Rattle.httparse.specs.Grammar.{RequestHead}
 use Rattle.httparse.specs.Spans.{name_and_value}
 use Rattle.http_requests.specs.Paths.{path_at}
-use Rattle.http_requests.specs.declared.routes.Method.{Method}
-use Rattle.http_requests.specs.declared.routes.Method.TheVariants.{Get, Post, Put}
 use Rattle.http_requests.specs.declared.routes.Path.{Path}
 use Rattle.http_requests.specs.Fields.{Field, body_length, values_of}
 use Rattle.http_requests.specs.declared.lengths.BodyLength.{BodyLength}
 use Rattle.http_requests.specs.declared.lengths.BodyLength.TheVariants.{Unsaid, Bytes, Bad}
 
 -- whether requests with this method have a body, which those with PUT do
-abbrev pub has_body : Method → Bool
-has_body Put = true
-has_body other = false
-
--- the word of a method
-abbrev pub word_of : Method → List ℕ
-word_of Get = codes "GET"
-word_of Post = codes "POST"
-word_of Put = codes "PUT"
+abbrev pub has_body : List ℕ → Bool
+has_body method = bytes_eq method (codes "PUT")
 
 -- whether the length of a body is not a bad one
 abbrev pub is_length : BodyLength → Bool
@@ -38,7 +29,7 @@ count_of (Bytes count) = count
 count_of other = 0
 
 -- the tests of a body's length, each with the status if it fails
-abbrev pub length_tests : Method → BodyLength → List (Bool × ℕ)
+abbrev pub length_tests : List ℕ → BodyLength → List (Bool × ℕ)
 length_tests method said =
     (is_length said, 400)
     ∷ (not (has_body method) || is_said said, 411)
@@ -49,7 +40,7 @@ length_tests method said =
 -- the tests of a request with this path, in order, each with the status if it fails
 abbrev pub tests : Path → List ℕ → List Field → List (Bool × ℕ)
 tests path method fields =
-    (bytes_eq method (word_of path.method), 405)
+    (bytes_eq method path.method, 405)
     ∷ (length (values_of (codes "Transfer-Encoding") fields) == 0, 400)
     ∷ length_tests path.method (body_length fields)
 

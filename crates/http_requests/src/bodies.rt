@@ -1,9 +1,10 @@
 //! The body of a request.
 
-ghost use Rattle.std.specs.Prelude.{◌≡◌, ◌<◌, ◌++◌, length, IfOk, IfSome};
+ghost use Rattle.std.specs.Prelude.{◌≡◌, ◌<◌, ◌++◌, length, Ok, Err, IfOk, IfSome};
 ghost use Rattle.http_requests.specs.Bodies.{IsBodyOf, IsFilled, IsFilledAfter, LosesMissing};
 
-use std::alloc::{AllocError, Global};
+use crate::fault::RequestFault;
+use std::alloc::Global;
 use std::io::Read;
 
 /// The result of reading to the end of a buffer.
@@ -24,8 +25,6 @@ pub enum Body {
     Whole(Vec<u8>),
     /// The reader ended before the body did.
     Short,
-    /// The reader failed before the body ended.
-    ReadFailed,
 }
 
 /// Reads until a buffer is full, or the reader ends or fails.
@@ -56,15 +55,28 @@ fn fill_after<R: Read>(reader: &mut R, buffer: &mut [u8], begun: &[u8]) -> Fille
     fill(reader, &mut buffer[begun.len()..])
 }
 
+/// The body that was read into a buffer.
+fn body_in(bytes: Vec<u8>, filled: Filled) -> Result<Body, RequestFault>
+    ensures whole { filled ≡ Filled.Whole → result ≡ Ok (Body.Whole bytes) }
+    ensures ended { filled ≡ Filled.Ended → result ≡ Ok Body.Short }
+    ensures failed { filled ≡ Filled.Failed → result ≡ Err RequestFault.ReadFailed }
+{
+    match filled {
+        Filled::Whole => Ok(Body::Whole(bytes)),
+        Filled::Ended => Ok(Body::Short),
+        Filled::Failed => Err(RequestFault::ReadFailed),
+    }
+}
+
 /// Reads the body of a request, which has `count` bytes; `begun` is the bytes after the head that
-/// were already read. It takes no byte after the body from the reader. Fails only if there is no
-/// memory.
+/// were already read. It takes no byte after the body from the reader. Fails if there is no memory
+/// or if the reader fails.
 pub fn read_body<R: Read>(
     alloc: Global,
     reader: &mut R,
     begun: &[u8],
     count: u32,
-) -> Result<Body, AllocError>
+) -> Result<Body, RequestFault>
     ensures body { IfOk result (λ body. IfSome (R.remaining reader.old)
         (λ rest. IsBodyOf (begun.now ++ rest) count body)) }
     ensures taken { IfOk result (λ body. LosesMissing begun.now count (R.remaining reader.old)
@@ -76,9 +88,6 @@ pub fn read_body<R: Read>(
         bytes.as_mut_slice().copy_from_slice(&begun[..count]);
         return Ok(Body::Whole(bytes));
     }
-    match fill_after(reader, bytes.as_mut_slice(), begun) {
-        Filled::Whole => Ok(Body::Whole(bytes)),
-        Filled::Ended => Ok(Body::Short),
-        Filled::Failed => Ok(Body::ReadFailed),
-    }
+    let filled = fill_after(reader, bytes.as_mut_slice(), begun);
+    body_in(bytes, filled)
 }

@@ -12,6 +12,11 @@ pub enum RequestFault {
 }
 
 impl From<AllocError> for RequestFault {
+    ghost use Rattle.std.specs.Prelude.{◌≡◌};
+    ghost use Rattle.http_requests.specs.declared.fault.RequestFault.TheVariants.{NoMemory};
+
+    ghost from_gives = { λ _ fault. fault ≡ NoMemory };
+
     fn from(_: AllocError) -> RequestFault {
         RequestFault::NoMemory
     }

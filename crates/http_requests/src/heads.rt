@@ -1,12 +1,14 @@
 //! Heads of requests: how one is read, and its verdict.
 
-ghost use Rattle.std.specs.Prelude.{◌≡◌, ◌≤◌, List, ℕ, drop, length, take};
+ghost use Rattle.std.specs.Prelude.{◌≡◌, ◌≤◌, List, ℕ, IfOk, IfErr, drop, length, take};
 ghost use Rattle.httparse.specs.Grammar.{RequestHead};
 ghost use Rattle.httparse.specs.Spans.{IsRequestAt, IsRequestWithin};
 ghost use Rattle.http_requests.specs.Paths.{paths, routed};
+ghost use Rattle.http_requests.specs.declared.fault.RequestFault.TheVariants.{ReadFailed};
 ghost use Rattle.http_requests.specs.Heads.{IsReadOf, IsVerdictOn, Judges, ReadsHead};
 
 use crate::asking::asked_at;
+use crate::fault::RequestFault;
 use crate::fields::body_length;
 use crate::head::Head;
 use crate::lengths::BodyLength;
@@ -37,7 +39,7 @@ fn verdict_on<'a>(
     let fields = &fields[..spans.headers];
     let path = path_at(router, target);
     if let Some(status) = refusal(path, spans.method.of(bytes), bytes, fields) {
-        return Verdict::Refused(status);
+        return Verdict::Refused(status.as_u16());
     }
     let count = match body_length(bytes, fields) {
         BodyLength::Bytes(count) => count,
@@ -69,18 +71,21 @@ impl Head {
         }
     }
 
-    /// Returns what the request asks for, or the status that refuses it.
-    pub fn verdict<'a>(&'a self, router: &Router<Path>) -> Verdict<'a>
+    /// Returns what the request asks for, or the status that refuses it. Fails only if the reader
+    /// failed.
+    pub fn verdict<'a>(&'a self, router: &Router<Path>) -> Result<Verdict<'a>, RequestFault>
         requires { router.now ≡ routed paths }
-        ensures { (input : List ℕ) → (rest : List ℕ) → IsReadOf self.now input rest
-            → Judges input rest result }
+        ensures verdict { IfOk result (λ verdict. (input : List ℕ) → (rest : List ℕ)
+            → IsReadOf self.now input rest → Judges input rest verdict) }
+        ensures failed { IfErr result (λ fault. (fault ≡ ReadFailed)
+            × (self.now.outcome ≡ Outcome.Failed)) }
     {
         let bytes = &self.bytes[..self.filled];
         match &self.outcome {
-            Outcome::Whole(spans) => verdict_on(router, bytes, &self.fields, spans),
-            Outcome::NoHead | Outcome::Ended => Verdict::Refused(400),
-            Outcome::TooManyFields | Outcome::TooLong => Verdict::Refused(431),
-            Outcome::Failed => Verdict::ReadFailed,
+            Outcome::Whole(spans) => Ok(verdict_on(router, bytes, &self.fields, spans)),
+            Outcome::NoHead | Outcome::Ended => Ok(Verdict::Refused(400)),
+            Outcome::TooManyFields | Outcome::TooLong => Ok(Verdict::Refused(431)),
+            Outcome::Failed => Err(RequestFault::ReadFailed),
         }
     }
 }

@@ -39,7 +39,7 @@ pub use fault::RequestFault;
 pub use head::Head;
 pub use paths::router;
 pub use request::Request;
-pub use routes::{Method, Path, Route, Verb};
+pub use routes::{Path, Route, Verb};
 pub use routing::Routes;
 pub use targets::{JobName, Target};
 pub use verdicts::Verdict;

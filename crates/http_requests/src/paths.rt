@@ -4,7 +4,8 @@ ghost use Rattle.std.specs.Prelude.{◌≡◌, true, map, option_map, IfOk, OnOk
 ghost use Rattle.matchit.specs.Seek.{first};
 ghost use Rattle.http_requests.specs.Paths.{is_free, path_at, path_of, paths, routed, with_path};
 
-use crate::routes::{Method, Path, Route, Verb};
+use crate::routes::{Path, Route, Verb};
+use http::Method;
 use matchit::{InsertError, Router};
 use office::Kind;
 use std::alloc::{AllocError, Global};
@@ -13,26 +14,26 @@ use std::alloc::{AllocError, Global};
 #[rattlefmt::skip]
 const PATHS: [(&str, Path); 13] = [
     ("/c/{customer}/j/{number}/object/{size}/{switches}",
-        Path { method: Method::Put, route: Route::Submit(Kind::Object) }),
+        Path { method: Method::PUT, route: Route::Submit(Kind::Object) }),
     ("/c/{customer}/j/{number}/autocoder/{size}/{switches}",
-        Path { method: Method::Put, route: Route::Submit(Kind::Autocoder) }),
+        Path { method: Method::PUT, route: Route::Submit(Kind::Autocoder) }),
     ("/c/{customer}/j/{number}/slice/{limit}",
-        Path { method: Method::Post, route: Route::Job(Verb::Slice) }),
+        Path { method: Method::POST, route: Route::Job(Verb::Slice) }),
     ("/c/{customer}/j/{number}/start/{switches}",
-        Path { method: Method::Post, route: Route::Job(Verb::Start) }),
+        Path { method: Method::POST, route: Route::Job(Verb::Start) }),
     ("/c/{customer}/j/{number}/hold",
-        Path { method: Method::Post, route: Route::Job(Verb::Hold) }),
+        Path { method: Method::POST, route: Route::Job(Verb::Hold) }),
     ("/c/{customer}/j/{number}/release",
-        Path { method: Method::Post, route: Route::Job(Verb::Release) }),
+        Path { method: Method::POST, route: Route::Job(Verb::Release) }),
     ("/c/{customer}/j/{number}/collect",
-        Path { method: Method::Post, route: Route::Job(Verb::Collect) }),
-    ("/c/{customer}/j/{number}", Path { method: Method::Get, route: Route::Job(Verb::Standing) }),
-    ("/c/{customer}/j/{number}/cards", Path { method: Method::Get, route: Route::Job(Verb::Cards) }),
+        Path { method: Method::POST, route: Route::Job(Verb::Collect) }),
+    ("/c/{customer}/j/{number}", Path { method: Method::GET, route: Route::Job(Verb::Standing) }),
+    ("/c/{customer}/j/{number}/cards", Path { method: Method::GET, route: Route::Job(Verb::Cards) }),
     ("/c/{customer}/j/{number}/cards/{pocket}",
-        Path { method: Method::Get, route: Route::Job(Verb::Pocket) }),
-    ("/c/{customer}/j/{number}/lines", Path { method: Method::Get, route: Route::Job(Verb::Lines) }),
-    ("/c/{customer}/jobs", Path { method: Method::Get, route: Route::Jobs }),
-    ("/queue", Path { method: Method::Get, route: Route::Queue }),
+        Path { method: Method::GET, route: Route::Job(Verb::Pocket) }),
+    ("/c/{customer}/j/{number}/lines", Path { method: Method::GET, route: Route::Job(Verb::Lines) }),
+    ("/c/{customer}/jobs", Path { method: Method::GET, route: Route::Jobs }),
+    ("/queue", Path { method: Method::GET, route: Route::Queue }),
 ];
 
 /// Adds a path that does not conflict with those before it. Fails only if there is no memory.
@@ -54,7 +55,7 @@ fn router_of(alloc: Global, table: &[(&str, Path)]) -> Result<Router<Path>, Allo
 {
     let mut router = Router::new(alloc);
     for entry in table {
-        add(&mut router, entry.0, entry.1)?;
+        add(&mut router, entry.0, entry.1.clone()?)?;
     }
     Ok(router)
 }
@@ -67,20 +68,21 @@ pub fn router(alloc: Global) -> Result<Router<Path>, AllocError>
 }
 
 /// The first of a router's paths that a target matches.
-fn find_path(router: &Router<Path>, target: &str) -> Option<Path>
-    ensures { result ≡ option_map (λ row. row.value) (first router.now target.now) }
+fn find_path<'a>(router: &'a Router<Path>, target: &str) -> Option<&'a Path>
+    ensures { option_map (λ path. path.now) result
+        ≡ option_map (λ row. row.value) (first router.entry.now target.now) }
 {
     match router.at(target) {
-        Ok(found) => Some(*found.value),
+        Ok(found) => Some(found.value),
         Err(_) => None,
     }
 }
 
 /// Returns the path of a target, if it has one. The router is the one that [`router`] returns.
 #[tactic(auto, unfolding(crate::specs::Paths::path_at))]
-pub fn path_at(router: &Router<Path>, target: &str) -> Option<Path>
+pub fn path_at<'a>(router: &'a Router<Path>, target: &str) -> Option<&'a Path>
     requires { router.now ≡ routed paths }
-    ensures { result ≡ path_at target.now }
+    ensures { option_map (λ path. path.now) result ≡ path_at target.now }
 {
     find_path(router, target)
 }

@@ -17,7 +17,8 @@ pub(crate) enum Outcome {
     NoHead,
     /// The bytes begin with a start line and more header fields than a head may have.
     TooManyFields,
-    /// The bytes are as many as a head may have, and no head ends in them.
+    /// The bytes are as many as a head may have, and no head ends in them, though one may end after
+    /// them.
     TooLong,
     /// The reader ended before a head did.
     Ended,

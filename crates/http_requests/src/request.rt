@@ -11,6 +11,7 @@ use crate::routing::Routes;
 use crate::targets::Target;
 use crate::verdicts::Verdict;
 use cards::CardFault;
+use http::StatusCode;
 use office::Command;
 use std::alloc::Global;
 use std::io::Read;
@@ -19,7 +20,7 @@ use std::io::Read;
 #[derive(Drop)]
 pub enum Request {
     /// They are refused with this status alone: 400, 404, 405, 411, 413 or 431.
-    Refused(u16),
+    Refused(StatusCode),
     /// They ask for a submission, and the text of its deck has this fault.
     BadDeck(CardFault),
     /// They ask for this command.
@@ -31,10 +32,14 @@ fn refusal(status: u16) -> Request
     ensures one { HasRefusingStatus result }
     ensures same { IsRefusingStatus status → result ≡ Request.Refused status }
 {
-    match status {
-        404 | 405 | 411 | 413 | 431 => Request::Refused(status),
-        _ => Request::Refused(400),
-    }
+    Request::Refused(match status {
+        404 => StatusCode::NOT_FOUND,
+        405 => StatusCode::METHOD_NOT_ALLOWED,
+        411 => StatusCode::LENGTH_REQUIRED,
+        413 => StatusCode::PAYLOAD_TOO_LARGE,
+        431 => StatusCode::REQUEST_HEADER_FIELDS_TOO_LARGE,
+        _ => StatusCode::BAD_REQUEST,
+    })
 }
 
 /// The request that asks for this, with a body of `count` bytes. `begun` is the bytes after the
@@ -52,8 +57,7 @@ fn read_with_body<R: Read>(
 {
     match read_body(alloc, reader, begun, count)? {
         Body::Whole(bytes) => Ok(request_for(alloc, asked, &bytes)?),
-        Body::Short => Ok(Request::Refused(400)),
-        Body::ReadFailed => Err(RequestFault::ReadFailed),
+        Body::Short => Ok(Request::Refused(StatusCode::BAD_REQUEST)),
     }
 }
 
@@ -71,13 +75,15 @@ impl Request {
     {
         let head = Head::read(reader);
         match head.verdict(&routes.router) {
-            Verdict::Refused(status) => Ok(refusal(status)),
-            Verdict::Asks {
-                asked,
-                count,
-                begun,
-            } => read_with_body(alloc, reader, asked, count, begun),
-            Verdict::ReadFailed => Err(RequestFault::ReadFailed),
+            Ok(Verdict::Refused(status)) => Ok(refusal(status)),
+            Ok(
+                Verdict::Asks {
+                    asked,
+                    count,
+                    begun,
+                },
+            ) => read_with_body(alloc, reader, asked, count, begun),
+            Err(fault) => Err(fault),
         }
     }
 }

@@ -1,17 +1,7 @@
 //! What the paths of the counter ask for.
 
+use http::Method;
 use office::Kind;
-
-/// The method of a request. Requests with PUT have a body.
-#[derive(Clone, Copy, PartialEq, Eq)]
-pub enum Method {
-    /// GET: a query.
-    Get,
-    /// POST: a command on a job that is there.
-    Post,
-    /// PUT: a new job.
-    Put,
-}
 
 /// A command on a job, without its value.
 #[derive(Clone, Copy)]
@@ -49,8 +39,9 @@ pub enum Route {
     Queue,
 }
 
-/// A path: the method of its requests, and what they ask for.
-#[derive(Clone, Copy)]
+/// A path: the method of its requests, and what they ask for. The method is PUT for a new job, POST
+/// for a command on a job that is there, and GET for a query.
+#[derive(Clone, Drop)]
 pub struct Path {
     pub method: Method,
     pub route: Route,

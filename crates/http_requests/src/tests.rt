@@ -1,70 +1,59 @@
 //! The tests of a head, in order.
 
-ghost use Rattle.std.specs.Prelude.{◌≡◌, All, length, map};
+ghost use Rattle.std.specs.Prelude.{◌≡◌, All, length, map, option_map};
 ghost use Rattle.httparse.specs.Spans.{IsHeaderWithin, header_bytes};
-ghost use Rattle.http_requests.specs.Tests.{first_failed, has_body, length_tests, status_on, word_of};
+ghost use Rattle.http_requests.specs.Tests.{first_failed, has_body, length_tests, status_on};
 
 use crate::fields::{body_length, count_named};
 use crate::lengths::BodyLength;
-use crate::routes::{Method, Path};
+use crate::routes::Path;
+use http::{Method, StatusCode};
 use httparse::spans::HeaderSpan;
 
 /// The greatest number of bytes of a body.
 const MOST_BYTES: u32 = 200_000;
 
-impl Method {
-    /// The method's word.
-    fn word(self) -> &'static str
-        ensures { result.now ≡ word_of self }
-    {
-        match self {
-            Method::Get => "GET",
-            Method::Post => "POST",
-            Method::Put => "PUT",
-        }
-    }
-
-    /// Whether the requests have a body.
-    fn has_body(self) -> bool
-        ensures { result ≡ has_body self }
-    {
-        matches!(self, Method::Put)
-    }
+/// Whether requests with this method have a body.
+fn has_body(method: &Method) -> bool
+    ensures { result ≡ has_body method.now }
+{
+    *method == Method::PUT
 }
 
 /// The status of the first test that the length of a body fails.
-fn refusal_of_length(method: Method, said: BodyLength) -> Option<u16>
-    ensures { result ≡ first_failed (length_tests method said) }
+fn refusal_of_length(method: &Method, said: BodyLength) -> Option<StatusCode>
+    ensures { result ≡ first_failed (length_tests method.now said) }
 {
-    let has_body = method.has_body();
+    let has_body = has_body(method);
     match said {
-        BodyLength::Bad => Some(400),
-        BodyLength::Unsaid if has_body => Some(411),
+        BodyLength::Bad => Some(StatusCode::BAD_REQUEST),
+        BodyLength::Unsaid if has_body => Some(StatusCode::LENGTH_REQUIRED),
         BodyLength::Unsaid => None,
-        BodyLength::Bytes(count) if count > MOST_BYTES => Some(413),
-        BodyLength::Bytes(count) if count > 0 && !has_body => Some(400),
+        BodyLength::Bytes(count) if count > MOST_BYTES => Some(StatusCode::PAYLOAD_TOO_LARGE),
+        BodyLength::Bytes(count) if count > 0 && !has_body => Some(StatusCode::BAD_REQUEST),
         BodyLength::Bytes(_) => None,
     }
 }
 
 /// The status that refuses a head for its target's path, its method or its fields, if one does.
 pub(crate) fn refusal(
-    path: Option<Path>,
+    path: Option<&Path>,
     method: &[u8],
     bytes: &[u8],
     fields: &[HeaderSpan],
-) -> Option<u16>
+) -> Option<StatusCode>
     requires { All (IsHeaderWithin (length bytes.now)) fields.now }
-    ensures { result ≡ status_on path method.now (map (header_bytes bytes.now) fields.now) }
+    ensures { result ≡ status_on (option_map (λ path. path.now) path.entry) method.now
+        (map (header_bytes bytes.now) fields.now) }
 {
     let Some(path) = path else {
-        return Some(404);
+        return Some(StatusCode::NOT_FOUND);
     };
-    if method != path.method.word().as_bytes() {
-        return Some(405);
+    if method != path.method.as_str().as_bytes() {
+        return Some(StatusCode::METHOD_NOT_ALLOWED);
     }
     if count_named(bytes, fields, b"Transfer-Encoding") > 0 {
-        return Some(400);
+        return Some(StatusCode::BAD_REQUEST);
     }
-    refusal_of_length(path.method, body_length(bytes, fields))
+    refusal_of_length(&path.method, body_length(bytes, fields))
 }

@@ -5,7 +5,7 @@ use crate::targets::Target;
 /// The verdict on the head of a request.
 #[derive(Clone, Copy)]
 pub enum Verdict<'a> {
-    /// It is refused with this status alone.
+    /// It is refused with this status alone, given as its number.
     Refused(u16),
     /// It asks for this.
     Asks {
@@ -15,6 +15,4 @@ pub enum Verdict<'a> {
         /// The beginning of the body: the bytes after the head that were read with it.
         begun: &'a [u8],
     },
-    /// The reader failed before a head ended.
-    ReadFailed,
 }

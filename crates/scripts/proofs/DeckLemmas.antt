@@ -1,5 +1,5 @@
 -- Where lines and cards stand in the bytes of a script.
-use Rattle.std.proofs.Common.{◌≡◌, ◌≢◌, ◌∙◌, ◌⊎◌, inl, inr, ℕ, zero, suc, ◌+◌, ◌-◌, ◌*◌, ◌<◌, ◌≤◌, List, [], ◌∷◌, ◌++◌, length, min, take, drop, refl, sym, ap, subst, arith, append_assoc, append-nil, length-append}
+use Rattle.std.proofs.Common.{◌≡◌, ◌≢◌, ◌∙◌, ◌⊎◌, inl, inr, ℕ, ◌+◌, ◌*◌, ◌<◌, ◌≤◌, List, [], ◌∷◌, ◌++◌, length, min, refl, sym, ap, arith, append_assoc, append-nil, length-append}
 use Rattle.std.specs.Prelude.{All}
 use Rattle.std.proofs.lemmas.Bool.{cases_lt}
 use Rattle.std.proofs.lemmas.List.{nil_from_length}
@@ -12,7 +12,6 @@ use Rattle.cards.specs.declared.faults.CardFault.{CardFault}
 use Rattle.cards.specs.Faults.{IsCardFault}
 use Rattle.cards.specs.Files.{column_of, line_of, text_of}
 use Rattle.cards.proofs.ReadingLaw.{no_line}
-use Rattle.scripts.specs.Lines.{IsWithout}
 use Rattle.scripts.specs.Scripts.{BeginsWithDeck, HasBadCard, HasFaultOfCards, HasNoCard, fault_of, fault_of_error}
 
 abbrev card_of : List ℕ → Card

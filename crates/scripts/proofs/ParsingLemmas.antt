@@ -1,6 +1,5 @@
 -- The first line of a script, and what it says.
-use Rattle.std.proofs.Common.{◌≡◌, ◌≢◌, ◌∙◌, ◌⊎◌, inl, inr, ℕ, ◌+◌, ◌<◌, ◌≤◌, length, arith, length-append, List, [], ◌∷◌, ◌++◌, refl, sym, ap, subst}
-use Rattle.std.specs.Prelude.{All}
+use Rattle.std.proofs.Common.{◌≡◌, ◌≢◌, ◌∙◌, inl, inr, ℕ, ◌+◌, ◌<◌, ◌≤◌, length, arith, length-append, List, [], ◌∷◌, ◌++◌, refl, sym, ap, subst}
 use Rattle.std.proofs.lemmas.List.Elements.{All-head, All-tail}
 use Rattle.scripts.specs.declared.said.Said.{Said}
 use Rattle.scripts.specs.declared.said.Said.TheVariants as said
@@ -11,7 +10,7 @@ use Rattle.office.specs.declared.commands.Command.TheVariants as command
 use Rattle.scripts.specs.declared.faults.ScriptFault.{ScriptFault}
 use Rattle.scripts.specs.declared.faults.ScriptFault.TheVariants as fault
 use Rattle.scripts.specs.declared.headings.Heading.{Heading}
-use Rattle.scripts.specs.Scripts.{Begins, BeginsWith, EndsSubmission, HasFaultAfter, IsBadHere, IsFaultHere, IsFaultOf, Leads, SaysNothing, later}
+use Rattle.scripts.specs.Scripts.{Begins, EndsSubmission, HasFaultAfter, IsBadHere, IsFaultHere, IsFaultOf, Leads, later}
 use Rattle.scripts.proofs.DeckLemmas.{deck_shorter}
 use Rattle.scripts.specs.Words.{AreWords, words_of}
 

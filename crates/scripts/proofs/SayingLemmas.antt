@@ -1,5 +1,5 @@
 -- Words that say no command.
-use Rattle.std.proofs.Common.{◌≡◌, ◌≢◌, ◌∙◌, ℕ, ◌+◌, ◌<◌, ◌≤◌, List, [], ◌∷◌, length, sym, ap, subst, arith, codes, refl, inl, inr, get_or, map, ◌⊎◌}
+use Rattle.std.proofs.Common.{◌≡◌, ◌≢◌, ◌∙◌, ℕ, ◌<◌, ◌≤◌, List, [], ◌∷◌, length, sym, ap, subst, arith, codes, refl, inl, inr, get_or, map, ◌⊎◌}
 use Rattle.std.specs.Borrow.{Bor}
 use Rattle.std.proofs.lemmas.List.{length-map, nil_from_length}
 use Rattle.std.proofs.lemmas.Bool.{cases_lt}
@@ -16,7 +16,7 @@ use Rattle.office.specs.declared.commands.JobCommand.{JobCommand}
 use Rattle.office.specs.declared.commands.JobCommand.TheVariants as job
 use Rattle.scripts.specs.declared.headings.Heading.{Heading}
 use Rattle.scripts.specs.declared.said.Said.TheVariants.{Nothing}
-use Rattle.scripts.specs.Commands.{AreJobWords, IsHeading, IsSaidBy, IsSaidIn, Says, SaysJob}
+use Rattle.scripts.specs.Commands.{AreJobWords, IsHeading, IsSaidBy, IsSaidIn, Says}
 
 -- a command on a job has at most one word after the number
 few_after : (verb : List ℕ) (after : List (List ℕ)) (c : JobCommand) → AreJobWords verb after c → length after ≤ 1

@@ -1,12 +1,12 @@
 -- Bytes cut in two, and the words of a line.
-use Rattle.std.proofs.Common.{◌≡◌, ◌≢◌, ◌∙◌, ℕ, zero, suc, ◌+◌, ◌-◌, ◌<◌, ◌≤◌, Bool, true, false, List, [], ◌∷◌, ◌++◌, length, map, take, drop, set, refl, sym, ap, subst, arith, append_assoc, eqb, IfNone, IfSome}
-use Rattle.std.specs.Prelude.{All, Option, Some, None}
+use Rattle.std.proofs.Common.{◌≡◌, ◌≢◌, ◌∙◌, ℕ, ◌+◌, ◌<◌, Bool, true, false, List, [], ◌∷◌, ◌++◌, length, map, take, set, refl, sym, ap, subst, arith, append_assoc, eqb, IfNone, IfSome}
+use Rattle.std.specs.Prelude.{Option, Some, None}
 use Rattle.std.specs.Borrow.{Bor}
-use Rattle.std.proofs.lemmas.Bool.{ne_eqb, eqb-true, eqb-false}
+use Rattle.std.proofs.lemmas.Bool.{ne_eqb}
 use Rattle.std.proofs.lemmas.List.{take_more_set, map-append, length-append, length-map, length-take-le, append-nil}
 use Rattle.std.proofs.lemmas.List.Elements.{All-head, All-tail, All-push}
 use Rattle.scripts.specs.Lines.{IsWithout}
-use Rattle.scripts.specs.Words.{AreFewWords, AreWords, words_of, in_front}
+use Rattle.scripts.specs.Words.{AreFewWords, AreWords, words_of}
 
 -- the words of a line with a blank
 pub words_more : (word rest : List ℕ) → IsWithout 32 word → words_of (word ++ 32 ∷ rest) ≡ word ∷ words_of rest

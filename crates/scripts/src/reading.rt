@@ -4,6 +4,7 @@ ghost use Rattle.std.specs.Prelude.{IfOk};
 ghost use Rattle.scripts.specs.Reading.{IsReadOf};
 
 use std::alloc::Global;
+use std::io;
 use std::io::{ErrorKind, Read};
 
 /// Why the bytes of a script were not read.
@@ -13,6 +14,22 @@ pub enum ReadFault {
     NoMemory,
     /// The reader failed.
     ReadFailed,
+}
+
+/// The fault of a reader that fails with an error.
+impl From<io::Error> for ReadFault {
+    ghost use Rattle.std.specs.Prelude.{◌≡◌};
+    ghost use Rattle.std.specs.IoError.{error_kind};
+    ghost use Rattle.scripts.specs.Reading.{read_fault};
+
+    ghost from_gives = { λ error fault. fault ≡ read_fault (error_kind error) };
+
+    fn from(error: io::Error) -> ReadFault {
+        match error.kind() {
+            ErrorKind::OutOfMemory => ReadFault::NoMemory,
+            _ => ReadFault::ReadFailed,
+        }
+    }
 }
 
 /// How many bytes are read at most: those of a script and one more, so that a longer script is
@@ -25,11 +42,6 @@ pub fn read_script<R: Read + Drop>(alloc: Global, reader: R) -> Result<Vec<u8>, 
     ensures { IfOk result (λ bytes. IsReadOf (R.remaining reader) bytes.items) }
 {
     let mut bytes = Vec::new(alloc);
-    match reader.take(MOST_READ).read_to_end(&mut bytes) {
-        Ok(_) => Ok(bytes),
-        Err(error) => match error.kind() {
-            ErrorKind::OutOfMemory => Err(ReadFault::NoMemory),
-            _ => Err(ReadFault::ReadFailed),
-        },
-    }
+    reader.take(MOST_READ).read_to_end(&mut bytes)?;
+    Ok(bytes)
 }

@@ -17,5 +17,5 @@ taken remaining t r n old new limit inner none h =
     let d = subst (λ s. IfSome (remaining s) (λ input. new ≡ old ++ take n input)) inner b in
     subst (λ (l : List ℕ). IfSome (remaining r) (λ input. new ≡ l ++ take n input)) none d
 
-pub returns-in-Ok-read_to_end-clause-text : goal.returns-in-Ok-read_to_end-clause-text
-returns-in-Ok-read_to_end-clause-text g c = taken g.R.Read.remaining c.take.result c.args.reader 162001 c.in-Ok.text.items c.read_to_end.new.buf.items c.take.ensures.limit c.take.ensures.inner c.in-Ok.ensures.items c.in-Ok-read_to_end.ensures.bytes
+pub returns-in-Ok-clause-text : goal.returns-in-Ok-clause-text
+returns-in-Ok-clause-text g c = taken g.R.Read.remaining c.take.result c.args.reader 162001 c.in_ok-text.text.items c.read_to_end.new.buf.items c.take.ensures.limit c.take.ensures.inner c.in_ok-text.ensures.none c.in-Ok.ensures.bytes

@@ -16,7 +16,7 @@ returns-in-Err-Store-clause-comes g c clean =
 pub returns-in-Ok-reply_to-clause-comes : goal.returns-in-Ok-reply_to-clause-comes
 returns-in-Ok-reply_to-clause-comes g c clean =
     made g.S.Store c.args.bureau.now.conn c.apply.new.self.conn c.apply.new.self.broken c.args.meter.now c.apply.new.meter c.args.command.now _ _
-    c.in-Ok.reply c.lines_rise.ensures (c.in-Ok.ensures.reply clean) (c.in-Ok.ensures.meter clean) c.status_of.ensures c.in-Ok-reply_to.ensures
+    c.in-Ok.reply c.lines_rise.ensures (c.in-Ok.ensures.reply clean) (c.in-Ok.ensures.meter clean) c.status_of.ensures.status c.in-Ok-reply_to.ensures
 
 pub returns-clause-comes : goal.returns-clause-comes
 returns-clause-comes g c clean =
@@ -36,7 +36,7 @@ returns-in-Err-Store-clause-works g c =
 pub returns-in-Ok-reply_to-clause-works : goal.returns-in-Ok-reply_to-clause-works
 returns-in-Ok-reply_to-clause-works g c =
     worked_one c.kept_offices_run_whole.ensures g.S.Store c.args.bureau.now.conn c.apply.new.self.conn c.apply.new.self.broken _ c.args.command.now c.in-Ok.reply
-    c.in-Ok.ensures.reply (refl, refl, inl c.status_of.ensures)
+    c.in-Ok.ensures.reply (refl, refl, inl c.status_of.ensures.status)
 
 pub returns-clause-works : goal.returns-clause-works
 returns-clause-works g c =

@@ -3,13 +3,11 @@ use Rattle.std.specs.Prelude.{IsTrue}
 use Rattle.office.specs.Office as offices
 use Rattle.sqlite.specs.State.{HasCleanDisk}
 use Rattle.sqlite.specs.Held.{state}
-use Rattle.ledger.specs.Standing.{Stands}
 use Rattle.ledger.specs.Meters.{RisenWithin, attempted_by_all}
 use Rattle.machine.specs.Run.{risen}
 use Rattle.exchanges.specs.Running.{office_after, reply_lines}
 use Rattle.scripts.specs.Replies.{fault_line}
 use Rattle.ledger_tables.specs.Faults.{fault_number}
-use Rattle.exchanges.specs.declared.endings.ScriptEnd.TheVariants as ended
 use Rattle.ledger.proofs.ShiftLemmas.{attempted_more, leaves_after, leaves_either, risen_just, risen_more, risen_on_fault}
 use Rattle.exchanges.proofs.ApplyingLemmas.{begun_after, count_one, nothing_sent, part_more, refused_more, so_far_more, stands_more, stopped_at_first, stopped_at_none}
 use Rattle.exchanges.proofs.applying.apply_all.Goals as goal

@@ -1,4 +1,4 @@
-use Rattle.std.proofs.Common.{◌≡◌, rules}
+use Rattle.std.proofs.Common.{◌≡◌, ◌∙◌, rules, sym}
 use Rattle.std.specs.Fmt.{digits}
 use Rattle.http_replies.specs.Fixed.{refusing_status}
 use Rattle.http_replies.proofs.FixedStatuses.{answer_at, answer_else}
@@ -6,23 +6,23 @@ use Rattle.http_replies.proofs.fixed.refusal_answer.Goals as goal
 
 pub returns-in-404 : goal.returns-in-404
 unfolding digits
-returns-in-404 c = answer_at _ 404 c.in-404.is
+returns-in-404 c = answer_at c.args.status 404 (sym c.as_u16.ensures.value ∙ c.in-404.is)
 
 pub returns-in-405 : goal.returns-in-405
 unfolding digits
-returns-in-405 c = answer_at _ 405 c.in-405.is
+returns-in-405 c = answer_at c.args.status 405 (sym c.as_u16.ensures.value ∙ c.in-405.is)
 
 pub returns-in-411 : goal.returns-in-411
 unfolding digits
-returns-in-411 c = answer_at _ 411 c.in-411.is
+returns-in-411 c = answer_at c.args.status 411 (sym c.as_u16.ensures.value ∙ c.in-411.is)
 
 pub returns-in-413 : goal.returns-in-413
 unfolding digits
-returns-in-413 c = answer_at _ 413 c.in-413.is
+returns-in-413 c = answer_at c.args.status 413 (sym c.as_u16.ensures.value ∙ c.in-413.is)
 
 pub returns-in-431 : goal.returns-in-431
 unfolding digits
-returns-in-431 c = answer_at _ 431 c.in-431.is
+returns-in-431 c = answer_at c.args.status 431 (sym c.as_u16.ensures.value ∙ c.in-431.is)
 
 pub returns-in_default : goal.returns-in_default
 unfolding digits

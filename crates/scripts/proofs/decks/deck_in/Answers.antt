@@ -1,4 +1,4 @@
-use Rattle.std.proofs.Common.{◌≡◌, ◌<◌, ◌≤◌, ◌*◌, ◌++◌, ◌∙◌, ◌⊎◌, List, ℕ, ap, append-nil, arith, drop, inl, inr, length, length-append, rules, subst, sym, take}
+use Rattle.std.proofs.Common.{◌≡◌, ◌<◌, ◌*◌, ◌++◌, ◌∙◌, ap, append-nil, arith, inl, inr, length, length-append, rules, subst, sym}
 use Rattle.std.proofs.lemmas.Bool.{cases_lt}
 use Rattle.std.proofs.lemmas.List.{nil_from_length, take-append-drop}
 use Rattle.cards.specs.Files.{text_of}

@@ -1,7 +1,7 @@
-use Rattle.std.proofs.Common.{List, ◌∷◌, [], ◌+◌, ◌∙◌, ap, arith, rules, subst, sym}
+use Rattle.std.proofs.Common.{List, ◌+◌, arith, rules, subst}
 use Rattle.office.specs.declared.commands.Command.{Command}
-use Rattle.scripts.specs.Scripts.{IsFaultOf, Leads}
-use Rattle.scripts.proofs.ParsingLemmas.{fault_after, leads_more, not_long}
+use Rattle.scripts.specs.Scripts.{Leads}
+use Rattle.scripts.proofs.ParsingLemmas.{leads_more}
 use Rattle.scripts.proofs.parsing.parse.Goals as goal
 
 pub loop-rest-preserved : goal.loop-rest-preserved

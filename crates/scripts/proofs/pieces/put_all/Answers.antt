@@ -1,4 +1,4 @@
-use Rattle.std.proofs.Common.{List, ℕ, [], ◌∷◌, ◌++◌, ◌∙◌, append-nil, refl, subst}
+use Rattle.std.proofs.Common.{List, ℕ, [], ◌++◌, append-nil, refl, subst}
 use Rattle.std.specs.List.{flat_map}
 use Rattle.scripts.specs.Pieces.{piece_bytes}
 use Rattle.scripts.specs.Sending.{WritesPart}

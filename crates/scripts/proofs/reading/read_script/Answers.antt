@@ -17,5 +17,5 @@ taken remaining t r n old new limit inner none h =
     let d = subst (λ s. IfSome (remaining s) (λ input. new ≡ old ++ take n input)) inner b in
     subst (λ (l : List ℕ). IfSome (remaining r) (λ input. new ≡ l ++ take n input)) none d
 
-pub returns-in-Ok : goal.returns-in-Ok
-returns-in-Ok g c = taken g.R.Read.remaining c.take.result c.args.reader 4000001 c.new-bytes.result.items c.read_to_end.new.buf.items c.take.ensures.limit c.take.ensures.inner c.new-bytes.ensures.items c.in-Ok.ensures.bytes
+pub returns : goal.returns
+returns g c = taken g.R.Read.remaining c.take.result c.args.reader 4000001 c.new-bytes.result.items c.read_to_end.new.buf.items c.take.ensures.limit c.take.ensures.inner c.new-bytes.ensures.items c.in_ok-read_to_end.ensures.bytes

@@ -1,4 +1,4 @@
-use Rattle.std.proofs.Common.{List, ℕ, [], ◌∷◌, ◌++◌, ◌∙◌, ap, append-nil, codes, decimal}
+use Rattle.std.proofs.Common.{[], ◌∷◌, ◌∙◌, codes}
 use Rattle.scripts.specs.Replies.{fault_words}
 use Rattle.scripts.proofs.SendingLemmas.{fault_item, part_of_list}
 use Rattle.scripts.proofs.replying.put_faults.Goals as goal

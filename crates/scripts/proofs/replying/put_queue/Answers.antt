@@ -1,4 +1,4 @@
-use Rattle.std.proofs.Common.{List, ℕ, [], ◌∷◌, ◌++◌, ◌∙◌, ap, append-nil, codes, decimal, rules}
+use Rattle.std.proofs.Common.{[], ◌∷◌, ◌∙◌, ap, codes}
 use Rattle.office.specs.Queued.{QueuedJob}
 use Rattle.scripts.specs.Replies.{queued_words}
 use Rattle.scripts.proofs.SendingLemmas.{part_of_list, queued_item}

@@ -1,4 +1,4 @@
-use Rattle.std.proofs.Common.{inl, inr, ◌≡◌, ◌⊎◌, ◌<◌, rules}
+use Rattle.std.proofs.Common.{inl, inr, rules}
 use Rattle.scripts.proofs.TextLemmas.{no_count, zero_count}
 use Rattle.scripts.proofs.values.count_of.Goals.{then-number-eq0-via-then-number-eq0, then-number-eq0-via-else-number-eq0+then-number-gt-MOST_CARDS}
 use Rattle.scripts.proofs.values.count_of.Goals as goal

@@ -5,8 +5,8 @@ use Rattle.http_requests.specs.Reading.{ComesTo}
 use Rattle.http_requests.proofs.HeadVerdicts.{judged, too_large}
 use Rattle.http_requests.proofs.head.Head.verdict.Goals as goal
 
-pub returns-in-Whole : goal.returns-in-Whole
-returns-in-Whole c input rest read =
+pub returns-in-Whole-clause-verdict : goal.returns-in-Whole-clause-verdict
+returns-in-Whole-clause-verdict c input rest read =
     let head = c.args.self.now in
     let room : length head.fields ≡ 64 = search rules in
     let short : length (take head.filled head.bytes) ≤ 8192 = omega (arith, head.within, length-take head.filled head.bytes) in
@@ -14,7 +14,7 @@ returns-in-Whole c input rest read =
     subst (ComesTo (take head.filled head.bytes) head.fields 8192 (rest ≡ [])) c.in-Whole.is read.1 in
     judged c.verdict_on.result input (take head.filled head.bytes) rest head.fields c.in-Whole.spans room short read.0 come.0 come.1 c.verdict_on.ensures
 
-pub returns-in-TooManyFields : goal.returns-in-TooManyFields
-returns-in-TooManyFields c input rest read =
+pub returns-in-TooManyFields-clause-verdict : goal.returns-in-TooManyFields-clause-verdict
+returns-in-TooManyFields-clause-verdict c input rest read =
     let head = c.args.self.now in
     too_large input (take head.filled head.bytes) rest head.fields head.outcome c.in-TooManyFields.is read.0 read.1

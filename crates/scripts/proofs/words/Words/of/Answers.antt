@@ -1,4 +1,4 @@
-use Rattle.std.proofs.Common.{◌≡◌, ◌<◌, [], arith, length, map, rules, set, subst, take, ◌++◌, ap, sym, ◌∙◌, length-set}
+use Rattle.std.proofs.Common.{◌≡◌, ◌<◌, [], length, rules, ◌∙◌, length-set}
 use Rattle.std.proofs.lemmas.List.{nil_from_length}
 use Rattle.scripts.specs.Words.{words_of}
 use Rattle.scripts.proofs.WordLemmas.{empty_word, few_words, too_many, words_all, words_each}
