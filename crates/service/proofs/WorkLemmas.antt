@@ -102,7 +102,7 @@ module _ {D : Type 0} {g : disk.Ghosts D} (files : Image) where
   applied_with old new own (Ok closed) round is = inr (own, inl refl, record { commands = round.commands; replies = round.replies; told = round.told })
   applied_with old new own (Err (unfinished.Unfound fault)) round is = inl (fault, ap (closing_with fault) is.0.0, is.0.1)
   applied_with old new own (Err (unfinished.Refused fault rest)) round is = inl (fault, ap (closing_with fault) is.0.0, is.0.1)
-  applied_with old new own (Err (unfinished.Unclosed fault rest)) round is = inr (own, inr (fault, refl), record { commands = is.commands; replies = is.replies; told = is.told })
+  applied_with old new own (Err (unfinished.Unclosed fault rest)) round is = inr (own, inr (fault, refl), record { commands = is.0; replies = is.1; told = is.2 })
 
   -- what a row says that has applied a script
   pub applied_so : (old new : Bytes) (ended : Ended D g) → HasEndedFrom files ended (HasNotApplied ended.work old new) (TellsApply old new ended.work) → HasApplied (outcome_in ended) old new
