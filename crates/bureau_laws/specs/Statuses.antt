@@ -3,8 +3,8 @@ use Rattle.std.specs.Prelude.{ℕ, ◌≤◌, ◌⊎◌, List, length, take}
 use Rattle.httparse.specs.Grammar.{EndsInTarget}
 use Rattle.http_requests.specs.Heads.{EndsEarly, HasManyFields, IsNoHead, most_bytes}
 
--- the bytes begin with more header fields than a head may have, and have a further fault: they begin
--- as no head does, or they end before a head does
+-- the bytes begin with more header fields than a head may have, and have a further fault: they
+-- begin as no head does, or they end before a head does
 abbrev pub HasFurtherFault : List ℕ → Type 0
 HasFurtherFault input = HasManyFields input × (IsNoHead input ⊎ EndsEarly input)
 
