@@ -1,6 +1,7 @@
 pub mod CustomerLaw
 pub mod RepeatLaw
 pub mod HeadLaw
+pub mod BothStatuses
 pub mod AskingLaw
 pub mod RequestLaw
 pub mod HeadEnds

@@ -1,6 +1,7 @@
 pub mod Customers
 pub mod Repeats
 pub mod Same
+pub mod Statuses
 pub mod Ends
 pub mod Refusals
 pub mod Rounds
