@@ -1,4 +1,5 @@
 pub mod Archives
+pub mod Facts
 pub mod Lists
 pub mod Names
 pub mod Records

@@ -1,13 +1,14 @@
 //! Lines of a record: a word, and its values.
 
 ghost use Rattle.std.specs.Prelude.{◌≡◌, ◌++◌, codes, decimal, OnOk};
-ghost use Rattle.ledger_archives.specs.Records.{digest_line, digest_of, line, stretch_line};
+ghost use Rattle.ledger_archives.specs.Records.{apart_line, digest_line, digest_of, line, pocket_line, stretch_line};
 
 use itoa::Buffer;
 use office::Stretch;
 use sha2::{Digest, Sha256};
 use std::alloc::{AllocError, Global};
 use texts::push_switches;
+use units::Pocket;
 
 /// Adds a number.
 pub(crate) fn push_decimal(out: &mut Vec<u8>, number: usize) -> Result<(), AllocError>
@@ -44,6 +45,28 @@ pub(crate) fn push_stretch(out: &mut Vec<u8>, stretch: Stretch) -> Result<(), Al
     out.extend_from_slice(b" ")?;
     push_decimal(out, stretch.granted as usize)?;
     out.extend_from_slice(b"\n")
+}
+
+/// Adds the line of a card at a place, which is in a pocket of this number.
+fn push_apart(out: &mut Vec<u8>, place: usize, pocket: usize) -> Result<(), AllocError>
+    ensures { OnOk result (out.new.items ≡ out.old.items ++ apart_line place pocket) }
+{
+    out.extend_from_slice(b"pocket ")?;
+    push_decimal(out, place)?;
+    out.extend_from_slice(b" ")?;
+    push_decimal(out, pocket)?;
+    out.extend_from_slice(b"\n")
+}
+
+/// Adds the line of a card at a place in a pocket, unless it is in the normal one.
+pub(crate) fn push_pocket(out: &mut Vec<u8>, place: usize, pocket: Pocket) -> Result<(), AllocError>
+    ensures { OnOk result (out.new.items ≡ out.old.items ++ pocket_line place pocket) }
+{
+    match pocket {
+        Pocket::Normal => Ok(()),
+        Pocket::Four => push_apart(out, place, 4),
+        Pocket::Eight => push_apart(out, place, 8),
+    }
 }
 
 /// Adds the SHA-256 of bytes (FIPS 180-4) in lower-case hexadecimal digits.

@@ -1,12 +1,13 @@
 //! The record of a job: its name and its numbers, and the digests of its files.
 
 ghost use Rattle.std.specs.Prelude.{◌≡◌, ◌++◌, codes, flat_map, IfOk, OnOk};
-ghost use Rattle.ledger_archives.specs.Records.{digest_lines, kind_word, name_lines, made_lines, machine_lines, record_of, standing_lines, stretch_line, yes_or_no};
+ghost use Rattle.ledger_archives.specs.Records.{digest_lines, kind_word, name_lines, made_lines, machine_lines, pocket_line, pocket_lines, profile_word, record_of, standing_lines, stretch_line, yes_or_no};
 
-use crate::lines::{push_file, push_line, push_number, push_stretch};
+use crate::lines::{push_file, push_line, push_number, push_pocket, push_stretch};
 use ledger_checks::JobRun;
 use office::{Kind, Stretch, Summary};
 use std::alloc::{AllocError, Global};
+use units::{Profile, Punched};
 
 /// The word for a kind.
 fn kind_word(kind: Kind) -> &'static str
@@ -15,6 +16,16 @@ fn kind_word(kind: Kind) -> &'static str
     match kind {
         Kind::Object => "object",
         Kind::Autocoder => "autocoder",
+    }
+}
+
+/// The word for a profile.
+fn profile_word(profile: Profile) -> &'static str
+    ensures { result.now ≡ profile_word profile }
+{
+    match profile {
+        Profile::Plain => "1",
+        Profile::Selecting => "2",
     }
 }
 
@@ -34,13 +45,14 @@ fn push_name(out: &mut Vec<u8>, run: &JobRun) -> Result<(), AllocError>
     push_number(out, "number", run.number() as usize)
 }
 
-/// Adds the lines of what was handed in with a job's deck.
+/// Adds the lines of what was handed in with a job's deck, and of the profile of its machine.
 #[tactic(auto, unfolding(crate::specs::Records::machine_lines))]
 fn push_machine(out: &mut Vec<u8>, run: &JobRun) -> Result<(), AllocError>
     ensures { OnOk result (out.new.items ≡ out.old.items ++ machine_lines run.now) }
 {
     push_line(out, "kind", kind_word(run.kind()).as_bytes())?;
-    push_number(out, "size", run.size().positions() as usize)
+    push_number(out, "size", run.size().positions() as usize)?;
+    push_line(out, "profile", profile_word(run.profile()).as_bytes())
 }
 
 /// Adds the lines of a job's stretches.
@@ -71,6 +83,16 @@ fn push_made(out: &mut Vec<u8>, summary: Summary) -> Result<(), AllocError>
 {
     push_number(out, "cards", summary.cards as usize)?;
     push_number(out, "lines", summary.lines as usize)
+}
+
+/// Adds the lines of the pockets of a job's cards.
+fn push_pockets(out: &mut Vec<u8>, cards: &[Punched]) -> Result<(), AllocError>
+    ensures { OnOk result (out.new.items ≡ out.old.items ++ pocket_lines 1 cards.now) }
+{
+    for at in 0..cards.len() {
+        push_pocket(out, at + 1, cards[at].pocket)?;
+    }
+    Ok(())
 }
 
 /// Adds the lines of a job's files.
@@ -115,6 +137,7 @@ pub(crate) fn record_of(
     push_stretches(&mut out, run.stretches())?;
     push_standing(alloc, &mut out, summary)?;
     push_made(&mut out, summary)?;
+    push_pockets(&mut out, &run.machine().units.punch.cards)?;
     push_files(alloc, &mut out, deck, loaded, lines, punched, cards)?;
     Ok(out)
 }

@@ -1,3 +1,4 @@
+pub mod AlikeLemmas
 pub mod DifferLemmas
 pub mod RowLemmas
 pub mod AgainLemmas
@@ -19,3 +20,4 @@ pub mod NameLemmas
 pub mod RisingLemmas
 pub mod KeptLemmas
 pub mod KeptRows
+pub mod ExactLemmas

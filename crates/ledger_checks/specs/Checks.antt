@@ -1,5 +1,5 @@
 -- what the check of all tables finds
-use Rattle.std.specs.Prelude.{◌≡◌, Result, IfOk}
+use Rattle.std.specs.Prelude.{Result, IfOk}
 use Rattle.office.specs.Office.{Office}
 use Rattle.sqlite.specs.Effect.{Database}
 use Rattle.sqlite.specs.Held.{Held, state}
@@ -7,10 +7,9 @@ use Rattle.sqlite.specs.View.{IsClean}
 use Rattle.sqlite_trees.specs.declared.store.Store.{Ghosts}
 use Rattle.std.specs.List.{AllZip}
 use Rattle.ledger.specs.Standing.{Rows}
-use Rattle.ledger_tables.specs.Schema.{bureau_schema}
 use Rattle.ledger_tables.specs.declared.faults.Fault.{Fault}
 use Rattle.ledger_checks.specs.Kept.{AreKept}
-use Rattle.ledger_checks.specs.Reports.{AreNamed, HasNoDifference, StandsFor, Tells}
+use Rattle.ledger_checks.specs.Reports.{AreNamed, HasNoDifference, HasNoOtherRows, StandsFor, Tells}
 use Rattle.ledger_checks.specs.declared.all_rows.AllRows.{AllRows}
 use Rattle.ledger_checks.specs.declared.reports.Report.{Report}
 
@@ -22,11 +21,11 @@ pub record KeepsTold (all : AllRows) (report : Report) : Type 0 where
   pub kept : AreKept all office
   pub tells : AllZip Tells report.jobs.items office
 
--- the report tells no difference exactly where the rows of all tables are those of an office whose
--- jobs have names that jobs may have, and then it tells of each of its jobs
+-- the report tells no row that differs exactly where the rows of all tables are those of an office
+-- whose jobs have names that jobs may have, and then it tells of each of its jobs
 pub record IsExactFor (all : AllRows) (report : Report) : Type 0 where
-  pub sound : HasNoDifference report → KeepsTold all report
-  pub complete : (office : Office) → AreNamed office → AreKept all office → HasNoDifference report
+  pub sound : HasNoOtherRows report → KeepsTold all report
+  pub complete : (office : Office) → AreNamed office → AreKept all office → HasNoOtherRows report
 
 -- the report tells no difference exactly where the tables stand for an office whose jobs have names
 -- that jobs may have, and then it tells of each of its jobs
@@ -35,7 +34,7 @@ pub record IsExact (db : Database) (report : Report) : Type 0 where
   pub complete : (office : Office) → AreNamed office → Rows db office → HasNoDifference report
 
 module _ {S : Type 0} (g : Ghosts S) where
-  -- on Ok, if the connection saw a bureau's schema, the report is exact for the tables that it saw
+  -- on Ok, the report is exact for the schema and the tables that the connection saw
   abbrev pub FindsAlone : Held S → S → Result Report Fault → Type 0
-  FindsAlone conn store result = IsClean (g.view store) → IfOk result (λ report.
-      (state g conn).now.schema ≡ bureau_schema → IsExact (state g conn).now report)
+  FindsAlone conn store result = IsClean (g.view store)
+      → IfOk result (IsExact (state g conn).now)

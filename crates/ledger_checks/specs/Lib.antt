@@ -3,6 +3,7 @@ pub mod Checks
 pub mod Jobs
 pub mod Kept
 pub mod Reports
+pub mod Schemas
 pub mod Stops
 pub mod Tables
 pub mod Texts

@@ -1,5 +1,5 @@
 -- what a report tells
-use Rattle.std.specs.Prelude.{◌≡◌, ℕ, pos, Bool, true, false, All, List, [], ◌∷◌, drop, ⊤}
+use Rattle.std.specs.Prelude.{◌≡◌, ℕ, pos, Bool, true, false, All, List, [], ◌∷◌, drop, IsNone, ⊤}
 use Rattle.std.specs.List.{AllByRecursion, AllZip}
 use Rattle.office.specs.Kept.{kept_of, summary_of}
 use Rattle.office.specs.Office.{Entry, Office}
@@ -24,10 +24,15 @@ abbrev pub is_as_it_ran : Outcome → Bool
 is_as_it_ran (AsItRan summary) = true
 is_as_it_ran (Differs difference) = false
 
--- nothing differs
-pub record HasNoDifference (report : Report) : Type 0 where
+-- no row differs
+pub record HasNoOtherRows (report : Report) : Type 0 where
   pub jobs : All (λ it. IsAsItRan it.outcome) report.jobs.items
   pub strays : report.strays.items ≡ []
+
+-- nothing differs: neither the schema nor a row
+pub record HasNoDifference (report : Report) : Type 0 where
+  pub schema : IsNone report.schema
+  pub rows : HasNoOtherRows report
 
 -- the report tells this entry's name and the summary of its job
 pub record Tells (report : JobReport) (e : Entry) : Type 0 where

@@ -1,5 +1,5 @@
 -- whole tables, as they were read
-use Rattle.std.specs.Prelude.{◌≡◌, ℕ, ◌+◌, ◌++◌, zero, suc, List, [], ◌∷◌, map, filter, Option, Result, IfOk, IsPermutation, Vec}
+use Rattle.std.specs.Prelude.{◌≡◌, ℕ, ◌+◌, ◌++◌, zero, suc, List, [], ◌∷◌, map, filter, Option, Result, IfOk, IsPermutation, IsTrue, Vec}
 use Rattle.std.specs.Option.{option_to_list}
 use Rattle.std.specs.declared.cmp.Ordering.TheVariants.{Greater}
 use Rattle.core_store.specs.Storage.{Storage}
@@ -7,7 +7,7 @@ use Rattle.sqlite.specs.Effect.{Database, IsDatabase}
 use Rattle.sqlite.specs.Order.{Row, column, value_cmp}
 use Rattle.sqlite.specs.Tree.{IsAscending, Trees}
 use Rattle.sqlite.specs.Held.{Held, state}
-use Rattle.sqlite.specs.State.{HasCleanDisk, IsUnchanged}
+use Rattle.sqlite.specs.State.{HasCleanDisk, IsUnchanged, State}
 use Rattle.std.specs.declared.alloc.Global.{Global}
 use Rattle.sqlite.specs.View.{IsClean, IsShaped}
 use Rattle.sqlite_trees.specs.declared.store.Shape.TheVariants.{Table}
@@ -84,6 +84,11 @@ pub record HasRows (db : Database) (all : AllRows) : Type 0 where
 
 -- ---- reading
 
+-- the disk was as clean before, and a crash leaves nothing now that it might not have left before
+abbrev pub LeavesLess : State → State → Type 0
+LeavesLess old new = HasCleanDisk new
+    → HasCleanDisk old × ((db : Trees) → new.may_leave db → old.may_leave db)
+
 module _ {S : Type 0} (g : Ghosts S) (old new : Held S) where
   -- on Ok, if the database has a bureau's schema, it is unchanged, and if it is a bureau's, these
   -- rows were read of its trees
@@ -100,12 +105,13 @@ module _ {S : Type 0} (g : Ghosts S) (old new : Held S) where
       × (IsBureaus (state g old).now → AreRowsOf (state g old).now.trees all))
 
 module _ {S : Type 0} (g : Ghosts S) where
-  -- on Ok, if the database has a bureau's schema, it is unchanged, it is what was last committed,
-  -- its trees obey its schema, and if it is a bureau's, the rows of its tables were read
+  -- on Ok, if the database has a bureau's schema, it is what is committed still, its trees obey its
+  -- schema, and if it is a bureau's, the rows of its tables were read
   abbrev pub ReadsSettled : Held S → Held S → Result AllRows Fault → Type 0
   ReadsSettled old new result = HasCleanDisk (state g new) → IfOk result (λ all.
-      (state g old).now.schema ≡ bureau_schema → IsUnchanged (state g old) (state g new)
-      × ((state g old).now ≡ (state g old).committed) × IsDatabase (state g old).now
+      (state g old).now.schema ≡ bureau_schema
+      → (IsTrue (state g new).is_open → (state g new).committed ≡ (state g old).now)
+      × IsDatabase (state g old).now
       × (IsBureaus (state g old).now → AreRowsOf (state g old).now.trees all))
 
   -- on Ok, if the connection saw a bureau's schema, it saw a bureau's database, whose rows were
@@ -113,3 +119,8 @@ module _ {S : Type 0} (g : Ghosts S) where
   abbrev pub ReadsAlone : Held S → S → Result AllRows Fault → Type 0
   ReadsAlone conn store result = IsClean (g.view store) → IfOk result (λ all.
       (state g conn).now.schema ≡ bureau_schema → HasRows (state g conn).now all)
+
+  -- a crash leaves nothing of the store that it might not have left of the connection
+  abbrev pub LeavesNoMore : Held S → S → Type 0
+  LeavesNoMore conn store = IsClean (g.view store) → (db : Trees) → g.recovers store db
+      → (state g conn).may_leave db

@@ -1,5 +1,5 @@
 -- the lines of a report
-use Rattle.std.specs.Prelude.{ℕ, ℤ, ◌++◌, ◌==◌, not, if◌then◌else◌, nat_lt, List, [], ◌∷◌, count_by, flat_map, length, codes, decimal}
+use Rattle.std.specs.Prelude.{ℕ, ℤ, ◌++◌, ◌==◌, not, if◌then◌else◌, nat_lt, List, [], ◌∷◌, count_by, flat_map, length, codes, decimal, Option, Some, None}
 use Rattle.std.specs.Fmt.{signed_decimal}
 use Rattle.bcd.specs.Table.{glyph_of}
 use Rattle.machine.specs.Standings.{standing_words}
@@ -17,6 +17,8 @@ use Rattle.ledger_checks.specs.declared.reports.Outcome.{Outcome}
 use Rattle.ledger_checks.specs.declared.reports.Outcome.TheVariants.{AsItRan, Differs}
 use Rattle.ledger_checks.specs.declared.reports.Report.{Report}
 use Rattle.ledger_checks.specs.declared.reports.Stray.{Stray}
+use Rattle.ledger_checks.specs.declared.schemas.SchemaDifference.{SchemaDifference}
+use Rattle.ledger_checks.specs.declared.schemas.SchemaDifference.TheVariants as other
 use Rattle.ledger_checks.specs.declared.reports.Table.{Table}
 use Rattle.ledger_checks.specs.declared.reports.Table.TheVariants as table
 
@@ -105,6 +107,30 @@ abbrev pub stray_line : Stray → List ℕ
 stray_line it = table_words it.table ++ codes ": row " ++ decimal it.row
     ++ codes " is out of place\n"
 
+-- what is told of a schema that is not a bureau's, before the name
+abbrev pub schema_words : SchemaDifference → List ℕ
+schema_words (other.Table name) = codes "the file has a table that a bureau's has not: "
+schema_words (other.Index name) = codes "the file has an index that a bureau's has not: "
+schema_words (other.View name) =
+    codes "the file has a view or the like that a bureau's has not: "
+schema_words (other.Lacks name) = codes "the file lacks what a bureau's has: "
+
+-- the name that is told of a schema that is not a bureau's
+abbrev pub schema_name : SchemaDifference → List ℕ
+schema_name (other.Table name) = name.items
+schema_name (other.Index name) = name.items
+schema_name (other.View name) = name.items
+schema_name (other.Lacks name) = name.items
+
+-- the line of a schema that is not a bureau's
+abbrev pub schema_line : SchemaDifference → List ℕ
+schema_line it = schema_words it ++ schema_name it ++ codes "\n"
+
+-- the line of a schema, if it is not a bureau's
+abbrev pub schema_lines : Option SchemaDifference → List ℕ
+schema_lines None = []
+schema_lines (Some it) = schema_line it
+
 -- the last line
 abbrev pub sum_line : ℕ → ℕ → List ℕ
 sum_line jobs differing = codes "jobs " ++ decimal jobs ++ codes ", " ++ decimal differing
@@ -113,5 +139,5 @@ sum_line jobs differing = codes "jobs " ++ decimal jobs ++ codes ", " ++ decimal
 -- all lines of a report
 abbrev pub report_text : Report → List ℕ
 report_text report = flat_map job_line report.jobs.items ++ flat_map stray_line report.strays.items
-    ++ sum_line (length report.jobs.items)
+    ++ schema_lines report.schema ++ sum_line (length report.jobs.items)
     (count_by (λ it. not (is_as_it_ran it.outcome)) report.jobs.items)

@@ -1,8 +1,9 @@
 //! The check of all tables.
 
-ghost use Rattle.std.specs.Prelude.{◌≡◌, ◌↔◌, [], IfOk, OnOk, IsNone};
+ghost use Rattle.std.specs.Prelude.{◌≡◌, ◌↔◌, [], IfOk, IsOkAnd, OnOk, IsNone};
 ghost use Rattle.ledger_checks.specs.Checks.{FindsAlone, IsExactFor};
 ghost use Rattle.ledger_checks.specs.Kept.{AreOwned, version_row};
+ghost use Rattle.ledger_checks.specs.Tables.{LeavesNoMore};
 
 use crate::all_rows::AllRows;
 use crate::cells::first_other;
@@ -10,6 +11,7 @@ use crate::jobs::check_jobs;
 use crate::owners::first_stray;
 use crate::reading::read_rows;
 use crate::reports::{Report, Stray, Table};
+use crate::schemas::{SchemaDifference, compare_schema};
 use ledger_tables::{Fault, VERSION};
 use sqlite::{Alter, Connection, Row, params};
 use std::alloc::{AllocError, Global};
@@ -69,33 +71,51 @@ pub fn find_strays(alloc: Global, all: &AllRows) -> Result<Vec<Stray>, AllocErro
     Ok(strays)
 }
 
-/// Compares the rows of all tables with what the jobs make, each run again.
-fn check_rows(alloc: Global, all: &AllRows) -> Result<Report, AllocError>
-    ensures { IfOk result (IsExactFor all.now) }
+/// Compares the rows of all tables with what the jobs make, each run again. The report tells of a
+/// schema what it is given.
+fn check_rows(
+    alloc: Global,
+    all: &AllRows,
+    schema: Option<SchemaDifference>,
+) -> Result<Report, AllocError>
+    ensures rows { IfOk result (IsExactFor all.now) }
+    ensures schema { IfOk result (λ report. report.schema ≡ schema) }
 {
     let jobs = check_jobs(alloc, all, all.jobs.as_slice())?;
     let strays = find_strays(alloc, all)?;
-    Ok(Report { jobs, strays })
+    Ok(Report {
+        schema,
+        jobs,
+        strays,
+    })
 }
 
-/// Compares the rows of all tables with what the jobs make, each run again.
-fn check_read(alloc: Global, all: &AllRows) -> Result<Report, Fault>
-    ensures { IfOk result (IsExactFor all.now) }
+/// Compares the rows that were read with what the jobs make, each run again, unless a fault hindered
+/// the reading or the look at the schema.
+fn check_read(
+    alloc: Global,
+    read: Result<AllRows, Fault>,
+    schema: Result<Option<SchemaDifference>, Fault>,
+) -> Result<Report, Fault>
+    ensures { IfOk result (λ report. IsOkAnd read (λ all. IsExactFor all report)
+        × IsOkAnd schema (λ it. report.schema ≡ it)) }
 {
-    let report = check_rows(alloc, all)?;
+    let all = read?;
+    let schema = schema?;
+    let report = check_rows(alloc, &all, schema)?;
     Ok(report)
 }
 
-/// Runs each job of a bureau again, and compares the rows of all tables with what it makes. Nothing
-/// is written, and the store is handed back. No difference is told exactly where the tables stand
-/// for an office whose jobs have names that jobs may have, and then the report tells of each of its
-/// jobs. Fails with 1 if there is no memory, and with 2 if the store fails.
+/// Compares a file's schema with a bureau's, runs each job again, and compares the rows of all
+/// tables with what it makes. Nothing is written, and the store is handed back. No difference is
+/// told exactly where the file holds an office whose jobs have names that jobs may have, and then
+/// the report tells of each of its jobs. Fails with 1 if there is no memory, and with 2 if the store
+/// fails, or cannot be read since its schema is not a bureau's.
 pub fn check<S: Alter + Drop>(alloc: Global, conn: Connection<S>) -> (Result<Report, Fault>, S)
-    ensures { FindsAlone S.Store conn result.1 result.0 }
+    ensures exact { FindsAlone S.Store conn result.1 result.0 }
+    ensures left { LeavesNoMore S.Store conn result.1 }
 {
+    let schema = compare_schema(alloc, conn.schema());
     let (read, store) = read_rows(conn);
-    match read {
-        Ok(all) => (check_read(alloc, &all), store),
-        Err(fault) => (Err(fault), store),
-    }
+    (check_read(alloc, read, schema), store)
 }

@@ -3,6 +3,7 @@
 #![tactic(auto)]
 
 mod again;
+mod alike;
 mod all_rows;
 mod cells;
 mod checks;
@@ -12,9 +13,11 @@ mod jobs;
 mod machines;
 mod names;
 mod owners;
+mod parts;
 mod reading;
 mod reports;
 mod runs;
+mod schemas;
 mod submitted;
 mod texts;
 
@@ -26,4 +29,5 @@ pub use jobs::run_job;
 pub use reading::read_rows;
 pub use reports::{JobReport, Outcome, Report, Stray, Table};
 pub use runs::JobRun;
+pub use schemas::SchemaDifference;
 pub use texts::{job_text, report_text, strays_text};

@@ -1,10 +1,11 @@
 //! What the check tells.
 
 ghost use Rattle.std.specs.Prelude.{◌≡◌, ◌↔◌, All, count_by, not, IsTrue};
-ghost use Rattle.ledger_checks.specs.Reports.{HasNoDifference, IsAsItRan, is_as_it_ran};
+ghost use Rattle.ledger_checks.specs.Reports.{HasNoDifference, HasNoOtherRows, IsAsItRan, is_as_it_ran};
 ghost use Rattle.ledger_checks.specs.Texts.{table_words};
 
 use crate::differences::Difference;
+use crate::schemas::SchemaDifference;
 use office::Summary;
 
 /// A table of a bureau.
@@ -67,10 +68,11 @@ pub struct JobReport {
     pub outcome: Outcome,
 }
 
-/// What is told of a bureau's file: of each row of `jobs`, in their order, and the first stray row
-/// of each table.
+/// What is told of a bureau's file: how its schema differs from a bureau's, if it does, what came
+/// of each row of `jobs`, in their order, and the first stray row of each table.
 #[derive(Drop)]
 pub struct Report {
+    pub schema: Option<SchemaDifference>,
     pub jobs: Vec<JobReport>,
     pub strays: Vec<Stray>,
 }
@@ -121,10 +123,17 @@ impl Report {
         count_differing(&self.jobs)
     }
 
+    /// Whether no row differs.
+    fn has_no_other_rows(&self) -> bool
+        ensures { IsTrue result ↔ HasNoOtherRows self.now }
+    {
+        self.strays.is_empty() && are_as_they_ran(&self.jobs)
+    }
+
     /// Whether nothing differs.
     pub fn has_no_difference(&self) -> bool
         ensures { IsTrue result ↔ HasNoDifference self.now }
     {
-        self.strays.is_empty() && are_as_they_ran(&self.jobs)
+        self.schema.is_none() && self.has_no_other_rows()
     }
 }

@@ -135,6 +135,13 @@ impl JobRun {
         &self.machine().units.hopper.deck
     }
 
+    /// The profile of its machine.
+    pub fn profile(&self) -> Profile
+        ensures { result ≡ self.now.job.profile }
+    {
+        self.profile
+    }
+
     /// Its stretches.
     pub fn stretches(&self) -> &[Stretch]
         ensures { result.now ≡ self.now.job.stretches }

@@ -4,10 +4,11 @@ ghost use Rattle.std.specs.Prelude.{◌≡◌, ◌++◌, codes, decimal, flat_ma
 ghost use Rattle.std.specs.Fmt.{signed_decimal};
 ghost use Rattle.machine.specs.Standings.{standing_words};
 ghost use Rattle.office.specs.Numbers.{refusal_number};
-ghost use Rattle.ledger_checks.specs.Texts.{apart_words, byte_words, bytes_words, difference_words, found_words, job_line, number_words, outcome_words, place_words, report_text, stray_line, sum_line, summary_words, table_words, value_words};
+ghost use Rattle.ledger_checks.specs.Texts.{apart_words, byte_words, bytes_words, difference_words, found_words, job_line, number_words, outcome_words, place_words, report_text, schema_line, schema_lines, schema_name, schema_words, stray_line, sum_line, summary_words, table_words, value_words};
 
 use crate::differences::{Difference, Found, Place};
 use crate::reports::{JobReport, Outcome, Report, Stray, Table};
+use crate::schemas::SchemaDifference;
 use bcd::Code;
 use itoa::Buffer;
 use machine::StandingAt;
@@ -261,6 +262,49 @@ fn push_strays(out: &mut Vec<u8>, strays: &[Stray]) -> Result<(), AllocError>
     Ok(())
 }
 
+/// What is told of a schema that is not a bureau's, before the name.
+fn schema_words(difference: &SchemaDifference) -> &'static str
+    ensures { result.now ≡ schema_words difference.now }
+{
+    match difference {
+        SchemaDifference::Table(_) => "the file has a table that a bureau's has not: ",
+        SchemaDifference::Index(_) => "the file has an index that a bureau's has not: ",
+        SchemaDifference::View(_) => "the file has a view or the like that a bureau's has not: ",
+        SchemaDifference::Lacks(_) => "the file lacks what a bureau's has: ",
+    }
+}
+
+/// The name that is told of a schema that is not a bureau's.
+fn schema_name(difference: &SchemaDifference) -> &[u8]
+    ensures { result.now ≡ schema_name difference.now }
+{
+    match difference {
+        SchemaDifference::Table(name) => name.as_slice(),
+        SchemaDifference::Index(name) => name.as_slice(),
+        SchemaDifference::View(name) => name.as_slice(),
+        SchemaDifference::Lacks(name) => name.as_slice(),
+    }
+}
+
+/// Adds the line of a schema that is not a bureau's.
+fn push_schema(out: &mut Vec<u8>, difference: &SchemaDifference) -> Result<(), AllocError>
+    ensures { OnOk result (out.new.items ≡ out.old.items ++ schema_line difference.now) }
+{
+    out.extend_from_slice(schema_words(difference).as_bytes())?;
+    out.extend_from_slice(schema_name(difference))?;
+    out.extend_from_slice(b"\n")
+}
+
+/// Adds the line of the schema, if it is not a bureau's.
+fn push_schema_lines(out: &mut Vec<u8>, schema: &Option<SchemaDifference>) -> Result<(), AllocError>
+    ensures { OnOk result (out.new.items ≡ out.old.items ++ schema_lines schema.now) }
+{
+    match schema {
+        Some(difference) => push_schema(out, difference),
+        None => Ok(()),
+    }
+}
+
 /// Adds the last line.
 fn push_sum(out: &mut Vec<u8>, jobs: usize, differing: usize) -> Result<(), AllocError>
     ensures { OnOk result (out.new.items ≡ out.old.items ++ sum_line jobs differing) }
@@ -291,14 +335,16 @@ pub fn strays_text(alloc: Global, strays: &[Stray]) -> Result<Vec<u8>, AllocErro
     Ok(out)
 }
 
-/// The lines of a report: one for each job, one for the first stray row of each table, and a last
-/// one with the number of jobs. Fails only if there is no memory.
+/// The lines of a report: one for each job, one for the first stray row of each table, one for a
+/// schema that is not a bureau's, and a last one with the number of jobs. Fails only if there is no
+/// memory.
 pub fn report_text(alloc: Global, report: &Report) -> Result<Vec<u8>, AllocError>
     ensures { IfOk result (λ text. text.items ≡ report_text report.now) }
 {
     let mut out = Vec::new(alloc);
     push_jobs(&mut out, &report.jobs)?;
     push_strays(&mut out, &report.strays)?;
+    push_schema_lines(&mut out, &report.schema)?;
     push_sum(&mut out, report.jobs.len(), report.differing())?;
     Ok(out)
 }

@@ -1,9 +1,7 @@
 //! Requests to a bureau that is served.
 
-ghost use Rattle.std.specs.Prelude.{◌≤◌, IfSome};
-
-use queue_rounds::Reply;
-use std::alloc::{AllocError, Global};
+use queue_rounds::{Reply, read_reply};
+use std::alloc::AllocError;
 use std::io;
 use std::io::{Read, Write};
 use std::net::{Ipv4Addr, SocketAddrV4, TcpStream};
@@ -17,70 +15,6 @@ const PATIENCE: u64 = 90;
 
 /// The request for the queue.
 pub(crate) const QUEUE: &[u8] = b"GET /queue HTTP/1.1\r\nHost: localhost\r\n\r\n";
-
-/// The value of a digit.
-fn digit_of(byte: u8) -> Option<u16>
-    ensures { IfSome result (λ digit. digit ≤ 9) }
-{
-    if byte.is_ascii_digit() {
-        Some(u16::from(byte - b'0'))
-    } else {
-        None
-    }
-}
-
-/// The number of three digits that the bytes of a reply have behind its version.
-fn status_in(reply: &[u8]) -> Option<u16> {
-    let [hundreds, tens, units, ..] = reply.strip_prefix(b"HTTP/1.1 ")? else {
-        return None;
-    };
-    Some(digit_of(*hundreds)? * 100 + digit_of(*tens)? * 10 + digit_of(*units)?)
-}
-
-/// The place behind the empty line that ends the head of a reply.
-fn head_length(reply: &[u8]) -> Option<usize> {
-    let end = reply
-        .windows(4)
-        .position(|bytes| bytes == b"\r\n\r\n".as_slice())?;
-    Some(end + 4)
-}
-
-/// The length that the head of a reply states for its body, if it states one.
-fn stated_length(head: &[u8]) -> Option<usize> {
-    let head = str::from_utf8(head).ok()?;
-    for line in head.lines() {
-        if let Some((name, value)) = line.split_once(':') {
-            if name.eq_ignore_ascii_case("content-length") {
-                return value.trim().parse::<usize>().ok();
-            }
-        }
-    }
-    None
-}
-
-/// Whether a body is shorter than the head states: it was cut off.
-fn is_cut(head: &[u8], body: &[u8]) -> bool {
-    match stated_length(head) {
-        Some(length) => body.len() < length,
-        None => false,
-    }
-}
-
-/// What the bytes of a reply are.
-fn reply_in(alloc: Global, bytes: &[u8]) -> Result<Reply, AllocError> {
-    let (Some(status), Some(length)) = (status_in(bytes), head_length(bytes)) else {
-        return Ok(Reply::Lost);
-    };
-    let (Some(head), Some(rest)) = (bytes.get(..length), bytes.get(length..)) else {
-        return Ok(Reply::Lost);
-    };
-    if is_cut(head, rest) {
-        return Ok(Reply::Lost);
-    }
-    let mut body = Vec::new(alloc);
-    body.extend_from_slice(rest)?;
-    Ok(Reply::Replied { status, body })
-}
 
 /// Sends a request, and reads the reply to its end.
 fn exchange(rt: &HostRuntime, stream: &TcpStream, request: &[u8]) -> io::Result<Vec<u8>> {
@@ -99,7 +33,7 @@ pub(crate) fn ask(rt: &HostRuntime, port: u16, request: &[u8]) -> Result<Reply, 
         return Ok(Reply::Unsent);
     };
     match exchange(rt, &stream, request) {
-        Ok(bytes) => reply_in(rt.alloc(), &bytes),
+        Ok(bytes) => read_reply(rt.alloc(), &bytes),
         Err(_) => Ok(Reply::Lost),
     }
 }

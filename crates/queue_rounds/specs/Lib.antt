@@ -2,5 +2,6 @@ pub mod Names
 pub mod Answers
 pub mod Standings
 pub mod Replies
+pub mod Responses
 pub mod Rounds
 pub mod Runs

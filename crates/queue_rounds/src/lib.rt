@@ -1,8 +1,8 @@
 //! Rounds: the jobs of a bureau's queue are run in turns, one slice each, and its queue is watched.
 //!
 //! The operator asks a bureau that is being served for its queue, gives each job of it one slice,
-//! and asks again. [`hear_queue`] and [`hear_slice`] say what a reply is, byte for byte. [`Rounds`]
-//! says what is asked for next and when there is a pause or an end: a state machine whose requests
+//! and asks again. [`read_reply`] reads a response by `httparse`, and [`hear_queue`] and
+//! [`hear_slice`] say what a reply is, byte for byte. [`Rounds`] says what is asked for next and when there is a pause or an end: a state machine whose requests
 //! are a function of the replies (`specs/Rounds.antt`). Its laws:
 //! each job that a round lists has exactly one slice of it ([`each_job_of_a_round_has_one_slice`]);
 //! no job has more than one slice more than another ([`turns_are_fair`]); work in which no slice
@@ -18,6 +18,7 @@ mod changes;
 mod jobs;
 mod laws;
 mod replies;
+mod responses;
 mod rounds;
 mod standings;
 mod turns;
@@ -30,5 +31,6 @@ pub use laws::{
     no_more_rounds_than_asked_for, turns_are_fair, work_in_which_no_slice_runs_ends,
 };
 pub use replies::{Heard, Passed, Reply, hear_queue, hear_slice};
+pub use responses::read_reply;
 pub use rounds::{MOST_TRIES, Next, Rounds, Why};
 pub use standings::{Standing, read_standing};

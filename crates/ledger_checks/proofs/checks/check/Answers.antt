@@ -1,21 +1,15 @@
-use Rattle.std.proofs.Common.{◌≡◌, Result, IfOk, subst}
+use Rattle.std.proofs.Common.{◌≡◌, ◌↔◌, IfOk, IsNone, Option, subst}
 use Rattle.sqlite.specs.Held.{state}
+use Rattle.sqlite.specs.Schema.{Schema}
 use Rattle.ledger_tables.proofs.Stepping.{if_ok_then}
 use Rattle.ledger_tables.specs.Schema.{bureau_schema}
-use Rattle.ledger_tables.specs.declared.faults.Fault.{Fault}
-use Rattle.ledger_checks.specs.Tables.{HasRows}
-use Rattle.ledger_checks.specs.declared.all_rows.AllRows.{AllRows}
-use Rattle.ledger_checks.proofs.KeptRows.{kept_by}
-use Rattle.ledger_checks.proofs.StandingRows.{stands_for}
+use Rattle.ledger_checks.specs.declared.schemas.SchemaDifference.{SchemaDifference}
+use Rattle.ledger_checks.proofs.ExactLemmas.{is_exact}
 use Rattle.ledger_checks.proofs.checks.check.Goals as goal
 
-pub returns-in-Ok : goal.returns-in-Ok
-returns-in-Ok g c clean =
-    let db = (state g.S.Store c.args.conn).now in
-    let all = c.in-Ok.all in
-    let read = subst (λ (r : Result AllRows Fault). IfOk r (λ all. db.schema ≡ bureau_schema → HasRows db all)) c.in-Ok.is (c.read_rows-read.ensures clean) in
+pub returns-clause-exact : goal.returns-clause-exact
+returns-clause-exact g c clean =
+    let none = subst (λ (schema : Schema). IfOk c.compare_schema-schema.result (λ (it : Option SchemaDifference). IsNone it ↔ (schema ≡ bureau_schema))) c.schema.ensures.value c.compare_schema-schema.ensures.none in
     if_ok_then c.check_read.result _ _
-    (λ report exact ours.
-    let has = read ours in
-    record { sound = λ none. stands_for db all report has.bureaus has.rows (exact.sound none); complete = λ office named rows. exact.complete office named (kept_by db all office has rows) })
+    (λ report made. is_exact (state g.S.Store c.args.conn).now c.read_rows-read.result.0 c.compare_schema-schema.result report (c.read_rows-read.ensures.read clean) none made)
     c.check_read.ensures

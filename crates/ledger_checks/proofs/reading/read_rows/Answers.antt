@@ -1,4 +1,4 @@
-use Rattle.std.proofs.Common.{◌≡◌, false, IsTrue, sym, ap, subst, ◌∙◌, arith}
+use Rattle.std.proofs.Common.{◌≡◌, false, IsTrue, sym, subst, ◌∙◌, arith, ap}
 use Rattle.sqlite.specs.Effect.{Database}
 use Rattle.sqlite.specs.Held.{state}
 use Rattle.sqlite.specs.State.{HasCleanDisk}
@@ -10,8 +10,8 @@ use Rattle.ledger_checks.specs.Tables.{AreInOrder, IsBureaus}
 use Rattle.ledger_checks.proofs.OrderLemmas.{are_in_order, open_of}
 use Rattle.ledger_checks.proofs.reading.read_rows.Goals as goal
 
-pub returns : goal.returns
-returns g c clean =
+pub returns-clause-read : goal.returns-clause-read
+returns-clause-read g c clean =
     let s = c.into_store-store.result in
     let v : View = g.S.Store.view s in
     let old = c.args.conn in
@@ -22,9 +22,10 @@ returns g c clean =
     if_ok_then c.read_settled-read.result _ _
     (λ all found ours.
     let it = found ours in
-    let trees : v.trees ≡ (g.S.Store.view old.store).trees = (c.into_store-store.ensures.undone.undone open_now).0 ∙ ap (λ (d : Database). d.trees) (it.0.0.committed_is ∙ sym it.1) in
-    let sound : IsSound bureau_schema (g.S.Store.view old.store).trees = subst (λ schema. IsSound schema (g.S.Store.view old.store).trees) ours it.2 in
+    let undone = c.into_store-store.ensures.undone.undone open_now in
+    let trees : v.trees ≡ (g.S.Store.view old.store).trees = undone.0 ∙ ap (λ (d : Database). d.trees) (it.0 ((c.into_store-store.ensures.undone.kept clean).was_open open_now)) in
+    let sound : IsSound bureau_schema (g.S.Store.view old.store).trees = subst (λ schema. IsSound schema (g.S.Store.view old.store).trees) ours it.1 in
     let sorted : AreInOrder v.trees = are_in_order v (g.met.S.Alter.listed s whole) (g.met.S.Store.ordered s whole) (subst (IsSound bureau_schema) (sym trees) sound) in
-    let bureaus : IsBureaus (state g.S.Store old).now = record { schema = ours; sound = it.2; in_order = subst AreInOrder trees sorted } in
-    record { bureaus = bureaus; rows = it.3 bureaus })
-    (c.read_settled-read.ensures quiet)
+    let bureaus : IsBureaus (state g.S.Store old).now = record { schema = ours; sound = it.1; in_order = subst AreInOrder trees sorted } in
+    record { bureaus = bureaus; rows = it.2 bureaus })
+    (c.read_settled-read.ensures.read quiet)
