@@ -14,8 +14,8 @@
 //!
 //! **Meaning.** The table of mnemonics is the assembler's, the table of operations the machine's.
 //! By [`instructions_are_decoded`] they agree: the machine decodes the characters of an assembled
-//! mnemonic as the operation that the mnemonic means, in the form of their length, and can refuse
-//! them only for an address. By [`operands_are_read`] it reads their addresses as the positions
+//! mnemonic as the operation that the mnemonic means, in the form of their length, and in reading
+//! them can refuse them only for an address. By [`operands_are_read`] it reads their addresses as the positions
 //! that the card's operands mean.
 #![tactic(auto)]
 

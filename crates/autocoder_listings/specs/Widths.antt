@@ -1,6 +1,6 @@
 -- the code of a card in both widths of a listing, line by line
-use Rattle.std.specs.Prelude.{ℕ, ◌-◌, ◌≤◌, List, ◌∷◌, length, map, drop}
-use Rattle.std.specs.List.{All, range_with_len}
+use Rattle.std.specs.Prelude.{ℕ, ◌-◌, List, ◌∷◌, length, map, drop}
+use Rattle.std.specs.List.{range_with_len}
 use Rattle.cards.specs.declared.decks.Card.{Card}
 use Rattle.autocoder_layout.specs.declared.cells.Cell.{Cell}
 use Rattle.autocoder_layout.specs.declared.slots.Slot.{Slot}
@@ -20,7 +20,3 @@ lines_under number slot card cells = map without_card (lines_beside number slot 
 -- what lines have behind this column
 abbrev pub behind : ℕ → List (List ℕ) → List (List ℕ)
 behind column lines = map (drop column) lines
-
--- no line has more than 80 columns
-abbrev pub FitIn80 : List (List ℕ) → Type 0
-FitIn80 lines = All (λ line. length line ≤ 80) lines

@@ -8,7 +8,7 @@ ghost use Rattle.autocoder_listings.specs.Names.{users_on_line};
 pub enum Width {
     /// The code stands behind the card, from column 93 on.
     Wide,
-    /// The code stands below the card, and no line has more than 80 columns.
+    /// The code stands below the card.
     Narrow,
 }
 

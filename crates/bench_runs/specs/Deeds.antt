@@ -1,15 +1,16 @@
 -- what the units did in an attempt
-use Rattle.std.specs.Prelude.{ℕ, nat_lt, if◌then◌else◌, List, [], ◌∷◌, ◌++◌, length, codes, decimal, Option, Some, None, slice_get}
+use Rattle.std.specs.Prelude.{ℕ, ◌-◌, nat_lt, if◌then◌else◌, List, [], ◌∷◌, ◌++◌, codes, decimal, Option, Some, None, slice_get}
+use Rattle.units.specs.Units.{made_in_all}
 use Rattle.units.specs.declared.printer.Line.{Line}
 use Rattle.machine.specs.Run.{State, lines_of}
 use Rattle.bench_runs.specs.declared.deeds.Made.{Made}
 
--- how many cards a machine has read, how many lines it has printed, and how many cards punched
+-- how many cards a machine has read, and how many lines it has printed and cards punched in all
 abbrev pub made_by : State → Made
 made_by m = record {
   taken = m.works.units.hopper.taken;
-  lines = length (lines_of m);
-  cards = length m.works.units.punch.cards;
+  lines = (made_in_all m.works.units).lines;
+  cards = (made_in_all m.works.units).cards;
 }
 
 -- deeds, with a comma behind them if there are any
@@ -32,14 +33,16 @@ abbrev pub line_words : Option Line → List ℕ
 line_words None = []
 line_words (Some line) = codes "printed " ++ decimal line.form ++ codes "." ++ decimal line.line
 
--- the line that was printed, by its form and line, if one was
+-- the line that was printed, by its form and line, if one was: of the machine's own lines, the one
+-- behind those that were printed until then
 abbrev pub printed_words : Made → State → List ℕ
-printed_words before m = line_words (slice_get (lines_of m) before.lines)
+printed_words before m =
+    line_words (slice_get (lines_of m) (before.lines - m.works.units.before.lines))
 
 -- how many cards were punched so far, if one was now
 abbrev pub punched_words : Made → State → List ℕ
-punched_words before m = if nat_lt before.cards (length m.works.units.punch.cards)
-    then codes "punched " ++ decimal (length m.works.units.punch.cards) else []
+punched_words before m = if nat_lt before.cards (made_in_all m.works.units).cards
+    then codes "punched " ++ decimal (made_in_all m.works.units).cards else []
 
 -- what the units of a machine did, which had made so much before
 unfoldable pub deeds_since : Made → State → List ℕ

@@ -7,6 +7,7 @@ use Rattle.core_store.specs.declared.registers.Registers.{Registers}
 use Rattle.units.specs.declared.carriage.Carriage.{Carriage}
 use Rattle.units.specs.declared.carriage.Motion.{Motion}
 use Rattle.units.specs.declared.carriage.Motion.TheVariants.{Space, DoubleSpace, TripleSpace, SkipToChannel1}
+use Rattle.units.specs.Units.{made_in_all}
 use Rattle.units.specs.declared.units.Units.{Units}
 use Rattle.autocoder.specs.Listing.{position_field}
 use Rattle.machine.specs.Run.{State, after}
@@ -61,10 +62,10 @@ read_shown cards = codes "reader " ++ decimal cards ++ codes " read, "
 abbrev pub unread_shown : ℕ → List ℕ
 unread_shown cards = decimal cards ++ codes " unread; "
 
--- how many cards were punched, and how many lines printed
+-- how many cards were punched in all, and how many lines printed
 abbrev pub made_shown : Units → List ℕ
-made_shown u = codes "punched " ++ decimal (length u.punch.cards) ++ codes "; printed "
-    ++ decimal (length u.printer.lines) ++ codes "; "
+made_shown u = codes "punched " ++ decimal (made_in_all u).cards ++ codes "; printed "
+    ++ decimal (made_in_all u).lines ++ codes "; "
 
 -- the carriage: its form and line, and the order that waits
 abbrev pub carriage_shown : Carriage → List ℕ

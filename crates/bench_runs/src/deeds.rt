@@ -13,9 +13,9 @@ use units::Line;
 pub(crate) struct Made {
     /// How many cards were read.
     pub(crate) taken: u16,
-    /// How many lines were printed.
+    /// How many lines were printed, in all.
     pub(crate) lines: usize,
-    /// How many cards were punched.
+    /// How many cards were punched, in all.
     pub(crate) cards: usize,
 }
 
@@ -25,8 +25,8 @@ pub(crate) fn made_by<C: Core>(parts: &Parts<C>) -> Made
 {
     Made {
         taken: parts.units.hopper.taken,
-        lines: parts.units.printer.lines.len(),
-        cards: parts.units.punch.cards.len(),
+        lines: parts.units.lines_in_all(),
+        cards: parts.units.cards_in_all(),
     }
 }
 
@@ -90,7 +90,10 @@ fn printed_words<C: Core>(
 ) -> Result<Vec<u8>, AllocError>
     ensures { IfOk result (λ words. words.items ≡ printed_words before parts.now) }
 {
-    match line_at(&parts.units.printer.lines, before.lines) {
+    let place = before
+        .lines
+        .saturating_sub(parts.units.before.lines as usize);
+    match line_at(&parts.units.printer.lines, place) {
         None => Ok(Vec::new(alloc)),
         Some(printed) => line_words(alloc, printed),
     }
@@ -104,7 +107,7 @@ fn punched_words<C: Core>(
 ) -> Result<Vec<u8>, AllocError>
     ensures { IfOk result (λ words. words.items ≡ punched_words before parts.now) }
 {
-    let cards = parts.units.punch.cards.len();
+    let cards = parts.units.cards_in_all();
     if before.cards >= cards {
         return Ok(Vec::new(alloc));
     }

@@ -164,12 +164,12 @@ fn push_unread(alloc: Global, text: &mut Vec<u8>, cards: usize) -> Result<(), Al
     text.extend_from_slice(words.as_bytes())
 }
 
-/// Adds how many cards were punched, and how many lines printed.
+/// Adds how many cards were punched in all, and how many lines printed.
 fn push_made(alloc: Global, text: &mut Vec<u8>, units: &Units) -> Result<(), AllocError>
     ensures { OnOk result (text.new.items ≡ text.old.items ++ made_shown units.now) }
 {
-    let cards = units.punch.cards.len();
-    let lines = units.printer.lines.len();
+    let cards = units.cards_in_all();
+    let lines = units.lines_in_all();
     let words = format!(in alloc; "punched {cards}; printed {lines}; ")?;
     text.extend_from_slice(words.as_bytes())
 }

@@ -16,7 +16,7 @@ pub fn punching_makes_decks()
 {}
 
 /// The law of decks: the text of a deck is taken as it is, whatever the rules make of small letters
-/// and tabs.
+/// and tabs, if they take the bureau's signs, look at all columns and take an empty line as a card.
 #[tactic(auto, using(crate::proofs::DeckLaw::deck_is_faultless, crate::proofs::DeckLaw::deck_stays))]
 pub fn punching_keeps_decks()
     ensures faultless { (rules : Rules) (deck : List Card) → TakesWholeCards rules → IsDeck deck →
@@ -25,7 +25,8 @@ pub fn punching_keeps_decks()
         deck_text_of rules (text_of deck) ≡ text_of deck }
 {}
 
-/// The law of a second punching: what a text was taken as is taken as it is, by the same rules.
+/// The law of a second punching: what a text was taken as is taken as it is, by the same rules for a
+/// text in the bureau's signs.
 #[tactic(auto, using(crate::proofs::SettlingLaw::punched_is_faultless, crate::proofs::SettlingLaw::punched_stays))]
 pub fn punching_settles()
     ensures faultless { (rules : Rules) (text : List ℕ) → faults_of rules text ≡ [] →

@@ -1,8 +1,5 @@
 -- What is shown of a job, and commands that need no more.
-use Rattle.std.proofs.Common.{◌≡◌, ◌≤◌, ◌-◌, ◌^◌, ℕ, min, List, map, length, Bool, false, Option, None, Some, refl, ap, subst, ◌∙◌, arith}
-use Rattle.machine.specs.Run.{State, lines_of}
-use Rattle.units.specs.Units.{nothing_made}
-use Rattle.units.specs.declared.units.Counts.{Counts}
+use Rattle.std.proofs.Common.{◌≡◌, ◌≤◌, ◌-◌, ◌^◌, ℕ, min, List, map, Bool, false, Option, None, Some, refl, ap, subst, ◌∙◌, arith}
 use Rattle.office.specs.Jobs.{Job, granted, picture, IsJob}
 use Rattle.machine.specs.Standings.{standing_of}
 use Rattle.office.specs.Kept.{Kept, kept_of, summary_of, job_refusal, needs_machine, attempts_unless, attempted_on, taken_unless, take_kept, job_unless, job_after}
@@ -21,26 +18,16 @@ use Rattle.ledger_tables.specs.Tables.{AreDistinct}
 use Rattle.ledger_rows.specs.Progress.{progress_of}
 use Rattle.ledger.specs.Saving.{flagged_job}
 use Rattle.ledger.specs.Standing.{named}
-use Rattle.ledger.proofs.ReadingLemmas.{picture_before}
 use Rattle.ledger.proofs.SavingChanges.{same_job}
 
 -- what was granted is told as it is
 pub granted_fits : (job : Job) (n : ℕ) → granted job.stretches ≤ most_granted → n ≡ min (granted job.stretches) (2 ^ 32 - 1) → n ≡ granted job.stretches
 granted_fits job n fits is = omega (arith, fits, is)
 
--- the progress of a job's machine counts what it has itself
-made_itself : (m : State) → m.works.units.before ≡ nothing_made → ((progress_of m).cards ≡ length m.works.units.punch.cards) × ((progress_of m).lines ≡ length (lines_of m))
-made_itself m none =
-    let cards : m.works.units.before.cards ≡ 0 = ap (λ (n : Counts). n.cards) none in
-    let lines : m.works.units.before.lines ≡ 0 = ap (λ (n : Counts). n.lines) none in
-    (omega (arith, cards), omega (arith, lines))
-
 pub summary_is : (standing : StandingAt) (held collected : Bool) (granted_to cards lines : ℕ) (job : Job) → standing ≡ standing_of (picture job) → held ≡ job.held → collected ≡ job.collected → granted_to ≡ granted job.stretches
     → cards ≡ (progress_of (picture job)).cards → lines ≡ (progress_of (picture job)).lines
     → ◌≡◌ {A = Summary} (record { standing = standing; held = held; collected = collected; granted = granted_to; cards = cards; lines = lines }) (summary_of (kept_of job))
-summary_is standing held collected granted_to cards lines job one two three four five six =
-    let itself = made_itself (picture job) (picture_before job) in
-    rw (one, two, three, four, five ∙ itself.0, six ∙ itself.1)
+summary_is standing held collected granted_to cards lines job one two three four five six = rw (one, two, three, four, five, six)
 
 -- a job with other flags is a job
 pub flagged_is : (held collected : Bool) (job : Job) → IsJob job → IsJob (flagged_job held collected job)

@@ -168,8 +168,8 @@ impl JobRun {
             held: self.is_held(),
             collected: self.is_collected(),
             granted: granted_in(self.stretches()),
-            cards: machine.units.punch.cards.len() as u32,
-            lines: machine.units.printer.lines.len() as u32,
+            cards: machine.units.cards_in_all() as u32,
+            lines: machine.units.lines_in_all() as u32,
         }
     }
 

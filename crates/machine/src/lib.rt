@@ -5,8 +5,9 @@
 //! them, `specs/Run.antt` defines steps and whole runs. The contract for the layers above: `run(n)`
 //! is n steps, and the meter rises by the number of instructions attempted. Everything is generic
 //! over `Core`. Memory is taken by `load` and `from_parts`, and by an instruction that punches or
-//! prints. A machine of the plain profile has no stacker selection: `K` is a check, and all cards
-//! are in the normal pocket ([`runs_only_add`]).
+//! prints. A machine of the plain profile has no stacker selection: `K` is a check, and where no
+//! pocket was chosen before, as after the load button, all cards are in the normal pocket
+//! ([`runs_only_add`]).
 //!
 //! A machine does not look at what it has punched and printed; it only counts it. So a run may begin
 //! without the earlier cards and lines ([`outputs_are_put_back`]): it does what it would do with

@@ -292,7 +292,7 @@ pub fn stays_in_range()
 
 /// The law of what was made: a run keeps the deck, the switches, the profile and the counts of what
 /// was made before, and the cards and lines from before it are the first of those after it. In the
-/// plain profile no pocket is ever chosen, and all cards are in the normal one.
+/// plain profile, where no pocket was chosen before, none is, and all cards are in the normal one.
 pub fn runs_only_add()
     ensures size { (m : State) (count : ℕ) →
         length (after m count).works.storage ≡ length m.works.storage }
