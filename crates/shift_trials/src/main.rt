@@ -10,13 +10,12 @@
 use ledger_trials::{ALL, empty_disks, session_over, told_on};
 use std::env;
 use std::io::Write;
-use std::process::ExitCode;
 use std::test::Fail;
 
 /// Prints what the two sessions told.
 fn tell(rt: &HostRuntime) -> Result<(), Fail> {
     let alloc = rt.alloc();
-    let words = env::args(rt)?.collect(alloc)?;
+    let words: Vec<String> = env::args(rt)?.collect(alloc)?;
     let [_, stages, questions] = words.as_slice() else {
         return Err("two words")?;
     };
@@ -28,9 +27,6 @@ fn tell(rt: &HostRuntime) -> Result<(), Fail> {
     Ok(output.flush()?)
 }
 
-fn main(rt: HostRuntime) -> ExitCode {
-    match tell(&rt) {
-        Ok(()) => ExitCode::SUCCESS,
-        Err(_) => ExitCode::FAILURE,
-    }
+fn main(rt: HostRuntime) -> Result<(), Fail> {
+    tell(&rt)
 }
