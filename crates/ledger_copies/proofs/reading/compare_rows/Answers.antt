@@ -10,5 +10,5 @@ use Rattle.ledger_copies.proofs.reading.compare_rows.Goals as goal
 pub returns-in-Ok : goal.returns-in-Ok
 returns-in-Ok g c clean ours =
     let db = (state g.S.Store c.args.conn).now in
-    let read = subst (λ (r : Result AllRows Fault). IfOk r (λ all. db.schema ≡ bureau_schema → HasRows db all)) c.in-Ok.is (c.read_rows-read.ensures clean) in
+    let read = subst (λ (r : Result AllRows Fault). IfOk r (λ all. db.schema ≡ bureau_schema → HasRows db all)) c.in-Ok.is (c.read_rows-read.ensures.read clean) in
     compared c.args.first.now c.in-Ok.second db c.first_other_table.result (read ours) c.first_other_table.ensures
