@@ -1,5 +1,7 @@
 //! The row `archive`.
 
+ghost use Rattle.std.specs.Prelude.{IsSome};
+
 use crate::faults::tell_fault;
 use crate::job_folders::{Filed, file_job};
 use command_line::Status;
@@ -21,6 +23,8 @@ struct RowsLook {
 }
 
 impl Look for RowsLook {
+    ghost looked = { λ old new. IsSome new.rows };
+
     fn look<S: Alter + Drop>(&mut self, _alloc: Global, conn: Connection<S>) -> S {
         let (rows, store) = read_rows(conn);
         self.rows = Some(rows);

@@ -1,5 +1,7 @@
 //! The row `check`.
 
+ghost use Rattle.std.specs.Prelude.{IsSome};
+
 use crate::faults::tell_fault;
 use command_line::Status;
 use ledger_checks::{Report, check, report_text};
@@ -17,6 +19,8 @@ struct CheckLook {
 }
 
 impl Look for CheckLook {
+    ghost looked = { λ old new. IsSome new.checked };
+
     fn look<S: Alter + Drop>(&mut self, alloc: Global, conn: Connection<S>) -> S {
         let (checked, store) = check(alloc, conn);
         self.checked = Some(checked);

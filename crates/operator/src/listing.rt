@@ -1,5 +1,7 @@
 //! The row `jobs`.
 
+ghost use Rattle.std.specs.Prelude.{IsSome};
+
 use crate::faults::tell_fault;
 use command_line::Status;
 use ledger_archives::list_jobs;
@@ -18,6 +20,8 @@ struct JobsLook<'a> {
 }
 
 impl Look for JobsLook<'_> {
+    ghost looked = { λ old new. IsSome new.listed };
+
     fn look<S: Alter + Drop>(&mut self, alloc: Global, conn: Connection<S>) -> S {
         let (listed, store) = list_jobs(alloc, conn, self.customer);
         self.listed = Some(listed);
