@@ -62,10 +62,3 @@ found_stands_of s version office settles opens live here =
       now = λ _. subst (λ d. RowsOf version d office) (sym (found_is s db opens live (rows_sound version db office here) refl)) here;
       left = λ d may. subst (λ t. LeftOf version t office) (sym (settles d opens.is_open may)) here;
     }
-
--- the two faults may come for any database
-pub known_answer : (X : Type 0) (db : Database) (fault : OpenFault) → IsKnown fault → IsAnswer {X = X} db (Err fault)
-known_answer X db NoMemory known = (inr (λ same. absurd (known.0 same), known.1), λ has. tt)
-known_answer X db Store known = (inr (λ same. absurd (known.0 same), known.1), λ has. tt)
-known_answer X db NotABureau known = absurd (known.0 refl)
-known_answer X db (Old version) known = absurd (known.1 version refl)

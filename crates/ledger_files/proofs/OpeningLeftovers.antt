@@ -25,7 +25,7 @@ use Rattle.sqlite.specs.declared.file.Leftover.TheVariants as left
 use Rattle.sqlite.proofs.FileLemmas.{is_something}
 use Rattle.ledger.specs.Older.{LeftOf}
 use Rattle.ledger.specs.Standing.{LeftAs}
-use Rattle.ledger_files.proofs.OpeningFinds.{known_answer}
+use Rattle.ledger_tables.proofs.OpeningAnswers.{known_answer}
 use Rattle.ledger_tables.specs.Versions.{IsKnown}
 use Rattle.ledger_files.specs.Migrating.{AreNotMigrated}
 use Rattle.ledger_files.specs.Opening.{AreRefused, AreStoredWith, IsCleanKept, IsOutOfReach, LeftHolds, kept_of, store_fault}
@@ -179,6 +179,7 @@ module _ {D : Type 0} {g : Ghosts D} (start : Image) (error : Error) (known : Is
         known = λ version office are. known.0;
         keeps = λ has_sums version office are. fresh_stands files left all.1 start (ap (λ (i : Image). i.log) found.seen) (ap (λ (i : Image). i.db) found.seen) found.log found.db has_sums (λ db. LeftOf version db office) are;
         told = (error, files, found.seen, all.0, refl);
+        answer = λ db held sound. known_answer (Unit {0}) db _ known;
         untouched = λ is db held. tt;
       }
   not_migrated None far cause clean = record {
@@ -186,5 +187,6 @@ module _ {D : Type 0} {g : Ghosts D} (start : Image) (error : Error) (known : Is
     known = λ version office are. known.0;
     keeps = λ has_sums version office are. tt;
     told = (error, far refl, refl);
+    answer = λ db held sound. known_answer (Unit {0}) db _ known;
     untouched = λ is db held. tt;
   }

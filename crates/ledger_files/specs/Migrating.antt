@@ -1,5 +1,5 @@
 -- files that hold a bureau's database of any version, and what a migration makes of them
-use Rattle.std.specs.Prelude.{◌≡◌, ◌≢◌, ◌⊎◌, ◌∷◌, [], pos, ℕ, Bool, ⊤}
+use Rattle.std.specs.Prelude.{◌≡◌, ◌≢◌, ◌⊎◌, ◌∷◌, [], pos, ℕ, Bool, Err, ⊤}
 use Rattle.sqlite_disk.specs.declared.Disk.{Ghosts}
 use Rattle.sqlite_store.specs.declared.store.FileStore.{FileStore}
 use Rattle.sqlite.specs.Effect.{Database, IsDatabase}
@@ -15,7 +15,7 @@ use Rattle.ledger_tables.specs.declared.openings.OpenFault.TheVariants.{NoMemory
 use Rattle.office.specs.Office.{Office}
 use Rattle.ledger.specs.Older.{LeftOf, StandsOf}
 use Rattle.ledger.specs.Standing.{LeftAs, Stands}
-use Rattle.ledger_files.specs.Opening.{AreOf, AreStoredWith, HoldsOnly, IsToldOf, LeftHolds}
+use Rattle.ledger_files.specs.Opening.{AreOf, AreStoredWith, HoldsOnly, IsAnswerFor, IsToldOf, LeftHolds}
 use Rattle.ledger_files.specs.declared.kept.Kept.{Kept}
 use Rattle.ledger_files.specs.declared.kept.Kept.TheVariants as kept
 
@@ -93,6 +93,8 @@ module _ {D : Type 0} {g : Ghosts D} where
         → AreStoredWith has_sums image (λ db. LeftOf version db office)
         → KeptKeeps has_sums version fault rest office
     pub told : IsToldUnopened image fault rest
+    -- the fault is right for whatever the files hold
+    pub answer : IsAnswerFor image (Err fault)
     -- what the files hold is not changed by fault 50
     pub untouched : fault ≡ NotABureau → (db : Trees) → HoldsDatabase image db
         → KeptAlone rest db

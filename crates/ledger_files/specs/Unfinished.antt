@@ -108,8 +108,9 @@ module _ {D : Type 0} {g : Ghosts D} where
   -- office, in the version that they had or in this program's
   abbrev pub IsUnmigrated : Image → Unfinished D g → Type 0
   IsUnmigrated files (unfinished.Unfound fault) = IsNotOld fault
-  IsUnmigrated files (unfinished.Refused fault rest) =
-      IsNotOld fault × IsMigration files (MayLeaveRest files rest)
+  IsUnmigrated files (unfinished.Refused fault rest) = IsNotOld fault
+      × IsMigration files (MayLeaveRest files rest)
+      × (IsCleanRest rest → IsAnswerFor files (Err fault))
   IsUnmigrated files (unfinished.Unclosed fault rest) = IsNotOld fault × (IsClean (view rest)
       → (version : ℕ) (office : Office) → AreOfVersion version files office
       → ∥ ((db : Trees) → recovers rest db → LeftOf version db office ⊎ LeftAs db office) ∥₁)

@@ -13,21 +13,11 @@ use crate::closed::Closed;
 use crate::closing::close_connection;
 use crate::opening::store_fault_of;
 use crate::places::{MODE, Part, beside, is_free, remove_second_name, sync_folder_of};
-use ledger::{Bureau, Fault};
+use ledger::Bureau;
 use ledger_tables::OpenFault;
 use sqlite::{Alter, Connection, FileFrom, Start};
 use std::alloc::Global;
 use std::fs;
-
-/// The outcome for the file after a fault of the tables.
-fn fault_of(fault: Fault) -> OpenFault
-    ensures { IsKnown result }
-{
-    match fault {
-        Fault::NoMemory => OpenFault::NoMemory,
-        Fault::Store => OpenFault::Store,
-    }
-}
 
 /// Makes the tables of a bureau without jobs over a connection that was just opened.
 fn created<S: Alter + Drop>(
@@ -43,7 +33,7 @@ fn created<S: Alter + Drop>(
 {
     match Bureau::create(alloc, conn) {
         Ok(bureau) => Ok(bureau.into_connection()),
-        Err((fault, conn)) => Err((fault_of(fault), conn)),
+        Err((fault, conn)) => Err((OpenFault::from(fault), conn)),
     }
 }
 

@@ -1,6 +1,6 @@
 //! Raising a bureau's file of an earlier version to this program's version.
 
-ghost use Rattle.std.specs.Prelude.{◌≡◌, ◌≤◌, ℕ, IfErr, IfOk};
+ghost use Rattle.std.specs.Prelude.{◌≡◌, ◌≤◌, ℕ, Err, IfErr, IfOk, Ok};
 ghost use Rattle.sqlite.specs.Effect.{Database, IsDatabase};
 ghost use Rattle.sqlite.specs.FileStore.{recovers, view};
 ghost use Rattle.sqlite.specs.Files.{HoldsDatabase, file_state};
@@ -13,13 +13,13 @@ ghost use Rattle.sqlite.specs.WalFiles.{image_at, outcomes};
 ghost use Rattle.sqlite_wal.specs.Reads.{AreClean};
 ghost use Rattle.office.specs.Office.{Office};
 ghost use Rattle.ledger_tables.specs.Schema.{own_version};
-ghost use Rattle.ledger_tables.specs.Versions.{IsNotOld};
-ghost use Rattle.ledger.specs.Migrating.{IsKeptOf, IsNoFaultOfVersion, IsRaised, LeavesEitherVersion};
+ghost use Rattle.ledger_tables.specs.Versions.{IsAnswer, IsNotOld};
+ghost use Rattle.ledger.specs.Migrating.{IsKeptOf, IsNoFaultOfVersion, IsRaised, LeavesEitherVersion, as_opened};
 ghost use Rattle.ledger.specs.Older.{LeftOf, StandsOf};
 ghost use Rattle.ledger.specs.Standing.{Stands};
 ghost use Rattle.ledger_files.specs.Closing.{StandsAlone};
 ghost use Rattle.ledger_files.specs.Migrating.{AreNotMigrated, IsMidway, IsMigrated, IsMigration, IsVersionIn, IsVersionOf};
-ghost use Rattle.ledger_files.specs.Opening.{HoldsOnly, IsCleanKept};
+ghost use Rattle.ledger_files.specs.Opening.{HoldsOnly, IsAnswerFor, IsCleanKept};
 ghost use Rattle.ledger_files.specs.Rounds.{MayLeaveClosed};
 ghost use Rattle.ledger_files.specs.Unfinished.{IsFoundAs, IsUnmigrated, fault_in};
 
@@ -51,6 +51,14 @@ fn raised<S: Alter + Drop>(
         → Opens (state S.Store conn) → IsLive (state S.Store conn) → (db : Database)
         → IsDatabase db → (state S.Store conn).committed.trees ≡ db.trees
         → IsVersionIn db done.0) }
+    ensures answer { IfOk result (λ done. HasCleanDisk (state S.Store done.1)
+        → Opens (state S.Store conn) → IsLive (state S.Store conn) → (db : Database)
+        → IsDatabase db → (state S.Store conn).committed.trees ≡ db.trees
+        → IsAnswer db (as_opened (Ok done.0))) }
+    ensures answer_still { IfErr result (λ e. HasCleanDisk (state S.Store e.1)
+        → Opens (state S.Store conn) → IsLive (state S.Store conn) → (db : Database)
+        → IsDatabase db → (state S.Store conn).committed.trees ≡ db.trees
+        → IsAnswer db (as_opened (Err e.0))) }
     ensures alone { IfOk result (λ done. done.0 ≡ own_version
         → HasCleanDisk (state S.Store done.1) → Opens (state S.Store conn)
         → HoldsOnly (state S.Store done.1) (state S.Store conn).committed.trees) }
@@ -85,6 +93,8 @@ pub fn migrate_from<S: Start>(
     ensures midway { IfOk result (λ done. IsMidway (image_at S.Start) done.1) }
     ensures version { IfOk result (λ done. HasCleanDisk (file_state done.1)
         → IsVersionOf (image_at S.Start) done.0) }
+    ensures answer { IfOk result (λ done. HasCleanDisk (file_state done.1)
+        → IsAnswerFor (image_at S.Start) (as_opened (Ok done.0))) }
     ensures alone { IfOk result (λ done. done.0 ≡ own_version → HasCleanDisk (file_state done.1)
         → (db : Trees) → HoldsDatabase (image_at S.Start) db
         → HoldsOnly (file_state done.1) db) }

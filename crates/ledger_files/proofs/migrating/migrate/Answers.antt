@@ -13,4 +13,8 @@ returns-in-Ok-migrate_from-clause-unmigrated g c = if_err c.end.result (λ left 
 
 pub returns-clause-unmigrated : goal.returns-clause-unmigrated
 returns-clause-unmigrated g c =
-    (c.in-Err-migrate_from.ensures.told, c.let_go.ensures.migration (image_at g.S.Start) c.in-Err-migrate_from.fault c.in-Err-migrate_from.ensures.refused)
+    let refused = c.in-Err-migrate_from.ensures.refused in (
+      c.in-Err-migrate_from.ensures.told,
+      c.let_go.ensures.migration (image_at g.S.Start) c.in-Err-migrate_from.fault refused,
+      λ clean. (refused (c.let_go.ensures.clean clean)).answer,
+    )

@@ -59,6 +59,7 @@ returns-in-Err-raised-clause-refused g c clean =
           let r : (c.in-Err-raised.fault ≡ NoMemory → StandsOf version (file_state conn) office) × ((db : Trees) → (file_state conn).may_leave db → LeftOf version db office ⊎ LeftAs db office) =
           (λ memory. c.in-Err-raised.ensures.kept memory clean version office was, c.in-Err-raised.ensures.left clean version office was) in r);
       told = tt;
+      answer = λ db held sound. c.in-Err-raised.ensures.answer_still clean opened.0 opened.1 db sound (found.holds db.trees held);
       untouched = λ is db held. subst (λ t. HoldsOnly (file_state conn) t) (found.holds db held) (c.in-Err-raised.ensures.untouched is clean opened.0);
     }
 
@@ -86,3 +87,9 @@ returns-in-Err-raised-clause-told g c = c.in-Err-raised.ensures.known.0
 
 pub returns-in-Err-clause-told : goal.returns-in-Err-clause-told
 returns-in-Err-clause-told g c = c.handed_on.ensures.known.1
+
+pub returns-in-Ok-raised-clause-answer : goal.returns-in-Ok-raised-clause-answer
+returns-in-Ok-raised-clause-answer g c clean db held sound =
+    let early : HasCleanDisk (file_state c.in-Ok.conn) = omega (arith, c.in-Ok-raised.ensures.clean) in
+    let opened = c.in-Ok.ensures.opened early in
+    c.in-Ok-raised.ensures.answer clean opened.0 opened.1 db sound ((c.in-Ok.ensures.found early).holds db.trees held)
