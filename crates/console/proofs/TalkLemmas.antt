@@ -1,5 +1,5 @@
 -- a session over a reader and a writer
-use Rattle.std.proofs.Common.{◌≡◌, ℕ, Bool, false, List, [], ◌∷◌, ◌++◌, Option, take, subst}
+use Rattle.std.proofs.Common.{◌≡◌, ℕ, Bool, true, false, List, [], ◌∷◌, ◌++◌, Option, take, subst}
 use Rattle.std.proofs.KnownBytes.{Appends-nil, Appends-trans}
 use Rattle.std.specs.Io.KnownBytes.{Appends}
 use Rattle.console.specs.Answers.{Answers}
@@ -45,4 +45,15 @@ module _ {s : Sitting} {from old : Option (List ℕ)} {now : Sitting} {left new 
       put.1,
       Appends-trans old new newer so.text (take put.0 told) so.written put.2,
     );
+  }
+
+  pub talk_asked : (line : List ℕ) (after : Sitting) (rest newer : Option (List ℕ)) (told : List ℕ) (ends : Bool)
+      → IsRead left line rest → Answers now line after told ends → ends ≡ true → Appends new newer told → IsTalk s after from rest old newer ended.Asked
+  talk_asked line after rest newer told ends read answered asked put = record {
+    lines = so.lines;
+    now = now;
+    left = left;
+    text = so.text;
+    talked = so.talked;
+    ends = (told, record { line = line; read = read; answered = subst (Answers now line after told) asked answered }, Appends-trans old new newer so.text told so.written put);
   }
