@@ -1,5 +1,5 @@
 -- a session over a reader and a writer
-use Rattle.std.proofs.Common.{◌≡◌, ℕ, Bool, false, List, [], ◌∷◌, ◌++◌, Option, take, subst}
+use Rattle.std.proofs.Common.{◌≡◌, ℕ, Bool, true, false, List, [], ◌∷◌, ◌++◌, Option, take, subst}
 use Rattle.std.proofs.KnownBytes.{Appends-nil, Appends-trans}
 use Rattle.std.specs.Io.KnownBytes.{Appends}
 use Rattle.console.specs.Answers.{Answers}
@@ -30,7 +30,7 @@ module _ {s : Sitting} {from old : Option (List ℕ)} {now : Sitting} {left new 
   }
 
   pub talk_unwritten : (line : List ℕ) (after : Sitting) (rest newer : Option (List ℕ)) (told : List ℕ) (ends : Bool)
-      → IsRead left line rest → Answers now line after told ends → PutsSo told new newer false → IsTalk s from old newer ended.WriteFailed
+      → IsRead left line rest → Answers now line after told ends → PutsSo told new newer false → IsTalk s after from rest old newer ended.WriteFailed
   talk_unwritten line after rest newer told ends read answered put = record {
     lines = so.lines;
     now = now;
@@ -41,8 +41,19 @@ module _ {s : Sitting} {from old : Option (List ℕ)} {now : Sitting} {left new 
       told,
       ends,
       put.0,
-      record { line = line; after = after; rest = rest; read = read; answered = answered },
+      record { line = line; read = read; answered = answered },
       put.1,
       Appends-trans old new newer so.text (take put.0 told) so.written put.2,
     );
+  }
+
+  pub talk_asked : (line : List ℕ) (after : Sitting) (rest newer : Option (List ℕ)) (told : List ℕ) (ends : Bool)
+      → IsRead left line rest → Answers now line after told ends → ends ≡ true → Appends new newer told → IsTalk s after from rest old newer ended.Asked
+  talk_asked line after rest newer told ends read answered asked put = record {
+    lines = so.lines;
+    now = now;
+    left = left;
+    text = so.text;
+    talked = so.talked;
+    ends = (told, record { line = line; read = read; answered = subst (Answers now line after told) asked answered }, Appends-trans old new newer so.text told so.written put);
   }

@@ -1,7 +1,8 @@
 -- a session over a reader and a writer
-use Rattle.std.specs.Prelude.{ℕ, ◌≡◌, ◌<◌, ◌≤◌, Bool, true, false, List, [], ◌∷◌, ◌++◌, length, take, Option, Some, IfSome}
+use Rattle.std.specs.Prelude.{ℕ, ◌≡◌, ◌<◌, ◌≤◌, ◌⊎◌, Bool, true, false, List, [], ◌∷◌, ◌++◌, length, take, Option, Some, IfSome}
+use Rattle.std.specs.Io.{StopsAt}
 use Rattle.std.specs.Io.BufRead.{drop_through, take_through}
-use Rattle.std.specs.Io.KnownBytes.{Appends, IsAtEnd}
+use Rattle.std.specs.Io.KnownBytes.{Appends, Consumes, IsAtEnd, Keeps}
 use Rattle.console.specs.Answers.{Answers}
 use Rattle.console.specs.Sittings.{Sitting}
 use Rattle.console.specs.declared.talking.Ended.{Ended}
@@ -12,6 +13,14 @@ use Rattle.console.specs.declared.talking.Ended.TheVariants as ended
 abbrev pub IsRead : Option (List ℕ) → List ℕ → Option (List ℕ) → Type 0
 IsRead left line after = IfSome left (λ bytes.
     (0 < length line) × (line ≡ take_through 10 bytes) × (after ≡ Some (drop_through 10 bytes)))
+
+-- a reader had this left and has this: it gave a beginning of its next line, or all of it
+abbrev pub HasGiven : Option (List ℕ) → Option (List ℕ) → Type 0
+HasGiven left rest = (part : List ℕ) × StopsAt part 10 × Consumes left rest part
+
+-- a reader has no further line, and what it has left is as it was
+abbrev pub HasEnded : Option (List ℕ) → Option (List ℕ) → Type 0
+HasEnded left rest = IsAtEnd left × Keeps left rest
 
 -- from a session and a reader on these lines were read, each was answered before the next was, and
 -- none ended the session; it is now this one, the reader has this left, and this was printed
@@ -24,12 +33,11 @@ pub data Talked (s : Sitting) (from : Option (List ℕ))
       → Answers now line after told false
       → Talked s from (lines ++ line ∷ []) after rest (text ++ told)
 
--- a further line was read and answered so
-pub record OneMore (now : Sitting) (left : Option (List ℕ)) (ends : Bool) (told : List ℕ)
-    : Type 0 where
+-- a further line was read and answered so: the session is then this one, and the reader has this
+-- left
+pub record OneMore (now after : Sitting) (left rest : Option (List ℕ)) (ends : Bool)
+    (told : List ℕ) : Type 0 where
   pub line : List ℕ
-  pub after : Sitting
-  pub rest : Option (List ℕ)
   pub read : IsRead left line rest
   pub answered : Answers now line after told ends
 
@@ -45,26 +53,36 @@ IsUnread ended.NoMemory = Unit {0}
 IsUnread ended.ReadFailed = Unit {0}
 IsUnread other = ⊥
 
--- how a session ended that had come so far and had printed this, by what the writer had before and
--- has now: at the end of what the reader had; by a line that ends it; for want of memory, or
--- because the reader failed, before a further line was answered; or because the writer failed, and
--- took a beginning of a further answer
-abbrev pub EndsSo : Ended → Sitting → Option (List ℕ) → List ℕ → Option (List ℕ)
-    → Option (List ℕ) → Type 0
-EndsSo ended.AtEnd now left text old new = IsAtEnd left × Appends old new text
-EndsSo ended.Asked now left text old new =
-    (told : List ℕ) × OneMore now left true told × Appends old new (text ++ told)
-EndsSo ended.NoMemory now left text old new = Appends old new text
-EndsSo ended.ReadFailed now left text old new = Appends old new text
-EndsSo ended.WriteFailed now left text old new =
-    (told : List ℕ) × (ends : Bool) × (count : ℕ) × OneMore now left ends told
+-- a session is as it was, or a line was read whose answer there was no memory for
+abbrev pub IsUnanswered : Sitting → Sitting → Option (List ℕ) → Option (List ℕ) → Type 0
+IsUnanswered now after left rest = (after ≡ now) ⊎ ((line : List ℕ) × IsRead left line rest)
+
+-- how a session ended that had come so far and had printed this, by what it is now, what the reader
+-- had left then and has now, and what the writer had before and has now: at the end of what the
+-- reader had; by a line that ends it; for want of memory, before a further line was answered;
+-- because the reader failed, before a further line was read; or because the writer failed, and took
+-- a beginning of a further answer
+abbrev pub EndsSo : Ended → Sitting → Sitting → Option (List ℕ) → Option (List ℕ) → List ℕ
+    → Option (List ℕ) → Option (List ℕ) → Type 0
+EndsSo ended.AtEnd now after left rest text old new =
+    (after ≡ now) × HasEnded left rest × Appends old new text
+EndsSo ended.Asked now after left rest text old new =
+    (told : List ℕ) × OneMore now after left rest true told × Appends old new (text ++ told)
+EndsSo ended.NoMemory now after left rest text old new =
+    IsUnanswered now after left rest × HasGiven left rest × Appends old new text
+EndsSo ended.ReadFailed now after left rest text old new =
+    (after ≡ now) × HasGiven left rest × Appends old new text
+EndsSo ended.WriteFailed now after left rest text old new =
+    (told : List ℕ) × (ends : Bool) × (count : ℕ) × OneMore now after left rest ends told
     × (count ≤ length told) × Appends old new (text ++ take count told)
 
--- a session was talked with, over a reader that had this and a writer that had and has this
-pub record IsTalk (s : Sitting) (from old new : Option (List ℕ)) (it : Ended) : Type 0 where
+-- a session was talked with and is this one after it, over a reader that had this and has this
+-- left, and a writer that had and has this: lines of the reader were answered, one after the other
+pub record IsTalk (s after : Sitting) (from rest old new : Option (List ℕ)) (it : Ended)
+    : Type 0 where
   pub lines : List (List ℕ)
   pub now : Sitting
   pub left : Option (List ℕ)
   pub text : List ℕ
   pub talked : Talked s from lines now left text
-  pub ends : EndsSo it now left text old new
+  pub ends : EndsSo it now after left rest text old new

@@ -1,9 +1,8 @@
 //! A session over a reader and a writer.
 
 ghost use Rattle.std.specs.Prelude.{IfOk, IfErr, IfSome, IfNone};
-ghost use Rattle.std.specs.Io.KnownBytes.{IsAtEnd};
 ghost use Rattle.console.specs.Sittings.{HasCome};
-ghost use Rattle.console.specs.Talks.{IsRead, IsTalk, IsUnread, PutsSo};
+ghost use Rattle.console.specs.Talks.{HasEnded, HasGiven, IsRead, IsTalk, IsUnread, PutsSo};
 
 use crate::answering::answer_line;
 use crate::sessions::Session;
@@ -40,7 +39,9 @@ fn ending_for(kind: ErrorKind) -> Ended
 fn next_line<R: BufRead>(alloc: Global, reader: &mut R) -> Result<Option<Vec<u8>>, Ended>
     ensures line { IfOk result (λ found. IfSome found (λ line.
         IsRead (R.remaining reader.old) line.items (R.remaining reader.new))) }
-    ensures end { IfOk result (λ found. IfNone found (IsAtEnd (R.remaining reader.old))) }
+    ensures end { IfOk result (λ found. IfNone found
+        (HasEnded (R.remaining reader.old) (R.remaining reader.new))) }
+    ensures given { HasGiven (R.remaining reader.old) (R.remaining reader.new) }
     ensures failed { IfErr result IsUnread }
 {
     let mut line = Vec::new(alloc);
@@ -61,8 +62,9 @@ fn put<W: Write>(writer: &mut W, bytes: &[u8]) -> bool
     }
 }
 
-/// Reads lines, and answers each before it reads the next. The bytes of an answer are out before
-/// the next line is read.
+/// Reads lines, and answers each before it reads the next: its bytes are written and flushed
+/// first. The session is then as the answers left it, and the reader has what is behind the lines.
+/// If there is no memory for an answer, what the session has done for that line is not known.
 pub fn console<R: BufRead, W: Write>(
     alloc: Global,
     session: &mut Session,
@@ -70,8 +72,8 @@ pub fn console<R: BufRead, W: Write>(
     writer: &mut W,
 ) -> Ended
     requires { HasCome session.old }
-    ensures { IsTalk session.old (R.remaining reader.old) (W.contents writer.old)
-        (W.contents writer.new) result }
+    ensures { IsTalk session.old session.new (R.remaining reader.old) (R.remaining reader.new)
+        (W.contents writer.old) (W.contents writer.new) result }
 {
     for _ in 0..u64::MAX {
         let line = match next_line(alloc, reader) {
