@@ -15,13 +15,15 @@ use Rattle.units.specs.declared.pockets.Pocket.{Pocket}
 use Rattle.units.specs.declared.profiles.Profile.{Profile}
 use Rattle.units.specs.declared.profiles.Profile.TheVariants.{Plain, Selecting}
 use Rattle.units.specs.declared.punch.Punched.{Punched}
-use Rattle.office.specs.Jobs.{cards_by}
+use Rattle.units.specs.declared.units.Counts.{Counts}
+use Rattle.office.specs.Jobs.{Job, cards_by, picture}
 use Rattle.office.specs.Kept.{kept_of, summary_of}
 use Rattle.office.specs.Office.{Entry}
 use Rattle.office.specs.declared.commands.Kind.{Kind}
 use Rattle.office.specs.declared.commands.Kind.TheVariants.{Object, Autocoder}
 use Rattle.office.specs.declared.stretches.Stretch.{Stretch}
 use Rattle.office.specs.declared.summaries.Summary.{Summary}
+use Rattle.ledger.proofs.ReadingLemmas.{picture_before}
 use Rattle.ledger_archives.specs.Records.{digest_lines, kind_word, line, made_lines, machine_lines, name_lines, pocket_lines, profile_word, record_of, standing_lines, stretch_line, yes_or_no}
 use Rattle.ledger_archives.proofs.RecordLines.{IsShort, HasNoPocket, HasNoStretch, pockets_of, same_pockets, same_stretches}
 use Rattle.ledger_archives.proofs.WordsRead.{after_three, after_two, has_none, no_end, none_in_both, same_line, same_number}
@@ -163,6 +165,10 @@ pub record AreSame (e o : Entry) : Type 0 where
   pub collected : e.job.collected ≡ o.job.collected
   pub pockets : pockets_of (cards_by e.job) ≡ pockets_of (cards_by o.job)
 
+-- a job's machine has all of its cards itself
+cards_told : (job : Job) → (summary_of (kept_of job)).cards ≡ length (cards_by job)
+cards_told job = let none : (picture job).works.units.before.cards ≡ 0 = ap (λ (n : Counts). n.cards) (picture_before job) in omega (arith, none)
+
 pub same_records : (e o : Entry) (a b c d f p q r s t : List ℕ) → IsReadable e → IsReadable o
     → record_of e a b c d f ≡ record_of o p q r s t → AreSame e o
 unfolding record_of
@@ -179,8 +185,10 @@ same_records e o a b c d f p q r s t one other is =
     let machines = same_machines e o _ _ names.1.1 in
     let stretches = same_stretches e.job.stretches o.job.stretches _ _ one.stretches other.stretches (no_stretch x _) (no_stretch y _) machines.1.1.1 in
     let standings = same_standings x y _ _ one.standing other.standing stretches.1 in
-    let made = same_made x y _ _ (omega (arith, one.cards)) (omega (arith, other.cards)) one.lines other.lines standings.1.1 in
-    let cards = same_pockets 1 (cards_by e.job) (cards_by o.job) ends others made.0 one.cards (no_pocket a b c d f) (no_pocket p q r s t) made.1 in
+    let told = cards_told e.job in
+    let told_too = cards_told o.job in
+    let made = same_made x y _ _ (omega (arith, one.cards, told)) (omega (arith, other.cards, told_too)) one.lines other.lines standings.1.1 in
+    let cards = same_pockets 1 (cards_by e.job) (cards_by o.job) ends others (sym told ∙ made.0 ∙ told_too) one.cards (no_pocket a b c d f) (no_pocket p q r s t) made.1 in
     record {
       customer = names.0;
       number = names.1.0;
