@@ -3,13 +3,21 @@
 
    REFUSE_AT=N    the N-th request is refused
    REFUSE_LATER=1 and each after it
-   COUNT_IN=FILE  at its end the program writes the number of its requests there */
+   COUNT_IN=FILE  at its end the program writes the number of its requests there
+   MARKS_IN=FILE  at each of its calls that write to a file or a socket, or wait for a file's bytes,
+                  it adds a line there: the number of its requests until then, and a letter, w for a
+                  file, f for a wait, and s for a socket or a standard output */
 #define _GNU_SOURCE
 #include <dlfcn.h>
 #include <errno.h>
+#include <fcntl.h>
 #include <stdatomic.h>
 #include <stdio.h>
 #include <stdlib.h>
+#include <sys/socket.h>
+#include <sys/syscall.h>
+#include <sys/types.h>
+#include <unistd.h>
 
 static atomic_long requests;
 static long refused = -1;
@@ -100,6 +108,63 @@ void *aligned_alloc(size_t alignment, size_t bytes)
         return next_aligned_alloc(alignment, bytes);
     errno = ENOMEM;
     return NULL;
+}
+
+/* Adds a line to the marks. */
+static void mark(char letter)
+{
+    const char *name = getenv("MARKS_IN");
+    if (!name)
+        return;
+    static int marks = -1;
+    if (marks < 0)
+        marks = syscall(SYS_openat, AT_FDCWD, name, O_WRONLY | O_CREAT | O_APPEND, 0666);
+    char line[32];
+    int length = snprintf(line, sizeof line, "%ld %c\n", atomic_load(&requests), letter);
+    syscall(SYS_write, marks, line, length);
+}
+
+ssize_t pwrite(int file, const void *bytes, size_t count, off_t offset)
+{
+    mark('w');
+    return syscall(SYS_pwrite64, file, bytes, count, offset);
+}
+
+ssize_t pwrite64(int file, const void *bytes, size_t count, off_t offset)
+{
+    return pwrite(file, bytes, count, offset);
+}
+
+int fsync(int file)
+{
+    mark('f');
+    return syscall(SYS_fsync, file);
+}
+
+int fdatasync(int file)
+{
+    mark('f');
+    return syscall(SYS_fdatasync, file);
+}
+
+ssize_t send(int socket, const void *bytes, size_t count, int flags)
+{
+    mark('s');
+    return syscall(SYS_sendto, socket, bytes, count, flags, NULL, 0);
+}
+
+static int is_output(int file)
+{
+    int kind;
+    socklen_t size = sizeof kind;
+    return file == STDOUT_FILENO || file == STDERR_FILENO
+        || getsockopt(file, SOL_SOCKET, SO_TYPE, &kind, &size) == 0;
+}
+
+ssize_t write(int file, const void *bytes, size_t count)
+{
+    mark(is_output(file) ? 's' : 'w');
+    return syscall(SYS_write, file, bytes, count);
 }
 
 __attribute__((destructor)) static void tell(void)
