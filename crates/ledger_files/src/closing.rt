@@ -39,8 +39,8 @@ fn committed_stands<S: Alter>(conn: &Connection<S>)
 pub fn close_connection<D: Disk + Drop>(
     conn: Connection<FileStore<D>>,
 ) -> Result<Closed<D>, (OpenFault, FileStore<D>)>
-    ensures alone { IfOk result (λ closed. AreClean D.Disk closed.files.log closed.files.db → (office : Office)
-        → Stands (file_state conn) office → (left : Image)
+    ensures alone { IfOk result (λ closed. AreClean D.Disk closed.files.log closed.files.db
+        → (office : Office) → Stands (file_state conn) office → (left : Image)
         → outcomes D.Disk closed.files.log closed.files.db left → StandsAlone left office) }
     ensures clean { IfOk result (λ closed. AreClean D.Disk closed.files.log closed.files.db
         → HasCleanDisk (file_state conn)) }
@@ -67,8 +67,8 @@ pub fn close_connection<D: Disk + Drop>(
 pub fn close<D: Disk + Drop>(
     bureau: Bureau<FileStore<D>>,
 ) -> Result<Closed<D>, (OpenFault, FileStore<D>)>
-    ensures alone { IfOk result (λ closed. AreClean D.Disk closed.files.log closed.files.db → (office : Office)
-        → Stands (file_state bureau.conn) office → (left : Image)
+    ensures alone { IfOk result (λ closed. AreClean D.Disk closed.files.log closed.files.db
+        → (office : Office) → Stands (file_state bureau.conn) office → (left : Image)
         → outcomes D.Disk closed.files.log closed.files.db left → StandsAlone left office) }
     ensures clean { IfOk result (λ closed. AreClean D.Disk closed.files.log closed.files.db
         → HasCleanDisk (file_state bureau.conn)) }

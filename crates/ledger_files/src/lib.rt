@@ -5,13 +5,12 @@
 //! ([`Work`]): commands that are carried out and replied to. [`finish`] ends it: it closes the
 //! file, which alone is then the bureau ([`close`]), unless the bureau is broken.
 //!
-//! [`with_bureau`] is what a program calls: it finds the file, opens it, works and ends.
-//! [`look_into`] opens it to look into its tables ([`Look`]), and leaves it as it was. [`copy`]
+//! [`with_bureau`] is what a program calls: it finds the file, opens it, works and ends, and its
+//! contract is a whole round, whatever its end is ([`Closed`], [`Unfinished`]). Any number of such
+//! rounds make the chain of the theorem of stops. [`init`] makes the first file.
+//! [`look_into`] opens a file to look into its tables ([`Look`]), and leaves it as it was. [`copy`]
 //! copies it, with its log, into one new file, which gets its name if a [`Comparison`] finds it the
-//! same.
-//! [`round`] opens, works, and returns the store as a crash at that moment leaves it ([`stop`]):
-//! whatever is left is of the office after a beginning of the commands that holds every one that
-//! was replied to. Any number of such rounds make the chain of the theorem of stops.
+//! same. [`stop`] returns the store as a crash at that moment leaves it.
 //!
 //! [`migrate`] raises the file at a path to this program's version. [`migrate_from`] opens it and
 //! raises its tables; its connection is then closed ([`close_migrated`], by [`close_connection`]),

@@ -96,8 +96,8 @@ pub fn stop<D: Disk + Drop>(bureau: Bureau<FileStore<D>>) -> FileStore<D>
 pub fn finish<D: Disk + Drop>(
     bureau: Bureau<FileStore<D>>,
 ) -> Result<Closed<D>, (OpenFault, FileStore<D>)>
-    ensures alone { IfOk result (λ closed. AreClean D.Disk closed.files.log closed.files.db → (office : Office)
-        → Stands (file_state bureau.conn) office → (left : Image)
+    ensures alone { IfOk result (λ closed. AreClean D.Disk closed.files.log closed.files.db
+        → (office : Office) → Stands (file_state bureau.conn) office → (left : Image)
         → outcomes D.Disk closed.files.log closed.files.db left → StandsAlone left office) }
     ensures link { IfOk result (λ closed. (first : Image) → (commands : List Command)
         → (replies : List Reply) → HasDone first bureau.conn bureau.broken commands replies
