@@ -1,8 +1,11 @@
 -- the office after a command, by the name of the command's job
-use Rattle.std.specs.Prelude.{ℕ}
+use Rattle.std.specs.Prelude.{◌≡◌, ◌⊎◌, ℕ, true, Some, None, string_bytes, ⊤}
 use Rattle.office.specs.Jobs.{Job}
+use Rattle.office.specs.Kept.{is_query}
 use Rattle.office.specs.New.{job_or_refusal}
-use Rattle.office.specs.Office.{Office, added, submitted, submitted_as, commanded, attempted_of}
+use Rattle.office.specs.Office.{Office, added, submitted, submitted_as, commanded, attempted_of, job_of}
+use Rattle.office.specs.declared.commands.Command.{Command}
+use Rattle.office.specs.declared.commands.Command.TheVariants.{Submit, Job as OnJob, Jobs, Queue}
 use Rattle.office.specs.declared.commands.Contents.{Contents}
 use Rattle.office.specs.declared.commands.JobCommand.{JobCommand}
 use Rattle.office.specs.declared.replies.Reply.{Reply}
@@ -32,3 +35,13 @@ with_commanded name c office =
 -- how many instructions a command on the job of this name attempts
 abbrev pub attempted_as : JobName → JobCommand → Office → ℕ
 attempted_as name c office = attempted_of c (job_in name office)
+
+-- the command writes nothing: a list, a query of a job, a job that is handed in again, or a command
+-- on a job that is not there
+abbrev pub OnlyReads : Command → Office → Type 0
+OnlyReads (Submit customer number contents) office =
+    (job : Job) × (job_of (string_bytes customer) number office ≡ Some job)
+OnlyReads (OnJob customer number c) office =
+    (is_query c ≡ true) ⊎ (job_of (string_bytes customer) number office ≡ None)
+OnlyReads (Jobs customer) office = ⊤
+OnlyReads Queue office = ⊤

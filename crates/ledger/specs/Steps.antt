@@ -1,5 +1,5 @@
 -- the contracts of the steps of a command, each within one transaction
-use Rattle.std.specs.Prelude.{◌≡◌, ℕ, None, IsTrue, Result, IfOk, OnOk, OnErr, IsErrOf}
+use Rattle.std.specs.Prelude.{◌≡◌, ℕ, None, Some, IsTrue, Result, IfOk, OnOk, OnErr, IsErrOf, ⊤}
 use Rattle.machine.specs.Run.{risen}
 use Rattle.sqlite_trees.specs.declared.store.Store.{Ghosts}
 use Rattle.ledger_tables.specs.declared.faults.Fault.{Fault}
@@ -7,6 +7,7 @@ use Rattle.ledger_tables.specs.declared.faults.Fault.TheVariants.{Store}
 use Rattle.ledger_tables.specs.declared.names.JobName.{JobName}
 use Rattle.ledger_tables.specs.declared.open_tables.OpenTables.{OpenTables}
 use Rattle.ledger_tables.specs.Steps.{HasFailed, Inside}
+use Rattle.office.specs.Jobs.{Job}
 use Rattle.office.specs.Meters.{RisenAtMost}
 use Rattle.office.specs.Office.{Office}
 use Rattle.office.specs.declared.replies.Reply.{Reply}
@@ -22,14 +23,30 @@ module _ {S : Type 0} (g : Ghosts S) where
       Inside g old new (λ before after. IfOk result (λ found. (office : Office)
       → StandsIn before office → StandsIn after office × Is office found))
 
-  -- if the tables represent an office without a job of this name as long as they are open, fault 2
+  -- if the tables represent an office that meets the premise, as long as they are open, fault 2
   -- comes only where the database failed
+  abbrev pub FailsWhere : {X : Type 0} → OpenTables S → OpenTables S → Result X Fault
+      → (Office → Type 0) → Type 0
+  FailsWhere old new result Premise =
+      Inside g old new (λ before after. IsErrOf result Store → (office : Office)
+      → (IsTrue before.is_open → StandsIn before office) → Premise office
+      → HasFailed before after)
+
+  -- the same of each office
+  abbrev pub FailsAlone : {X : Type 0} → OpenTables S → OpenTables S → Result X Fault → Type 0
+  FailsAlone old new result = FailsWhere old new result (λ office. ⊤)
+
+  -- the same of an office with this job
+  abbrev pub FailsWith : {X : Type 0} → OpenTables S → OpenTables S → Result X Fault → JobName
+      → Job → Type 0
+  FailsWith old new result name job =
+      FailsWhere old new result (λ office. job_in name office ≡ Some job)
+
+  -- the same of an office without a job of this name
   abbrev pub FindsNoJob : {X : Type 0} → OpenTables S → OpenTables S → Result X Fault → JobName
       → Type 0
   FindsNoJob old new result name =
-      Inside g old new (λ before after. IsErrOf result Store → (office : Office)
-      → (IsTrue before.is_open → StandsIn before office) → job_in name office ≡ None
-      → HasFailed before after)
+      FailsWhere old new result (λ office. job_in name office ≡ None)
 
   -- on Ok, if the tables represented an office that meets the premise, they represent the office
   -- after the change

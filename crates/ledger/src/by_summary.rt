@@ -4,7 +4,7 @@ ghost use Rattle.office.specs.declared.commands.JobCommand.{JobCommand};
 ghost use Rattle.ledger_tables.specs.Steps.{IsOpenStep};
 ghost use Rattle.ledger.specs.Allowed.{IsAllowed};
 ghost use Rattle.ledger.specs.Serving.{with_commanded};
-ghost use Rattle.ledger.specs.Steps.{FindsIn, FindsNoJob, Serves};
+ghost use Rattle.ledger.specs.Steps.{FindsIn, FindsNoJob, FailsAlone, Serves};
 
 use crate::saving::note_flags;
 use crate::summaries::find_summary;
@@ -21,7 +21,7 @@ fn find_allowed<S: Alter>(
     ensures step { IsOpenStep S.Store tables.old tables.new result }
     ensures found { FindsIn S.Store tables.old tables.new result
         (λ office found. IsAllowed name.entry command office found) }
-    ensures no_job { FindsNoJob S.Store tables.old tables.new result name.entry }
+    ensures failed { FailsAlone S.Store tables.old tables.new result }
 {
     match tables.find_job(name)? {
         Some(row) => {
@@ -100,7 +100,7 @@ pub fn tell_standing<S: Alter>(
     ensures step { IsOpenStep S.Store tables.old tables.new result }
     ensures done { Serves S.Store tables.old tables.new result
         (with_commanded name.entry JobCommand.Standing) }
-    ensures no_job { FindsNoJob S.Store tables.old tables.new result name.entry }
+    ensures failed { FailsAlone S.Store tables.old tables.new result }
 {
     match find_allowed(tables, name, JobCommand::Standing)? {
         Ok(job) => Ok(Reply::Standing(job)),

@@ -4,13 +4,13 @@ ghost use Rattle.std.specs.Prelude.{◌≡◌, true, Some, OnOk, OnErr};
 ghost use Rattle.core_store.specs.Pages.{cells_of};
 ghost use Rattle.machine.specs.Run.{risen};
 ghost use Rattle.office.specs.Jobs.{Job as KnownJob};
-ghost use Rattle.office.specs.Kept.{attempted_on, limit_of};
+ghost use Rattle.office.specs.Kept.{attempted_on, is_query, limit_of};
 ghost use Rattle.office.specs.Meters.{RisenAtMost};
 ghost use Rattle.ledger_tables.specs.Steps.{IsStep, IsOpenStep};
 ghost use Rattle.ledger.specs.Earlier.{kept_alone, drives_machine};
 ghost use Rattle.ledger.specs.Saving.{job_in};
 ghost use Rattle.ledger.specs.Serving.{with_commanded, attempted_as};
-ghost use Rattle.ledger.specs.Steps.{FindsNoJob, Serves, ServesWhere, Ticks, TicksAtMost};
+ghost use Rattle.ledger.specs.Steps.{FindsNoJob, FailsAlone, Serves, ServesWhere, Ticks, TicksAtMost};
 
 use crate::by_summary::{collect, hold, release, tell_standing};
 use crate::outputs::{tell_cards, tell_lines};
@@ -122,6 +122,8 @@ pub fn command_job<S: Alter>(
     ensures given_up { TicksAtMost S.Store tables.old tables.new result
         meter.old meter.new (attempted_as name.entry command) }
     ensures most { RisenAtMost (limit_of command) meter.old meter.new }
+    ensures failed { is_query command ≡ true
+        → FailsAlone S.Store tables.old tables.new result }
 {
     match command {
         JobCommand::Hold => hold(tables, name),

@@ -1,11 +1,14 @@
 //! The lists of jobs: a customer's, and the queue.
 
-ghost use Rattle.std.specs.Prelude.{◌≡◌, ◌++◌, []};
-ghost use Rattle.office.specs.Office.{jobs_listed, queue_listed};
+ghost use Rattle.std.specs.Prelude.{◌≡◌, ◌++◌, [], map};
+ghost use Rattle.std.specs.List.{AllByRecursion};
+ghost use Rattle.office.specs.Office.{Entry, Office, jobs_listed, queue_listed};
 ghost use Rattle.office.specs.declared.replies.Reply.{Reply};
+ghost use Rattle.ledger_tables.specs.Listed.{name_row, queued_name};
 ghost use Rattle.ledger_tables.specs.Steps.{IsStep, IsOpenStep};
-ghost use Rattle.ledger.specs.Listed.{HasLine, HasLines, IsQueued, AreQueued, with_jobs_told, with_queue_told};
-ghost use Rattle.ledger.specs.Steps.{FindsIn, Serves};
+ghost use Rattle.ledger.specs.Listed.{IsHis, HasLine, HasLines, IsIts, IsQueued, AreQueued, with_jobs_told, with_queue_told};
+ghost use Rattle.ledger.specs.Standing.{named};
+ghost use Rattle.ledger.specs.Steps.{FindsIn, FailsAlone, FailsWhere, Serves};
 
 use crate::summaries::find_standing;
 use ledger_rows::read_truth;
@@ -22,6 +25,9 @@ fn find_line<S: Alter>(
     ensures step { IsOpenStep S.Store tables.old tables.new result }
     ensures found { FindsIn S.Store tables.old tables.new result
         (λ office found. HasLine customer.now row.now office found) }
+    ensures failed { (e : Entry) → row.now ≡ name_row (named e)
+        → FailsWhere S.Store tables.old tables.new result
+        (λ office. IsHis customer.now office e) }
 {
     let (Some(held), Some(collected)) = (read_truth(row.held), read_truth(row.collected)) else {
         return Err(Fault::Store);
@@ -47,6 +53,10 @@ fn find_lines<S: Alter>(
     ensures step { IsStep S.Store tables.old tables.new result }
     ensures found { FindsIn S.Store tables.old tables.new result
         (λ office found. HasLines customer.now rows.now office found.items) }
+    ensures failed { (entries : Office)
+        → rows.now ≡ map (λ e. name_row (named e)) entries
+        → FailsWhere S.Store tables.old tables.new result
+        (λ office. AllByRecursion (IsHis customer.now office) entries) }
 {
     let mut lines = Vec::new(tables.alloc);
     for row in rows {
@@ -64,6 +74,7 @@ pub fn list_jobs<S: Alter>(
 ) -> Result<Reply, Fault>
     ensures step { IsOpenStep S.Store tables.old tables.new result }
     ensures done { Serves S.Store tables.old tables.new result (with_jobs_told customer.now) }
+    ensures failed { FailsAlone S.Store tables.old tables.new result }
 {
     let rows = tables.job_names_of(customer)?;
     let lines = find_lines(tables, customer, rows.as_slice())?;
@@ -79,6 +90,8 @@ fn queue_running<S: Alter>(
     ensures step { IsOpenStep S.Store tables.old tables.new result }
     ensures found { FindsIn S.Store tables.old tables.new result
         (λ office _. IsQueued row.now office queue.old.items queue.new.items) }
+    ensures failed { (e : Entry) → row.now ≡ queued_name (named e)
+        → FailsWhere S.Store tables.old tables.new result (λ office. IsIts office e) }
 {
     let name = JobName {
         customer: row.customer.as_str(),
@@ -104,6 +117,10 @@ fn find_queue<S: Alter>(
     ensures step { IsStep S.Store tables.old tables.new result }
     ensures found { FindsIn S.Store tables.old tables.new result
         (λ office found. AreQueued rows.now office found.items) }
+    ensures failed { (entries : Office)
+        → rows.now ≡ map (λ e. queued_name (named e)) entries
+        → FailsWhere S.Store tables.old tables.new result
+        (λ office. AllByRecursion (IsIts office) entries) }
 {
     let mut queue = Vec::new(tables.alloc);
     for row in rows {
@@ -116,6 +133,7 @@ fn find_queue<S: Alter>(
 pub fn list_queue<S: Alter>(tables: &mut OpenTables<'_, '_, S>) -> Result<Reply, Fault>
     ensures step { IsOpenStep S.Store tables.old tables.new result }
     ensures done { Serves S.Store tables.old tables.new result with_queue_told }
+    ensures failed { FailsAlone S.Store tables.old tables.new result }
 {
     let rows = tables.queued_names()?;
     let queue = find_queue(tables, rows.as_slice())?;

@@ -1,6 +1,7 @@
 //! What a job has made, read from its rows without its machine.
 
 ghost use Rattle.std.specs.Prelude.{◌≡◌, ◌≢◌, List, All, map, length, IfOk, IsErrOf};
+ghost use Rattle.office.specs.Jobs.{Job as KnownJob};
 ghost use Rattle.office.specs.declared.commands.JobCommand.{JobCommand};
 ghost use Rattle.units.specs.Ranges.{HasPrinted};
 ghost use Rattle.units.specs.declared.printer.Line.{Line};
@@ -12,7 +13,7 @@ ghost use Rattle.ledger_tables.specs.Steps.{IsOpenStep};
 ghost use Rattle.ledger.specs.Found.{HasCards, HasCarriageAt, HasLines, printed_with};
 ghost use Rattle.ledger.specs.Saving.{job_in};
 ghost use Rattle.ledger.specs.Serving.{with_commanded};
-ghost use Rattle.ledger.specs.Steps.{FindsIn, FindsNoJob, Serves};
+ghost use Rattle.ledger.specs.Steps.{FindsIn, FailsAlone, FailsWith, Serves};
 
 use crate::reading::{stored, told};
 use crate::summaries::find_progress;
@@ -54,6 +55,8 @@ fn find_cards<S: Alter>(
     ensures step { IsOpenStep S.Store tables.old tables.new result }
     ensures found { FindsIn S.Store tables.old tables.new result
         (λ office found. HasCards (job_in name.entry office) found.items) }
+    ensures failed { (job : KnownJob)
+        → FailsWith S.Store tables.old tables.new result name.entry job }
 {
     let progress = find_progress(tables, name)?;
     let rows = tables.find_cards(name)?;
@@ -74,6 +77,8 @@ fn find_carriage<S: Alter>(
     ensures step { IsOpenStep S.Store tables.old tables.new result }
     ensures found { FindsIn S.Store tables.old tables.new result
         (λ office found. HasCarriageAt (job_in name.entry office) found) }
+    ensures failed { (job : KnownJob)
+        → FailsWith S.Store tables.old tables.new result name.entry job }
 {
     // A law, for the proof: it does nothing.
     commands_keep_jobs();
@@ -117,6 +122,8 @@ fn find_lines<S: Alter>(
     ensures step { IsOpenStep S.Store tables.old tables.new result }
     ensures found { FindsIn S.Store tables.old tables.new result
         (λ office found. HasLines (job_in name.entry office) found.items) }
+    ensures failed { (job : KnownJob)
+        → FailsWith S.Store tables.old tables.new result name.entry job }
 {
     let progress = find_progress(tables, name)?;
     let carriage = find_carriage(tables, name)?;
@@ -133,7 +140,7 @@ pub fn tell_cards<S: Alter>(
     ensures step { IsOpenStep S.Store tables.old tables.new result }
     ensures done { Serves S.Store tables.old tables.new result
         (with_commanded name.entry (JobCommand.Cards from)) }
-    ensures no_job { FindsNoJob S.Store tables.old tables.new result name.entry }
+    ensures failed { FailsAlone S.Store tables.old tables.new result }
 {
     let Some(_row) = tables.find_loaded(name)? else {
         return Ok(Reply::Refused(Refusal::NoJob));
@@ -151,7 +158,7 @@ pub fn tell_lines<S: Alter>(
     ensures step { IsOpenStep S.Store tables.old tables.new result }
     ensures done { Serves S.Store tables.old tables.new result
         (with_commanded name.entry JobCommand.Lines) }
-    ensures no_job { FindsNoJob S.Store tables.old tables.new result name.entry }
+    ensures failed { FailsAlone S.Store tables.old tables.new result }
 {
     let Some(_row) = tables.find_loaded(name)? else {
         return Ok(Reply::Refused(Refusal::NoJob));

@@ -3,20 +3,22 @@
 
 ghost use Rattle.std.specs.Prelude.{◌≡◌, ◌≢◌, ℕ, List, All, map, Some, None, Ok, IsErr, IsErrOf, IsSome, IfOk, IfErr, IfSome, OnOk};
 ghost use Rattle.cards.specs.Decks.{deck_bytes, IsDeck};
+ghost use Rattle.core_store.specs.Storage.{positions_of};
 ghost use Rattle.machine.specs.Earlier.{without_outputs};
 ghost use Rattle.machine.specs.Ranges.{IsInRange};
 ghost use Rattle.machine.specs.Run.{State};
-ghost use Rattle.office.specs.Jobs.{Job as KnownJob, HasSwitches};
+ghost use Rattle.office.specs.Jobs.{Job as KnownJob, picture, HasSwitches};
 ghost use Rattle.office.specs.Kept.{IsJobInRange};
 ghost use Rattle.office.specs.declared.stretches.Stretch.{Stretch};
 ghost use Rattle.ledger_rows.specs.Columns.{HoldsCharacters};
 ghost use Rattle.ledger_rows.specs.Pictures.{IsPictured};
+ghost use Rattle.ledger_tables.specs.Listed.{loaded_row};
 ghost use Rattle.ledger_tables.specs.Named.{of_job};
 ghost use Rattle.ledger_tables.specs.Steps.{Finds, IsOpenStep};
 ghost use Rattle.ledger.specs.Found.{IsMediaOf, IsFoundAs, IsHandedAs, CanBeOfJob, HasStretches, HasMachine, HasMachineWith, HasKept, HasPunch, BeganWith};
 ghost use Rattle.ledger.specs.Saving.{job_in};
 ghost use Rattle.ledger.specs.Standing.{job_cells, stretch_row, CanBeKept};
-ghost use Rattle.ledger.specs.Steps.{FindsIn, FindsNoJob};
+ghost use Rattle.ledger.specs.Steps.{FindsIn, FailsAlone, FailsWith};
 
 use core_store::{Core, Size};
 use ledger_rows::{Media, read_deck, read_picture, read_punch, read_switches, read_truth};
@@ -95,6 +97,7 @@ pub fn find_stretches<S: Alter>(
         (λ office found. HasStretches (job_in name.entry office) found.items) }
     ensures rows { Finds S.Store tables.old tables.new result
         (λ t found. map stretch_row found.items ≡ of_job name.entry t.stretches) }
+    ensures failed { FailsAlone S.Store tables.old tables.new result }
 {
     let rows = tables.find_stretches(name)?;
     told(read_stretches(tables.alloc, rows.as_slice()))
@@ -108,6 +111,8 @@ fn find_punch<S: Alter>(
     ensures step { IsOpenStep S.Store tables.old tables.new result }
     ensures found { FindsIn S.Store tables.old tables.new result
         (λ office found. HasPunch (job_in name.entry office) found) }
+    ensures failed { (job : KnownJob)
+        → FailsWith S.Store tables.old tables.new result name.entry job }
 {
     let found = tables.find_profile(name)?;
     let row = stored(found)?;
@@ -164,6 +169,9 @@ fn find_machine<S: Alter, C: Core>(
     ensures step { IsOpenStep S.Store tables.old tables.new result }
     ensures found { FindsIn S.Store tables.old tables.new result
         (λ office found. HasMachineWith (job_in name.entry office) size media found) }
+    ensures failed { (job : KnownJob) → size ≡ positions_of job.size
+        → IsMediaOf media (without_outputs (picture job))
+        → FailsWith S.Store tables.old tables.new result name.entry job }
 {
     // Laws, for the proof: they do nothing.
     commands_keep_jobs();
@@ -185,6 +193,9 @@ fn find_running<S: Alter, C: Core>(
     ensures step { IsOpenStep S.Store tables.old tables.new result }
     ensures found { FindsIn S.Store tables.old tables.new result
         (λ office found. HasMachine (job_in name.entry office) row.now switches found) }
+    ensures failed { (job : KnownJob) → row.now ≡ loaded_row (job_cells job)
+        → switches ≡ (picture job).works.units.switches
+        → FailsWith S.Store tables.old tables.new result name.entry job }
 {
     // A law, for the proof: it does nothing.
     runs_only_add();
@@ -203,6 +214,8 @@ fn find_parts<S: Alter, C: Core>(
     ensures step { IsOpenStep S.Store tables.old tables.new result }
     ensures found { FindsIn S.Store tables.old tables.new result
         (λ office found. HasKept (job_in name.entry office) row.now found) }
+    ensures failed { (job : KnownJob) → row.now ≡ loaded_row (job_cells job)
+        → FailsWith S.Store tables.old tables.new result name.entry job }
 {
     let (Some(held), Some(collected)) = (read_truth(row.held), read_truth(row.collected)) else {
         return Err(Fault::Store);
@@ -239,6 +252,8 @@ fn find_kept<S: Alter, C: Core>(
     ensures step { IsOpenStep S.Store tables.old tables.new result }
     ensures found { FindsIn S.Store tables.old tables.new result
         (λ office found. HasKept (job_in name.entry office) row.now found) }
+    ensures failed { (job : KnownJob) → row.now ≡ loaded_row (job_cells job)
+        → FailsWith S.Store tables.old tables.new result name.entry job }
 {
     let parts = find_parts(tables, name, row)?;
     job_with(tables.alloc, parts)
@@ -252,7 +267,7 @@ pub fn find_to_run<S: Alter, C: Core>(
     ensures step { IsOpenStep S.Store tables.old tables.new result }
     ensures found { FindsIn S.Store tables.old tables.new result
         (λ office found. IsFoundAs found (job_in name.entry office)) }
-    ensures no_job { FindsNoJob S.Store tables.old tables.new result name.entry }
+    ensures failed { FailsAlone S.Store tables.old tables.new result }
 {
     match tables.find_loaded(name)? {
         Some(row) => {
@@ -279,6 +294,8 @@ fn first_switches<S: Alter>(
     ensures step { IsOpenStep S.Store tables.old tables.new result }
     ensures found { FindsIn S.Store tables.old tables.new result
         (λ office found. BeganWith (job_in name.entry office) found) }
+    ensures failed { (job : KnownJob)
+        → FailsWith S.Store tables.old tables.new result name.entry job }
 {
     let stretches = find_stretches(tables, name)?;
     match stretches.first() {
@@ -309,7 +326,7 @@ pub fn find_handed<S: Alter>(
     ensures step { IsOpenStep S.Store tables.old tables.new result }
     ensures found { FindsIn S.Store tables.old tables.new result
         (λ office found. IsHandedAs found (job_in name.entry office)) }
-    ensures no_job { FindsNoJob S.Store tables.old tables.new result name.entry }
+    ensures failed { FailsAlone S.Store tables.old tables.new result }
     ensures checked { IfOk result (λ found. IfSome found (λ handed. CanBeOfJob handed.row)) }
 {
     match tables.find_job(name)? {

@@ -4,7 +4,8 @@ ghost use Rattle.std.specs.Prelude.{◌≡◌, None};
 ghost use Rattle.office.specs.Meters.{RisenAtMost};
 ghost use Rattle.office.specs.Office.{name_refusal, value_refusal, customer_refusal, early_refusal, served, attempted_by, limit_of};
 ghost use Rattle.ledger_tables.specs.Steps.{IsOpenStep};
-ghost use Rattle.ledger.specs.Steps.{Serves, Ticks, TicksAtMost};
+ghost use Rattle.ledger.specs.Serving.{OnlyReads};
+ghost use Rattle.ledger.specs.Steps.{FailsWhere, Serves, Ticks, TicksAtMost};
 
 use crate::job_commands::command_job;
 use crate::lists::{list_jobs, list_queue};
@@ -115,6 +116,7 @@ pub fn serve<S: Alter>(
     ensures given_up { TicksAtMost S.Store tables.old tables.new result
         meter.old meter.new (attempted_by command.now) }
     ensures most { RisenAtMost (limit_of command.now) meter.old meter.new }
+    ensures failed { FailsWhere S.Store tables.old tables.new result (OnlyReads command.now) }
 {
     match command {
         Command::Submit {

@@ -1,6 +1,6 @@
 //! Submissions: new jobs, and jobs that are handed in again.
 
-ghost use Rattle.std.specs.Prelude.{◌≡◌, length, Ok, Err, IfOk, IfErr, IsTrue};
+ghost use Rattle.std.specs.Prelude.{◌≡◌, length, Ok, Err, IfOk, IfErr, IsErrOf, IsTrue};
 ghost use Rattle.cards.specs.Decks.{IsDeck};
 ghost use Rattle.office.specs.Jobs.{Job as KnownJob};
 ghost use Rattle.office.specs.Office.{has_most_jobs, is_same_kind, is_of, repeated};
@@ -10,7 +10,7 @@ ghost use Rattle.ledger.specs.Found.{IsFirst};
 ghost use Rattle.ledger.specs.Saving.{IsFreeName, IsTakenAs};
 ghost use Rattle.ledger.specs.Serving.{with_added, with_taken, with_submitted};
 ghost use Rattle.ledger.specs.Standing.{CanBeKept, job_cells, kind_number};
-ghost use Rattle.ledger.specs.Steps.{FindsIn, Serves, ServesWhere};
+ghost use Rattle.ledger.specs.Steps.{FindsIn, FailsAlone, FailsWith, Serves, ServesWhere};
 
 use crate::reading::{Handed, find_handed};
 use crate::saving::save_new;
@@ -57,6 +57,8 @@ fn repeated_reply(alloc: Global, handed: &Handed, contents: &Contents) -> Result
     ensures { IfOk result (λ reply. (job : KnownJob) → handed.now.row ≡ job_cells job
         → IsFirst handed.now.switches job.stretches → CanBeKept job
         → reply ≡ repeated contents.now job) }
+    ensures store { IsErrOf result Fault.Store → (job : KnownJob)
+        → handed.now.row ≡ job_cells job → ¬ CanBeKept job }
 {
     if !is_same(alloc, handed, contents)? {
         return Ok(Reply::Refused(Refusal::OtherContents));
@@ -84,6 +86,7 @@ fn has_most_jobs<S: Alter>(
     ensures step { IsOpenStep S.Store tables.old tables.new result }
     ensures found { FindsIn S.Store tables.old tables.new result
         (λ office found. found ≡ has_most_jobs customer.now office) }
+    ensures failed { FailsAlone S.Store tables.old tables.new result }
 {
     let count = tables.count_jobs(customer)?;
     Ok(count >= MOST_JOBS)
@@ -154,6 +157,8 @@ pub fn submit<S: Alter>(
     ensures step { IsOpenStep S.Store tables.old tables.new result }
     ensures done { Serves S.Store tables.old tables.new result
         (with_submitted name.entry contents.now) }
+    ensures failed { (job : KnownJob)
+        → FailsWith S.Store tables.old tables.new result name.entry job }
 {
     match find_handed(tables, name)? {
         Some(handed) => {

@@ -2,12 +2,13 @@
 //! granted and has made.
 
 ghost use Rattle.std.specs.Prelude.{◌≡◌, ◌≢◌, ◌-◌, ◌^◌, [], min};
-ghost use Rattle.office.specs.Jobs.{granted};
+ghost use Rattle.office.specs.Jobs.{Job as KnownJob, granted};
 ghost use Rattle.ledger_tables.specs.Named.{of_job};
 ghost use Rattle.ledger_tables.specs.Steps.{Finds, IsOpenStep};
 ghost use Rattle.ledger.specs.Found.{HasProgress, HasStanding, HasGranted, HasSummary};
 ghost use Rattle.ledger.specs.Saving.{job_in};
-ghost use Rattle.ledger.specs.Steps.{FindsIn};
+ghost use Rattle.ledger.specs.Standing.{job_cells};
+ghost use Rattle.ledger.specs.Steps.{FindsIn, FailsWith};
 
 use crate::reading::{find_stretches, stored};
 use ledger_rows::{Progress, read_progress, read_truth};
@@ -24,6 +25,8 @@ pub fn find_progress<S: Alter>(
     ensures step { IsOpenStep S.Store tables.old tables.new result }
     ensures found { FindsIn S.Store tables.old tables.new result
         (λ office found. HasProgress (job_in name.entry office) found) }
+    ensures failed { (job : KnownJob)
+        → FailsWith S.Store tables.old tables.new result name.entry job }
 {
     // A law, for the proof: it does nothing.
     commands_keep_jobs();
@@ -40,6 +43,8 @@ pub fn find_standing<S: Alter>(
     ensures step { IsOpenStep S.Store tables.old tables.new result }
     ensures found { FindsIn S.Store tables.old tables.new result
         (λ office found. HasStanding (job_in name.entry office) found) }
+    ensures failed { (job : KnownJob)
+        → FailsWith S.Store tables.old tables.new result name.entry job }
 {
     let progress = find_progress(tables, name)?;
     Ok(StandingAt::new(progress.standing, progress.i))
@@ -66,6 +71,8 @@ fn find_granted<S: Alter>(
         (λ office found. HasGranted (job_in name.entry office) found) }
     ensures some { Finds S.Store tables.old tables.new result
         (λ t found. of_job name.entry t.stretches ≢ []) }
+    ensures failed { (job : KnownJob)
+        → FailsWith S.Store tables.old tables.new result name.entry job }
 {
     let stretches = find_stretches(tables, name)?;
     if stretches.is_empty() {
@@ -83,6 +90,8 @@ pub fn find_summary<S: Alter>(
     ensures step { IsOpenStep S.Store tables.old tables.new result }
     ensures found { FindsIn S.Store tables.old tables.new result
         (λ office found. HasSummary (job_in name.entry office) row.now found) }
+    ensures failed { (job : KnownJob) → row.now ≡ job_cells job
+        → FailsWith S.Store tables.old tables.new result name.entry job }
 {
     let (Some(held), Some(collected)) = (read_truth(row.held), read_truth(row.collected)) else {
         return Err(Fault::Store);
