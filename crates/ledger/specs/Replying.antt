@@ -4,10 +4,13 @@ use Rattle.machine.specs.Run.{risen}
 use Rattle.sqlite.specs.Held.{Held, state}
 use Rattle.sqlite.specs.State.{HasCleanDisk}
 use Rattle.sqlite.specs.Tree.{Trees}
+use Rattle.sqlite_trees.specs.declared.error.StoreError.TheVariants.{OutOfMemory}
 use Rattle.sqlite_trees.specs.declared.store.Store.{Ghosts}
+use Rattle.sqlite_trees.specs.View.{Tells}
 use Rattle.ledger_tables.specs.Schema.{no_schema}
 use Rattle.ledger_tables.specs.declared.faults.Fault.{Fault}
-use Rattle.ledger_tables.specs.declared.faults.Fault.TheVariants.{NoMemory}
+use Rattle.ledger_tables.specs.declared.faults.Fault.TheVariants.{NoMemory, Store}
+use Rattle.ledger_tables.specs.Steps.{HasFailed}
 use Rattle.office.specs.Meters.{RisenAtMost}
 use Rattle.office.specs.Office.{Office}
 use Rattle.office.specs.declared.replies.Reply.{Reply}
@@ -37,6 +40,13 @@ module _ {S : Type 0} (g : Ghosts S) (old new : Held S) where
   abbrev pub KeepsOffice : Result Reply Fault → Type 0
   KeepsOffice result = HasCleanDisk (state g new) → IsErrOf result NoMemory → (office : Office)
       → Stands (state g old) office → Stands (state g new) office
+
+  -- if the tables represented an office that meets the premise, fault 2 came since the database
+  -- failed, or since there was no memory for the commit
+  abbrev pub FailsToRead : Result Reply Fault → (Office → Type 0) → Type 0
+  FailsToRead result Premise = HasCleanDisk (state g new) → IsErrOf result Store
+      → (office : Office) → Stands (state g old) office → Premise office
+      → HasFailed (state g old) (state g new) ⊎ Tells (state g new).blamed OutOfMemory
 
   -- a crash leaves tables that represent the office before the command or the one after it
   abbrev pub LeavesEither : (Office → Office × Reply) → Type 0

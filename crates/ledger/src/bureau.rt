@@ -10,7 +10,8 @@ ghost use Rattle.ledger_tables.specs.Versions.{IsAnswer};
 ghost use Rattle.office.specs.Meters.{RisenAtMost};
 ghost use Rattle.office.specs.Office.{early_refusal, served, take, attempted_by, attempted, limit_of};
 ghost use Rattle.ledger.specs.Adopting.{StandsStill, IsNoFaultOfTables, HasOwnVersion, IsTold, MakesNothing, handed, verdict};
-ghost use Rattle.ledger.specs.Replying.{Replies, Rises, RisesAtMost, KeepsOffice, LeavesEither, MakesOffice, LeavesNone};
+ghost use Rattle.ledger.specs.Replying.{Replies, Rises, RisesAtMost, KeepsOffice, FailsToRead, LeavesEither, MakesOffice, LeavesNone};
+ghost use Rattle.ledger.specs.Serving.{OnlyReads};
 ghost use Rattle.ledger.specs.Standing.{Stands, IsAsBefore};
 
 use crate::serving::{early_refusal, serve};
@@ -54,6 +55,7 @@ fn transact<S: Alter>(
     ensures crash { LeavesEither S.Store conn.old conn.new (served command.now) }
     ensures opened { HasCleanDisk (state S.Store conn.new)
         → OnOk result (IsTrue (state S.Store conn.new).is_open) }
+    ensures failed { FailsToRead S.Store conn.old conn.new result (OnlyReads command.now) }
     ensures clean { doubt (state S.Store conn.old).is_clean
         ≤ doubt (state S.Store conn.new).is_clean }
 {
@@ -145,6 +147,8 @@ impl<S: Alter> Bureau<S> {
         ensures opened { HasCleanDisk (state S.Store self.new.conn)
             → early_refusal command.now ≡ None
             → OnOk result (IsTrue (state S.Store self.new.conn).is_open) }
+        ensures failed { self.old.broken ≡ false
+            → FailsToRead S.Store self.old.conn self.new.conn result (OnlyReads command.now) }
         ensures ended { IsTrue self.old.broken
             → (result ≡ Err Fault.Store) × (self.new ≡ self.old) × (meter.new ≡ meter.old) }
         ensures clean { doubt (state S.Store self.old.conn).is_clean
