@@ -6,7 +6,7 @@ use Rattle.core_store.specs.Checked.{find_or}
 use Rattle.core_store.specs.declared.checks.Check.TheVariants as check
 use Rattle.bcd.specs.declared.Zone.TheVariants as zone
 use Rattle.addresses.specs.Addresses.{written, decoded, location_of}
-use Rattle.addresses.specs.Effective.{operand}
+use Rattle.addresses.specs.Effective.{operand, position_of}
 use Rattle.addresses.specs.declared.tagged.IndexLocation.{IndexLocation}
 use Rattle.addresses.specs.declared.tagged.IndexLocation.TheVariants.{First, Second, Third}
 use Rattle.addresses.proofs.DigitLemmas.{written_read}
@@ -22,7 +22,7 @@ use Rattle.autocoder_layout.specs.declared.names.Value.{Value}
 use Rattle.autocoder_layout.specs.declared.names.Value.TheVariants.{Unknown, Outside, At}
 use Rattle.autocoder_layout.specs.declared.slots.Slot.{Slot}
 use Rattle.autocoder_layout.proofs.SlotBounds.{value_is_within}
-use Rattle.autocoder_laws.specs.Operands.{meant_by, position_of}
+use Rattle.autocoder_laws.specs.Operands.{meant_by}
 
 below : (size : ℕ) (value : Value) → size ≤ largest_size → IsValueWithin size value → position_in value < largest_size
 below size Unknown most h = omega arith

@@ -1,11 +1,7 @@
--- the addresses of an instruction, as its card means them and as the machine reads them
-use Rattle.std.specs.Prelude.{ℕ, ◌%◌, nat_lt, List, length, None, Result, Ok}
-use Rattle.core_store.specs.Storage.{Storage, largest_size}
-use Rattle.core_store.specs.Checked.{require, and_then}
-use Rattle.core_store.specs.declared.checks.Check.{Check}
-use Rattle.core_store.specs.declared.checks.Check.TheVariants as check
+-- the addresses of an instruction, as its card means them
+use Rattle.std.specs.Prelude.{ℕ, ◌%◌, List, None}
+use Rattle.core_store.specs.Storage.{largest_size}
 use Rattle.addresses.specs.Addresses.{Tagged}
-use Rattle.addresses.specs.Effective.{effective}
 use Rattle.autocoder_statements.specs.declared.operands.Operand.{Operand}
 use Rattle.autocoder_statements.specs.declared.operands.Operand.TheVariants.{Address, Literal}
 use Rattle.autocoder_layout.specs.Cells.{position_in}
@@ -24,10 +20,3 @@ meant_by size slots literals (Literal wanted) =
       base = literal_end (place_after slots) literals wanted % largest_size;
       index = None;
     }
-
--- the position that an address represents, with what its index location holds, if it is in storage;
--- else check ADDRESS
-abbrev pub position_of : Storage → Tagged → Result ℕ Check
-position_of s address =
-    and_then (effective s address)
-    (λ position. require (nat_lt position (length s)) check.Address (Ok position))
