@@ -54,7 +54,7 @@ fn is_same(alloc: Global, handed: &Handed, contents: &Contents) -> Result<bool, 
 
 /// The reply to a job that was handed in before.
 fn repeated_reply(alloc: Global, handed: &Handed, contents: &Contents) -> Result<Reply, Fault>
-    ensures { IfOk result (λ reply. (job : KnownJob) → handed.now.row ≡ job_cells job
+    ensures reply { IfOk result (λ reply. (job : KnownJob) → handed.now.row ≡ job_cells job
         → IsFirst handed.now.switches job.stretches → CanBeKept job
         → reply ≡ repeated contents.now job) }
     ensures store { IsErrOf result Fault.Store → (job : KnownJob)
