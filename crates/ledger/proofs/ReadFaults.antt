@@ -1,9 +1,10 @@
 -- Why a read of an office's tables fails: its rows can be read, so the database failed.
-use Rattle.std.proofs.Common.{◌≡◌, ◌⊎◌, inl, inr, ◌+◌, ◌<◌, ◌≤◌, ◌^◌, ◌/◌, ℕ, nat_lt, Bool, true, false, if◌then◌else◌, List, [], ◌∷◌, ◌++◌, length, map, All, Option, Some, None, IsSome, IsTrue, Result, Err, IfErr, refl, sym, ap, subst, ◌∙◌, arith}
+use Rattle.std.proofs.Common.{◌≡◌, ◌⊎◌, inl, inr, ◌+◌, ◌<◌, ◌≤◌, ◌^◌, ◌/◌, ℕ, nat_lt, Bool, true, false, if◌then◌else◌, List, [], ◌∷◌, ◌++◌, length, map, slice_get, All, Option, Some, None, IsSome, IsTrue, Result, Err, IfErr, refl, sym, ap, subst, ◌∙◌, arith}
 use Rattle.std.specs.List.{AllByRecursion}
 use Rattle.std.specs.Option.{option_map, option_to_list}
 use Rattle.std.proofs.lemmas.Bool.{cases_Bool}
 use Rattle.std.proofs.lemmas.Bool.Decides.{nat_tests}
+use Rattle.std.proofs.lemmas.Option.{slice_get_cases}
 use Rattle.std.proofs.lemmas.List.Elements.{recursion_from_All}
 use Rattle.std.proofs.lemmas.List.Sums.{sum_by-cons}
 use Rattle.cards.specs.Decks.{IsDeck}
@@ -213,3 +214,10 @@ err_is P e r is h = subst (λ q. IfErr q P) is h
 -- nothing is not something
 pub not_there : {X : Type 0} {x : X} {o : Option X} → o ≡ None → o ≡ Some x → ⊥
 not_there none some = let no = sym none ∙ some in cc
+
+-- a list has an element at each place below its length
+pub is_there : {X : Type 0} (xs : List X) (k : ℕ) → k < length xs → slice_get xs k ≡ None → ⊥
+is_there xs k less none = elim (slice_get_cases xs k).1 [
+  | inl it ↦ not_there none it.2
+  | inr past ↦ omega (arith, less, past.0)
+]

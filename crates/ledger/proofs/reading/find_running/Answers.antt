@@ -36,7 +36,7 @@ returns-in_err-media-clause-failed g c job row switches clean inside store offic
     let kept = job_is c.args.name.customer.now c.args.name.number office job (has opened).jobs is in
     let deck = picture_deck c.runs_only_add.ensures.deck job in
     let loaded = c.deref.ensures.value ∙ ap (λ (r : LoadedCells). r.loaded) (c.row.view_is ∙ row) in
-    absurd (c.in_err-media.ensures.store (store_passed c.from_residual.result _ c.from_residual.ensures.1 store) (picture job) (subst IsDeck (sym deck) kept.job.loaded) (loaded ∙ ap deck_bytes (sym deck))))
+    absurd (c.in_err-media.ensures.store (store_passed c.from_residual-in_err-media.result _ c.from_residual-in_err-media.ensures.1 store) (picture job) (subst IsDeck (sym deck) kept.job.loaded) (loaded ∙ ap deck_bytes (sym deck))))
 
 pub returns-clause-failed : goal.returns-clause-failed
 returns-clause-failed g c job row switches clean inside store office has is =
