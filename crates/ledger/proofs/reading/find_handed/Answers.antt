@@ -36,7 +36,7 @@ returns-in_err-check_handed-in-Some-clause-failed g c clean inside store office 
     let found = c.in_ok-row.ensures.found early inside (tables_of office) s.tables in
     let it = row_found c.args.name.customer.now c.args.name.number office c.in_ok-row.field-0 c.in-Some.row found.1 c.in-Some.is in
     let kept = job_is c.args.name.customer.now c.args.name.number office it.0 s.jobs it.1 in
-    absurd (c.in_err-check_handed-in-Some.ensures.store (store_passed c.from_residual.result _ c.from_residual.ensures.1 store) it.0 kept it.2)
+    absurd (c.in_err-check_handed-in-Some.ensures.store (store_passed c.from_residual-in_err-check_handed-in-Some.result _ c.from_residual-in_err-check_handed-in-Some.ensures.1 store) it.0 kept it.2)
 
 pub returns-in_err-switches-in-Some-clause-failed : goal.returns-in_err-switches-in-Some-clause-failed
 returns-in_err-switches-in-Some-clause-failed g c clean inside store office has any =
@@ -49,4 +49,4 @@ returns-in_err-switches-in-Some-clause-failed g c clean inside store office has 
     let on = c.in_ok-row.ensures.step.frame early inside in
     let it = row_found c.args.name.customer.now c.args.name.number office c.in_ok-row.field-0 c.in-Some.row found.1 c.in-Some.is in
     failed_later old mid new c.find_job.ensures.step.survives c.first_switches.ensures.step.survives early (c.in_ok-row.ensures.step.opened early)
-    (c.in_err-switches-in-Some.ensures.failed it.0 clean on.inside (store_passed c.from_residual.result _ c.from_residual.ensures.1 store) office (λ opened. still old mid office found.0 s) it.1)
+    (c.in_err-switches-in-Some.ensures.failed it.0 clean on.inside (store_passed c.from_residual-in_err-switches-in-Some.result _ c.from_residual-in_err-switches-in-Some.ensures.1 store) office (λ opened. still old mid office found.0 s) it.1)

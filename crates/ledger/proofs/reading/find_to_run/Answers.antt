@@ -41,4 +41,4 @@ returns-in_err-job-in-Some-clause-failed g c clean inside store office has any =
     let on = c.in_ok-row.ensures.step.frame early inside in
     let it = part_found loaded_row c.args.name.customer.now c.args.name.number office c.in_ok-row.field-0 c.in-Some.row found.1 c.in-Some.is in
     failed_later old mid new c.find_loaded.ensures.step.survives c.find_kept.ensures.step.survives early (c.in_ok-row.ensures.step.opened early)
-    (c.in_err-job-in-Some.ensures.failed it.0 it.2 clean on.inside (store_passed c.from_residual.result _ c.from_residual.ensures.1 store) office (λ opened. still old mid office found.0 s) it.1)
+    (c.in_err-job-in-Some.ensures.failed it.0 it.2 clean on.inside (store_passed c.from_residual-in_err-job-in-Some.result _ c.from_residual-in_err-job-in-Some.ensures.1 store) office (λ opened. still old mid office found.0 s) it.1)

@@ -10,8 +10,8 @@ pub returns-in_err-stretches-clause-failed : goal.returns-in_err-stretches-claus
 returns-in_err-stretches-clause-failed g c job clean inside store office has is =
     c.in_err-stretches.ensures.failed clean inside (store_passed c.from_residual.result _ c.from_residual.ensures.1 store) office has tt
 
-pub returns-in-None-clause-failed : goal.returns-in-None-clause-failed
-returns-in-None-clause-failed g c job clean inside store office has is =
+pub returns-clause-failed : goal.returns-clause-failed
+returns-clause-failed g c job clean inside store office has is =
     failed_unless (seen g.S.Store c.args.tables.now) (seen g.S.Store c.find_stretches.new.tables) (λ opened.
     let s = has opened in
     let found = c.in_ok-stretches.ensures.found clean inside office s in

@@ -31,7 +31,7 @@ returns-in_err-reply-in-Some-clause-failed g c job clean inside store office has
     let s = has (c.in_ok-handed.ensures.step.opened clean) in
     let found = rw c.in-Some.is at (c.in_ok-handed.ensures.found clean inside office s) in
     let kept = job_is c.args.name.customer.now c.args.name.number office found.1.0 s.jobs found.1.1 in
-    absurd (c.in_err-reply-in-Some.ensures.store (store_passed c.from_residual.result _ c.from_residual.ensures.1 store) found.1.0 found.1.2 kept)
+    absurd (c.in_err-reply-in-Some.ensures.store (store_passed c.from_residual-in_err-reply-in-Some.result _ c.from_residual-in_err-reply-in-Some.ensures.1 store) found.1.0 found.1.2 kept)
 
 pub returns-in-None-clause-failed : goal.returns-in-None-clause-failed
 returns-in-None-clause-failed g c job clean inside store office has is =
