@@ -1,4 +1,4 @@
-use Rattle.std.proofs.Common.{sym, subst, ◌∙◌}
+use Rattle.std.proofs.Common.{sym, subst}
 use Rattle.ledger_tables.specs.Steps.{seen}
 use Rattle.office.specs.Jobs.{picture}
 use Rattle.office.specs.Kept.{IsJobInRange}

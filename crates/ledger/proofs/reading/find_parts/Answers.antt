@@ -53,5 +53,5 @@ returns-in_default-last-clause-failed g c job row clean inside store office has 
     let s = has opened in
     let found = c.in_ok-stretches.ensures.found clean inside office s in
     let kept = job_is c.args.name.customer.now c.args.name.number office job s.jobs is in
-    let none : slice_get c.deref.result.now (length c.deref.result.now - 1) ≡ None = rw c.in_default-last.is at (sym c.last.ensures.value) in
+    let none : slice_get c.deref.result.now (length c.deref.result.now - 1) ≡ None = sym (rw c.in_default-last.is at c.last.ensures.value) in
     absurd (is_there job.stretches (length job.stretches - 1) (omega (arith, kept.job.stretches.begun)) (subst (λ xs. slice_get xs (length xs - 1) ≡ None) (c.deref.ensures.value ∙ found.1 job is) none)))

@@ -1,4 +1,4 @@
-use Rattle.std.proofs.Common.{◌≡◌, List, None, slice_get, ◌∙◌, sym, subst, arith}
+use Rattle.std.proofs.Common.{◌≡◌, List, None, slice_get, ◌∙◌, sym, subst}
 use Rattle.ledger_tables.specs.Steps.{seen}
 use Rattle.office.specs.declared.stretches.Stretch.{Stretch}
 use Rattle.ledger.proofs.BureauResults.{store_passed}
