@@ -11,6 +11,7 @@ pub mod Offices
 pub mod StateRows
 pub mod PageMixes
 pub mod OneOfficeLaw
+pub mod ReadFaults
 pub mod ReadingLemmas
 pub mod Replies
 pub mod SavingLemmas

@@ -255,6 +255,9 @@ fn find_kept<S: Alter, C: Core>(
     ensures failed { (job : KnownJob) → row.now ≡ loaded_row (job_cells job)
         → FailsWith S.Store tables.old tables.new result name.entry job }
 {
+    // Laws, for the proof: they do nothing.
+    commands_keep_jobs();
+    outputs_are_put_back();
     let parts = find_parts(tables, name, row)?;
     job_with(tables.alloc, parts)
 }

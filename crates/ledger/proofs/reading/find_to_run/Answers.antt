@@ -1,11 +1,11 @@
 use Rattle.std.proofs.Common.{arith}
 use Rattle.sqlite.specs.State.{HasCleanDisk}
 use Rattle.ledger_tables.specs.Listed.{loaded_row}
-use Rattle.ledger_tables.specs.Shown.{shown_loaded}
 use Rattle.ledger_tables.specs.Steps.{seen}
 use Rattle.ledger.specs.Standing.{tables_of}
 use Rattle.ledger.proofs.BureauResults.{store_passed}
-use Rattle.ledger.proofs.Offices.{absent_read, not_absent, part_absent, part_found, part_none, still}
+use Rattle.ledger.proofs.Offices.{part_found, part_none, still}
+use Rattle.ledger.proofs.ReadFaults.{failed_later, loaded_read}
 use Rattle.ledger.proofs.reading.find_to_run.Goals as goal
 
 pub returns-in_ok-job-in-Some-clause-found : goal.returns-in_ok-job-in-Some-clause-found
@@ -26,14 +26,19 @@ returns-in-None-clause-found g c clean inside office s =
     let found = c.in_ok-row.ensures.found clean inside (tables_of office) s.tables in
     (still old new office found.0 s, part_none loaded_row c.args.name.customer.now c.args.name.number office c.in_ok-row.field-0 found.1 c.in-None.is)
 
-pub returns-in_err-row-clause-no_job : goal.returns-in_err-row-clause-no_job
-returns-in_err-row-clause-no_job g c clean inside store office has none =
-    c.in_err-row.ensures.failed clean inside (store_passed c.from_residual.result _ c.from_residual.ensures.1 store) (tables_of office) (λ opened. (has opened).tables) (absent_read shown_loaded _ (part_absent loaded_row c.args.name.customer.now c.args.name.number office none))
+pub returns-in_err-row-clause-failed : goal.returns-in_err-row-clause-failed
+returns-in_err-row-clause-failed g c clean inside store office has any =
+    c.in_err-row.ensures.failed clean inside (store_passed c.from_residual.result _ c.from_residual.ensures.1 store) (tables_of office) (λ opened. (has opened).tables) (loaded_read c.args.name.customer.now c.args.name.number office)
 
-pub returns-in_err-job-in-Some-clause-no_job : goal.returns-in_err-job-in-Some-clause-no_job
-returns-in_err-job-in-Some-clause-no_job g c clean inside store office has none =
-    let early : HasCleanDisk (seen g.S.Store c.find_loaded.new.self) = omega (arith, clean, c.find_kept.ensures.step.survives.clean) in
+pub returns-in_err-job-in-Some-clause-failed : goal.returns-in_err-job-in-Some-clause-failed
+returns-in_err-job-in-Some-clause-failed g c clean inside store office has any =
+    let old = seen g.S.Store c.args.tables.now in
+    let mid = seen g.S.Store c.find_loaded.new.self in
+    let new = seen g.S.Store c.find_kept.new.tables in
+    let early : HasCleanDisk mid = omega (arith, clean, c.find_kept.ensures.step.survives.clean) in
     let s = has (c.in_ok-row.ensures.step.opened early) in
     let found = c.in_ok-row.ensures.found early inside (tables_of office) s.tables in
+    let on = c.in_ok-row.ensures.step.frame early inside in
     let it = part_found loaded_row c.args.name.customer.now c.args.name.number office c.in_ok-row.field-0 c.in-Some.row found.1 c.in-Some.is in
-    absurd (not_absent it.0 _ it.1 none)
+    failed_later old mid new c.find_loaded.ensures.step.survives c.find_kept.ensures.step.survives early (c.in_ok-row.ensures.step.opened early)
+    (c.in_err-job-in-Some.ensures.failed it.0 it.2 clean on.inside (store_passed c.from_residual-in_err-job-in-Some.result _ c.from_residual-in_err-job-in-Some.ensures.1 store) office (λ opened. still old mid office found.0 s) it.1)
