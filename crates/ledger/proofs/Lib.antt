@@ -4,6 +4,7 @@ pub mod BureauVersions
 pub mod EarlierLemmas
 pub mod SavingFlags
 pub mod SavingJobs
+pub mod ListFaults
 pub mod ListLemmas
 pub mod MigratingPages
 pub mod MigratingProfiles
@@ -11,6 +12,7 @@ pub mod Offices
 pub mod StateRows
 pub mod PageMixes
 pub mod OneOfficeLaw
+pub mod ReadFaults
 pub mod ReadingLemmas
 pub mod Replies
 pub mod SavingLemmas
