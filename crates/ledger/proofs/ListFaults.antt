@@ -1,5 +1,5 @@
 -- Why a part of a job or a list of jobs is not told: its rows can be read, so the database failed.
-use Rattle.std.proofs.Common.{◌≡◌, ◌≢◌, ◌==◌, ◌+◌, ◌<◌, ◌≤◌, ◌^◌, ℕ, Bool, true, false, List, [], ◌∷◌, length, map, Option, Some, None, IsTrue, refl, sym, ap, subst, ◌∙◌, arith}
+use Rattle.std.proofs.Common.{◌≡◌, ◌==◌, ◌+◌, ◌<◌, ◌≤◌, ◌^◌, ℕ, Bool, true, false, List, [], ◌∷◌, length, map, Option, Some, IsTrue, refl, sym, ap, subst, arith}
 use Rattle.std.specs.Option.{option_map, option_to_list}
 use Rattle.std.proofs.lemmas.Bool.Decides.{nat_tests}
 use Rattle.cards.specs.Decks.{IsDeck}
@@ -7,7 +7,6 @@ use Rattle.machine.proofs.Steps.{stems_after, stems_same}
 use Rattle.machine.specs.Ranges.{IsInRange}
 use Rattle.machine.specs.Run.{State as Machine, lines_of as printed_by}
 use Rattle.units.specs.Ranges.{AreRising, HasPrinted, IsOnForm, carriage_place, line_place, places_then, the_top}
-use Rattle.units.specs.Units.{nothing_made}
 use Rattle.units.specs.declared.carriage.Carriage.{Carriage}
 use Rattle.units.specs.declared.pockets.Pocket.{Pocket}
 use Rattle.units.specs.declared.pockets.Pocket.TheVariants.{Normal, Four, Eight}
@@ -17,8 +16,8 @@ use Rattle.units.specs.declared.units.Counts.{Counts}
 use Rattle.office.specs.Jobs.{Job, picture, IsJob}
 use Rattle.sqlite.specs.State.{State, HasCleanDisk, Survives}
 use Rattle.sqlite.proofs.StateLemmas.{survives_then}
-use Rattle.ledger_rows.specs.Columns.{line_cells, state_row, truth}
-use Rattle.ledger_rows.specs.Pockets.{pocket_cell, pocket_rows_from, pocket_rows_of}
+use Rattle.ledger_rows.specs.Columns.{line_cells, state_row}
+use Rattle.ledger_rows.specs.Pockets.{pocket_cell, pocket_rows_from}
 use Rattle.ledger_rows.specs.Progress.{progress_of}
 use Rattle.ledger_tables.specs.Listed.{progress_row}
 use Rattle.ledger_tables.specs.Named.{HavePocketNumbers}
@@ -51,6 +50,7 @@ reads_deck job it = subst IsDeck (sym (picture_deck (λ m count. (stems_after m 
 
 -- ---- the progress of a job
 
+-- the numbers of the row of a progress have 32 bits
 progress_fits : (m : Machine) → IsInRange m → AreReadable (shown_progress (progress_row (state_row m)))
 progress_fits m range =
     let i : m.works.registers.i < 2 ^ 32 = omega (arith, range.registers.i) in
@@ -64,16 +64,19 @@ progress_read job range here is = subst (λ o. CanRead shown_progress (option_to
 
 -- ---- the lines of a job
 
+-- .. those of the row of a line on a form
 line_fits : (l : Line) → IsOnForm (line_place l) → AreReadable (shown_line (line_cells l))
 line_fits l on =
     let form : l.form < 2 ^ 32 = omega (arith, on.1) in
     let line : l.line < 2 ^ 32 = omega (arith, on.3) in
     (form, (line, (tt, tt)))
 
+-- .. those of the rows of the lines below one
 later_fit : (above : Line) (carriage : Carriage) (lines : List Line) → AreRising (line_place above) (places_then (carriage_place carriage) lines) → CanRead shown_line (map line_cells lines)
 later_fit above carriage [] rising = tt
 later_fit above carriage (l ∷ lines) rising = (line_fits l rising.0.0, later_fit l carriage lines rising.1)
 
+-- .. those of the rows of all lines of a printer
 lines_fit : (carriage : Carriage) (lines : List Line) → AreRising the_top (places_then (carriage_place carriage) lines) → CanRead shown_line (map line_cells lines)
 lines_fit carriage [] rising = tt
 lines_fit carriage (l ∷ lines) rising = (line_fits l rising.0.0, later_fit l carriage lines rising.1)
@@ -86,20 +89,23 @@ lines_read job range here is = subst (λ o. CanRead shown_line (lines_of o)) (sy
 pub printed_alone : (job : Job) → IsInRange (picture job) → HasPrinted 0 (picture job).works.units.printer
 printed_alone job range = subst (λ (made : Counts). HasPrinted made.lines (picture job).works.units.printer) (picture_before job) range.units.printer
 
--- its state counts all of its cards and lines
+-- the state of its machine counts all of its cards
 pub counts_cards : (job : Job) → length (picture job).works.units.punch.cards ≡ (progress_of (picture job)).cards
 counts_cards job = let none = ap (λ (made : Counts). made.cards) (picture_before job) in omega (arith, none)
 
+-- .. and all of its lines
 pub counts_lines : (job : Job) → length (printed_by (picture job)) ≡ (progress_of (picture job)).lines
 counts_lines job = let none = ap (λ (made : Counts). made.lines) (picture_before job) in omega (arith, none)
 
 -- ---- the pockets of a job's cards
 
+-- the number of a pocket has 32 bits
 cell_fits : (pocket : Pocket) (number : ℕ) → pocket_cell pocket ≡ Some number → number < 2 ^ 32
 cell_fits Normal number is = absurd (let e = is in cc)
 cell_fits Four number is = let four : 4 ≡ number = cc in omega (arith, four)
 cell_fits Eight number is = let eight : 8 ≡ number = cc in omega (arith, eight)
 
+-- the numbers of the rows of the pockets of so many cards have 32 bits
 pockets_fit : (first : ℕ) (cards : List Punched) → first + length cards ≤ 2 ^ 32 → HavePocketNumbers (pocket_rows_from first cards)
 pockets_fit first [] fits place pocket is = absurd (let e = is in cc)
 pockets_fit first (c ∷ cards) fits place pocket is = go (first == place) refl (pockets_fit (first + 1) cards (omega (arith, fits)) place pocket)
