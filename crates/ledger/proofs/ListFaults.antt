@@ -1,5 +1,6 @@
 -- Why a part of a job or a list of jobs is not told: its rows can be read, so the database failed.
-use Rattle.std.proofs.Common.{◌≡◌, ◌==◌, ◌+◌, ◌<◌, ◌≤◌, ◌^◌, ℕ, Bool, true, false, List, [], ◌∷◌, length, map, Option, Some, IsTrue, refl, sym, ap, subst, arith}
+use Rattle.std.proofs.Common.{◌≡◌, ◌==◌, ◌+◌, ◌<◌, ◌≤◌, ◌^◌, ℕ, Bool, true, false, not, bytes_eq, List, [], ◌∷◌, length, map, Option, Some, IsTrue, refl, sym, ap, subst, arith}
+use Rattle.std.specs.List.{AllByRecursion}
 use Rattle.std.specs.Option.{option_map, option_to_list}
 use Rattle.std.proofs.lemmas.Bool.Decides.{nat_tests}
 use Rattle.cards.specs.Decks.{IsDeck}
@@ -14,18 +15,23 @@ use Rattle.units.specs.declared.printer.Line.{Line}
 use Rattle.units.specs.declared.punch.Punched.{Punched}
 use Rattle.units.specs.declared.units.Counts.{Counts}
 use Rattle.office.specs.Jobs.{Job, picture, IsJob}
+use Rattle.office.specs.Office.{Entry, Office, by_name, by_number, free_jobs, own}
+use Rattle.office.specs.Orders.{in_order}
+use Rattle.sqlite.specs.Order.{Row}
 use Rattle.sqlite.specs.State.{State, HasCleanDisk, Survives}
 use Rattle.sqlite.proofs.StateLemmas.{survives_then}
 use Rattle.ledger_rows.specs.Columns.{line_cells, state_row}
 use Rattle.ledger_rows.specs.Pockets.{pocket_cell, pocket_rows_from}
 use Rattle.ledger_rows.specs.Progress.{progress_of}
-use Rattle.ledger_tables.specs.Listed.{progress_row}
+use Rattle.ledger_tables.specs.Listed.{name_row, names_of, names_queued, progress_row, queued_name}
 use Rattle.ledger_tables.specs.Named.{HavePocketNumbers}
 use Rattle.ledger_tables.specs.Reading.{AreReadable, CanRead}
-use Rattle.ledger_tables.specs.Shown.{shown_line, shown_progress}
+use Rattle.ledger_tables.specs.Shown.{shown_line, shown_name, shown_progress, shown_queued}
 use Rattle.ledger_tables.specs.Steps.{HasFailed}
-use Rattle.ledger.specs.Standing.{lines_of, pockets_of, state_of}
-use Rattle.ledger.proofs.ReadFaults.{failed_later, failed_unless, standing_fits}
+use Rattle.ledger.specs.Listed.{AreListable, CanBeListed}
+use Rattle.ledger.specs.Standing.{lines_of, named, pockets_of, state_of}
+use Rattle.ledger.proofs.ListLemmas.{all_filtered, all_in_order, free_told, names_told}
+use Rattle.ledger.proofs.ReadFaults.{failed_later, failed_unless, standing_fits, truth_fits}
 use Rattle.ledger.proofs.ReadingLemmas.{picture_before, picture_deck}
 
 -- ---- one step after another
@@ -119,3 +125,24 @@ pockets_fit first (c ∷ cards) fits place pocket is = go (first == place) refl 
 -- the rows of the pockets of a job's cards can be read
 pub pockets_read : (job : Job) → IsInRange (picture job) → (here : Option Job) → here ≡ Some job → HavePocketNumbers (pockets_of here)
 pockets_read job range here is = subst (λ o. HavePocketNumbers (pockets_of o)) (sym is) (pockets_fit 1 (picture job).works.units.punch.cards (omega (arith, range.units.punch)))
+
+-- ---- the lists
+
+-- rows can be read where each thing of theirs has one that can
+each_read : {X Y : Type 0} (shown : Y → Row) (f : X → Y) (P : X → Type 0) (xs : List X) → ((x : X) → P x → AreReadable (shown (f x))) → AllByRecursion P xs → CanRead shown (map f xs)
+each_read shown f P [] so all = tt
+each_read shown f P (x ∷ xs) so all = (so x all.0, each_read shown f P xs so all.1)
+
+-- the rows of a customer's jobs can be read
+pub names_read : (customer : List ℕ) (office : Office) → AreListable office → CanRead shown_name (names_of customer (map named office))
+names_read customer office all =
+    let his = all_filtered CanBeListed CanBeListed (λ e. bytes_eq e.customer customer) (λ e can _. can) office all in
+    subst (CanRead shown_name) (sym (names_told customer office))
+    (each_read shown_name (λ (e : Entry). name_row (named e)) CanBeListed (in_order by_number (own customer office)) (λ e can. (can.1, (truth_fits e.job.held, (truth_fits e.job.collected, tt)))) (all_in_order CanBeListed by_number (own customer office) his))
+
+-- the rows of the queue can be read
+pub queue_read : (office : Office) → AreListable office → CanRead shown_queued (names_queued (map named office))
+queue_read office all =
+    let free = all_filtered CanBeListed CanBeListed (λ e. not e.job.held) (λ e can _. can) office all in
+    subst (CanRead shown_queued) (sym (free_told office))
+    (each_read shown_queued (λ (e : Entry). queued_name (named e)) CanBeListed (in_order by_name (free_jobs office)) (λ e can. (can.0, (can.1, tt))) (all_in_order CanBeListed by_name (free_jobs office) free))
