@@ -4,6 +4,7 @@ pub mod BureauVersions
 pub mod EarlierLemmas
 pub mod SavingFlags
 pub mod SavingJobs
+pub mod ListFaults
 pub mod ListLemmas
 pub mod MigratingPages
 pub mod MigratingProfiles

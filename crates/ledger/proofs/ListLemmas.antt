@@ -32,11 +32,11 @@ module _ {X : Type 0} (P : X → Type 0) where
       go true rest = (all.0, rest)
       go false rest = (p, all)
 
-  all_in_order : (cmp : X → X → Ordering) (xs : List X) → AllByRecursion P xs → AllByRecursion P (in_order cmp xs)
+  pub all_in_order : (cmp : X → X → Ordering) (xs : List X) → AllByRecursion P xs → AllByRecursion P (in_order cmp xs)
   all_in_order cmp [] all = tt
   all_in_order cmp (x ∷ xs) all = all_put cmp x (in_order cmp xs) all.0 (all_in_order cmp xs all.1)
 
-  all_filtered : (Q : X → Type 0) (test : X → Bool) → ((x : X) → P x → test x ≡ true → Q x) → (xs : List X) → AllByRecursion P xs → AllByRecursion Q (filter test xs)
+  pub all_filtered : (Q : X → Type 0) (test : X → Bool) → ((x : X) → P x → test x ≡ true → Q x) → (xs : List X) → AllByRecursion P xs → AllByRecursion Q (filter test xs)
   all_filtered Q test so [] all = tt
   all_filtered Q test so (x ∷ xs) all = go (test x) refl (all_filtered Q test so xs all.1)
     where

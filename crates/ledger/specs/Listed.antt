@@ -1,5 +1,5 @@
 -- what is read from the tables for the lists of jobs
-use Rattle.std.specs.Prelude.{◌≡◌, ℕ, List, [], ◌∷◌, ◌++◌, map, filter, Some}
+use Rattle.std.specs.Prelude.{◌≡◌, ◌<◌, ◌^◌, ℕ, List, [], ◌∷◌, ◌++◌, map, filter, Some, IsUtf8}
 use Rattle.std.specs.List.{AllByRecursion}
 use Rattle.office.specs.Office.{Entry, Office, job_of, job_line, jobs_listed, queued_job, queue_listed, runs}
 use Rattle.office.specs.Queued.{QueuedJob}
@@ -10,6 +10,14 @@ use Rattle.ledger_tables.specs.Cells.{QueuedName}
 use Rattle.ledger_tables.specs.Listed.{name_row, queued_name}
 use Rattle.ledger_tables.specs.declared.rows.NameRow.{NameRow}
 use Rattle.ledger.specs.Standing.{named}
+
+-- the entry's name can be read from a row: its customer is a text, and its number has 32 bits
+abbrev pub CanBeListed : Entry → Type 0
+CanBeListed e = IsUtf8 e.customer × (e.number < 2 ^ 32)
+
+-- the names of all jobs of the office can be read from their rows
+abbrev pub AreListable : Office → Type 0
+AreListable = AllByRecursion CanBeListed
 
 -- ---- a customer's jobs
 

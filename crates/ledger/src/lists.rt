@@ -6,9 +6,9 @@ ghost use Rattle.office.specs.Office.{Entry, Office, jobs_listed, queue_listed};
 ghost use Rattle.office.specs.declared.replies.Reply.{Reply};
 ghost use Rattle.ledger_tables.specs.Listed.{name_row, queued_name};
 ghost use Rattle.ledger_tables.specs.Steps.{IsStep, IsOpenStep};
-ghost use Rattle.ledger.specs.Listed.{IsHis, HasLine, HasLines, IsIts, IsQueued, AreQueued, with_jobs_told, with_queue_told};
+ghost use Rattle.ledger.specs.Listed.{AreListable, IsHis, HasLine, HasLines, IsIts, IsQueued, AreQueued, with_jobs_told, with_queue_told};
 ghost use Rattle.ledger.specs.Standing.{named};
-ghost use Rattle.ledger.specs.Steps.{FindsIn, FailsAlone, FailsWhere, Serves};
+ghost use Rattle.ledger.specs.Steps.{FindsIn, FailsWhere, Serves};
 
 use crate::summaries::find_standing;
 use ledger_rows::read_truth;
@@ -74,7 +74,7 @@ pub fn list_jobs<S: Alter>(
 ) -> Result<Reply, Fault>
     ensures step { IsOpenStep S.Store tables.old tables.new result }
     ensures done { Serves S.Store tables.old tables.new result (with_jobs_told customer.now) }
-    ensures failed { FailsAlone S.Store tables.old tables.new result }
+    ensures failed { FailsWhere S.Store tables.old tables.new result AreListable }
 {
     let rows = tables.job_names_of(customer)?;
     let lines = find_lines(tables, customer, rows.as_slice())?;
@@ -133,7 +133,7 @@ fn find_queue<S: Alter>(
 pub fn list_queue<S: Alter>(tables: &mut OpenTables<'_, '_, S>) -> Result<Reply, Fault>
     ensures step { IsOpenStep S.Store tables.old tables.new result }
     ensures done { Serves S.Store tables.old tables.new result with_queue_told }
-    ensures failed { FailsAlone S.Store tables.old tables.new result }
+    ensures failed { FailsWhere S.Store tables.old tables.new result AreListable }
 {
     let rows = tables.queued_names()?;
     let queue = find_queue(tables, rows.as_slice())?;

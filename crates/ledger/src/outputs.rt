@@ -58,6 +58,8 @@ fn find_cards<S: Alter>(
     ensures failed { (job : KnownJob)
         → FailsWith S.Store tables.old tables.new result name.entry job }
 {
+    // A law, for the proof: it does nothing.
+    commands_keep_jobs();
     let progress = find_progress(tables, name)?;
     let rows = tables.find_cards(name)?;
     let pockets = tables.find_pockets(name)?;
@@ -125,6 +127,8 @@ fn find_lines<S: Alter>(
     ensures failed { (job : KnownJob)
         → FailsWith S.Store tables.old tables.new result name.entry job }
 {
+    // A law, for the proof: it does nothing.
+    commands_keep_jobs();
     let progress = find_progress(tables, name)?;
     let carriage = find_carriage(tables, name)?;
     let rows = tables.find_lines(name)?;

@@ -1,11 +1,12 @@
 use Rattle.std.proofs.Common.{sym, ap, ◌∙◌, arith}
 use Rattle.sqlite.specs.State.{HasCleanDisk}
 use Rattle.office.specs.Office.{commanded}
-use Rattle.ledger_tables.specs.Shown.{shown_job}
 use Rattle.ledger_tables.specs.Steps.{seen}
 use Rattle.ledger.specs.Standing.{tables_of}
 use Rattle.ledger.proofs.BureauResults.{store_passed}
-use Rattle.ledger.proofs.Offices.{absent_read, not_absent, row_absent, row_found, row_none, still}
+use Rattle.ledger.proofs.Offices.{row_found, row_none, still}
+use Rattle.ledger.proofs.ListFaults.{failed_second}
+use Rattle.ledger.proofs.ReadFaults.{job_read}
 use Rattle.ledger.proofs.SummaryLemmas.{refused_as}
 use Rattle.ledger.proofs.by_summary.find_allowed.Goals as goal
 
@@ -39,14 +40,17 @@ returns-clause-found g c clean inside office s =
     let none = row_none c.args.name.customer.now c.args.name.number office c.in_ok-row.field-0 found.1 c.in-None.is in
     (still old new office found.0 s, ap (commanded c.args.name.customer.now c.args.name.number c.args.command office) none)
 
-pub returns-in_err-row-clause-no_job : goal.returns-in_err-row-clause-no_job
-returns-in_err-row-clause-no_job g c clean inside store office has none =
-    c.in_err-row.ensures.failed clean inside (store_passed c.from_residual.result _ c.from_residual.ensures.1 store) (tables_of office) (λ opened. (has opened).tables) (absent_read shown_job _ (row_absent c.args.name.customer.now c.args.name.number office none))
+pub returns-in_err-row-clause-failed : goal.returns-in_err-row-clause-failed
+returns-in_err-row-clause-failed g c clean inside store office has any =
+    c.in_err-row.ensures.failed clean inside (store_passed c.from_residual.result _ c.from_residual.ensures.1 store) (tables_of office) (λ opened. (has opened).tables) (job_read c.args.name.customer.now c.args.name.number office)
 
-pub returns-in_err-job-in-Some-clause-no_job : goal.returns-in_err-job-in-Some-clause-no_job
-returns-in_err-job-in-Some-clause-no_job g c clean inside store office has none =
-    let early : HasCleanDisk (seen g.S.Store c.find_job.new.self) = omega (arith, clean, c.find_summary.ensures.step.survives.clean) in
-    let s = has (c.in_ok-row.ensures.step.opened early) in
+pub returns-in_err-job-in-Some-clause-failed : goal.returns-in_err-job-in-Some-clause-failed
+returns-in_err-job-in-Some-clause-failed g c clean inside store office has any =
+    failed_second _ _ _ c.find_job.ensures.step.survives c.find_summary.ensures.step.survives clean (λ early opened.
+    let old = seen g.S.Store c.args.tables.now in
+    let mid = seen g.S.Store c.find_job.new.self in
+    let s = has opened in
     let found = c.in_ok-row.ensures.found early inside (tables_of office) s.tables in
+    let on = c.in_ok-row.ensures.step.frame early inside in
     let it = row_found c.args.name.customer.now c.args.name.number office c.in_ok-row.field-0 c.in-Some.row found.1 c.in-Some.is in
-    absurd (not_absent it.0 _ it.1 none)
+    c.in_err-job-in-Some.ensures.failed it.0 it.2 clean on.inside (store_passed c.from_residual-in_err-job-in-Some.result _ c.from_residual-in_err-job-in-Some.ensures.1 store) office (λ _. still old mid office found.0 s) it.1)

@@ -8,6 +8,8 @@ use Rattle.ledger_tables.specs.Listed.{name_row}
 use Rattle.ledger_tables.specs.Steps.{seen}
 use Rattle.ledger.specs.Listed.{IsHis}
 use Rattle.ledger.specs.Standing.{named}
+use Rattle.ledger.proofs.BureauResults.{store_passed}
+use Rattle.ledger.proofs.ListFaults.{failed_second}
 use Rattle.ledger.proofs.ListLemmas.{at_row}
 use Rattle.ledger.proofs.lists.find_lines.Goals as goal
 
@@ -49,3 +51,14 @@ returns-clause-found g c clean inside office s =
           let many : length entries ≤ c.loop-row.row-index = omega (arith, c.loop-row-test.false, ap length is, length-map entries (λ (e : Entry). name_row (named e))) in
           found.1 entries is all ∙ ap (map job_line) (take_all c.loop-row.row-index entries many),
     )
+
+pub returns-in_err-line-clause-failed : goal.returns-in_err-line-clause-failed
+returns-in_err-line-clause-failed g c entries is clean inside store office has all =
+    let was = c.loop-row.invariant in
+    failed_second _ _ _ was.step.survives c.find_line.ensures.step.survives clean (λ early opened.
+    let rows = c.args.rows.now in
+    let i = c.loop-row.row-index in
+    let on = was.step.frame early inside in
+    let before = was.found early inside office (has opened) in
+    let it = at_row (λ (e : Entry). name_row (named e)) (IsHis c.args.customer.now office) entries rows i _ is all c.loop-row-test.true (get_or_default rows i _ _ c.loop-row-test.true) in
+    c.in_err-line.ensures.failed it.0 it.1 clean on.inside (store_passed c.from_residual.result _ c.from_residual.ensures.1 store) office (λ _. before.0) it.2)

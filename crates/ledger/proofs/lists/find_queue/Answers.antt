@@ -7,6 +7,8 @@ use Rattle.ledger_tables.specs.Listed.{queued_name}
 use Rattle.ledger_tables.specs.Steps.{seen}
 use Rattle.ledger.specs.Listed.{IsIts}
 use Rattle.ledger.specs.Standing.{named}
+use Rattle.ledger.proofs.BureauResults.{store_passed}
+use Rattle.ledger.proofs.ListFaults.{failed_second}
 use Rattle.ledger.proofs.ListLemmas.{at_row, passed_on}
 use Rattle.ledger.proofs.lists.find_queue.Goals as goal
 
@@ -46,3 +48,12 @@ returns-clause-found g c clean inside office s =
           let many : length entries ≤ c.loop-row.row-index = omega (arith, c.loop-row-test.false, ap length is, length-map entries (λ (e : Entry). queued_name (named e))) in
           found.1 entries is all ∙ ap (λ (es : Office). map queued_job (filter runs es)) (take_all c.loop-row.row-index entries many),
     )
+
+pub returns-in_err-queue_running-clause-failed : goal.returns-in_err-queue_running-clause-failed
+returns-in_err-queue_running-clause-failed g c entries is clean inside store office has all =
+    let was = c.loop-row.invariant in
+    failed_second _ _ _ was.step.survives c.queue_running.ensures.step.survives clean (λ early opened.
+    let on = was.step.frame early inside in
+    let before = was.found early inside office (has opened) in
+    let it = at_row (λ (e : Entry). queued_name (named e)) (IsIts office) entries c.args.rows.now c.loop-row.row-index c.row-item.result is all c.loop-row-test.true c.row-item.is in
+    c.in_err-queue_running.ensures.failed it.0 it.1 clean on.inside (store_passed c.from_residual.result _ c.from_residual.ensures.1 store) office (λ _. before.0) it.2)
