@@ -1,9 +1,7 @@
 -- Offices and the tables that stand for them.
 use Rattle.std.proofs.Common.{◌≡◌, ℕ, List, [], ◌∷◌, map, Option, Some, None, Result, Ok, Err, IfOk, Bool, true, false, refl, sym, ap, subst, ◌∙◌}
 use Rattle.std.specs.List.{AllByRecursion}
-use Rattle.std.specs.Option.{option_map, option_to_list}
-use Rattle.sqlite.specs.Order.{Row}
-use Rattle.ledger_tables.specs.Reading.{CanRead}
+use Rattle.std.specs.Option.{option_map}
 use Rattle.sqlite.specs.State.{State, IsUnchanged}
 use Rattle.ledger_tables.specs.Tables.{NamedJob, job_named}
 use Rattle.office.specs.Jobs.{Job, picture}
@@ -87,13 +85,6 @@ row_none customer number office found told is = go (job_of customer number offic
     go None at = at
     go (Some job) at = absurd (let e : None ≡ Some (job_cells job) = sym is ∙ told ∙ row_told customer number office ∙ ap (option_map job_cells) at in cc)
 
-pub row_absent : (customer : List ℕ) (number : ℕ) (office : Office) → job_of customer number office ≡ None → option_map (λ (j : NamedJob). j.cells) (job_named customer number (map named office)) ≡ None
-row_absent customer number office none = row_told customer number office ∙ ap (option_map job_cells) none
-
--- what is not there can be read
-pub absent_read : {X : Type 0} (shown : X → Row) (found : Option X) → found ≡ None → CanRead shown (option_to_list found)
-absent_read shown found none = subst (λ o. CanRead shown (option_to_list o)) (sym none) tt
-
 -- a job that is found is there
 pub not_absent : (job : Job) (found : Option Job) → found ≡ Some job → found ≡ None → ⊥
 not_absent job found is none = let e : Some job ≡ None = sym is ∙ none in cc
@@ -118,10 +109,6 @@ module _ {X : Type 0} (part : JobCells → X) where
       go : (o : Option Job) → job_of customer number office ≡ o → job_of customer number office ≡ None
       go None at = at
       go (Some job) at = absurd (let e : None ≡ Some (part (job_cells job)) = sym is ∙ part_told customer number office found (Some job) told at in cc)
-
--- the tables of an office without the job have no part of its row
-pub part_absent : {X : Type 0} (part : JobCells → X) (customer : List ℕ) (number : ℕ) (office : Office) → job_of customer number office ≡ None → option_map part (option_map (λ (j : NamedJob). j.cells) (job_named customer number (map named office))) ≡ None
-part_absent part customer number office none = ap (option_map part) (row_absent customer number office none)
 
 pub kept_is : (stretches : List Stretch) (held collected : Bool) (machine : run.State) (job : Job) → stretches ≡ job.stretches → held ≡ job.held → collected ≡ job.collected → machine ≡ without_outputs (picture job)
     → ◌≡◌ {A = Kept} (record { stretches = stretches; held = held; collected = collected; machine = machine }) (kept_alone job)

@@ -1,5 +1,5 @@
 -- the office after a command, by the name of the command's job
-use Rattle.std.specs.Prelude.{◌≡◌, ◌⊎◌, ℕ, true, Some, None, string_bytes, ⊤}
+use Rattle.std.specs.Prelude.{◌≡◌, ◌⊎◌, ℕ, true, Some, None, string_bytes}
 use Rattle.office.specs.Jobs.{Job}
 use Rattle.office.specs.Kept.{is_query}
 use Rattle.office.specs.New.{job_or_refusal}
@@ -10,6 +10,7 @@ use Rattle.office.specs.declared.commands.Contents.{Contents}
 use Rattle.office.specs.declared.commands.JobCommand.{JobCommand}
 use Rattle.office.specs.declared.replies.Reply.{Reply}
 use Rattle.ledger_tables.specs.declared.names.JobName.{JobName}
+use Rattle.ledger.specs.Listed.{AreListable}
 use Rattle.ledger.specs.Saving.{job_in}
 
 -- the office after a new job is added, and the reply: it is refused if its customer has as many
@@ -36,12 +37,12 @@ with_commanded name c office =
 abbrev pub attempted_as : JobName → JobCommand → Office → ℕ
 attempted_as name c office = attempted_of c (job_in name office)
 
--- the command writes nothing: a list, a query of a job, a job that is handed in again, or a command
--- on a job that is not there
+-- the command writes nothing: a query of a job, a job that is handed in again, a command on a job
+-- that is not there, or a list of jobs whose names can be read
 abbrev pub OnlyReads : Command → Office → Type 0
 OnlyReads (Submit customer number contents) office =
     (job : Job) × (job_of (string_bytes customer) number office ≡ Some job)
 OnlyReads (OnJob customer number c) office =
     (is_query c ≡ true) ⊎ (job_of (string_bytes customer) number office ≡ None)
-OnlyReads (Jobs customer) office = ⊤
-OnlyReads Queue office = ⊤
+OnlyReads (Jobs customer) office = AreListable office
+OnlyReads Queue office = AreListable office
