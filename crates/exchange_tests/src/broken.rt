@@ -87,3 +87,25 @@ fn slices_of_scripts_and_of_requests_are_counted(rt: HostRuntime) -> Result<(), 
     assert!(rt; told.ends_with("\n2034 ticks, broken false"));
     Ok(())
 }
+
+/// A job that sets marks by two instructions and then punches until the punch is full. The
+/// attempt that meets the full punch is one tick, and the slice that is refused is none.
+#[test]
+fn the_attempt_at_a_full_punch_is_counted(rt: HostRuntime) -> Result<(), Fail> {
+    let alloc = rt.alloc();
+    let script = format!(in alloc;
+        "submit ACME 9 object 1400 - 1\n{:80}\n{}",
+        ",008015,0150194015",
+        "slice ACME 9 2000\n".repeat(alloc, 7)?
+    )?;
+    assert_eq!(rt;
+        told_by(alloc, "", &[script_of(script.as_str().as_bytes())])?,
+        format!(in alloc;
+            "Scripted {{ acknowledged: 8, sent: 133, refused: true, ended: Whole }}: \
+            taken 1\n{}ran 2 check PUNCH FULL at 15\nrefused 23\n, 0 left\n\
+            10003 ticks, broken false",
+            "ran 2000 running\n".repeat(alloc, 5)?
+        )?
+    );
+    Ok(())
+}
