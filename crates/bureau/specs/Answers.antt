@@ -1,13 +1,11 @@
 -- what the program does by its words
-use Rattle.std.specs.Prelude.{◌≡◌, ◌⊎◌, ℕ, List, ◌++◌, codes}
+use Rattle.std.specs.Prelude.{◌≡◌, ◌⊎◌, ℕ, List}
 use Rattle.std.specs.Io.KnownBytes.{Appends, Keeps}
 use Rattle.counter.specs.Assembling.{Assembles}
 use Rattle.counter.specs.Runs.{Tells}
 use Rattle.command_line.specs.Tasks.{IsMisuse, Wants}
-use Rattle.command_line.specs.Printed.{IsTextShown, fault_words, misuse_message, misuse_status, version_text}
-use Rattle.command_line.specs.declared.faults.Fault.TheVariants.{Device}
+use Rattle.command_line.specs.Printed.{IsTextShown, misuse_message, misuse_status, version_text}
 use Rattle.command_line.specs.declared.statuses.Status.{Status}
-use Rattle.command_line.specs.declared.statuses.Status.TheVariants.{NotDone}
 use Rattle.command_line.specs.declared.tasks.Misuse.{Misuse}
 use Rattle.command_line.specs.declared.tasks.Task.{Task}
 use Rattle.command_line.specs.declared.tasks.Task.TheVariants as task
@@ -19,21 +17,14 @@ use Rattle.service.specs.Outcomes.{HasShown, status_of}
 use Rattle.service.specs.Work.{Bytes, HasApplied}
 use Rattle.service.specs.declared.outcomes.Outcome.{Outcome}
 
--- a text was assembled, and its bytes for OUT were written or that failed
-pub record HasAssembledText (status : Status) (output_old output_new errors_old errors_new : Bytes)
+-- a text was assembled, or kept from it by a fault, and its bytes for OUT were written or that failed
+pub record HasAssembled (status : Status) (output_old output_new errors_old errors_new : Bytes)
     : Type 0 where
   pub text : List ℕ
   pub answer : Assembled
   pub between : Bytes
   pub assembles : Assembles text answer output_old output_new errors_old between
   pub put : IsPut answer.status status between errors_new
-
--- the source's text was assembled, or its file could not be opened
-abbrev pub HasAssembled : Status → Bytes → Bytes → Bytes → Bytes → Type 0
-HasAssembled status output_old output_new errors_old errors_new =
-    ((status ≡ NotDone) × Keeps output_old output_new
-    × Appends errors_old errors_new (fault_words Device ++ codes "\n"))
-    ⊎ HasAssembledText status output_old output_new errors_old errors_new
 
 -- a row for a bureau's file had this exit status, and its outcome was printed
 pub record HasEnded (status : Status) (errors_old errors_new : Bytes) : Type 0 where

@@ -15,13 +15,11 @@ ghost use Rattle.command_line.specs.declared.row_names.RowName.{RowName};
 ghost use Rattle.bureau.specs.Answers.{HasAnswered, HasAssembled, HasEnded, HasEndedMigration, HasEndedScript};
 
 use command_line::{
-    Fault, Misuse, Status, Task, Unfailing, exit_code, show_help, show_version, task_of,
-    tell_fault, tell_misuse,
+    Misuse, Status, Task, Unfailing, exit_code, show_help, show_version, task_of, tell_misuse,
 };
-use counter::{assemble_deck, run_input, write_out};
+use counter::{assemble_file, run_input, write_out};
 use service::{Outcome, apply, export, init, migrate, serve, show_outcome, tell_migrated};
 use sqlite::Unknown;
-use std::fs::File;
 use std::io::Write;
 use std::process::ExitCode;
 use std::{env, io};
@@ -44,10 +42,7 @@ fn assemble<W: Write, E: Write>(
         (W.contents output.old) (W.contents output.new)
         (E.contents errors.old) (E.contents errors.new)) }
 {
-    let Ok(file) = File::open(rt, source) else {
-        return tell_fault(errors, Fault::Device);
-    };
-    let answer = assemble_deck(rt.alloc(), file, output, errors)?;
+    let answer = assemble_file(rt, source, output, errors)?;
     write_out(rt, out, answer, errors)
 }
 

@@ -25,7 +25,7 @@ mod source_faults;
 mod statuses;
 
 pub use assembling::assemble_deck;
-pub use deck_files::run_input;
+pub use deck_files::{assemble_file, run_input};
 pub use out_files::write_out;
 pub use replacing::put_file;
 pub use running::{no_deck_is_cut_off, run_deck};
