@@ -1,6 +1,5 @@
 -- the head of an answer is read as it was written
-use Rattle.std.proofs.Common.{◌≡◌, ◌∙◌, ℕ, ◌<◌, ◌≤◌, ◌^◌, ◌==◌, ◌&&◌, Bool, true, false, not, List, [], ◌∷◌, ◌++◌, length, map, reverse, Some, None, codes, decimal, refl, sym, ap, subst, arith, append_assoc, inl, inr}
-use Rattle.std.specs.Prelude.{Option, IfSome}
+use Rattle.std.proofs.Common.{◌≡◌, ◌∙◌, ℕ, ◌<◌, ◌^◌, ◌==◌, ◌&&◌, Bool, true, false, not, List, [], ◌∷◌, ◌++◌, length, map, reverse, Some, codes, decimal, refl, sym, ap, subst, arith, append_assoc, inl, inr}
 use Rattle.std.specs.List.{list_all}
 use Rattle.std.specs.Fmt.{digits, digit_glyph}
 use Rattle.std.specs.Char.{is_ascii_digit}
@@ -12,9 +11,9 @@ use Rattle.std.proofs.lemmas.List.Elements.{All-cons, All-nil}
 use Rattle.bcd.proofs.Tables.{at_each}
 use Rattle.httparse.specs.Grammar.{Field, IsField, IsResponseHead, ReadsResponse, ResponseHead, crlf, is_ows, is_token_byte, is_value_byte, print_response, skip_ows, status_code, trim_ows}
 use Rattle.httparse.specs.Spans.{name_and_value}
-use Rattle.httparse.proofs.GrammarLemmas.{cons-append, print_response-append, response_unique}
+use Rattle.httparse.proofs.GrammarLemmas.{print_response-append}
 use Rattle.httparse.proofs.TrimLemmas.{AllPass-reverse, skip_ows_no, trim_ows_space}
-use Rattle.http_replies.specs.Replies.{HasPhrase, answer_bytes, head_bytes, phrase_of}
+use Rattle.http_replies.specs.Replies.{HasPhrase, answer_bytes, phrase_of}
 use Rattle.queue_rounds.specs.Responses.{IsLengthField, IsNumber, StatesLength}
 use Rattle.bureau_laws.proofs.HeardDigits.{decimal_is_text, decimal_passes}
 

@@ -1,5 +1,5 @@
 -- the text of a body is read as the data that was written
-use Rattle.std.proofs.Common.{◌≡◌, ◌∙◌, ℕ, suc, ◌<◌, ◌≤◌, ◌^◌, ◌&&◌, Bool, true, false, List, [], ◌∷◌, ◌++◌, Option, Some, None, All, codes, decimal, map, option_map, refl, sym, ap, ap₂, subst, arith, append-nil, le-leb, length, ◌==◌, ◌||◌}
+use Rattle.std.proofs.Common.{◌≡◌, ◌∙◌, ℕ, ◌<◌, ◌≤◌, ◌^◌, ◌&&◌, Bool, true, false, List, [], ◌∷◌, ◌++◌, Option, Some, All, codes, map, refl, sym, ap, subst, arith, append-nil, length, ◌==◌, ◌||◌}
 use Rattle.std.specs.Prelude.{option_and_then, nat_le, nat_lt}
 use Rattle.std.specs.List.{list_all, list_any}
 use Rattle.std.specs.Str.{IsUtf8}
@@ -17,20 +17,20 @@ use Rattle.office.specs.Queued.{QueuedJob}
 use Rattle.office.specs.declared.summaries.Summary.{Summary}
 use Rattle.json.specs.Json as json
 use Rattle.json.specs.Lex.{tokens}
-use Rattle.json.specs.Print.{quoted, token_text}
+use Rattle.json.specs.Print.{quoted}
 use Rattle.json.specs.Token.{Token}
 use Rattle.json.specs.Tree as tree
 use Rattle.json.proofs.Printed.Decimals.{IsNumber-decimal}
 use Rattle.json.proofs.Printed.Tokens.{tokens-print}
 use Rattle.json.proofs.Printed.Trees.{ArePrintable-json_tokens, value-json_tokens}
 use Rattle.json.proofs.Printed.Utf8.{are_ascii, IsUtf8-are_ascii, IsUtf8-boolean, IsUtf8-quoted}
-use Rattle.serde_json.specs.Data.{Num, unsigned, negative, float, Data, null, boolean, number, string, array, object, Items, no_items, item, Members, no_members, member}
-use Rattle.serde_json.specs.Read.{number_of, of_items, of_json, read}
+use Rattle.serde_json.specs.Data.{unsigned, negative, float, Data, null, boolean, number, string, array, object, Items, no_items, item, Members, no_members, member}
+use Rattle.serde_json.specs.Read.{of_items, of_json, read}
 use Rattle.serde_json.specs.View.{items_of}
 use Rattle.serde_json.specs.Written.{comma_if, compact_text, items_outline, items_text, members_outline, members_text, outline}
 use Rattle.serde_json.proofs.Numbers.{number_of-decimal}
 use Rattle.serde_json.proofs.Texts.{print-outline}
-use Rattle.http_replies.specs.Values.{queue_data, queued_data, ran_data, refusal_data, summary_data}
+use Rattle.http_replies.specs.Values.{count, queue_data, queued_data, ran_data, refusal_data, summary_data}
 use Rattle.bureau_laws.specs.Hearing.{HasCounts, IsJob}
 use Rattle.bureau_laws.proofs.HeardDigits.{and_is, decimal_is_text}
 
@@ -145,6 +145,12 @@ ran_is_plain executed s fits = (ascii _ refl, fits, (ascii _ refl, ascii _ refl,
 
 pub ran_read : (executed : ℕ) (s : StandingAt) → executed < 2 ^ 64 → read (compact_text (ran_data executed s)) ≡ Some (ran_data executed s)
 ran_read executed s fits = read_is (ran_data executed s) (ran_is_plain executed s fits) (omega arith) ∙ rw (number_of-decimal executed fits) refl
+
+pub count_is_plain : (name : List ℕ) (n : ℕ) → are_ascii name ≡ true → n < 2 ^ 64 → IsPlain (object (count name n no_members))
+count_is_plain name n is fits = (ascii name is, fits, tt)
+
+pub status_read : (n : ℕ) → n < 2 ^ 64 → read (compact_text (object (count (codes "status") n no_members))) ≡ Some (object (count (codes "status") n no_members))
+status_read n fits = read_is (object (count (codes "status") n no_members)) (count_is_plain (codes "status") n refl fits) (omega arith) ∙ rw (number_of-decimal n fits) refl
 
 pub refusal_is_plain : (n : ℕ) → n < 2 ^ 64 → IsPlain (refusal_data n)
 refusal_is_plain n fits = (ascii _ refl, fits, tt)

@@ -1,14 +1,13 @@
 -- what the counter writes is heard as it is
-use Rattle.std.proofs.Common.{◌≡◌, ◌≢◌, ◌∙◌, ℕ, ◌<◌, ◌≤◌, ◌^◌, ◌&&◌, ◌⊎◌, Bool, true, false, List, [], ◌∷◌, ◌++◌, decimal, Option, Some, None, All, codes, length, map, refl, sym, ap, subst, arith, le-leb, inl, inr}
+use Rattle.std.proofs.Common.{append_assoc, Bool, false, if◌then◌else◌, ◌==◌, ◌≡◌, ◌≢◌, ◌∙◌, ℕ, ◌<◌, ◌^◌, true, List, [], ◌∷◌, ◌++◌, decimal, Option, Some, None, All, codes, length, map, refl, sym, ap, subst, arith, le-leb, inl, inr}
 use Rattle.std.specs.Prelude.{option_and_then, string_bytes}
 use Rattle.std.specs.Fmt.{digits}
 use Rattle.std.specs.Str.{IsUtf8}
 use Rattle.std.proofs.lemmas.List.Elements.{All-head, All-tail}
-use Rattle.autocoder_layout.specs.declared.card_faults.CardFault.{CardFault}
 use Rattle.http_replies.specs.Bodies.{body_of, refusal_body, summary_body}
-use Rattle.http_replies.specs.Fixed.{fault_bytes, fault_number, fault_status}
-use Rattle.http_replies.specs.Replies.{HasPhrase, answer_bytes, content_type_of, refusal_status, reply_bytes, status_of}
-use Rattle.http_replies.specs.Values.{queue_data, queued_data, ran_data, refusal_data, summary_data}
+use Rattle.http_replies.specs.Fixed.{fault_bytes, fault_number, fault_status, refusing_status}
+use Rattle.http_replies.specs.Replies.{HasPhrase, answer_bytes, content_type_of, refusal_status, refused_bytes, reply_bytes, status_of}
+use Rattle.http_replies.specs.Values.{count, queue_data, queued_data, ran_data, refusal_data, summary_data}
 use Rattle.http_replies.specs.declared.fixed.Fault.{Fault}
 use Rattle.http_replies.specs.declared.fixed.Fault.TheVariants as fault
 use Rattle.http_replies.proofs.BodyTexts.{queue_is, ran_is, refusal_is, summary_is}
@@ -25,20 +24,21 @@ use Rattle.office.specs.declared.replies.Reply.TheVariants as told
 use Rattle.office.specs.declared.summaries.Summary.{Summary}
 use Rattle.queue_rounds.specs.Answers.{Stands, Tells, name_in, names_in, queue_in, ran_in, refusal_in, standing_in}
 use Rattle.queue_rounds.specs.Names.{Name, name_of}
-use Rattle.queue_rounds.specs.Replies.{IsQueueHeard, IsQueueReplied, IsQueueTold, IsRanTold, IsRefusalTold, IsSliceHeard, IsSliceReplied, is_failure}
+use Rattle.queue_rounds.specs.Replies.{IsQueueHeard, IsQueueTold, IsRanTold, IsRefusalTold, IsSliceHeard, is_failure}
 use Rattle.queue_rounds.specs.Responses.{IsReplyIn, IsResponse}
 use Rattle.queue_rounds.specs.declared.replies.Heard.{Heard}
 use Rattle.queue_rounds.specs.declared.replies.Heard.TheVariants as heard
 use Rattle.queue_rounds.specs.declared.replies.Passed.TheVariants as passed
 use Rattle.queue_rounds.specs.declared.replies.Reply.{Reply}
 use Rattle.queue_rounds.specs.declared.replies.Reply.TheVariants as reply
-use Rattle.serde_json.specs.Data.{Data}
+use Rattle.serde_json.specs.Data.{Data, no_members, object}
 use Rattle.serde_json.specs.Read.{read}
 use Rattle.serde_json.specs.View.{items_of}
 use Rattle.serde_json.specs.Written.{compact_text}
+use Rattle.serde_json.proofs.OnLiterals.{serde_json_on_literals}
 use Rattle.bureau_laws.specs.Hearing.{HasBody, HasCounts, HearsQueue, HearsSlice, HearsStanding, IsAnswer, IsJob, IsListed, IsOfJob, IsRan, IsStandingHeard, name_told, stands_told}
 use Rattle.bureau_laws.proofs.HeardHeads.{IsType, code_is, head_of, reads, states_it, states_size}
-use Rattle.bureau_laws.proofs.HeardTexts.{is_text, number_is_small, queue_is_plain, queue_read, ran_is_plain, ran_read, refusal_is_plain, refusal_read, summary_is_plain, summary_read}
+use Rattle.bureau_laws.proofs.HeardTexts.{count_is_plain, is_text, number_is_small, queue_is_plain, queue_read, ran_is_plain, ran_read, refusal_is_plain, refusal_read, status_read, summary_is_plain, summary_read}
 
 -- ---- an answer, whatever its body says
 
@@ -290,3 +290,72 @@ standing_heard job (reply.Replied status body) it has is h = standing_tells job 
 
 pub hears_standing : (job : Summary) (it : Option Stands) → HasCounts job → HasBody (told.Standing job) → HearsStanding (reply_bytes (told.Standing job)) it → it ≡ Some (stands_told job)
 hears_standing job it has fits h = standing_heard job h.0 it has (reply_answered (told.Standing job) h.0 fits h.1) h.2
+
+-- ---- a request that is refused by its status alone
+
+abbrev status_data : ℕ → Data
+status_data status = object (count (codes "status") status no_members)
+
+abbrev status_body : ℕ → List ℕ
+status_body status = codes "{\"status\":" ++ decimal status ++ codes "}"
+
+status_text : (status : ℕ) → compact_text (status_data status) ≡ status_body status
+unfolding serde_json_on_literals
+status_text status = simp append_assoc
+
+record IsForeign (status : ℕ) : Type 0 where
+  phrase : HasPhrase status
+  fails : is_failure status ≡ false
+  other : status ≢ 200
+  small : status < 1000
+  fits : length (status_body status) < 2 ^ 64
+
+foreign : (a b c d e : Bool) → IsForeign (if a then 404 else if b then 405 else if c then 411 else if d then 413 else if e then 431 else 400)
+unfolding digits
+foreign true b c d e = record { phrase = inr (inr (inl refl)); fails = refl; other = other_than 404 (omega arith); small = omega arith; fits = omega arith }
+foreign false true c d e = record { phrase = inr (inr (inr (inl refl))); fails = refl; other = other_than 405 (omega arith); small = omega arith; fits = omega arith }
+foreign false false true d e = record { phrase = inr (inr (inr (inr (inr (inl refl))))); fails = refl; other = other_than 411 (omega arith); small = omega arith; fits = omega arith }
+foreign false false false true e = record { phrase = inr (inr (inr (inr (inr (inr (inl refl)))))); fails = refl; other = other_than 413 (omega arith); small = omega arith; fits = omega arith }
+foreign false false false false true = record { phrase = inr (inr (inr (inr (inr (inr (inr (inl refl))))))); fails = refl; other = other_than 431 (omega arith); small = omega arith; fits = omega arith }
+foreign false false false false false = record { phrase = inr (inl refl); fails = refl; other = other_than 400 (omega arith); small = omega arith; fits = omega arith }
+
+refusing : (status : ℕ) → IsForeign (refusing_status status)
+refusing status = foreign (status == 404) (status == 405) (status == 411) (status == 413) (status == 431)
+
+foreign_answered : (status : ℕ) (answer : Reply) → IsForeign status → IsReplyIn (refused_bytes status) answer → IsAnswer status (status_body status) answer
+foreign_answered status answer is got = answered status (codes "application/json") (status_body status) is.phrase refl is.fits answer got
+
+foreign_tells : (status : ℕ) (it : Option ℕ) → status < 1000 → Tells refusal_in (status_body status) it → it ≡ None
+foreign_tells status it small t =
+    let d = status_data status in
+    tells refusal_in d (status_body status) it (status_text status) (is_text d (count_is_plain (codes "status") status refl (omega arith))) (status_read status (omega arith)) t
+
+foreign_told : (status : ℕ) (it : Heard) → status < 1000 → IsRefusalTold (status_body status) it → it ≡ heard.Foreign
+foreign_told status (heard.Listed found) small t = absurd t
+foreign_told status (heard.Ran ran) small t = absurd t
+foreign_told status (heard.Passed (passed.Refused number)) small t = none_is_not (sym (foreign_tells status (Some number) small t))
+foreign_told status (heard.Passed (passed.Failed code)) small t = absurd t
+foreign_told status (heard.Passed passed.Lost) small t = absurd t
+foreign_told status heard.Nothing small t = absurd t
+foreign_told status heard.Foreign small t = refl
+
+foreign_slice : (status : ℕ) (answer : Reply) (it : Heard) → IsForeign status → IsAnswer status (status_body status) answer → IsSliceHeard answer it → it ≡ heard.Foreign
+foreign_slice status reply.Unsent it how is h = absurd is
+foreign_slice status reply.Lost it how is h = absurd is
+foreign_slice status (reply.Replied code body) it how is h =
+    foreign_told status it how.small (subst (λ (b : List ℕ). IsRefusalTold b it) is.1 ((h.passed (λ e. how.other (sym is.0 ∙ e))).told (ap is_failure is.0 ∙ how.fails)))
+
+pub hears_foreign_slice : (status : ℕ) (it : Heard) → HearsSlice (refused_bytes (refusing_status status)) it → it ≡ heard.Foreign
+hears_foreign_slice status it h =
+    let how = refusing status in
+    foreign_slice (refusing_status status) h.0 it how (foreign_answered (refusing_status status) h.0 how h.1) h.2
+
+foreign_queue : (status : ℕ) (answer : Reply) (it : Heard) → IsForeign status → IsAnswer status (status_body status) answer → IsQueueHeard answer it → it ≡ heard.Foreign
+foreign_queue status reply.Unsent it how is h = absurd is
+foreign_queue status reply.Lost it how is h = absurd is
+foreign_queue status (reply.Replied code body) it how is h = h.other (ap is_failure is.0 ∙ how.fails) (λ e. how.other (sym is.0 ∙ e))
+
+pub hears_foreign_queue : (status : ℕ) (it : Heard) → HearsQueue (refused_bytes (refusing_status status)) it → it ≡ heard.Foreign
+hears_foreign_queue status it h =
+    let how = refusing status in
+    foreign_queue (refusing_status status) h.0 it how (foreign_answered (refusing_status status) h.0 how h.1) h.2

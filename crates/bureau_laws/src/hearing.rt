@@ -2,8 +2,8 @@
 
 ghost use Rattle.std.specs.Prelude.{◌≡◌, ◌<◌, ◌^◌, ℕ, All, List, Option, Some};
 ghost use Rattle.http_replies.specs.Bodies.{body_of};
-ghost use Rattle.http_replies.specs.Fixed.{fault_bytes, fault_status};
-ghost use Rattle.http_replies.specs.Replies.{reply_bytes, status_of};
+ghost use Rattle.http_replies.specs.Fixed.{fault_bytes, fault_status, refusing_status};
+ghost use Rattle.http_replies.specs.Replies.{refused_bytes, reply_bytes, status_of};
 ghost use Rattle.http_replies.specs.declared.fixed.Fault.{Fault};
 ghost use Rattle.machine.specs.declared.standings.StandingAt.{StandingAt};
 ghost use Rattle.office.specs.Numbers.{refusal_number};
@@ -24,7 +24,8 @@ ghost use Rattle.bureau_laws.specs.Hearing.{HasBody, HasCounts, HearsQueue, Hear
 /// are a response with the reply's status and body, and are read as no other, and never as none.
 /// The operator hears of them the queue's jobs in their order; of a slice that ran, how many
 /// instructions it executed and how its job stands; of one that was refused, the refusal's number;
-/// of a job, its standing, flags and counts; and of a fault of the bureau itself, that it failed.
+/// of a job, its standing, flags and counts; of a fault of the bureau itself, that it failed; and of
+/// a request that was refused by its status alone, nothing that a bureau says of a job.
 pub fn replies_are_heard()
     ensures response { (r : office.Reply) → HasBody r →
         IsResponse (reply_bytes r) (status_of r) (body_of r) }
@@ -43,6 +44,10 @@ pub fn replies_are_heard()
         it ≡ heard.Passed (passed.Failed (fault_status fault)) }
     ensures no_queue { (fault : Fault) (it : Heard) → HearsQueue (fault_bytes fault) it →
         it ≡ heard.Nothing }
+    ensures foreign { (status : ℕ) (it : Heard) →
+        HearsSlice (refused_bytes (refusing_status status)) it → it ≡ heard.Foreign }
+    ensures foreign_queue { (status : ℕ) (it : Heard) →
+        HearsQueue (refused_bytes (refusing_status status)) it → it ≡ heard.Foreign }
     ensures standing { (job : Summary) (it : Option Stands) → HasCounts job →
         HasBody (told.Standing job) → HearsStanding (reply_bytes (told.Standing job)) it →
         it ≡ Some (stands_told job) }
