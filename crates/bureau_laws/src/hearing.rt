@@ -24,8 +24,8 @@ ghost use Rattle.bureau_laws.specs.Hearing.{HasBody, HasCounts, HearsQueue, Hear
 /// are a response with the reply's status and body, and are read as no other, and never as none.
 /// The operator hears of them the queue's jobs in their order; of a slice that ran, how many
 /// instructions it executed and how its job stands; of one that was refused, the refusal's number;
-/// of a job, its standing, flags and counts; of a fault of the bureau itself, that it failed; and of
-/// a request that was refused by its status alone, nothing that a bureau says of a job.
+/// of a job, its standing, flags and counts; and of a fault of the bureau itself, that it failed.
+/// A request that was refused by its status alone is heard as nothing that a bureau says.
 pub fn replies_are_heard()
     ensures response { (r : office.Reply) → HasBody r →
         IsResponse (reply_bytes r) (status_of r) (body_of r) }
