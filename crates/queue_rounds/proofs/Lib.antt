@@ -3,3 +3,4 @@ mod TurnLemmas
 mod EndLemmas
 mod ChangeLemmas
 mod LimitLemmas
+mod ResponseLemmas

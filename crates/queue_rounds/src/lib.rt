@@ -2,8 +2,9 @@
 //!
 //! The operator asks a bureau that is being served for its queue, gives each job of it one slice,
 //! and asks again. [`read_reply`] reads a response by `httparse`, and [`hear_queue`] and
-//! [`hear_slice`] say what a reply is, byte for byte. [`Rounds`] says what is asked for next and when there is a pause or an end: a state machine whose requests
-//! are a function of the replies (`specs/Rounds.antt`). Its laws:
+//! [`hear_slice`] say what a reply is, byte for byte. [`Rounds`] says what is asked for next and
+//! when there is a pause or an end: a state machine whose requests are a function of the replies
+//! (`specs/Rounds.antt`). Its laws:
 //! each job that a round lists has exactly one slice of it ([`each_job_of_a_round_has_one_slice`]);
 //! no job has more than one slice more than another ([`turns_are_fair`]); work in which no slice
 //! runs pauses, and ends after ten rounds ([`work_in_which_no_slice_runs_ends`]); and no round is

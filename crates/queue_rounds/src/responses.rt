@@ -1,35 +1,50 @@
 //! The response that a bureau sends, read from its bytes.
 
-ghost use Rattle.std.specs.Prelude.{◌≡◌, ◌≤◌, IfOk, length};
-ghost use Rattle.httparse.specs.Grammar.{ReadsResponse, ResponseHead};
-ghost use Rattle.queue_rounds.specs.Responses.{IsReplyIn};
+ghost use Rattle.std.specs.Prelude.{◌≡◌, ◌≤◌, All, IfOk, length, map};
+ghost use Rattle.std.specs.Bool.{MatchBool};
+ghost use Rattle.httparse.specs.Spans.{IsHeaderWithin, header_bytes};
+ghost use Rattle.queue_rounds.specs.Responses.{IsCut, IsNumberIn, IsReplyIn, IsWhole, StatesLength};
 
 use crate::replies::Reply;
 use httparse::Status;
-use httparse::spans::{EMPTY_HEADER_SPAN, HeaderSpan, Span, parse_response};
+use httparse::spans::{EMPTY_HEADER_SPAN, HeaderSpan, parse_response};
 use std::alloc::{AllocError, Global};
 
 /// The most header fields of a response that are read; a bureau sends three.
 const MOST_FIELDS: usize = 64;
 
-/// The bytes of a span, if they are there.
-fn bytes_at(bytes: &[u8], span: Span) -> Option<&[u8]> {
-    bytes.get(span.start..span.end)
+/// The number that a text is, if it is one.
+fn number_in(text: &[u8]) -> Option<usize>
+    ensures { IsNumberIn text.now result }
+{
+    let Ok(text) = str::from_utf8(text) else {
+        return None;
+    };
+    match text.parse::<usize>() {
+        Ok(number) => Some(number),
+        Err(_) => None,
+    }
 }
 
 /// The length that a head states for its body, if it states one.
-fn stated_length(bytes: &[u8], fields: &[HeaderSpan]) -> Option<usize> {
+fn stated_length(bytes: &[u8], fields: &[HeaderSpan]) -> Option<usize>
+    requires { All (IsHeaderWithin (length bytes.now)) fields.now }
+    ensures { StatesLength (map (header_bytes bytes.now) fields.now) result }
+{
     for field in fields {
-        if bytes_at(bytes, field.name)?.eq_ignore_ascii_case(b"content-length") {
-            let value = str::from_utf8(bytes_at(bytes, field.value)?).ok()?;
-            return value.parse::<usize>().ok();
+        if field.name.of(bytes).eq_ignore_ascii_case(b"content-length") {
+            return number_in(field.value.of(bytes));
         }
     }
     None
 }
 
 /// Whether a body is shorter than its head states: it was cut off.
-fn is_cut(bytes: &[u8], fields: &[HeaderSpan], body: &[u8]) -> bool {
+fn is_cut(bytes: &[u8], fields: &[HeaderSpan], body: &[u8]) -> bool
+    requires { All (IsHeaderWithin (length bytes.now)) fields.now }
+    ensures { MatchBool result (IsCut (map (header_bytes bytes.now) fields.now) body.now)
+        (IsWhole (map (header_bytes bytes.now) fields.now) body.now) }
+{
     match stated_length(bytes, fields) {
         Some(length) => body.len() < length,
         None => false,
@@ -37,8 +52,8 @@ fn is_cut(bytes: &[u8], fields: &[HeaderSpan], body: &[u8]) -> bool {
 }
 
 /// The reply that the bytes of a connection are: the status and the body of the response that they
-/// begin with. Bytes that begin with no response of HTTP/1.1, or with one that was cut off, answer
-/// nothing. Fails only if there is no memory.
+/// begin with. Bytes that begin with no response of HTTP/1.1, with one of more than 64 header
+/// fields, or with one that was cut off, answer nothing. Fails only if there is no memory.
 pub fn read_reply(alloc: Global, bytes: &[u8]) -> Result<Reply, AllocError>
     ensures { IfOk result (IsReplyIn bytes.now) }
 {
@@ -46,8 +61,11 @@ pub fn read_reply(alloc: Global, bytes: &[u8]) -> Result<Reply, AllocError>
     let Ok(Status::Complete(head)) = parse_response(bytes, &mut fields) else {
         return Ok(Reply::Lost);
     };
+    if head.version != 1 {
+        return Ok(Reply::Lost);
+    }
     let body = &bytes[head.len..];
-    if head.version != 1 || is_cut(bytes, &fields[..head.headers], body) {
+    if is_cut(bytes, &fields[..head.headers], body) {
         return Ok(Reply::Lost);
     }
     Ok(Reply::Replied {
