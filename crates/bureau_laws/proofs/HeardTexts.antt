@@ -160,7 +160,8 @@ refusal_read n fits = read_is (refusal_data n) (refusal_is_plain n fits) (omega 
 
 pub summary_is_plain : (job : Summary) → HasCounts job → IsPlain (summary_data job)
 summary_is_plain job has = (
-  ascii _ refl, omega (arith, has.cards),
+  ascii _ refl,
+  omega (arith, has.cards),
   (ascii _ refl, tt, (ascii _ refl, omega (arith, has.granted), (ascii _ refl, tt, (ascii _ refl, omega (arith, has.lines), (ascii _ refl, ascii _ refl, (ascii _ refl, words_are_text job.standing, tt)))))),
 )
 
