@@ -17,7 +17,8 @@ use Rattle.service.specs.Outcomes.{HasShown, status_of}
 use Rattle.service.specs.Work.{Bytes, HasApplied}
 use Rattle.service.specs.declared.outcomes.Outcome.{Outcome}
 
--- a text was assembled, or kept from it by a fault, and its bytes for OUT were written or that failed
+-- the assembly of a text ended, or a fault kept it from being read, and its bytes for OUT were
+-- written or that failed
 pub record HasAssembled (status : Status) (output_old output_new errors_old errors_new : Bytes)
     : Type 0 where
   pub text : List ℕ

@@ -37,8 +37,8 @@ pub fn run_input<W: Write, E: Write>(
     }
 }
 
-/// Assembles the deck of the source in a file, as `assemble_deck` does. If the file cannot be opened,
-/// the fault is printed: want of memory, or a device. Fails only if `errors` itself fails.
+/// Assembles the deck of the source in a file, as `assemble_deck` does. If the file cannot be
+/// opened, the fault is printed: want of memory, or a device. Fails only if `errors` itself fails.
 pub fn assemble_file<W: Write, E: Write>(
     rt: &HostRuntime,
     source: &str,
