@@ -41,9 +41,9 @@ module _ {S : Type 0} (g : Ghosts S) (old new : Held S) where
   KeepsOffice result = HasCleanDisk (state g new) → IsErrOf result NoMemory → (office : Office)
       → Stands (state g old) office → Stands (state g new) office
 
-  -- if the tables represented an office that meets the premise, fault 2 came only where the database
-  -- failed, or where the store keeps no last error, or its last one is want of memory: as a commit
-  -- leaves it that had none
+  -- if the tables represented an office that meets the premise, fault 2 came only where the
+  -- database failed, or where the store keeps no last error, or its last one is want of memory: as
+  -- a commit leaves it that had none
   abbrev pub FailsToRead : Result Reply Fault → (Office → Type 0) → Type 0
   FailsToRead result Premise = HasCleanDisk (state g new) → IsErrOf result Store
       → (office : Office) → Stands (state g old) office → Premise office
