@@ -1,12 +1,13 @@
 -- what the program does by its words
-use Rattle.std.specs.Prelude.{◌≡◌, ◌⊎◌, ℕ, List}
+use Rattle.std.specs.Prelude.{◌≡◌, ◌⊎◌, ℕ, List, codes}
 use Rattle.std.specs.Io.KnownBytes.{Appends, Keeps}
 use Rattle.counter.specs.Assembling.{Assembles}
 use Rattle.counter.specs.Runs.{Tells}
-use Rattle.command_line.specs.Tasks.{IsMisuse, Wants}
-use Rattle.command_line.specs.Printed.{IsTextShown, misuse_message, misuse_status, version_text}
+use Rattle.command_line.specs.Tasks.{IsMistake, Wants}
+use Rattle.command_line.specs.Mistakes.{mistake_message, mistake_status}
+use Rattle.command_line.specs.Printed.{IsTextShown, version_text}
 use Rattle.command_line.specs.declared.statuses.Status.{Status}
-use Rattle.command_line.specs.declared.tasks.Misuse.{Misuse}
+use Rattle.command_line.specs.declared.mistakes.Mistake.{Mistake}
 use Rattle.command_line.specs.declared.tasks.Task.{Task}
 use Rattle.command_line.specs.declared.tasks.Task.TheVariants as task
 use Rattle.counter.specs.declared.Assembled.{Assembled}
@@ -75,17 +76,17 @@ pub record HasDoneTask (words : List (List ℕ)) (status : Status)
   pub asked : Wants words it
   pub done : HasDone it status output_old output_new errors_old errors_new
 
--- the misuse in the words was printed
-pub record HasToldMisuse (words : List (List ℕ)) (status : Status)
+-- what is wrong with the words was printed
+pub record HasToldMistake (words : List (List ℕ)) (status : Status)
     (output_old output_new errors_old errors_new : Bytes) : Type 0 where
-  pub misuse : Misuse
-  pub is : IsMisuse words misuse
-  pub status_is : status ≡ misuse_status misuse
+  pub mistake : Mistake
+  pub is : IsMistake words mistake
+  pub status_is : status ≡ mistake_status mistake
   pub kept : Keeps output_old output_new
-  pub told : Appends errors_old errors_new (misuse_message misuse)
+  pub told : Appends errors_old errors_new (mistake_message (codes "bureau") mistake)
 
--- the task that the words ask for was done, or the misuse in them was printed
+-- the task that the words ask for was done, or what is wrong with them was printed
 abbrev pub HasAnswered : List (List ℕ) → Status → Bytes → Bytes → Bytes → Bytes → Type 0
 HasAnswered words status output_old output_new errors_old errors_new =
     HasDoneTask words status output_old output_new errors_old errors_new
-    ⊎ HasToldMisuse words status output_old output_new errors_old errors_new
+    ⊎ HasToldMistake words status output_old output_new errors_old errors_new

@@ -9,13 +9,14 @@
 
 ghost use Rattle.std.specs.Prelude.{Option, IfOk};
 ghost use Rattle.command_line.specs.Printed.{IsTextShown, version_text};
-ghost use Rattle.command_line.specs.Asked.{IsHelp, IsVersion, page_of};
+ghost use Rattle.command_line.specs.Asked.{IsHelp, page_of};
 ghost use Rattle.command_line.specs.Plain.{texts};
-ghost use Rattle.command_line.specs.declared.row_names.RowName.{RowName};
+ghost use Rattle.command_line.specs.Programs.{IsVersion};
+ghost use Rattle.command_line.specs.declared.rows.RowName.{RowName};
 ghost use Rattle.bureau.specs.Answers.{HasAnswered, HasAssembled, HasEnded, HasEndedMigration, HasEndedScript};
 
 use command_line::{
-    Misuse, Status, Task, Unfailing, exit_code, show_help, show_version, task_of, tell_misuse,
+    Mistake, Status, Task, Unfailing, exit_code, show_help, show_version, task_of, tell_mistake,
 };
 use counter::{assemble_file, run_input, write_out};
 use service::{Outcome, apply, export, init, migrate, serve, show_outcome, tell_migrated};
@@ -25,7 +26,7 @@ use std::process::ExitCode;
 use std::{env, io};
 
 /// The words of the process. The first is the program's name.
-fn words_given(rt: &HostRuntime) -> Result<Vec<String>, Misuse<'static>> {
+fn words_given(rt: &HostRuntime) -> Result<Vec<String>, Mistake> {
     Ok(env::args(rt)?.collect(rt.alloc())?)
 }
 
@@ -158,7 +159,7 @@ fn answer<W: Write, E: Write>(
                 number,
             },
         ) => export_job(rt, file, customer, number, errors),
-        Err(misuse) => tell_misuse(errors, misuse),
+        Err(mistake) => tell_mistake(errors, "bureau", mistake),
     }
 }
 
@@ -168,7 +169,7 @@ fn carry_out(rt: &HostRuntime) -> io::Result<Status> {
     let mut errors = Unfailing::new(rt.stderr());
     let words = match words_given(rt) {
         Ok(words) => words,
-        Err(misuse) => return tell_misuse(&mut errors, misuse),
+        Err(mistake) => return tell_mistake(&mut errors, "bureau", mistake),
     };
     let words = words.as_slice();
     let after_name = if words.is_empty() { words } else { &words[1..] };

@@ -1,48 +1,44 @@
 -- The ways in which words ask for something.
-use Rattle.std.proofs.Common.{◌≡◌, ◌∙◌, ◌⊎◌, ◌||◌, Bool, List, [], ◌∷◌, true, false, codes, not, refl, Some, None, ap, sym, subst, inl, inr}
-use Rattle.std.specs.Prelude.{Option, find, is_some}
+use Rattle.std.proofs.Common.{◌≡◌, ◌∙◌, ◌⊎◌, ◌||◌, Bool, List, [], ◌∷◌, true, false, codes, not, refl, Some, None, ap, ap₂, sym, subst, inl, inr}
+use Rattle.std.specs.Prelude.{◌↔◌, Option, find, is_some}
 use Rattle.std.proofs.lemmas.List.Elements.{All-cons, All-head, All-nil, All-tail}
 use Rattle.clap.specs.Words.{Text}
-use Rattle.command_line.specs.Asked.{Asks, AsksAs, HasValues, IsHelp, IsOption, IsVersion, Spells, has_dashes, is_clear, row_of}
-use Rattle.command_line.specs.Rows.{name_of}
+use Rattle.command_line.specs.Asked.{HasValues, IsHelp}
+use Rattle.command_line.specs.Programs.{AsksForHelp, has_dashes, is_clear}
+use Rattle.command_line.specs.Rows.{bureau, name_of}
 use Rattle.command_line.specs.Plain.{ArePlain, is_odd, is_plain}
-use Rattle.command_line.specs.declared.row_names.RowName.{RowName}
-use Rattle.command_line.specs.declared.asked.Words.{Words}
-use Rattle.command_line.specs.declared.asked.Words.TheVariants as row
-use Rattle.command_line.proofs.RowNameLemmas.{named_name, one_name}
+use Rattle.command_line.specs.declared.rows.RowName.{RowName}
+use Rattle.command_line.proofs.RowNameLemmas.{name_is, named_name, one_name}
 
--- what asks for something is in place of a row, or spells one
-asked_as : (words : List Text) (asked : Words) (o : Option (RowName × List Text)) → row_of asked ≡ o → AsksAs words asked o
-    → IsOption words asked ⊎ Spells words asked
-asked_as words asked None e asks = inl asks
-asked_as words asked (Some (r, values)) e asks = inr (record { row = r; values = values; asks = e; has = asks })
+-- ---- words that ask for help
 
-pub way_of : (words : List Text) (asked : Words) → Asks words asked → IsOption words asked ⊎ Spells words asked
-way_of words asked asks = asked_as words asked (row_of asked) refl asks
+both : {a b c d : Text} → a ≡ b → c ≡ d → a ∷ c ∷ [] ≡ b ∷ d ∷ []
+both e f = ap₂ (λ (x y : Text). x ∷ y ∷ []) e f
 
--- words in place of a row ask for that
-pub asks_option : (words : List Text) (asked : Words) → IsOption words asked → Asks words asked
-asks_option words row.Standard is = is
-asks_option words (row.Run deck size switches) is = absurd is
-asks_option words (row.Assemble source out) is = absurd is
-asks_option words (row.Init file) is = absurd is
-asks_option words (row.Apply file script) is = absurd is
-asks_option words (row.Export file customer number) is = absurd is
-asks_option words (row.Migrate file) is = absurd is
-asks_option words (row.Serve file port count) is = absurd is
-asks_option words (row.Help page) is = is
-asks_option words row.Version is = is
+alone : {a b : Text} → a ≡ b → a ∷ [] ≡ b ∷ []
+alone e = ap (λ (x : Text). x ∷ []) e
 
--- words that spell a row ask for it
-pub spelt : (words : List Text) (asked : Words) → Spells words asked → Asks words asked
-spelt words asked is = subst (AsksAs words asked) (sym is.asks) is.has
+-- by the table words ask for just the help that they say
+pub help_is : (words : List Text) (page : Option RowName) → AsksForHelp bureau words page → IsHelp page words
+help_is [] None asks = absurd asks
+help_is [] (Some row) asks = absurd asks
+help_is (word ∷ []) None (inl is) = inl (alone is)
+help_is (word ∷ []) None (inr is) = inr (alone is)
+help_is (word ∷ []) (Some row) asks = absurd asks
+help_is (first ∷ word ∷ []) None asks = absurd asks
+help_is (first ∷ word ∷ []) (Some row) (inl is, named) = inl (both (name_is first row named) is)
+help_is (first ∷ word ∷ []) (Some row) (inr is, named) = inr (both (name_is first row named) is)
+help_is (first ∷ word ∷ other ∷ more) None asks = absurd asks
+help_is (first ∷ word ∷ other ∷ more) (Some row) asks = absurd asks
 
--- words that ask for help or the version spell no row
-pub no_help_spelt : (words : List Text) (page : Option RowName) → Spells words (row.Help page) → ⊥
-no_help_spelt words page is = let k = is.asks in cc
+pub is_help : (words : List Text) (page : Option RowName) → IsHelp page words → AsksForHelp bureau words page
+is_help words None (inl is) = subst (λ ws. AsksForHelp bureau ws None) (sym is) (inl refl)
+is_help words None (inr is) = subst (λ ws. AsksForHelp bureau ws None) (sym is) (inr refl)
+is_help words (Some row) (inl is) = subst (λ ws. AsksForHelp bureau ws (Some row)) (sym is) (inl refl, named_name row)
+is_help words (Some row) (inr is) = subst (λ ws. AsksForHelp bureau ws (Some row)) (sym is) (inr refl, named_name row)
 
-pub no_version_spelt : (words : List Text) → Spells words row.Version → ⊥
-no_version_spelt words is = let k = is.asks in cc
+pub same_help : (words : List Text) (page : Option RowName) → AsksForHelp bureau words page ↔ IsHelp page words
+same_help words page = (help_is words page, is_help words page)
 
 -- ---- clear words
 
@@ -63,32 +59,29 @@ all_plain (w ∷ ws) e =
     All-cons (λ x. is_plain x ≡ true) w ws head (all_plain ws (rw head at e))
 
 -- clear words are plain, or begin with a row's name and `--`
-pub clear_ways : (words : List Text) → is_clear words ≡ true → ArePlain words ⊎ (has_dashes words ≡ true)
-clear_ways words clear = go (has_dashes words) refl (find is_odd words) refl clear
+pub clear_ways : (words : List Text) → is_clear bureau words ≡ true → ArePlain words ⊎ (has_dashes bureau words ≡ true)
+clear_ways words clear = go (has_dashes bureau words) refl (find is_odd words) refl clear
   where
-    go : (b : Bool) → has_dashes words ≡ b → (o : Option Text) → find is_odd words ≡ o → (b || not (is_some o)) ≡ true
-        → ArePlain words ⊎ (has_dashes words ≡ true)
+    go : (b : Bool) → has_dashes bureau words ≡ b → (o : Option Text) → find is_odd words ≡ o → (b || not (is_some o)) ≡ true
+        → ArePlain words ⊎ (has_dashes bureau words ≡ true)
     go true is o odd e = inr is
     go false is None odd e = inl (all_plain words odd)
     go false is (Some w) odd e = cc
 
-dashes_clear : (r : RowName) (values : List Text) → is_clear (name_of r ∷ codes "--" ∷ values) ≡ true
+dashes_clear : (r : RowName) (values : List Text) → is_clear bureau (name_of r ∷ codes "--" ∷ values) ≡ true
 dashes_clear r values = rw (named_name r) refl
 
-plain_clear : (words : List Text) → ArePlain words → is_clear words ≡ true
-plain_clear words all = go (has_dashes words)
+plain_clear : (words : List Text) → ArePlain words → is_clear bureau words ≡ true
+plain_clear words all = go (has_dashes bureau words)
   where
     go : (b : Bool) → (b || not (is_some (find is_odd words))) ≡ true
     go true = refl
     go false = rw (none_odd words all) refl
 
--- words that spell a row are clear
-pub spelt_clear : (words : List Text) (asked : Words) → Spells words asked → is_clear words ≡ true
-spelt_clear words asked is = go is.has
-  where
-    go : HasValues is.row is.values words → is_clear words ≡ true
-    go (inl has) = plain_clear words has.1
-    go (inr has) = ap is_clear has ∙ dashes_clear is.row is.values
+-- words with the values of a row are clear
+pub values_clear : (r : RowName) (values words : List Text) → HasValues r values words → is_clear bureau words ≡ true
+values_clear r values words (inl has) = plain_clear words has.1
+values_clear r values words (inr has) = ap (is_clear bureau) has ∙ dashes_clear r values
 
 -- ---- words with `--` after a row's name
 
@@ -102,7 +95,7 @@ dashes_odd : (w : Text) (ws : List Text) → ArePlain (w ∷ codes "--" ∷ ws) 
 dashes_odd w ws all =
     let k : is_plain (codes "--") ≡ true = All-head (λ x. is_plain x ≡ true) (codes "--") ws (All-tail (λ x. is_plain x ≡ true) w (codes "--" ∷ ws) all) in cc
 
--- ---- words ask for one thing
+-- ---- words have the values of one row
 
 plain_or_dashes : (r s : RowName) (xs ys words : List Text) → (words ≡ name_of r ∷ xs) × ArePlain words
     → words ≡ name_of s ∷ codes "--" ∷ ys → ⊥
@@ -114,7 +107,6 @@ head_is e = cc
 tail_is : {a b : Text} {xs ys : List Text} → a ∷ xs ≡ b ∷ ys → xs ≡ ys
 tail_is e = cc
 
--- words have the values of one row alone
 pub one_row : (r s : RowName) (xs ys words : List Text) → HasValues r xs words → HasValues s ys words → (r ≡ s) × (xs ≡ ys)
 one_row r s xs ys words (inl is) (inl e) =
     let k : name_of r ∷ xs ≡ name_of s ∷ ys = sym is.0 ∙ e.0 in (one_name r s (head_is k), tail_is k)
@@ -122,31 +114,3 @@ one_row r s xs ys words (inl is) (inr e) = absurd (plain_or_dashes r s xs ys wor
 one_row r s xs ys words (inr is) (inl e) = absurd (plain_or_dashes s r ys xs words e is)
 one_row r s xs ys words (inr is) (inr e) =
     let k : name_of r ∷ codes "--" ∷ xs ≡ name_of s ∷ codes "--" ∷ ys = sym is ∙ e in (one_name r s (names_of k), values_after k)
-
-odd_alone : (a b : Text) → is_plain b ≡ false → ArePlain (a ∷ b ∷ []) → ⊥
-odd_alone a b odd all =
-    let k : is_plain b ≡ true = All-head (λ x. is_plain x ≡ true) b [] (All-tail (λ x. is_plain x ≡ true) a (b ∷ []) all) in cc
-
--- words of a row with values ask for no help
-no_page : (r s : RowName) (said : Text) (v : Text) (vs words : List Text) → is_plain said ≡ false → HasValues r (v ∷ vs) words
-    → words ≡ name_of s ∷ said ∷ [] → ⊥
-no_page r s said v vs words odd (inl is) e = odd_alone _ _ odd (subst ArePlain e is.1)
-no_page r s said v vs words odd (inr is) e = let k : codes "--" ∷ v ∷ vs ≡ said ∷ [] = tail_is (sym is ∙ e) in cc
-
--- one word is no row with values
-no_alone : (r : RowName) (said : Text) (v : Text) (vs words : List Text) → HasValues r (v ∷ vs) words → words ≡ said ∷ [] → ⊥
-no_alone r said v vs words (inl is) e = let k : v ∷ vs ≡ [] = tail_is (sym is.0 ∙ e) in cc
-no_alone r said v vs words (inr is) e = let k : codes "--" ∷ v ∷ vs ≡ [] = tail_is (sym is ∙ e) in cc
-
-pub some_word : (r : RowName) (xs words : List Text) → HasValues r xs words → words ≡ [] → ⊥
-some_word r xs words (inl is) e = let k = sym is.0 ∙ e in cc
-some_word r xs words (inr is) e = let k = sym is ∙ e in cc
-
-pub no_help : (r : RowName) (page : Option RowName) (v : Text) (vs words : List Text) → HasValues r (v ∷ vs) words → IsHelp page words → ⊥
-no_help r None v vs words has (inl e) = no_alone r _ v vs words has e
-no_help r None v vs words has (inr e) = no_alone r _ v vs words has e
-no_help r (Some other) v vs words has (inl e) = no_page r other _ v vs words refl has e
-no_help r (Some other) v vs words has (inr e) = no_page r other _ v vs words refl has e
-
-pub no_version : (r : RowName) (v : Text) (vs words : List Text) → HasValues r (v ∷ vs) words → IsVersion words → ⊥
-no_version r v vs words has e = no_alone r _ v vs words has e

@@ -4,14 +4,15 @@ use Rattle.clap.specs.Walk.{Held, finished, settled, Row, Text, nothing_held, wa
 use Rattle.clap.specs.Simple.{Shape, built_leaf, inherited}
 use Rattle.clap.specs.Faults.{check_fault, defaults_fault, level_fault, settle_fault, walk_fault}
 use Rattle.clap.specs.Kinds.{Kinds, or_else}
-use Rattle.command_line.specs.Command.{bureau, values_in}
+use Rattle.command_line.specs.Programs.{command}
+use Rattle.command_line.specs.Rows.{bureau, values_in}
 use Rattle.command_line.specs.Plain.{ArePlain}
 use Rattle.command_line.specs.Tables.{row_app}
 use Rattle.command_line.proofs.CommandValues.{at, held_by, same_faults, same_held}
 
 -- the row as built below the program's command
 abbrev pub leaf : Text → List Text → Shape
-leaf name places = built_leaf (inherited bureau.top (row_app name (values_in places)).top)
+leaf name values = built_leaf (inherited (command bureau).top (row_app name (values_in values)).top)
 
 abbrev after_walk : Shape → Held → Kinds
 after_walk s h = or_else (settle_fault s.rules s.args_override_self h)

@@ -7,11 +7,11 @@ use Rattle.clap.specs.Simple.{App, Shape, built, entered, names_of, subcommand_o
 use Rattle.clap.specs.Faults.{check_fault, defaults_fault, entered_fault, fault_of, settle_fault, stray_fault, turn_fault, walk_fault}
 use Rattle.clap.specs.Kinds.{Kinds, or_else}
 use Rattle.clap.proofs.OnLiterals.{clap_on_literals}
-use Rattle.command_line.specs.Command.{bureau}
+use Rattle.command_line.specs.Programs.{command}
 use Rattle.command_line.proofs.CommandValues.{at, or_else_none, IsValue}
-use Rattle.command_line.specs.Rows.{name_of, places_of}
-use Rattle.command_line.specs.declared.row_names.RowName.{RowName}
-use Rattle.command_line.specs.declared.row_names.RowName.TheVariants as name
+use Rattle.command_line.specs.Rows.{bureau, name_of, values_of}
+use Rattle.command_line.specs.declared.rows.RowName.{RowName}
+use Rattle.command_line.specs.declared.rows.RowName.TheVariants as name
 use Rattle.command_line.proofs.CommandLeaves.{leaf, leaf_fault, leaf_rows}
 
 -- ---- after a row's name clap's own command only collects the words
@@ -38,7 +38,7 @@ no_fault s names name before (w ∷ ws) = no_fault s names name (before ++ w ∷
 -- ---- a row, entered by its name
 
 abbrev top : App
-top = built bureau
+top = built (command bureau)
 
 -- the faults after the walk of clap's own command
 abbrev behind : Walk → Kinds
@@ -60,10 +60,10 @@ pub record IsEntered (name : Text) (row : Shape) : Type 0 where
 
 -- the row of this name, below the program's command
 abbrev pub row_shape : RowName → Shape
-row_shape row = leaf (name_of row) (places_of row)
+row_shape row = leaf (name_of row) (values_of row)
 
 pub row_entered : (row : RowName) → IsEntered (name_of row) (row_shape row)
-unfolding clap_on_literals
+unfolding command clap_on_literals
 row_entered name.Run = record { stops = refl; clean = refl; faults = λ words. refl; found = λ words. refl }
 row_entered name.Assemble = record { stops = refl; clean = refl; faults = λ words. refl; found = λ words. refl }
 row_entered name.Init = record { stops = refl; clean = refl; faults = λ words. refl; found = λ words. refl }
@@ -83,12 +83,14 @@ unfolding walk_fault
 row_walk_fault name row words is = ap₂ or_else is.clean (ap (λ (w : Walk). walk_fault top.top (names_of top) w words) is.stops)
     ∙ no_fault top.top (names_of top) name [] words
 
-pub row_fault : (name : Text) (row : Shape) (words : List Text) → IsEntered name row → fault_of bureau (name ∷ words) ≡ leaf_fault row words
+pub row_fault : (name : Text) (row : Shape) (words : List Text) → IsEntered name row → fault_of (command bureau) (name ∷ words) ≡ leaf_fault row words
+unfolding command walk_fault
 row_fault name row words is =
     ap₂ or_else (row_walk_fault name row words is) (ap behind (row_walk name row words is)) ∙ is.faults words ∙ or_else_nil _
 
 pub row_found : (name : Text) (row : Shape) (words : List Text) → IsEntered name row
-    → subcommand_of bureau (name ∷ words) ≡ Some (name, leaf_rows row words)
+    → subcommand_of (command bureau) (name ∷ words) ≡ Some (name, leaf_rows row words)
+unfolding command
 row_found name row words is = ap (λ (w : Walk). entered top w.stopped) (row_walk name row words is) ∙ is.found words
 
 -- ---- any other first word
@@ -99,10 +101,11 @@ IsNoName w = (row : RowName) → bytes_eq (name_of row) w ≡ false
 
 stray : (w : Text) → IsValue w → IsNoName w
     → turn_fault top.top (names_of top) (at false false 1 nothing_held) w ≡ stray_fault top.top
+unfolding command
 stray w v none = rw (none name.Run) (rw (none name.Assemble) (rw (none name.Init) (rw (none name.Apply)
     (rw (none name.Export) (rw (none name.Migrate) (rw (none name.Serve) (rw v.dashes (rw v.long (rw v.short refl)))))))))
 
-pub no_row : (w : Text) (rest : List Text) → IsValue w → IsNoName w → fault_of bureau (w ∷ rest) ≢ []
-unfolding walk_fault
+pub no_row : (w : Text) (rest : List Text) → IsValue w → IsNoName w → fault_of (command bureau) (w ∷ rest) ≢ []
+unfolding command walk_fault
 no_row w rest v none e =
     let k = sym (or_else_none _ _ (or_else_none _ _ e)) ∙ stray w v none in cc

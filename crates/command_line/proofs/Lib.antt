@@ -1,10 +1,9 @@
 pub mod CommandValues
 pub mod CommandLeaves
-pub mod CommandParses
-pub mod CommandPlaces
+pub mod BureauCommand
 pub mod RowNameLemmas
 pub mod CommandRows
 pub mod CommandWords
 pub mod AskedWays
-pub mod FoundRows
 pub mod MistakeLines
+pub mod TaskWords

@@ -1,10 +1,9 @@
 pub mod Plain
-pub mod Rows
 pub mod Tables
-pub mod Command
-pub mod Asked
 pub mod Arguments
 pub mod Programs
+pub mod Rows
+pub mod Asked
 pub mod Printed
 pub mod Mistakes
 pub mod Tasks

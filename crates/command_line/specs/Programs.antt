@@ -1,19 +1,21 @@
 -- programs as tables of rows, and what words ask for by them
-use Rattle.std.specs.Prelude.{◌≡◌, ◌⊎◌, List, [], ◌∷◌, Option, Some, None, codes, find, fold, map, option_map}
+use Rattle.std.specs.Prelude.{◌≡◌, ◌⊎◌, ◌&&◌, ◌||◌, Bool, false, List, [], ◌∷◌, Option, Some, None, codes, find, fold, is_some, map, not, option_map}
 use Rattle.std.specs.Str.{bytes_eq}
 use Rattle.clap.specs.Words.{App, Row, Text, fault_of, subcommand_of}
 use Rattle.command_line.specs.Arguments.{given}
-use Rattle.command_line.specs.Asked.{IsVersion}
+use Rattle.command_line.specs.Plain.{is_odd}
 use Rattle.command_line.specs.Tables.{named, with_row}
+use Rattle.command_line.specs.declared.mistakes.Mistake.{Mistake}
+use Rattle.command_line.specs.declared.mistakes.Mistake.TheVariants as mistake
 use Rattle.command_line.specs.declared.programs.Asked.{Asked}
 use Rattle.command_line.specs.declared.programs.Asked.TheVariants as asked
 use Rattle.command_line.specs.declared.programs.Line as line
 use Rattle.command_line.specs.declared.programs.Program as code
 use Rattle.command_line.specs.declared.tables.Kind.{Kind}
 
--- a row of a program: the row, its name, and its arguments in order
+-- a row of a program: the row, its name, its arguments in order, and how it is used
 abbrev pub Line : Type 0 → Type 0
-Line R = R × Text × List (Text × Kind)
+Line R = R × Text × List (Text × Kind) × Text
 
 -- a program by its words: its name, and its rows
 pub record Program (R : Type 0) : Type 0 where
@@ -22,7 +24,8 @@ pub record Program (R : Type 0) : Type 0 where
 
 -- a row as the code has it
 abbrev pub line_as : {R : Type 0} → line.Line R → Line R
-line_as line = (line.row, line.name.now, map (λ g. (g.0.now, g.1)) line.arguments.now)
+line_as line =
+    (line.row, line.name.now, map (λ g. (g.0.now, g.1)) line.arguments.now, line.usage.now)
 
 -- a program as the code has it
 abbrev pub program_as : {R : Type 0} → code.Program R → Program R
@@ -32,6 +35,11 @@ program_as program = record { name = program.name.now; rows = map line_as progra
 abbrev pub row_named : {R : Type 0} → Program R → Text → Option R
 row_named program word =
     option_map (λ line. line.0) (find (λ line. bytes_eq line.1 word) program.rows)
+
+-- how the row with this name is used, if there is one
+abbrev pub usage_named : {R : Type 0} → Program R → Text → Option Text
+usage_named program word =
+    option_map (λ line. line.3) (find (λ line. bytes_eq line.1 word) program.rows)
 
 -- the program's whole command: with each row, and the row's arguments
 unfoldable pub command : {R : Type 0} → Program R → App
@@ -47,6 +55,10 @@ pub data Wish (R : Type 0) : Type 0 where
 -- the word asks for help
 abbrev pub IsHelpWord : Text → Type 0
 IsHelpWord word = (word ≡ codes "--help") ⊎ (word ≡ codes "-h")
+
+-- the words ask for the version
+abbrev pub IsVersion : List Text → Type 0
+IsVersion words = words ≡ codes "--version" ∷ []
 
 -- the words ask for the help of the row that the first one names, or for the whole help
 abbrev pub AsksForHelp : {R : Type 0} → Program R → List Text → Option R → Type 0
@@ -69,8 +81,39 @@ AsksFor program words (for_help page) = AsksForHelp program words page
 AsksFor program words for_version = IsVersion words
 AsksFor program words (for_row row found) = HasRow program words row found
 
+-- the words ask for this in place of a row: a help, or the version
+abbrev pub AsksInPlace : {R : Type 0} → Program R → List Text → Wish R → Type 0
+AsksInPlace program words (for_help page) = AsksForHelp program words page
+AsksInPlace program words for_version = IsVersion words
+AsksInPlace program words (for_row row found) = ⊥
+
 -- what is asked for, as the code has it
 abbrev pub wish_as : {R : Type 0} → Asked R → Wish R
 wish_as (asked.Help page) = for_help page
 wish_as asked.Version = for_version
 wish_as (asked.Row row found) = for_row row (given found)
+
+-- how the row is used that words begin with, if they begin with one
+abbrev pub usage_begun : {R : Type 0} → Program R → List Text → Option Text
+usage_begun program [] = None
+usage_begun program (word ∷ more) = usage_named program word
+
+-- this is what is wrong with words that ask for nothing: they begin with no row's name, or are not
+-- used as the row is whose name comes first
+abbrev pub IsMisread : {R : Type 0} → Program R → List Text → Mistake → Type 0
+IsMisread program words mistake.Row = usage_begun program words ≡ None
+IsMisread program words (mistake.Arguments usage) = usage_begun program words ≡ Some usage.now
+IsMisread program words _ = ⊥
+
+-- ---- words that hold no option
+
+-- whether the words begin with a row's name and `--`
+abbrev pub has_dashes : {R : Type 0} → Program R → List Text → Bool
+has_dashes program [] = false
+has_dashes program (word ∷ []) = false
+has_dashes program (word ∷ other ∷ more) =
+    is_some (row_named program word) && bytes_eq other (codes "--")
+
+-- whether none of the words is an option, or they begin with a row's name and `--`
+abbrev pub is_clear : {R : Type 0} → Program R → List Text → Bool
+is_clear program words = has_dashes program words || not (is_some (find is_odd words))

@@ -1,26 +1,23 @@
 -- the tasks that words ask for, with their values read
-use Rattle.std.specs.Prelude.{◌≡◌, ◌≢◌, ◌⊎◌, ◌<◌, ◌≤◌, ℕ, List, [], ◌∷◌, codes, decimal}
+use Rattle.std.specs.Prelude.{◌≡◌, ◌≢◌, ◌⊎◌, ◌<◌, ◌≤◌, ⊤, ℕ, List, [], ◌∷◌, codes, decimal}
+use Rattle.clap.specs.Words.{Text}
 use Rattle.core_store.specs.Storage.{positions_of}
 use Rattle.core_store.specs.declared.Size.{Size}
 use Rattle.core_store.specs.declared.Size.TheVariants.{Positions4000}
 use Rattle.units.specs.Switches.{AreSeven}
 use Rattle.units.specs.declared.Switches.{Switches}
-use Rattle.command_line.specs.Asked.{HasValues, IsHelp, IsVersion, misreading, misreading_by}
-use Rattle.command_line.specs.declared.row_names.RowName.TheVariants as name
-use Rattle.command_line.specs.declared.asked.WordsFault.TheVariants.{Memory}
+use Rattle.command_line.specs.Asked.{HasValues, IsHelp}
+use Rattle.command_line.specs.Programs.{IsMisread, IsVersion}
+use Rattle.command_line.specs.Rows.{bureau}
+use Rattle.command_line.specs.declared.mistakes.Mistake.{Mistake}
+use Rattle.command_line.specs.declared.mistakes.Mistake.TheVariants.{Memory, Value}
+use Rattle.command_line.specs.declared.rows.RowName.{RowName}
+use Rattle.command_line.specs.declared.rows.RowName.TheVariants as name
 use Rattle.texts.specs.Numbers.{IsNumberOf}
 use Rattle.texts.specs.Switches.{text_of}
-use Rattle.command_line.specs.declared.tasks.Misuse.{Misuse}
-use Rattle.command_line.specs.declared.tasks.Misuse.TheVariants as misuse
 use Rattle.command_line.specs.declared.tasks.Input.TheVariants.{Standard, File}
 use Rattle.command_line.specs.declared.tasks.Task.{Task}
 use Rattle.command_line.specs.declared.tasks.Task.TheVariants.{Apply, Assemble, Export, Help, Init, Migrate, Run, Serve, Version}
-
--- the task is to run the deck at this path, with the size and the switches that these texts give
-abbrev pub WantsRun : List ℕ → List ℕ → List ℕ → Task → Type 0
-WantsRun deck size switches (Run (File path) s w) =
-    (deck ≡ path.now) × (size ≡ decimal (positions_of s)) × AreSeven w × (switches ≡ text_of w)
-WantsRun deck size switches _ = ⊥
 
 -- a port's number: 1 to 65535
 abbrev pub IsPort : ℕ → Type 0
@@ -29,12 +26,6 @@ IsPort number = (0 < number) × (number ≤ 65535)
 -- a number of connections to serve: 1 to 1,000,000
 abbrev pub IsCount : ℕ → Type 0
 IsCount number = (0 < number) × (number ≤ 1000000)
-
--- the task is to serve the bureau in this file, with the port and the count that these texts give
-abbrev pub WantsServe : List ℕ → List ℕ → List ℕ → Task → Type 0
-WantsServe file port count (Serve path p c) =
-    (file ≡ path.now) × (port ≡ decimal p) × (count ≡ decimal c) × IsPort p × IsCount c
-WantsServe file port count _ = ⊥
 
 -- the words ask for this task
 abbrev pub Wants : List (List ℕ) → Task → Type 0
@@ -55,41 +46,63 @@ Wants words (Serve file port count) =
     HasValues name.Serve (file.now ∷ decimal port ∷ decimal count ∷ []) words
     × IsPort port × IsCount count
 
--- what is wrong with the texts of a size and of switches: the size if it is none, else the switches
-abbrev pub IsValueMisuse : List ℕ → List ℕ → Misuse → Type 0
-IsValueMisuse size switches misuse.Size = (s : Size) → size ≢ decimal (positions_of s)
-IsValueMisuse size switches misuse.Switches =
-    ((s : Size) × (size ≡ decimal (positions_of s)))
-    × ((w : Switches) → AreSeven w → switches ≢ text_of w)
-IsValueMisuse size switches _ = ⊥
+-- the task is that of a row with these values
+abbrev pub WantsRow : RowName → List Text → Task → Type 0
+WantsRow row values (Help page) = ⊥
+WantsRow row values Version = ⊥
+WantsRow row values (Run Standard s w) = ⊥
+WantsRow row values (Run (File path) s w) = (row ≡ name.Run)
+    × (values ≡ path.now ∷ decimal (positions_of s) ∷ text_of w ∷ []) × AreSeven w
+WantsRow row values (Assemble source out) =
+    (row ≡ name.Assemble) × (values ≡ source.now ∷ out.now ∷ [])
+WantsRow row values (Init file) = (row ≡ name.Init) × (values ≡ file.now ∷ [])
+WantsRow row values (Apply file script) =
+    (row ≡ name.Apply) × (values ≡ file.now ∷ script.now ∷ [])
+WantsRow row values (Export file customer number) = (text : Text) × (row ≡ name.Export)
+    × (values ≡ file.now ∷ customer.now ∷ text ∷ []) × IsNumberOf text number
+WantsRow row values (Migrate file) = (row ≡ name.Migrate) × (values ≡ file.now ∷ [])
+WantsRow row values (Serve file port count) = (row ≡ name.Serve)
+    × (values ≡ file.now ∷ decimal port ∷ decimal count ∷ []) × IsPort port × IsCount count
 
--- what is wrong with the texts of a port and of a count: the port if it is none, else the count
-abbrev pub IsServeMisuse : List ℕ → List ℕ → Misuse → Type 0
-IsServeMisuse port count misuse.Port = (p : ℕ) → IsPort p → port ≢ decimal p
-IsServeMisuse port count misuse.Count =
-    ((p : ℕ) × IsPort p × (port ≡ decimal p)) × ((c : ℕ) → IsCount c → count ≢ decimal c)
-IsServeMisuse port count _ = ⊥
+-- ---- what is wrong with words that ask for no task
 
--- the words are those of a row `run`, with this wrong in its values
-pub record AreRunWords (words : List (List ℕ)) (m : Misuse) : Type 0 where
-  pub deck : List ℕ
-  pub size : List ℕ
-  pub switches : List ℕ
-  pub are : HasValues name.Run (deck ∷ size ∷ switches ∷ []) words
-  pub is : IsValueMisuse size switches m
+-- this is said of the texts of a size and of switches: of the size if it is none, else of the
+-- switches
+abbrev pub IsValueMistake : Text → Text → Mistake → Type 0
+IsValueMistake size switches (Value said) =
+    ((said.now ≡ codes "SIZE must be 1400, 2000, 4000, 8000, 12000 or 16000")
+    × ((s : Size) → size ≢ decimal (positions_of s)))
+    ⊎ ((said.now ≡ codes "SWITCHES must be rising letters of ABCDEFG, or - for none")
+    × ((s : Size) × (size ≡ decimal (positions_of s)))
+    × ((w : Switches) → AreSeven w → switches ≢ text_of w))
+IsValueMistake size switches _ = ⊥
 
--- the words are those of a row `serve`, with this wrong in its values
-pub record AreServeWords (words : List (List ℕ)) (m : Misuse) : Type 0 where
-  pub file : List ℕ
-  pub port : List ℕ
-  pub count : List ℕ
-  pub are : HasValues name.Serve (file ∷ port ∷ count ∷ []) words
-  pub is : IsServeMisuse port count m
+-- this is said of the texts of a port and of a count: of the port if it is none, else of the count
+abbrev pub IsServeMistake : Text → Text → Mistake → Type 0
+IsServeMistake port count (Value said) =
+    ((said.now ≡ codes "PORT must be a number from 1 to 65535")
+    × ((p : ℕ) → IsPort p → port ≢ decimal p))
+    ⊎ ((said.now ≡ codes "COUNT must be a number from 1 to 1000000")
+    × ((p : ℕ) × IsPort p × (port ≡ decimal p))
+    × ((c : ℕ) → IsCount c → count ≢ decimal c))
+IsServeMistake port count _ = ⊥
 
--- what is wrong with the words: a value of a row, words that ask for nothing, or no memory to read
--- them
-abbrev pub IsMisuse : List (List ℕ) → Misuse → Type 0
-IsMisuse words (misuse.Words f) = (f ≡ Memory) ⊎ (misreading_by f ≡ misreading words)
-IsMisuse words misuse.Port = AreServeWords words misuse.Port
-IsMisuse words misuse.Count = AreServeWords words misuse.Count
-IsMisuse words m = AreRunWords words m
+-- this is wrong with the values of a row
+abbrev pub IsRowMistake : RowName → List Text → Mistake → Type 0
+IsRowMistake name.Run (deck ∷ size ∷ switches ∷ []) mistake = IsValueMistake size switches mistake
+IsRowMistake name.Serve (file ∷ port ∷ count ∷ []) mistake = IsServeMistake port count mistake
+IsRowMistake _ _ _ = ⊥
+
+-- the words are those of a row, with this wrong in its values
+pub record AreRowWords (words : List Text) (mistake : Mistake) : Type 0 where
+  pub row : RowName
+  pub values : List Text
+  pub are : HasValues row values words
+  pub is : IsRowMistake row values mistake
+
+-- this is wrong with the words: a value of a row, or they ask for nothing; or there was no memory
+-- to read them
+abbrev pub IsMistake : List Text → Mistake → Type 0
+IsMistake words Memory = ⊤
+IsMistake words (Value said) = AreRowWords words (Value said)
+IsMistake words mistake = IsMisread bureau words mistake

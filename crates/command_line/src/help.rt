@@ -1,9 +1,9 @@
-//! The texts of the help, the version and the usage line.
+//! The texts of the help and the version.
 
 ghost use Rattle.std.specs.Prelude.{◌≡◌};
 ghost use Rattle.command_line.specs.Asked.{page_of};
 
-use crate::row_names::RowName;
+use crate::rows::RowName;
 
 /// The text that `--help` prints.
 pub const HELP: &str = "\
@@ -287,10 +287,6 @@ pub(crate) const VERSION: &str = "\
 bureau 1
 Rattle logic dac8208d650f15bf
 ";
-
-/// The line that is printed after what is wrong with the words.
-pub(crate) const USAGE: &str =
-    "usage: bureau [ROW WORDS..]; bureau --help lists the rows and their words";
 
 /// The help of a row, or the whole help.
 pub fn page(row: Option<RowName>) -> &'static str

@@ -1,15 +1,17 @@
 //! Programs as tables of rows, and what words ask for by them.
 
-ghost use Rattle.std.specs.Prelude.{◌≡◌, ◌∷◌, [], true, IfOk, IfSome, find, fold, map, option_map};
+ghost use Rattle.std.specs.Prelude.{◌≡◌, ◌≢◌, ◌∷◌, ◌⊎◌, [], true, false, IfErr, IfNone, IfOk, IfSome, List, find, fold, map, option_map};
 ghost use Rattle.std.specs.Str.{bytes_eq};
-ghost use Rattle.clap.specs.Words.{app_of, fault_of, is_simple_and_free, subcommand_of, subcommand_rows_of};
+ghost use Rattle.clap.specs.Words.{Row, app_of, fault_of, is_simple_and_free, subcommand_of, subcommand_rows_of};
 ghost use Rattle.clap.specs.Simple.{is_simple};
 ghost use Rattle.command_line.specs.Plain.{texts};
-ghost use Rattle.command_line.specs.Programs.{AsksFor, IsHelpWord, command, program_as, row_named, wish_as};
+ghost use Rattle.command_line.specs.Programs.{AsksFor, AsksInPlace, HasRow, IsHelpWord, IsMisread, Wish, command, program_as, row_named, usage_begun, usage_named, wish_as};
+ghost use Rattle.command_line.specs.declared.mistakes.Mistake.TheVariants.{Memory};
 ghost use Rattle.command_line.specs.Tables.{with_row};
 
 use crate::arguments::Found;
 use crate::mistakes::Mistake;
+use crate::plain::first_word;
 use crate::tables::{Kind, Unread, named_command, parse, with_row};
 use clap::{ArgMatches, Command};
 use std::alloc::{AllocError, Global};
@@ -55,8 +57,10 @@ fn line_in<'a, R>(rows: &'a [Line<R>], word: &str) -> Option<&'a Line<R>>
 }
 
 /// The row with this name, and how it is used.
-fn row_named<R: Copy>(program: &Program<R>, word: &str) -> Option<(R, &'static str)>
-    ensures { option_map (λ p. p.0) result ≡ row_named (program_as program.now) word.now }
+pub(crate) fn row_named<R: Copy>(program: &Program<R>, word: &str) -> Option<(R, &'static str)>
+    ensures row { option_map (λ p. p.0) result ≡ row_named (program_as program.now) word.now }
+    ensures usage { option_map (λ p. p.1.now) result
+        ≡ usage_named (program_as program.now) word.now }
 {
     match line_in(program.rows, word) {
         Some(line) => Some((line.row, line.usage)),
@@ -90,15 +94,20 @@ fn command_of<'a, R>(alloc: Global, program: &Program<R>) -> Result<Command<'a>,
 
 /// Whether a word asks for help.
 fn is_help_word(word: &str) -> bool
-    ensures { result ≡ true → IsHelpWord word.now }
+    ensures help { result ≡ true → IsHelpWord word.now }
+    ensures other { result ≡ false → ¬ IsHelpWord word.now }
 {
     word == "--help" || word == "-h"
 }
 
 /// What one word asks for in place of a row.
 fn wish_alone<'a, R: Copy>(program: &Program<R>, word: &str) -> Option<Asked<'a, R>>
-    ensures { IfSome result (λ asked.
+    ensures some { IfSome result (λ asked.
         AsksFor (program_as program.now) (word.now ∷ []) (wish_as asked)) }
+    ensures none { IfNone result ((wish : Wish R)
+        → ¬ AsksInPlace (program_as program.now) (word.now ∷ []) wish) }
+    ensures one { IfSome result (λ asked. (wish : Wish R)
+        → AsksInPlace (program_as program.now) (word.now ∷ []) wish → wish_as asked ≡ wish) }
 {
     if is_help_word(word) {
         return Some(Asked::Help(None));
@@ -111,8 +120,13 @@ fn wish_alone<'a, R: Copy>(program: &Program<R>, word: &str) -> Option<Asked<'a,
 
 /// What two words ask for in place of a row: the help of the row that the first names.
 fn wish_after<'a, R: Copy>(program: &Program<R>, name: &str, word: &str) -> Option<Asked<'a, R>>
-    ensures { IfSome result (λ asked.
+    ensures some { IfSome result (λ asked.
         AsksFor (program_as program.now) (name.now ∷ word.now ∷ []) (wish_as asked)) }
+    ensures none { IfNone result ((wish : Wish R)
+        → ¬ AsksInPlace (program_as program.now) (name.now ∷ word.now ∷ []) wish) }
+    ensures one { IfSome result (λ asked. (wish : Wish R)
+        → AsksInPlace (program_as program.now) (name.now ∷ word.now ∷ []) wish
+        → wish_as asked ≡ wish) }
 {
     if !is_help_word(word) {
         return None;
@@ -125,8 +139,12 @@ fn wish_after<'a, R: Copy>(program: &Program<R>, name: &str, word: &str) -> Opti
 
 /// What words ask for in place of a row.
 fn wish_in<'a, R: Copy>(program: &Program<R>, words: &[String]) -> Option<Asked<'a, R>>
-    ensures { IfSome result (λ asked.
+    ensures some { IfSome result (λ asked.
         AsksFor (program_as program.now) (texts words.now) (wish_as asked)) }
+    ensures none { IfNone result ((wish : Wish R)
+        → ¬ AsksInPlace (program_as program.now) (texts words.now) wish) }
+    ensures one { IfSome result (λ asked. (wish : Wish R)
+        → AsksInPlace (program_as program.now) (texts words.now) wish → wish_as asked ≡ wish) }
 {
     match words {
         [word] => wish_alone(program, word.as_str()),
@@ -135,13 +153,26 @@ fn wish_in<'a, R: Copy>(program: &Program<R>, words: &[String]) -> Option<Asked<
     }
 }
 
-/// The mistake of words that clap does not take.
-fn mistake_in<R: Copy>(program: &Program<R>, words: &[String]) -> Mistake {
-    let Some(word) = words.first() else {
-        return Mistake::Row;
+/// How the row is used that words begin with, if they begin with one.
+fn usage_begun<R: Copy>(program: &Program<R>, words: &[String]) -> Option<&'static str>
+    ensures { option_map (λ usage. usage.now) result
+        ≡ usage_begun (program_as program.now) (texts words.now) }
+{
+    let Some((word, _)) = first_word(words) else {
+        return None;
     };
-    match row_named(program, word.as_str()) {
-        Some((_, usage)) => Mistake::Arguments(usage),
+    match row_named(program, word) {
+        Some((_, usage)) => Some(usage),
+        None => None,
+    }
+}
+
+/// The mistake of words that ask for nothing.
+pub(crate) fn mistake_in<R: Copy>(program: &Program<R>, words: &[String]) -> Mistake
+    ensures { IsMisread (program_as program.now) (texts words.now) result }
+{
+    match usage_begun(program, words) {
+        Some(usage) => Mistake::Arguments(usage),
         None => Mistake::Row,
     }
 }
@@ -154,10 +185,14 @@ fn matches_in<'a, R: Copy>(
 ) -> Result<ArgMatches<'a>, Mistake>
     requires simple { is_simple (command (program_as program.now)) ≡ true }
     requires free { is_simple_and_free (command (program_as program.now)) ≡ true }
-    ensures { IfOk result (λ m.
+    ensures ok { IfOk result (λ m.
         (fault_of (command (program_as program.now)) (texts words.entry.now) ≡ [])
         × (subcommand_rows_of m
         ≡ subcommand_of (command (program_as program.now)) (texts words.entry.now))) }
+    ensures err { IfErr result (λ mistake. (mistake ≡ Memory)
+        ⊎ (fault_of (command (program_as program.now)) (texts words.entry.now) ≢ [])) }
+    ensures mistake { IfErr result (λ mistake. (mistake ≡ Memory)
+        ⊎ IsMisread (program_as program.now) (texts words.entry.now) mistake) }
 {
     match parse(command_of(alloc, program)?, words) {
         Ok(matches) => Ok(matches),
@@ -174,16 +209,21 @@ fn row_in<'a, R: Copy>(
 ) -> Result<Asked<'a, R>, Mistake>
     requires simple { is_simple (command (program_as program.now)) ≡ true }
     requires free { is_simple_and_free (command (program_as program.now)) ≡ true }
-    ensures { IfOk result (λ asked.
+    ensures ok { IfOk result (λ asked.
         AsksFor (program_as program.now) (texts words.entry.now) (wish_as asked)) }
+    ensures err { IfErr result (λ mistake. (mistake ≡ Memory)
+        ⊎ ((row : R) → (found : List Row)
+        → ¬ HasRow (program_as program.now) (texts words.entry.now) row found)) }
+    ensures mistake { IfErr result (λ mistake. (mistake ≡ Memory)
+        ⊎ IsMisread (program_as program.now) (texts words.entry.now) mistake) }
 {
     let mut matches = matches_in(alloc, program, words)?;
     let Some((name, inner)) = matches.remove_subcommand() else {
-        return Err(Mistake::Row);
+        return Err(mistake_in(program, words));
     };
     match row_named(program, name) {
         Some((row, usage)) => Ok(Asked::Row(row, Found::of(inner, usage))),
-        None => Err(Mistake::Row),
+        None => Err(mistake_in(program, words)),
     }
 }
 
@@ -195,8 +235,17 @@ pub fn asked_by<'a, R: Copy>(
 ) -> Result<Asked<'a, R>, Mistake>
     requires simple { is_simple (command (program_as program.now)) ≡ true }
     requires free { is_simple_and_free (command (program_as program.now)) ≡ true }
-    ensures { IfOk result (λ asked.
+    ensures ok { IfOk result (λ asked.
         AsksFor (program_as program.now) (texts words.entry.now) (wish_as asked)) }
+    ensures err { IfErr result (λ mistake. (wish : Wish R)
+        → AsksFor (program_as program.now) (texts words.entry.now) wish → mistake ≡ Memory) }
+    ensures in_place { IfOk result (λ asked. (wish : Wish R)
+        → AsksInPlace (program_as program.now) (texts words.entry.now) wish
+        → wish_as asked ≡ wish) }
+    ensures never { IfErr result (λ _. (wish : Wish R)
+        → ¬ AsksInPlace (program_as program.now) (texts words.entry.now) wish) }
+    ensures mistake { IfErr result (λ mistake. (mistake ≡ Memory)
+        ⊎ IsMisread (program_as program.now) (texts words.entry.now) mistake) }
 {
     match wish_in(program, words) {
         Some(asked) => Ok(asked),

@@ -1,23 +1,25 @@
 //! What the program's words ask for, with their values read.
 
-ghost use Rattle.std.specs.Prelude.{◌≡◌, ◌↔◌, Option, IfOk, IfErr, Ok};
-ghost use Rattle.command_line.specs.Asked.{IsHelp, IsVersion};
+ghost use Rattle.std.specs.Prelude.{◌≡◌, ◌↔◌, ◌⊎◌, ◌∷◌, [], true, false, Option, IfOk, IfErr, Ok, unwrap_or};
+ghost use Rattle.clap.specs.Words.{first_of};
+ghost use Rattle.command_line.specs.Arguments.{given};
+ghost use Rattle.command_line.specs.Asked.{IsHelp, values_found};
 ghost use Rattle.command_line.specs.Plain.{texts};
-ghost use Rattle.command_line.specs.declared.row_names.RowName.{RowName};
-ghost use Rattle.command_line.specs.declared.asked.WordsFault.TheVariants.{Memory};
-ghost use Rattle.command_line.specs.Printed.{asks_for_help, is_want_of_memory};
-ghost use Rattle.command_line.specs.Tasks.{IsMisuse, IsServeMisuse, IsValueMisuse, Wants, WantsRun, WantsServe};
+ghost use Rattle.command_line.specs.Programs.{AsksFor, AsksInPlace, IsMisread, IsVersion, Wish, is_clear, wish_as};
+ghost use Rattle.command_line.specs.Rows.{bureau};
+ghost use Rattle.command_line.specs.Tasks.{IsMistake, IsRowMistake, IsServeMistake, IsValueMistake, Wants, WantsRow};
+ghost use Rattle.command_line.specs.declared.mistakes.Mistake.TheVariants.{Memory};
+ghost use Rattle.command_line.specs.declared.rows.RowName.{RowName};
 ghost use Rattle.command_line.specs.declared.tasks.Task.{Task};
 
-use crate::asked::{Words, WordsFault};
+use crate::arguments::Found;
+use crate::mistakes::Mistake;
+use crate::plain::is_clear;
 use crate::ports::{count_of, port_of};
-use crate::row_names::RowName;
+use crate::programs::{Asked, asked_by, mistake_in};
+use crate::rows::{BUREAU, RowName};
 use core_store::Size;
-use std::alloc::{AllocError, Global};
-use std::error::Error;
-use std::fmt::{Display, Formatter};
-use std::io::ErrorKind;
-use std::{fmt, io};
+use std::alloc::Global;
 use texts::{number_or_zero, size_of, switches_of};
 use units::Switches;
 
@@ -87,105 +89,39 @@ pub enum Task<'a> {
     },
 }
 
-/// Why words do not ask for a task. Its `Display` is a complaint to the caller.
-#[derive(Clone, Copy, Debug)]
-pub enum Misuse<'a> {
-    /// They are not the words of a row, or there was no memory to read them.
-    Words(WordsFault<'a>),
-    /// A word is not valid text.
-    NoText,
-    /// SIZE is not a size of storage.
-    Size,
-    /// SWITCHES does not name a set of sense switches.
-    Switches,
-    /// PORT is not a port's number.
-    Port,
-    /// COUNT is not a number of connections.
-    Count,
-}
-
 /// What is said of a text that is no size of storage.
 pub const SIZE_COMPLAINT: &str = "SIZE must be 1400, 2000, 4000, 8000, 12000 or 16000";
 
 /// What is said of a text that does not name a set of sense switches.
 pub const SWITCHES_COMPLAINT: &str = "SWITCHES must be rising letters of ABCDEFG, or - for none";
 
-impl<'a> Misuse<'a> {
-    /// Whether there was no memory to read the words, which is a fault and not a misuse.
-    pub(crate) fn is_want_of_memory(&self) -> bool
-        ensures { result ≡ is_want_of_memory self.now }
-    {
-        matches!(self, Misuse::Words(WordsFault::Memory))
-    }
+/// What is said of a text that is no port.
+const NO_PORT: &str = "PORT must be a number from 1 to 65535";
 
-    /// Whether the words ask for help, without hyphens.
-    pub(crate) fn asks_for_help(&self) -> bool
-        ensures { result ≡ asks_for_help self.now }
-    {
-        match self {
-            Misuse::Words(fault) => fault.is_help(),
-            _ => false,
-        }
-    }
-}
+/// What is said of a text that is no number of connections.
+const NO_COUNT: &str = "COUNT must be a number from 1 to 1000000";
 
-impl<'a> Display for Misuse<'a> {
-    ghost use Rattle.std.specs.Prelude.{Some};
-    ghost use Rattle.command_line.specs.Printed.{misuse_words};
-
-    ghost output = { λ misuse. Some (misuse_words misuse) };
-
-    fn fmt<W: fmt::Write>(&self, formatter: &mut Formatter<W>) -> fmt::Result {
-        match self {
-            Misuse::Words(fault) => write!(formatter, "{fault}"),
-            Misuse::NoText => formatter.write_str("a word is not UTF-8 text"),
-            Misuse::Size => formatter.write_str(SIZE_COMPLAINT),
-            Misuse::Switches => formatter.write_str(SWITCHES_COMPLAINT),
-            Misuse::Port => formatter.write_str("PORT must be a number from 1 to 65535"),
-            Misuse::Count => formatter.write_str("COUNT must be a number from 1 to 1000000"),
-        }
-    }
-}
-
-impl<'a> Error for Misuse<'a> {}
-
-impl<'a> From<AllocError> for Misuse<'a> {
-    ghost use Rattle.command_line.specs.Printed.{want_of_memory};
-
-    ghost from_gives = { λ _ misuse. misuse ≡ want_of_memory };
-
-    fn from(_error: AllocError) -> Misuse<'a> {
-        Misuse::Words(WordsFault::Memory)
-    }
-}
-
-/// The misuse of a process whose words cannot be read.
-impl<'a> From<io::Error> for Misuse<'a> {
-    ghost use Rattle.std.specs.IoError.{error_kind};
-    ghost use Rattle.command_line.specs.Printed.{misuse_of};
-
-    ghost from_gives = { λ error misuse. misuse ≡ misuse_of (error_kind error) };
-
-    fn from(error: io::Error) -> Misuse<'a> {
-        match error.kind() {
-            ErrorKind::OutOfMemory => Misuse::Words(WordsFault::Memory),
-            _ => Misuse::NoText,
-        }
+/// The value with a name. It is empty where there is none; clap takes no row without its values.
+fn value_of<'a>(found: &Found<'a>, name: &str) -> &'a str
+    ensures { result.now ≡ unwrap_or (first_of name.now (given found.now)) [] }
+{
+    match found.value(name) {
+        Some(value) => value,
+        None => "",
     }
 }
 
 /// The task of a row `run`.
-fn run_task<'a>(deck: &'a str, size: &str, switches: &str) -> Result<Task<'a>, Misuse<'a>>
-    ensures ok { IfOk result (WantsRun deck.entry.now size.now switches.now) }
-    ensures err { IfErr result (λ _. (task : Task) →
-        ¬ WantsRun deck.entry.now size.now switches.now task) }
-    ensures misuse { IfErr result (IsValueMisuse size.now switches.now) }
+fn run_task<'a>(deck: &'a str, size: &str, switches: &str) -> Result<Task<'a>, Mistake>
+    ensures ok { IfOk result
+        (WantsRow RowName.Run (deck.entry.now ∷ size.now ∷ switches.now ∷ [])) }
+    ensures mistake { IfErr result (IsValueMistake size.now switches.now) }
 {
     let Some(size) = size_of(size) else {
-        return Err(Misuse::Size);
+        return Err(Mistake::Value(SIZE_COMPLAINT));
     };
     let Some(switches) = switches_of(switches) else {
-        return Err(Misuse::Switches);
+        return Err(Mistake::Value(SWITCHES_COMPLAINT));
     };
     Ok(Task::Run {
         deck: Input::File(deck),
@@ -195,63 +131,123 @@ fn run_task<'a>(deck: &'a str, size: &str, switches: &str) -> Result<Task<'a>, M
 }
 
 /// The task of a row `serve`.
-fn serve_task<'a>(file: &'a str, port: &str, count: &str) -> Result<Task<'a>, Misuse<'a>>
-    ensures ok { IfOk result (WantsServe file.entry.now port.now count.now) }
-    ensures err { IfErr result (λ _. (task : Task) →
-        ¬ WantsServe file.entry.now port.now count.now task) }
-    ensures misuse { IfErr result (IsServeMisuse port.now count.now) }
+fn serve_task<'a>(file: &'a str, port: &str, count: &str) -> Result<Task<'a>, Mistake>
+    ensures ok { IfOk result
+        (WantsRow RowName.Serve (file.entry.now ∷ port.now ∷ count.now ∷ [])) }
+    ensures mistake { IfErr result (IsServeMistake port.now count.now) }
 {
     let Some(port) = port_of(port) else {
-        return Err(Misuse::Port);
+        return Err(Mistake::Value(NO_PORT));
     };
     let Some(count) = count_of(count) else {
-        return Err(Misuse::Count);
+        return Err(Mistake::Value(NO_COUNT));
     };
     Ok(Task::Serve { file, port, count })
 }
 
-/// Returns the task that the words ask for, or else the misuse: what is wrong with them.
+/// The task of a row `export`.
+fn export_task<'a>(file: &'a str, customer: &'a str, number: &str) -> Task<'a>
+    ensures { WantsRow RowName.Export
+        (file.entry.now ∷ customer.entry.now ∷ number.now ∷ []) result }
+{
+    Task::Export {
+        file,
+        customer,
+        number: number_or_zero(number),
+    }
+}
+
+/// The task of a row, by what clap found after its name.
+fn row_task<'a>(row: RowName, found: &Found<'a>) -> Result<Task<'a>, Mistake>
+    ensures ok { IfOk result (WantsRow row (values_found (given found.now) row)) }
+    ensures mistake { IfErr result (IsRowMistake row (values_found (given found.now) row)) }
+{
+    match row {
+        RowName::Run => run_task(
+            value_of(found, "DECK"),
+            value_of(found, "SIZE"),
+            value_of(found, "SWITCHES"),
+        ),
+        RowName::Assemble => Ok(Task::Assemble {
+            source: value_of(found, "IN"),
+            out: value_of(found, "OUT"),
+        }),
+        RowName::Init => Ok(Task::Init {
+            file: value_of(found, "FILE"),
+        }),
+        RowName::Apply => Ok(Task::Apply {
+            file: value_of(found, "FILE"),
+            script: value_of(found, "SCRIPT"),
+        }),
+        RowName::Export => Ok(export_task(
+            value_of(found, "FILE"),
+            value_of(found, "CUSTOMER"),
+            value_of(found, "NUMBER"),
+        )),
+        RowName::Migrate => Ok(Task::Migrate {
+            file: value_of(found, "FILE"),
+        }),
+        RowName::Serve => serve_task(
+            value_of(found, "FILE"),
+            value_of(found, "PORT"),
+            value_of(found, "COUNT"),
+        ),
+    }
+}
+
+/// The task of a row by words that have it, unless one of them is an option.
+fn clear_task<'a>(words: &[String], row: RowName, found: &Found<'a>) -> Result<Task<'a>, Mistake>
+    ensures ok { IfOk result (λ task. (is_clear bureau (texts words.now) ≡ true)
+        × WantsRow row (values_found (given found.now) row) task) }
+    ensures mistake { IfErr result (λ mistake.
+        ((is_clear bureau (texts words.now) ≡ false)
+        × IsMisread bureau (texts words.now) mistake)
+        ⊎ ((is_clear bureau (texts words.now) ≡ true)
+        × IsRowMistake row (values_found (given found.now) row) mistake)) }
+{
+    if !is_clear(&BUREAU, words) {
+        return Err(mistake_in(&BUREAU, words));
+    }
+    row_task(row, found)
+}
+
+/// What words ask for by the table.
+fn wish_of<'a>(alloc: Global, words: &'a [String]) -> Result<Asked<'a, RowName>, Mistake>
+    ensures ok { IfOk result (λ asked. AsksFor bureau (texts words.entry.now) (wish_as asked)) }
+    ensures err { IfErr result (λ mistake. (wish : Wish RowName) →
+        AsksFor bureau (texts words.entry.now) wish → mistake ≡ Memory) }
+    ensures in_place { IfOk result (λ asked. (wish : Wish RowName) →
+        AsksInPlace bureau (texts words.entry.now) wish → wish_as asked ≡ wish) }
+    ensures never { IfErr result (λ _. (wish : Wish RowName) →
+        ¬ AsksInPlace bureau (texts words.entry.now) wish) }
+    ensures mistake { IfErr result (λ mistake. (mistake ≡ Memory)
+        ⊎ IsMisread bureau (texts words.entry.now) mistake) }
+{
+    asked_by(alloc, &BUREAU, words)
+}
+
+/// Returns the task that the words ask for, or else what is wrong with them.
 #[tactic(auto, unfolding(texts::specs::Switches::letters_of))]
-pub fn task_of<'a>(alloc: Global, words: &'a [String]) -> Result<Task<'a>, Misuse<'a>>
+pub fn task_of<'a>(alloc: Global, words: &'a [String]) -> Result<Task<'a>, Mistake>
     ensures ok { IfOk result (Wants (texts words.entry.now)) }
-    ensures err { IfErr result (λ misuse. (task : Task) → Wants (texts words.entry.now) task
-        → misuse ≡ Misuse.Words Memory) }
+    ensures err { IfErr result (λ mistake. (task : Task) → Wants (texts words.entry.now) task
+        → mistake ≡ Memory) }
     ensures help { (row : Option RowName) →
         (result ≡ Ok (Task.Help row)) ↔ IsHelp row (texts words.entry.now) }
     ensures version { (result ≡ Ok Task.Version) ↔ IsVersion (texts words.entry.now) }
-    ensures misuse { IfErr result (IsMisuse (texts words.entry.now)) }
+    ensures mistake { IfErr result (IsMistake (texts words.entry.now)) }
 {
-    match crate::parsing::words(alloc, words) {
-        Ok(Words::Help(row)) => Ok(Task::Help(row)),
-        Ok(Words::Version) => Ok(Task::Version),
-        Ok(Words::Standard) => Ok(Task::Run {
+    if words.is_empty() {
+        return Ok(Task::Run {
             deck: Input::Standard,
             size: Size::Positions4000,
             switches: Switches::A,
-        }),
-        Ok(
-            Words::Run {
-                deck,
-                size,
-                switches,
-            },
-        ) => run_task(deck, size, switches),
-        Ok(Words::Assemble { source, out }) => Ok(Task::Assemble { source, out }),
-        Ok(Words::Init { file }) => Ok(Task::Init { file }),
-        Ok(Words::Migrate { file }) => Ok(Task::Migrate { file }),
-        Ok(Words::Apply { file, script }) => Ok(Task::Apply { file, script }),
-        Ok(
-            Words::Export {
-                file,
-                customer,
-                number,
-            },
-        ) => Ok(Task::Export {
-            file,
-            customer,
-            number: number_or_zero(number),
-        }),
-        Ok(Words::Serve { file, port, count }) => serve_task(file, port, count),
-        Err(fault) => Err(Misuse::Words(fault)),
+        });
+    }
+    match wish_of(alloc, words) {
+        Ok(Asked::Help(row)) => Ok(Task::Help(row)),
+        Ok(Asked::Version) => Ok(Task::Version),
+        Ok(Asked::Row(row, found)) => clear_task(words, row, &found),
+        Err(mistake) => Err(mistake),
     }
 }

@@ -3,13 +3,12 @@
 ghost use Rattle.std.specs.Prelude.{◌≡◌, ◌∷◌, [], ◌++◌, IfOk, OnOk};
 ghost use Rattle.std.specs.Io.KnownBytes.{Appends};
 ghost use Rattle.command_line.specs.Asked.{page_of};
-ghost use Rattle.command_line.specs.Printed.{IsTextShown, fault_words, misuse_message, misuse_status, version_text};
+ghost use Rattle.command_line.specs.Printed.{IsTextShown, fault_words, version_text};
 
 use crate::faults::Fault;
-use crate::help::{USAGE, VERSION, page};
-use crate::row_names::RowName;
+use crate::help::{VERSION, page};
+use crate::rows::RowName;
 use crate::statuses::Status;
-use crate::tasks::Misuse;
 use std::io;
 use std::io::Write;
 
@@ -28,24 +27,6 @@ pub fn tell_fault<E: Write>(errors: &mut E, fault: Fault) -> io::Result<Status>
 {
     writeln!(errors, "{fault}")?;
     Ok(Status::NotDone)
-}
-
-/// Prints what is wrong with the words, and the usage line; or, if they ask for help without
-/// hyphens, only this help. An error is the writer's.
-pub fn tell_misuse<E: Write>(errors: &mut E, misuse: Misuse<'_>) -> io::Result<Status>
-    ensures { IfOk result (λ status. (status ≡ misuse_status misuse.entry)
-        × Appends (E.contents errors.old) (E.contents errors.new)
-        (misuse_message misuse.entry)) }
-{
-    if misuse.is_want_of_memory() {
-        return tell_fault(errors, Fault::Memory);
-    }
-    if misuse.asks_for_help() {
-        write!(errors, "{misuse}")?;
-    } else {
-        writeln!(errors, "bureau: {misuse}\n{USAGE}")?;
-    }
-    Ok(Status::Misused)
 }
 
 /// Writes a text. An error is the second writer's, on which nothing can be printed.

@@ -1,7 +1,7 @@
 //! The help on a writer that fails, and words for which there is no memory.
 
 use crate::devices::Full;
-use command_line::{Misuse, show_help, tell_misuse};
+use command_line::{Mistake, show_help, tell_mistake};
 use std::alloc::AllocError;
 use std::test::Fail;
 
@@ -17,7 +17,8 @@ fn a_help_that_is_not_flushed_is_a_fault(rt: HostRuntime) -> Result<(), Fail> {
 #[test]
 fn want_of_memory_is_told(rt: HostRuntime) -> Result<(), Fail> {
     let mut told = Vec::new(rt.alloc());
-    assert_eq!(rt; tell_misuse(&mut told, Misuse::from(AllocError))?.code(), 1);
+    let mistake = Mistake::from(AllocError);
+    assert_eq!(rt; tell_mistake(&mut told, "bureau", mistake)?.code(), 1);
     assert!(rt; told.as_slice() == b"fault 1\n".as_slice());
     Ok(())
 }

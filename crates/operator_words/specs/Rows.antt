@@ -5,25 +5,42 @@ use Rattle.command_line.specs.declared.tables.Kind.TheVariants.{Value, Further, 
 use Rattle.operator_words.specs.declared.rows.RowName.{RowName}
 use Rattle.operator_words.specs.declared.rows.RowName.TheVariants as name
 
--- the program by its words, with the table of its rows: each with its name, and its arguments in
--- order, by name
+-- the program by its words, with the table of its rows: each with its name, its arguments in order,
+-- by name, and how it is used
 abbrev pub operator : Program RowName
 operator = record {
   name = codes "operator";
-  rows = (name.Check, codes "check", (codes "FILE", Value) ∷ [])
-      ∷ (name.Jobs, codes "jobs", (codes "FILE", Value) ∷ (codes "CUSTOMER", Further) ∷ [])
-      ∷ (name.Copy, codes "copy", (codes "FILE", Value) ∷ (codes "NEW", Value) ∷ [])
-      ∷ (name.Archive, codes "archive", (codes "FILE", Value) ∷ (codes "FOLDER", Value) ∷ [])
+  rows = (name.Check, codes "check", (codes "FILE", Value) ∷ [], codes "check FILE")
+      ∷ (
+        name.Jobs,
+        codes "jobs",
+        (codes "FILE", Value) ∷ (codes "CUSTOMER", Further) ∷ [],
+        codes "jobs FILE [CUSTOMER]",
+      )
+      ∷ (
+        name.Copy,
+        codes "copy",
+        (codes "FILE", Value) ∷ (codes "NEW", Value) ∷ [],
+        codes "copy FILE NEW",
+      )
+      ∷ (
+        name.Archive,
+        codes "archive",
+        (codes "FILE", Value) ∷ (codes "FOLDER", Value) ∷ [],
+        codes "archive FILE FOLDER",
+      )
       ∷ (
         name.Work,
         codes "work",
         (codes "PORT", Value) ∷ (codes "slice", Setting) ∷ (codes "rounds", Setting)
             ∷ (codes "pause", Setting) ∷ [],
+        codes "work PORT [--slice N] [--rounds N] [--pause SECONDS]",
       )
       ∷ (
         name.Watch,
         codes "watch",
         (codes "PORT", Value) ∷ (codes "rounds", Setting) ∷ (codes "pause", Setting) ∷ [],
+        codes "watch PORT [--rounds N] [--pause SECONDS]",
       )
       ∷ [];
 }

@@ -1,4 +1,4 @@
-use Rattle.std.proofs.Common.{◌≡◌, ◌∙◌, [], ap, subst}
+use Rattle.std.proofs.Common.{◌≡◌, ◌≢◌, ◌∙◌, [], ap, inl, inr, subst, sym}
 use Rattle.clap.specs.Simple.{is_simple}
 use Rattle.clap.specs.Words.{App, fault_of, is_simple_and_free, subcommand_of, subcommand_rows_of}
 use Rattle.command_line.specs.Plain.{texts}
@@ -10,8 +10,15 @@ parse-requires-clause-simple g c = ap is_simple c.in_ok-command_of.ensures ∙ c
 pub parse-requires-clause-free : goal.parse-requires-clause-free
 parse-requires-clause-free g c = ap is_simple_and_free c.in_ok-command_of.ensures ∙ c.requires.free
 
-pub returns-in-Ok : goal.returns-in-Ok
-returns-in-Ok g c =
+pub returns-in-Ok-clause-ok : goal.returns-in-Ok-clause-ok
+returns-in-Ok-clause-ok g c =
     let words = texts c.args.words.now in
     subst (λ (a : App). (fault_of a words ≡ []) × (subcommand_rows_of c.in-Ok.matches ≡ subcommand_of a words))
     c.in_ok-command_of.ensures c.in-Ok.ensures.ok
+
+pub returns-in-Err-Words-clause-err : goal.returns-in-Err-Words-clause-err
+returns-in-Err-Words-clause-err g c =
+    elim c.in-Err-Words.ensures.err [
+      | inl memory ↦ absurd (let none = sym c.in-Err-Words.field-0-is ∙ memory in cc)
+      | inr faulty ↦ inr (subst (λ (a : App). fault_of a (texts c.args.words.now) ≢ []) c.in_ok-command_of.ensures faulty)
+    ]
