@@ -200,14 +200,6 @@ fn list_named<S: Alter>(
     Ok(out)
 }
 
-/// The fault of a file's opening for a fault of its tables.
-fn opening(fault: Fault) -> OpenFault {
-    match fault {
-        Fault::NoMemory => OpenFault::NoMemory,
-        Fault::Store => OpenFault::Store,
-    }
-}
-
 /// The list of the jobs of a connection, which is handed back.
 fn list_in<S: Alter + Drop>(
     alloc: Global,
@@ -223,7 +215,7 @@ fn list_in<S: Alter + Drop>(
     let mut conn = conn;
     let rows = match read_names(&mut conn) {
         Ok(rows) => rows,
-        Err(fault) => return (Err(opening(fault)), conn),
+        Err(fault) => return (Err(OpenFault::from(fault)), conn),
     };
     let mut bureau = match Bureau::adopt(alloc, conn) {
         Ok(bureau) => bureau,
@@ -233,7 +225,7 @@ fn list_in<S: Alter + Drop>(
     let conn = bureau.into_connection();
     match listed {
         Ok(text) => (Ok(text), conn),
-        Err(fault) => (Err(opening(fault)), conn),
+        Err(fault) => (Err(OpenFault::from(fault)), conn),
     }
 }
 

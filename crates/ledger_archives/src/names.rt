@@ -15,16 +15,8 @@ ghost use Rattle.ledger_archives.specs.Lists.{Leaves};
 ghost use Rattle.ledger_archives.specs.Names.{HasName, name_row};
 
 use ledger_checks::{number_at, text_at};
-use ledger_tables::{Fault, JobName};
-use sqlite::{Alter, Connection, Error, ErrorCode, Row};
-
-/// The fault of a failed call of the database.
-fn fault_of(error: Error) -> Fault {
-    match error {
-        Error::SqliteFailure(ErrorCode::OutOfMemory) => Fault::NoMemory,
-        _ => Fault::Store,
-    }
-}
+use ledger_tables::{Fault, JobName, fault_of};
+use sqlite::{Alter, Connection, Row};
 
 /// Reads the customer and the number of each job, in the order in which the jobs were taken, in a
 /// transaction that is rolled back.

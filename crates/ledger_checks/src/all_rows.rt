@@ -8,8 +8,8 @@ ghost use Rattle.sqlite.specs.View.{doubt};
 ghost use Rattle.ledger_tables.specs.Tables.{cells};
 ghost use Rattle.ledger_checks.specs.Tables.{AreByPlace, AreRowsOf, LeavesLess, Reads, ReadsAll, version_columns};
 
-use ledger_tables::Fault;
-use sqlite::{Alter, Error, ErrorCode, Row, Transaction};
+use ledger_tables::{Fault, fault_of};
+use sqlite::{Alter, Row, Transaction};
 
 /// The rows of all tables, each with its columns and without its rowid; in the table `bureau` the
 /// rowid is a column.
@@ -26,14 +26,6 @@ pub struct AllRows {
     pub profiles: Vec<Row>,
     /// Of each job in the order of their places.
     pub pockets: Vec<Row>,
-}
-
-/// The fault of a failed call of the database.
-fn fault_of(error: Error) -> Fault {
-    match error {
-        Error::SqliteFailure(ErrorCode::OutOfMemory) => Fault::NoMemory,
-        _ => Fault::Store,
-    }
 }
 
 /// The rows of a query without parameters, inside a transaction.

@@ -24,7 +24,7 @@ mod raising;
 mod rows;
 mod updates;
 
-pub use faults::Fault;
+pub use faults::{Fault, fault_of};
 pub use lists::lists_are_in_order;
 pub use names::JobName;
 pub use open_tables::OpenTables;

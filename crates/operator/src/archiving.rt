@@ -217,7 +217,7 @@ pub(crate) fn archive_file<W: Write, E: Write>(
     }
     match &look.rows {
         Some(Ok(rows)) => archive_or_tell(rt, rows, folder, output, errors),
-        Some(Err(Fault::NoMemory)) => tell_fault(file, OpenFault::NoMemory, errors),
-        _ => tell_fault(file, OpenFault::Store, errors),
+        Some(Err(fault)) => tell_fault(file, OpenFault::from(*fault), errors),
+        None => tell_fault(file, OpenFault::Store, errors),
     }
 }

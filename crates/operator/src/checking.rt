@@ -53,7 +53,7 @@ pub(crate) fn check_file<W: Write, E: Write>(
     }
     match &look.checked {
         Some(Ok(report)) => show(rt, report, output),
-        Some(Err(Fault::NoMemory)) => tell_fault(path, OpenFault::NoMemory, errors),
-        _ => tell_fault(path, OpenFault::Store, errors),
+        Some(Err(fault)) => tell_fault(path, OpenFault::from(*fault), errors),
+        None => tell_fault(path, OpenFault::Store, errors),
     }
 }

@@ -44,14 +44,6 @@ impl Comparison for RowComparison {
     }
 }
 
-/// The fault that is told of a file whose rows cannot be read.
-fn told(fault: Fault) -> OpenFault {
-    match fault {
-        Fault::NoMemory => OpenFault::NoMemory,
-        Fault::Store => OpenFault::Store,
-    }
-}
-
 /// Prints why a copy is not made at a path, and the way out.
 fn tell_no_copy<E: Write>(new: &str, fault: OpenFault, errors: &mut E) -> io::Result<Status> {
     match fault {
@@ -81,7 +73,7 @@ fn tell_difference<E: Write>(
     errors: &mut E,
 ) -> io::Result<Status> {
     if let Some(Err(fault)) = &comparison.rows {
-        return tell_fault(file, told(*fault), errors);
+        return tell_fault(file, OpenFault::from(*fault), errors);
     }
     match &comparison.other {
         Some(Ok(Some(table))) => {
@@ -92,7 +84,7 @@ fn tell_difference<E: Write>(
             )?;
             Ok(Status::NotDone)
         }
-        Some(Err(fault)) => tell_no_copy(new, told(*fault), errors),
+        Some(Err(fault)) => tell_no_copy(new, OpenFault::from(*fault), errors),
         _ => tell_no_copy(new, OpenFault::Store, errors),
     }
 }
