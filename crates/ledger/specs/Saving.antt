@@ -24,7 +24,8 @@ use Rattle.units.specs.declared.pockets.Pocket.{Pocket}
 use Rattle.units.specs.declared.punch.Punched.{Punched}
 use Rattle.units.specs.declared.units.Units.{Units}
 use Rattle.ledger.specs.Earlier.{kept_alone, with_outputs_of, HasCounted}
-use Rattle.ledger.specs.Standing.{kind_number, stretch_row}
+use Rattle.ledger.specs.Standing.{stretch_row}
+use Rattle.office.specs.Numbers.{kind_number}
 
 -- the job's card rows are those of these cards, as many as were made before
 pub record HasCardRows (name : JobName) (before : ℕ) (earlier : List Punched) (t : Tables)

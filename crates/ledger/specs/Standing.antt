@@ -6,8 +6,7 @@ use Rattle.core_store.specs.Storage.{positions_of}
 use Rattle.machine.specs.Run.{lines_of as printed_by}
 use Rattle.office.specs.Jobs.{Job, loaded_deck, picture, IsJob}
 use Rattle.office.specs.Office.{Entry, Office, job_of}
-use Rattle.office.specs.declared.commands.Kind.{Kind}
-use Rattle.office.specs.declared.commands.Kind.TheVariants.{Object, Autocoder}
+use Rattle.office.specs.Numbers.{kind_number}
 use Rattle.office.specs.declared.replies.Reply.{Reply}
 use Rattle.office.specs.declared.stretches.Stretch.{Stretch}
 use Rattle.ledger_rows.specs.Columns.{truth, state_row, profile_row, line_cells, HoldsCharacters, IsLine}
@@ -22,11 +21,6 @@ use Rattle.ledger_tables.specs.Tables.{NamedJob, Tables, Holds}
 use Rattle.ledger_tables.specs.declared.rows.ProfileRow.{ProfileRow}
 use Rattle.ledger_tables.specs.declared.rows.StateRow.{StateRow}
 use Rattle.ledger_tables.specs.declared.rows.StretchRow.{StretchRow}
-
--- the number of a job's kind in its row: 0 for an object deck, 1 for Autocoder
-abbrev pub kind_number : Kind → ℕ
-kind_number Object = 0
-kind_number Autocoder = 1
 
 -- the columns of a job's row
 abbrev pub job_cells : Job → JobCells

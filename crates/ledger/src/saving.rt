@@ -16,7 +16,6 @@ ghost use Rattle.ledger_tables.specs.Named.{HasNoJob, HasNoPocket, HasNoProfile,
 ghost use Rattle.ledger_tables.specs.Steps.{Changes, IsStep};
 ghost use Rattle.ledger.specs.Earlier.{drives_machine};
 ghost use Rattle.ledger.specs.Saving.{job_in, HasCardRows, with_all_cards, HasPocketRows, with_card_pocket, with_all_pockets, with_choice, HasLineRows, with_all_lines, HasEarlier, with_made, HasFewerGranted, HasOneLess, with_all_stretches, with_running, with_machine, with_selection, with_progress, with_begun, HasRows, HasNoMachine, HasNotStarted, new_cells, with_handed, IsAfter, IsAfterStorage, with_after, with_flagged, IsFreeName, IsTakenAs, with_new};
-ghost use Rattle.ledger.specs.Standing.{kind_number};
 ghost use Rattle.ledger.specs.Steps.{Saves};
 
 use crate::page_saving::{insert_pages, save_pages, storage_holds_characters};
@@ -27,7 +26,7 @@ use ledger_rows::{
 };
 use ledger_tables::{Fault, JobName, JobRow, OpenTables, StretchRow};
 use machine::{Parts, runs_only_add};
-use office::{Contents, Job, JobCommand, Kind, Stretch, commands_keep_jobs};
+use office::{Contents, Job, JobCommand, Stretch, commands_keep_jobs};
 use sqlite::Alter;
 use std::alloc::{AllocError, Global};
 use units::{Line, Pocket, Punched, Units};
@@ -347,16 +346,6 @@ pub fn save<S: Alter>(
     }
 }
 
-/// The number of a kind.
-fn kind_number(kind: Kind) -> u32
-    ensures { result ≡ kind_number kind }
-{
-    match kind {
-        Kind::Object => 0,
-        Kind::Autocoder => 1,
-    }
-}
-
 /// The row of a job that is handed in and loads this deck.
 fn job_row(alloc: Global, contents: &Contents, loaded: &Deck) -> Result<JobRow, AllocError>
     ensures row { IfOk result (λ row. row ≡ new_cells contents.now loaded.now) }
@@ -364,7 +353,7 @@ fn job_row(alloc: Global, contents: &Contents, loaded: &Deck) -> Result<JobRow, 
     ensures loaded { OnOk result (IsDeck loaded.now) }
 {
     Ok(JobRow {
-        kind: kind_number(contents.kind),
+        kind: contents.kind.number(),
         size: contents.size,
         deck: deck_bytes(alloc, &contents.deck)?,
         loaded: deck_bytes(alloc, loaded)?,

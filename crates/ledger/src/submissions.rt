@@ -9,7 +9,8 @@ ghost use Rattle.ledger_tables.specs.Steps.{IsStep, IsOpenStep};
 ghost use Rattle.ledger.specs.Found.{IsFirst};
 ghost use Rattle.ledger.specs.Saving.{IsFreeName, IsTakenAs};
 ghost use Rattle.ledger.specs.Serving.{with_added, with_taken, with_submitted};
-ghost use Rattle.ledger.specs.Standing.{CanBeKept, job_cells, kind_number};
+ghost use Rattle.ledger.specs.Standing.{CanBeKept, job_cells};
+ghost use Rattle.office.specs.Numbers.{kind_number};
 ghost use Rattle.ledger.specs.Steps.{FindsIn, FailsAlone, FailsWith, Serves, ServesWhere};
 
 use crate::reading::{Handed, find_handed};

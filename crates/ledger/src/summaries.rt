@@ -1,8 +1,8 @@
 //! The summary of a job, read without its machine: its standing, its flags, and how much it was
 //! granted and has made.
 
-ghost use Rattle.std.specs.Prelude.{◌≡◌, ◌≢◌, ◌-◌, ◌^◌, [], min};
-ghost use Rattle.office.specs.Jobs.{Job as KnownJob, granted};
+ghost use Rattle.std.specs.Prelude.{◌≡◌, ◌≢◌, []};
+ghost use Rattle.office.specs.Jobs.{Job as KnownJob};
 ghost use Rattle.ledger_tables.specs.Named.{of_job};
 ghost use Rattle.ledger_tables.specs.Steps.{Finds, IsOpenStep};
 ghost use Rattle.ledger.specs.Found.{HasProgress, HasStanding, HasGranted, HasSummary};
@@ -14,7 +14,7 @@ use crate::reading::{find_stretches, stored};
 use ledger_rows::{Progress, read_progress, read_truth};
 use ledger_tables::{Fault, JobName, JobRow, OpenTables};
 use machine::StandingAt;
-use office::{Stretch, Summary, commands_keep_jobs};
+use office::{Summary, commands_keep_jobs, granted_in};
 use sqlite::Alter;
 
 /// Finds the progress of the job of this name.
@@ -48,17 +48,6 @@ pub fn find_standing<S: Alter>(
 {
     let progress = find_progress(tables, name)?;
     Ok(StandingAt::new(progress.standing, progress.i))
-}
-
-/// The number of instructions granted in all, or the greatest number if that is more.
-fn granted_in(stretches: &[Stretch]) -> u32
-    ensures { result ≡ min (granted stretches.now) (2 ^ 32 - 1) }
-{
-    let mut total = 0u32;
-    for stretch in stretches {
-        total = total.saturating_add(stretch.granted);
-    }
-    total
 }
 
 /// Finds the number of instructions granted to the job of this name.

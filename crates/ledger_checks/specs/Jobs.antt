@@ -12,7 +12,8 @@ use Rattle.ledger_rows.specs.Columns.{truth}
 use Rattle.sqlite.specs.Order.{Row, column}
 use Rattle.sqlite.specs.declared.types.Value.TheVariants.{Blob, Int, Text}
 use Rattle.ledger_tables.specs.Tables.{job_row}
-use Rattle.ledger.specs.Standing.{kind_number, named, CanBeKept}
+use Rattle.ledger.specs.Standing.{named, CanBeKept}
+use Rattle.office.specs.Numbers.{kind_number}
 use Rattle.ledger_checks.specs.Kept.{IsKept, IsNamed}
 use Rattle.ledger_checks.specs.Tables.{rows_of}
 use Rattle.ledger_checks.specs.declared.all_rows.AllRows.{AllRows}

@@ -1,12 +1,12 @@
 //! Running a job again.
 
-ghost use Rattle.std.specs.Prelude.{◌≡◌, ◌<◌, ◌++◌, ◌-◌, ◌^◌, ◌↔◌, ℕ, [], All, List, length, min, take, IfOk, OnOk, IsTrue};
+ghost use Rattle.std.specs.Prelude.{◌≡◌, ◌<◌, ◌++◌, ℕ, [], List, length, take, IfOk, OnOk};
 ghost use Rattle.cards.specs.Decks.{deck_bytes};
 ghost use Rattle.cards.specs.declared.decks.Card.{Card};
 ghost use Rattle.core_store.specs.Storage.{positions_of};
 ghost use Rattle.core_store.specs.declared.sizes.Size.{Size as AnySize};
 ghost use Rattle.machine.specs.Run.{State, after, loaded as begun, started};
-ghost use Rattle.office.specs.Jobs.{all_off, granted, resumed, AreStretches, HasSwitches};
+ghost use Rattle.office.specs.Jobs.{all_off, resumed};
 ghost use Rattle.ledger_checks.specs.Again.{GoesThrough, HasResumed, IsLoading, LoadsAs, StartsAtHalts};
 ghost use Rattle.ledger_checks.specs.Stops.{IfDiffers};
 
@@ -16,12 +16,9 @@ use cards::{Card, Deck, DeckFault};
 use core_store::{PlaneCore, Size};
 use ledger_rows::deck_bytes;
 use machine::{Machine, Meter, Standing};
-use office::{Contents, Kind, NewFault, Stretch, commands_keep_jobs, new_job};
+use office::{Contents, Kind, NewFault, Stretch, are_stretches, commands_keep_jobs, new_job};
 use std::alloc::{AllocError, Global};
 use units::{Profile, Switches};
-
-/// The greatest number of instructions that a job is granted, over all its stretches.
-const MOST_GRANTED: u32 = 1_000_000_000;
 
 /// The deck that was handed in, and the deck that the job's machine loads, each with its bytes.
 #[derive(Drop)]
@@ -97,36 +94,6 @@ pub(crate) fn load(alloc: Global, kind: Kind, size: Size, deck: Deck) -> Result<
         loaded,
         loaded_bytes,
     })
-}
-
-/// The number of instructions granted in all, or the greatest number if that is more.
-pub(crate) fn granted_in(stretches: &[Stretch]) -> u32
-    ensures { result ≡ min (granted stretches.now) (2 ^ 32 - 1) }
-{
-    let mut total = 0u32;
-    for stretch in stretches {
-        total = total.saturating_add(stretch.granted);
-    }
-    total
-}
-
-/// Whether no stretch has the eighth bit, which is not a switch.
-fn have_switches(stretches: &[Stretch]) -> bool
-    ensures { IsTrue result ↔ All HasSwitches stretches.now }
-{
-    for stretch in stretches {
-        if !stretch.switches.are_seven() {
-            return false;
-        }
-    }
-    true
-}
-
-/// Whether a job may have these stretches.
-fn are_stretches(stretches: &[Stretch]) -> bool
-    ensures { IsTrue result ↔ AreStretches stretches.now }
-{
-    !stretches.is_empty() && have_switches(stretches) && granted_in(stretches) <= MOST_GRANTED
 }
 
 /// Starts a machine that is at a halt, and runs it for a stretch.

@@ -1,7 +1,6 @@
 //! One job, run again and compared with its rows.
 
 ghost use Rattle.std.specs.Prelude.{◌≡◌, ◌<◌, ℕ, ℤ, List, length, pos, true, IfErr, IfOk, OnErr, OnOk};
-ghost use Rattle.ledger.specs.Standing.{kind_number};
 ghost use Rattle.sqlite.specs.Order.{column};
 ghost use Rattle.sqlite.specs.declared.types.Value.TheVariants.{Int, Text};
 ghost use Rattle.ledger_checks.specs.Jobs.{HasRun, HasRunAs, HasRunAt, IsNameOf, entry_of, row_of};
@@ -21,21 +20,11 @@ use crate::runs::JobRun;
 use crate::submitted::{Numbers, Submitted, read_profile, read_stretches, read_submitted};
 use ledger_rows::truth;
 use ledger_tables::JobName;
-use office::{Kind, Stretch, is_customer, is_number};
+use office::{Stretch, is_customer, is_number};
 use sqlite::types::ValueRef;
 use sqlite::{Row, params};
 use std::alloc::{AllocError, Global};
 use units::Profile;
-
-/// The number of a kind.
-fn kind_number(kind: Kind) -> u32
-    ensures { result ≡ kind_number kind }
-{
-    match kind {
-        Kind::Object => 0,
-        Kind::Autocoder => 1,
-    }
-}
 
 /// The job's row is this one.
 fn check_row(row: &Row, name: JobName<'_>, job: Numbers, loaded: &Loaded) -> Result<(), Difference>
@@ -48,7 +37,7 @@ fn check_row(row: &Row, name: JobName<'_>, job: Numbers, loaded: &Loaded) -> Res
     let wanted = params![
         name.customer,
         name.number,
-        kind_number(job.kind),
+        job.kind.number(),
         size,
         loaded.deck_bytes.as_slice(),
         loaded.loaded_bytes.as_slice(),

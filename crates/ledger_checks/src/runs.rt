@@ -9,13 +9,12 @@ ghost use Rattle.ledger.specs.Standing.{CanBeKept};
 ghost use Rattle.ledger_checks.specs.Jobs.{HasComeTo, entry_of};
 ghost use Rattle.ledger_checks.specs.Reports.{Tells};
 
-use crate::again::granted_in;
 use crate::reports::{JobReport, Outcome};
 use crate::submitted::Numbers;
 use cards::Deck;
 use core_store::{PlaneCore, Size};
 use machine::{Machine, Parts, runs_only_add};
-use office::{Kind, Stretch, Summary};
+use office::{Kind, Stretch, Summary, granted_in};
 use std::alloc::{AllocError, Global};
 use std::marker::Model;
 use units::Profile;

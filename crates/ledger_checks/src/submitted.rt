@@ -4,7 +4,8 @@ ghost use Rattle.std.specs.Prelude.{◌≡◌, ◌<◌, ◌^◌, ℕ, List, pos,
 ghost use Rattle.cards.specs.Decks.{IsDeck, deck_bytes};
 ghost use Rattle.cards.specs.declared.decks.Card.{Card};
 ghost use Rattle.core_store.specs.Storage.{positions_of};
-ghost use Rattle.ledger.specs.Standing.{kind_number, named, stretch_row as stretch_cells};
+ghost use Rattle.ledger.specs.Standing.{named, stretch_row as stretch_cells};
+ghost use Rattle.office.specs.Numbers.{kind_number};
 ghost use Rattle.ledger_checks.specs.Jobs.{numbers_of, row_of};
 ghost use Rattle.ledger_checks.specs.Kept.{rows_of_profile, rows_of_stretches};
 ghost use Rattle.ledger_checks.specs.Stops.{Gives, IfDiffers};

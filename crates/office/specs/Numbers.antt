@@ -1,7 +1,14 @@
--- the numbers of the refusals
+-- the numbers of the kinds of decks, and of the refusals
 use Rattle.std.specs.Prelude.{ℕ}
+use Rattle.office.specs.declared.commands.Kind.{Kind}
+use Rattle.office.specs.declared.commands.Kind.TheVariants.{Object, Autocoder}
 use Rattle.office.specs.declared.refusals.Refusal.{Refusal}
 use Rattle.office.specs.declared.refusals.Refusal.TheVariants.{Customer, Number, Size, Deck, OtherContents, TooManyJobs, Assembly, NoJob, Limit, Held, NotRunning, NotAtHalt, AlreadyHeld, NotHeld, Collected, TooMuch, NoSuchPocket}
+
+-- the number of a job's kind in its row: 0 for an object deck, 1 for Autocoder
+abbrev pub kind_number : Kind → ℕ
+kind_number Object = 0
+kind_number Autocoder = 1
 
 -- the number that a refusal is printed with, 10 to 29; no two refusals have the same
 abbrev pub refusal_number : Refusal → ℕ

@@ -21,6 +21,20 @@ pub enum Kind {
     Autocoder,
 }
 
+impl Kind {
+    ghost use Rattle.office.specs.Numbers.{kind_number};
+
+    /// The number of the kind in a job's row: 0 or 1.
+    pub fn number(self) -> u32
+        ensures { result ≡ kind_number self }
+    {
+        match self {
+            Kind::Object => 0,
+            Kind::Autocoder => 1,
+        }
+    }
+}
+
 /// What a customer hands in.
 #[derive(Drop)]
 pub struct Contents {

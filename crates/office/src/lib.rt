@@ -47,5 +47,5 @@ pub use offices::{lists_are_in_order, names_stay_apart, submissions_repeat};
 pub use refusals::Refusal;
 pub use replies::Reply;
 pub use stackers::{Stacker, cards_from};
-pub use stretches::Stretch;
+pub use stretches::{Stretch, are_stretches, granted_in};
 pub use summaries::Summary;

@@ -22,7 +22,7 @@ pub struct Stretch {
 }
 
 /// The number of instructions granted in all, or the greatest number if that is more.
-fn granted_in(stretches: &[Stretch]) -> u32
+pub fn granted_in(stretches: &[Stretch]) -> u32
     ensures { result ≡ min (granted stretches.now) (2 ^ 32 - 1) }
 {
     let mut total = 0u32;
@@ -55,7 +55,7 @@ fn have_switches(stretches: &[Stretch]) -> bool
 }
 
 /// Whether a job may have these stretches: at least one, and not too much granted in all.
-fn are_stretches(stretches: &[Stretch]) -> bool
+pub fn are_stretches(stretches: &[Stretch]) -> bool
     ensures { IsTrue result ↔ AreStretches stretches.now }
 {
     !stretches.is_empty()
