@@ -6,13 +6,12 @@ use Rattle.std.proofs.lemmas.Bool.Decides.{nat_tests}
 use Rattle.std.proofs.lemmas.List.{length-replicate, take-replicate, drop-replicate}
 use Rattle.std.proofs.lemmas.Slice.Eq.{bytes_eq-Decides}
 use Rattle.sqlite.specs.Effect.{Database}
-use Rattle.core_store.specs.Pages.{cells_of, page_at, page_count, AreChanged}
+use Rattle.core_store.specs.Pages.{page_at, page_count, AreChanged}
 use Rattle.core_store.specs.Planes.{joined_planes}
 use Rattle.core_store.specs.Storage.{Storage, blank_storage}
 use Rattle.ledger_tables.specs.Cells.{Pages, blank_bytes, no_pages, unless_blank}
 use Rattle.ledger_tables.specs.Tables.{Beside, ByJob, Tables, HoldsAs, at_job, at_page, with_page, with_pages}
-use Rattle.core_store.specs.declared.planes.PlaneCore.{PlaneCore}
-use Rattle.ledger_rows.specs.Columns.{byte_of, HoldsCharacters}
+use Rattle.ledger_rows.specs.Columns.{byte_of}
 use Rattle.ledger_rows.specs.Pages.{page_bytes, rows_of}
 use Rattle.ledger.proofs.SavingLemmas.{at_job_here, at_job_again, at_job_same}
 
@@ -150,13 +149,3 @@ pub joined_length : (codes marks : List ℕ) → length codes ≡ length marks �
 joined_length [] marks even = refl
 joined_length (code ∷ codes) [] even = absurd (omega (arith, even))
 joined_length (code ∷ codes) (mark ∷ marks) even = ap (λ n. suc n) (joined_length codes marks (omega (arith, even)))
-
-joined_are : (codes marks : List ℕ) → length codes ≡ length marks → ((k d : ℕ) → k < length codes → get_or codes k d < 64) → (k : ℕ) (d : ℕ × Bool) → k < length (joined_planes codes marks) → (get_or (joined_planes codes marks) k d).0 < 64
-joined_are [] marks even all k d less = absurd (omega (arith, less))
-joined_are (code ∷ codes) [] even all k d less = absurd (omega (arith, even))
-joined_are (code ∷ codes) (mark ∷ marks) even all zero d less = all 0 0 (omega arith)
-joined_are (code ∷ codes) (mark ∷ marks) even all (suc k) d less = joined_are codes marks (omega (arith, even)) (λ j e below. all (suc j) e (omega (arith, below))) k d (omega (arith, less))
-
--- planes hold characters
-pub characters_of : (core : PlaneCore) → HoldsCharacters (cells_of core)
-characters_of core = joined_are core.codes.items core.marks.items core.even core.numbers

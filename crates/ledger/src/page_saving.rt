@@ -4,7 +4,6 @@ ghost use Rattle.std.specs.Prelude.{◌≡◌, Some, length, IfOk, ⊤};
 ghost use Rattle.core_store.specs.Pages.{cells_of};
 ghost use Rattle.core_store.specs.Storage.{blank_storage};
 ghost use Rattle.machine.specs.Ranges.{HasSize};
-ghost use Rattle.ledger_rows.specs.Columns.{HoldsCharacters};
 ghost use Rattle.ledger_tables.specs.Named.{with_page_of};
 ghost use Rattle.ledger_tables.specs.Cells.{unless_blank};
 ghost use Rattle.ledger_tables.specs.Steps.{ChangesAny, IsStep};
@@ -54,11 +53,6 @@ pub fn save_pages<S: Alter>(
     }
     Ok(())
 }
-
-/// The law of what storage holds: a character at each position.
-pub fn storage_holds_characters(core: &PlaneCore)
-    ensures { HoldsCharacters (cells_of core.now) }
-{}
 
 /// A blank storage of the size of this one.
 fn blank_like(alloc: Global, core: &PlaneCore) -> Result<PlaneCore, AllocError>

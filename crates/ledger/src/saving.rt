@@ -18,11 +18,12 @@ ghost use Rattle.ledger.specs.Earlier.{drives_machine};
 ghost use Rattle.ledger.specs.Saving.{job_in, HasCardRows, with_all_cards, HasPocketRows, with_card_pocket, with_all_pockets, with_choice, HasLineRows, with_all_lines, HasEarlier, with_made, HasFewerGranted, HasOneLess, with_all_stretches, with_running, with_machine, with_selection, with_progress, with_begun, HasRows, HasNoMachine, HasNotStarted, new_cells, with_handed, IsAfter, IsAfterStorage, with_after, with_flagged, IsFreeName, IsTakenAs, with_new};
 ghost use Rattle.ledger.specs.Steps.{Saves};
 
-use crate::page_saving::{insert_pages, save_pages, storage_holds_characters};
+use crate::page_saving::{insert_pages, save_pages};
 use cards::Deck;
 use core_store::PlaneCore;
 use ledger_rows::{
-    card_bytes, deck_bytes, line_row, pocket_cell, profile_row, state_row, switches_number, truth,
+    card_bytes, deck_bytes, line_row, pocket_cell, profile_row, state_row,
+    storage_holds_characters, switches_number, truth,
 };
 use ledger_tables::{Fault, JobName, JobRow, OpenTables, StretchRow};
 use machine::{Parts, runs_only_add};

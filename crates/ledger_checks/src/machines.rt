@@ -2,7 +2,6 @@
 
 ghost use Rattle.std.specs.Prelude.{◌≡◌, ◌<◌, ◌≤◌, ◌++◌, ◌∷◌, ◌^◌, All, List, length, map, Some, IfErr, IfOk, OnErr, OnOk};
 ghost use Rattle.std.specs.Option.{option_to_list};
-ghost use Rattle.cards.specs.Decks.{AreCharacters};
 ghost use Rattle.core_store.specs.Pages.{cells_of};
 ghost use Rattle.core_store.specs.Storage.{largest_size};
 ghost use Rattle.machine.specs.Ranges.{IsInRange};
@@ -19,16 +18,16 @@ ghost use Rattle.ledger_tables.specs.Tables.{line_row, page_row, pocket_row, str
 use crate::all_rows::AllRows;
 use crate::differences::{Difference, Place};
 use crate::following::{pass, pass_none};
-use bcd::Code;
 use core_store::{Core, PAGE_SIZE, PlaneCore};
 use ledger_rows::{
-    card_bytes, is_blank_page, page_bytes, pocket_cell, profile_row, state_row, switches_number,
+    card_bytes, is_blank_page, line_bytes, page_bytes, pocket_cell, profile_row, state_row,
+    storage_holds_characters, switches_number,
 };
 use ledger_tables::JobName;
 use machine::Parts;
 use office::Stretch;
 use sqlite::{Row, params};
-use units::{LINE_LENGTH, Line, Pocket, Punch, Punched};
+use units::{Line, Pocket, Punch, Punched};
 
 /// Passes the row of a stretch.
 fn pass_stretch<'a>(
@@ -132,28 +131,6 @@ fn check_pockets(rows: &[Row], name: JobName<'_>, cards: &[Punched]) -> Result<(
         rest = pass_pocket(rest, name, at as u32 + 1, cards[at].pocket)?;
     }
     pass_none(rest, name, Place::Pocket(cards.len() as u32 + 1))
-}
-
-/// Writes the numbers of characters as bytes.
-fn write_numbers(codes: &[Code], bytes: &mut [u8])
-    requires { length bytes.old ≡ length codes.now }
-    ensures numbers { bytes.new ≡ codes.now }
-    ensures characters { AreCharacters codes.now }
-{
-    for place in 0..codes.len() {
-        bytes[place] = codes[place].number();
-    }
-}
-
-/// The bytes of a line, one for each character.
-fn line_bytes(line: &Line) -> [u8; LINE_LENGTH]
-    ensures bytes { result ≡ line.now.codes }
-    ensures line { IsLine line.now }
-{
-    let _line = line.line;
-    let mut bytes = [0; LINE_LENGTH];
-    write_numbers(&line.codes, &mut bytes);
-    bytes
 }
 
 /// Passes the row of a line.
@@ -286,11 +263,6 @@ fn check_pages(rows: &[Row], name: JobName<'_>, core: &PlaneCore) -> Result<(), 
     }
     pass_none(rest, name, Place::Page(count as u32))
 }
-
-/// The law of what storage holds: a character at each position.
-fn storage_holds_characters(core: &PlaneCore)
-    ensures { HoldsCharacters (cells_of core.now) }
-{}
 
 /// The rows of a job's pages are those of this machine's storage.
 fn check_storage(

@@ -6,7 +6,10 @@ use Rattle.std.proofs.lemmas.Bool.Decides.{nat_tests}
 use Rattle.std.proofs.lemmas.List.{drop_all, drop_more, length-append, length-drop, length-map, length-replicate, length-take-le, map_push, take_more}
 use Rattle.std.proofs.lemmas.List.Elements.{All-append, All-drop, All-from_recursion, All-more, All-take, recursion_from_All}
 use Rattle.std.specs.List.{AllByRecursion}
+use Rattle.core_store.specs.Pages.{cells_of}
+use Rattle.core_store.specs.Planes.{joined_planes}
 use Rattle.core_store.specs.Storage.{Storage, blank_storage, code_at, is_marked}
+use Rattle.core_store.specs.declared.planes.PlaneCore.{PlaneCore}
 use Rattle.ledger_rows.specs.Columns.{byte_of, storage_bytes, HoldsCharacters}
 use Rattle.ledger_rows.specs.Pages.{AreCells, cell_of, with_bytes}
 
@@ -129,3 +132,15 @@ with_bytes_holds s first bytes holds are =
     All-append (λ (cell : ℕ × Bool). cell.0 < 64) (take first s ++ map cell_of bytes) (drop (first + length bytes) s)
     (All-append (λ (cell : ℕ × Bool). cell.0 < 64) (take first s) (map cell_of bytes) (All-take (λ (cell : ℕ × Bool). cell.0 < 64) first s holds) (are_characters bytes are))
     (All-drop (λ (cell : ℕ × Bool). cell.0 < 64) (first + length bytes) s holds)
+
+-- ---- what planes hold
+
+joined_are : (codes marks : List ℕ) → length codes ≡ length marks → ((k d : ℕ) → k < length codes → get_or codes k d < 64) → (k : ℕ) (d : ℕ × Bool) → k < length (joined_planes codes marks) → (get_or (joined_planes codes marks) k d).0 < 64
+joined_are [] marks even all k d less = absurd (omega (arith, less))
+joined_are (code ∷ codes) [] even all k d less = absurd (omega (arith, even))
+joined_are (code ∷ codes) (mark ∷ marks) even all zero d less = all 0 0 (omega arith)
+joined_are (code ∷ codes) (mark ∷ marks) even all (suc k) d less = joined_are codes marks (omega (arith, even)) (λ j e below. all (suc j) e (omega (arith, below))) k d (omega (arith, less))
+
+-- planes hold characters
+pub characters_of : (core : PlaneCore) → HoldsCharacters (cells_of core)
+characters_of core = joined_are core.codes.items core.marks.items core.even core.numbers

@@ -19,10 +19,10 @@ mod storage;
 
 pub use decks::{card_bytes, deck_bytes, read_deck};
 pub use from_cells::{FromCells, read_rows};
-pub use lines::line_row;
+pub use lines::{line_bytes, line_row};
 pub use numbers::{read_switches, read_truth, switches_number, truth};
 pub use pages::{is_blank_page, page_bytes};
 pub use parts::{Media, read_carriage, read_picture, state_row};
 pub use pockets::{pocket_cell, profile_row, read_punch, read_punched};
 pub use progress::{Progress, read_progress};
-pub use storage::read_storage;
+pub use storage::{read_storage, storage_holds_characters};

@@ -10,17 +10,26 @@ use ledger_tables::LineRow;
 use std::alloc::{AllocError, Global};
 use units::{LINE_LENGTH, Line};
 
+/// The bytes of a printed line, one for each character.
+pub fn line_bytes(line: &Line) -> [u8; LINE_LENGTH]
+    ensures bytes { result ≡ line.now.codes }
+    ensures line { IsLine line.now }
+{
+    let _line = line.line;
+    let mut bytes = [0; LINE_LENGTH];
+    write_numbers(&line.codes, &mut bytes);
+    bytes
+}
+
 /// Returns a printed line as a row. Fails only if there is no memory.
 pub fn line_row(alloc: Global, line: &Line) -> Result<LineRow, AllocError>
     ensures row { IfOk result (λ row. row ≡ line_cells line.now) }
     ensures line { IfOk result (λ row. IsLine line.now) }
 {
-    let mut image = [0; LINE_LENGTH];
-    write_numbers(&line.codes, &mut image);
     Ok(LineRow {
         form: line.form,
         line: line.line as u32,
-        image: Vec::from_slice(alloc, &image)?,
+        image: Vec::from_slice(alloc, &line_bytes(line))?,
     })
 }
 

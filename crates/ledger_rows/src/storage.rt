@@ -1,6 +1,7 @@
 //! Storage as bytes.
 
 ghost use Rattle.std.specs.Prelude.{◌≡◌, ◌≢◌, ◌+◌, ◌<◌, ◌≤◌, ◌↔◌, length, slice_set, IfOk, IfSome, IsSome, IsNone, IsTrue};
+ghost use Rattle.core_store.specs.Pages.{cells_of};
 ghost use Rattle.core_store.specs.Storage.{Storage, largest_size, positions_of};
 ghost use Rattle.core_store.specs.declared.sizes.Size.{Size};
 ghost use Rattle.machine.specs.Ranges.{HasSize};
@@ -8,7 +9,7 @@ ghost use Rattle.ledger_rows.specs.Columns.{byte_of, storage_bytes, HoldsCharact
 ghost use Rattle.ledger_rows.specs.Pages.{AreCells, cell_of, with_bytes};
 
 use bcd::Code;
-use core_store::{Core, Size};
+use core_store::{Core, PlaneCore, Size};
 use std::alloc::{AllocError, Global};
 
 /// Added to the byte of a position if it is marked.
@@ -102,3 +103,8 @@ pub fn read_storage<C: Core>(alloc: Global, bytes: &[u8]) -> Result<Option<C>, A
     }
     Ok(Some(core))
 }
+
+/// The law of what storage holds: a character at each position.
+pub fn storage_holds_characters(core: &PlaneCore)
+    ensures { HoldsCharacters (cells_of core.now) }
+{}

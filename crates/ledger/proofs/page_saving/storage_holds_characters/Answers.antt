@@ -1,5 +1,0 @@
-use Rattle.ledger.proofs.PageMixes.{characters_of}
-use Rattle.ledger.proofs.page_saving.storage_holds_characters.Goals as goal
-
-pub returns : goal.returns
-returns c = characters_of c.args.core.now
