@@ -86,20 +86,6 @@ pub(crate) fn run_to_end<C: Core>(
     }
 }
 
-/// A copy of a deck.
-fn copy_of(alloc: Global, deck: &Deck) -> Result<Deck, AllocError>
-    ensures { IfOk result (λ copy. copy ≡ deck.now) }
-{
-    let cards = deck.cards();
-    let mut copy = Deck::with_room(alloc, cards.len())?;
-    for card in cards {
-        if copy.push(*card).is_err() {
-            return Err(AllocError);
-        }
-    }
-    Ok(copy)
-}
-
 /// Returns the machine, with stacker selection, that has a deck in its reader and the load button
 /// pressed. Fails only if there is no memory.
 pub fn load(
@@ -111,6 +97,6 @@ pub fn load(
     requires { 0 < length deck.now }
     ensures { IfOk result (λ machine. machine ≡ loaded deck.now size switches Selecting) }
 {
-    let deck = copy_of(alloc, deck)?;
+    let deck = deck.copy(alloc)?;
     Machine::load(alloc, deck, size, switches, Profile::Selecting)
 }

@@ -1,6 +1,6 @@
 //! A card, and a deck of them.
 
-ghost use Rattle.std.specs.Prelude.{◌≡◌, ◌≤◌, ◌↔◌, [], ◌∷◌, ◌++◌, length, IfOk, OnOk, OnErr, IsErrOf};
+ghost use Rattle.std.specs.Prelude.{◌≡◌, ◌<◌, ◌≤◌, ◌↔◌, [], ◌∷◌, ◌++◌, length, IfOk, OnOk, OnErr, IsErrOf};
 ghost use Rattle.cards.specs.Decks.{largest_deck};
 
 use crate::faults::DeckFault;
@@ -55,6 +55,14 @@ impl Deck {
         Ok(Deck { cards })
     }
 
+    /// Returns a copy of the deck, in memory of this allocator. Fails only if there is none.
+    pub fn copy(&self, alloc: Global) -> Result<Self, AllocError>
+        ensures { IfOk result (λ copy. copy ≡ self.now) }
+    {
+        let cards = Vec::from_slice(alloc, &self.cards)?;
+        Ok(Deck { cards })
+    }
+
     /// The deck of these cards.
     pub(crate) fn of(cards: Vec<Card>) -> Self
         requires { length cards.items ≤ largest_deck }
@@ -83,6 +91,21 @@ impl Deck {
         }
         self.cards.try_reserve(1)?;
         self.cards.push_reserved(Card(card.0));
+        Ok(())
+    }
+
+    /// Adds cards at the end, in order. Fails with `TooManyCards` if there would be over 2,000 and
+    /// with `NoMemory` if there is no memory; then the deck is unchanged.
+    pub fn push_all(&mut self, cards: &[Card]) -> Result<(), DeckFault>
+        ensures ok { OnOk result (self.new ≡ self.old ++ cards.now) }
+        ensures full { IsErrOf result DeckFault.TooManyCards
+            ↔ (largest_deck < length (self.old ++ cards.now)) }
+        ensures err { OnErr result (self.new ≡ self.old) }
+    {
+        if cards.len() > LARGEST_DECK - self.cards.len() {
+            return Err(DeckFault::TooManyCards);
+        }
+        self.cards.extend_from_slice(cards)?;
         Ok(())
     }
 }

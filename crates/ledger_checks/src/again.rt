@@ -1,6 +1,6 @@
 //! Running a job again.
 
-ghost use Rattle.std.specs.Prelude.{◌≡◌, ◌<◌, ◌++◌, ℕ, [], List, length, take, IfOk, OnOk};
+ghost use Rattle.std.specs.Prelude.{◌≡◌, ◌<◌, ℕ, [], List, length, take, IfOk, OnOk};
 ghost use Rattle.cards.specs.Decks.{deck_bytes};
 ghost use Rattle.cards.specs.declared.decks.Card.{Card};
 ghost use Rattle.core_store.specs.Storage.{positions_of};
@@ -12,7 +12,7 @@ ghost use Rattle.ledger_checks.specs.Stops.{IfDiffers};
 
 use crate::differences::{Difference, Stop};
 use bitflags::Flags;
-use cards::{Card, Deck, DeckFault};
+use cards::Deck;
 use core_store::{PlaneCore, Size};
 use ledger_rows::deck_bytes;
 use machine::{Machine, Meter, Standing};
@@ -29,27 +29,6 @@ pub(crate) struct Loaded {
     pub loaded_bytes: Vec<u8>,
 }
 
-/// Adds some cards to a deck.
-fn push_cards(deck: &mut Deck, cards: &[Card]) -> Result<(), DeckFault>
-    ensures { OnOk result (deck.new ≡ deck.old ++ cards.now) }
-{
-    for card in cards {
-        deck.push(Card(card.0))?;
-    }
-    Ok(())
-}
-
-/// A copy of a deck.
-fn copy_of(alloc: Global, deck: &Deck) -> Result<Deck, AllocError>
-    ensures { IfOk result (λ copy. copy ≡ deck.now) }
-{
-    let mut copy = Deck::with_room(alloc, deck.cards().len())?;
-    match push_cards(&mut copy, deck.cards()) {
-        Ok(()) => Ok(copy),
-        Err(_) => Err(AllocError),
-    }
-}
-
 /// The deck that the machine of these contents loads, or why they are refused.
 fn loaded_for(alloc: Global, contents: &Contents) -> Result<Deck, Stop>
     ensures loads { IfOk result (LoadsAs contents.now) }
@@ -62,7 +41,7 @@ fn loaded_for(alloc: Global, contents: &Contents) -> Result<Deck, Stop>
     match new_job::<PlaneCore>(alloc, contents) {
         Ok(job) => {
             let machine = job.parts().machine;
-            Ok(copy_of(alloc, &machine.units.hopper.deck)?)
+            Ok(machine.units.hopper.deck.copy(alloc)?)
         }
         Err(NewFault::Refused(reason)) => Err(Stop::Differs(Difference::Refused(reason))),
         Err(NewFault::NoMemory) => Err(Stop::NoMemory),

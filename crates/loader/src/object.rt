@@ -33,18 +33,6 @@ fn push_stretches(deck: &mut Deck, cells: &[Cell]) -> Result<(), DeckFault>
     Ok(())
 }
 
-/// Adds some cards.
-fn push_cards(deck: &mut Deck, cards: &[Card]) -> Result<(), DeckFault>
-    ensures pushed { OnOk result (deck.new ≡ deck.old ++ cards.now) }
-    ensures full { IsErrOf result DeckFault.TooManyCards →
-        largest_deck < length (deck.old ++ cards.now) }
-{
-    for card in cards {
-        deck.push(Card(card.0))?;
-    }
-    Ok(())
-}
-
 /// Returns the deck that loads a program and starts it: a boot card, a card for each stretch of its
 /// image, and a last one. Fails with `TooManyCards` if there would be over 2,000, or if there is no
 /// memory.
@@ -71,7 +59,7 @@ pub fn deck_to_run(alloc: Global, program: &Program, data: &[Card]) -> Result<De
         largest_deck < length (loading_cards program.now.image program.now.start ++ «data».now) }
 {
     let mut deck = object_deck(alloc, program)?;
-    push_cards(&mut deck, data)?;
+    deck.push_all(data)?;
     Ok(deck)
 }
 

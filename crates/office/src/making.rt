@@ -1,7 +1,6 @@
 //! New jobs.
 
-ghost use Rattle.std.specs.Prelude.{◌≡◌, ◌≤◌, ◌<◌, ◌++◌, [], length, None, IfOk, IfErr, OnOk, IsErrOf};
-ghost use Rattle.cards.specs.Decks.{largest_deck};
+ghost use Rattle.std.specs.Prelude.{◌≡◌, ◌≤◌, ◌<◌, length, None, IfOk, IfErr};
 ghost use Rattle.autocoder_layout.specs.Source.{source_of};
 ghost use Rattle.autocoder.specs.Programs.{IsProgramOf};
 ghost use Rattle.office.specs.Limits.{most_loaded};
@@ -13,7 +12,7 @@ use crate::jobs::Job;
 use crate::lists::SourceFaults;
 use crate::refusals::Refusal;
 use autocoder::{Faults, Program, assemble};
-use cards::{Card, Deck, DeckFault};
+use cards::{Deck, DeckFault};
 use core_store::{Core, Size};
 use loader::runnable_deck;
 use std::alloc::Global;
@@ -24,30 +23,6 @@ pub enum NewFault {
     Refused(Refusal),
     /// There was no memory for the job. Nothing was changed.
     NoMemory,
-}
-
-/// Adds some cards to a deck.
-fn push_cards(deck: &mut Deck, cards: &[Card]) -> Result<(), DeckFault>
-    ensures pushed { OnOk result (deck.new ≡ deck.old ++ cards.now) }
-    ensures full { IsErrOf result DeckFault.TooManyCards →
-        largest_deck < length (deck.old ++ cards.now) }
-{
-    for card in cards {
-        deck.push(Card(card.0))?;
-    }
-    Ok(())
-}
-
-/// Returns a copy of a deck.
-fn copy_of(alloc: Global, deck: &Deck) -> Result<Deck, NewFault>
-    ensures copy { IfOk result (λ copy. copy ≡ deck.now) }
-    ensures fault { IfErr result (λ fault. fault ≡ NewFault.NoMemory) }
-{
-    let mut copy = Deck::empty(alloc);
-    match push_cards(&mut copy, deck.cards()) {
-        Ok(()) => Ok(copy),
-        Err(_) => Err(NewFault::NoMemory),
-    }
 }
 
 /// Returns the deck that loads the program of a source and then its data.
@@ -91,7 +66,10 @@ fn deck_to_load(alloc: Global, kind: Kind, deck: &Deck) -> Result<Deck, NewFault
         return Err(NewFault::Refused(Refusal::Deck));
     }
     match kind {
-        Kind::Object => copy_of(alloc, deck),
+        Kind::Object => match deck.copy(alloc) {
+            Ok(copy) => Ok(copy),
+            Err(_) => Err(NewFault::NoMemory),
+        },
         Kind::Autocoder => assemble_source(alloc, deck),
     }
 }
