@@ -5,7 +5,7 @@ use bitflags::Flags;
 use cards::{Deck, read_text};
 use core_store::{Core, PlaneCore, Size};
 use machine::{Meter, Parts, StandingAt};
-use office::{Contents, Job, JobCommand, JobParts, Kind, Reply, Stretch, new_job};
+use office::{Contents, Drive, Job, JobParts, Kind, Reply, Stretch, new_job};
 use std::alloc::Global;
 use std::test::Fail;
 use units::{Hopper, Printer, Punch, Switches, Units};
@@ -89,9 +89,9 @@ fn granted_parts(
 
 /// Runs a job for one instruction. Returns how many it executed, whether it goes on, and how often
 /// the meter ticked.
-fn slice_of_one(alloc: Global, job: &mut Job<PlaneCore>) -> Result<(u32, bool, u64), Fail> {
+fn slice_of_one(job: &mut Job<PlaneCore>) -> Result<(u32, bool, u64), Fail> {
     let mut meter = Meter::new();
-    match job.take(alloc, &JobCommand::Slice { limit: 1 }, &mut meter)? {
+    match job.take(Drive::Slice { limit: 1 }, &mut meter)? {
         Reply::Ran { executed, standing } => {
             Ok((executed, standing == StandingAt::Running, meter.ticks()))
         }
@@ -103,7 +103,7 @@ fn slice_of_one(alloc: Global, job: &mut Job<PlaneCore>) -> Result<(u32, bool, u
 fn what_was_granted_is_not_run_again(rt: HostRuntime) -> Result<(), Fail> {
     let parts = granted_parts(rt.alloc(), &submitted(rt.alloc())?, 8)?;
     let mut job = Job::from_parts(rt.alloc(), parts)?.ok_or("parts of a job")?;
-    assert_eq!(rt; slice_of_one(rt.alloc(), &mut job)?, (1, true, 1));
+    assert_eq!(rt; slice_of_one(&mut job)?, (1, true, 1));
     assert_eq!(rt; job.summary().granted, 9);
     assert_eq!(rt; job.summary().cards, 0);
     Ok(())
@@ -113,9 +113,9 @@ fn what_was_granted_is_not_run_again(rt: HostRuntime) -> Result<(), Fail> {
 fn eight_instructions_halt(rt: HostRuntime) -> Result<(), Fail> {
     let mut job = submitted(rt.alloc())?;
     for _ in 0..7 {
-        assert_eq!(rt; slice_of_one(rt.alloc(), &mut job)?, (1, true, 1));
+        assert_eq!(rt; slice_of_one(&mut job)?, (1, true, 1));
     }
-    assert_eq!(rt; slice_of_one(rt.alloc(), &mut job)?, (1, false, 1));
+    assert_eq!(rt; slice_of_one(&mut job)?, (1, false, 1));
     assert_eq!(rt; job.summary().cards, 3);
     Ok(())
 }

@@ -14,7 +14,7 @@ use Rattle.core_store.specs.declared.registers.Compared.{Compared}
 use Rattle.core_store.specs.declared.registers.Compared.TheVariants.{Equal, Low, High}
 use Rattle.core_store.specs.declared.checks.Check.TheVariants.{Address, Instruction, Data, Overlap, ReaderEmpty, PunchFull, PrinterFull}
 use Rattle.core_store.specs.declared.sizes.Size.{Size}
-use Rattle.core_store.specs.declared.sizes.Size.TheVariants.{Positions1400, Positions2000, Positions4000, Positions8000, Positions12000, Positions16000}
+use Rattle.core_store.proofs.SizeLemmas.{within}
 use Rattle.machine.specs.Ranges.{HasSize, IsInRange}
 use Rattle.machine.specs.Run.{State as Machine}
 use Rattle.machine.specs.declared.standings.Standing.{Standing}
@@ -83,12 +83,7 @@ kind_fits Autocoder = omega arith
 
 -- .. of a size
 pub size_fits : (size : Size) → positions_of size < 2 ^ 32
-size_fits Positions1400 = omega arith
-size_fits Positions2000 = omega arith
-size_fits Positions4000 = omega arith
-size_fits Positions8000 = omega arith
-size_fits Positions12000 = omega arith
-size_fits Positions16000 = omega arith
+size_fits size = omega (arith, (within size).1)
 
 -- .. of a profile
 profile_fits : (profile : Profile) → profile_number profile < 2 ^ 32

@@ -4,15 +4,15 @@ ghost use Rattle.std.specs.Prelude.{◌≡◌, true, Some, OnOk, OnErr};
 ghost use Rattle.core_store.specs.Pages.{cells_of};
 ghost use Rattle.machine.specs.Run.{risen};
 ghost use Rattle.office.specs.Jobs.{Job as KnownJob};
-ghost use Rattle.office.specs.Kept.{attempted_on, is_query, limit_of};
+ghost use Rattle.office.specs.Kept.{attempted_on, drive_command, is_query, limit_of};
 ghost use Rattle.office.specs.Meters.{RisenAtMost};
 ghost use Rattle.ledger_tables.specs.Steps.{IsStep, IsOpenStep};
-ghost use Rattle.ledger.specs.Earlier.{kept_alone, drives_machine};
+ghost use Rattle.ledger.specs.Earlier.{kept_alone};
 ghost use Rattle.ledger.specs.Saving.{job_in};
 ghost use Rattle.ledger.specs.Serving.{with_commanded, attempted_as};
 ghost use Rattle.ledger.specs.Steps.{FindsNoJob, FailsAlone, Serves, ServesWhere, Ticks, TicksAtMost};
 
-use crate::by_summary::{collect, hold, release, tell_standing};
+use crate::by_summary::command_flags;
 use crate::outputs::{tell_cards, tell_lines};
 use crate::page_saving::copy_of;
 use crate::reading::find_to_run;
@@ -20,7 +20,10 @@ use crate::saving::save;
 use core_store::PlaneCore;
 use ledger_tables::{Fault, JobName, OpenTables};
 use machine::{Meter, runs_only_add};
-use office::{Job, JobCommand, Refusal, Reply, commands_act_on_pictures, commands_keep_jobs};
+use office::{
+    Drive, FlagCommand, Job, JobCommand, Refusal, Reply, commands_act_on_pictures,
+    commands_keep_jobs,
+};
 use sqlite::Alter;
 
 /// Carries out a slice or a start on a job that was found without its cards and lines, and whose
@@ -30,28 +33,29 @@ fn take_and_save<S: Alter>(
     name: JobName<'_>,
     earlier: &PlaneCore,
     job: &mut Job<PlaneCore>,
-    command: JobCommand,
+    drive: Drive,
     meter: &mut Meter,
 ) -> Result<Reply, Fault>
-    requires drives { drives_machine command ≡ true }
-    requires storage { cells_of earlier.now ≡ job.old.machine.works.storage }
+    requires { cells_of earlier.now ≡ job.old.machine.works.storage }
     ensures step { IsStep S.Store tables.old tables.new result }
     ensures done { (old : KnownJob) → job.old ≡ kept_alone old
         → ServesWhere S.Store tables.old tables.new result
-        (λ office. job_in name.entry office ≡ Some old) (with_commanded name.entry command) }
-    ensures meter { OnOk result (meter.new ≡ risen meter.old (attempted_on command job.old)) }
+        (λ office. job_in name.entry office ≡ Some old)
+        (with_commanded name.entry (drive_command drive)) }
+    ensures meter { OnOk result
+        (meter.new ≡ risen meter.old (attempted_on (drive_command drive) job.old)) }
     ensures given_up { OnErr result
-        (RisenAtMost (attempted_on command job.old) meter.old meter.new) }
-    ensures most { RisenAtMost (limit_of command) meter.old meter.new }
+        (RisenAtMost (attempted_on (drive_command drive) job.old) meter.old meter.new) }
+    ensures most { RisenAtMost (limit_of (drive_command drive)) meter.old meter.new }
 {
     // Laws, for the proof: they do nothing.
     commands_act_on_pictures();
     commands_keep_jobs();
     runs_only_add();
-    match job.take(tables.alloc, &command, meter)? {
+    match job.take(drive, meter)? {
         Reply::Refused(reason) => Ok(Reply::Refused(reason)),
         reply => {
-            save(tables, name, command, earlier, job)?;
+            save(tables, name, drive.command(), earlier, job)?;
             Ok(reply)
         }
     }
@@ -63,22 +67,23 @@ fn carry_out<S: Alter>(
     tables: &mut OpenTables<'_, '_, S>,
     name: JobName<'_>,
     job: &mut Job<PlaneCore>,
-    command: JobCommand,
+    drive: Drive,
     meter: &mut Meter,
 ) -> Result<Reply, Fault>
-    requires { drives_machine command ≡ true }
     ensures step { IsStep S.Store tables.old tables.new result }
     ensures done { (old : KnownJob) → job.old ≡ kept_alone old
         → ServesWhere S.Store tables.old tables.new result
-        (λ office. job_in name.entry office ≡ Some old) (with_commanded name.entry command) }
-    ensures meter { OnOk result (meter.new ≡ risen meter.old (attempted_on command job.old)) }
+        (λ office. job_in name.entry office ≡ Some old)
+        (with_commanded name.entry (drive_command drive)) }
+    ensures meter { OnOk result
+        (meter.new ≡ risen meter.old (attempted_on (drive_command drive) job.old)) }
     ensures given_up { OnErr result
-        (RisenAtMost (attempted_on command job.old) meter.old meter.new) }
-    ensures most { RisenAtMost (limit_of command) meter.old meter.new }
+        (RisenAtMost (attempted_on (drive_command drive) job.old) meter.old meter.new) }
+    ensures most { RisenAtMost (limit_of (drive_command drive)) meter.old meter.new }
 {
     let machine = job.parts().machine;
     let earlier = copy_of(tables.alloc, &machine.core)?;
-    take_and_save(tables, name, &earlier, job, command, meter)
+    take_and_save(tables, name, &earlier, job, drive, meter)
 }
 
 /// Carries out a slice or a start on the job of this name.
@@ -86,22 +91,21 @@ fn carry_out<S: Alter>(
 fn drive_machine<S: Alter>(
     tables: &mut OpenTables<'_, '_, S>,
     name: JobName<'_>,
-    command: JobCommand,
+    drive: Drive,
     meter: &mut Meter,
 ) -> Result<Reply, Fault>
-    requires { drives_machine command ≡ true }
     ensures step { IsOpenStep S.Store tables.old tables.new result }
     ensures done { Serves S.Store tables.old tables.new result
-        (with_commanded name.entry command) }
+        (with_commanded name.entry (drive_command drive)) }
     ensures no_job { FindsNoJob S.Store tables.old tables.new result name.entry }
     ensures meter { Ticks S.Store tables.old tables.new result
-        meter.old meter.new (attempted_as name.entry command) }
+        meter.old meter.new (attempted_as name.entry (drive_command drive)) }
     ensures given_up { TicksAtMost S.Store tables.old tables.new result
-        meter.old meter.new (attempted_as name.entry command) }
-    ensures most { RisenAtMost (limit_of command) meter.old meter.new }
+        meter.old meter.new (attempted_as name.entry (drive_command drive)) }
+    ensures most { RisenAtMost (limit_of (drive_command drive)) meter.old meter.new }
 {
     match find_to_run(tables, name)? {
-        Some(mut job) => carry_out(tables, name, &mut job, command, meter),
+        Some(mut job) => carry_out(tables, name, &mut job, drive, meter),
         None => Ok(Reply::Refused(Refusal::NoJob)),
     }
 }
@@ -126,14 +130,15 @@ pub fn command_job<S: Alter>(
         → FailsAlone S.Store tables.old tables.new result }
 {
     match command {
-        JobCommand::Hold => hold(tables, name),
-        JobCommand::Release => release(tables, name),
-        JobCommand::Collect => collect(tables, name),
-        JobCommand::Standing => tell_standing(tables, name),
+        JobCommand::Hold => command_flags(tables, name, FlagCommand::Hold),
+        JobCommand::Release => command_flags(tables, name, FlagCommand::Release),
+        JobCommand::Collect => command_flags(tables, name, FlagCommand::Collect),
+        JobCommand::Standing => command_flags(tables, name, FlagCommand::Standing),
         JobCommand::Cards { from } => tell_cards(tables, name, from),
         JobCommand::Lines => tell_lines(tables, name),
-        JobCommand::Slice { .. } | JobCommand::Start { .. } => {
-            drive_machine(tables, name, command, meter)
+        JobCommand::Slice { limit } => drive_machine(tables, name, Drive::Slice { limit }, meter),
+        JobCommand::Start { switches } => {
+            drive_machine(tables, name, Drive::Start { switches }, meter)
         }
     }
 }

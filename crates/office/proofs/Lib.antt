@@ -10,5 +10,4 @@ pub mod KeepingLaw
 pub mod OfficeOrder
 pub mod OfficeRepeats
 pub mod OfficeNames
-pub mod FlagLemmas
 pub mod StackerLemmas

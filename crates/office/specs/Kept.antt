@@ -14,6 +14,10 @@ use Rattle.office.specs.Jobs.{Job, picture, granted, granted_more, one_more, sli
 use Rattle.office.specs.Stackers.{cards_from}
 use Rattle.office.specs.declared.commands.JobCommand.{JobCommand}
 use Rattle.office.specs.declared.commands.JobCommand.TheVariants.{Slice, Start, Hold, Release, Collect, Standing as Tell, Cards, Lines}
+use Rattle.office.specs.declared.drives.Drive.{Drive}
+use Rattle.office.specs.declared.drives.Drive.TheVariants as drive
+use Rattle.office.specs.declared.flags.FlagCommand.{FlagCommand}
+use Rattle.office.specs.declared.flags.FlagCommand.TheVariants as flag
 use Rattle.office.specs.declared.flags.NewFlags.{NewFlags}
 use Rattle.office.specs.declared.summaries.Summary.{Summary}
 use Rattle.office.specs.declared.stretches.Stretch.{Stretch}
@@ -144,28 +148,31 @@ answered Tell k = reply.Standing (summary_of k)
 answered (Cards from) k = reply.Cards (cards_from from k.machine.works.units.punch.cards)
 answered Lines k = reply.Lines (lines_of k.machine)
 
--- whether a command needs the machine of its job, and not its summary alone
-abbrev pub needs_machine : JobCommand → Bool
-needs_machine (Slice limit) = true
-needs_machine (Start switches) = true
-needs_machine (Cards from) = true
-needs_machine Lines = true
-needs_machine other = false
+-- a slice or a start as a command on a job
+abbrev pub drive_command : Drive → JobCommand
+drive_command (drive.Slice limit) = Slice limit
+drive_command (drive.Start switches) = Start switches
 
--- the flags of a job with this summary after a command that is not refused, and the reply, unless
--- the command needs the machine
-abbrev pub on_flags : JobCommand → Summary → Option NewFlags
-on_flags Hold job = Some (record { held = true; collected = job.collected; reply = reply.Held })
-on_flags Release job =
-    Some (record { held = false; collected = job.collected; reply = reply.Released })
-on_flags Collect job = Some (record {
+-- one that needs the summary of its job alone, as a command on a job
+abbrev pub flag_command : FlagCommand → JobCommand
+flag_command flag.Hold = Hold
+flag_command flag.Release = Release
+flag_command flag.Collect = Collect
+flag_command flag.Standing = Tell
+
+-- the flags of a job with this summary after a command that is not refused and needs no more, and
+-- the reply
+abbrev pub on_flags : FlagCommand → Summary → NewFlags
+on_flags flag.Hold job = record { held = true; collected = job.collected; reply = reply.Held }
+on_flags flag.Release job =
+    record { held = false; collected = job.collected; reply = reply.Released }
+on_flags flag.Collect job = record {
   held = job.held;
   collected = true;
   reply = reply.Collected job.cards job.lines;
-})
-on_flags Tell job =
-    Some (record { held = job.held; collected = job.collected; reply = reply.Standing job })
-on_flags other job = None
+}
+on_flags flag.Standing job =
+    record { held = job.held; collected = job.collected; reply = reply.Standing job }
 
 -- the job and the reply: a refusal changes nothing and is itself the reply
 abbrev pub taken_unless : JobCommand → Kept → Option Refusal → Kept × Reply
@@ -219,16 +226,12 @@ limit_of other = 0
 
 -- ---- when memory may run out
 
--- a command makes something that takes memory: a card or a line, a stretch, or a copy of what
--- was made
-abbrev pub MakesOn : JobCommand → Kept → Type 0
-MakesOn (Slice limit) k = Makes k.machine.works.units (after k.machine limit).works.units
-MakesOn (Start switches) k = Unit {0}
-MakesOn (Cards from) k = Unit {0}
-MakesOn Lines k = Unit {0}
-MakesOn other k = ⊥
+-- a slice or a start makes something that takes memory: a card or a line, or a stretch
+abbrev pub MakesOn : Drive → Kept → Type 0
+MakesOn (drive.Slice limit) k = Makes k.machine.works.units (after k.machine limit).works.units
+MakesOn (drive.Start switches) k = Unit {0}
 
--- the command may run out of memory: it is not refused, and makes something that takes memory
-pub record MayWant (c : JobCommand) (k : Kept) : Type 0 where
-  pub let_through : job_refusal c (summary_of k) ≡ None
-  pub makes : MakesOn c k
+-- it may run out of memory: it is not refused, and makes something that takes memory
+pub record MayWant (d : Drive) (k : Kept) : Type 0 where
+  pub let_through : job_refusal (drive_command d) (summary_of k) ≡ None
+  pub makes : MakesOn d k

@@ -1,11 +1,9 @@
 //! What customers hand in, and the commands to the office.
 
 ghost use Rattle.std.specs.Prelude.{◌≡◌};
-ghost use Rattle.office.specs.Kept.{is_query, is_for_free, refused_if, slice_refusal, last_refusal, job_refusal, needs_machine, on_flags};
+ghost use Rattle.office.specs.Kept.{is_query, is_for_free, refused_if, slice_refusal, last_refusal, job_refusal};
 
-use crate::flags::NewFlags;
 use crate::refusals::Refusal;
-use crate::replies::Reply;
 use crate::stackers::Stacker;
 use crate::stretches::MOST_GRANTED;
 use crate::summaries::Summary;
@@ -111,7 +109,7 @@ fn slice_refusal(limit: u32, job: &Summary) -> Option<Refusal>
 
 impl JobCommand {
     /// Whether it is a query.
-    fn is_query(self) -> bool
+    pub fn is_query(self) -> bool
         ensures { result ≡ is_query self }
     {
         matches!(
@@ -160,43 +158,5 @@ impl JobCommand {
             return Some(Refusal::Held);
         }
         self.last_refusal(job)
-    }
-
-    /// Whether the command needs the job's machine, and not its summary alone.
-    pub fn needs_machine(self) -> bool
-        ensures { result ≡ needs_machine self }
-    {
-        matches!(
-            self,
-            JobCommand::Slice { .. }
-                | JobCommand::Start { .. }
-                | JobCommand::Cards { .. }
-                | JobCommand::Lines
-        )
-    }
-
-    /// The flags of a job with this summary after the command, if that is not refused, and the
-    /// reply. `None` if the command needs the machine.
-    pub fn on_flags(self, job: &Summary) -> Option<NewFlags>
-        ensures { result ≡ on_flags self job.now }
-    {
-        let (held, collected, reply) = match self {
-            JobCommand::Hold => (true, job.collected, Reply::Held),
-            JobCommand::Release => (false, job.collected, Reply::Released),
-            JobCommand::Collect => {
-                let reply = Reply::Collected {
-                    cards: job.cards,
-                    lines: job.lines,
-                };
-                (job.held, true, reply)
-            }
-            JobCommand::Standing => (job.held, job.collected, Reply::Standing(*job)),
-            _ => return None,
-        };
-        Some(NewFlags {
-            held,
-            collected,
-            reply,
-        })
     }
 }

@@ -2,13 +2,12 @@
 
 ghost use Rattle.std.specs.Prelude.{◌≡◌, ◌<◌, length, None, OnOk, OnErr, IfOk, IfSome, MatchOption};
 ghost use Rattle.machine.specs.Run.{risen};
-ghost use Rattle.office.specs.Kept.{IsJobInRange, loaded_kept, summary_of, job_refusal, changed, answered, take_kept, attempts_of, attempted_on, limit_of, MakesOn, MayWant};
+ghost use Rattle.office.specs.Kept.{IsJobInRange, loaded_kept, summary_of, job_refusal, changed, answered, take_kept, attempts_of, attempted_on, limit_of, drive_command, MakesOn, MayWant};
 ghost use Rattle.office.specs.Meters.{RisenAtMost};
+ghost use Rattle.office.specs.declared.commands.JobCommand.{JobCommand};
 
-use crate::commands::JobCommand;
-use crate::lists::Listing;
+use crate::drives::Drive;
 use crate::replies::Reply;
-use crate::stackers::{Stacker, cards_from};
 use crate::stretches::{Stretch, Stretches};
 use crate::summaries::Summary;
 use cards::Deck;
@@ -16,7 +15,7 @@ use core_store::{Core, Size};
 use machine::{Machine, Meter, Parts};
 use std::alloc::{AllocError, Global};
 use std::marker::Model;
-use units::{Line, Profile, Switches};
+use units::{Profile, Switches};
 
 /// A job on which commands work: its stretches, its flags and its machine.
 #[derive(Drop)]
@@ -71,15 +70,6 @@ pub struct ShownJob<'a, C: Core> {
     pub collected: bool,
     /// The picture of its machine.
     pub machine: &'a Parts<C>,
-}
-
-/// A copy of the lines.
-fn copy_of_lines(alloc: Global, lines: &[Line]) -> Result<Listing, AllocError>
-    ensures { IfOk result (λ copy. copy ≡ lines.now) }
-{
-    let mut copy = Vec::new(alloc);
-    copy.extend_from_slice(lines)?;
-    Ok(Listing(copy))
 }
 
 impl<C: Core> Job<C> {
@@ -170,7 +160,7 @@ impl<C: Core> Job<C> {
         ensures meter { OnOk result
             (meter.new ≡ risen meter.old (attempts_of (JobCommand.Slice limit) self.old)) }
         ensures unchanged { OnErr result (self.new ≡ self.old) }
-        ensures memory { OnErr result (MakesOn (JobCommand.Slice limit) self.old) }
+        ensures memory { OnErr result (MakesOn (Drive.Slice limit) self.old) }
         ensures given_up { OnErr result
             (RisenAtMost (attempts_of (JobCommand.Slice limit) self.old) meter.old meter.new) }
     {
@@ -195,76 +185,42 @@ impl<C: Core> Job<C> {
         Ok(Reply::Started)
     }
 
-    /// The punched cards that are asked for.
-    fn cards(&self, alloc: Global, from: Stacker) -> Result<Reply, AllocError>
-        ensures { IfOk result (λ reply. reply ≡ answered (JobCommand.Cards from) self.now) }
-    {
-        let punched = &self.machine.parts().units.punch.cards;
-        Ok(Reply::Cards(cards_from(alloc, from, punched)?))
-    }
-
-    /// The lines that were printed.
-    fn lines(&self, alloc: Global) -> Result<Reply, AllocError>
-        ensures { IfOk result (λ reply. reply ≡ answered JobCommand.Lines self.now) }
-    {
-        let lines = &self.machine.parts().units.printer.lines;
-        Ok(Reply::Lines(copy_of_lines(alloc, lines)?))
-    }
-
-    /// Carries out a command that is not refused.
-    fn carry_out(
-        &mut self,
-        alloc: Global,
-        command: JobCommand,
-        meter: &mut Meter,
-    ) -> Result<Reply, AllocError>
-        requires { job_refusal command (summary_of self.old) ≡ None }
-        ensures reply { IfOk result (λ reply. reply ≡ answered command self.old) }
-        ensures job { OnOk result (self.new ≡ changed command self.old) }
-        ensures meter { OnOk result (meter.new ≡ risen meter.old (attempts_of command self.old)) }
+    /// Carries out a slice or a start that is not refused.
+    fn carry_out(&mut self, drive: Drive, meter: &mut Meter) -> Result<Reply, AllocError>
+        requires { job_refusal (drive_command drive) (summary_of self.old) ≡ None }
+        ensures reply { IfOk result (λ reply. reply ≡ answered (drive_command drive) self.old) }
+        ensures job { OnOk result (self.new ≡ changed (drive_command drive) self.old) }
+        ensures meter { OnOk result
+            (meter.new ≡ risen meter.old (attempts_of (drive_command drive) self.old)) }
         ensures unchanged { OnErr result (self.new ≡ self.old) }
-        ensures memory { OnErr result (MakesOn command self.old) }
+        ensures memory { OnErr result (MakesOn drive self.old) }
         ensures given_up { OnErr result
-            (RisenAtMost (attempts_of command self.old) meter.old meter.new) }
+            (RisenAtMost (attempts_of (drive_command drive) self.old) meter.old meter.new) }
     {
-        match command {
-            JobCommand::Slice { limit } => self.slice(limit, meter),
-            JobCommand::Start { switches } => self.start(switches),
-            JobCommand::Cards { from } => self.cards(alloc, from),
-            JobCommand::Lines => self.lines(alloc),
-            _ => match command.on_flags(&self.summary()) {
-                Some(new) => {
-                    self.held = new.held;
-                    self.collected = new.collected;
-                    Ok(new.reply)
-                }
-                None => unreachable!(),
-            },
+        match drive {
+            Drive::Slice { limit } => self.slice(limit, meter),
+            Drive::Start { switches } => self.start(switches),
         }
     }
 
-    /// Carries out a command, unless it is refused; a refusal changes nothing. If there is no
-    /// memory, the job is as before, but the instructions done until then have ticked. Only a slice
-    /// ticks.
-    pub fn take(
-        &mut self,
-        alloc: Global,
-        command: &JobCommand,
-        meter: &mut Meter,
-    ) -> Result<Reply, AllocError>
-        ensures reply { IfOk result (λ reply. reply ≡ (take_kept command.now self.old).1) }
-        ensures job { OnOk result (self.new ≡ (take_kept command.now self.old).0) }
+    /// Carries out a slice or a start, unless it is refused; a refusal changes nothing. If there is
+    /// no memory, the job is as before, but the instructions done until then have ticked. Only a
+    /// slice ticks.
+    pub fn take(&mut self, drive: Drive, meter: &mut Meter) -> Result<Reply, AllocError>
+        ensures reply { IfOk result (λ reply.
+            reply ≡ (take_kept (drive_command drive) self.old).1) }
+        ensures job { OnOk result (self.new ≡ (take_kept (drive_command drive) self.old).0) }
         ensures meter { OnOk result
-            (meter.new ≡ risen meter.old (attempted_on command.now self.old)) }
+            (meter.new ≡ risen meter.old (attempted_on (drive_command drive) self.old)) }
         ensures unchanged { OnErr result (self.new ≡ self.old) }
-        ensures memory { OnErr result (MayWant command.now self.old) }
+        ensures memory { OnErr result (MayWant drive self.old) }
         ensures given_up { OnErr result
-            (RisenAtMost (attempted_on command.now self.old) meter.old meter.new) }
-        ensures most { RisenAtMost (limit_of command.now) meter.old meter.new }
+            (RisenAtMost (attempted_on (drive_command drive) self.old) meter.old meter.new) }
+        ensures most { RisenAtMost (limit_of (drive_command drive)) meter.old meter.new }
     {
-        match command.refusal(&self.summary()) {
+        match drive.command().refusal(&self.summary()) {
             Some(reason) => Ok(Reply::Refused(reason)),
-            None => self.carry_out(alloc, *command, meter),
+            None => self.carry_out(drive, meter),
         }
     }
 }

@@ -1,9 +1,10 @@
 //! The office: jobs, the commands on them, and the replies.
 //!
 //! Nothing here depends on how jobs are kept. A job is its stretches, its flags and its machine;
-//! [`new_job`] makes one from what a customer hands in, and [`Job::take`] carries out a command on
-//! it. [`Job::parts`] returns the whole state of a job between two calls, and [`Job::from_parts`]
-//! makes the job again from it.
+//! [`new_job`] makes one from what a customer hands in, and [`Job::take`] carries out a slice or a
+//! start on it. [`FlagCommand::on_flags`] is what a command sets and replies that needs the summary
+//! alone. [`Job::parts`] returns the whole state of a job between two calls, and
+//! [`Job::from_parts`] makes the job again from it.
 //!
 //! `specs/Office.antt` defines the effect of commands on the jobs of all customers. The contract
 //! for the layer above: a new job and the reply to a command are those of the definitions there,
@@ -17,6 +18,7 @@
 
 mod beginnings;
 mod commands;
+mod drives;
 mod flags;
 mod halts;
 mod jobs;
@@ -33,7 +35,8 @@ mod summaries;
 
 pub use beginnings::programs_run_from_their_start;
 pub use commands::{Command, Contents, JobCommand, Kind};
-pub use flags::NewFlags;
+pub use drives::Drive;
+pub use flags::{FlagCommand, NewFlags};
 pub use halts::{stopped_machines_stay, whole_runs_end_alike};
 pub use jobs::{Job, JobParts, ShownJob};
 pub use laws::{
