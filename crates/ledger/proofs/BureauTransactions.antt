@@ -1,14 +1,21 @@
 -- One transaction, from its start to its commit.
-use Rattle.std.proofs.Common.{◌≡◌, ◌⊎◌, inl, inr, false, IsTrue, Result, Ok, Err, refl, sym, ap, subst, ◌∙◌}
+use Rattle.std.proofs.Common.{◌≡◌, ◌≤◌, ◌⊎◌, inl, inr, false, IsTrue, Result, Ok, Err, refl, sym, ap, subst, ◌∙◌, arith}
 use Rattle.sqlite.specs.Tree.{Trees}
 use Rattle.sqlite.specs.Held.{Held, state}
 use Rattle.sqlite_trees.specs.declared.store.Store.{Ghosts}
 use Rattle.sqlite.specs.Effect.{Database}
-use Rattle.sqlite.specs.State.{State, HasCleanDisk, Shows, IsRolledBack, KeepsCommit, Survives}
+use Rattle.sqlite.specs.State.{State, HasCleanDisk, Shows, IsRolledBack, KeepsCommit, Survives, HasCause}
+use Rattle.sqlite.specs.Steps.{FailsToCommit}
+use Rattle.sqlite.specs.declared.error.Error.{Error}
+use Rattle.sqlite_disk.specs.Disk.{MoreFaults}
+use Rattle.sqlite_trees.specs.View.{Tells}
+use Rattle.sqlite_trees.specs.declared.error.StoreError.{StoreError}
+use Rattle.sqlite_trees.specs.declared.error.StoreError.TheVariants.{OutOfMemory, Io, Corrupt, Full, Broken, Unstorable}
 use Rattle.ledger_tables.specs.Schema.{bureau_schema}
-use Rattle.ledger_tables.specs.Steps.{Frames}
+use Rattle.ledger_tables.specs.Steps.{Frames, HasFailed}
 use Rattle.office.specs.Office.{Office}
 use Rattle.ledger.specs.Adopting.{IsUntouched, begun}
+use Rattle.ledger.specs.Replying.{LacksRoom}
 use Rattle.ledger.specs.Standing.{Rows, StandsIn, LeftAs, Stands}
 
 -- the trees alone tell the office
@@ -81,3 +88,31 @@ rolled_untouched g old tx mid end is settled outside kept one early back two lat
       | inr none ↦ absurd none
       | inl before ↦ elim (first.crash early db before) [ inl first_may ↦ first_may | inr none ↦ absurd none ]
     ])
+
+-- why a commit failed, after steps in which the database had been open
+module _ {S : Type 0} (g : Ghosts S) (old tx mid end : Held S) (is : tx ≡ begun old) (kept : KeepsCommit (state g tx) (state g mid)) (one : Survives (state g tx) (state g mid) (λ _. ⊥)) (opened : IsTrue (state g tx).is_open) (inside : IsTrue (state g mid).in_transaction)
+    (early : HasCleanDisk (state g mid)) (later : (state g mid).faults ≤ (state g end).faults) (e : Error) where
+  first : Survives (state g (begun old)) (state g mid) (λ _. ⊥)
+  first = subst (λ h. Survives (state g h) (state g mid) (λ _. ⊥)) is one
+
+  stays : KeepsCommit (state g old) (state g mid)
+  stays = let here : KeepsCommit (state g (begun old)) (state g mid) = subst (λ h. KeepsCommit (state g h) (state g mid)) is kept in record { was_open = here.was_open; committed = here.committed }
+
+  more_later : MoreFaults (state g mid).faults (state g end).faults → HasFailed (state g old) (state g end)
+  more_later more = inl (omega (arith, more, first.counts))
+
+  by_cause : (cause : StoreError) → HasCause (state g mid) (state g end) ⊥ cause → IsRolledBack (state g mid) (state g end) → Tells (state g end).blamed cause
+      → HasFailed (state g old) (state g end) ⊎ LacksRoom g old end
+  by_cause OutOfMemory why back told = inr (mid, stays, (OutOfMemory, refl, tt, back, told))
+  by_cause Io why back told = inl (more_later why)
+  by_cause Corrupt why back told = inl (more_later why)
+  by_cause Full why back told = inl (more_later why)
+  by_cause Broken why back told = elim (first.closes early (subst (λ h. IsTrue (state g h).is_open) is opened)) [
+    | inl still ↦ absurd (let no = rw why at still in cc)
+    | inr more ↦ inl (inl (omega (arith, more, later)))
+  ]
+  by_cause Unstorable why back told = absurd why
+
+  pub commit_failed : FailsToCommit (state g mid) (state g end) e → HasFailed (state g old) (state g end) ⊎ LacksRoom g old end
+  commit_failed (inl h) = by_cause h.0 h.2 h.3 h.4
+  commit_failed (inr h) = absurd (let no = rw h.1 at inside in cc)

@@ -2,11 +2,10 @@
 use Rattle.std.specs.Prelude.{◌≡◌, ◌⊎◌, ℕ, [], Result, IfOk, OnOk, OnErr, IsErrOf}
 use Rattle.machine.specs.Run.{risen}
 use Rattle.sqlite.specs.Held.{Held, state}
-use Rattle.sqlite.specs.State.{HasCleanDisk}
+use Rattle.sqlite.specs.State.{HasCleanDisk, KeepsCommit, Fails, store_error}
 use Rattle.sqlite.specs.Tree.{Trees}
 use Rattle.sqlite_trees.specs.declared.error.StoreError.TheVariants.{OutOfMemory}
 use Rattle.sqlite_trees.specs.declared.store.Store.{Ghosts}
-use Rattle.sqlite_trees.specs.View.{Tells}
 use Rattle.ledger_tables.specs.Schema.{no_schema}
 use Rattle.ledger_tables.specs.declared.faults.Fault.{Fault}
 use Rattle.ledger_tables.specs.declared.faults.Fault.TheVariants.{NoMemory, Store}
@@ -41,13 +40,18 @@ module _ {S : Type 0} (g : Ghosts S) (old new : Held S) where
   KeepsOffice result = HasCleanDisk (state g new) → IsErrOf result NoMemory → (office : Office)
       → Stands (state g old) office → Stands (state g new) office
 
+  -- nothing was committed and all is undone, as by a commit that failed for want of memory: a state
+  -- shows no more of that
+  abbrev pub LacksRoom : Type 0
+  LacksRoom = (last : Held S) × KeepsCommit (state g old) (state g last)
+      × Fails (state g last) (state g new) ⊥ (store_error OutOfMemory)
+
   -- if the tables represented an office that meets the premise, fault 2 came only where the
-  -- database failed, or where the store keeps no last error, or its last one is want of memory: as
-  -- a commit leaves it that had none
+  -- database failed, or where all is undone as by a commit that failed for want of memory
   abbrev pub FailsToRead : Result Reply Fault → (Office → Type 0) → Type 0
   FailsToRead result Premise = HasCleanDisk (state g new) → IsErrOf result Store
       → (office : Office) → Stands (state g old) office → Premise office
-      → HasFailed (state g old) (state g new) ⊎ Tells (state g new).blamed OutOfMemory
+      → HasFailed (state g old) (state g new) ⊎ LacksRoom
 
   -- a crash leaves tables that represent the office before the command or the one after it
   abbrev pub LeavesEither : (Office → Office × Reply) → Type 0
