@@ -11,5 +11,5 @@ no_memory = record { card = 0; fault = source.NoMemory } ∷ []
 
 -- the faults as a list
 abbrev pub fault_list : Faults → List CardFault
-fault_list (faults.Source faults) = faults.items
+fault_list (faults.Source source) = source.faults.items
 fault_list faults.NoMemory = no_memory

@@ -5,17 +5,18 @@ use Rattle.cards.specs.declared.decks.Card.{Card}
 use Rattle.core_store.specs.Storage.{positions_of}
 use Rattle.autocoder_statements.specs.Statements.{statement_on}
 use Rattle.autocoder_statements.specs.declared.reading.Statement.TheVariants as statement
-use Rattle.autocoder_layout.specs.Source.{Line, silent, size_of, has_end, lines_of}
+use Rattle.autocoder_layout.specs.Source.{Line, silent, size_of, has_end, lines_of, source_read}
 use Rattle.autocoder_layout.specs.Names.{value_in}
 use Rattle.autocoder_layout.specs.Slots.{is_instruction}
 use Rattle.autocoder_layout.specs.Cells.{position_in}
 use Rattle.autocoder_layout.specs.Literals.{literals_of}
-use Rattle.autocoder_layout.specs.Layout.{Laid, slots_of, layout_of}
+use Rattle.autocoder_layout.specs.Layout.{Laid, Layout, slots_of, laid_out, layout_of}
 use Rattle.autocoder_layout.specs.declared.cells.Cell.{Cell}
 use Rattle.autocoder_layout.specs.declared.slots.Slot.{Slot}
 use Rattle.autocoder_layout.specs.Image.{image_of}
 use Rattle.autocoder_layout.specs.CardFaults.{faults_of}
 use Rattle.autocoder.specs.declared.faults.Faults.{Faults}
+use Rattle.autocoder.specs.declared.faults.Faulty.{Faulty}
 use Rattle.autocoder.specs.declared.faults.Faults.TheVariants.{Source, NoMemory}
 use Rattle.autocoder.specs.Assembly.{Assembly}
 
@@ -26,6 +27,10 @@ size_for source = positions_of (size_of source)
 -- the one layout of a source
 abbrev pub layout_for : List Card → List Laid
 layout_for source = layout_of (size_for source) (lines_of false source)
+
+-- a source with the slots and literals of its one layout
+abbrev pub laid_for : List Card → Layout
+laid_for source = laid_out (source_read source)
 
 -- the start of a program whose source ends with this line: the address on END, or else the first
 -- instruction
@@ -63,8 +68,13 @@ pub record IsProgramOf (source : List Card) (program : Assembly) : Type 0 where
 abbrev pub IsFaultless : List Card → Type 0
 IsFaultless source = faults_of (has_end source) (layout_for source) ≡ []
 
--- these are the faults of the source, at least one; or memory ran out
+-- these are the faults of a source, at least one, and its one layout
+pub record IsFaulty (source : List Card) (faulty : Faulty) : Type 0 where
+  pub layout : faulty.layout ≡ laid_for source
+  pub faults : faulty.faults.items ≡ faults_of (has_end source) (layout_for source)
+  pub some : faulty.faults.items ≢ []
+
+-- these are the faults of the source, at least one, with its layout; or memory ran out
 abbrev pub AreFaults : List Card → Faults → Type 0
-AreFaults source (Source faults) =
-    (faults.items ≡ faults_of (has_end source) (layout_for source)) × (faults.items ≢ [])
+AreFaults source (Source faulty) = IsFaulty source faulty
 AreFaults source NoMemory = Unit {0}

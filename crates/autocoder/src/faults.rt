@@ -3,13 +3,22 @@
 ghost use Rattle.std.specs.Prelude.{◌≡◌, ◌≢◌, [], IsTrue, IsFalse};
 ghost use Rattle.autocoder.specs.Faults.{fault_list};
 
-use autocoder_layout::{CardFault, SourceFault};
+use autocoder_layout::{CardFault, Layout, SourceFault};
+
+/// A source with faults.
+#[derive(Drop)]
+pub struct Faulty {
+    /// The layout of the source, in which a card with a fault may have its slot all the same.
+    pub layout: Layout,
+    /// The faults in card order, at most one for each card.
+    pub faults: Vec<CardFault>,
+}
 
 /// Why a source has no program.
 #[derive(Drop)]
 pub enum Faults {
-    /// The faults of the source in card order, at most one for each card.
-    Source(Vec<CardFault>),
+    /// The source has faults.
+    Source(Faulty),
     /// There was no memory for the work.
     NoMemory,
 }
@@ -26,7 +35,7 @@ impl Faults {
         ensures { result.now ≡ fault_list self.now }
     {
         match self {
-            Faults::Source(faults) => faults,
+            Faults::Source(source) => &source.faults,
             Faults::NoMemory => &NO_MEMORY,
         }
     }

@@ -17,7 +17,7 @@ mod lines;
 mod listings;
 mod program;
 
-pub use faults::Faults;
+pub use faults::{Faults, Faulty};
 pub use laws::faultless_sources_can_be_loaded;
 pub use lines::{card_line, fills, push_fillers, push_glyphs, push_line, push_number};
 pub use listings::listing;

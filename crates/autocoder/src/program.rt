@@ -6,7 +6,7 @@ ghost use Rattle.autocoder_layout.specs.Source.{IsInRange, silent, source_of};
 ghost use Rattle.autocoder.specs.Loadable.{CanBeLoaded, IsRising};
 ghost use Rattle.autocoder.specs.Programs.{start_by, IsProgramOf, IsFaultless, AreFaults};
 
-use crate::faults::{Faults, has_some};
+use crate::faults::{Faults, Faulty, has_some};
 use autocoder_layout::{Cell, Judgement, Layout, Line, Slot, Source, Value, first_instruction};
 use autocoder_statements::{Statement, Text};
 use cards::Deck;
@@ -138,8 +138,8 @@ fn start_of(layout: &Layout) -> u32
 }
 
 /// Assembles the source at the beginning of a deck: its cards up to the first END card. Returns the
-/// program, or else the lowest fault of each card that has one. The cards after the source are data
-/// and are not read. Memory is taken for the program and during the work.
+/// program, or else the lowest fault of each card that has one, with the source as it was laid out.
+/// The cards after the source are data and are not read. Memory is taken for the program and during the work.
 pub fn assemble(alloc: Global, deck: &Deck) -> Result<Program, Faults>
     ensures program { IfOk result (IsProgramOf (source_of deck.now)) }
     ensures loadable { IfOk result CanBeLoaded }
@@ -157,7 +157,7 @@ pub fn assemble(alloc: Global, deck: &Deck) -> Result<Program, Faults>
         return Err(Faults::NoMemory);
     };
     if has_some(&faults) {
-        return Err(Faults::Source(faults));
+        return Err(Faults::Source(Faulty { layout, faults }));
     }
     let start = start_of(&layout);
     Ok(Program {

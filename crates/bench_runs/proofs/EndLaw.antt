@@ -4,7 +4,8 @@ use Rattle.std.proofs.lemmas.Bool.{cases_lt}
 use Rattle.machine.specs.Run.{State, after, attempts, is_running, step}
 use Rattle.machine.proofs.Steps.{attempts_stopped}
 use Rattle.bench_runs.specs.Ends.{IsEnd, end_of, goes_on, stands_at}
-use Rattle.bench_runs.proofs.EndLemmas.{attempts_on, end_here, end_on}
+use Rattle.machine.proofs.Attempts.{attempts_on}
+use Rattle.bench_runs.proofs.EndLemmas.{end_here, end_on}
 
 -- a machine goes on where it runs and does not stand at the stop
 both : (running stands : Bool) → running && not stands ≡ true → (running ≡ true) × (stands ≡ false)

@@ -1,7 +1,8 @@
 -- how far a run goes
 use Rattle.std.proofs.Common.{◌≡◌, ℕ, zero, suc, ◌+◌, ◌-◌, ◌<◌, ◌≤◌, Bool, true, false, ◌&&◌, if◌then◌else◌, Option, None, refl, sym, ap, ◌∙◌, arith}
 use Rattle.machine.specs.Run.{State, after, attempts, is_running, step}
-use Rattle.machine.proofs.Steps.{after-after, after_one, after_stopped, attempts_stopped}
+use Rattle.machine.proofs.Attempts.{after_attempts, attempts_on}
+use Rattle.machine.proofs.Steps.{after-after, after_one, attempts_stopped}
 use Rattle.bench_runs.specs.Ends.{end_of, goes_on}
 
 -- a machine that does not go on is at its end
@@ -49,16 +50,6 @@ comes_whole m now limit stop done comes within =
     let end : end_of now (limit - done) stop ≡ 0 = ap (λ n. end_of now n stop) none in
     omega (arith, comes.end, end)
 
--- there are no more attempts than steps
-one_at_most : (b : Bool) (n count : ℕ) → n ≤ count → (if b then 1 else 0) + n ≤ suc count
-one_at_most true n count h = omega arith
-one_at_most false n count h = omega arith
-
-pub attempts_fit : (m : State) (count : ℕ) → attempts m count ≤ count
-unfolding attempts
-attempts_fit m zero = omega arith
-attempts_fit m (suc count) = one_at_most (is_running m.standing) (attempts (step m) count) count (attempts_fit (step m) count)
-
 one_or_none : (b : Bool) (n limit : ℕ) → n ≤ limit → (if b then 1 + n else 0) ≤ suc limit
 one_or_none true n limit h = omega arith
 one_or_none false n limit h = omega arith
@@ -70,11 +61,6 @@ end_fits m (suc limit) stop = one_or_none (goes_on stop m) (end_of (step m) limi
 
 -- ---- without a stop
 
--- the attempts of a machine by whether it runs
-pub attempts_on : (m : State) (limit : ℕ) → is_running m.standing ≡ true → attempts m (suc limit) ≡ 1 + attempts (step m) limit
-unfolding attempts
-attempts_on m limit h = ap (λ b. (if b then 1 else 0) + attempts (step m) limit) h
-
 whole_by : (b : Bool) (m : State) (limit : ℕ) → is_running m.standing ≡ b → end_of (step m) limit None ≡ attempts (step m) limit → end_of m (suc limit) None ≡ attempts m (suc limit)
 whole_by true m limit h rest = end_on m limit None (ap (λ b. b && true) h) ∙ ap (λ n. 1 + n) rest ∙ sym (attempts_on m limit h)
 whole_by false m limit h rest = end_here m (suc limit) None (ap (λ b. b && true) h) ∙ sym (attempts_stopped m (suc limit) h)
@@ -83,18 +69,6 @@ pub whole_end : (m : State) (limit : ℕ) → end_of m limit None ≡ attempts m
 unfolding end_of attempts
 whole_end m zero = refl
 whole_end m (suc limit) = whole_by (is_running m.standing) m limit refl (whole_end (step m) limit)
-
-after_by : (b : Bool) (m : State) (limit : ℕ) → is_running m.standing ≡ b → after (step m) (attempts (step m) limit) ≡ after (step m) limit → after m (attempts m (suc limit)) ≡ after m (suc limit)
-unfolding after
-after_by true m limit h rest =
-    let one : attempts m (suc limit) ≡ suc (attempts (step m) limit) = omega (arith, attempts_on m limit h) in
-    ap (after m) one ∙ rest
-after_by false m limit h rest = ap (after m) (attempts_stopped m (suc limit) h) ∙ sym (after_stopped m (suc limit) h)
-
-pub after_attempts : (m : State) (limit : ℕ) → after m (attempts m limit) ≡ after m limit
-unfolding after attempts
-after_attempts m zero = refl
-after_attempts m (suc limit) = after_by (is_running m.standing) m limit refl (after_attempts (step m) limit)
 
 pub whole_run : (m : State) (limit : ℕ) → after m (end_of m limit None) ≡ after m limit
 whole_run m limit = ap (after m) (whole_end m limit) ∙ after_attempts m limit

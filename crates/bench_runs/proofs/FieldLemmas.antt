@@ -1,5 +1,5 @@
 -- the lines of an attempt and of the fields at which it works
-use Rattle.std.proofs.Common.{◌≡◌, ℕ, ◌==◌, if◌then◌else◌, List, [], ◌++◌, Some, codes, sym, ap, ◌∙◌, append_assoc}
+use Rattle.std.proofs.Common.{◌≡◌, ℕ, ◌==◌, if◌then◌else◌, List, [], ◌++◌, Some, codes, ap, ◌∙◌, append_assoc}
 use Rattle.core_store.specs.Storage.{Storage}
 use Rattle.bench_runs.specs.Fields.{both_lines, field_shown, fields_lines}
 

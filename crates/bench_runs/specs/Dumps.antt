@@ -10,8 +10,8 @@ use Rattle.units.specs.declared.carriage.Motion.TheVariants.{Space, DoubleSpace,
 use Rattle.units.specs.Units.{made_in_all}
 use Rattle.units.specs.declared.units.Units.{Units}
 use Rattle.autocoder.specs.Listing.{position_field}
-use Rattle.machine.specs.Run.{State, after}
-use Rattle.bench_runs.specs.Ends.{end_of, most_attempts}
+use Rattle.machine.specs.Run.{State, after, most_instructions}
+use Rattle.bench_runs.specs.Ends.{end_of}
 use Rattle.bench_runs.specs.Rows.{row_length, rows_shown}
 use Rattle.bench_runs.specs.declared.dumping.DumpOptions.{DumpOptions}
 
@@ -94,7 +94,7 @@ storage_shown options s =
 -- a machine at the end of its run of so many attempts at most
 abbrev pub dumped_machine : DumpOptions → State → State
 dumped_machine options m =
-    after m (end_of m (min (unwrap_or options.after most_attempts) most_attempts) options.stop)
+    after m (end_of m (min (unwrap_or options.after most_instructions) most_instructions) options.stop)
 
 -- what is shown of a machine: its storage, its registers and indicators, and its units
 unfoldable pub machine_shown : DumpOptions → State → List ℕ

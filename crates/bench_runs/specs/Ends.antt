@@ -1,10 +1,6 @@
 -- how far a run goes
 use Rattle.std.specs.Prelude.{ℕ, zero, suc, ◌≡◌, ◌+◌, ◌<◌, ◌≤◌, ◌==◌, ◌&&◌, ◌⊎◌, not, Bool, true, false, if◌then◌else◌, Option, Some, None}
-use Rattle.machine.specs.Run.{State, after, attempts, is_running, step}
-
--- the most attempts of a run
-abbrev pub most_attempts : ℕ
-most_attempts = 1000000
+use Rattle.machine.specs.Run.{State, after, attempts, is_running, most_instructions, step}
 
 -- whether a machine stands at a stop: it is running, and register I is the stop's address
 abbrev pub stands_at : Option ℕ → State → Bool
@@ -29,4 +25,4 @@ pub record IsEnd (m : State) (limit : ℕ) (stop : Option ℕ) (n : ℕ) : Type 
 
 -- a machine at the end of its run
 abbrev pub ended : State → Option ℕ → State
-ended m stop = after m (end_of m most_attempts stop)
+ended m stop = after m (end_of m most_instructions stop)

@@ -1,5 +1,5 @@
 -- the fields that an attempt works at
-use Rattle.std.specs.Prelude.{ℕ, ◌+◌, ◌-◌, ◌==◌, nat_lt, bytes_eq, if◌then◌else◌, Bool, List, [], ◌∷◌, ◌++◌, length, codes, Option, Some, None}
+use Rattle.std.specs.Prelude.{ℕ, ◌+◌, ◌-◌, ◌==◌, nat_lt, bytes_eq, if◌then◌else◌, Bool, List, [], ◌++◌, length, codes, Option, Some, None}
 use Rattle.core_store.specs.Storage.{Storage, codes_from, field_length}
 use Rattle.autocoder.specs.Listing.{glyphs_of, line_text, position_field}
 use Rattle.machine.specs.Run.{State, step}

@@ -2,10 +2,10 @@
 use Rattle.std.specs.Prelude.{ℕ, zero, suc, ◌+◌, ◌-◌, ◌*◌, ◌/◌, ◌%◌, ◌<◌, ◌≤◌, ◌≡◌, ◌≢◌, ◌==◌, ◌&&◌, nat_lt, if◌then◌else◌, List, [], ◌∷◌, ◌++◌, length, replicate, codes, decimal, slice_index_or, Option, Some, None}
 use Rattle.core_store.specs.Storage.{largest_size}
 use Rattle.autocoder.specs.Listing.{blank, line_text, position_field, right}
-use Rattle.machine.specs.Run.{State, after}
+use Rattle.machine.specs.Run.{State, after, most_instructions}
 use Rattle.bench_runs.specs.CountedCards.{cards_counted}
 use Rattle.bench_runs.specs.Names.{Named}
-use Rattle.bench_runs.specs.Ends.{end_of, most_attempts}
+use Rattle.bench_runs.specs.Ends.{end_of}
 use Rattle.bench_runs.specs.Reports.{report_line}
 use Rattle.bench_runs.specs.Shown.{characters_next, left}
 use Rattle.bench_runs.specs.declared.counting.Begun.{Begun}
@@ -94,5 +94,5 @@ counts_shown (Some names) m attempts =
 -- the profile of a machine's run: how often each place was attempted, the number of attempts, and
 -- the report of the machine after it
 unfoldable pub profiled : Option Named → State → List ℕ
-profiled names m = counts_shown names m (end_of m most_attempts None)
-    ++ attempts_line (end_of m most_attempts None) ++ report_line (after m most_attempts)
+profiled names m = counts_shown names m (end_of m most_instructions None)
+    ++ attempts_line (end_of m most_instructions None) ++ report_line (after m most_instructions)

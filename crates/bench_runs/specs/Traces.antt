@@ -1,8 +1,8 @@
 -- the trace of a run
 use Rattle.std.specs.Prelude.{ℕ, zero, suc, ◌+◌, nat_lt, nat_le, ◌&&◌, ◌||◌, Bool, if◌then◌else◌, List, [], ◌++◌, Option}
-use Rattle.machine.specs.Run.{State, after, is_checked}
+use Rattle.machine.specs.Run.{State, after, is_checked, most_instructions}
 use Rattle.bench_runs.specs.Fields.{attempt_shown}
-use Rattle.bench_runs.specs.Ends.{end_of, ended, most_attempts}
+use Rattle.bench_runs.specs.Ends.{end_of, ended}
 use Rattle.bench_runs.specs.Names.{Named}
 use Rattle.bench_runs.specs.Reports.{report_line}
 use Rattle.bench_runs.specs.declared.tracing.Ending.{Ending}
@@ -11,7 +11,7 @@ use Rattle.bench_runs.specs.declared.tracing.TraceOptions.{TraceOptions}
 -- how the run of a machine ends: after how many attempts, and whether in a check
 abbrev pub ending_of : State → Option ℕ → Ending
 ending_of m stop = record {
-  attempts = end_of m most_attempts stop;
+  attempts = end_of m most_instructions stop;
   is_checked = is_checked (ended m stop).standing;
 }
 
@@ -33,5 +33,5 @@ lines_shown shows line m (suc count) = lines_shown shows line m count
 unfoldable pub traced : TraceOptions → Option Named → State → List ℕ
 traced options names m =
     lines_shown (is_shown options (ending_of m options.stop)) (attempt_shown names options.fields) m
-    (end_of m most_attempts options.stop)
+    (end_of m most_instructions options.stop)
     ++ report_line (ended m options.stop)

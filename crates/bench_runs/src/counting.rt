@@ -2,16 +2,16 @@
 
 ghost use Rattle.std.specs.Prelude.{◌≡◌, ◌+◌, ◌<◌, ◌==◌, ℕ, if◌then◌else◌, [], length, slice_index_or, None, IfOk, OnOk};
 ghost use Rattle.core_store.specs.Storage.{largest_size};
-ghost use Rattle.machine.specs.Run.{State, after};
-ghost use Rattle.bench_runs.specs.Ends.{end_of, most_attempts};
+ghost use Rattle.machine.specs.Run.{State, after, most_instructions};
+ghost use Rattle.bench_runs.specs.Ends.{end_of};
 ghost use Rattle.bench_runs.specs.Profiles.{CountsNext, IsCounted};
 ghost use Rattle.bench_runs.specs.declared.counting.Begun.{Begun};
 ghost use Rattle.bench_runs.specs.Shown.{characters_next};
 
-use crate::ends::{MOST_ATTEMPTS, goes_on};
+use crate::ends::goes_on;
 use crate::shown::push_characters;
 use core_store::{Core, LARGEST_SIZE};
-use machine::{Machine, Meter, Parts};
+use machine::{MOST_INSTRUCTIONS, Machine, Meter, Parts};
 use std::alloc::{AllocError, Global};
 
 /// The attempts that began at an address.
@@ -34,7 +34,7 @@ fn characters_next<C: Core>(alloc: Global, parts: &Parts<C>) -> Result<Vec<u8>, 
 
 /// Counts the attempt that a machine makes next.
 fn count_next<C: Core>(alloc: Global, place: &mut Begun, parts: &Parts<C>) -> Result<(), AllocError>
-    requires { place.old.count < most_attempts }
+    requires { place.old.count < most_instructions }
     ensures count { OnOk result (place.new.count ≡ place.old.count + 1) }
     ensures characters { OnOk result (place.new.characters.items
         ≡ (if place.old.count == 0 then characters_next parts.now
@@ -70,7 +70,7 @@ fn count_attempt<C: Core>(
     requires inside { parts.now.works.registers.i < length places.old.items }
     requires few { (other : Begun) →
         (slice_index_or places.old.items parts.now.works.registers.i other).count
-        < most_attempts }
+        < most_instructions }
     ensures { OnOk result (CountsNext parts.now places.old.items places.new.items) }
 {
     count_next(alloc, &mut places[parts.registers.i as usize], parts)
@@ -84,18 +84,18 @@ pub(crate) fn count_run<C: Core>(
 ) -> Result<u32, AllocError>
     requires { IsCounted machine.old 0 places.old.items }
     ensures machine { OnOk result (machine.new
-        ≡ after machine.old (end_of machine.old most_attempts None)) }
+        ≡ after machine.old (end_of machine.old most_instructions None)) }
     ensures attempts { IfOk result (λ made.
-        made ≡ end_of machine.old most_attempts None) }
+        made ≡ end_of machine.old most_instructions None) }
     ensures counts { IfOk result (λ made. IsCounted machine.old made places.new.items) }
 {
     let mut meter = Meter::new();
-    for made in 0..MOST_ATTEMPTS {
+    for made in 0..MOST_INSTRUCTIONS {
         if !goes_on(machine.parts(), None) {
             return Ok(made);
         }
         count_attempt(alloc, places, machine.parts())?;
         machine.step(&mut meter)?;
     }
-    Ok(MOST_ATTEMPTS)
+    Ok(MOST_INSTRUCTIONS)
 }

@@ -2,18 +2,17 @@
 
 ghost use Rattle.std.specs.Prelude.{◌≡◌, ◌-◌, ◌<◌, ◌≤◌, ◌++◌, min, length, unwrap_or, IfOk, OnOk};
 ghost use Rattle.core_store.specs.Storage.{largest_size};
-ghost use Rattle.machine.specs.Run.{loaded};
+ghost use Rattle.machine.specs.Run.{loaded, most_instructions};
 ghost use Rattle.machine.specs.Ranges.{HasSize};
 ghost use Rattle.units.specs.declared.profiles.Profile.TheVariants.{Selecting};
 ghost use Rattle.bench_runs.specs.Dumps.{addresses_shown, arithmetic_shown, carriage_shown, channel_words, compared_words, dumped_machine, end_row, first_row, machine_shown, made_shown, on_or_off, read_shown, registers_line, storage_shown, units_line, unread_shown, waiting_words};
-ghost use Rattle.bench_runs.specs.Ends.{most_attempts};
 
-use crate::ends::{MOST_ATTEMPTS, load, run_to_end};
+use crate::ends::{load, run_to_end};
 use crate::rows::{ROW_LENGTH, push_rows};
 use autocoder::push_number;
 use cards::{Deck, LINE_FEED};
 use core_store::{Compared, Core, Registers, Size};
-use machine::Parts;
+use machine::{MOST_INSTRUCTIONS, Parts};
 use std::alloc::{AllocError, Global};
 use units::{Carriage, Hopper, Motion, Switches, Units};
 
@@ -33,9 +32,11 @@ pub struct DumpOptions {
 impl DumpOptions {
     /// How many attempts are made at most.
     fn limit(self) -> u32
-        ensures { result ≡ min (unwrap_or self.after most_attempts) most_attempts }
+        ensures { result ≡ min (unwrap_or self.after most_instructions) most_instructions }
     {
-        self.after.unwrap_or(MOST_ATTEMPTS).min(MOST_ATTEMPTS)
+        self.after
+            .unwrap_or(MOST_INSTRUCTIONS)
+            .min(MOST_INSTRUCTIONS)
     }
 
     /// The first row that is shown.

@@ -11,9 +11,6 @@ use machine::{Machine, Meter, Parts};
 use std::alloc::{AllocError, Global};
 use units::{Profile, Switches};
 
-/// The greatest number of attempts of a run.
-pub const MOST_ATTEMPTS: u32 = 1_000_000;
-
 /// Whether a machine stands at a stop.
 fn stands_at<C: Core>(parts: &Parts<C>, stop: Option<u16>) -> bool
     ensures { result ≡ stands_at stop parts.now }

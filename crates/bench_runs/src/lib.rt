@@ -2,7 +2,7 @@
 //!
 //! All that is shown is a function of the machine that is loaded and of a number of steps: after so
 //! many steps it is `after` of `machine`, so no option of the bench changes what a program does. A
-//! run has at most [`MOST_ATTEMPTS`] attempts, and may end at a stop before (`specs/Ends.antt`).
+//! run has at most [`MOST_INSTRUCTIONS`](machine::MOST_INSTRUCTIONS) attempts, and may end at a stop before (`specs/Ends.antt`).
 //! The contract for the layer above: [`trace`] returns exactly the text of `specs/Traces.antt`, a
 //! check with its cause by `check_causes`; [`dump`] that of `specs/Dumps.antt`, and [`profile`] that
 //! of `specs/Profiles.antt`; each fails only if there is no memory. A trace and a profile end with
@@ -32,14 +32,13 @@ mod names;
 mod profiling;
 mod reports;
 mod rows;
-mod running;
 mod shown;
 mod tracing;
 
 pub use accounts::Account;
 pub use attempts::push_attempt;
 pub use dumping::{DumpOptions, dump, push_machine, push_registers, push_storage, push_units};
-pub use ends::{MOST_ATTEMPTS, load};
+pub use ends::load;
 pub use fields::{push_field, push_shown};
 pub use laws::{
     counts_add_up, dump_is_read, names_are_the_nearest, runs_end_at_the_first_stop,
@@ -47,5 +46,4 @@ pub use laws::{
 };
 pub use names::Names;
 pub use profiling::profile;
-pub use running::machine_after;
 pub use tracing::{TraceOptions, trace};

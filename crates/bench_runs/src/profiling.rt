@@ -5,7 +5,7 @@ ghost use Rattle.core_store.specs.Storage.{largest_size};
 ghost use Rattle.machine.specs.Run.{State, loaded};
 ghost use Rattle.machine.specs.Standings.{standing_of};
 ghost use Rattle.units.specs.declared.profiles.Profile.TheVariants.{Selecting};
-ghost use Rattle.bench_runs.specs.Ends.{ended, most_attempts};
+ghost use Rattle.bench_runs.specs.Ends.{ended};
 ghost use Rattle.bench_runs.specs.Profiles.{IsCounted, attempts_line, began_at, counts_shown, first_at, place_line, place_shown, places_shown, profiled, right_text, tenths_of_percent, tenths_words};
 ghost use Rattle.bench_runs.specs.Shown.{left};
 

@@ -1,22 +1,22 @@
 //! The trace of a run.
 
 ghost use Rattle.std.specs.Prelude.{◌≡◌, ◌+◌, ◌-◌, ◌<◌, ◌≤◌, ◌++◌, ◌&&◌, ◌||◌, ℕ, List, [], nat_le, nat_lt, false, length, None, if◌then◌else◌, option_copied, IfOk, OnOk};
-ghost use Rattle.machine.specs.Run.{after, is_checked, loaded, step};
+ghost use Rattle.machine.specs.Run.{after, is_checked, loaded, step, most_instructions};
 ghost use Rattle.machine.specs.Standings.{standing_of};
 ghost use Rattle.units.specs.declared.profiles.Profile.TheVariants.{Selecting};
 ghost use Rattle.bench_runs.specs.Fields.{attempt_shown};
-ghost use Rattle.bench_runs.specs.Ends.{ended, most_attempts};
+ghost use Rattle.bench_runs.specs.Ends.{ended};
 ghost use Rattle.bench_runs.specs.Reports.{report_line};
 ghost use Rattle.bench_runs.specs.Traces.{is_shown, lines_shown, traced};
 
 use crate::accounts::Account;
-use crate::ends::{MOST_ATTEMPTS, advance, load, run_to_end};
+use crate::ends::{advance, load, run_to_end};
 use crate::fields::push_shown;
 use crate::names::Names;
 use crate::reports::push_report;
 use cards::Deck;
 use core_store::{Core, Size};
-use machine::{Machine, Meter, Parts};
+use machine::{MOST_INSTRUCTIONS, Machine, Meter, Parts};
 use std::alloc::{AllocError, Global};
 use units::Switches;
 
@@ -53,7 +53,7 @@ impl TraceOptions {
 
     /// Whether the attempt with this number is shown.
     fn shows(self, ending: Ending, number: u32) -> bool
-        requires { number ≤ most_attempts }
+        requires { number ≤ most_instructions }
         ensures { result ≡ is_shown self ending number }
     {
         self.asks_for(number) || ending.is_last(number)
@@ -61,7 +61,7 @@ impl TraceOptions {
 
     /// The first attempt that may be shown.
     fn first(self, ending: Ending) -> u32
-        requires { ending.attempts ≤ most_attempts }
+        requires { ending.attempts ≤ most_instructions }
         ensures some { 1 ≤ result }
         ensures before { (number : ℕ) → 1 ≤ number → number < result →
             is_shown self ending number ≡ false }
@@ -76,7 +76,7 @@ impl TraceOptions {
 
     /// The first attempt after those that may be shown.
     fn end(self, ending: Ending) -> u32
-        requires { ending.attempts ≤ most_attempts }
+        requires { ending.attempts ≤ most_instructions }
         ensures within { result ≤ ending.attempts + 1 }
         ensures behind { (number : ℕ) → result ≤ number → number ≤ ending.attempts →
             is_shown self ending number ≡ false }
@@ -93,7 +93,7 @@ impl TraceOptions {
 impl Ending {
     /// Whether the attempt with this number is among the last before a check.
     fn is_last(self, number: u32) -> bool
-        requires { number ≤ most_attempts }
+        requires { number ≤ most_instructions }
         ensures { result ≡ (self.is_checked && nat_lt self.attempts (number + 20)) }
     {
         self.is_checked && self.attempts < number + 20
@@ -101,7 +101,7 @@ impl Ending {
 
     /// The first of the last attempts before a check; without one the attempt after the last.
     fn first_of_last(self) -> u32
-        requires { self.attempts ≤ most_attempts }
+        requires { self.attempts ≤ most_instructions }
         ensures some { 1 ≤ result }
         ensures before { (number : ℕ) → 1 ≤ number → number < result →
             (self.is_checked && nat_lt self.attempts (number + 20)) ≡ false }
@@ -130,7 +130,7 @@ fn push_if_shown<C: Core>(
     sheet: Sheet,
     number: u32,
 ) -> Result<(), AllocError>
-    requires { number ≤ most_attempts }
+    requires { number ≤ most_instructions }
     ensures machine { OnOk result (machine.new ≡ step machine.old) }
     ensures line { OnOk result (text.new.items ≡ text.old.items
         ++ (if is_shown sheet.options sheet.ending number
@@ -156,7 +156,7 @@ fn push_lines<C: Core>(
 ) -> Result<(), AllocError>
     requires some { 1 ≤ first }
     requires rises { first ≤ end }
-    requires most { end ≤ most_attempts + 1 }
+    requires most { end ≤ most_instructions + 1 }
     requires before { (number : ℕ) → 1 ≤ number → number < first →
         is_shown sheet.options sheet.ending number ≡ false }
     ensures { OnOk result (text.new.items ≡ text.old.items
@@ -180,7 +180,7 @@ fn lines_shown(
     sheet: Sheet,
 ) -> Result<Vec<u8>, AllocError>
     requires some { 0 < length deck.now }
-    requires most { sheet.ending.attempts ≤ most_attempts }
+    requires most { sheet.ending.attempts ≤ most_instructions }
     ensures { IfOk result (λ text. text.items
         ≡ lines_shown (is_shown sheet.options sheet.ending)
         (attempt_shown (option_copied names.entry) sheet.options.fields)
@@ -235,10 +235,10 @@ pub fn trace(
         ≡ standing_of (ended (loaded deck.now size switches Selecting) options.stop)) }
     ensures report { options.stop ≡ None → IfOk result (λ account. (lines : List ℕ)
         × (account.text.items ≡ lines
-        ++ report_line (after (loaded deck.now size switches Selecting) most_attempts))) }
+        ++ report_line (after (loaded deck.now size switches Selecting) most_instructions))) }
 {
     let mut machine = load(alloc, deck, size, switches)?;
-    let attempts = run_to_end(&mut machine, MOST_ATTEMPTS, options.stop)?;
+    let attempts = run_to_end(&mut machine, MOST_INSTRUCTIONS, options.stop)?;
     let sheet = Sheet {
         options,
         ending: ending_of(machine.parts(), attempts),

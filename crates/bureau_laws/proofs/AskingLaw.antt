@@ -23,7 +23,7 @@ use Rattle.http_requests.specs.Fields.{body_length}
 use Rattle.http_requests.specs.Heads.{AsksFor}
 use Rattle.http_requests.specs.declared.targets.Target.{Target}
 use Rattle.http_requests.specs.declared.targets.Target.TheVariants as target
-use Rattle.http_requests.specs.declared.targets.JobName.{JobName}
+use Rattle.texts.specs.declared.names.JobName.{JobName}
 use Rattle.http_requests.specs.Tests.{count_of, fields_of}
 use Rattle.httparse.specs.Grammar.{RequestHead}
 use Rattle.bureau_laws.specs.Same.{IsSameTarget, IsSameJob}

@@ -15,7 +15,7 @@ use Rattle.office.specs.Jobs.{Job}
 use Rattle.office.specs.Kept.{job_after}
 use Rattle.office.specs.New.{job_or_refusal}
 use Rattle.office.specs.Office.{Entry, Office, own, is_entry, job_of, job_line, by_number, with_job, and_job, has_most_jobs, added, submitted_as, submitted, commanded, early_refusal, served, taken, take, fold}
-use Rattle.office.specs.Orders.{in_order}
+use Rattle.bcd.specs.Orders.{in_order}
 use Rattle.office.specs.Limits.{most_jobs}
 use Rattle.std.specs.Prelude.{nat_le, length}
 use Rattle.bureau_laws.specs.Customers.{names, commands_of, replies_to}

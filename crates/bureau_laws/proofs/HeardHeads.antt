@@ -1,5 +1,5 @@
 -- the head of an answer is read as it was written
-use Rattle.std.proofs.Common.{◌≡◌, ◌∙◌, ℕ, ◌<◌, ◌^◌, ◌==◌, ◌&&◌, Bool, true, false, not, List, [], ◌∷◌, ◌++◌, length, map, reverse, Some, codes, decimal, refl, sym, ap, subst, arith, append_assoc, inl, inr}
+use Rattle.std.proofs.Common.{◌≡◌, ◌∙◌, ℕ, ◌<◌, ◌^◌, ◌==◌, ◌&&◌, Bool, true, false, not, List, [], ◌∷◌, ◌++◌, length, map, reverse, Some, codes, decimal, refl, sym, ap, subst, arith, append_assoc}
 use Rattle.std.specs.List.{list_all}
 use Rattle.std.specs.Fmt.{digits, digit_glyph}
 use Rattle.std.specs.Char.{is_ascii_digit}
@@ -14,6 +14,7 @@ use Rattle.httparse.specs.Spans.{name_and_value}
 use Rattle.httparse.proofs.GrammarLemmas.{print_response-append}
 use Rattle.httparse.proofs.TrimLemmas.{AllPass-reverse, skip_ows_no, trim_ows_space}
 use Rattle.http_replies.specs.Replies.{HasPhrase, answer_bytes, phrase_of}
+use Rattle.http_replies.proofs.Phrases.{each}
 use Rattle.queue_rounds.specs.Responses.{IsLengthField, IsNumber, StatesLength}
 use Rattle.bureau_laws.proofs.HeardDigits.{decimal_is_text, decimal_passes}
 
@@ -77,20 +78,6 @@ length_is_field size = three_values (32 ∷ decimal size) (decimal_passes is_val
 close_is_field : IsField close_field
 unfolding is_token_byte
 close_is_field = record { name = (omega arith, AllPass-from_list_all is_token_byte (codes "Connection") refl); raw = AllPass-from_list_all is_value_byte (codes " close") refl }
-
--- what holds of each status that is answered
-each : (P : ℕ → Type 0) → P 200 → P 400 → P 404 → P 405 → P 409 → P 411 → P 413 → P 431 → P 500 → P 503
-    → (status : ℕ) → HasPhrase status → P status
-each P a b c d e f g h i j status (inl is) = subst P (sym is) a
-each P a b c d e f g h i j status (inr (inl is)) = subst P (sym is) b
-each P a b c d e f g h i j status (inr (inr (inl is))) = subst P (sym is) c
-each P a b c d e f g h i j status (inr (inr (inr (inl is)))) = subst P (sym is) d
-each P a b c d e f g h i j status (inr (inr (inr (inr (inl is))))) = subst P (sym is) e
-each P a b c d e f g h i j status (inr (inr (inr (inr (inr (inl is)))))) = subst P (sym is) f
-each P a b c d e f g h i j status (inr (inr (inr (inr (inr (inr (inl is))))))) = subst P (sym is) g
-each P a b c d e f g h i j status (inr (inr (inr (inr (inr (inr (inr (inl is)))))))) = subst P (sym is) h
-each P a b c d e f g h i j status (inr (inr (inr (inr (inr (inr (inr (inr (inl is))))))))) = subst P (sym is) i
-each P a b c d e f g h i j status (inr (inr (inr (inr (inr (inr (inr (inr (inr is))))))))) = subst P (sym is) j
 
 abbrev IsWritten : ℕ → Type 0
 IsWritten status = (length (decimal status) ≡ 3) × (list_all is_ascii_digit (decimal status) ≡ true) × (list_all is_value_byte (phrase_of status) ≡ true) × (status < 2 ^ 64)

@@ -12,7 +12,7 @@ use Rattle.core_store.specs.declared.checks.Check.TheVariants as check
 use Rattle.machine.specs.Standings.{standing_words}
 use Rattle.machine.specs.declared.standings.StandingAt.{StandingAt}
 use Rattle.machine.specs.declared.standings.StandingAt.TheVariants as standing
-use Rattle.office.specs.Names.{is_letter_or_digit, is_name_length}
+use Rattle.texts.specs.Names.{is_letter_or_digit, is_name_length}
 use Rattle.office.specs.Queued.{QueuedJob}
 use Rattle.office.specs.declared.summaries.Summary.{Summary}
 use Rattle.json.specs.Json as json

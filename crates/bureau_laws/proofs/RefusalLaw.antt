@@ -9,8 +9,8 @@ use Rattle.machine.specs.declared.standings.Standing.{Standing}
 use Rattle.machine.specs.declared.standings.Standing.TheVariants as standing
 use Rattle.office.specs.Jobs.{Job, granted, picture}
 use Rattle.office.specs.Kept.{Kept, answered, job_refusal, kept_of, refused_if, summary_of, take_kept, taken_unless}
-use Rattle.office.specs.Limits.{most_granted}
-use Rattle.office.specs.Names.{is_customer, is_limit, is_number}
+use Rattle.office.specs.Limits.{most_granted, is_limit}
+use Rattle.texts.specs.Names.{is_customer, is_number}
 use Rattle.office.specs.Office.{Office, commanded, early_refusal, job_of, value_refusal, served, take, taken}
 use Rattle.office.specs.declared.commands.Command.{Command}
 use Rattle.office.specs.declared.commands.Command.TheVariants as command

@@ -9,7 +9,7 @@ use Rattle.units.specs.declared.switches.Switches.{Switches}
 use Rattle.http_requests.specs.Heads.{AsksFor}
 use Rattle.http_requests.specs.declared.targets.Target.{Target}
 use Rattle.http_requests.specs.declared.targets.Target.TheVariants as target
-use Rattle.http_requests.specs.declared.targets.JobName.{JobName}
+use Rattle.texts.specs.declared.names.JobName.{JobName}
 use Rattle.office.specs.declared.commands.Kind.{Kind}
 use Rattle.httparse.specs.Grammar.{ReadsRequest, RequestHead}
 use Rattle.office.specs.declared.commands.Command.TheVariants as command

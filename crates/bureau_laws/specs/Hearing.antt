@@ -4,7 +4,7 @@ use Rattle.autocoder_layout.specs.declared.card_faults.CardFault.{CardFault}
 use Rattle.http_replies.specs.Bodies.{body_of}
 use Rattle.machine.specs.Standings.{standing_words}
 use Rattle.machine.specs.declared.standings.StandingAt.{StandingAt}
-use Rattle.office.specs.Names.{is_customer, is_number}
+use Rattle.texts.specs.Names.{is_customer, is_number}
 use Rattle.office.specs.Queued.{QueuedJob}
 use Rattle.office.specs.declared.refusals.Refusal.{Refusal}
 use Rattle.office.specs.declared.refusals.Refusal.TheVariants as refusal

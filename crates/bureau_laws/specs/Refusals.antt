@@ -2,7 +2,8 @@
 use Rattle.std.specs.Prelude.{ℕ, ◌≡◌, ◌+◌, ◌<◌, ◌≤◌, ◌⊎◌, ⊤, true, false, List, [], ◌∷◌, Some, None}
 use Rattle.machine.specs.declared.standings.Standing.TheVariants.{Running}
 use Rattle.office.specs.Jobs.{Job, IsAtHalt, granted, picture}
-use Rattle.office.specs.Names.{is_customer, is_limit, is_number}
+use Rattle.office.specs.Limits.{is_limit}
+use Rattle.texts.specs.Names.{is_customer, is_number}
 use Rattle.office.specs.Office.{Office, job_of}
 use Rattle.office.specs.declared.commands.JobCommand.{JobCommand}
 use Rattle.office.specs.declared.commands.JobCommand.TheVariants.{Slice, Start, Hold, Release, Collect, Standing as Tell, Cards, Lines}

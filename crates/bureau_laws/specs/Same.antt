@@ -2,7 +2,7 @@
 use Rattle.std.specs.Prelude.{ℕ, ◌≡◌, ◌⊎◌, ⊤, List, [], ◌∷◌, string_bytes}
 use Rattle.http_requests.specs.declared.targets.Target.{Target}
 use Rattle.http_requests.specs.declared.targets.Target.TheVariants as target
-use Rattle.http_requests.specs.declared.targets.JobName.{JobName}
+use Rattle.texts.specs.declared.names.JobName.{JobName}
 use Rattle.office.specs.declared.commands.Command.{Command}
 use Rattle.office.specs.declared.commands.Command.TheVariants as command
 use Rattle.http_requests.specs.declared.request.Request.{Request}

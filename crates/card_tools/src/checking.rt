@@ -4,11 +4,12 @@ ghost use Rattle.std.specs.Prelude.{◌≡◌, ◌≤◌, ◌<◌, ◌++◌, ◌
 ghost use Rattle.card_tools.specs.Checking.{is_no_rise, last_of, no_rise_line, number_of, number_on, told, told_of};
 ghost use Rattle.card_tools.specs.Numbering.{is_digit};
 
-use crate::lines::{push_decimal, push_glyphs};
+use crate::lines::push_glyphs;
 use crate::numbering::number_columns;
 use bcd::Code;
 use cards::Card;
 use std::alloc::{AllocError, Global};
+use texts::push_decimal;
 
 /// Returns what is told of the cards whose numbers do not rise: `card 7: 00000060 after 00000070`,
 /// with the columns 73 to 80 of the card and of the last one before it that has a number. The

@@ -4,11 +4,12 @@ ghost use Rattle.std.specs.Prelude.{◌≡◌, ◌≤◌, ◌+◌, ◌++◌, ◌
 ghost use Rattle.card_forms.specs.Signs.{filled};
 ghost use Rattle.card_tools.specs.Comparing.{both_shown, compared, differing, differing_among, differing_of, marks_of, only_from, only_shown, shown_from, shown_of, sum_line};
 
-use crate::lines::{push_barred, push_decimal, push_glyphs, push_numbered};
+use crate::lines::{push_barred, push_glyphs, push_numbered};
 use bcd::Code;
 use card_forms::filled;
 use cards::{COLUMNS, Card};
 use std::alloc::{AllocError, Global};
+use texts::push_decimal;
 
 /// What a comparison of two decks found.
 #[derive(Debug, Drop)]

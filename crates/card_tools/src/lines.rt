@@ -1,6 +1,6 @@
 //! Lines that show a card.
 
-ghost use Rattle.std.specs.Prelude.{◌≡◌, ◌++◌, replicate, decimal, OnOk};
+ghost use Rattle.std.specs.Prelude.{◌≡◌, ◌++◌, replicate, OnOk};
 ghost use Rattle.card_tools.specs.Lines.{barred, glyphs_of, in_four, numbered_card};
 
 use bcd::Code;
@@ -17,14 +17,6 @@ pub(crate) fn push_blanks(out: &mut Vec<u8>, count: usize) -> Result<(), AllocEr
         out.push(b' ')?;
     }
     Ok(())
-}
-
-/// Adds a number in digits.
-pub(crate) fn push_decimal(out: &mut Vec<u8>, number: usize) -> Result<(), AllocError>
-    ensures { OnOk result (out.new.items ≡ out.old.items ++ decimal number) }
-{
-    let mut buffer = Buffer::new();
-    out.extend_from_slice(buffer.format(number).as_bytes())
 }
 
 /// Adds a number at the right of four places.

@@ -4,10 +4,10 @@ ghost use Rattle.std.specs.Prelude.{◌≡◌, ◌≢◌, ◌++◌, ◌∷◌, �
 ghost use Rattle.std.specs.List.{list_all};
 ghost use Rattle.card_tools.specs.Manifests.{BeginsWithField, HasNoBlank, IsEntry, digest_of, is_decimal, is_hexadecimal, manifest_line, may_be_digest, may_be_number};
 
-use crate::lines::push_decimal;
 use cards::{Deck, write_text};
 use sha2::{Digest, Sha256};
 use std::alloc::{AllocError, Global};
+use texts::push_decimal;
 
 /// The fields of a line of a manifest.
 #[derive(Clone, Copy, Debug)]

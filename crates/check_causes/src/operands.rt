@@ -6,10 +6,11 @@ ghost use Rattle.addresses.specs.Addresses.{Tagged};
 ghost use Rattle.check_causes.specs.Reading.{with_index_told, position_told, operand_told, operand_told_at, operands_told};
 
 use crate::causes::Cause;
-use crate::words::{Word, character, sign};
+use crate::words::sign;
 use addresses::{IndexLocation, Tagged, base_ending, decode};
 use bcd::Code;
 use core_store::{Core, LARGEST_SIZE, Registers};
+use machine::{Word, character};
 
 /// A base plus the number at an index location, modulo 16000, or why it cannot be added.
 #[tactic(auto, unfolding(crate::specs::Reading::with_index_told))]

@@ -6,12 +6,12 @@ ghost use Rattle.machine.specs.Effect.{works_of};
 ghost use Rattle.check_causes.specs.Causes.{attempt_told, cause, instruction_told};
 
 use crate::causes::Cause;
-use crate::forms::{addresses_in, is_instruction};
+use crate::forms::is_instruction;
 use crate::operands::operands;
 use crate::operations::test_operation;
-use crate::words::{Word, character, sign, word_at};
+use crate::words::{sign, word_at};
 use core_store::{Core, Registers};
-use machine::Parts;
+use machine::{Parts, Word, addresses_in, character};
 use units::Units;
 
 /// Why the instruction of these characters is stopped.

@@ -10,68 +10,7 @@ ghost use Rattle.check_causes.specs.Reading.{word_told};
 use crate::causes::Cause;
 use bcd::Code;
 use core_store::Core;
-
-/// The characters of an instruction: `length` of them from a position on.
-#[derive(Clone, Copy)]
-pub(crate) struct Word {
-    pub first: u16,
-    pub length: u16,
-}
-
-/// The next mark within eight positions, or else the eighth position.
-fn next_mark<C: Core>(core: &C, i: u16) -> u16
-    requires within { i < length (C.cells core.now) }
-    requires below { i < largest_size }
-    ensures mark { result ≡ unwrap_or (least_mark (C.cells core.now) (i + 1) 8) (i + 8) }
-    ensures after { (i < result) × (result ≤ i + 8) }
-{
-    match core.mark_after(i) {
-        Some(mark) => mark,
-        None => i + 8,
-    }
-}
-
-/// The number of characters of the instruction at a position that begins with a comma, if a word
-/// begins there and the storage has those characters.
-fn comma_length<C: Core>(core: &C, i: u16) -> Option<u16>
-    requires within { i < length (C.cells core.now) }
-    requires below { i < largest_size }
-    ensures length { result ≡ (if is_marked (C.cells core.now) i
-        then ending_in (C.cells core.now) i
-        (min (unwrap_or (least_mark (C.cells core.now) (i + 1) 8) (i + 8) - i) 7)
-        else None) }
-    ensures within { IfSome result (λ count. (1 ≤ count) × (count ≤ 8)
-        × (i + count ≤ length (C.cells core.now))) }
-{
-    if !core.is_marked(i) {
-        return None;
-    }
-    let count = (next_mark(core, i) - i).min(7);
-    if i + count <= core.size() {
-        Some(count)
-    } else {
-        None
-    }
-}
-
-/// The number of characters of the instruction at a position of storage, if one begins and ends
-/// there.
-#[tactic(auto, unfolding(machine::specs::Word::word_length))]
-fn length_inside<C: Core>(core: &C, i: u16) -> Option<u16>
-    requires within { i < length (C.cells core.now) }
-    requires below { i < largest_size }
-    ensures length { result ≡ word_length (C.cells core.now) i }
-    ensures within { IfSome result (λ count. (1 ≤ count) × (count ≤ 8)
-        × (i + count ≤ length (C.cells core.now))) }
-{
-    if core.get(i).glyph() == b',' {
-        return comma_length(core, i);
-    }
-    match core.word_end(i) {
-        Some(end) => Some(end - i),
-        None => None,
-    }
-}
+use machine::Word;
 
 /// Returns the number of characters of the instruction at a position, if one begins and ends there:
 /// those before the next word mark, at most eight; `,` has at most seven and requires no mark after
@@ -82,7 +21,7 @@ pub fn word_length<C: Core>(core: &C, i: u16) -> Option<u16>
     ensures within { IfSome result (λ count. i + count ≤ length (C.cells core.now)) }
 {
     if i < core.size() {
-        length_inside(core, i)
+        machine::word_length(core, i)
     } else {
         None
     }
@@ -112,21 +51,10 @@ pub(crate) fn word_at<C: Core>(core: &C, i: u16) -> Result<Word, Cause>
         × (i + word.length ≤ length (C.cells core.now))) }
     ensures none { IfErr result (λ cause. word_told (C.cells core.now) i ≡ Err cause) }
 {
-    match length_inside(core, i) {
+    match machine::word_length(core, i) {
         Some(length) => Ok(Word { first: i, length }),
         None => Err(wordless(core, i)),
     }
-}
-
-/// A character of an instruction, by its index from 0.
-pub(crate) fn character<C: Core>(core: &C, word: Word, place: u16) -> Code
-    requires within { word.first + word.length ≤ length (C.cells core.now) }
-    requires below { word.first < largest_size }
-    requires among { place < word.length }
-    requires most { word.length ≤ 8 }
-    ensures { result ≡ slice_index (codes_from (C.cells core.now) word.first word.length) place }
-{
-    core.get_after(word.first, place)
 }
 
 /// The glyph of a character.

@@ -8,12 +8,12 @@ ghost use Rattle.check_causes.specs.Worked.{fields_by, fields_worked, if_read, i
 ghost use Rattle.check_causes.specs.Reading.{decoded_told};
 ghost use Rattle.units.specs.declared.units.Units.{Units as AllUnits};
 
-use crate::forms::{addresses_in, is_instruction};
+use crate::forms::is_instruction;
 use crate::operands::operands;
-use crate::words::{Word, character, word_at};
+use crate::words::word_at;
 use bcd::Code;
 use core_store::{Core, Registers};
-use machine::Parts;
+use machine::{Parts, Word, addresses_in, character};
 
 /// The characters of the operations that work at fields.
 #[rattlefmt::skip]

@@ -1,42 +1,15 @@
 -- the lines of attempts
 use Rattle.std.proofs.Common.{◌≡◌, ℕ, zero, suc, ◌+◌, ◌-◌, ◌<◌, ◌≤◌, Bool, true, false, Option, List, [], ◌++◌, if◌then◌else◌, refl, sym, ap, ◌∙◌, arith, append_assoc, append-nil}
 use Rattle.machine.specs.Run.{State, after, attempts, is_running, step}
+use Rattle.machine.proofs.Attempts.{attempts_on}
 use Rattle.machine.proofs.Steps.{after_stopped, attempts_stopped}
 use Rattle.bench_runs.specs.Attempts.{attempt_line}
 use Rattle.bench_runs.specs.Names.{Named}
 use Rattle.console.specs.Shown.{attempts_shown}
 
--- the attempts of a machine by whether it runs
-pub attempts_on : (m : State) (limit : ℕ) → is_running m.standing ≡ true → attempts m (suc limit) ≡ 1 + attempts (step m) limit
-unfolding attempts
-attempts_on m limit h = ap (λ b. (if b then 1 else 0) + attempts (step m) limit) h
-
 after_next : (m : State) (limit : ℕ) → after m (suc limit) ≡ after (step m) limit
 unfolding after
 after_next m limit = refl
-
--- there are no more attempts than steps
-one_at_most : (b : Bool) (n count : ℕ) → n ≤ count → (if b then 1 else 0) + n ≤ suc count
-one_at_most true n count h = omega arith
-one_at_most false n count h = omega arith
-
-pub attempts_fit : (m : State) (count : ℕ) → attempts m count ≤ count
-unfolding attempts
-attempts_fit m zero = omega arith
-attempts_fit m (suc count) = one_at_most (is_running m.standing) (attempts (step m) count) count (attempts_fit (step m) count)
-
--- steps behind the last attempt change nothing
-after_by : (b : Bool) (m : State) (limit : ℕ) → is_running m.standing ≡ b → after (step m) (attempts (step m) limit) ≡ after (step m) limit → after m (attempts m (suc limit)) ≡ after m (suc limit)
-unfolding after
-after_by true m limit h rest =
-    let one : attempts m (suc limit) ≡ suc (attempts (step m) limit) = omega (arith, attempts_on m limit h) in
-    ap (after m) one ∙ rest
-after_by false m limit h rest = ap (after m) (attempts_stopped m (suc limit) h) ∙ sym (after_stopped m (suc limit) h)
-
-pub after_attempts : (m : State) (limit : ℕ) → after m (attempts m limit) ≡ after m limit
-unfolding after attempts
-after_attempts m zero = refl
-after_attempts m (suc limit) = after_by (is_running m.standing) m limit refl (after_attempts (step m) limit)
 
 module _ (names : Option Named) where
   shown_nowhere : (made : ℕ) (m : State) (limit : ℕ) → is_running m.standing ≡ false → attempts_shown names made m limit ≡ []

@@ -12,7 +12,7 @@ use Rattle.console.specs.declared.sayings.Deed.TheVariants as deed
 use Rattle.console.specs.declared.sayings.Saying.{Saying}
 use Rattle.console.specs.declared.sayings.Saying.TheVariants as say
 use Rattle.console.specs.declared.starts.Start.{Start}
-use Rattle.console.proofs.AttemptLemmas.{attempts_fit}
+use Rattle.machine.proofs.Attempts.{attempts_fit}
 use Rattle.console.proofs.GoLemmas.{went_fits}
 use Rattle.console.proofs.PastLemmas.{all_later, past_later, past_none, past_started, until_all}
 

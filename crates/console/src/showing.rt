@@ -16,6 +16,7 @@ use cards::{Card, LINE_FEED};
 use core_store::Core;
 use machine::{Parts, Standing};
 use std::alloc::{AllocError, Global};
+use texts::push_decimal;
 use units::Punched;
 
 /// Adds a position in five digits.
@@ -60,14 +61,6 @@ fn push_standing<C: Core>(
     }
 }
 
-/// Adds a number in decimal.
-fn push_decimal(alloc: Global, text: &mut Vec<u8>, number: u32) -> Result<(), AllocError>
-    ensures { OnOk result (text.new.items ≡ text.old.items ++ decimal number) }
-{
-    let words = format!(in alloc; "{number}")?;
-    text.extend_from_slice(words.as_bytes())
-}
-
 /// Adds the line of where a machine stands that has attempted so many instructions.
 #[tactic(auto, unfolding(crate::specs::Shown::place_line))]
 pub(crate) fn push_place<C: Core>(
@@ -78,7 +71,7 @@ pub(crate) fn push_place<C: Core>(
 ) -> Result<(), AllocError>
     ensures { OnOk result (text.new.items ≡ text.old.items ++ place_line made parts.now) }
 {
-    push_decimal(alloc, text, made)?;
+    push_decimal(text, made as usize)?;
     text.extend_from_slice(b" done; ")?;
     push_standing(alloc, text, parts)?;
     text.push(LINE_FEED)?;

@@ -1,5 +1,5 @@
 -- the run of a deck, and what is printed of it
-use Rattle.std.specs.Prelude.{◌≡◌, ◌⊎◌, ◌<◌, ◌++◌, ◌∷◌, [], ℕ, List, length, take, Option, Result, Ok, Err, IfSome}
+use Rattle.std.specs.Prelude.{◌≡◌, ◌⊎◌, ◌<◌, ◌++◌, ◌∷◌, [], ℕ, List, length, Option, Result, Ok, Err}
 use Rattle.std.specs.Io.KnownBytes.{Appends, Keeps}
 use Rattle.cards.specs.Files.{line_feed}
 use Rattle.cards.specs.declared.Card.{Card}
@@ -11,9 +11,10 @@ use Rattle.core_store.specs.declared.sizes.Size.{Size}
 use Rattle.units.specs.declared.switches.Switches.{Switches}
 use Rattle.units.specs.Listing.{rendered}
 use Rattle.units.specs.declared.profiles.Profile.TheVariants.{Selecting}
-use Rattle.machine.specs.Run.{State, after, lines_of, loaded}
+use Rattle.machine.specs.Run.{State, after, lines_of, loaded, most_instructions}
 use Rattle.machine.specs.Reports.{report_of, report_words}
 use Rattle.machine.specs.declared.reports.Report.{Report}
+use Rattle.texts.specs.Reading.{IsReadUpTo}
 use Rattle.command_line.specs.declared.faults.Fault.{Fault}
 use Rattle.command_line.specs.declared.faults.Fault.TheVariants as fault
 use Rattle.command_line.specs.declared.statuses.Status.{Status}
@@ -25,13 +26,9 @@ use Rattle.counter.specs.Statuses.{status_at}
 abbrev pub most_bytes : ℕ
 most_bytes = 162001
 
--- the most instructions of a run
-abbrev pub most_instructions : ℕ
-most_instructions = 1000000
-
 -- these are the bytes that are read of a reader's, if those are known
 abbrev pub Reads : Option (List ℕ) → List ℕ → Type 0
-Reads remaining text = IfSome remaining (λ bytes. text ≡ take most_bytes bytes)
+Reads remaining text = IsReadUpTo most_bytes remaining text
 
 -- what a run gives: the listing of its lines, and the report
 pub record Shown : Type 0 where

@@ -7,14 +7,12 @@ use command_line::Fault;
 use std::fs::{File, OpenFile, OpenOptions, Permissions};
 use std::io::{ErrorKind, Write};
 use std::{fs, io};
-
-/// The greatest number of names tried for the other file.
-const MOST_NAMES: u16 = 1000;
+use texts::{MOST_PARTS, part_name};
 
 /// Makes a file beside the one at a path, under a name that no file has.
 fn made_beside(rt: &HostRuntime, path: &str) -> io::Result<(String, File)> {
-    for number in 1..=MOST_NAMES {
-        let name = format!(in rt.alloc(); "{path}.{number}.part")?;
+    for number in 1..=MOST_PARTS {
+        let name = part_name(rt.alloc(), path, number)?;
         let made = OpenOptions::new()
             .write(true)
             .create_new(true)

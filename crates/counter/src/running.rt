@@ -1,71 +1,40 @@
 //! Running a deck from a reader.
 
-ghost use Rattle.std.specs.Prelude.{◌≡◌, ◌≢◌, ◌<◌, ◌⊎◌, [], List, ℕ, length, take, IfOk, IfErr, OnOk};
+ghost use Rattle.std.specs.Prelude.{◌≡◌, ◌≢◌, ◌<◌, ◌⊎◌, List, ℕ, take, IfOk, IfErr, OnOk};
 ghost use Rattle.std.specs.Io.KnownBytes.{Appends};
-ghost use Rattle.machine.specs.Run.{after, lines_of, loaded};
+ghost use Rattle.machine.specs.Run.{lines_of};
 ghost use Rattle.cards.specs.Decks.{IsDeck};
 ghost use Rattle.cards.specs.Faults.{out_of_memory};
 ghost use Rattle.cards.specs.Files.{text_of};
 ghost use Rattle.cards.specs.declared.Card.{Card};
-ghost use Rattle.units.specs.declared.profiles.Profile.TheVariants.{Selecting};
 ghost use Rattle.units.specs.Listing.{rendered};
-ghost use Rattle.counter.specs.Runs.{IsListingFault, IsRunOf, IsShown, Reads, Refuses, Tells, shown_by, most_bytes, most_instructions};
+ghost use Rattle.counter.specs.Runs.{IsListingFault, IsRunOf, IsShown, Reads, Refuses, Tells, shown_by, most_bytes};
 
 use crate::statuses::status_at;
 use cards::{Deck, OUT_OF_MEMORY, read_text};
 use command_line::{Fault, Status, tell_fault};
 use core_store::{PlaneCore, Size};
-use machine::{Machine, Meter, Report};
-use std::alloc::{AllocError, Global};
+use machine::{Machine, Report, machine_after};
+use std::alloc::Global;
 use std::io;
 use std::io::{Read, Write};
-use units::{ListingFault, Profile, Switches, write_listing};
+use texts::read_up_to;
+use units::{ListingFault, Switches, write_listing};
 
 /// How many bytes are read at most: 2,000 cards and one byte, so that a longer deck is noticed.
 pub const MOST_BYTES: u64 = 162_001;
 
-/// The greatest number of instructions for which a deck runs.
-pub const MOST_INSTRUCTIONS: u32 = 1_000_000;
-
-/// Room for the bytes of a text, of which there are none yet.
-fn room(alloc: Global) -> Result<Vec<u8>, Fault>
-    ensures none { IfOk result (λ text. text.items ≡ []) }
-    ensures fault { IfErr result (λ fault. fault ≡ Fault.Card out_of_memory) }
-{
-    match Vec::with_capacity(alloc, MOST_BYTES as usize) {
-        Ok(text) => Ok(text),
-        Err(_) => Err(Fault::Card(OUT_OF_MEMORY)),
-    }
-}
-
-/// Reads a reader to its end, or up to `MOST_BYTES` bytes, for which memory is taken at once. Fails
-/// if the reader fails or if there is no memory.
+/// Reads a reader to its end, or up to `MOST_BYTES` bytes. Fails if the reader fails or if there is
+/// no memory.
 pub fn text_in<R: Read + Drop>(alloc: Global, reader: R) -> Result<Vec<u8>, Fault>
     ensures text { IfOk result (λ text. Reads (R.remaining reader) text.items) }
     ensures fault { IfErr result (λ fault. (fault ≡ Fault.Card out_of_memory)
         ⊎ (fault ≡ Fault.Device)) }
 {
-    let mut text = room(alloc)?;
-    match reader.take(MOST_BYTES).read_to_end(&mut text) {
-        Ok(_) => Ok(text),
+    match read_up_to(alloc, reader, MOST_BYTES) {
+        Ok(text) => Ok(text),
         Err(error) => Err(Fault::of_reading(&error)),
     }
-}
-
-/// The machine, with stacker selection, that has run a deck.
-fn machine_after(
-    alloc: Global,
-    deck: Deck,
-    size: Size,
-    switches: Switches,
-) -> Result<Machine<PlaneCore>, AllocError>
-    requires { 0 < length deck }
-    ensures { IfOk result (λ machine.
-        machine ≡ after (loaded deck size switches Selecting) most_instructions) }
-{
-    let mut machine = Machine::load(alloc, deck, size, switches, Profile::Selecting)?;
-    machine.run(MOST_INSTRUCTIONS, &mut Meter::new())?;
-    Ok(machine)
 }
 
 /// The machine that has run a text's deck.

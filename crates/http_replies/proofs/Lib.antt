@@ -1,4 +1,4 @@
 pub mod NameLaw
 pub mod FixedStatuses
 pub mod BodyTexts
-mod Phrases
+pub mod Phrases

@@ -3,7 +3,7 @@ use Rattle.std.proofs.Common.{◌≡◌, ◌∙◌, ℕ, zero, suc, ◌<◌, ◌
 use Rattle.std.specs.Str.{bytes_eq}
 use Rattle.std.specs.List.{list_all, list_any}
 use Rattle.std.proofs.lemmas.Bool.{eqb-true}
-use Rattle.office.specs.Names.{is_customer, is_letter_or_digit, is_name_length}
+use Rattle.texts.specs.Names.{is_customer, is_letter_or_digit, is_name_length}
 use Rattle.office.specs.Queued.{QueuedJob}
 use Rattle.std.specs.Fmt.{digits, digits_onto, digit_glyph}
 use Rattle.std.proofs.lemmas.Grind.{flat_map-append}

@@ -5,7 +5,7 @@ use Rattle.http.specs.StatusCode.{IsStatusCode, reason_phrase, status_text}
 use Rattle.http_replies.specs.Replies.{HasPhrase, head_bytes, phrase_of}
 
 -- one of the statuses is what each of them is
-each : (P : ℕ → Type 0) → P 200 → P 400 → P 404 → P 405 → P 409 → P 411 → P 413 → P 431 → P 500 → P 503
+pub each : (P : ℕ → Type 0) → P 200 → P 400 → P 404 → P 405 → P 409 → P 411 → P 413 → P 431 → P 500 → P 503
     → (status : ℕ) → HasPhrase status → P status
 each P a b c d e f g h i j status (inl is) = subst P (sym is) a
 each P a b c d e f g h i j status (inr (inl is)) = subst P (sym is) b

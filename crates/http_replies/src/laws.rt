@@ -1,7 +1,7 @@
 //! The laws of names and of reason phrases.
 
 ghost use Rattle.std.specs.Prelude.{◌≡◌, ◌++◌, Some, true, ℕ, codes, decimal};
-ghost use Rattle.office.specs.Names.{is_customer};
+ghost use Rattle.texts.specs.Names.{is_customer};
 ghost use Rattle.office.specs.Queued.{QueuedJob};
 ghost use Rattle.http.specs.StatusCode.{IsStatusCode, reason_phrase};
 ghost use Rattle.http_replies.specs.Bodies.{queued_text};

@@ -6,7 +6,7 @@ use Rattle.cards.specs.Files.{file_of, text_of}
 use Rattle.cards.specs.declared.faults.CardFault.{CardFault}
 use Rattle.http_requests.specs.declared.targets.Target.{Target}
 use Rattle.http_requests.specs.declared.targets.Target.TheVariants as target
-use Rattle.http_requests.specs.declared.targets.JobName.{JobName}
+use Rattle.texts.specs.declared.names.JobName.{JobName}
 use Rattle.office.specs.declared.commands.Command.TheVariants as command
 use Rattle.office.specs.declared.commands.Contents.{Contents}
 use Rattle.office.specs.declared.commands.JobCommand.{JobCommand}

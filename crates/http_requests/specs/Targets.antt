@@ -15,7 +15,7 @@ use Rattle.http_requests.specs.declared.routes.Verb.{Verb}
 use Rattle.http_requests.specs.declared.routes.Verb.TheVariants as verb
 use Rattle.http_requests.specs.declared.targets.Target.{Target}
 use Rattle.http_requests.specs.declared.targets.Target.TheVariants as target
-use Rattle.http_requests.specs.declared.targets.JobName.{JobName}
+use Rattle.texts.specs.declared.names.JobName.{JobName}
 
 -- the job whose customer and number are in a target
 abbrev pub IsJobOf : List ℕ → JobName → Type 0

@@ -11,9 +11,9 @@ ghost use Rattle.http_requests.specs.declared.targets.Target.{Target};
 
 use crate::parts::part;
 use crate::routes::{Route, Verb};
-use crate::targets::{JobName, Target};
+use crate::targets::Target;
 use office::{JobCommand, Kind, Stacker};
-use texts::{number_or_zero, switches_of};
+use texts::{JobName, number_or_zero, switches_of};
 use units::Pocket;
 
 /// The number in a part of a target, or 0 if its text is not one.

@@ -6,10 +6,11 @@ ghost use Rattle.http_requests.specs.declared.targets.Target.TheVariants as targ
 ghost use Rattle.http_requests.specs.Asking.{AsksOfJobs, IsAskedBy, IsBadDeck, IsOnJob};
 
 use crate::request::Request;
-use crate::targets::{JobName, Target};
+use crate::targets::Target;
 use cards::{CardError, CardFault, read_text};
 use office::{Command, Contents, JobCommand, Kind};
 use std::alloc::{AllocError, Global};
+use texts::JobName;
 use units::Switches;
 
 /// The request whose deck has this fault. Having no memory is not a fault of a deck.

@@ -41,5 +41,5 @@ pub use paths::router;
 pub use request::Request;
 pub use routes::{Path, Route, Verb};
 pub use routing::Routes;
-pub use targets::{JobName, Target};
+pub use targets::Target;
 pub use verdicts::Verdict;

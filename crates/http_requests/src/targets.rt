@@ -1,16 +1,8 @@
 //! What the target of a request asks for.
 
 use office::{JobCommand, Kind};
+use texts::JobName;
 use units::Switches;
-
-/// The name of a job in a target.
-#[derive(Clone, Copy)]
-pub struct JobName<'a> {
-    /// The text of the customer.
-    pub customer: &'a str,
-    /// The number, or 0 if its text is not one.
-    pub number: u32,
-}
 
 /// What a target asks for. A number or a size is 0 if its text is not a number.
 #[derive(Clone, Copy)]

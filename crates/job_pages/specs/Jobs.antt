@@ -6,7 +6,7 @@ use Rattle.core_store.specs.declared.sizes.Size.{Size}
 use Rattle.units.specs.declared.switches.Switches.{Switches}
 use Rattle.units.specs.declared.profiles.Profile.TheVariants.{Selecting}
 use Rattle.units.specs.declared.punch.Punched.{Punched}
-use Rattle.machine.specs.Run.{State, after, loaded}
+use Rattle.machine.specs.Run.{State, after, loaded, most_instructions}
 use Rattle.autocoder_layout.specs.Source.{source_of}
 use Rattle.autocoder.specs.Programs.{IsFaultless}
 use Rattle.autocoder_listings.specs.Listing.{listing_with_code_for}
@@ -14,10 +14,6 @@ use Rattle.loader.specs.Decks.{runnable_deck}
 use Rattle.job_pages.specs.declared.jobs.Job.{Job}
 use Rattle.job_pages.specs.declared.pages.JobPageError.{JobPageError}
 use Rattle.job_pages.specs.declared.pages.JobPageError.TheVariants.{Faults, NoMemory, TooManyCards}
-
--- the most instructions of a run
-abbrev pub most_instructions : ℕ
-most_instructions = 1000000
 
 -- the machine that has run the program of a source on its data
 abbrev pub ran : List Card → Size → Switches → State

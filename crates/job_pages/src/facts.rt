@@ -12,10 +12,10 @@ use crate::jobs::listing_of;
 use cards::{Card, Deck, write_punched_cards, write_text};
 use core_store::{PlaneCore, Size};
 use machine::{Machine, Report};
-use pictures::{push_decimal, push_escaped};
+use pictures::push_escaped;
 use sha2::{Digest, Sha256};
 use std::alloc::{AllocError, Global};
-use texts::push_switches;
+use texts::{push_decimal, push_switches};
 use units::Switches;
 
 /// Adds the SHA-256 of bytes (FIPS 180-4) in lower-case hexadecimal digits.

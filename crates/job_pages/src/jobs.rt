@@ -14,11 +14,10 @@ ghost use Rattle.job_pages.specs.Jobs.{Hinders, IsJobOf, cards_punched, ran};
 use crate::pages::JobPageError;
 use autocoder::{Faults, Program, assemble};
 use autocoder_listings::listing_with_code;
-use bench_runs::machine_after;
 use cards::{Card, Deck, DeckFault};
 use core_store::{PlaneCore, Size};
 use loader::runnable_deck;
-use machine::Machine;
+use machine::{Machine, machine_after};
 use std::alloc::{AllocError, Global};
 use units::{Punched, Switches, render};
 
@@ -63,7 +62,7 @@ fn job_of(
 {
     let deck = deck_for(alloc, source, program)?;
     let code = listing_with_code(alloc, source, program)?;
-    let machine = machine_after(alloc, &deck, size, switches)?;
+    let machine = machine_after(alloc, deck.copy(alloc)?, size, switches)?;
     Ok(Job {
         code,
         deck,

@@ -14,7 +14,7 @@ use Rattle.office.specs.declared.drives.Drive.{Drive}
 use Rattle.office.specs.declared.drives.Drive.TheVariants.{Slice, Start}
 use Rattle.office.specs.declared.refusals.Refusal.{Refusal}
 use Rattle.office.specs.declared.replies.Reply.TheVariants as reply
-use Rattle.ledger_tables.specs.declared.names.JobName.{JobName}
+use Rattle.texts.specs.declared.names.JobName.{JobName}
 use Rattle.units.specs.Switches.{seven}
 use Rattle.units.specs.declared.switches.Switches.{Switches}
 use Rattle.ledger.specs.Earlier.{drives_machine, kept_alone, with_outputs_of, HasCounted}

@@ -16,7 +16,7 @@ use Rattle.units.specs.declared.punch.Punched.{Punched}
 use Rattle.units.specs.declared.units.Counts.{Counts}
 use Rattle.office.specs.Jobs.{Job, picture, IsJob}
 use Rattle.office.specs.Office.{Entry, Office, by_name, by_number, free_jobs, own}
-use Rattle.office.specs.Orders.{in_order}
+use Rattle.bcd.specs.Orders.{in_order}
 use Rattle.sqlite.specs.Order.{Row}
 use Rattle.sqlite.specs.State.{State, HasCleanDisk, Survives}
 use Rattle.sqlite.proofs.StateLemmas.{survives_then}
@@ -30,7 +30,8 @@ use Rattle.ledger_tables.specs.Shown.{shown_line, shown_name, shown_progress, sh
 use Rattle.ledger_tables.specs.Steps.{HasFailed}
 use Rattle.ledger.specs.Listed.{AreListable, CanBeListed}
 use Rattle.ledger.specs.Standing.{lines_of, named, pockets_of, state_of}
-use Rattle.ledger.proofs.ListLemmas.{all_filtered, all_in_order, free_told, names_told}
+use Rattle.bcd.proofs.Orders.{all_ordered}
+use Rattle.ledger.proofs.ListLemmas.{all_filtered, free_told, names_told}
 use Rattle.ledger.proofs.ReadFaults.{failed_later, failed_unless, standing_fits, truth_fits}
 use Rattle.ledger.proofs.ReadingLemmas.{picture_before, picture_deck}
 
@@ -138,11 +139,11 @@ pub names_read : (customer : List ℕ) (office : Office) → AreListable office 
 names_read customer office all =
     let his = all_filtered CanBeListed CanBeListed (λ e. bytes_eq e.customer customer) (λ e can _. can) office all in
     subst (CanRead shown_name) (sym (names_told customer office))
-    (each_read shown_name (λ (e : Entry). name_row (named e)) CanBeListed (in_order by_number (own customer office)) (λ e can. (can.1, (truth_fits e.job.held, (truth_fits e.job.collected, tt)))) (all_in_order CanBeListed by_number (own customer office) his))
+    (each_read shown_name (λ (e : Entry). name_row (named e)) CanBeListed (in_order by_number (own customer office)) (λ e can. (can.1, (truth_fits e.job.held, (truth_fits e.job.collected, tt)))) (all_ordered by_number CanBeListed (own customer office) his))
 
 -- the rows of the queue can be read
 pub queue_read : (office : Office) → AreListable office → CanRead shown_queued (names_queued (map named office))
 queue_read office all =
     let free = all_filtered CanBeListed CanBeListed (λ e. not e.job.held) (λ e can _. can) office all in
     subst (CanRead shown_queued) (sym (free_told office))
-    (each_read shown_queued (λ (e : Entry). queued_name (named e)) CanBeListed (in_order by_name (free_jobs office)) (λ e can. (can.0, (can.1, tt))) (all_in_order CanBeListed by_name (free_jobs office) free))
+    (each_read shown_queued (λ (e : Entry). queued_name (named e)) CanBeListed (in_order by_name (free_jobs office)) (λ e can. (can.0, (can.1, tt))) (all_ordered by_name CanBeListed (free_jobs office) free))

@@ -1,7 +1,6 @@
 -- The lists of the tables are those of the office.
-use Rattle.std.proofs.Common.{true≢false, ◌≡◌, ◌+◌, ◌<◌, ℕ, zero, suc, List, [], ◌∷◌, ◌++◌, length, map, filter, take, get_or, Bool, true, false, not, ◌==◌, bytes_eq, if◌then◌else◌, Ordering, Some, refl, sym, ap, subst, ◌∙◌, arith}
+use Rattle.std.proofs.Common.{true≢false, ◌≡◌, ◌+◌, ◌<◌, ℕ, zero, suc, List, [], ◌∷◌, ◌++◌, length, map, filter, take, get_or, Bool, true, false, not, ◌==◌, bytes_eq, if◌then◌else◌, Some, refl, sym, ap, subst, ◌∙◌, arith}
 use Rattle.std.specs.List.{AllByRecursion}
-use Rattle.std.specs.Ordering.{is_gt}
 use Rattle.std.proofs.lemmas.List.{map-append}
 use Rattle.std.proofs.lemmas.Slice.Eq.{bytes_eq-Decides}
 use Rattle.machine.specs.Run.{is_running}
@@ -9,14 +8,14 @@ use Rattle.machine.specs.declared.standings.Standing.{Standing}
 use Rattle.machine.specs.declared.standings.Standing.TheVariants as standing
 use Rattle.machine.specs.Standings.{standing_at, goes_on}
 use Rattle.office.specs.Office.{Entry, Office, is_entry, job_of, own, free_jobs, by_number, by_name, queued_job, runs}
-use Rattle.office.specs.Orders.{put_among, in_order}
+use Rattle.bcd.specs.Orders.{in_order}
+use Rattle.bcd.proofs.Orders.{all_ordered}
 use Rattle.office.specs.Queued.{QueuedJob}
 use Rattle.ledger_rows.specs.Columns.{truth}
 use Rattle.ledger_tables.proofs.InsertLast.{name_is, name_yes}
 use Rattle.ledger_tables.proofs.LookupOrder.{in_order-map}
 use Rattle.ledger_tables.specs.Listed.{name_row, names_of, queued_name, names_queued, is_free}
 use Rattle.ledger_tables.specs.Listed as listed
-use Rattle.ledger_tables.specs.Orders as orders
 use Rattle.ledger_tables.specs.Tables.{NamedJob, AreDistinct, is_job}
 use Rattle.ledger.specs.Listed.{IsHis, IsIts}
 use Rattle.ledger.specs.Standing.{named}
@@ -24,18 +23,6 @@ use Rattle.ledger.specs.Standing.{named}
 -- ---- what holds of all of a list
 
 module _ {X : Type 0} (P : X → Type 0) where
-  all_put : (cmp : X → X → Ordering) (x : X) (xs : List X) → P x → AllByRecursion P xs → AllByRecursion P (put_among cmp x xs)
-  all_put cmp x [] p all = (p, tt)
-  all_put cmp x (y ∷ ys) p all = go (is_gt (cmp x y)) (all_put cmp x ys p all.1)
-    where
-      go : (b : Bool) → AllByRecursion P (put_among cmp x ys) → AllByRecursion P (if b then y ∷ put_among cmp x ys else x ∷ y ∷ ys)
-      go true rest = (all.0, rest)
-      go false rest = (p, all)
-
-  pub all_in_order : (cmp : X → X → Ordering) (xs : List X) → AllByRecursion P xs → AllByRecursion P (in_order cmp xs)
-  all_in_order cmp [] all = tt
-  all_in_order cmp (x ∷ xs) all = all_put cmp x (in_order cmp xs) all.0 (all_in_order cmp xs all.1)
-
   pub all_filtered : (Q : X → Type 0) (test : X → Bool) → ((x : X) → P x → test x ≡ true → Q x) → (xs : List X) → AllByRecursion P xs → AllByRecursion Q (filter test xs)
   all_filtered Q test so [] all = tt
   all_filtered Q test so (x ∷ xs) all = go (test x) refl (all_filtered Q test so xs all.1)
@@ -75,37 +62,24 @@ all_its (e ∷ office) distinct = (rw (name_yes e.customer e.customer e.number e
 -- the jobs of a customer, in order, are that customer's
 pub all_his : (customer : List ℕ) (office : Office) → AreDistinct (map named office) → AllByRecursion (IsHis customer office) (in_order by_number (own customer office))
 all_his customer office distinct =
-    all_in_order (IsHis customer office) by_number (own customer office)
+    all_ordered by_number (IsHis customer office) (own customer office)
     (all_filtered (IsIts office) (IsHis customer office) (λ e. bytes_eq e.customer customer) (λ e its is. subst (λ c. job_of c e.number office ≡ Some e.job) ((bytes_eq-Decides e.customer customer).0 is) its) office (all_its office distinct))
 
 -- the jobs that are not held, in order, are found by their names
 pub all_free : (office : Office) → AreDistinct (map named office) → AllByRecursion (IsIts office) (in_order by_name (free_jobs office))
 all_free office distinct =
-    all_in_order (IsIts office) by_name (free_jobs office)
+    all_ordered by_name (IsIts office) (free_jobs office)
     (all_filtered (IsIts office) (IsIts office) (λ e. not e.job.held) (λ e its is. its) office (all_its office distinct))
 
 -- ---- the order
-
-same_put : {X : Type 0} (cmp : X → X → Ordering) (x : X) (xs : List X) → orders.put_among cmp x xs ≡ put_among cmp x xs
-same_put cmp x [] = refl
-same_put cmp x (y ∷ ys) = go (is_gt (cmp x y)) (same_put cmp x ys)
-  where
-    go : (b : Bool) → orders.put_among cmp x ys ≡ put_among cmp x ys → (if b then y ∷ orders.put_among cmp x ys else x ∷ y ∷ ys) ≡ (if b then y ∷ put_among cmp x ys else x ∷ y ∷ ys)
-    go true rest = ap (λ zs. y ∷ zs) rest
-    go false rest = refl
-
-same_order : {X : Type 0} (cmp : X → X → Ordering) (xs : List X) → orders.in_order cmp xs ≡ in_order cmp xs
-same_order cmp [] = refl
-same_order cmp (x ∷ xs) = ap (orders.put_among cmp x) (same_order cmp xs) ∙ same_put cmp x (in_order cmp xs)
 
 -- the names of a customer's jobs are those of the office
 pub names_told : (customer : List ℕ) (office : Office) → names_of customer (map named office) ≡ map (λ (e : Entry). name_row (named e)) (in_order by_number (own customer office))
 names_told customer office =
     let his : NamedJob → Bool = λ it. bytes_eq it.customer customer in
-    ap (λ js. map name_row (orders.in_order listed.by_number js)) (filter-map his named office)
+    ap (λ js. map name_row (in_order listed.by_number js)) (filter-map his named office)
     ∙ ap (map name_row) (in_order-map listed.by_number named (own customer office))
-    ∙ map-map name_row named (orders.in_order by_number (own customer office))
-    ∙ ap (map (λ (e : Entry). name_row (named e))) (same_order by_number (own customer office))
+    ∙ map-map name_row named (in_order by_number (own customer office))
 
 unheld : (b : Bool) → (truth b == 0) ≡ not b
 unheld true = refl
@@ -115,10 +89,9 @@ unheld false = refl
 pub free_told : (office : Office) → names_queued (map named office) ≡ map (λ (e : Entry). queued_name (named e)) (in_order by_name (free_jobs office))
 free_told office =
     let same : ◌≡◌ {A = List Entry} (filter (λ (e : Entry). is_free (named e)) office) (free_jobs office) = λ i. filter (λ (e : Entry). unheld e.job.held i) office in
-    ap (λ js. map queued_name (orders.in_order listed.by_name js)) (filter-map is_free named office ∙ ap (map named) same)
+    ap (λ js. map queued_name (in_order listed.by_name js)) (filter-map is_free named office ∙ ap (map named) same)
     ∙ ap (map queued_name) (in_order-map listed.by_name named (free_jobs office))
-    ∙ map-map queued_name named (orders.in_order by_name (free_jobs office))
-    ∙ ap (map (λ (e : Entry). queued_name (named e))) (same_order by_name (free_jobs office))
+    ∙ map-map queued_name named (in_order by_name (free_jobs office))
 
 -- ---- one row after another
 

@@ -14,7 +14,7 @@ use Rattle.ledger_tables.specs.Listed.{queued_name}
 use Rattle.ledger_tables.specs.Named.{of_job}
 use Rattle.ledger_tables.specs.Raising.{without_blank_pages}
 use Rattle.ledger_tables.specs.Raising as raising
-use Rattle.ledger_tables.specs.declared.names.JobName.{JobName}
+use Rattle.texts.specs.declared.names.JobName.{JobName}
 use Rattle.ledger_tables.specs.Tables.{ByJob, NamedJob, Tables, AreDistinct, HoldsAs, is_job, with_pages, pictured}
 use Rattle.ledger_tables.proofs.InsertLast.{name_is, name_yes}
 use Rattle.ledger.specs.Listed.{IsIts}

@@ -7,7 +7,7 @@ use Rattle.office.specs.declared.commands.JobCommand.{JobCommand}
 use Rattle.office.specs.declared.refusals.Refusal.{Refusal}
 use Rattle.office.specs.declared.replies.Reply.TheVariants as reply
 use Rattle.office.specs.declared.summaries.Summary.{Summary}
-use Rattle.ledger_tables.specs.declared.names.JobName.{JobName}
+use Rattle.texts.specs.declared.names.JobName.{JobName}
 use Rattle.ledger.specs.Saving.{job_in}
 use Rattle.ledger.specs.Serving.{with_commanded}
 

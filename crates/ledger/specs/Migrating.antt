@@ -19,7 +19,7 @@ use Rattle.ledger_tables.specs.Raising.{with_plain_profiles}
 use Rattle.ledger_tables.specs.Tables.{ByJob, Tables, Holds, HoldsAs, pictured, paged}
 use Rattle.ledger_tables.specs.Versions.{HasVersions, versions_in, IsAnswer, IsBureaus, IsFoundVersion, IsKnown}
 use Rattle.ledger_tables.specs.declared.faults.Fault.{Fault}
-use Rattle.ledger_tables.specs.declared.names.JobName.{JobName}
+use Rattle.texts.specs.declared.names.JobName.{JobName}
 use Rattle.ledger_tables.specs.declared.open_tables.OpenTables.{OpenTables}
 use Rattle.ledger_tables.specs.declared.openings.OpenFault.{OpenFault}
 use Rattle.ledger_tables.specs.declared.openings.OpenFault.TheVariants.{NoMemory, Store, NotABureau, Old}

@@ -16,7 +16,7 @@ use Rattle.ledger_tables.specs.Schema.{bureau_schema, first_schema, paged_schema
 use Rattle.ledger_tables.specs.Tables.{ByJob, Tables, HoldsAs, HoldsFirst}
 use Rattle.ledger_tables.specs.Tables.{paged}
 use Rattle.units.specs.declared.profiles.Profile.TheVariants.{Plain}
-use Rattle.ledger_tables.specs.declared.names.JobName.{JobName}
+use Rattle.texts.specs.declared.names.JobName.{JobName}
 use Rattle.ledger.specs.Saving.{HasNoPages}
 use Rattle.ledger.specs.Standing.{CanBeKept, Rows, tables_of, pages_of}
 

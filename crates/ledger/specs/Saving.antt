@@ -17,7 +17,7 @@ use Rattle.ledger_rows.specs.Pockets.{pocket_cell, pocket_rows_of, punched_bytes
 use Rattle.ledger_tables.specs.Cells.{JobCells, no_pages}
 use Rattle.ledger_tables.specs.Named.{of_job, with_chosen_of, with_new_job, with_profile_of, with_state_of, HasNoProfile, HasNoState, HasState}
 use Rattle.ledger_tables.specs.Tables.{Tables, with_stretches, with_pages, with_cards, with_lines, with_pocket, with_pockets}
-use Rattle.ledger_tables.specs.declared.names.JobName.{JobName}
+use Rattle.texts.specs.declared.names.JobName.{JobName}
 use Rattle.units.specs.Pockets.{pocket_number}
 use Rattle.units.specs.declared.printer.Line.{Line}
 use Rattle.units.specs.declared.pockets.Pocket.{Pocket}

@@ -9,7 +9,7 @@ use Rattle.office.specs.declared.commands.Command.TheVariants.{Submit, Job as On
 use Rattle.office.specs.declared.commands.Contents.{Contents}
 use Rattle.office.specs.declared.commands.JobCommand.{JobCommand}
 use Rattle.office.specs.declared.replies.Reply.{Reply}
-use Rattle.ledger_tables.specs.declared.names.JobName.{JobName}
+use Rattle.texts.specs.declared.names.JobName.{JobName}
 use Rattle.ledger.specs.Listed.{AreListable}
 use Rattle.ledger.specs.Saving.{job_in}
 

@@ -4,7 +4,7 @@ use Rattle.machine.specs.Run.{risen}
 use Rattle.sqlite_trees.specs.declared.store.Store.{Ghosts}
 use Rattle.ledger_tables.specs.declared.faults.Fault.{Fault}
 use Rattle.ledger_tables.specs.declared.faults.Fault.TheVariants.{Store}
-use Rattle.ledger_tables.specs.declared.names.JobName.{JobName}
+use Rattle.texts.specs.declared.names.JobName.{JobName}
 use Rattle.ledger_tables.specs.declared.open_tables.OpenTables.{OpenTables}
 use Rattle.ledger_tables.specs.Steps.{HasFailed, Inside}
 use Rattle.office.specs.Jobs.{Job}

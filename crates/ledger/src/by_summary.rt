@@ -9,9 +9,10 @@ ghost use Rattle.ledger.specs.Steps.{FindsIn, FindsNoJob, FailsAlone, Serves};
 
 use crate::saving::note_flags;
 use crate::summaries::find_summary;
-use ledger_tables::{Fault, JobName, OpenTables};
+use ledger_tables::{Fault, OpenTables};
 use office::{FlagCommand, JobCommand, Refusal, Reply, Summary};
 use sqlite::Alter;
+use texts::JobName;
 
 /// Finds the summary of the job of this name, or why the command on the job is refused.
 fn find_allowed<S: Alter>(

@@ -18,13 +18,14 @@ use crate::page_saving::copy_of;
 use crate::reading::find_to_run;
 use crate::saving::save;
 use core_store::PlaneCore;
-use ledger_tables::{Fault, JobName, OpenTables};
+use ledger_tables::{Fault, OpenTables};
 use machine::{Meter, runs_only_add};
 use office::{
     Drive, FlagCommand, Job, JobCommand, Refusal, Reply, commands_act_on_pictures,
     commands_keep_jobs,
 };
 use sqlite::Alter;
+use texts::JobName;
 
 /// Carries out a slice or a start on a job that was found without its cards and lines, and whose
 /// machine has this storage, and saves the result.

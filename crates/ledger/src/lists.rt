@@ -12,9 +12,10 @@ ghost use Rattle.ledger.specs.Steps.{FindsIn, FailsWhere, Serves};
 
 use crate::summaries::find_standing;
 use ledger_rows::read_truth;
-use ledger_tables::{Fault, JobName, NameRow, OpenTables, QueuedRow};
+use ledger_tables::{Fault, NameRow, OpenTables, QueuedRow};
 use office::{JobLine, JobList, QueueLine, QueueList, Reply};
 use sqlite::Alter;
+use texts::JobName;
 
 /// The entry of this row's job in the list of a customer's jobs.
 fn find_line<S: Alter>(

@@ -12,10 +12,11 @@ use crate::page_saving::insert_pages;
 use crate::reading::{stored, told};
 use core_store::PlaneCore;
 use ledger_rows::read_storage;
-use ledger_tables::{Fault, JobName, OpenFault, OpenTables, QueuedRow, VERSION};
+use ledger_tables::{Fault, OpenFault, OpenTables, QueuedRow, VERSION};
 use office::commands_keep_jobs;
 use sqlite::{Alter, Connection};
 use std::alloc::Global;
+use texts::JobName;
 
 /// Makes the pages of a job's storage, which is in `pictures` as a whole.
 fn raise_storage<S: Alter>(

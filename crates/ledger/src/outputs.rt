@@ -18,10 +18,11 @@ ghost use Rattle.ledger.specs.Steps.{FindsIn, FailsAlone, FailsWith, Serves};
 use crate::reading::{stored, told};
 use crate::summaries::find_progress;
 use ledger_rows::{read_carriage, read_punched, read_rows};
-use ledger_tables::{CardRow, Fault, JobName, LineRow, OpenTables, PocketRow};
+use ledger_tables::{CardRow, Fault, LineRow, OpenTables, PocketRow};
 use office::{JobCommand, Listing, Refusal, Reply, Stacker, cards_from, commands_keep_jobs};
 use sqlite::Alter;
 use std::alloc::Global;
+use texts::JobName;
 use units::{Carriage, Line, Printer, Punched};
 
 /// The cards of these rows in their pockets, if there are so many.

@@ -11,9 +11,10 @@ ghost use Rattle.ledger.specs.Saving.{HasNoPages, HasPages, with_storage};
 
 use core_store::{Core, PlaneCore, Size, changed_pages};
 use ledger_rows::{is_blank_page, page_bytes};
-use ledger_tables::{Fault, JobName, OpenTables};
+use ledger_tables::{Fault, OpenTables};
 use sqlite::Alter;
 use std::alloc::{AllocError, Global};
+use texts::JobName;
 
 /// Writes a page: its row, or none if it is blank.
 fn write_page<S: Alter>(

@@ -22,11 +22,12 @@ ghost use Rattle.ledger.specs.Steps.{FindsIn, FailsAlone, FailsWith};
 
 use core_store::{Core, Size};
 use ledger_rows::{Media, read_deck, read_picture, read_punch, read_switches, read_truth};
-use ledger_tables::{Fault, JobName, JobRow, LoadedRow, OpenTables, PageRow, StateRow, StretchRow};
+use ledger_tables::{Fault, JobRow, LoadedRow, OpenTables, PageRow, StateRow, StretchRow};
 use machine::{Parts, outputs_are_put_back, runs_only_add};
 use office::{Job, JobParts, Stretch, commands_keep_jobs};
 use sqlite::Alter;
 use std::alloc::{AllocError, Global};
+use texts::JobName;
 use units::{Punch, Switches};
 
 /// What was read, if it is there: fault 2 if the rows do not hold it, and fault 1 if there was no

@@ -25,11 +25,12 @@ use ledger_rows::{
     card_bytes, deck_bytes, line_row, pocket_cell, profile_row, state_row,
     storage_holds_characters, switches_number, truth,
 };
-use ledger_tables::{Fault, JobName, JobRow, OpenTables, StretchRow};
+use ledger_tables::{Fault, JobRow, OpenTables, StretchRow};
 use machine::{Parts, runs_only_add};
 use office::{Contents, Job, JobCommand, Stretch, commands_keep_jobs};
 use sqlite::Alter;
 use std::alloc::{AllocError, Global};
+use texts::JobName;
 use units::{Line, Pocket, Punched, Units};
 
 /// Inserts cards after the `before` cards that the tables have already. A job makes at most 20,000.

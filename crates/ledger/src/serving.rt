@@ -10,10 +10,11 @@ ghost use Rattle.ledger.specs.Steps.{FailsWhere, Serves, Ticks, TicksAtMost};
 use crate::job_commands::command_job;
 use crate::lists::{list_jobs, list_queue};
 use crate::submissions::submit;
-use ledger_tables::{Fault, JobName, OpenTables};
+use ledger_tables::{Fault, OpenTables};
 use machine::Meter;
-use office::{Command, JobCommand, Refusal, Reply, Stacker, is_customer, is_limit, is_number};
+use office::{Command, JobCommand, Refusal, Reply, Stacker, is_limit};
 use sqlite::Alter;
+use texts::{JobName, is_customer, is_number};
 
 /// Why a job may not have this name, if it may not.
 fn name_refusal(customer: &str, number: u32) -> Option<Refusal>

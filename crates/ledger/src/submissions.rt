@@ -19,11 +19,12 @@ use bitflags::Flags;
 use cards::COLUMNS;
 use core_store::{Core, PlaneCore};
 use ledger_rows::deck_bytes;
-use ledger_tables::{Fault, JobName, OpenTables};
+use ledger_tables::{Fault, OpenTables};
 use machine::runs_only_add;
 use office::{Contents, Job, Kind, NewFault, Refusal, Reply, new_job};
 use sqlite::Alter;
 use std::alloc::{AllocError, Global};
+use texts::JobName;
 
 /// The greatest number of jobs of a customer.
 const MOST_JOBS: usize = 200;

@@ -12,10 +12,11 @@ ghost use Rattle.ledger.specs.Steps.{FindsIn, FailsWith};
 
 use crate::reading::{find_stretches, stored};
 use ledger_rows::{Progress, read_progress, read_truth};
-use ledger_tables::{Fault, JobName, JobRow, OpenTables};
+use ledger_tables::{Fault, JobRow, OpenTables};
 use machine::StandingAt;
 use office::{Summary, commands_keep_jobs, granted_in};
 use sqlite::Alter;
+use texts::JobName;
 
 /// Finds the progress of the job of this name.
 pub fn find_progress<S: Alter>(

@@ -9,8 +9,7 @@ use Rattle.machine.specs.Standings.{standing_at, standing_of}
 use Rattle.machine.specs.declared.standings.Standing.{Standing}
 use Rattle.machine.specs.declared.standings.Standing.TheVariants.{Running, Halted, Checked}
 use Rattle.office.specs.Jobs.{granted, picture, AreStretches, HasSwitches}
-use Rattle.office.specs.Limits.{largest_number}
-use Rattle.office.specs.Names.{is_customer, is_letter_or_digit, is_name_length, is_number}
+use Rattle.texts.specs.Names.{is_customer, is_letter_or_digit, is_name_length, is_number, largest_number}
 use Rattle.office.specs.Office.{Entry}
 use Rattle.office.specs.declared.stretches.Stretch.{Stretch}
 use Rattle.ledger_archives.proofs.RecordLaw.{standing_ends, IsAt, IsReadable}

@@ -11,34 +11,15 @@ use Rattle.ledger_tables.specs.declared.faults.Fault.{Fault}
 use Rattle.ledger_tables.specs.declared.openings.OpenFault.{OpenFault}
 use Rattle.ledger.specs.Listed.{IsIts}
 use Rattle.ledger.specs.Standing.{LeftAs, Stands, StandsIn, named}
-use Rattle.machine.specs.Standings.{standing_words}
+use Rattle.ledger_checks.specs.Texts.{summary_words}
 use Rattle.office.specs.Kept.{kept_of, summary_of}
 use Rattle.office.specs.Office.{Entry, Office}
 use Rattle.office.specs.declared.summaries.Summary.{Summary}
 
--- these words if a flag is set, else none
-abbrev pub if_set : Bool → List ℕ → List ℕ
-if_set true words = words
-if_set false words = []
-
--- what a job was granted and has made
-unfoldable pub made_words : Summary → List ℕ
-made_words s = codes " granted " ++ decimal s.granted ++ codes " cards " ++ decimal s.cards
-    ++ codes " lines " ++ decimal s.lines
-
--- a job's flags, and the end of its line
-unfoldable pub flag_words : Summary → List ℕ
-flag_words s = if_set s.held (codes " held") ++ if_set s.collected (codes " collected")
-    ++ codes "\n"
-
--- a job's standing, what it was granted and has made, and its flags
-unfoldable pub summary_words : Summary → List ℕ
-summary_words s = standing_words s.standing ++ made_words s ++ flag_words s
-
 -- the line of a job with this name and this summary
 unfoldable pub listed_line : List ℕ → ℕ → Summary → List ℕ
 listed_line customer number summary =
-    customer ++ codes " " ++ decimal number ++ codes " " ++ summary_words summary
+    customer ++ codes " " ++ decimal number ++ codes " " ++ summary_words summary ++ codes "\n"
 
 -- whether a customer is the one who is named, or nobody is named
 abbrev pub is_of : Option (List ℕ) → List ℕ → Bool

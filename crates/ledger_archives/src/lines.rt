@@ -7,16 +7,8 @@ use itoa::Buffer;
 use office::Stretch;
 use sha2::{Digest, Sha256};
 use std::alloc::{AllocError, Global};
-use texts::push_switches;
+use texts::{push_decimal, push_switches};
 use units::Pocket;
-
-/// Adds a number.
-pub(crate) fn push_decimal(out: &mut Vec<u8>, number: usize) -> Result<(), AllocError>
-    ensures { OnOk result (out.new.items ≡ out.old.items ++ decimal number) }
-{
-    let mut buffer = Buffer::new();
-    out.extend_from_slice(buffer.format(number).as_bytes())
-}
 
 /// Adds a line with a word and its value.
 pub(crate) fn push_line(out: &mut Vec<u8>, word: &str, value: &[u8]) -> Result<(), AllocError>

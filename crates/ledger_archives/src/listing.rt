@@ -9,28 +9,19 @@ ghost use Rattle.ledger.specs.Standing.{named};
 ghost use Rattle.ledger_tables.specs.Tables.{AreDistinct};
 ghost use Rattle.sqlite.specs.State.{HasCleanDisk};
 ghost use Rattle.sqlite.specs.View.{IsClean, doubt};
-ghost use Rattle.ledger_archives.specs.Lists.{AddsNamed, FindsStill, Leaves, LeavesAlone, Lists, ListsAlone, count_line, flag_words, if_set, is_of, list_text, listed_line, made_words, summary_words};
+ghost use Rattle.ledger_archives.specs.Lists.{AddsNamed, FindsStill, Leaves, LeavesAlone, Lists, ListsAlone, count_line, is_of, list_text, listed_line};
 ghost use Rattle.ledger_archives.specs.Names.{HasName, name_row};
 
-use crate::lines::push_decimal;
 use crate::names::{name_in, read_names};
 use ledger::Bureau;
-use ledger_tables::{Fault, JobName, OpenFault};
+use ledger_checks::push_summary;
+use ledger_tables::{Fault, OpenFault};
 use machine::Meter;
 use office::{Command, JobCommand, Reply, Summary};
 use sqlite::{Alter, Connection, Row};
 use sqlite_trees::store::Store;
 use std::alloc::{AllocError, Global};
-
-/// Adds words, if a flag is set.
-fn push_if(out: &mut Vec<u8>, flag: bool, words: &str) -> Result<(), AllocError>
-    ensures { OnOk result (out.new.items ≡ out.old.items ++ if_set flag words.now) }
-{
-    if flag {
-        return out.extend_from_slice(words.as_bytes());
-    }
-    Ok(())
-}
+use texts::{JobName, push_decimal};
 
 /// Adds words and a number after them.
 fn push_counted(out: &mut Vec<u8>, words: &str, number: usize) -> Result<(), AllocError>
@@ -40,52 +31,17 @@ fn push_counted(out: &mut Vec<u8>, words: &str, number: usize) -> Result<(), All
     push_decimal(out, number)
 }
 
-/// Adds what was granted and made.
-#[tactic(auto, unfolding(crate::specs::Lists::made_words))]
-fn push_made(out: &mut Vec<u8>, summary: Summary) -> Result<(), AllocError>
-    ensures { OnOk result (out.new.items ≡ out.old.items ++ made_words summary) }
-{
-    push_counted(out, " granted ", summary.granted as usize)?;
-    push_counted(out, " cards ", summary.cards as usize)?;
-    push_counted(out, " lines ", summary.lines as usize)
-}
-
-/// Adds the flags, and ends the line.
-#[tactic(auto, unfolding(crate::specs::Lists::flag_words))]
-fn push_flags(out: &mut Vec<u8>, summary: Summary) -> Result<(), AllocError>
-    ensures { OnOk result (out.new.items ≡ out.old.items ++ flag_words summary) }
-{
-    push_if(out, summary.held, " held")?;
-    push_if(out, summary.collected, " collected")?;
-    out.extend_from_slice(b"\n")
-}
-
-/// Adds a standing, what was granted and made, and the flags.
-#[tactic(auto, unfolding(crate::specs::Lists::summary_words))]
-fn push_summary(alloc: Global, out: &mut Vec<u8>, summary: Summary) -> Result<(), AllocError>
-    ensures { OnOk result (out.new.items ≡ out.old.items ++ summary_words summary) }
-{
-    let standing = summary.standing.to_string(alloc)?;
-    out.extend_from_slice(standing.as_bytes())?;
-    push_made(out, summary)?;
-    push_flags(out, summary)
-}
-
 /// Adds the line of a job.
 #[tactic(auto, unfolding(crate::specs::Lists::listed_line))]
-fn push_job(
-    alloc: Global,
-    out: &mut Vec<u8>,
-    name: JobName<'_>,
-    summary: Summary,
-) -> Result<(), AllocError>
+fn push_job(out: &mut Vec<u8>, name: JobName<'_>, summary: Summary) -> Result<(), AllocError>
     ensures { OnOk result (out.new.items ≡ out.old.items
         ++ listed_line name.entry.customer.now name.entry.number summary) }
 {
     out.extend_from_slice(name.customer.as_bytes())?;
     push_counted(out, " ", name.number as usize)?;
     out.extend_from_slice(b" ")?;
-    push_summary(alloc, out, summary)
+    push_summary(out, summary)?;
+    out.extend_from_slice(b"\n")
 }
 
 /// The summary of the job of this name, by the bureau's own command.
@@ -141,7 +97,7 @@ fn push_named<S: Alter>(
         return Ok(0);
     }
     let summary = ask(alloc, bureau, name)?;
-    push_job(alloc, out, name, summary)?;
+    push_job(out, name, summary)?;
     Ok(1)
 }
 

@@ -2,7 +2,7 @@
 
 ghost use Rattle.std.specs.Prelude.{◌≡◌, ◌≤◌, ◌<◌, ◌^◌, ℕ, List, pos, map, true, IfErr, IfOk, IfSome, IsOk, IsSome, IsTrue, OnOk};
 ghost use Rattle.std.specs.Str.{IsUtf8};
-ghost use Rattle.office.specs.Names.{is_customer, is_number};
+ghost use Rattle.texts.specs.Names.{is_customer, is_number};
 ghost use Rattle.office.specs.Office.{Entry, Office};
 ghost use Rattle.sqlite.specs.Held.{state};
 ghost use Rattle.sqlite.specs.Order.{column};
@@ -15,8 +15,9 @@ ghost use Rattle.ledger_archives.specs.Lists.{Leaves};
 ghost use Rattle.ledger_archives.specs.Names.{HasName, name_row};
 
 use ledger_checks::{number_at, text_at};
-use ledger_tables::{Fault, JobName, fault_of};
+use ledger_tables::{Fault, fault_of};
 use sqlite::{Alter, Connection, Row};
+use texts::JobName;
 
 /// Reads the customer and the number of each job, in the order in which the jobs were taken, in a
 /// transaction that is rolled back.

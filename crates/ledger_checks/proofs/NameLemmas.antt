@@ -5,7 +5,7 @@ use Rattle.std.specs.List.{list_all, list_any}
 use Rattle.std.proofs.lemmas.Bool.{and_parts, eqb-true, leb-true}
 use Rattle.std.proofs.lemmas.Bool.Decides.{nat_tests}
 use Rattle.std.proofs.lemmas.Str.{IsUtf8-from_ascii}
-use Rattle.office.specs.Names.{is_customer, is_letter_or_digit, is_name_length, is_number}
+use Rattle.texts.specs.Names.{is_customer, is_letter_or_digit, is_name_length, is_number}
 
 either_of : (b r : Bool) → (b || r) ≡ true → (b ≡ true) ⊎ (r ≡ true)
 either_of true r is = inl refl

@@ -5,7 +5,7 @@ use Rattle.core_store.specs.Storage.{positions_of}
 use Rattle.units.specs.declared.profiles.Profile.{Profile}
 use Rattle.machine.specs.Run.{State}
 use Rattle.office.specs.Jobs.{Job, picture}
-use Rattle.office.specs.Names.{is_customer, is_number}
+use Rattle.texts.specs.Names.{is_customer, is_number}
 use Rattle.office.specs.Office.{Entry}
 use Rattle.office.specs.declared.stretches.Stretch.{Stretch}
 use Rattle.ledger_rows.specs.Columns.{truth}

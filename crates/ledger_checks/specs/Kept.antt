@@ -8,7 +8,7 @@ use Rattle.units.specs.Stacked.{Stacked}
 use Rattle.units.specs.declared.printer.Line.{Line}
 use Rattle.units.specs.declared.punch.Punched.{Punched}
 use Rattle.office.specs.Jobs.{picture}
-use Rattle.office.specs.Names.{is_customer, is_number}
+use Rattle.texts.specs.Names.{is_customer, is_number}
 use Rattle.office.specs.Office.{Entry, Office, AreDistinct}
 use Rattle.office.specs.declared.stretches.Stretch.{Stretch}
 use Rattle.ledger_rows.specs.Columns.{line_cells, profile_row, state_row}

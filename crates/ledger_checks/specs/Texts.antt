@@ -3,6 +3,8 @@ use Rattle.std.specs.Prelude.{ℕ, ℤ, ◌++◌, ◌==◌, not, if◌then◌els
 use Rattle.std.specs.Fmt.{signed_decimal}
 use Rattle.bcd.specs.Table.{glyph_of}
 use Rattle.machine.specs.Standings.{standing_words}
+use Rattle.texts.specs.Made.{made_words}
+use Rattle.texts.specs.declared.made.Made.{Made}
 use Rattle.office.specs.Numbers.{refusal_number}
 use Rattle.office.specs.declared.summaries.Summary.{Summary}
 use Rattle.ledger_checks.specs.Reports.{is_as_it_ran}
@@ -87,15 +89,23 @@ difference_words (difference.NotAtHalt at) =
 difference_words difference.NoProfile = codes "the profile is none"
 difference_words (difference.Row at it) = place_words at ++ found_words it
 
--- a job that is as it ran
-abbrev pub summary_words : Summary → List ℕ
-summary_words it = codes " " ++ standing_words it.standing ++ codes " granted "
-    ++ decimal it.granted ++ codes " cards " ++ decimal it.cards ++ codes " lines "
-    ++ decimal it.lines ++ codes ": as it ran\n"
+-- what a job was granted and has made, and its flags
+abbrev pub made_by : Summary → Made
+made_by it = record {
+  granted = it.granted;
+  cards = it.cards;
+  lines = it.lines;
+  held = it.held;
+  collected = it.collected;
+}
+
+-- how a job stands, what it was granted and has made, and its flags
+unfoldable pub summary_words : Summary → List ℕ
+summary_words it = standing_words it.standing ++ made_words (made_by it)
 
 -- what came of a job
 abbrev pub outcome_words : Outcome → List ℕ
-outcome_words (AsItRan summary) = summary_words summary
+outcome_words (AsItRan summary) = codes " " ++ summary_words summary ++ codes ": as it ran\n"
 outcome_words (Differs it) = codes ": " ++ difference_words it ++ codes "\n"
 
 -- the line of a job

@@ -8,9 +8,9 @@ ghost use Rattle.ledger_checks.specs.Tables.{rows_of};
 use crate::cells::first_other;
 use crate::differences::{Difference, Found, Place, value_apart};
 use crate::names::is_row_of;
-use ledger_tables::JobName;
 use sqlite::Row;
 use sqlite::types::ValueRef;
+use texts::JobName;
 
 /// The first row of a job, and the rows after it.
 pub(crate) fn next_of<'a>(rows: &'a [Row], name: JobName<'_>) -> Option<(&'a Row, &'a [Row])>

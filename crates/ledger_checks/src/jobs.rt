@@ -6,7 +6,7 @@ ghost use Rattle.sqlite.specs.declared.types.Value.TheVariants.{Int, Text};
 ghost use Rattle.ledger_checks.specs.Jobs.{HasRun, HasRunAs, HasRunAt, IsNameOf, entry_of, row_of};
 ghost use Rattle.ledger_checks.specs.Reports.{AreReported, IsAsItRan, IsReportedAt};
 ghost use Rattle.ledger_checks.specs.Stops.{IfDiffers};
-ghost use Rattle.office.specs.Names.{is_customer, is_number};
+ghost use Rattle.texts.specs.Names.{is_customer, is_number};
 ghost use Rattle.office.specs.Office.{Entry};
 
 use crate::again::{Loaded, load, run_again};
@@ -19,11 +19,11 @@ use crate::reports::{JobReport, Outcome};
 use crate::runs::JobRun;
 use crate::submitted::{Numbers, Submitted, read_profile, read_stretches, read_submitted};
 use ledger_rows::truth;
-use ledger_tables::JobName;
-use office::{Stretch, is_customer, is_number};
+use office::Stretch;
 use sqlite::types::ValueRef;
 use sqlite::{Row, params};
 use std::alloc::{AllocError, Global};
+use texts::{JobName, is_customer, is_number};
 use units::Profile;
 
 /// The job's row is this one.

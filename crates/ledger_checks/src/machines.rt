@@ -23,10 +23,10 @@ use ledger_rows::{
     card_bytes, is_blank_page, line_bytes, page_bytes, pocket_cell, profile_row, state_row,
     storage_holds_characters, switches_number,
 };
-use ledger_tables::JobName;
 use machine::Parts;
 use office::Stretch;
 use sqlite::{Row, params};
+use texts::JobName;
 use units::{Line, Pocket, Punch, Punched};
 
 /// Passes the row of a stretch.

@@ -4,9 +4,9 @@ ghost use Rattle.std.specs.Prelude.{◌≡◌, ◌↔◌, IsTrue};
 ghost use Rattle.sqlite.specs.Order.{column};
 ghost use Rattle.ledger_tables.specs.Tables.{has_customer, has_number, is_row_of};
 
-use ledger_tables::JobName;
 use sqlite::Row;
 use sqlite::types::ValueRef;
+use texts::JobName;
 
 /// Whether the value in a column is this number.
 fn has_number(row: &Row, at: usize, number: u32) -> bool

@@ -4,7 +4,7 @@ ghost use Rattle.std.specs.Prelude.{◌≡◌, pos, string_bytes, true, IfOk};
 ghost use Rattle.machine.specs.Ranges.{IsInRange};
 ghost use Rattle.office.specs.Jobs.{loaded_deck, picture};
 ghost use Rattle.office.specs.Kept.{kept_of, summary_of};
-ghost use Rattle.office.specs.Names.{is_customer, is_number};
+ghost use Rattle.texts.specs.Names.{is_customer, is_number};
 ghost use Rattle.ledger.specs.Standing.{CanBeKept};
 ghost use Rattle.ledger_checks.specs.Jobs.{HasComeTo, entry_of};
 ghost use Rattle.ledger_checks.specs.Reports.{Tells};

@@ -25,10 +25,10 @@ use crate::names::is_row_of;
 use cards::Deck;
 use core_store::Size;
 use ledger_rows::{read_deck, read_switches, read_truth};
-use ledger_tables::JobName;
 use office::{Kind, Stretch};
 use sqlite::Row;
 use std::alloc::Global;
+use texts::JobName;
 use units::Profile;
 
 /// The kind, the size and the flags of a row of `jobs`.

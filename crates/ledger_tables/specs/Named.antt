@@ -3,7 +3,7 @@ use Rattle.std.specs.Prelude.{◌≡◌, ◌+◌, ◌++◌, ◌<◌, ◌^◌, �
 use Rattle.std.specs.Option.{option_map}
 use Rattle.ledger_tables.specs.Cells.{JobCells, LineCells, PageCells, Pages, Pockets}
 use Rattle.ledger_tables.specs.Tables.{ByJob, Tables, job_named, with_job, with_flags, with_stretches, with_state, with_page, with_cards, with_lines, with_profile, with_chosen, with_pocket}
-use Rattle.ledger_tables.specs.declared.names.JobName.{JobName}
+use Rattle.texts.specs.declared.names.JobName.{JobName}
 use Rattle.ledger_tables.specs.declared.rows.PocketRow.{PocketRow}
 use Rattle.ledger_tables.specs.declared.rows.ProfileRow.{ProfileRow}
 use Rattle.ledger_tables.specs.declared.rows.StateRow.{StateRow}

@@ -7,7 +7,7 @@ use Rattle.ledger_tables.specs.Listed.{queued_name}
 use Rattle.ledger_tables.specs.Named.{of_job}
 use Rattle.ledger_tables.specs.Schema.{raising_schema, up_to_states}
 use Rattle.ledger_tables.specs.Tables.{ByJob, Tables, HoldsFirstIn, job_named, without_profiles}
-use Rattle.ledger_tables.specs.declared.names.JobName.{JobName}
+use Rattle.texts.specs.declared.names.JobName.{JobName}
 use Rattle.ledger_tables.specs.declared.rows.ProfileRow.{ProfileRow}
 
 -- the tables of version 1 hold this, and beside them is a table of states without a row

@@ -15,7 +15,6 @@ mod from_row;
 mod inserts;
 mod lists;
 mod lookups;
-mod names;
 mod open_tables;
 mod openings;
 mod pages;
@@ -26,7 +25,6 @@ mod updates;
 
 pub use faults::{Fault, fault_of};
 pub use lists::lists_are_in_order;
-pub use names::JobName;
 pub use open_tables::OpenTables;
 pub use openings::{OpenFault, VERSION};
 pub use rows::{

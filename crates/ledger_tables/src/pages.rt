@@ -5,10 +5,10 @@ ghost use Rattle.ledger_tables.specs.Named.{of_job, HasNoPage, with_page_of, Are
 ghost use Rattle.ledger_tables.specs.Steps.{ChangesAny, FailsOnly, Finds, IsOpenStep, IsStep};
 
 use crate::faults::Fault;
-use crate::names::JobName;
 use crate::open_tables::OpenTables;
 use crate::rows::PageRow;
 use sqlite::{Alter, params};
+use texts::JobName;
 
 impl<S: Alter> OpenTables<'_, '_, S> {
     /// Deletes the row of a page, if there is one.

@@ -4,10 +4,10 @@ ghost use Rattle.ledger_tables.specs.Named.{of_job, HasNoPocket, with_pocket_of,
 ghost use Rattle.ledger_tables.specs.Steps.{Changes, FailsOnly, Finds, IsOpenStep, IsStep};
 
 use crate::faults::Fault;
-use crate::names::JobName;
 use crate::open_tables::OpenTables;
 use crate::rows::PocketRow;
 use sqlite::{Alter, params};
+use texts::JobName;
 
 impl<S: Alter> OpenTables<'_, '_, S> {
     /// Inserts the pocket of the card at a place, which has no row yet. It fails if the job has no

@@ -13,11 +13,11 @@ ghost use Rattle.ledger_tables.specs.Steps.{Inside, IsOpenStep, IsStep};
 ghost use Rattle.ledger_tables.specs.Tables.{ByJob, HoldsAs, HoldsFirst, Tables, complete, paged, pictured, without_pages, without_profiles};
 
 use crate::faults::Fault;
-use crate::names::JobName;
 use crate::open_tables::OpenTables;
 use crate::openings::VERSION;
 use crate::rows::{QueuedRow, StorageRow};
 use sqlite::{Alter, params};
+use texts::JobName;
 
 /// The bytes of a page in which each position is blank and has no mark.
 const BLANK: [u8; 100] = [0; 100];

@@ -1,9 +1,10 @@
 //! Calls of tables that the bureau does not make.
 
-use ledger_tables::{Fault, JobName, OpenTables};
+use ledger_tables::{Fault, OpenTables};
 use sqlite::{Alter, Connection};
 use std::alloc::Global;
 use std::test::Fail;
+use texts::JobName;
 
 /// The name of a job of ACME.
 fn named(number: u32) -> JobName<'static> {

@@ -9,3 +9,4 @@ pub mod BranchConditions
 pub mod DecodeLemmas
 pub mod KeptShapes
 pub mod ShapeDecoding
+pub mod Attempts

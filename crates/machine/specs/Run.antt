@@ -129,6 +129,10 @@ unfoldable pub after : State → ℕ → State
 after m zero = m
 after m (suc count) = after (step m) count
 
+-- the most instructions for which a deck runs by itself, outside a bureau
+abbrev pub most_instructions : ℕ
+most_instructions = 1000000
+
 -- how many of so many steps are attempts of an instruction
 unfoldable pub attempts : State → ℕ → ℕ
 attempts m zero = 0

@@ -78,7 +78,7 @@ pub fn word_length<C: Core>(core: &C, i: u16) -> Option<u16>
 
 /// A character of an instruction, by its index from 0.
 #[inline(always)]
-fn character<C: Core>(core: &C, word: Word, place: u16) -> Code
+pub fn character<C: Core>(core: &C, word: Word, place: u16) -> Code
     requires within { word.first + word.length ≤ length (C.cells core.now) }
     requires below { word.first < largest_size }
     requires among { place < word.length }

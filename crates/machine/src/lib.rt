@@ -32,11 +32,14 @@ mod reports;
 mod runs;
 mod shapes;
 mod standings;
+mod whole_runs;
 
-pub use decode::instructions_end_at_marks;
+pub use decode::{Word, character, instructions_end_at_marks, word_length};
 pub use earlier::{earlier_outputs_stay_in_front, outputs_are_put_back};
+pub use forms::{addresses_in, allows, has_form};
 pub use meter::Meter;
 pub use parts::Parts;
 pub use reports::Report;
 pub use runs::{Machine, Ran, runs_add, runs_only_add, stays_in_range};
 pub use standings::{Event, Standing, StandingAt};
+pub use whole_runs::{MOST_INSTRUCTIONS, machine_after};

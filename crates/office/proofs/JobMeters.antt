@@ -1,6 +1,7 @@
 -- By how much the meter rises.
-use Rattle.std.proofs.Common.{◌≡◌, ◌≤◌, ◌+◌, ℕ, zero, suc, Bool, true, false, if◌then◌else◌, Result, Ok, Err, OnErr, arith}
-use Rattle.machine.specs.Run.{State, IsGivenUp, attempts, step, risen, is_running}
+use Rattle.std.proofs.Common.{◌≡◌, ◌≤◌, ℕ, Result, Ok, Err, OnErr, arith}
+use Rattle.machine.specs.Run.{State, IsGivenUp, attempts, risen}
+use Rattle.machine.proofs.Attempts.{attempts_fit, attempts_rise}
 use Rattle.std.specs.Prelude.{OnOk}
 use Rattle.office.specs.Kept.{Kept, attempts_of, limit_of}
 use Rattle.office.specs.Meters.{RisenAtMost}
@@ -20,27 +21,6 @@ risen_by ticks limit old new most is = record { ticks = ticks; most = most; is =
 
 pub no_more : (fewer limit old new : ℕ) → fewer ≤ limit → RisenAtMost fewer old new → RisenAtMost limit old new
 no_more fewer limit old new less it = record { ticks = it.ticks; most = omega (arith, less, it.most); is = it.is }
-
-one_at_most : (b : Bool) (n count : ℕ) → n ≤ count → (if b then 1 else 0) + n ≤ suc count
-one_at_most true n count h = omega arith
-one_at_most false n count h = omega arith
-
--- there are no more attempts than steps
-pub attempts_fit : (m : State) (count : ℕ) → attempts m count ≤ count
-unfolding attempts
-attempts_fit m zero = omega arith
-attempts_fit m (suc count) = one_at_most (is_running m.standing) (attempts (step m) count) count (attempts_fit (step m) count)
-
-both_more : (first a b : ℕ) → a ≤ b → first + a ≤ first + b
-both_more first a b h = omega arith
-
--- and with more steps no fewer
-attempts_rise : (m : State) (fewer count : ℕ) → fewer ≤ count → attempts m fewer ≤ attempts m count
-unfolding attempts
-attempts_rise m zero count h = omega arith
-attempts_rise m (suc fewer) zero h = absurd (omega (arith, h))
-attempts_rise m (suc fewer) (suc count) h =
-    both_more (if is_running m.standing then 1 else 0) (attempts (step m) fewer) (attempts (step m) count) (attempts_rise (step m) fewer count (omega (arith, h)))
 
 -- a run that was given up has ticked for no more than it would have attempted
 pub given_up_within : (m : State) (limit old new : ℕ) → IsGivenUp m limit old new → RisenAtMost (attempts m limit) old new

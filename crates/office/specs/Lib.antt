@@ -1,5 +1,4 @@
 pub mod Limits
-pub mod Names
 pub mod Numbers
 pub mod Whole
 pub mod Stackers
@@ -8,5 +7,4 @@ pub mod Queued
 pub mod Kept
 pub mod Meters
 pub mod New
-pub mod Orders
 pub mod Office

@@ -1,13 +1,5 @@
 -- the numbers of the profile
-use Rattle.std.specs.Prelude.{ℕ}
-
--- the most characters of a customer's name
-abbrev pub longest_name : ℕ
-longest_name = 12
-
--- the largest number of a job
-abbrev pub largest_number : ℕ
-largest_number = 999999
+use Rattle.std.specs.Prelude.{ℕ, Bool, ◌&&◌, nat_le}
 
 -- the largest limit of a slice, in instructions
 abbrev pub largest_limit : ℕ
@@ -24,3 +16,7 @@ most_granted = 1000000000
 -- the most cards that a job loads
 abbrev pub most_loaded : ℕ
 most_loaded = 2000
+
+-- whether a slice may have this limit: 1 to 2,000 instructions
+abbrev pub is_limit : ℕ → Bool
+is_limit limit = nat_le 1 limit && nat_le limit largest_limit

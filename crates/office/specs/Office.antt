@@ -9,13 +9,13 @@ use Rattle.core_store.specs.Storage.{positions_of}
 use Rattle.machine.specs.Run.{is_running}
 use Rattle.units.specs.Switches.{seven}
 use Rattle.units.specs.declared.switches.Switches.{Switches}
-use Rattle.office.specs.Limits.{most_jobs}
-use Rattle.office.specs.Names.{is_customer, is_number, is_limit}
+use Rattle.office.specs.Limits.{most_jobs, is_limit}
+use Rattle.texts.specs.Names.{is_customer, is_number}
 use Rattle.office.specs.Jobs.{Job, loaded_deck, picture}
 use Rattle.machine.specs.Standings.{standing_of}
 use Rattle.office.specs.Kept.{kept_of, take_kept, job_after, attempted_on}
 use Rattle.office.specs.New.{job_or_refusal}
-use Rattle.office.specs.Orders.{in_order}
+use Rattle.bcd.specs.Orders.{in_order}
 use Rattle.office.specs.declared.commands.Command.{Command}
 use Rattle.office.specs.declared.commands.Command.TheVariants.{Submit, Job as OnJob, Jobs, Queue}
 use Rattle.office.specs.declared.commands.Contents.{Contents}

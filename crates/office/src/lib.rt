@@ -23,9 +23,9 @@ mod flags;
 mod halts;
 mod jobs;
 mod laws;
+mod limits;
 mod lists;
 mod making;
-mod names;
 mod offices;
 mod refusals;
 mod replies;
@@ -43,9 +43,9 @@ pub use laws::{
     commands_act_on_pictures, commands_keep_jobs, grants_are_whole_runs, halts_are_needed,
     halts_stay_between, offices_run_whole, pictures_go_on, sources_run_as_programs,
 };
+pub use limits::is_limit;
 pub use lists::{JobLine, JobList, Listing, PunchedCards, QueueLine, QueueList, SourceFaults};
 pub use making::{NewFault, new_job};
-pub use names::{is_customer, is_limit, is_number};
 pub use offices::{lists_are_in_order, names_stay_apart, submissions_repeat};
 pub use refusals::Refusal;
 pub use replies::Reply;

@@ -11,7 +11,7 @@ use crate::commands::{Contents, Kind};
 use crate::jobs::Job;
 use crate::lists::SourceFaults;
 use crate::refusals::Refusal;
-use autocoder::{Faults, Program, assemble};
+use autocoder::{Faults, Faulty, Program, assemble};
 use cards::{Deck, DeckFault};
 use core_store::{Core, Size};
 use loader::runnable_deck;
@@ -48,7 +48,7 @@ fn assemble_source(alloc: Global, deck: &Deck) -> Result<Deck, NewFault>
 {
     match assemble(alloc, deck) {
         Ok(program) => program_deck(alloc, deck, &program),
-        Err(Faults::Source(faults)) => {
+        Err(Faults::Source(Faulty { faults, .. })) => {
             Err(NewFault::Refused(Refusal::Assembly(SourceFaults(faults))))
         }
         Err(Faults::NoMemory) => Err(NewFault::NoMemory),

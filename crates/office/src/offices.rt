@@ -2,7 +2,7 @@
 
 ghost use Rattle.std.specs.Prelude.{◌≡◌, ℕ, List};
 ghost use Rattle.std.specs.List.Sorted.{IsPermutation, IsStrictlySortedBy};
-ghost use Rattle.office.specs.Orders.{in_order};
+ghost use Rattle.bcd.specs.Orders.{in_order};
 ghost use Rattle.office.specs.Office.{Office, AreDistinct, own, free_jobs, by_number, by_name, take};
 ghost use Rattle.office.specs.declared.commands.Command.{Command};
 ghost use Rattle.office.specs.declared.replies.Reply.{Reply};

@@ -1,7 +1,7 @@
 //! The folders of archived jobs: each is written whole, or compared and left as it is.
 
 ghost use Rattle.std.specs.Prelude.{◌≡◌, true};
-ghost use Rattle.office.specs.Names.{is_customer};
+ghost use Rattle.texts.specs.Names.{is_customer};
 
 use ledger_archives::{Archive, ArchivedFile};
 use std::alloc::AllocError;

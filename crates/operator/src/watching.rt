@@ -2,10 +2,12 @@
 
 use crate::clients::{QUEUE, ask};
 use command_line::Status;
-use queue_rounds::{Heard, JobName, Reply, Standing, changes_between, hear_queue, read_standing};
+use queue_rounds::{Heard, JobName, Standing, changes_between, hear_queue, hear_standing};
+use std::alloc::Global;
 use std::io::Write;
 use std::time::Duration;
 use std::{io, thread};
+use texts::{Made, push_made};
 
 /// What is known of the queue of a bureau.
 #[derive(Drop)]
@@ -26,26 +28,25 @@ fn ask_standing(rt: &HostRuntime, port: u16, job: &JobName) -> io::Result<Option
     let request = format!(in rt.alloc();
         "GET /c/{customer}/j/{number} HTTP/1.1\r\nHost: localhost\r\n\r\n"
     )?;
-    match ask(rt, port, request.as_bytes())? {
-        Reply::Replied { status: 200, body } => Ok(read_standing(rt.alloc(), &body)?),
-        _ => Ok(None),
-    }
+    let reply = ask(rt, port, request.as_bytes())?;
+    Ok(hear_standing(rt.alloc(), &reply)?)
 }
 
-/// Prints how a job stands.
-fn tell_standing<W: Write>(standing: &Standing, output: &mut W) -> io::Result<()> {
-    let words = standing.standing.as_str();
-    let granted = standing.granted;
-    let cards = standing.cards;
-    let lines = standing.lines;
-    write!(output, "{words}")?;
-    if standing.held {
-        write!(output, ", held")?;
-    }
-    if standing.collected {
-        write!(output, ", collected")?;
-    }
-    writeln!(output, ", granted {granted}, cards {cards}, lines {lines}")
+/// What is printed of how a job stands.
+fn standing_text(alloc: Global, standing: &Standing) -> io::Result<Vec<u8>> {
+    let mut text = Vec::from_slice(alloc, standing.standing.as_bytes())?;
+    push_made(
+        &mut text,
+        Made {
+            granted: standing.granted,
+            cards: standing.cards,
+            lines: standing.lines,
+            held: standing.held,
+            collected: standing.collected,
+        },
+    )?;
+    text.push(b'\n')?;
+    Ok(text)
 }
 
 impl Watch {
@@ -61,7 +62,7 @@ impl Watch {
         match ask_standing(rt, self.port, job)? {
             Some(standing) => {
                 write!(output, "{customer} {number} left: ")?;
-                tell_standing(&standing, output)?;
+                output.write_all(&standing_text(rt.alloc(), &standing)?)?;
             }
             None => writeln!(output, "{customer} {number} left")?,
         }

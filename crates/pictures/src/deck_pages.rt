@@ -4,11 +4,12 @@ ghost use Rattle.std.specs.Prelude.{◌≡◌, ◌++◌, IfOk, OnOk};
 ghost use Rattle.pictures.specs.Decks.{captioned, deck_head, deck_page_of, figure, figures_from, stock_definition, titled_by_number};
 
 use crate::card_pictures::push_marks;
-use crate::escapes::{push_card_glyphs, push_decimal};
+use crate::escapes::push_card_glyphs;
 use crate::stocks::push_stock;
 use crate::styles::{CARD_STYLE, DECK_STYLE, FIGURE_STYLE};
 use cards::Card;
 use std::alloc::{AllocError, Global};
+use texts::push_decimal;
 
 /// Adds the stock of the cards, which shows nothing and which each figure of a card uses.
 pub fn push_stock_definition(out: &mut Vec<u8>) -> Result<(), AllocError>

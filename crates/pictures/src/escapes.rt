@@ -1,21 +1,13 @@
 //! Texts as they stand in a page.
 
-ghost use Rattle.std.specs.Prelude.{◌≡◌, ◌++◌, decimal, OnOk};
+ghost use Rattle.std.specs.Prelude.{◌≡◌, ◌++◌, OnOk};
 ghost use Rattle.pictures.specs.Escapes.{card_glyphs, escape_of, escaped, glyphs_shown};
 
 use bcd::Code;
 use card_forms::filled;
 use cards::Card;
-use itoa::Buffer;
 use std::alloc::AllocError;
-
-/// Adds a number in digits.
-pub fn push_decimal(out: &mut Vec<u8>, number: usize) -> Result<(), AllocError>
-    ensures { OnOk result (out.new.items ≡ out.old.items ++ decimal number) }
-{
-    let mut buffer = Buffer::new();
-    out.extend_from_slice(buffer.format(number).as_bytes())
-}
+use texts::push_decimal;
 
 /// Adds a byte as it stands in a page.
 #[tactic(auto, unfolding(crate::specs::Escapes::escape_of))]

@@ -3,9 +3,10 @@
 ghost use Rattle.std.specs.Prelude.{◌≡◌, ◌<◌, ◌++◌, ◌∷◌, [], length, position, count_by, IfSome, IsNone, OnOk};
 ghost use Rattle.pictures.specs.Forms.{form_section, forms_of, is_form_feed, parts, sections};
 
-use crate::escapes::{push_decimal, push_escaped};
+use crate::escapes::push_escaped;
 use crate::finding::FORM_FEED;
 use std::alloc::AllocError;
+use texts::push_decimal;
 
 /// What stands before the lines of a form. A line feed comes last, since HTML passes over one
 /// there, and a form may begin with an empty line.

@@ -3,11 +3,11 @@
 ghost use Rattle.std.specs.Prelude.{◌≡◌, ◌≤◌, ◌<◌, ◌++◌, length, OnOk};
 ghost use Rattle.pictures.specs.Cards.{column_outlines, hole_if_punched, holes_from, holes_path, outline, outlines};
 
-use crate::escapes::push_decimal;
 use crate::stocks::column_middle;
 use bcd::Code;
 use cards::Card;
 use std::alloc::AllocError;
+use texts::push_decimal;
 
 /// The rows of a card from the top down: the bit of each in the punches of a column, and the upper
 /// edge of its holes.

@@ -27,7 +27,7 @@ mod styles;
 
 pub use card_pictures::card_picture;
 pub use deck_pages::{deck_page, push_card_figures, push_stock_definition};
-pub use escapes::{push_decimal, push_escaped};
+pub use escapes::push_escaped;
 pub use faults::{ListingError, ListingFault};
 pub use forms::push_listing_forms;
 pub use laws::{

@@ -4,9 +4,9 @@ ghost use Rattle.std.specs.Prelude.{◌≡◌, ◌≤◌, ◌<◌, ◌+◌, ◌*
 ghost use Rattle.pictures.specs.Places.{column_middle};
 ghost use Rattle.pictures.specs.Cards.{column_number, column_numbers, face, face_row, next_place, places, stock};
 
-use crate::escapes::push_decimal;
 use cards::COLUMNS;
 use std::alloc::AllocError;
+use texts::push_decimal;
 
 /// The place of the middle of a column, 1 to 80.
 pub(crate) fn column_middle(column: usize) -> usize

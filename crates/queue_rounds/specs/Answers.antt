@@ -4,7 +4,8 @@ use Rattle.std.specs.Str.{IsUtf8}
 use Rattle.serde_json.specs.Data.{Data, Items, no_items, item}
 use Rattle.serde_json.specs.Find.{get, as_array, as_bool, as_number, as_str, as_u64}
 use Rattle.serde_json.specs.Read.{read as read_text}
-use Rattle.queue_rounds.specs.Names.{Name, is_customer, is_number}
+use Rattle.queue_rounds.specs.Names.{Name}
+use Rattle.texts.specs.Names.{is_customer, is_number}
 
 -- a number, if it has 32 bits
 abbrev pub word_of : ℕ → Option ℕ

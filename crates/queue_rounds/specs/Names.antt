@@ -1,7 +1,7 @@
 -- the names of jobs, as texts and numbers
-use Rattle.std.specs.Prelude.{ℕ, Bool, List, [], ◌∷◌, ◌&&◌, ◌||◌, ◌==◌, ◌≡◌, true, false, not, nat_le, length, codes, filter, string_bytes}
-use Rattle.std.specs.List.{list_all, list_any}
+use Rattle.std.specs.Prelude.{ℕ, Bool, List, [], ◌∷◌, ◌&&◌, ◌||◌, ◌==◌, ◌≡◌, true, false, not, filter, string_bytes}
 use Rattle.std.specs.Str.{bytes_eq}
+use Rattle.texts.specs.Names.{is_customer, is_number}
 use Rattle.queue_rounds.specs.declared.jobs.JobName.{JobName}
 
 -- the name of a job: its customer and its number
@@ -11,19 +11,6 @@ Name = List ℕ × ℕ
 -- what a job name says
 abbrev pub name_of : JobName → Name
 name_of job = (string_bytes job.customer, job.number)
-
--- whether a byte is a capital letter or a digit
-abbrev pub is_letter_or_digit : ℕ → Bool
-is_letter_or_digit byte = list_any (λ c. c == byte) (codes "ABCDEFGHIJKLMNOPQRSTUVWXYZ0123456789")
-
--- whether a bureau's customer may have this name: 1 to 12 capital letters and digits
-abbrev pub is_customer : List ℕ → Bool
-is_customer name =
-    nat_le 1 (length name) && nat_le (length name) 12 && list_all is_letter_or_digit name
-
--- whether a bureau's job may have this number: 1 to 999,999
-abbrev pub is_number : ℕ → Bool
-is_number number = nat_le 1 number && nat_le number 999999
 
 -- a bureau can have a job of this name
 abbrev pub IsName : JobName → Type 0

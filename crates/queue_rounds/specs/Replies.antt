@@ -1,12 +1,14 @@
 -- what a bureau's replies to the requests of the work on its queue say
-use Rattle.std.specs.Prelude.{ℕ, ◌≡◌, ◌≢◌, ◌&&◌, Bool, true, false, List, Some, None, map, nat_le, string_bytes}
-use Rattle.queue_rounds.specs.Answers.{Tells, queue_in, ran_in, refusal_in}
+use Rattle.std.specs.Prelude.{ℕ, ◌≡◌, ◌≢◌, ◌&&◌, Bool, true, false, List, Option, Some, None, map, nat_le, option_map, string_bytes}
+use Rattle.queue_rounds.specs.Answers.{Tells, queue_in, ran_in, refusal_in, standing_in}
 use Rattle.queue_rounds.specs.Names.{name_of}
+use Rattle.queue_rounds.specs.Standings.{stands}
 use Rattle.queue_rounds.specs.declared.replies.Heard.{Heard}
 use Rattle.queue_rounds.specs.declared.replies.Heard.TheVariants as heard
 use Rattle.queue_rounds.specs.declared.replies.Passed.TheVariants as passed
 use Rattle.queue_rounds.specs.declared.replies.Reply.{Reply}
 use Rattle.queue_rounds.specs.declared.replies.Reply.TheVariants as reply
+use Rattle.queue_rounds.specs.declared.standings.Standing.{Standing}
 
 -- whether a status says that the server failed
 abbrev pub is_failure : ℕ → Bool
@@ -58,3 +60,14 @@ abbrev pub IsSliceHeard : Reply → Heard → Type 0
 IsSliceHeard reply.Unsent it = it ≡ heard.Nothing
 IsSliceHeard reply.Lost it = it ≡ heard.Passed passed.Lost
 IsSliceHeard (reply.Replied status body) it = IsSliceReplied status body.items it
+
+-- a status and a body say how a job stands, or nothing of it
+pub record IsStandingReplied (status : ℕ) (body : List ℕ) (it : Option Standing) : Type 0 where
+  pub told : status ≡ 200 → Tells standing_in body (option_map stands it)
+  pub other : status ≢ 200 → it ≡ None
+
+-- how a job stands by the reply to the request for its standing
+abbrev pub IsStandingHeard : Reply → Option Standing → Type 0
+IsStandingHeard reply.Unsent it = it ≡ None
+IsStandingHeard reply.Lost it = it ≡ None
+IsStandingHeard (reply.Replied status body) it = IsStandingReplied status body.items it

@@ -6,9 +6,10 @@ ghost use Rattle.serde_json.specs.View.{items_view, view};
 ghost use Rattle.queue_rounds.specs.Answers.{Tells, name_in, names_in, number_at, queue_in, ran_in, refusal_in, text_at};
 ghost use Rattle.queue_rounds.specs.Names.{IsName, name_of};
 
-use crate::jobs::{JobName, is_customer, is_number};
+use crate::jobs::JobName;
 use serde_json::Value;
 use std::alloc::{AllocError, Global};
+use texts::{is_customer, is_number};
 
 /// That a job had its slice.
 #[derive(Drop)]

@@ -31,7 +31,7 @@ pub use laws::{
     changes_lead_to_the_next_queue, each_job_of_a_round_has_one_slice,
     no_more_rounds_than_asked_for, turns_are_fair, work_in_which_no_slice_runs_ends,
 };
-pub use replies::{Heard, Passed, Reply, hear_queue, hear_slice};
+pub use replies::{Heard, Passed, Reply, hear_queue, hear_slice, hear_standing};
 pub use responses::read_reply;
 pub use rounds::{MOST_TRIES, Next, Rounds, Why};
 pub use standings::{Standing, read_standing};

@@ -1,10 +1,11 @@
 //! What a bureau answers to the requests of the work on its queue.
 
 ghost use Rattle.std.specs.Prelude.{◌≡◌, IfOk};
-ghost use Rattle.queue_rounds.specs.Replies.{IsQueueHeard, IsQueueReplied, IsSliceHeard, IsSlicePassed, IsSliceReplied, is_failure};
+ghost use Rattle.queue_rounds.specs.Replies.{IsQueueHeard, IsQueueReplied, IsSliceHeard, IsSlicePassed, IsSliceReplied, IsStandingHeard, IsStandingReplied, is_failure};
 
 use crate::answers::{Ran, read_queue, read_ran, read_refusal};
 use crate::jobs::JobName;
+use crate::standings::{Standing, read_standing};
 use std::alloc::{AllocError, Global};
 
 /// What came of a request.
@@ -116,5 +117,30 @@ pub fn hear_slice(alloc: Global, reply: &Reply) -> Result<Heard, AllocError>
         Reply::Unsent => Ok(Heard::Nothing),
         Reply::Lost => Ok(Heard::Passed(Passed::Lost)),
         Reply::Replied { status, body } => hear_slice_body(alloc, *status, body),
+    }
+}
+
+/// How a job stands, as a status and a body say.
+fn hear_standing_body(
+    alloc: Global,
+    status: u16,
+    body: &[u8],
+) -> Result<Option<Standing>, AllocError>
+    ensures { IfOk result (IsStandingReplied status body.now) }
+{
+    if status == 200 {
+        return read_standing(alloc, body);
+    }
+    Ok(None)
+}
+
+/// Returns how a job stands by the reply to the request for its standing; none if that does not say
+/// it. Fails only if there is no memory.
+pub fn hear_standing(alloc: Global, reply: &Reply) -> Result<Option<Standing>, AllocError>
+    ensures { IfOk result (IsStandingHeard reply.now) }
+{
+    match reply {
+        Reply::Replied { status, body } => hear_standing_body(alloc, *status, body),
+        _ => Ok(None),
     }
 }

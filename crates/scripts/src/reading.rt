@@ -6,6 +6,7 @@ ghost use Rattle.scripts.specs.Reading.{IsReadOf};
 use std::alloc::Global;
 use std::io;
 use std::io::{ErrorKind, Read};
+use texts::read_up_to;
 
 /// Why the bytes of a script were not read.
 #[derive(Clone, Copy, Debug, PartialEq, Eq)]
@@ -41,7 +42,5 @@ const MOST_READ: u64 = 4_000_001;
 pub fn read_script<R: Read + Drop>(alloc: Global, reader: R) -> Result<Vec<u8>, ReadFault>
     ensures { IfOk result (λ bytes. IsReadOf (R.remaining reader) bytes.items) }
 {
-    let mut bytes = Vec::new(alloc);
-    reader.take(MOST_READ).read_to_end(&mut bytes)?;
-    Ok(bytes)
+    Ok(read_up_to(alloc, reader, MOST_READ)?)
 }

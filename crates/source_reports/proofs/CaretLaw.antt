@@ -7,7 +7,7 @@ use Rattle.autocoder_layout.specs.declared.card_faults.CardFault.{CardFault}
 use Rattle.source_reports.specs.Blocks.{line_at}
 use Rattle.source_reports.specs.Carets.{IsInField}
 use Rattle.source_reports.specs.Places.{place_of}
-use Rattle.source_reports.specs.Reports.{laid_for}
+use Rattle.autocoder.specs.Programs.{laid_for}
 use Rattle.source_reports.proofs.CaretLemmas.{caret_within}
 
 -- the line of a card is what the card says, by whether an earlier card gave the size

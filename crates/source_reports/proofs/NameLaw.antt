@@ -25,7 +25,7 @@ use Rattle.autocoder_layout.proofs.SourceLemmas.{length-lines_of}
 use Rattle.autocoder.specs.Programs.{size_for, layout_for}
 use Rattle.source_reports.specs.Blocks.{line_at}
 use Rattle.source_reports.specs.Carets.{IsUnknownTold}
-use Rattle.source_reports.specs.Reports.{laid_for}
+use Rattle.autocoder.specs.Programs.{laid_for}
 use Rattle.source_reports.proofs.CardLemmas.{IsLineFrom, by_line}
 use Rattle.source_reports.proofs.CaretLaw.{line_of_card}
 use Rattle.source_reports.proofs.NameLemmas.{IsEarlyUnknown, early_unknown, late_unknown}

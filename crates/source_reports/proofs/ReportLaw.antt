@@ -22,6 +22,7 @@ some_told width source (fault ∷ faults) some = refl
 pub faults_told : (source : List Card) (faults : Faults) → AreFaults source faults
     → Tells source faults
 unfolding text_for
-faults_told source (Source faults) are =
-    λ width. ap (text_by width source) (sym are.0) ∙ some_told width source faults.items are.1
+faults_told source (Source faulty) are =
+    λ width. ap (text_by width source) (sym are.faults)
+    ∙ some_told width source faulty.faults.items are.some
 faults_told source NoMemory are = tt

@@ -2,11 +2,10 @@
 use Rattle.std.specs.Prelude.{ℕ, ◌≡◌, ⊤, List, [], ◌∷◌, ◌++◌, length}
 use Rattle.std.specs.List.{flat_map}
 use Rattle.cards.specs.declared.decks.Card.{Card}
-use Rattle.autocoder_layout.specs.Source.{has_end, source_read}
-use Rattle.autocoder_layout.specs.Layout.{Layout, laid_out}
+use Rattle.autocoder_layout.specs.Source.{has_end}
 use Rattle.autocoder_layout.specs.CardFaults.{faults_of}
 use Rattle.autocoder_layout.specs.declared.card_faults.CardFault.{CardFault}
-use Rattle.autocoder.specs.Programs.{layout_for}
+use Rattle.autocoder.specs.Programs.{laid_for, layout_for}
 use Rattle.autocoder.specs.declared.faults.Faults.{Faults}
 use Rattle.autocoder.specs.declared.faults.Faults.TheVariants.{Source, NoMemory}
 use Rattle.autocoder_listings.specs.Listing.{listing_in}
@@ -16,10 +15,6 @@ use Rattle.source_reports.specs.Blocks.{block, sum_line}
 -- the faults of a source, in the order of its cards: those for which it has no program
 abbrev pub faults_for : List Card → List CardFault
 faults_for source = faults_of (has_end source) (layout_for source)
-
--- a source with the slots and literals of its one layout
-abbrev pub laid_for : List Card → Layout
-laid_for source = laid_out (source_read source)
 
 -- the blocks of these faults of a source
 abbrev pub blocks_of : List Card → List CardFault → List ℕ
@@ -41,6 +36,6 @@ text_for width source = text_by width source (faults_for source)
 
 -- the report of a source tells these faults, which the assembler returns for it, in both widths
 abbrev pub Tells : List Card → Faults → Type 0
-Tells source (Source faults) =
-    (width : Width) → text_for width source ≡ text_of_faults source faults.items
+Tells source (Source faulty) =
+    (width : Width) → text_for width source ≡ text_of_faults source faulty.faults.items
 Tells source NoMemory = ⊤

@@ -8,7 +8,7 @@ ghost use Rattle.autocoder_statements.specs.Statements.{is_broken, label_field, 
 ghost use Rattle.autocoder_statements.specs.declared.names.Name.{Name};
 ghost use Rattle.autocoder_layout.specs.Layout.{nothing};
 ghost use Rattle.autocoder_layout.specs.declared.slots.Slot.{Slot};
-ghost use Rattle.autocoder.specs.Programs.{IsFaultless, AreFaults, layout_for};
+ghost use Rattle.autocoder.specs.Programs.{IsFaultless, AreFaults, laid_for, layout_for};
 ghost use Rattle.autocoder.specs.declared.faults.Faults.{Faults};
 ghost use Rattle.autocoder_listings.specs.Listing.{listing_in};
 ghost use Rattle.autocoder_listings.specs.declared.widths.Width.{Width};
@@ -17,7 +17,7 @@ ghost use Rattle.source_reports.specs.Carets.{IsInField, IsStrayAt, IsUnknownTol
 ghost use Rattle.source_reports.specs.Names.{near_name};
 ghost use Rattle.source_reports.specs.declared.names.Known.{Known};
 ghost use Rattle.source_reports.specs.Places.{broken_column, place_of};
-ghost use Rattle.source_reports.specs.Reports.{laid_for, text_for, Tells};
+ghost use Rattle.source_reports.specs.Reports.{text_for, Tells};
 
 /// The law of reports: the report of a source without faults is its listing with code, and that of
 /// a source for which the assembler returns faults tells these, each in a block, in their order,

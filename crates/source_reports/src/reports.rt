@@ -2,12 +2,13 @@
 
 ghost use Rattle.std.specs.Prelude.{◌≡◌, ◌++◌, length, flat_map, IfOk, OnOk};
 ghost use Rattle.autocoder_layout.specs.Source.{source_of};
+ghost use Rattle.autocoder.specs.Programs.{IsFaulty};
 ghost use Rattle.source_reports.specs.Blocks.{block};
 ghost use Rattle.source_reports.specs.Reports.{faults_for, text_of_faults, text_for};
 
 use crate::blocks::{push_block, push_sum};
-use autocoder::{Faults, assemble};
-use autocoder_layout::{CardFault, Layout, Source, source_of};
+use autocoder::{Faults, Faulty, assemble};
+use autocoder_layout::{CardFault, Layout, source_of};
 use autocoder_listings::{Width, listing_in};
 use cards::{Card, Deck};
 use std::alloc::{AllocError, Global};
@@ -40,14 +41,15 @@ fn push_blocks(
 
 /// The text of the faults of a deck's source: a block for each, and the line of their sum.
 #[tactic(auto, unfolding(crate::specs::Reports::text_of_faults))]
-fn text_of_faults(alloc: Global, deck: &Deck, faults: &[CardFault]) -> Result<Vec<u8>, AllocError>
-    ensures { IfOk result (λ text. text.items ≡ text_of_faults (source_of deck.now) faults.now) }
+fn text_of_faults(alloc: Global, deck: &Deck, faulty: &Faulty) -> Result<Vec<u8>, AllocError>
+    requires { IsFaulty (source_of deck.now) faulty.now }
+    ensures { IfOk result (λ text.
+        text.items ≡ text_of_faults (source_of deck.now) faulty.now.faults.items) }
 {
-    let layout = Layout::of(alloc, Source::read(alloc, deck)?)?;
     let source = source_of(deck.cards());
     let mut text = Vec::new(alloc);
-    push_blocks(alloc, &mut text, &layout, source, faults)?;
-    push_sum(alloc, &mut text, faults, source.len())?;
+    push_blocks(alloc, &mut text, &faulty.layout, source, &faulty.faults)?;
+    push_sum(alloc, &mut text, &faulty.faults, source.len())?;
     Ok(text)
 }
 
@@ -66,9 +68,9 @@ impl Report {
                 let text = listing_in(alloc, deck, &program, width)?;
                 Ok(Report { text, faults: 0 })
             }
-            Err(Faults::Source(faults)) => {
-                let text = text_of_faults(alloc, deck, &faults)?;
-                let faults = faults.len();
+            Err(Faults::Source(faulty)) => {
+                let text = text_of_faults(alloc, deck, &faulty)?;
+                let faults = faulty.faults.len();
                 Ok(Report { text, faults })
             }
             Err(Faults::NoMemory) => Err(AllocError),

@@ -1,9 +1,10 @@
 //! Numbers as texts.
 
-ghost use Rattle.std.specs.Prelude.{◌≡◌, ◌≢◌, ◌<◌, ◌^◌, ℕ, IfSome, IfNone, decimal};
+ghost use Rattle.std.specs.Prelude.{◌≡◌, ◌≢◌, ◌++◌, ◌<◌, ◌^◌, ℕ, IfSome, IfNone, OnOk, decimal};
 ghost use Rattle.texts.specs.Numbers.{IsNumberOf};
 
 use itoa::Buffer;
+use std::alloc::AllocError;
 
 /// The number spelled by 1 to 9 digits without a leading zero. `None` for any other text.
 pub fn number_of(text: &str) -> Option<u32>
@@ -31,4 +32,12 @@ pub fn number_or_zero(text: &str) -> u32
         Some(number) => number,
         None => 0,
     }
+}
+
+/// Adds a number in digits, without leading zeros. Fails if there is no memory.
+pub fn push_decimal(out: &mut Vec<u8>, number: usize) -> Result<(), AllocError>
+    ensures { OnOk result (out.new.items ≡ out.old.items ++ decimal number) }
+{
+    let mut buffer = Buffer::new();
+    out.extend_from_slice(buffer.format(number).as_bytes())
 }

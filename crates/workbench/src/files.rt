@@ -2,10 +2,10 @@
 
 use command_line::{Fault, Status, put_out};
 use counter::put_file;
-use std::alloc::Global;
 use std::fs::File;
 use std::io;
-use std::io::{ErrorKind, Read, Write};
+use std::io::{ErrorKind, Write};
+use texts::read_up_to;
 
 /// How many bytes of a file are read at most: many times what 2,000 cards take in any form.
 const MOST_BYTES: u64 = 8_000_000;
@@ -19,13 +19,6 @@ pub(crate) enum Unread {
     Device,
     /// It has more bytes than any deck takes.
     Long,
-}
-
-/// The bytes of a reader, as far as they are read.
-fn bytes_of<R: Read + Drop>(alloc: Global, reader: R) -> io::Result<Vec<u8>> {
-    let mut bytes = Vec::new(alloc);
-    reader.take(MOST_BYTES + 1).read_to_end(&mut bytes)?;
-    Ok(bytes)
 }
 
 /// All bytes of what was read, or why there are none.
@@ -48,10 +41,10 @@ fn unread_for(kind: ErrorKind) -> Unread {
 /// The bytes of the file at a path, or of the standard input for `-`.
 fn bytes_at(rt: &HostRuntime, path: &str) -> Result<Vec<u8>, Unread> {
     if path == "-" {
-        return whole(bytes_of(rt.alloc(), rt.stdin()));
+        return whole(read_up_to(rt.alloc(), rt.stdin(), MOST_BYTES + 1));
     }
     match File::open(rt, path) {
-        Ok(file) => whole(bytes_of(rt.alloc(), file)),
+        Ok(file) => whole(read_up_to(rt.alloc(), file, MOST_BYTES + 1)),
         Err(_) => Err(Unread::Device),
     }
 }

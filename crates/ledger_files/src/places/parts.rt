@@ -9,9 +9,7 @@ use std::fs;
 use std::fs::Metadata;
 use std::io::ErrorKind;
 use std::os::unix::fs::MetadataExt;
-
-/// The greatest number of names that are tried for a file that is not whole yet.
-const MOST_NAMES: u16 = 1000;
+use texts::MOST_PARTS;
 
 /// A file that this program has made beside a path, under a name that no other file has. It alone
 /// may be removed with its log, whatever is in it.
@@ -25,7 +23,7 @@ impl Part {
     pub(crate) fn reserve(rt: &HostRuntime, path: &str, mode: u32) -> Result<Part, OpenFault>
         ensures { IfErr result IsKnown }
     {
-        for number in 1..=MOST_NAMES {
+        for number in 1..=MOST_PARTS {
             let place = Place::at(part_name(rt, path, number)?, rt)?;
             if is_free(rt, &place.log) {
                 match make_file(rt, &place.file, mode) {
@@ -54,7 +52,7 @@ impl Part {
 fn part_name(rt: &HostRuntime, path: &str, number: u16) -> Result<String, OpenFault>
     ensures { IfErr result IsKnown }
 {
-    match format!(in rt.alloc(); "{path}.{number}.part") {
+    match texts::part_name(rt.alloc(), path, number) {
         Ok(name) => Ok(name),
         Err(_) => Err(OpenFault::NoMemory),
     }
@@ -79,7 +77,7 @@ pub(crate) fn remove_second_name(rt: &HostRuntime, path: &str) -> Result<(), Ope
     if !file.is_file() || file.nlink() == 1 {
         return Ok(());
     }
-    for number in 1..=MOST_NAMES {
+    for number in 1..=MOST_PARTS {
         let name = part_name(rt, path, number)?;
         if is_at(rt, &file, &name) {
             remove(rt, &name);

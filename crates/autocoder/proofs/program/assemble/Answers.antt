@@ -8,7 +8,11 @@ use Rattle.autocoder.proofs.program.assemble.Goals as goal
 pub returns-then-has_some-clause-faults : goal.returns-then-has_some-clause-faults
 returns-then-has_some-clause-faults c =
     let layout_is = c.in-Ok-of.ensures ∙ ap laid_out c.in-Ok.ensures in
-    (faults_are (source_of c.args.deck.now) c.in-Ok-of.layout layout_is _ c.in-Ok-judge.ensures.faults, λ e. c.has_some.ensures.some c.if-has_some.true (c.deref.ensures.value ∙ e))
+    record {
+      layout = layout_is;
+      faults = faults_are (source_of c.args.deck.now) c.in-Ok-of.layout layout_is _ c.in-Ok-judge.ensures.faults;
+      some = λ e. c.has_some.ensures.some c.if-has_some.true (c.deref.ensures.value ∙ e);
+    }
 
 pub returns-clause-faultless : goal.returns-clause-faultless
 returns-clause-faultless c =

@@ -1,11 +1,11 @@
 use Rattle.std.proofs.Common.{None}
-use Rattle.bench_runs.specs.Ends.{most_attempts}
+use Rattle.machine.specs.Run.{most_instructions}
 use Rattle.bench_runs.specs.Profiles.{IsCounted}
 use Rattle.bench_runs.proofs.EndLemmas.{Comes}
 use Rattle.bench_runs.proofs.counting.count_run.Given as goal
 
 abbrev pub invariant-loop-made : goal.invariant-loop-made
 invariant-loop-made g l = record {
-  comes : Comes l.fn.machine l.machine most_attempts None l.made;
+  comes : Comes l.fn.machine l.machine most_instructions None l.made;
   counted : IsCounted l.fn.machine l.made l.places.items;
 }

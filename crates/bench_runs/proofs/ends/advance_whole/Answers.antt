@@ -1,5 +1,6 @@
 use Rattle.std.proofs.Common.{◌∙◌, sym, arith}
-use Rattle.bench_runs.proofs.EndLemmas.{attempts_fit, whole_end, whole_run}
+use Rattle.machine.proofs.Attempts.{attempts_fit}
+use Rattle.bench_runs.proofs.EndLemmas.{whole_end, whole_run}
 use Rattle.bench_runs.proofs.ends.advance_whole.Goals as goal
 
 pub returns-clause-machine : goal.returns-clause-machine

@@ -1,5 +1,6 @@
 use Rattle.std.proofs.Common.{◌∙◌, sym, arith}
-use Rattle.console.proofs.AttemptLemmas.{after_attempts, shows_none, shows_on, stopped_count, stopped_machine, stopped_text, whole_count, whole_machine, whole_text}
+use Rattle.machine.proofs.Attempts.{after_attempts}
+use Rattle.console.proofs.AttemptLemmas.{shows_none, shows_on, stopped_count, stopped_machine, stopped_text, whole_count, whole_machine, whole_text}
 use Rattle.console.proofs.going.push_attempts.Goals as goal
 
 pub loop-count-init : goal.loop-count-init

@@ -5,4 +5,4 @@ use Rattle.job_pages.proofs.jobs.job_of.Goals as goal
 
 pub machine_after-requires : goal.machine_after-requires
 unfolding runnable_deck loading_cards
-machine_after-requires c = rw c.in_ok-deck.ensures.deck (omega arith)
+machine_after-requires c = rw (c.in_ok-copy.ensures, c.in_ok-deck.ensures.deck) (omega arith)

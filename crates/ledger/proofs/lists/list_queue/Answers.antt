@@ -1,6 +1,6 @@
 use Rattle.std.proofs.Common.{ap, ◌∙◌, arith}
 use Rattle.office.specs.Office.{free_jobs, by_name}
-use Rattle.office.specs.Orders.{in_order}
+use Rattle.bcd.specs.Orders.{in_order}
 use Rattle.office.specs.declared.replies.Reply.TheVariants.{Queue}
 use Rattle.sqlite.specs.State.{HasCleanDisk}
 use Rattle.ledger_tables.specs.Steps.{seen}

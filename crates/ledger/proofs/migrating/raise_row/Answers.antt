@@ -1,7 +1,7 @@
 use Rattle.std.proofs.Common.{◌≡◌, ap, ◌∙◌, rules}
 use Rattle.office.specs.Jobs.{picture}
 use Rattle.ledger_tables.specs.Cells.{QueuedName}
-use Rattle.ledger_tables.specs.declared.names.JobName.{JobName}
+use Rattle.texts.specs.declared.names.JobName.{JobName}
 use Rattle.ledger_tables.proofs.Frames.{on_ok_then}
 use Rattle.ledger.specs.Older.{storages_of, with_first_pages}
 use Rattle.ledger.proofs.Offices.{job_is}

@@ -1,5 +1,6 @@
 use Rattle.office.specs.Office.{own, free_jobs, by_number, by_name}
-use Rattle.office.proofs.OfficeOrder.{in_order_has, own_rise, free_rise}
+use Rattle.bcd.proofs.Orders.{in_order_has}
+use Rattle.office.proofs.OfficeOrder.{own_rise, free_rise}
 use Rattle.office.proofs.offices.lists_are_in_order.Goals as goal
 
 pub returns : goal.returns
