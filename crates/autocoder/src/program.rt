@@ -139,7 +139,8 @@ fn start_of(layout: &Layout) -> u32
 
 /// Assembles the source at the beginning of a deck: its cards up to the first END card. Returns the
 /// program, or else the lowest fault of each card that has one, with the source as it was laid out.
-/// The cards after the source are data and are not read. Memory is taken for the program and during the work.
+/// The cards after the source are data and are not read. Memory is taken for the program and during
+/// the work.
 pub fn assemble(alloc: Global, deck: &Deck) -> Result<Program, Faults>
     ensures program { IfOk result (IsProgramOf (source_of deck.now)) }
     ensures loadable { IfOk result CanBeLoaded }

@@ -2,14 +2,15 @@
 //!
 //! All that is shown is a function of the machine that is loaded and of a number of steps: after so
 //! many steps it is `after` of `machine`, so no option of the bench changes what a program does. A
-//! run has at most [`MOST_INSTRUCTIONS`](machine::MOST_INSTRUCTIONS) attempts, and may end at a stop before (`specs/Ends.antt`).
-//! The contract for the layer above: [`trace`] returns exactly the text of `specs/Traces.antt`, a
-//! check with its cause by `check_causes`; [`dump`] that of `specs/Dumps.antt`, and [`profile`] that
-//! of `specs/Profiles.antt`; each fails only if there is no memory. A trace and a profile end with
-//! the report of the machine at the end of the run (`specs/Reports.antt`); without a stop that is
-//! the machine after a whole run. [`Names`] are those of a source without faults
-//! (`specs/Names.antt`), by which a text says an address (`specs/Addresses.antt`). Who goes on by
-//! single attempts uses the calls that make these texts: [`push_shown`] and [`push_machine`].
+//! run has at most [`MOST_INSTRUCTIONS`](machine::MOST_INSTRUCTIONS) attempts, and may end at a
+//! stop before (`specs/Ends.antt`). The contract for the layer above: [`trace`] returns exactly the
+//! text of `specs/Traces.antt`, a check with its cause by `check_causes`; [`dump`] that of
+//! `specs/Dumps.antt`, and [`profile`] that of `specs/Profiles.antt`; each fails only if there is
+//! no memory. A trace and a profile end with the report of the machine at the end of the run
+//! (`specs/Reports.antt`); without a stop that is the machine after a whole run. [`Names`] are
+//! those of a source without faults (`specs/Names.antt`), by which a text says an address
+//! (`specs/Addresses.antt`). Who goes on by single attempts uses the calls that make these texts:
+//! [`push_shown`] and [`push_machine`].
 //!
 //! Laws: a run ends at the first stop that it comes to ([`runs_end_at_the_first_stop`]), and
 //! without one it is a whole run ([`runs_without_stop_are_whole`]). The counts of a profile add up

@@ -6,11 +6,11 @@
 //! they were [`Found`], and [`tell_mistake`] prints exactly what is wrong with other words
 //! (`specs/Mistakes.antt`).
 //!
-//! The bureau's own table is in `src/rows.rt`. It is called without words, with a row's name and its
-//! values in their places, or with words with hyphens that ask for the help or the version. Of all
-//! other words none may begin with a hyphen, except `-` alone, unless `--` comes after a row's name:
-//! the values after it are taken unchanged. The values (a size, the switches) are read after that,
-//! before any file is opened.
+//! The bureau's own table is in `src/rows.rt`. It is called without words, with a row's name and
+//! its values in their places, or with words with hyphens that ask for the help or the version. Of
+//! all other words none may begin with a hyphen, except `-` alone, unless `--` comes after a row's
+//! name: the values after it are taken unchanged. The values (a size, the switches) are read after
+//! that, before any file is opened.
 //!
 //! The contracts for the layers above: [`task_of`] returns the task that the words ask for, or else
 //! what is wrong with them (`specs/Tasks.antt`); [`words_are_those_of_the_table`] says which words

@@ -48,8 +48,8 @@ fn push_flags(out: &mut Vec<u8>, made: Made) -> Result<(), AllocError>
     push_if(out, made.collected, " collected")
 }
 
-/// Adds, behind the words of a job's standing, what the job was granted and has made, and its flags.
-/// Fails if there is no memory.
+/// Adds, behind the words of a job's standing, what the job was granted and has made, and its
+/// flags. Fails if there is no memory.
 #[tactic(auto, unfolding(crate::specs::Made::made_words))]
 pub fn push_made(out: &mut Vec<u8>, made: Made) -> Result<(), AllocError>
     ensures { OnOk result (out.new.items ≡ out.old.items ++ made_words made) }
