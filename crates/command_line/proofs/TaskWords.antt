@@ -122,6 +122,7 @@ no_run deck size switches mistake.Memory (task.Run (File path) s w) wrong is = a
 no_run deck size switches mistake.NoText (task.Run (File path) s w) wrong is = absurd wrong
 no_run deck size switches mistake.Row (task.Run (File path) s w) wrong is = absurd wrong
 no_run deck size switches (mistake.Arguments usage) (task.Run (File path) s w) wrong is = absurd wrong
+no_run deck size switches (mistake.Hyphen word usage) (task.Run (File path) s w) wrong is = absurd wrong
 no_run deck size switches (mistake.Value said) (task.Run (File path) s w) (inl wrong) is = absurd (wrong.1 s (second_is is.1))
 no_run deck size switches (mistake.Value said) (task.Run (File path) s w) (inr wrong) is = absurd (wrong.2 w is.2 (third_is is.1))
 no_run deck size switches m (task.Assemble source out) wrong is = let k : name.Run ≡ name.Assemble = is.0 in cc
@@ -146,6 +147,7 @@ no_serve served at_port so_many mistake.Memory (task.Serve f p c) wrong is = abs
 no_serve served at_port so_many mistake.NoText (task.Serve f p c) wrong is = absurd wrong
 no_serve served at_port so_many mistake.Row (task.Serve f p c) wrong is = absurd wrong
 no_serve served at_port so_many (mistake.Arguments usage) (task.Serve f p c) wrong is = absurd wrong
+no_serve served at_port so_many (mistake.Hyphen word usage) (task.Serve f p c) wrong is = absurd wrong
 no_serve served at_port so_many (mistake.Value said) (task.Serve f p c) (inl wrong) is = absurd (wrong.1 p is.2 (second_is is.1))
 no_serve served at_port so_many (mistake.Value said) (task.Serve f p c) (inr wrong) is = absurd (wrong.2 c is.3 (third_is is.1))
 
@@ -204,6 +206,7 @@ misread_is words mistake.Memory is = tt
 misread_is words mistake.NoText is = absurd is
 misread_is words mistake.Row is = is
 misread_is words (mistake.Arguments usage) is = is
+misread_is words (mistake.Hyphen word usage) is = is
 misread_is words (mistake.Value said) is = absurd is
 
 run_said : (size switches : Text) (words : List Text) (m : Mistake) → IsValueMistake size switches m → AreRowWords words m → IsMistake words m
@@ -211,6 +214,7 @@ run_said size switches words mistake.Memory is said = absurd is
 run_said size switches words mistake.NoText is said = absurd is
 run_said size switches words mistake.Row is said = absurd is
 run_said size switches words (mistake.Arguments usage) is said = absurd is
+run_said size switches words (mistake.Hyphen word usage) is said = absurd is
 run_said size switches words (mistake.Value text) is said = said
 
 serve_said : (port count : Text) (words : List Text) (m : Mistake) → IsServeMistake port count m → AreRowWords words m → IsMistake words m
@@ -218,6 +222,7 @@ serve_said port count words mistake.Memory is said = absurd is
 serve_said port count words mistake.NoText is said = absurd is
 serve_said port count words mistake.Row is said = absurd is
 serve_said port count words (mistake.Arguments usage) is said = absurd is
+serve_said port count words (mistake.Hyphen word usage) is said = absurd is
 serve_said port count words (mistake.Value text) is said = said
 
 row_mistake : (words : List Text) (row : RowName) (found : List Row) (m : Mistake) → HasValues row (values_found found row) words

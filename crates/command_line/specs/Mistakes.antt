@@ -1,12 +1,12 @@
 -- what a program of rows prints of words that ask for nothing, and its exit status
-use Rattle.std.specs.Prelude.{List, [], ◌∷◌, ◌++◌, ℕ, codes}
+use Rattle.std.specs.Prelude.{List, [], ◌∷◌, ◌++◌, Option, Some, None, ℕ, codes}
 use Rattle.std.specs.declared.io.ErrorKind.{ErrorKind}
 use Rattle.std.specs.declared.io.ErrorKind.TheVariants.{OutOfMemory}
 use Rattle.cards.specs.Files.{line_feed}
 use Rattle.command_line.specs.Printed.{fault_words}
 use Rattle.command_line.specs.declared.faults.Fault.TheVariants as fault
 use Rattle.command_line.specs.declared.mistakes.Mistake.{Mistake}
-use Rattle.command_line.specs.declared.mistakes.Mistake.TheVariants.{Memory, NoText, Row, Arguments, Value}
+use Rattle.command_line.specs.declared.mistakes.Mistake.TheVariants.{Memory, NoText, Row, Arguments, Hyphen, Value}
 use Rattle.command_line.specs.declared.statuses.Status.{Status}
 use Rattle.command_line.specs.declared.statuses.Status.TheVariants.{NotDone, Misused}
 
@@ -23,14 +23,26 @@ complaint_line program Row = program
     ++ (codes ": the first word names nothing that the " ++ (program ++ codes " does\n"))
 complaint_line program (Arguments usage) =
     program ++ codes ": the words after the row's name are not as it has them\n"
+complaint_line program (Hyphen word usage) = program ++ (codes ": `" ++ (word.now
+    ++ codes "` begins with a hyphen; if it is a value, put `--` before the values\n"))
 complaint_line program (Value said) = program ++ (codes ": " ++ (said.now ++ codes "\n"))
 
+-- how the row is used that the words begin with, where they are not used so
+abbrev pub usage_of : Mistake → Option (List ℕ)
+usage_of (Arguments usage) = Some usage.now
+usage_of (Hyphen word usage) = Some usage.now
+usage_of other = None
+
 -- the line on how the words should be: those of the row, or how all rows are listed
-abbrev pub usage_line : List ℕ → Mistake → List ℕ
-usage_line program (Arguments usage) = codes "usage: "
-    ++ (program ++ (codes " " ++ (usage.now ++ codes "; --help after its name has an example\n")))
-usage_line program other = codes "usage: "
+abbrev pub usage_shown : List ℕ → Option (List ℕ) → List ℕ
+usage_shown program (Some usage) = codes "usage: "
+    ++ (program ++ (codes " " ++ (usage ++ codes "; --help after its name has an example\n")))
+usage_shown program None = codes "usage: "
     ++ (program ++ (codes " ROW WORDS..; " ++ (program ++ codes " --help lists them\n")))
+
+-- the line on how the words should be where this is wrong
+abbrev pub usage_line : List ℕ → Mistake → List ℕ
+usage_line program mistake = usage_shown program (usage_of mistake)
 
 -- what is printed: the fault of memory, or else both lines
 abbrev pub mistake_message : List ℕ → Mistake → List ℕ

@@ -1,5 +1,5 @@
 -- programs as tables of rows, and what words ask for by them
-use Rattle.std.specs.Prelude.{◌≡◌, ◌⊎◌, ◌&&◌, ◌||◌, Bool, false, List, [], ◌∷◌, Option, Some, None, codes, find, fold, is_some, map, not, option_map}
+use Rattle.std.specs.Prelude.{◌≡◌, ◌⊎◌, ◌&&◌, ◌||◌, Bool, true, false, List, [], ◌∷◌, Option, Some, None, codes, find, fold, is_some, map, not, option_map}
 use Rattle.std.specs.Str.{bytes_eq}
 use Rattle.clap.specs.Words.{App, Row, Text, fault_of, subcommand_of}
 use Rattle.command_line.specs.Arguments.{given}
@@ -98,13 +98,6 @@ abbrev pub usage_begun : {R : Type 0} → Program R → List Text → Option Tex
 usage_begun program [] = None
 usage_begun program (word ∷ more) = usage_named program word
 
--- this is what is wrong with words that ask for nothing: they begin with no row's name, or are not
--- used as the row is whose name comes first
-abbrev pub IsMisread : {R : Type 0} → Program R → List Text → Mistake → Type 0
-IsMisread program words mistake.Row = usage_begun program words ≡ None
-IsMisread program words (mistake.Arguments usage) = usage_begun program words ≡ Some usage.now
-IsMisread program words _ = ⊥
-
 -- ---- words that hold no option
 
 -- whether the words begin with a row's name and `--`
@@ -117,3 +110,15 @@ has_dashes program (word ∷ other ∷ more) =
 -- whether none of the words is an option, or they begin with a row's name and `--`
 abbrev pub is_clear : {R : Type 0} → Program R → List Text → Bool
 is_clear program words = has_dashes program words || not (is_some (find is_odd words))
+
+-- this is what is wrong with words that ask for nothing: they begin with no row's name, or are not
+-- used as the row is whose name comes first; there this word is the first that begins with a hyphen
+-- if there is one, unless `--` comes behind the row's name
+abbrev pub IsMisread : {R : Type 0} → Program R → List Text → Mistake → Type 0
+IsMisread program words mistake.Row = usage_begun program words ≡ None
+IsMisread program words (mistake.Arguments usage) =
+    (usage_begun program words ≡ Some usage.now) × (is_clear program words ≡ true)
+IsMisread program words (mistake.Hyphen word usage) =
+    (usage_begun program words ≡ Some usage.now) × (has_dashes program words ≡ false)
+    × (find is_odd words ≡ Some word.now)
+IsMisread program words _ = ⊥

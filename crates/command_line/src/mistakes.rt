@@ -1,8 +1,8 @@
 //! What can be wrong with the words of a program of rows, and what is told of it.
 
-ghost use Rattle.std.specs.Prelude.{◌≡◌, IfOk, OnOk};
+ghost use Rattle.std.specs.Prelude.{◌≡◌, IfOk, OnOk, option_map};
 ghost use Rattle.std.specs.Io.KnownBytes.{Appends};
-ghost use Rattle.command_line.specs.Mistakes.{complaint_line, mistake_message, mistake_status, usage_line};
+ghost use Rattle.command_line.specs.Mistakes.{complaint_line, mistake_message, mistake_status, usage_line, usage_of};
 
 use crate::faults::Fault;
 use crate::statuses::Status;
@@ -13,7 +13,7 @@ use std::io::{ErrorKind, Write};
 
 /// Why words do not ask for anything.
 #[derive(Clone, Copy)]
-pub enum Mistake {
+pub enum Mistake<'a> {
     /// There is no memory to read them.
     Memory,
     /// A word is not valid text.
@@ -22,28 +22,30 @@ pub enum Mistake {
     Row,
     /// The words after the name of a row that is used so are others.
     Arguments(&'static str),
+    /// This word begins with a hyphen, and is no option of the row that is used so.
+    Hyphen(&'a str, &'static str),
     /// A value is none, of which this is said.
     Value(&'static str),
 }
 
-impl From<AllocError> for Mistake {
+impl<'a> From<AllocError> for Mistake<'a> {
     ghost use Rattle.command_line.specs.declared.mistakes.Mistake.TheVariants.{Memory};
 
     ghost from_gives = { λ _ mistake. mistake ≡ Memory };
 
-    fn from(_error: AllocError) -> Mistake {
+    fn from(_error: AllocError) -> Mistake<'a> {
         Mistake::Memory
     }
 }
 
 /// The mistake of a process whose words cannot be read.
-impl From<io::Error> for Mistake {
+impl<'a> From<io::Error> for Mistake<'a> {
     ghost use Rattle.std.specs.IoError.{error_kind};
     ghost use Rattle.command_line.specs.Mistakes.{mistake_of};
 
     ghost from_gives = { λ error mistake. mistake ≡ mistake_of (error_kind error) };
 
-    fn from(error: io::Error) -> Mistake {
+    fn from(error: io::Error) -> Mistake<'a> {
         match error.kind() {
             ErrorKind::OutOfMemory => Mistake::Memory,
             _ => Mistake::NoText,
@@ -52,9 +54,9 @@ impl From<io::Error> for Mistake {
 }
 
 /// Writes what is wrong with words of a program.
-fn complain<E: Write>(errors: &mut E, program: &str, mistake: Mistake) -> io::Result<()>
+fn complain<E: Write>(errors: &mut E, program: &str, mistake: Mistake<'_>) -> io::Result<()>
     ensures { OnOk result (Appends (E.contents errors.old) (E.contents errors.new)
-        (complaint_line program.now mistake)) }
+        (complaint_line program.now mistake.entry)) }
 {
     match mistake {
         Mistake::Memory => writeln!(errors, "{program}: no memory to read the words"),
@@ -71,21 +73,38 @@ fn complain<E: Write>(errors: &mut E, program: &str, mistake: Mistake) -> io::Re
                 "{program}: the words after the row's name are not as it has them"
             )
         }
+        Mistake::Hyphen(word, _) => {
+            writeln!(
+                errors,
+                "{program}: `{word}` begins with a hyphen; if it is a value, put `--` before the values"
+            )
+        }
         Mistake::Value(said) => writeln!(errors, "{program}: {said}"),
     }
 }
 
-/// Writes how words of a program should be.
-fn show_usage<E: Write>(errors: &mut E, program: &str, mistake: Mistake) -> io::Result<()>
-    ensures { OnOk result (Appends (E.contents errors.old) (E.contents errors.new)
-        (usage_line program.now mistake)) }
+/// How the row is used that the words begin with, where they are not used so.
+fn usage_of(mistake: Mistake<'_>) -> Option<&'static str>
+    ensures { option_map (λ usage. usage.now) result ≡ usage_of mistake.entry }
 {
     match mistake {
-        Mistake::Arguments(usage) => writeln!(
+        Mistake::Arguments(usage) => Some(usage),
+        Mistake::Hyphen(_, usage) => Some(usage),
+        _ => None,
+    }
+}
+
+/// Writes how words of a program should be.
+fn show_usage<E: Write>(errors: &mut E, program: &str, mistake: Mistake<'_>) -> io::Result<()>
+    ensures { OnOk result (Appends (E.contents errors.old) (E.contents errors.new)
+        (usage_line program.now mistake.entry)) }
+{
+    match usage_of(mistake) {
+        Some(usage) => writeln!(
             errors,
             "usage: {program} {usage}; --help after its name has an example"
         ),
-        _ => writeln!(
+        None => writeln!(
             errors,
             "usage: {program} ROW WORDS..; {program} --help lists them"
         ),
@@ -93,10 +112,14 @@ fn show_usage<E: Write>(errors: &mut E, program: &str, mistake: Mistake) -> io::
 }
 
 /// Prints what is wrong with words of a program, and how they should be. An error is the writer's.
-pub fn tell_mistake<E: Write>(errors: &mut E, program: &str, mistake: Mistake) -> io::Result<Status>
-    ensures { IfOk result (λ status. (status ≡ mistake_status mistake)
+pub fn tell_mistake<E: Write>(
+    errors: &mut E,
+    program: &str,
+    mistake: Mistake<'_>,
+) -> io::Result<Status>
+    ensures { IfOk result (λ status. (status ≡ mistake_status mistake.entry)
         × Appends (E.contents errors.old) (E.contents errors.new)
-        (mistake_message program.now mistake)) }
+        (mistake_message program.now mistake.entry)) }
 {
     if let Mistake::Memory = mistake {
         return tell_fault(errors, Fault::Memory);

@@ -27,8 +27,8 @@ fn is_plain_word(word: &str) -> bool
     }
 }
 
-/// The first word that begins with a hyphen, and is not `-` alone.
-fn odd_word<'a>(words: &'a [String]) -> Option<&'a str>
+/// Returns the first word that begins with a hyphen, and is not `-` alone.
+pub(crate) fn odd_word<'a>(words: &'a [String]) -> Option<&'a str>
     ensures { option_map (λ s. s.now) result ≡ find is_odd (texts words.entry.now) }
 {
     let mut rest = words;
@@ -41,8 +41,8 @@ fn odd_word<'a>(words: &'a [String]) -> Option<&'a str>
     None
 }
 
-/// Whether a row's name comes first, and then `--`.
-fn has_dashes<R: Copy>(program: &Program<R>, words: &[String]) -> bool
+/// Returns whether a row's name comes first, and then `--`.
+pub(crate) fn has_dashes<R: Copy>(program: &Program<R>, words: &[String]) -> bool
     ensures { result ≡ has_dashes (program_as program.now) (texts words.now) }
 {
     match words {

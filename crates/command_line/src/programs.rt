@@ -11,7 +11,7 @@ ghost use Rattle.command_line.specs.Tables.{with_row};
 
 use crate::arguments::Found;
 use crate::mistakes::Mistake;
-use crate::plain::first_word;
+use crate::plain::{first_word, has_dashes, odd_word};
 use crate::tables::{Kind, Unread, named_command, parse, with_row};
 use clap::{ArgMatches, Command};
 use std::alloc::{AllocError, Global};
@@ -168,12 +168,18 @@ fn usage_begun<R: Copy>(program: &Program<R>, words: &[String]) -> Option<&'stat
 }
 
 /// The mistake of words that ask for nothing.
-pub(crate) fn mistake_in<R: Copy>(program: &Program<R>, words: &[String]) -> Mistake
-    ensures { IsMisread (program_as program.now) (texts words.now) result }
+pub(crate) fn mistake_in<'a, R: Copy>(program: &Program<R>, words: &'a [String]) -> Mistake<'a>
+    ensures { IsMisread (program_as program.now) (texts words.entry.now) result }
 {
-    match usage_begun(program, words) {
-        Some(usage) => Mistake::Arguments(usage),
-        None => Mistake::Row,
+    let Some(usage) = usage_begun(program, words) else {
+        return Mistake::Row;
+    };
+    if has_dashes(program, words) {
+        return Mistake::Arguments(usage);
+    }
+    match odd_word(words) {
+        Some(word) => Mistake::Hyphen(word, usage),
+        None => Mistake::Arguments(usage),
     }
 }
 
@@ -182,7 +188,7 @@ fn matches_in<'a, R: Copy>(
     alloc: Global,
     program: &Program<R>,
     words: &'a [String],
-) -> Result<ArgMatches<'a>, Mistake>
+) -> Result<ArgMatches<'a>, Mistake<'a>>
     requires simple { is_simple (command (program_as program.now)) ≡ true }
     requires free { is_simple_and_free (command (program_as program.now)) ≡ true }
     ensures ok { IfOk result (λ m.
@@ -206,7 +212,7 @@ fn row_in<'a, R: Copy>(
     alloc: Global,
     program: &Program<R>,
     words: &'a [String],
-) -> Result<Asked<'a, R>, Mistake>
+) -> Result<Asked<'a, R>, Mistake<'a>>
     requires simple { is_simple (command (program_as program.now)) ≡ true }
     requires free { is_simple_and_free (command (program_as program.now)) ≡ true }
     ensures ok { IfOk result (λ asked.
@@ -232,7 +238,7 @@ pub fn asked_by<'a, R: Copy>(
     alloc: Global,
     program: &Program<R>,
     words: &'a [String],
-) -> Result<Asked<'a, R>, Mistake>
+) -> Result<Asked<'a, R>, Mistake<'a>>
     requires simple { is_simple (command (program_as program.now)) ≡ true }
     requires free { is_simple_and_free (command (program_as program.now)) ≡ true }
     ensures ok { IfOk result (λ asked.

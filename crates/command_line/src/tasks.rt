@@ -112,7 +112,7 @@ fn value_of<'a>(found: &Found<'a>, name: &str) -> &'a str
 }
 
 /// The task of a row `run`.
-fn run_task<'a>(deck: &'a str, size: &str, switches: &str) -> Result<Task<'a>, Mistake>
+fn run_task<'a>(deck: &'a str, size: &str, switches: &str) -> Result<Task<'a>, Mistake<'a>>
     ensures ok { IfOk result
         (WantsRow RowName.Run (deck.entry.now ∷ size.now ∷ switches.now ∷ [])) }
     ensures mistake { IfErr result (IsValueMistake size.now switches.now) }
@@ -131,7 +131,7 @@ fn run_task<'a>(deck: &'a str, size: &str, switches: &str) -> Result<Task<'a>, M
 }
 
 /// The task of a row `serve`.
-fn serve_task<'a>(file: &'a str, port: &str, count: &str) -> Result<Task<'a>, Mistake>
+fn serve_task<'a>(file: &'a str, port: &str, count: &str) -> Result<Task<'a>, Mistake<'a>>
     ensures ok { IfOk result
         (WantsRow RowName.Serve (file.entry.now ∷ port.now ∷ count.now ∷ [])) }
     ensures mistake { IfErr result (IsServeMistake port.now count.now) }
@@ -158,7 +158,7 @@ fn export_task<'a>(file: &'a str, customer: &'a str, number: &str) -> Task<'a>
 }
 
 /// The task of a row, by what clap found after its name.
-fn row_task<'a>(row: RowName, found: &Found<'a>) -> Result<Task<'a>, Mistake>
+fn row_task<'a>(row: RowName, found: &Found<'a>) -> Result<Task<'a>, Mistake<'a>>
     ensures ok { IfOk result (WantsRow row (values_found (given found.now) row)) }
     ensures mistake { IfErr result (IsRowMistake row (values_found (given found.now) row)) }
 {
@@ -196,7 +196,7 @@ fn row_task<'a>(row: RowName, found: &Found<'a>) -> Result<Task<'a>, Mistake>
 }
 
 /// The task of a row by words that have it, unless one of them is an option.
-fn clear_task<'a>(words: &[String], row: RowName, found: &Found<'a>) -> Result<Task<'a>, Mistake>
+fn clear_task<'a>(words: &'a [String], row: RowName, found: &Found<'a>) -> Result<Task<'a>, Mistake<'a>>
     ensures ok { IfOk result (λ task. (is_clear bureau (texts words.now) ≡ true)
         × WantsRow row (values_found (given found.now) row) task) }
     ensures mistake { IfErr result (λ mistake.
@@ -212,7 +212,7 @@ fn clear_task<'a>(words: &[String], row: RowName, found: &Found<'a>) -> Result<T
 }
 
 /// What words ask for by the table.
-fn wish_of<'a>(alloc: Global, words: &'a [String]) -> Result<Asked<'a, RowName>, Mistake>
+fn wish_of<'a>(alloc: Global, words: &'a [String]) -> Result<Asked<'a, RowName>, Mistake<'a>>
     ensures ok { IfOk result (λ asked. AsksFor bureau (texts words.entry.now) (wish_as asked)) }
     ensures err { IfErr result (λ mistake. (wish : Wish RowName) →
         AsksFor bureau (texts words.entry.now) wish → mistake ≡ Memory) }
@@ -228,7 +228,7 @@ fn wish_of<'a>(alloc: Global, words: &'a [String]) -> Result<Asked<'a, RowName>,
 
 /// Returns the task that the words ask for, or else what is wrong with them.
 #[tactic(auto, unfolding(texts::specs::Switches::letters_of))]
-pub fn task_of<'a>(alloc: Global, words: &'a [String]) -> Result<Task<'a>, Mistake>
+pub fn task_of<'a>(alloc: Global, words: &'a [String]) -> Result<Task<'a>, Mistake<'a>>
     ensures ok { IfOk result (Wants (texts words.entry.now)) }
     ensures err { IfErr result (λ mistake. (task : Task) → Wants (texts words.entry.now) task
         → mistake ≡ Memory) }

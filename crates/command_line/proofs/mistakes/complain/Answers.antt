@@ -17,3 +17,6 @@ returns-in-Arguments g c = same_text _ _ _ (sym (ap (complaint_line c.args.progr
 
 pub returns-in-Value : goal.returns-in-Value
 returns-in-Value g c = same_text _ _ _ (sym (ap (complaint_line c.args.program.now) c.in-Value.is)) c.writeln-in-Value.ensures.bytes
+
+pub returns-in-Hyphen : goal.returns-in-Hyphen
+returns-in-Hyphen g c = same_text _ _ _ (sym (ap (complaint_line c.args.program.now) c.in-Hyphen.is)) c.writeln-in-Hyphen.ensures.bytes

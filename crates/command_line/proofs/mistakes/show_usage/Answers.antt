@@ -1,10 +1,10 @@
-use Rattle.std.proofs.Common.{ap, sym}
-use Rattle.command_line.specs.Mistakes.{usage_line}
-use Rattle.command_line.proofs.MistakeLines.{other_usage, same_text}
+use Rattle.std.proofs.Common.{ap}
+use Rattle.command_line.specs.Mistakes.{usage_shown}
+use Rattle.command_line.proofs.MistakeLines.{same_text}
 use Rattle.command_line.proofs.mistakes.show_usage.Goals as goal
 
-pub returns-in-Arguments : goal.returns-in-Arguments
-returns-in-Arguments g c = same_text _ _ _ (sym (ap (usage_line c.args.program.now) c.in-Arguments.is)) c.writeln.ensures.bytes
+pub returns-in-Some : goal.returns-in-Some
+returns-in-Some g c = same_text _ _ _ (ap (usage_shown c.args.program.now) c.in-Some.ensures) c.writeln.ensures.bytes
 
-pub returns-in_default : goal.returns-in_default
-returns-in_default g c = same_text _ _ _ (other_usage c.args.program.now c.args.mistake c.in_default.not-Arguments) c.writeln-in_default.ensures.bytes
+pub returns-in-None : goal.returns-in-None
+returns-in-None g c = same_text _ _ _ (ap (usage_shown c.args.program.now) c.in-None.ensures) c.writeln-in-None.ensures.bytes
