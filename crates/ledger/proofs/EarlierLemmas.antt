@@ -17,7 +17,7 @@ use Rattle.office.specs.declared.replies.Reply.TheVariants as reply
 use Rattle.texts.specs.declared.names.JobName.{JobName}
 use Rattle.units.specs.Switches.{seven}
 use Rattle.units.specs.declared.switches.Switches.{Switches}
-use Rattle.ledger.specs.Earlier.{drives_machine, kept_alone, with_outputs_of, HasCounted}
+use Rattle.ledger.specs.Earlier.{kept_alone, with_outputs_of, HasCounted}
 use Rattle.ledger.specs.Saving.{job_in, IsAfter}
 use Rattle.ledger.proofs.ReadingLemmas.{picture_before}
 use Rattle.ledger.proofs.Replies.{ActOnPictures, KeepJobs}
@@ -108,14 +108,3 @@ module _ (law : (m : State) (count : ℕ) → length (after m count).works.stora
       go : (o : Option Refusal) → length (taken_unless (drive_command d) k o).0.machine.works.storage ≡ length k.machine.works.storage
       go (Some reason) = refl
       go None = changed_size d k
-
--- a slice and a start drive a machine
-pub drives : (d : Drive) → drives_machine (drive_command d) ≡ true
-drives (Slice limit) = refl
-drives (Start switches) = refl
-
--- no other command drives a machine
-pub drives_no_other : (c : JobCommand) → ((limit : ℕ) → c ≡ command.Slice limit → ⊥) → ((switches : Switches) → c ≡ command.Start switches → ⊥) → drives_machine c ≡ true → ⊥
-drives_no_other (command.Slice limit) slice start drives = slice limit refl
-drives_no_other (command.Start switches) slice start drives = start switches refl
-drives_no_other other slice start drives = let e = drives in cc

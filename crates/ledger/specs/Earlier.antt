@@ -1,17 +1,8 @@
 -- jobs whose cards and lines are only in the tables
-use Rattle.std.specs.Prelude.{Bool, true, false}
 use Rattle.machine.specs.Earlier.{with_earlier, without_outputs, IsBehind}
 use Rattle.machine.specs.Run.{lines_of}
 use Rattle.office.specs.Jobs.{Job, picture}
 use Rattle.office.specs.Kept.{Kept, kept_of}
-use Rattle.office.specs.declared.commands.JobCommand.{JobCommand}
-use Rattle.office.specs.declared.commands.JobCommand.TheVariants.{Slice, Start}
-
--- whether a command drives the machine of a job: a slice or a start
-abbrev pub drives_machine : JobCommand → Bool
-drives_machine (Slice limit) = true
-drives_machine (Start switches) = true
-drives_machine other = false
 
 -- a job with its machine, which has none of the cards and lines that the job has made
 abbrev pub kept_alone : Job → Kept

@@ -56,7 +56,7 @@ fn take_and_save<S: Alter>(
     match job.take(drive, meter)? {
         Reply::Refused(reason) => Ok(Reply::Refused(reason)),
         reply => {
-            save(tables, name, drive.command(), earlier, job)?;
+            save(tables, name, drive, earlier, job)?;
             Ok(reply)
         }
     }

@@ -1,10 +1,11 @@
 //! Writing a job to the tables.
 
-ghost use Rattle.std.specs.Prelude.{◌≡◌, ◌≤◌, ◌+◌, ◌++◌, ℕ, true, Some, All, List, length, IfOk, OnOk};
+ghost use Rattle.std.specs.Prelude.{◌≡◌, ◌≤◌, ◌+◌, ◌++◌, ◌<◌, ◌-◌, ℕ, All, List, get_or, length, IfOk, OnOk};
 ghost use Rattle.cards.specs.Decks.{IsDeck};
 ghost use Rattle.machine.specs.Ranges.{IsInRange};
 ghost use Rattle.office.specs.Jobs.{Job as KnownJob};
-ghost use Rattle.office.specs.declared.commands.JobCommand.{JobCommand};
+ghost use Rattle.office.specs.Kept.{drive_command};
+ghost use Rattle.office.specs.declared.commands.JobCommand.TheVariants as command;
 ghost use Rattle.units.specs.declared.printer.Line.{Line};
 ghost use Rattle.units.specs.declared.punch.Punched.{Punched};
 ghost use Rattle.units.specs.declared.switches.Switches.{Switches};
@@ -14,7 +15,6 @@ ghost use Rattle.ledger_rows.specs.Columns.{HoldsCharacters, IsLine};
 ghost use Rattle.ledger_rows.specs.Pockets.{IsPunched};
 ghost use Rattle.ledger_tables.specs.Named.{HasNoJob, HasNoPocket, HasNoProfile, HasNoState, HasState};
 ghost use Rattle.ledger_tables.specs.Steps.{Changes, IsStep};
-ghost use Rattle.ledger.specs.Earlier.{drives_machine};
 ghost use Rattle.ledger.specs.Saving.{job_in, HasCardRows, with_all_cards, HasPocketRows, with_card_pocket, with_all_pockets, with_choice, HasLineRows, with_all_lines, HasEarlier, with_made, HasFewerGranted, HasOneLess, with_all_stretches, with_running, with_machine, with_selection, with_progress, with_begun, HasRows, HasNoMachine, HasNotStarted, new_cells, with_handed, IsAfter, IsAfterStorage, with_after, with_flagged, IsFreeName, IsTakenAs, with_new};
 ghost use Rattle.ledger.specs.Steps.{Saves};
 
@@ -27,7 +27,7 @@ use ledger_rows::{
 };
 use ledger_tables::{Fault, JobRow, OpenTables, StretchRow};
 use machine::{Parts, runs_only_add};
-use office::{Contents, Job, JobCommand, Stretch, commands_keep_jobs};
+use office::{Contents, Drive, Job, Stretch, commands_keep_jobs};
 use sqlite::Alter;
 use std::alloc::{AllocError, Global};
 use texts::JobName;
@@ -208,6 +208,21 @@ fn set_running<S: Alter>(
     tables.set_chosen(name, machine.units.punch.chosen.number())
 }
 
+/// The place of the last stretch, and the stretch.
+fn last_of(stretches: &[Stretch]) -> Result<(u32, &Stretch), Fault>
+    ensures { IfOk result (λ p. (0 < length stretches.now)
+        × (p.0 ≡ length stretches.now - 1)
+        × (p.1.now ≡ get_or stretches.now (length stretches.now - 1) p.1.now)) }
+{
+    let Some(last) = stretches.last() else {
+        return Err(Fault::Store);
+    };
+    match u32::try_from(stretches.len() - 1) {
+        Ok(place) => Ok((place, last)),
+        Err(_) => Err(Fault::Store),
+    }
+}
+
 /// Saves the number of instructions granted in a job's last stretch.
 fn set_last_granted<S: Alter>(
     tables: &mut OpenTables<'_, '_, S>,
@@ -219,12 +234,7 @@ fn set_last_granted<S: Alter>(
         (HasFewerGranted name.entry stretches.now)
         (with_all_stretches name.entry stretches.now) }
 {
-    let Some(last) = stretches.last() else {
-        return Err(Fault::Store);
-    };
-    let Ok(place) = u32::try_from(stretches.len() - 1) else {
-        return Err(Fault::Store);
-    };
+    let (place, last) = last_of(stretches)?;
     tables.set_granted(name, place, last.granted)
 }
 
@@ -258,8 +268,8 @@ fn save_slice<S: Alter>(
     requires { length (cells_of earlier.now) ≡ length job.now.machine.works.storage }
     ensures step { IsStep S.Store tables.old tables.new result }
     ensures saved { (limit : ℕ) (old : KnownJob) → Saves S.Store tables.old tables.new result
-        (IsAfterStorage name.entry (cells_of earlier.now) job.now (JobCommand.Slice limit) old)
-        (with_after name.entry (JobCommand.Slice limit) old) }
+        (IsAfterStorage name.entry (cells_of earlier.now) job.now (command.Slice limit) old)
+        (with_after name.entry (command.Slice limit) old) }
 {
     // A law, for the proof: it does nothing.
     runs_only_add();
@@ -280,12 +290,7 @@ fn insert_last_stretch<S: Alter>(
         (HasOneLess name.entry stretches.now)
         (with_all_stretches name.entry stretches.now) }
 {
-    let Some(last) = stretches.last() else {
-        return Err(Fault::Store);
-    };
-    let Ok(place) = u32::try_from(stretches.len() - 1) else {
-        return Err(Fault::Store);
-    };
+    let (place, last) = last_of(stretches)?;
     let stretch = StretchRow {
         switches: switches_number(last.switches),
         granted: last.granted,
@@ -302,8 +307,8 @@ fn save_start<S: Alter>(
     ensures step { IsStep S.Store tables.old tables.new result }
     ensures saved { (switches : Switches) (old : KnownJob)
         → Saves S.Store tables.old tables.new result
-        (IsAfter name.entry job.now (JobCommand.Start switches) old)
-        (with_after name.entry (JobCommand.Start switches) old) }
+        (IsAfter name.entry job.now (command.Start switches) old)
+        (with_after name.entry (command.Start switches) old) }
 {
     let started = job.parts();
     set_state(tables, name, started.machine)?;
@@ -330,21 +335,19 @@ pub fn note_flags<S: Alter>(
 pub fn save<S: Alter>(
     tables: &mut OpenTables<'_, '_, S>,
     name: JobName<'_>,
-    command: JobCommand,
+    drive: Drive,
     earlier: &PlaneCore,
     job: &Job<PlaneCore>,
 ) -> Result<(), Fault>
-    requires drives { drives_machine command ≡ true }
-    requires size { length (cells_of earlier.now) ≡ length job.now.machine.works.storage }
+    requires { length (cells_of earlier.now) ≡ length job.now.machine.works.storage }
     ensures step { IsStep S.Store tables.old tables.new result }
     ensures saved { (old : KnownJob) → Saves S.Store tables.old tables.new result
-        (IsAfterStorage name.entry (cells_of earlier.now) job.now command old)
-        (with_after name.entry command old) }
+        (IsAfterStorage name.entry (cells_of earlier.now) job.now (drive_command drive) old)
+        (with_after name.entry (drive_command drive) old) }
 {
-    match command {
-        JobCommand::Slice { .. } => save_slice(tables, name, earlier, job),
-        JobCommand::Start { .. } => save_start(tables, name, job),
-        _ => unreachable!(),
+    match drive {
+        Drive::Slice { .. } => save_slice(tables, name, earlier, job),
+        Drive::Start { .. } => save_start(tables, name, job),
     }
 }
 

@@ -1,6 +1,6 @@
 //! Numbers as texts.
 
-ghost use Rattle.std.specs.Prelude.{◌≡◌, ◌≢◌, ◌++◌, ◌<◌, ◌^◌, ℕ, IfSome, IfNone, OnOk, decimal};
+ghost use Rattle.std.specs.Prelude.{◌≡◌, ◌≢◌, ◌++◌, ◌<◌, ◌≤◌, ◌^◌, ℕ, IfSome, IfNone, OnOk, decimal};
 ghost use Rattle.texts.specs.Numbers.{IsNumberOf};
 
 use itoa::Buffer;
@@ -22,6 +22,19 @@ pub fn number_of(text: &str) -> Option<u32>
     let mut buffer = Buffer::new();
     let printed = buffer.format(number);
     if printed == text { Some(number) } else { None }
+}
+
+/// The number from 1 up to a greatest one that [`number_of`] finds in a text.
+pub fn number_up_to(text: &str, most: u32) -> Option<u32>
+    ensures some { IfSome result (λ number. (0 < number) × (number ≤ most)
+        × (text.now ≡ decimal number)) }
+    ensures none { IfNone result ((number : ℕ) → 0 < number → number < 10 ^ 9 → number ≤ most →
+        text.now ≢ decimal number) }
+{
+    let Some(number) = number_of(text) else {
+        return None;
+    };
+    if number <= most { Some(number) } else { None }
 }
 
 /// The number of a text, or 0 if [`number_of`] finds none.

@@ -1,7 +1,7 @@
 use Rattle.std.proofs.Common.{◌∙◌, ap, length, sym}
 use Rattle.ledger_tables.specs.Steps.{seen}
 use Rattle.office.specs.Kept.{Kept, kept_of, take_kept, drive_command}
-use Rattle.ledger.proofs.EarlierLemmas.{same_reply, is_after, same_size, drives}
+use Rattle.ledger.proofs.EarlierLemmas.{same_reply, is_after, same_size}
 use Rattle.ledger.proofs.Offices.{job_is}
 use Rattle.ledger.proofs.Replies.{let_through, command_refused, command_done}
 use Rattle.ledger.proofs.job_commands.take_and_save.Goals as goal
@@ -21,11 +21,8 @@ returns-in_ok-save-in_default-clause-done g c old alone clean inside office is s
     let it = job_is c.args.name.customer.now c.args.name.number office old s.jobs is in
     let storage = c.requires ∙ ap (λ (k : Kept). k.machine.works.storage) alone in
     let after = is_after old c.commands_act_on_pictures.ensures c.commands_keep_jobs.ensures.kept c.args.name c.args.drive c.take.new.self office is it.job made none in
-    command_done (seen g.S.Store c.save.new.tables) c.args.name.customer.now c.args.name.number command c.in_ok-reply.reply office old is told none ((rw c.command.ensures at (c.in_ok-save-in_default.ensures.saved old clean inside office s)) (record { after = after; storage = storage }))
+    command_done (seen g.S.Store c.save.new.tables) c.args.name.customer.now c.args.name.number command c.in_ok-reply.reply office old is told none (c.in_ok-save-in_default.ensures.saved old clean inside office s (record { after = after; storage = storage }))
 
-pub save-requires-clause-size : goal.save-requires-clause-size
-save-requires-clause-size g c =
+pub save-requires : goal.save-requires
+save-requires g c =
     ap length c.requires ∙ sym (ap (λ (k : Kept). length k.machine.works.storage) c.in_ok-reply.ensures.job ∙ same_size c.runs_only_add.ensures.size c.args.drive c.args.job.now)
-
-pub save-requires-clause-drives : goal.save-requires-clause-drives
-save-requires-clause-drives g c = rw c.command.ensures (drives c.args.drive)

@@ -1,4 +1,4 @@
-use Rattle.std.proofs.Common.{◌≡◌, ◌-◌, length, get_or, ap, rules}
+use Rattle.std.proofs.Common.{ap}
 use Rattle.ledger_tables.proofs.Frames.{on_ok_then}
 use Rattle.ledger_tables.specs.declared.rows.StretchRow.{StretchRow}
 use Rattle.ledger.proofs.SavingLemmas.{last_stretched}
@@ -6,9 +6,8 @@ use Rattle.ledger.proofs.saving.insert_last_stretch.Goals as goal
 
 pub returns-clause-added : goal.returns-clause-added
 returns-clause-added g c clean inside =
-    let last = c.in-Some.last.now in
-    let at : c.in-Ok.place ≡ length c.args.stretches.now - 1 = search rules in
-    let is_last : last ≡ get_or c.args.stretches.now (length c.args.stretches.now - 1) last = search rules in
-    on_ok_then c.insert_stretch.result _ _ (λ did t holds was. last_stretched _ t c.args.name.customer.now c.args.name.number c.in-Ok.place was.0 c.args.stretches.now was.1 last _ was.2 was.3 at is_last
+    let found = c.in_ok-place.ensures in
+    let last = c.in_ok-place.last.now in
+    on_ok_then c.insert_stretch.result _ _ (λ did t holds was. last_stretched _ t c.args.name.customer.now c.args.name.number c.in_ok-place.place was.0 c.args.stretches.now was.1 last _ was.2 was.3 found.1 found.2
     (ap (λ n. let y : StretchRow = record { switches = n; granted = last.granted } in y) c.switches_number.ensures.number) (did t holds))
     (c.insert_stretch.ensures.added clean inside)

@@ -1,5 +1,4 @@
 use Rattle.ledger_tables.proofs.Frames.{on_ok_then}
-use Rattle.ledger.proofs.EarlierLemmas.{drives_no_other}
 use Rattle.ledger.proofs.saving.save.Goals as goal
 
 pub returns-in-Slice-clause-saved : goal.returns-in-Slice-clause-saved
@@ -8,6 +7,3 @@ returns-in-Slice-clause-saved g c old clean inside = rw c.in-Slice.is (c.save_sl
 pub returns-in-Start-clause-saved : goal.returns-in-Start-clause-saved
 returns-in-Start-clause-saved g c old clean inside =
     rw c.in-Start.is (on_ok_then c.save_start.result _ _ (λ saved office stands is. saved office stands is.after) (c.save_start.ensures.saved c.in-Start.switches old clean inside))
-
-pub unreachable-requires : goal.unreachable-requires
-unreachable-requires g c = drives_no_other c.args.command c.in_default.not-Slice c.in_default.not-Start c.requires.drives
