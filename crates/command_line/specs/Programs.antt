@@ -1,10 +1,11 @@
 -- programs as tables of rows, and what words ask for by them
-use Rattle.std.specs.Prelude.{◌≡◌, ◌⊎◌, ◌&&◌, ◌||◌, Bool, true, false, List, [], ◌∷◌, Option, Some, None, codes, find, fold, is_some, map, not, option_map}
+use Rattle.std.specs.Prelude.{◌≡◌, ◌⊎◌, ◌&&◌, ◌||◌, Bool, false, List, [], ◌∷◌, Option, Some, None, codes, find, fold, if◌then◌else◌, is_some, map, not, option_map, unwrap_or}
+use Rattle.std.specs.List.{list_any}
 use Rattle.std.specs.Str.{bytes_eq}
 use Rattle.clap.specs.Words.{App, Row, Text, fault_of, subcommand_of}
 use Rattle.command_line.specs.Arguments.{given}
 use Rattle.command_line.specs.Plain.{is_odd}
-use Rattle.command_line.specs.Tables.{named, with_row}
+use Rattle.command_line.specs.Tables.{is_option, named, with_row}
 use Rattle.command_line.specs.declared.mistakes.Mistake.{Mistake}
 use Rattle.command_line.specs.declared.mistakes.Mistake.TheVariants as mistake
 use Rattle.command_line.specs.declared.programs.Asked.{Asked}
@@ -111,14 +112,25 @@ has_dashes program (word ∷ other ∷ more) =
 abbrev pub is_clear : {R : Type 0} → Program R → List Text → Bool
 is_clear program words = has_dashes program words || not (is_some (find is_odd words))
 
+-- whether the row with this name has an option
+abbrev pub has_options : {R : Type 0} → Program R → Text → Bool
+has_options program word = list_any (λ g. is_option g.1)
+    (unwrap_or (option_map (λ line. line.2) (find (λ line. bytes_eq line.1 word) program.rows)) [])
+
+-- the first word that begins with a hyphen, where the row has no options whose name comes first,
+-- and `--` does not come behind that
+abbrev pub stray_option : {R : Type 0} → Program R → List Text → Option Text
+stray_option program [] = None
+stray_option program (word ∷ more) =
+    if has_dashes program (word ∷ more) || has_options program word then None
+    else find is_odd (word ∷ more)
+
 -- this is what is wrong with words that ask for nothing: they begin with no row's name, or are not
--- used as the row is whose name comes first; there this word is the first that begins with a hyphen
--- if there is one, unless `--` comes behind the row's name
+-- used as the row is whose name comes first; one of them may be read as an option there
 abbrev pub IsMisread : {R : Type 0} → Program R → List Text → Mistake → Type 0
 IsMisread program words mistake.Row = usage_begun program words ≡ None
 IsMisread program words (mistake.Arguments usage) =
-    (usage_begun program words ≡ Some usage.now) × (is_clear program words ≡ true)
+    (usage_begun program words ≡ Some usage.now) × (stray_option program words ≡ None)
 IsMisread program words (mistake.Hyphen word usage) =
-    (usage_begun program words ≡ Some usage.now) × (has_dashes program words ≡ false)
-    × (find is_odd words ≡ Some word.now)
+    (usage_begun program words ≡ Some usage.now) × (stray_option program words ≡ Some word.now)
 IsMisread program words _ = ⊥

@@ -1,5 +1,5 @@
 -- commands of clap that are made from tables of rows
-use Rattle.std.specs.Prelude.{◌≡◌, List, true, false, Some, fold}
+use Rattle.std.specs.Prelude.{◌≡◌, Bool, List, true, false, Some, fold}
 use Rattle.clap.specs.Words.{App, Rule, Text, new_app, new_rule, with_rule, with_subcommand}
 use Rattle.clap.specs.Simple.{on_top}
 use Rattle.clap.specs.declared.builder.ArgAction.TheVariants.{Append, Set, SetTrue}
@@ -15,6 +15,12 @@ rule_for id Further = record (new_rule id) { action = Some Set }
 rule_for id Several = record (new_rule id) { required = true; action = Some Append }
 rule_for id Flag = record (new_rule id) { long = Some id; action = Some SetTrue }
 rule_for id Setting = record (new_rule id) { long = Some id; action = Some Set }
+
+-- whether an argument of this kind is an option
+abbrev pub is_option : Kind → Bool
+is_option Flag = true
+is_option Setting = true
+is_option other = false
 
 -- the command of a row: its name, and its arguments in order
 abbrev pub row_app : Text → List (Text × Kind) → App

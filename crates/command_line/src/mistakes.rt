@@ -22,7 +22,7 @@ pub enum Mistake<'a> {
     Row,
     /// The words after the name of a row that is used so are others.
     Arguments(&'static str),
-    /// This word begins with a hyphen, and is no option of the row that is used so.
+    /// This word begins with a hyphen, and the row that is used so has no options.
     Hyphen(&'a str, &'static str),
     /// A value is none, of which this is said.
     Value(&'static str),

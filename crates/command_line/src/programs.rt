@@ -1,13 +1,14 @@
 //! Programs as tables of rows, and what words ask for by them.
 
 ghost use Rattle.std.specs.Prelude.{◌≡◌, ◌≢◌, ◌∷◌, ◌⊎◌, [], true, false, IfErr, IfNone, IfOk, IfSome, List, find, fold, map, option_map};
+ghost use Rattle.std.specs.List.{list_any};
 ghost use Rattle.std.specs.Str.{bytes_eq};
 ghost use Rattle.clap.specs.Words.{Row, app_of, fault_of, is_simple_and_free, subcommand_of, subcommand_rows_of};
 ghost use Rattle.clap.specs.Simple.{is_simple};
 ghost use Rattle.command_line.specs.Plain.{texts};
-ghost use Rattle.command_line.specs.Programs.{AsksFor, AsksInPlace, HasRow, IsHelpWord, IsMisread, Wish, command, program_as, row_named, usage_begun, usage_named, wish_as};
+ghost use Rattle.command_line.specs.Programs.{AsksFor, AsksInPlace, HasRow, IsHelpWord, IsMisread, Wish, command, has_options, program_as, row_named, stray_option, usage_begun, usage_named, wish_as};
 ghost use Rattle.command_line.specs.declared.mistakes.Mistake.TheVariants.{Memory};
-ghost use Rattle.command_line.specs.Tables.{with_row};
+ghost use Rattle.command_line.specs.Tables.{is_option, with_row};
 
 use crate::arguments::Found;
 use crate::mistakes::Mistake;
@@ -167,6 +168,38 @@ fn usage_begun<R: Copy>(program: &Program<R>, words: &[String]) -> Option<&'stat
     }
 }
 
+/// Whether one of these arguments is an option.
+fn is_option_among(arguments: &[(&'static str, Kind)]) -> bool
+    ensures { result ≡ list_any (λ one. is_option one.1) arguments.now }
+{
+    arguments.iter().any(|one| one.1.is_option())
+}
+
+/// Whether the row with this name has an option.
+fn has_options<R>(program: &Program<R>, word: &str) -> bool
+    ensures { result ≡ has_options (program_as program.now) word.now }
+{
+    match line_in(program.rows, word) {
+        Some(line) => is_option_among(line.arguments),
+        None => false,
+    }
+}
+
+/// The first word that begins with a hyphen, where the row has no options whose name comes first,
+/// and `--` does not come behind that.
+fn stray_option<'a, R: Copy>(program: &Program<R>, words: &'a [String]) -> Option<&'a str>
+    ensures { option_map (λ word. word.now) result
+        ≡ stray_option (program_as program.now) (texts words.entry.now) }
+{
+    let Some((name, _)) = first_word(words) else {
+        return None;
+    };
+    if has_dashes(program, words) || has_options(program, name) {
+        return None;
+    }
+    odd_word(words)
+}
+
 /// The mistake of words that ask for nothing.
 pub(crate) fn mistake_in<'a, R: Copy>(program: &Program<R>, words: &'a [String]) -> Mistake<'a>
     ensures { IsMisread (program_as program.now) (texts words.entry.now) result }
@@ -174,10 +207,7 @@ pub(crate) fn mistake_in<'a, R: Copy>(program: &Program<R>, words: &'a [String])
     let Some(usage) = usage_begun(program, words) else {
         return Mistake::Row;
     };
-    if has_dashes(program, words) {
-        return Mistake::Arguments(usage);
-    }
-    match odd_word(words) {
+    match stray_option(program, words) {
         Some(word) => Mistake::Hyphen(word, usage),
         None => Mistake::Arguments(usage),
     }

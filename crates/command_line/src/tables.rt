@@ -26,6 +26,17 @@ pub enum Kind {
     Setting,
 }
 
+impl Kind {
+    ghost use Rattle.command_line.specs.Tables.{is_option};
+
+    /// Returns whether an argument of this kind is an option.
+    pub(crate) fn is_option(self) -> bool
+        ensures { result ≡ is_option self }
+    {
+        matches!(self, Kind::Flag | Kind::Setting)
+    }
+}
+
 /// An argument with this name.
 fn argument<'a>(alloc: Global, name: &'a str, kind: Kind) -> Arg<'a>
     ensures rule { rule_of result ≡ rule_for name.entry.now kind }
