@@ -117,12 +117,8 @@ fn run_task<'a>(deck: &'a str, size: &str, switches: &str) -> Result<Task<'a>, M
         (WantsRow RowName.Run (deck.entry.now ∷ size.now ∷ switches.now ∷ [])) }
     ensures mistake { IfErr result (IsValueMistake size.now switches.now) }
 {
-    let Some(size) = size_of(size) else {
-        return Err(Mistake::Value(SIZE_COMPLAINT));
-    };
-    let Some(switches) = switches_of(switches) else {
-        return Err(Mistake::Value(SWITCHES_COMPLAINT));
-    };
+    let size = size_of(size).ok_or(Mistake::Value(SIZE_COMPLAINT))?;
+    let switches = switches_of(switches).ok_or(Mistake::Value(SWITCHES_COMPLAINT))?;
     Ok(Task::Run {
         deck: Input::File(deck),
         size,
@@ -136,12 +132,8 @@ fn serve_task<'a>(file: &'a str, port: &str, count: &str) -> Result<Task<'a>, Mi
         (WantsRow RowName.Serve (file.entry.now ∷ port.now ∷ count.now ∷ [])) }
     ensures mistake { IfErr result (IsServeMistake port.now count.now) }
 {
-    let Some(port) = port_of(port) else {
-        return Err(Mistake::Value(NO_PORT));
-    };
-    let Some(count) = count_of(count) else {
-        return Err(Mistake::Value(NO_COUNT));
-    };
+    let port = port_of(port).ok_or(Mistake::Value(NO_PORT))?;
+    let count = count_of(count).ok_or(Mistake::Value(NO_COUNT))?;
     Ok(Task::Serve { file, port, count })
 }
 
