@@ -6,8 +6,8 @@ ghost use Rattle.core_store.specs.Storage.{Storage, cells_ending, field_length, 
 ghost use Rattle.core_store.specs.declared.registers.Registers.{Registers};
 ghost use Rattle.moves.specs.Loaded.{field_loaded, IsLoaded};
 
-use crate::near::{clear_near_marks, near_field, put_last};
-use core_store::{Check, Core, Registers, are_inside, field_length, overlaps};
+use crate::near::{clear_near_marks, far_field, near_field, put_last};
+use core_store::{Check, Core, Registers, overlaps};
 
 /// Copies a field of at most sixteen characters to B, all at once.
 #[inline(always)]
@@ -69,15 +69,7 @@ fn load_far<C: Core>(core: &mut C, registers: &mut Registers) -> Result<(), Chec
         (C.cells core.new) registers.new field_loaded }
 {
     let Registers { a, b, .. } = *registers;
-    if !are_inside(core, a, b) {
-        return Err(Check::Address);
-    }
-    let Some(count) = field_length(core, a) else {
-        return Err(Check::Address);
-    };
-    if count > b + 1 {
-        return Err(Check::Address);
-    }
+    let count = far_field(core, a, b)?;
     if overlaps(a, b, count) {
         return Err(Check::Address);
     }

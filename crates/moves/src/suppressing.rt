@@ -10,9 +10,9 @@ ghost use Rattle.moves.specs.Suppressed.{zeros_suppressed, unmarked, suppressed}
 use crate::blanking::{Stop, blank_start};
 use crate::characters::bare;
 use crate::lanes;
-use crate::near::{clear_marks, clear_near_marks, near_field, put_last};
+use crate::near::{clear_marks, clear_near_marks, far_field, near_field, put_last};
 use bcd::Code;
-use core_store::{Check, Core, Registers, are_inside, field_length, overlaps};
+use core_store::{Check, Core, Registers, overlaps};
 
 /// The character at an index from the right, without its zone if it is the units.
 #[inline(always)]
@@ -110,15 +110,7 @@ fn suppress_far<C: Core>(core: &mut C, registers: &mut Registers) -> Result<(), 
         (C.cells core.new) registers.new zeros_suppressed }
 {
     let Registers { a, b, .. } = *registers;
-    if !are_inside(core, a, b) {
-        return Err(Check::Address);
-    }
-    let Some(count) = field_length(core, a) else {
-        return Err(Check::Address);
-    };
-    if count > b + 1 {
-        return Err(Check::Address);
-    }
+    let count = far_field(core, a, b)?;
     if overlaps(a, b, count) {
         return Err(Check::Overlap);
     }
