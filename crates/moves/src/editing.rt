@@ -14,7 +14,9 @@ use crate::control::edit_codes;
 use crate::filling::{data_count, fill};
 use crate::lanes;
 use crate::near::put_last;
-use core_store::{Check, Core, Registers, are_inside, cut_length, field_length, is_minus};
+use core_store::{
+    Check, Core, Registers, are_inside, check_inside, cut_length, field_length, is_minus,
+};
 
 /// The number of data characters at A and of control characters at B.
 #[derive(Clone, Copy, Debug, PartialEq, Eq)]
@@ -179,15 +181,9 @@ fn edit_far<C: Core>(core: &mut C, registers: &mut Registers) -> Result<(), Chec
         (C.cells core.new) registers.new field_edited }
 {
     let Registers { a, b, .. } = *registers;
-    if !are_inside(core, a, b) {
-        return Err(Check::Address);
-    }
-    let Some(b_count) = field_length(core, b) else {
-        return Err(Check::Address);
-    };
-    let Some(a_count) = cut_length(core, a, data_count(core, b, b_count)) else {
-        return Err(Check::Address);
-    };
+    check_inside(core, a, b)?;
+    let b_count = field_length(core, b).ok_or(Check::Address)?;
+    let a_count = cut_length(core, a, data_count(core, b, b_count)).ok_or(Check::Address)?;
     if shares(a, a_count, b, b_count) {
         return Err(Check::Overlap);
     }

@@ -8,7 +8,7 @@ ghost use Rattle.core_store.specs.declared.registers.Registers.{Registers};
 ghost use Rattle.moves.specs.Moved.{least_of, move_length, moved_codes, moved, IsMoved};
 
 use crate::near::put_last;
-use core_store::{Check, Core, Registers, are_inside, field_length, overlaps};
+use core_store::{Check, Core, Registers, are_inside, check_inside, field_length, overlaps};
 
 /// The smaller of two counts; if only one is present, that one.
 #[inline(always)]
@@ -178,12 +178,8 @@ fn move_far<C: Core>(core: &mut C, registers: &mut Registers) -> Result<(), Chec
         (C.cells core.new) registers.new moved }
 {
     let Registers { a, b, .. } = *registers;
-    if !are_inside(core, a, b) {
-        return Err(Check::Address);
-    }
-    let Some(count) = move_length(core, a, b) else {
-        return Err(Check::Address);
-    };
+    check_inside(core, a, b)?;
+    let count = move_length(core, a, b).ok_or(Check::Address)?;
     if !have_room(a, b, count) {
         return Err(Check::Address);
     }
