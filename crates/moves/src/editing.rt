@@ -27,7 +27,7 @@ struct Counts {
 
 /// Whether two ranges of positions, which end at A and at B, have one in common.
 #[inline(always)]
-fn shares(a: u16, a_count: u16, b: u16, b_count: u16) -> bool
+pub fn shares(a: u16, a_count: u16, b: u16, b_count: u16) -> bool
     requires a { a < largest_size }
     requires b { b < largest_size }
     requires a_count { a_count ≤ largest_size }

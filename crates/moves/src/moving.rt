@@ -45,7 +45,7 @@ fn near_shared<C: Core>(core: &C, a: u16, b: u16) -> Option<u16>
 /// The number of characters of a move: up to the first mark in either field.
 #[inline(always)]
 #[tactic(auto, unfolding(crate::specs::Moved::move_length))]
-fn move_length<C: Core>(core: &C, a: u16, b: u16) -> Option<u16>
+pub fn move_length<C: Core>(core: &C, a: u16, b: u16) -> Option<u16>
     requires a_in { a < length (C.cells core.now) }
     requires b_in { b < length (C.cells core.now) }
     requires a_below { a < largest_size }

@@ -148,9 +148,7 @@ fn work_makers<C: Core>(
 {
     let cards = punch.count();
     let chosen = punch.chosen;
-    if let Err(fault) = work_punch(core, punch, before.cards, devices) {
-        return Err(fault);
-    }
+    work_punch(core, punch, before.cards, devices)?;
     if let Err(fault) = work_printer(core, printer, before.lines, devices) {
         punch.take_back(cards, chosen);
         return Err(fault);
@@ -171,13 +169,9 @@ pub fn operate<C: Core>(core: &mut C, units: &mut Units, devices: Devices) -> Re
     ensures unchanged { OnErr result ((C.cells core.new ≡ C.cells core.old)
         × (units.new ≡ units.old)) }
 {
-    if let Err(check) = units.look_for_checks(devices) {
-        return Err(Fault::Stopped(check));
-    }
+    units.look_for_checks(devices)?;
     let before = units.before;
-    if let Err(fault) = work_makers(core, &mut units.punch, &mut units.printer, before, devices) {
-        return Err(fault);
-    }
+    work_makers(core, &mut units.punch, &mut units.printer, before, devices)?;
     work_reader(core, &mut units.hopper, devices);
     Ok(())
 }
