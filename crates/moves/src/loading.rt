@@ -7,7 +7,7 @@ ghost use Rattle.core_store.specs.declared.registers.Registers.{Registers};
 ghost use Rattle.moves.specs.Loaded.{field_loaded, IsLoaded};
 
 use crate::near::{clear_near_marks, far_field, near_field, put_last};
-use core_store::{Check, Core, Registers, overlaps};
+use core_store::{Check, Core, Registers};
 
 /// Copies a field of at most sixteen characters to B, all at once.
 #[inline(always)]
@@ -69,10 +69,7 @@ fn load_far<C: Core>(core: &mut C, registers: &mut Registers) -> Result<(), Chec
         (C.cells core.new) registers.new field_loaded }
 {
     let Registers { a, b, .. } = *registers;
-    let count = far_field(core, a, b)?;
-    if overlaps(a, b, count) {
-        return Err(Check::Address);
-    }
+    let count = far_field(core, a, b, Check::Address)?;
     core.move_cells(a, b, count);
     registers.lower(count, count);
     Ok(())

@@ -1,6 +1,6 @@
 //! Fields of at most sixteen characters, written at once.
 
-ghost use Rattle.std.specs.Prelude.{◌≡◌, ◌+◌, ◌-◌, ◌<◌, ◌≤◌, ℕ, All, drop, length, nat_le, true, false, Some, Ok, IfSome, IfOk};
+ghost use Rattle.std.specs.Prelude.{◌≡◌, ◌+◌, ◌-◌, ◌<◌, ◌≤◌, ℕ, All, drop, length, nat_le, not, true, false, Some, Ok, IfSome, IfOk};
 ghost use Rattle.core_store.specs.Storage.{field_length, put_codes, largest_size};
 ghost use Rattle.core_store.specs.Operands.{are_inside, is_overlapping};
 ghost use Rattle.core_store.specs.Checked.{require, find_or};
@@ -81,20 +81,26 @@ pub fn near_field<C: Core>(core: &C, a: u16, b: u16) -> Option<u16>
 }
 
 /// The number of characters of the field at A, of any length. Check ADDRESS if A or B is outside
-/// the storage, or if the field would pass position 000 at A or, copied, at B.
+/// the storage, or if the field would pass position 000 at A or, copied, at B; `overlap` if, copied
+/// to B, it would be overwritten before it is read.
 #[inline(always)]
-pub fn far_field<C: Core>(core: &C, a: u16, b: u16) -> Result<u16, Check>
+pub fn far_field<C: Core>(core: &C, a: u16, b: u16, overlap: Check) -> Result<u16, Check>
     ensures field { result ≡ require (are_inside (C.cells core.now) a b) Address
         (find_or (field_length (C.cells core.now) a) Address (λ count.
-        require (nat_le count (b + 1)) Address (Ok count))) }
+        require (nat_le count (b + 1)) Address
+        (require (not (is_overlapping a b count)) overlap (Ok count)))) }
     ensures within { IfOk result (λ count. (a < length (C.cells core.now))
         × (b < length (C.cells core.now)) × (a < largest_size) × (b < largest_size)) }
     ensures room { IfOk result (λ count. (count ≤ a + 1) × (count ≤ b + 1)) }
+    ensures apart { IfOk result (λ count. is_overlapping a b count ≡ false) }
 {
     check_inside(core, a, b)?;
     let count = field_length(core, a).ok_or(Check::Address)?;
     if count > b + 1 {
         return Err(Check::Address);
+    }
+    if overlaps(a, b, count) {
+        return Err(overlap);
     }
     Ok(count)
 }

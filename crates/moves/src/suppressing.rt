@@ -12,7 +12,7 @@ use crate::characters::bare;
 use crate::lanes;
 use crate::near::{clear_marks, clear_near_marks, far_field, near_field, put_last};
 use bcd::Code;
-use core_store::{Check, Core, Registers, overlaps};
+use core_store::{Check, Core, Registers};
 
 /// The character at an index from the right, without its zone if it is the units.
 #[inline(always)]
@@ -110,10 +110,7 @@ fn suppress_far<C: Core>(core: &mut C, registers: &mut Registers) -> Result<(), 
         (C.cells core.new) registers.new zeros_suppressed }
 {
     let Registers { a, b, .. } = *registers;
-    let count = far_field(core, a, b)?;
-    if overlaps(a, b, count) {
-        return Err(Check::Overlap);
-    }
+    let count = far_field(core, a, b, Check::Overlap)?;
     move_far(core, a, b, count);
     registers.lower(count, count);
     Ok(())
