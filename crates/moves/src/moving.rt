@@ -69,24 +69,9 @@ fn have_room(a: u16, b: u16, count: u16) -> bool
     count <= a + 1 && count <= b + 1
 }
 
-/// Copies the characters that end at A to those that end at B, one by one from the right.
-#[tactic(auto, using(crate::proofs::MovingLemmas::move_none))]
-fn ripple<C: Core>(core: &mut C, a: u16, b: u16, count: u16)
-    requires a_in { a < length (C.cells core.old) }
-    requires b_in { b < length (C.cells core.old) }
-    requires a_from { count ≤ a + 1 }
-    requires b_from { count ≤ b + 1 }
-    ensures { C.cells core.new
-        ≡ put_codes (C.cells core.old) (b + 1 - count) (moved_codes (C.cells core.old) a b count) }
-{
-    for i in 0..count {
-        let code = core.get(a - i);
-        core.put(b - i, code);
-    }
-}
-
-/// Copies as `ripple` does, but all at once if no character is overwritten before it is copied.
-#[tactic(auto, using(crate::proofs::MovingLemmas::moved_apart))]
+/// Copies the characters that end at A to those that end at B: all at once if no character is
+/// overwritten before it is copied, else one by one from the right.
+#[tactic(auto, using(crate::proofs::MovingLemmas::move_none, crate::proofs::MovingLemmas::moved_apart))]
 fn copy_codes<C: Core>(core: &mut C, a: u16, b: u16, count: u16)
     requires a_in { a < length (C.cells core.old) }
     requires b_in { b < length (C.cells core.old) }
@@ -95,10 +80,13 @@ fn copy_codes<C: Core>(core: &mut C, a: u16, b: u16, count: u16)
     ensures { C.cells core.new
         ≡ put_codes (C.cells core.old) (b + 1 - count) (moved_codes (C.cells core.old) a b count) }
 {
-    if overlaps(a, b, count) {
-        ripple(core, a, b, count);
-    } else {
+    if !overlaps(a, b, count) {
         core.move_codes(a, b, count);
+        return;
+    }
+    for i in 0..count {
+        let code = core.get(a - i);
+        core.put(b - i, code);
     }
 }
 

@@ -1,7 +1,7 @@
 use Rattle.std.proofs.Common.{◌-◌, arith}
 use Rattle.moves.proofs.MovingLemmas.{moved_on}
 use Rattle.moves.proofs.Copying.{size_on}
-use Rattle.moves.proofs.moving.ripple.Goals as goal
+use Rattle.moves.proofs.moving.copy_codes.Goals as goal
 
 pub loop-i-preserved : goal.loop-i-preserved
 loop-i-preserved g c =
