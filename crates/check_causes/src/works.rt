@@ -1,8 +1,8 @@
 //! Why an operation on fields is stopped.
 
-ghost use Rattle.std.specs.Prelude.{◌≡◌, ◌+◌, ◌-◌, ◌<◌, ◌≤◌, ℕ, length};
+ghost use Rattle.std.specs.Prelude.{◌≡◌, ◌+◌, ◌-◌, ◌<◌, ◌≤◌, ℕ, IsOk, IfOk};
 ghost use Rattle.core_store.specs.Storage.{largest_size};
-ghost use Rattle.check_causes.specs.Fields.{sum_told, copy_told, comparison_told, modification_told, move_told, mark_told, load_told, suppression_told, edit_told};
+ghost use Rattle.check_causes.specs.Fields.{field_told, sum_told, copy_told, comparison_told, modification_told, move_told, mark_told, load_told, suppression_told, edit_told};
 
 use crate::causes::Cause;
 use crate::digits::{test_digits, test_number};
@@ -63,6 +63,19 @@ pub(crate) fn test_move<C: Core>(core: &C, a: u16, b: u16) -> Result<(), Cause>
     test_room(count, b)
 }
 
+/// The length of the field at A, or why it cannot be copied to B.
+#[tactic(auto, unfolding(crate::specs::Fields::field_told))]
+fn known_field<C: Core>(core: &C, a: u16, b: u16) -> Result<u16, Cause>
+    ensures length { result ≡ field_told (C.cells core.now) a b }
+    ensures below { IsOk result → (a < largest_size) × (b < largest_size) }
+    ensures room { IfOk result (λ count. count ≤ a + 1) }
+{
+    test_places(core, a, b)?;
+    let count = known_length(core, a)?;
+    test_room(count, b)?;
+    Ok(count)
+}
+
 /// Whether the mark of a field that is loaded is read before it is written over.
 #[tactic(auto, unfolding(crate::specs::Fields::mark_told))]
 fn test_mark(a: u16, b: u16, count: u16) -> Result<(), Cause>
@@ -78,24 +91,20 @@ fn test_mark(a: u16, b: u16, count: u16) -> Result<(), Cause>
 }
 
 /// Why the field at A cannot be loaded at B.
-#[tactic(auto, unfolding(crate::specs::Fields::load_told))]
+#[tactic(auto, unfolding(crate::specs::Fields::load_told, crate::specs::Fields::field_told))]
 pub(crate) fn test_load<C: Core>(core: &C, a: u16, b: u16) -> Result<(), Cause>
     ensures { result ≡ load_told (C.cells core.now) a b }
 {
-    test_places(core, a, b)?;
-    let count = known_length(core, a)?;
-    test_room(count, b)?;
+    let count = known_field(core, a, b)?;
     test_mark(a, b, count)
 }
 
 /// Why the field at A cannot be moved to B without its leading zeros.
-#[tactic(auto, unfolding(crate::specs::Fields::suppression_told))]
+#[tactic(auto, unfolding(crate::specs::Fields::suppression_told, crate::specs::Fields::field_told))]
 pub(crate) fn test_suppression<C: Core>(core: &C, a: u16, b: u16) -> Result<(), Cause>
     ensures { result ≡ suppression_told (C.cells core.now) a b }
 {
-    test_places(core, a, b)?;
-    let count = known_length(core, a)?;
-    test_room(count, b)?;
+    let count = known_field(core, a, b)?;
     test_apart(overlaps(a, b, count))
 }
 
