@@ -7,6 +7,7 @@ ghost use Rattle.core_store.specs.Operands.{are_inside, cut_length};
 ghost use Rattle.moves.specs.Blanked.{ends, leading, blanked};
 ghost use Rattle.moves.specs.Characters.{bare_units};
 ghost use Rattle.moves.specs.declared.blanking.Stop.TheVariants.{Digit};
+ghost use Rattle.moves.specs.Stretches.{AreIn};
 ghost use Rattle.moves.specs.Edited.{edited, is_minus, is_place, is_sharing, places, field_edited, IsShown};
 
 use crate::blanking::{Stop, blank_near, blank_start};
@@ -62,10 +63,7 @@ fn blank_left<C: Core>(core: &mut C, b: u16, count: u16, through: u16)
 #[inline(always)]
 #[tactic(auto, using(crate::proofs::FillingLemmas::all_edited))]
 fn fill_blanked<C: Core>(core: &mut C, a: u16, a_count: u16, b: u16, b_count: u16)
-    requires a_in { a < length (C.cells core.old) }
-    requires b_in { b < length (C.cells core.old) }
-    requires a_from { a_count ≤ a + 1 }
-    requires b_from { b_count ≤ b + 1 }
+    requires stretches { AreIn (C.cells core.old) a b a_count b_count }
     requires a_some { 1 ≤ a_count }
     requires below { b < largest_size }
     requires apart { is_sharing a a_count b b_count ≡ false }

@@ -4,6 +4,7 @@ ghost use Rattle.std.specs.Prelude.{◌≡◌, ◌+◌, ◌-◌, ◌<◌, ◌≤
 ghost use Rattle.core_store.specs.Doing.{Does};
 ghost use Rattle.core_store.specs.Storage.{Storage, cells_ending, field_length, put_cells, largest_size};
 ghost use Rattle.core_store.specs.declared.registers.Registers.{Registers};
+ghost use Rattle.moves.specs.Stretches.{AreNear};
 ghost use Rattle.moves.specs.Loaded.{field_loaded, IsLoaded};
 
 use crate::near::{clear_near_marks, far_field, near_field, put_last};
@@ -13,11 +14,7 @@ use core_store::{Check, Core, Registers};
 #[inline(always)]
 #[tactic(auto, using(crate::proofs::LaneLemmas::near_long))]
 fn load_near<C: Core>(core: &mut C, a: u16, b: u16, count: u16)
-    requires a_in { a < length (C.cells core.old) }
-    requires b_in { b < length (C.cells core.old) }
-    requires a_room { 15 ≤ a }
-    requires b_room { 15 ≤ b }
-    requires most { count ≤ 16 }
+    requires near { AreNear (C.cells core.old) a b count }
     requires below { b < largest_size }
     requires field { field_length (C.cells core.old) a ≡ Some count }
     ensures { C.cells core.new ≡ put_cells (C.cells core.old) (b + 1 - count)

@@ -5,6 +5,7 @@ ghost use Rattle.core_store.specs.Doing.{Does};
 ghost use Rattle.core_store.specs.Storage.{Storage, put_codes, largest_size};
 ghost use Rattle.core_store.specs.Operands.{are_inside, is_overlapping};
 ghost use Rattle.core_store.specs.declared.registers.Registers.{Registers};
+ghost use Rattle.moves.specs.Stretches.{AreIn, AreNear};
 ghost use Rattle.moves.specs.Moved.{least_of, move_length, moved_codes, moved, IsMoved};
 
 use crate::near::put_last;
@@ -73,10 +74,7 @@ fn have_room(a: u16, b: u16, count: u16) -> bool
 /// overwritten before it is copied, else one by one from the right.
 #[tactic(auto, using(crate::proofs::MovingLemmas::move_none, crate::proofs::MovingLemmas::moved_apart))]
 fn copy_codes<C: Core>(core: &mut C, a: u16, b: u16, count: u16)
-    requires a_in { a < length (C.cells core.old) }
-    requires b_in { b < length (C.cells core.old) }
-    requires a_from { count ≤ a + 1 }
-    requires b_from { count ≤ b + 1 }
+    requires stretches { AreIn (C.cells core.old) a b count count }
     ensures { C.cells core.new
         ≡ put_codes (C.cells core.old) (b + 1 - count) (moved_codes (C.cells core.old) a b count) }
 {
@@ -115,11 +113,7 @@ fn near_count<C: Core>(core: &C, a: u16, b: u16) -> Option<u16>
 #[inline(always)]
 #[tactic(auto, using(crate::proofs::LaneLemmas::near_long))]
 fn move_near<C: Core>(core: &mut C, a: u16, b: u16, count: u16)
-    requires a_in { a < length (C.cells core.old) }
-    requires b_in { b < length (C.cells core.old) }
-    requires a_room { 15 ≤ a }
-    requires b_room { 15 ≤ b }
-    requires most { count ≤ 16 }
+    requires near { AreNear (C.cells core.old) a b count }
     requires apart { is_overlapping a b count ≡ false }
     ensures { C.cells core.new
         ≡ put_codes (C.cells core.old) (b + 1 - count) (moved_codes (C.cells core.old) a b count) }

@@ -5,6 +5,7 @@ ghost use Rattle.core_store.specs.Doing.{Does};
 ghost use Rattle.core_store.specs.Storage.{code_at, codes_ending, put_codes, largest_size};
 ghost use Rattle.core_store.specs.Operands.{is_overlapping};
 ghost use Rattle.moves.specs.Characters.{bare, bare_units};
+ghost use Rattle.moves.specs.Stretches.{AreIn, AreNear};
 ghost use Rattle.moves.specs.Suppressed.{zeros_suppressed, unmarked, suppressed};
 
 use crate::blanking::{Stop, blank_start};
@@ -29,10 +30,7 @@ pub fn bare_at<C: Core>(core: &C, position: u16, place: u16) -> Code
 /// Copies the characters that end at A to those that end at B, the units without zone.
 #[tactic(auto, using(crate::proofs::Copying::copy_none, crate::proofs::Copying::copied_on, crate::proofs::Copying::size_on))]
 fn copy_bare<C: Core>(core: &mut C, a: u16, b: u16, count: u16)
-    requires a_in { a < length (C.cells core.old) }
-    requires b_in { b < length (C.cells core.old) }
-    requires a_from { count ≤ a + 1 }
-    requires b_from { count ≤ b + 1 }
+    requires stretches { AreIn (C.cells core.old) a b count count }
     requires below { b < largest_size }
     requires apart { is_overlapping a b count ≡ false }
     ensures codes { C.cells core.new ≡ put_codes (C.cells core.old) (b + 1 - count)
@@ -48,10 +46,7 @@ fn copy_bare<C: Core>(core: &mut C, a: u16, b: u16, count: u16)
 /// Moves the characters that end at A to B, without marks and leading zeros.
 #[tactic(auto, using(crate::proofs::Copying::all_suppressed))]
 fn move_far<C: Core>(core: &mut C, a: u16, b: u16, count: u16)
-    requires a_in { a < length (C.cells core.old) }
-    requires b_in { b < length (C.cells core.old) }
-    requires a_from { count ≤ a + 1 }
-    requires b_from { count ≤ b + 1 }
+    requires stretches { AreIn (C.cells core.old) a b count count }
     requires below { b < largest_size }
     requires apart { is_overlapping a b count ≡ false }
     ensures { C.cells core.new ≡ put_codes (unmarked (C.cells core.old) (b + 1 - count) count)
@@ -66,11 +61,7 @@ fn move_far<C: Core>(core: &mut C, a: u16, b: u16, count: u16)
 #[inline(always)]
 #[tactic(auto, using(crate::proofs::LaneLemmas::near_long))]
 fn move_near<C: Core>(core: &mut C, a: u16, b: u16, count: u16)
-    requires a_in { a < length (C.cells core.old) }
-    requires b_in { b < length (C.cells core.old) }
-    requires a_room { 15 ≤ a }
-    requires b_room { 15 ≤ b }
-    requires most { count ≤ 16 }
+    requires near { AreNear (C.cells core.old) a b count }
     requires below { b < largest_size }
     ensures { C.cells core.new ≡ put_codes (unmarked (C.cells core.old) (b + 1 - count) count)
         (b + 1 - count) (suppressed (bare_units (codes_ending (C.cells core.old) a count))) }
