@@ -7,7 +7,7 @@ ghost use Rattle.core_store.specs.Operands.{are_inside, cut_length};
 ghost use Rattle.moves.specs.Blanked.{ends, leading, blanked};
 ghost use Rattle.moves.specs.Characters.{bare_units};
 ghost use Rattle.moves.specs.declared.blanking.Stop.TheVariants.{Digit};
-ghost use Rattle.moves.specs.Stretches.{AreIn};
+ghost use Rattle.moves.specs.Stretches.{AreIn, IsIn};
 ghost use Rattle.moves.specs.Edited.{edited, is_minus, is_place, is_sharing, places, field_edited, IsShown};
 
 use crate::blanking::{Stop, blank_near, blank_start};
@@ -43,9 +43,7 @@ pub fn shares(a: u16, a_count: u16, b: u16, b_count: u16) -> bool
 #[inline(always)]
 #[tactic(auto, using(crate::proofs::FillingLemmas::ending_is_from))]
 fn blank_left<C: Core>(core: &mut C, b: u16, count: u16, through: u16)
-    requires within { b < length (C.cells core.old) }
-    requires from { count ≤ b + 1 }
-    requires below { b < largest_size }
+    requires stretch { IsIn (C.cells core.old) b count }
     requires limit { through ≤ count }
     ensures codes { C.cells core.new ≡ put_codes (C.cells core.old) (b + 1 - count)
         (blanked (min through (leading (ends Digit) (codes_ending (C.cells core.old) b count)))

@@ -5,6 +5,7 @@ ghost use Rattle.core_store.specs.Storage.{field_length, put_codes, largest_size
 ghost use Rattle.core_store.specs.Operands.{are_inside, is_overlapping};
 ghost use Rattle.core_store.specs.Checked.{require, find_or};
 ghost use Rattle.core_store.specs.declared.checks.Check.TheVariants.{Address};
+ghost use Rattle.moves.specs.Stretches.{IsIn};
 ghost use Rattle.moves.specs.Suppressed.{unmarked};
 
 use core_store::{Check, Core, are_inside, check_inside, field_length, last_of, overlaps};
@@ -30,9 +31,7 @@ pub fn put_last<C: Core>(core: &mut C, b: u16, count: u16, codes: u8x16)
 /// Clears the marks of `count` positions that end at B.
 #[tactic(auto, using(crate::proofs::Copying::unmark_step, crate::proofs::Copying::unmark_none, crate::proofs::Copying::length_with_mark))]
 pub fn clear_marks<C: Core>(core: &mut C, b: u16, count: u16)
-    requires within { b < length (C.cells core.old) }
-    requires from { count ≤ b + 1 }
-    requires below { b < largest_size }
+    requires { IsIn (C.cells core.old) b count }
     ensures marks { C.cells core.new ≡ unmarked (C.cells core.old) (b + 1 - count) count }
     ensures size { length (C.cells core.new) ≡ length (C.cells core.old) }
 {
