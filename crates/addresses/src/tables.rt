@@ -1,7 +1,6 @@
 //! The tables by which addresses are read.
 
-ghost use Rattle.std.specs.Prelude.{◌≡◌, ◌<◌, ◌≤◌, ℕ, unwrap_or};
-ghost use Rattle.addresses.specs.Addresses.{weighed, base, Spells, unreadable};
+ghost use Rattle.addresses.specs.Addresses.{base, Spells};
 
 use bcd::Code;
 
@@ -34,40 +33,13 @@ const THIRD: [u16; 64] = [
     20000, 20000,
 ];
 
-/// The value of a character as the first of an address.
-#[inline(always)]
-fn of_first(code: Code) -> u16
-    ensures entry { result ≡ unwrap_or (weighed 100 1000 code) unreadable }
-    ensures most { result ≤ unreadable }
-    ensures below { unwrap_or (weighed 100 1000 code) 0 ≤ 3900 }
-{
-    FIRST[code.number() as usize]
-}
-
-/// The value of a character as the second of an address.
-#[inline(always)]
-fn of_second(code: Code) -> u16
-    ensures entry { result ≡ unwrap_or (weighed 10 0 code) unreadable }
-    ensures most { result ≤ unreadable }
-    ensures below { unwrap_or (weighed 10 0 code) 0 ≤ 90 }
-{
-    SECOND[code.number() as usize]
-}
-
-/// The value of a character as the third of an address.
-#[inline(always)]
-fn of_third(code: Code) -> u16
-    ensures entry { result ≡ unwrap_or (weighed 1 4000 code) unreadable }
-    ensures most { result ≤ unreadable }
-    ensures below { unwrap_or (weighed 1 4000 code) 0 ≤ 12009 }
-{
-    THIRD[code.number() as usize]
-}
-
 /// The number that three characters spell without the tag; `UNREADABLE` or more if they spell none.
 #[inline(always)]
 pub fn base(first: Code, second: Code, third: Code) -> u16
     ensures { Spells (base first second third) result }
 {
-    of_first(first) + of_second(second) + of_third(third)
+    let hundreds = FIRST[first.number() as usize];
+    let tens = SECOND[second.number() as usize];
+    let units = THIRD[third.number() as usize];
+    hundreds + tens + units
 }

@@ -30,12 +30,8 @@ pub fn modify<C: Core>(core: &mut C, registers: &mut Registers) -> Result<(), Ch
     if !have_three(core, a, b) {
         return Err(Check::Address);
     }
-    let Some(base_a) = base_ending(core, a) else {
-        return Err(Check::Data);
-    };
-    let Some(base_b) = base_ending(core, b) else {
-        return Err(Check::Data);
-    };
+    let base_a = base_ending(core, a).ok_or(Check::Data)?;
+    let base_b = base_ending(core, b).ok_or(Check::Data)?;
     let tag = core.get(b - 1).zone();
     put_three(
         core,

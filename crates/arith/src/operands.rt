@@ -5,7 +5,7 @@ ghost use Rattle.core_store.specs.Storage.{Storage};
 ghost use Rattle.core_store.specs.Operands.{is_overlapping};
 ghost use Rattle.arith.specs.Operands.{counts_at, counts_apart, AreCounts, AreOfFields};
 
-use core_store::{Check, Core, are_inside, cut_length, field_length, overlaps};
+use core_store::{Check, Core, are_inside, check_inside, cut_length, field_length, overlaps};
 
 /// The number of characters read at A and at B.
 #[derive(Clone, Copy, Debug, PartialEq, Eq)]
@@ -21,15 +21,9 @@ pub fn counts_at<C: Core>(core: &C, a: u16, b: u16) -> Result<Counts, Check>
     ensures counts { result ≡ counts_at (C.cells core.now) a b }
     ensures known { IfOk result (λ counts. AreCounts (C.cells core.now) a b counts.a counts.b) }
 {
-    if !are_inside(core, a, b) {
-        return Err(Check::Address);
-    }
-    let Some(b_count) = field_length(core, b) else {
-        return Err(Check::Address);
-    };
-    let Some(a_count) = cut_length(core, a, b_count) else {
-        return Err(Check::Address);
-    };
+    check_inside(core, a, b)?;
+    let b_count = field_length(core, b).ok_or(Check::Address)?;
+    let a_count = cut_length(core, a, b_count).ok_or(Check::Address)?;
     Ok(Counts {
         a: a_count,
         b: b_count,
@@ -71,6 +65,22 @@ pub fn near_counts<C: Core>(core: &C, a: u16, b: u16) -> Option<Counts>
         a: core.near_length(a).min(b_count),
         b: b_count,
     })
+}
+
+/// The same, for an operation that writes to the field at B while it reads at A, where it overwrites
+/// no character of A before it is read. `None` says nothing about the fields.
+#[inline(always)]
+pub fn near_counts_apart<C: Core>(core: &C, a: u16, b: u16) -> Option<Counts>
+    ensures counts { IfSome result (λ counts. counts_at (C.cells core.now) a b ≡ Ok counts) }
+    ensures known { IfSome result (λ counts. AreCounts (C.cells core.now) a b counts.a counts.b) }
+    ensures room { IfSome result (λ counts. (15 ≤ a) × (15 ≤ b) × (counts.b ≤ 16)) }
+    ensures apart { IfSome result (λ counts. is_overlapping a b counts.a ≡ false) }
+{
+    let counts = near_counts(core, a, b)?;
+    if overlaps(a, b, counts.a) {
+        return None;
+    }
+    Some(counts)
 }
 
 /// The law of the counts: what is read at B is the field there, and what is read at A is the cut

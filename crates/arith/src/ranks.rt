@@ -148,10 +148,7 @@ fn compare_far<C: Core>(core: &mut C, registers: &mut Registers) -> Result<(), C
         (C.cells core.new) registers.new compared }
 {
     let Registers { a, b, .. } = *registers;
-    let counts = match counts_at(core, a, b) {
-        Ok(counts) => counts,
-        Err(check) => return Err(check),
-    };
+    let counts = counts_at(core, a, b)?;
     registers.compare = comparison(core, a, b, counts);
     registers.lower(counts.a, counts.b);
     Ok(())

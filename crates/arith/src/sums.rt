@@ -10,9 +10,9 @@ ghost use Rattle.arith.specs.Sums.{added, sum_codes, sum_overflows};
 use crate::decimal::{is_number, sign_zone};
 use crate::joining::{Joined, join};
 use crate::lanes::{greater, is_over, parts, signed, sum, write_digits};
-use crate::operands::{Counts, counts_apart, near_counts};
+use crate::operands::{Counts, counts_apart, near_counts_apart};
 use crate::words::difference;
-use core_store::{Check, Core, Registers, is_minus, last_of, overlaps};
+use core_store::{Check, Core, Registers, is_minus, last_of};
 use std::simd::prelude::*;
 
 /// Adds the A digits to the B field. Fails as `counts_apart` does, and with check DATA if a
@@ -78,12 +78,9 @@ fn combine_near<C: Core>(core: &mut C, registers: &mut Registers, reversed: bool
         × (registers.new ≡ registers.old) }
 {
     let Registers { a, b, .. } = *registers;
-    let Some(counts) = near_counts(core, a, b) else {
+    let Some(counts) = near_counts_apart(core, a, b) else {
         return false;
     };
-    if overlaps(a, b, counts.a) {
-        return false;
-    }
     let old = core.near_codes(b);
     let parts_a = parts(core.near_codes(a), counts.a);
     let parts_b = parts(old, counts.b);
@@ -121,10 +118,7 @@ fn combine_far<C: Core>(
         (C.cells core.new) registers.new (added reversed) }
 {
     let Registers { a, b, .. } = *registers;
-    let counts = match counts_apart(core, a, b) {
-        Ok(counts) => counts,
-        Err(check) => return Err(check),
-    };
+    let counts = counts_apart(core, a, b)?;
     if !is_number(core, a, counts.a) {
         return Err(Check::Data);
     }

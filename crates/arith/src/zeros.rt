@@ -7,8 +7,8 @@ ghost use Rattle.arith.specs.Sums.{zero_added};
 use crate::decimal::{is_number, sign_zone};
 use crate::joining::{Joined, join};
 use crate::lanes::{digits, is_over, parts, signed, write_digits};
-use crate::operands::{counts_apart, near_counts};
-use core_store::{Check, Core, Registers, is_minus, overlaps};
+use crate::operands::{counts_apart, near_counts_apart};
+use core_store::{Check, Core, Registers, is_minus};
 
 /// Replaces the B field by the A digits. Fails as `counts_apart` does, and with check DATA if a
 /// character at A has no numeric value.
@@ -49,12 +49,9 @@ fn replace_near<C: Core>(core: &mut C, registers: &mut Registers, reversed: bool
         × (registers.new ≡ registers.old) }
 {
     let Registers { a, b, .. } = *registers;
-    let Some(counts) = near_counts(core, a, b) else {
+    let Some(counts) = near_counts_apart(core, a, b) else {
         return false;
     };
-    if overlaps(a, b, counts.a) {
-        return false;
-    }
     let parts = parts(core.near_codes(a), counts.a);
     if is_over(parts, 10) {
         return false;
@@ -77,10 +74,7 @@ fn replace_far<C: Core>(
         (C.cells core.new) registers.new (zero_added reversed) }
 {
     let Registers { a, b, .. } = *registers;
-    let counts = match counts_apart(core, a, b) {
-        Ok(counts) => counts,
-        Err(check) => return Err(check),
-    };
+    let counts = counts_apart(core, a, b)?;
     if !is_number(core, a, counts.a) {
         return Err(Check::Data);
     }

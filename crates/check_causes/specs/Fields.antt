@@ -110,6 +110,13 @@ move_told s a b =
     (given (move_length_told s a b) (λ count.
     after (room_told count a) (room_told count b)))
 
+-- the length of the field at a, which can also end at b, or why there is none
+unfoldable pub field_told : Storage → ℕ → ℕ → Result ℕ Cause
+field_told s a b =
+    after (places_told s a b)
+    (given (length_told s a) (λ count.
+    after (room_told count b) (Ok count)))
+
 -- a field of so many characters at a is loaded at b: its mark, the last cell that is read, is not
 -- written over before
 unfoldable pub mark_told : ℕ → ℕ → ℕ → Tested

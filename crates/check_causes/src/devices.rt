@@ -2,7 +2,7 @@
 
 ghost use Rattle.std.specs.Prelude.{◌≡◌, ◌+◌, ◌<◌, ◌≤◌, ℕ, length, is_some, nat_lt, if◌then◌else◌};
 ghost use Rattle.units.specs.Carriages.{ordered, moved_by, spaced};
-ghost use Rattle.units.specs.Units.{reads, prints, punches, most_lines};
+ghost use Rattle.units.specs.Units.{most_lines};
 ghost use Rattle.check_causes.specs.Tested.{passed};
 ghost use Rattle.check_causes.specs.Devices.{card_told, punch_told, line_told, devices_told, order_told, pocket_told};
 
@@ -58,37 +58,11 @@ fn test_line(printer: &Printer, before: u32) -> Result<(), Cause>
     Ok(())
 }
 
-/// Whether a card is left, for an operation that may read one.
-fn test_reader(devices: Devices, hopper: &Hopper) -> Result<(), Cause>
-    ensures { result ≡ (if reads devices then card_told hopper.now else passed) }
+/// The test of a unit, for an operation in which it may not take part.
+fn test_if(takes_part: bool, tested: Result<(), Cause>) -> Result<(), Cause>
+    ensures { result ≡ (if takes_part then tested else passed) }
 {
-    if devices.contains(Devices::READER) {
-        test_card(hopper)
-    } else {
-        Ok(())
-    }
-}
-
-/// Whether one more card can be punched, for an operation that may punch one.
-fn test_puncher(devices: Devices, punch: &Punch, before: u32) -> Result<(), Cause>
-    ensures { result ≡ (if punches devices then punch_told before punch.now else passed) }
-{
-    if devices.contains(Devices::PUNCH) {
-        test_punch(punch, before)
-    } else {
-        Ok(())
-    }
-}
-
-/// Whether one more line can be printed, for an operation that may print one.
-fn test_printer(devices: Devices, printer: &Printer, before: u32) -> Result<(), Cause>
-    ensures { result ≡ (if prints devices then line_told before printer.now else passed) }
-{
-    if devices.contains(Devices::PRINTER) {
-        test_line(printer, before)
-    } else {
-        Ok(())
-    }
+    if takes_part { tested } else { Ok(()) }
 }
 
 /// Why the reader, the punch and the printer are stopped, in this order.
@@ -96,9 +70,16 @@ fn test_printer(devices: Devices, printer: &Printer, before: u32) -> Result<(), 
 pub(crate) fn test_devices(devices: Devices, units: &Units) -> Result<(), Cause>
     ensures { result ≡ devices_told devices units.now }
 {
-    test_reader(devices, &units.hopper)?;
-    test_puncher(devices, &units.punch, units.before.cards)?;
-    test_printer(devices, &units.printer, units.before.lines)
+    let before = units.before;
+    test_if(devices.contains(Devices::READER), test_card(&units.hopper))?;
+    test_if(
+        devices.contains(Devices::PUNCH),
+        test_punch(&units.punch, before.cards),
+    )?;
+    test_if(
+        devices.contains(Devices::PRINTER),
+        test_line(&units.printer, before.lines),
+    )
 }
 
 /// Whether the carriage has a form left for `count` lines more.

@@ -1,10 +1,9 @@
-//! The characters that arithmetic and editing read.
+//! The characters that arithmetic reads.
 
 ghost use Rattle.std.specs.Prelude.{◌≡◌, ◌+◌, ◌-◌, ◌<◌, ◌≤◌, ℕ, length, is_some, if◌then◌else◌, Some, IfSome};
-ghost use Rattle.core_store.specs.Storage.{code_at, codes_ending, largest_size};
+ghost use Rattle.core_store.specs.Storage.{code_at, largest_size};
 ghost use Rattle.bcd.specs.Table.{digit_of};
-ghost use Rattle.moves.specs.Edited.{is_place, places};
-ghost use Rattle.check_causes.specs.Fields.{first_without_digit, digits_told, number_told, places_wanted};
+ghost use Rattle.check_causes.specs.Fields.{first_without_digit, digits_told, number_told};
 
 use crate::causes::Cause;
 use crate::words::sign;
@@ -64,49 +63,4 @@ pub(crate) fn test_number<C: Core>(core: &C, position: u16) -> Result<(), Cause>
         Some(_) => Ok(()),
         None => Err(Cause::NoNumber(position)),
     }
-}
-
-/// Whether a character of a control field is a digit place.
-#[tactic(auto, unfolding(moves::specs::Characters::is_any))]
-fn is_place(code: Code) -> bool
-    ensures { result ≡ is_place code }
-{
-    let glyph = code.glyph();
-    glyph == b'0' || glyph == b' '
-}
-
-/// A number of digit places, and one more if a character is one.
-fn with_place(code: Code, found: u16) -> u16
-    requires { found < largest_size }
-    ensures { result ≡ (if is_place code then found + 1 else found) }
-{
-    if is_place(code) { found + 1 } else { found }
-}
-
-/// How many digit places the `count` characters up to a position have.
-#[tactic(auto, using(crate::proofs::DigitLemmas::none_placed, crate::proofs::DigitLemmas::next_placed))]
-fn places<C: Core>(core: &C, position: u16, count: u16) -> u16
-    requires within { position < length (C.cells core.now) }
-    requires below { position < largest_size }
-    requires room { count ≤ position + 1 }
-    ensures places { result ≡ places (codes_ending (C.cells core.now) position count) }
-    ensures most { result ≤ count }
-{
-    let mut found = 0;
-    for place in 0..count {
-        found = with_place(core.get(position - place), found);
-    }
-    found
-}
-
-/// How many characters an edit by the control field at a position reads.
-#[tactic(auto, unfolding(crate::specs::Fields::places_wanted))]
-pub(crate) fn places_wanted<C: Core>(core: &C, position: u16, count: u16) -> u16
-    requires within { position < length (C.cells core.now) }
-    requires below { position < largest_size }
-    requires room { count ≤ position + 1 }
-    ensures wanted { result ≡ places_wanted (C.cells core.now) position count }
-    ensures some { 1 ≤ result }
-{
-    places(core, position, count).max(1)
 }

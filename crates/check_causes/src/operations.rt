@@ -13,17 +13,18 @@ use crate::works::{
     test_comparison, test_copy, test_edit, test_load, test_modification, test_move, test_sum,
     test_suppression,
 };
-use bcd::Code;
 use core_store::Core;
+use machine::Instruction;
 use units::{CarriageOrder, Devices, Printer, Units};
 
 /// Why the carriage order that the last character of an instruction names is stopped.
 #[tactic(auto, unfolding(crate::specs::Devices::carriage_told))]
-fn test_carriage(first: Code, count: u16, last: Code, printer: &Printer) -> Result<(), Cause>
-    requires { is_glyph first (codes "F") ≡ true }
-    ensures { result ≡ carriage_told (modifier_by first count last) printer.now }
+fn test_carriage(instruction: Instruction, printer: &Printer) -> Result<(), Cause>
+    requires { is_glyph instruction.first (codes "F") ≡ true }
+    ensures { result ≡ carriage_told
+        (modifier_by instruction.first instruction.length instruction.last) printer.now }
 {
-    match CarriageOrder::of_code(last) {
+    match CarriageOrder::of_code(instruction.last) {
         Some(order) => test_order(order, printer),
         None => Ok(()),
     }
@@ -32,21 +33,15 @@ fn test_carriage(first: Code, count: u16, last: Code, printer: &Printer) -> Resu
 /// Why one of the operations that are not of the units is stopped at these addresses. Each of its
 /// characters has an arm of its own, since the last arm then knows each that it is not.
 #[tactic(auto, unfolding(crate::specs::Causes::operation_told))]
-fn test_other<C: Core>(
-    core: &C,
-    units: &Units,
-    first: Code,
-    count: u16,
-    last: Code,
-    a: u16,
-    b: u16,
-) -> Result<(), Cause>
-    requires high { 8 ≤ first }
-    requires below { first < 64 }
-    ensures { result ≡ operation_told (operation_by first) (modifier_by first count last)
-        (C.cells core.now) units.now a b }
+fn test_other<C: Core>(core: &C, units: &Units, instruction: Instruction) -> Result<(), Cause>
+    requires high { 8 ≤ instruction.first }
+    requires below { instruction.first < 64 }
+    ensures { result ≡ operation_told (operation_by instruction.first)
+        (modifier_by instruction.first instruction.length instruction.last)
+        (C.cells core.now) units.now instruction.a instruction.b }
 {
-    match first.glyph() {
+    let Instruction { a, b, .. } = instruction;
+    match instruction.first.glyph() {
         b'A' => test_sum(core, a, b),
         b'S' => test_sum(core, a, b),
         b'?' => test_copy(core, a, b),
@@ -62,7 +57,7 @@ fn test_other<C: Core>(
         b'Z' => test_suppression(core, a, b),
         b'E' => test_edit(core, a, b),
         b'/' => test_place(core, b),
-        b'F' => test_carriage(first, count, last, &units.printer),
+        b'F' => test_carriage(instruction, &units.printer),
         b'K' => test_pocket(&units.punch),
         b'Q' => test_three(core, a),
         b'H' => test_three(core, a),
@@ -75,18 +70,15 @@ fn test_other<C: Core>(
 pub(crate) fn test_operation<C: Core>(
     core: &C,
     units: &Units,
-    first: Code,
-    count: u16,
-    last: Code,
-    a: u16,
-    b: u16,
+    instruction: Instruction,
 ) -> Result<(), Cause>
-    ensures { result ≡ operation_told (operation_by first) (modifier_by first count last)
-        (C.cells core.now) units.now a b }
+    ensures { result ≡ operation_told (operation_by instruction.first)
+        (modifier_by instruction.first instruction.length instruction.last)
+        (C.cells core.now) units.now instruction.a instruction.b }
 {
-    match first.number() {
+    match instruction.first.number() {
         0 => Ok(()),
         sum @ 1..=7 => test_devices(Devices::of_sum(sum), units),
-        _ => test_other(core, units, first, count, last, a, b),
+        _ => test_other(core, units, instruction),
     }
 }

@@ -3,7 +3,6 @@
 ghost use Rattle.std.specs.Prelude.{◌≡◌, ◌+◌, ◌-◌, ◌<◌, ◌≤◌, ℕ, Bool, length, IsOk, IfOk};
 ghost use Rattle.core_store.specs.Storage.{largest_size};
 ghost use Rattle.arith.specs.Operands.{AreCounts};
-ghost use Rattle.moves.specs.Moved.{least_of};
 ghost use Rattle.check_causes.specs.Fields.{place_told, places_told, room_told, three_told, length_told, cut_told, counts_told, counts_apart_told, apart_told, move_length_told};
 
 use crate::causes::Cause;
@@ -67,10 +66,7 @@ pub(crate) fn known_length<C: Core>(core: &C, position: u16) -> Result<u16, Caus
     ensures length { result ≡ length_told (C.cells core.now) position }
     ensures within { IfOk result (λ count. (1 ≤ count) × (count ≤ position + 1)) }
 {
-    match field_length(core, position) {
-        Some(count) => Ok(count),
-        None => Err(Cause::NoFieldMark(position)),
-    }
+    field_length(core, position).ok_or(Cause::NoFieldMark(position))
 }
 
 /// How many characters are read at a position, at most `limit`, or that the field there has no
@@ -84,10 +80,7 @@ pub(crate) fn known_cut<C: Core>(core: &C, position: u16, limit: u16) -> Result<
     ensures within { IfOk result (λ count. (1 ≤ count) × (count ≤ limit)
         × (count ≤ position + 1)) }
 {
-    match cut_length(core, position, limit) {
-        Some(count) => Ok(count),
-        None => Err(Cause::NoFieldMark(position)),
-    }
+    cut_length(core, position, limit).ok_or(Cause::NoFieldMark(position))
 }
 
 /// The lengths of the field at B and of what is read of the field at A, or why they have none.
@@ -124,19 +117,8 @@ pub(crate) fn counts_apart<C: Core>(core: &C, a: u16, b: u16) -> Result<Counts, 
     Ok(counts)
 }
 
-/// The smaller of two lengths, or the one that is there.
-fn least_of(first: Option<u16>, second: Option<u16>) -> Option<u16>
-    ensures { result ≡ least_of first second }
-{
-    match (first, second) {
-        (Some(m), Some(n)) => Some(m.min(n)),
-        (Some(m), None) => Some(m),
-        (None, found) => found,
-    }
-}
-
 /// The length of a move, or that the field at A has no mark.
-#[tactic(auto, unfolding(crate::specs::Fields::move_length_told, moves::specs::Moved::move_length))]
+#[tactic(auto, unfolding(crate::specs::Fields::move_length_told))]
 pub(crate) fn move_length<C: Core>(core: &C, a: u16, b: u16) -> Result<u16, Cause>
     requires a_in { a < length (C.cells core.now) }
     requires b_in { b < length (C.cells core.now) }
@@ -144,8 +126,5 @@ pub(crate) fn move_length<C: Core>(core: &C, a: u16, b: u16) -> Result<u16, Caus
     requires b_below { b < largest_size }
     ensures { result ≡ move_length_told (C.cells core.now) a b }
 {
-    match least_of(field_length(core, a), field_length(core, b)) {
-        Some(count) => Ok(count),
-        None => Err(Cause::NoFieldMark(a)),
-    }
+    moves::move_length(core, a, b).ok_or(Cause::NoFieldMark(a))
 }

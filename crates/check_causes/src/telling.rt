@@ -11,7 +11,7 @@ use crate::operands::operands;
 use crate::operations::test_operation;
 use crate::words::{sign, word_at};
 use core_store::{Core, Registers};
-use machine::{Parts, Word, addresses_in, character};
+use machine::{Instruction, Parts, Word, addresses_in, character};
 use units::Units;
 
 /// Why the instruction of these characters is stopped.
@@ -36,11 +36,15 @@ fn test_instruction<C: Core>(
         return Err(Cause::NoInstruction(sign(first)));
     }
     let count = addresses_in(first, word.length);
-    let (a, b) = match operands(core, registers, word, count) {
-        Ok(operands) => operands,
-        Err(cause) => return Err(cause),
+    let (a, b) = operands(core, registers, word, count)?;
+    let instruction = Instruction {
+        first,
+        last,
+        length: word.length,
+        a,
+        b,
     };
-    test_operation(core, units, first, word.length, last, a, b)
+    test_operation(core, units, instruction)
 }
 
 /// The tests of the machine before the instruction at register I changes anything, in its order.

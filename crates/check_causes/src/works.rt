@@ -1,17 +1,17 @@
 //! Why an operation on fields is stopped.
 
-ghost use Rattle.std.specs.Prelude.{◌≡◌, ◌+◌, ◌-◌, ◌<◌, ◌≤◌, ℕ, length};
+ghost use Rattle.std.specs.Prelude.{◌≡◌, ◌+◌, ◌-◌, ◌<◌, ◌≤◌, ℕ, IsOk, IfOk};
 ghost use Rattle.core_store.specs.Storage.{largest_size};
-ghost use Rattle.moves.specs.Edited.{is_sharing};
-ghost use Rattle.check_causes.specs.Fields.{sum_told, copy_told, comparison_told, modification_told, move_told, mark_told, load_told, suppression_told, edit_told};
+ghost use Rattle.check_causes.specs.Fields.{field_told, sum_told, copy_told, comparison_told, modification_told, move_told, mark_told, load_told, suppression_told, edit_told};
 
 use crate::causes::Cause;
-use crate::digits::{places_wanted, test_digits, test_number};
+use crate::digits::{test_digits, test_number};
 use crate::places::{
     counts, counts_apart, known_cut, known_length, move_length, test_apart, test_places, test_room,
     test_three,
 };
 use core_store::{Core, overlaps};
+use moves::{data_count, shares};
 
 /// Why the fields at A and B cannot be added or subtracted.
 #[tactic(auto, unfolding(crate::specs::Fields::sum_told))]
@@ -63,6 +63,19 @@ pub(crate) fn test_move<C: Core>(core: &C, a: u16, b: u16) -> Result<(), Cause>
     test_room(count, b)
 }
 
+/// The length of the field at A, or why it cannot be copied to B.
+#[tactic(auto, unfolding(crate::specs::Fields::field_told))]
+fn known_field<C: Core>(core: &C, a: u16, b: u16) -> Result<u16, Cause>
+    ensures length { result ≡ field_told (C.cells core.now) a b }
+    ensures below { IsOk result → (a < largest_size) × (b < largest_size) }
+    ensures room { IfOk result (λ count. count ≤ a + 1) }
+{
+    test_places(core, a, b)?;
+    let count = known_length(core, a)?;
+    test_room(count, b)?;
+    Ok(count)
+}
+
 /// Whether the mark of a field that is loaded is read before it is written over.
 #[tactic(auto, unfolding(crate::specs::Fields::mark_told))]
 fn test_mark(a: u16, b: u16, count: u16) -> Result<(), Cause>
@@ -78,45 +91,30 @@ fn test_mark(a: u16, b: u16, count: u16) -> Result<(), Cause>
 }
 
 /// Why the field at A cannot be loaded at B.
-#[tactic(auto, unfolding(crate::specs::Fields::load_told))]
+#[tactic(auto, unfolding(crate::specs::Fields::load_told, crate::specs::Fields::field_told))]
 pub(crate) fn test_load<C: Core>(core: &C, a: u16, b: u16) -> Result<(), Cause>
     ensures { result ≡ load_told (C.cells core.now) a b }
 {
-    test_places(core, a, b)?;
-    let count = known_length(core, a)?;
-    test_room(count, b)?;
+    let count = known_field(core, a, b)?;
     test_mark(a, b, count)
 }
 
 /// Why the field at A cannot be moved to B without its leading zeros.
-#[tactic(auto, unfolding(crate::specs::Fields::suppression_told))]
+#[tactic(auto, unfolding(crate::specs::Fields::suppression_told, crate::specs::Fields::field_told))]
 pub(crate) fn test_suppression<C: Core>(core: &C, a: u16, b: u16) -> Result<(), Cause>
     ensures { result ≡ suppression_told (C.cells core.now) a b }
 {
-    test_places(core, a, b)?;
-    let count = known_length(core, a)?;
-    test_room(count, b)?;
+    let count = known_field(core, a, b)?;
     test_apart(overlaps(a, b, count))
 }
 
-/// Whether the `a_count` positions up to A and the `b_count` up to B have one in common.
-fn is_sharing(a: u16, a_count: u16, b: u16, b_count: u16) -> bool
-    requires a_below { a < largest_size }
-    requires b_below { b < largest_size }
-    requires a_room { a_count ≤ a + 1 }
-    requires b_room { b_count ≤ b + 1 }
-    ensures { result ≡ is_sharing a a_count b b_count }
-{
-    a < b + a_count && b < a + b_count
-}
-
 /// Why the amount at A cannot be edited by the control field at B.
-#[tactic(auto, unfolding(crate::specs::Fields::edit_told))]
+#[tactic(auto, unfolding(crate::specs::Fields::edit_told, crate::specs::Fields::places_wanted))]
 pub(crate) fn test_edit<C: Core>(core: &C, a: u16, b: u16) -> Result<(), Cause>
     ensures { result ≡ edit_told (C.cells core.now) a b }
 {
     test_places(core, a, b)?;
     let b_count = known_length(core, b)?;
-    let a_count = known_cut(core, a, places_wanted(core, b, b_count))?;
-    test_apart(is_sharing(a, a_count, b, b_count))
+    let a_count = known_cut(core, a, data_count(core, b, b_count))?;
+    test_apart(shares(a, a_count, b, b_count))
 }

@@ -1,11 +1,12 @@
 //! The operands of an operation: how long they are, and whether they overlap.
 
-ghost use Rattle.std.specs.Prelude.{◌≡◌, ◌+◌, ◌<◌, ◌≤◌, ℕ, length, IsTrue, IfSome};
+ghost use Rattle.std.specs.Prelude.{◌≡◌, ◌+◌, ◌<◌, ◌≤◌, ℕ, true, false, length, IsTrue, IfSome, IfErr, OnOk};
 ghost use Rattle.bcd.specs.Table.{zone_of};
 ghost use Rattle.core_store.specs.Storage.{code_at, field_length, largest_size};
 ghost use Rattle.core_store.specs.Operands.{are_inside, is_overlapping, cut_length, is_minus_zone};
+ghost use Rattle.core_store.specs.declared.checks.Check.TheVariants.{Address};
 
-use crate::Core;
+use crate::{Check, Core};
 use bcd::Zone;
 
 /// Whether both are positions of the storage.
@@ -16,6 +17,22 @@ pub fn are_inside<C: Core>(core: &C, a: u16, b: u16) -> bool
         × (b < length (C.cells core.now)) × (a < largest_size) × (b < largest_size) }
 {
     a < core.size() && b < core.size()
+}
+
+/// Fails with check ADDRESS unless both are positions of the storage.
+#[inline(always)]
+pub fn check_inside<C: Core>(core: &C, a: u16, b: u16) -> Result<(), Check>
+    ensures inside { OnOk result (are_inside (C.cells core.now) a b ≡ true) }
+    ensures below { OnOk result ((a < length (C.cells core.now))
+        × (b < length (C.cells core.now)) × (a < largest_size) × (b < largest_size)) }
+    ensures check { IfErr result (λ check. (check ≡ Address)
+        × (are_inside (C.cells core.now) a b ≡ false)) }
+{
+    if are_inside(core, a, b) {
+        Ok(())
+    } else {
+        Err(Check::Address)
+    }
 }
 
 /// Whether some of `count` characters at A are overwritten by those put at B before they are read.

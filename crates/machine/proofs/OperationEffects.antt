@@ -1,7 +1,9 @@
 -- what an operation does, by the character that names it
 use Rattle.std.proofs.Common.{◌≡◌, ℕ, Result, Ok, Err, sym, subst, ap, ◌∙◌}
+use Rattle.std.specs.Result.{IsErrAnd}
 use Rattle.core_store.specs.declared.checks.Check.{Check}
 use Rattle.units.specs.declared.fault.Fault.{Fault}
+use Rattle.units.specs.declared.fault.Fault.TheVariants.{Stopped}
 use Rattle.machine.specs.declared.instruction.Instruction.{Instruction}
 use Rattle.machine.specs.declared.operations.Course.{Course}
 use Rattle.machine.specs.Effect.{Works, effect, Fails, Ends}
@@ -18,3 +20,9 @@ pub ends_as : (i : Instruction) (next code : ℕ) → i.first ≡ code → (resu
 ends_as i next code same result w after h =
     ends_by result w after (effect (operation_by i.first) (decoded_by i) next) (effect (operation_by code) (decoded_by i) next)
     (ap (λ k. effect (operation_by k) (decoded_by i) next w) same) h
+
+-- a call that was stopped returned its check as the fault
+pub ends_stopped : (r : Result Course Fault) (check : Check) → IsErrAnd r (λ fault. fault ≡ Stopped check) →
+    (w after : Works) (effect : Works → Result (Works × Course) Check) → effect w ≡ Err check → after ≡ w → Ends r w after effect
+ends_stopped (Ok course) check stopped w after effect e same = absurd stopped
+ends_stopped (Err fault) check stopped w after effect e same = (subst (λ f. Fails f w (effect w)) (sym stopped) e, same)

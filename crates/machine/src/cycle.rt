@@ -68,10 +68,7 @@ fn carry_out<C: Core>(
     ensures { Ends result (works_of (C.cells core.old) registers.old units.old)
         (works_of (C.cells core.new) registers.new units.new) attempt }
 {
-    let (a, b) = match operands(core, registers, &shape.addresses) {
-        Ok(operands) => operands,
-        Err(check) => return Err(Fault::Stopped(check)),
-    };
+    let (a, b) = operands(core, registers, &shape.addresses)?;
     execute_shape(core, registers, units, shape, a, b)
 }
 
@@ -117,10 +114,7 @@ fn attempt_anew<C: Core>(
     ensures { Ends result (works_of (C.cells core.old) registers.old units.old)
         (works_of (C.cells core.new) registers.new units.new) attempt }
 {
-    let shape = match read_here(core, registers) {
-        Ok(shape) => shape,
-        Err(check) => return Err(Fault::Stopped(check)),
-    };
+    let shape = read_here(core, registers)?;
     keep(cache, core, registers.i, shape);
     carry_out(core, registers, units, &shape)
 }
@@ -135,10 +129,7 @@ fn attempt_alone<C: Core>(
     ensures { Ends result (works_of (C.cells core.old) registers.old units.old)
         (works_of (C.cells core.new) registers.new units.new) attempt }
 {
-    let shape = match read_here(core, registers) {
-        Ok(shape) => shape,
-        Err(check) => return Err(Fault::Stopped(check)),
-    };
+    let shape = read_here(core, registers)?;
     carry_out(core, registers, units, &shape)
 }
 

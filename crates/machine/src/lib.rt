@@ -37,6 +37,7 @@ mod whole_runs;
 pub use decode::{Word, character, instructions_end_at_marks, word_length};
 pub use earlier::{earlier_outputs_stay_in_front, outputs_are_put_back};
 pub use forms::{addresses_in, allows, has_form};
+pub use instruction::Instruction;
 pub use meter::Meter;
 pub use parts::Parts;
 pub use reports::Report;

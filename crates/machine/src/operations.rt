@@ -281,9 +281,7 @@ fn clear<C: Core>(
         b: instruction.b,
         ..*registers
     };
-    if let Err(check) = clear_storage(core, &mut filled) {
-        return Err(Fault::Stopped(check));
-    }
+    clear_storage(core, &mut filled)?;
     *registers = filled;
     if instruction.length == 7 {
         take_branch(registers, instruction, next);
@@ -306,9 +304,7 @@ fn store_a<C: Core>(
         (works_of (C.cells core.new) registers.new units)
         (effect StoreA (decoded_by instruction) next) }
 {
-    if let Err(check) = store(core, instruction.a, registers.a) {
-        return Err(Fault::Stopped(check));
-    }
+    store(core, instruction.a, registers.a)?;
     registers.i = next;
     registers.b = lower(instruction.a, 3);
     Ok(Course::GoesOn)
@@ -327,9 +323,7 @@ fn store_b<C: Core>(
         (works_of (C.cells core.new) registers.new units)
         (effect StoreB (decoded_by instruction) next) }
 {
-    if let Err(check) = store(core, instruction.a, registers.b) {
-        return Err(Fault::Stopped(check));
-    }
+    store(core, instruction.a, registers.b)?;
     registers.i = next;
     registers.a = lower(instruction.a, 3);
     Ok(Course::GoesOn)
@@ -374,9 +368,7 @@ fn give_order(
         (effect MoveCarriage (decoded_by instruction) next) }
 {
     if let Some(order) = CarriageOrder::of_code(instruction.last) {
-        if let Err(check) = move_carriage(&mut units.printer, order) {
-            return Err(Fault::Stopped(check));
-        }
+        move_carriage(&mut units.printer, order)?;
         registers.i = next;
         return Ok(Course::GoesOn);
     }
@@ -399,9 +391,7 @@ fn select_pocket(
         (effect ChoosePocket (decoded_by instruction) next) }
 {
     let pocket = Pocket::of_code(instruction.last).unwrap_or(Pocket::Normal);
-    if let Err(check) = choose_pocket(&mut units.punch, pocket) {
-        return Err(Fault::Stopped(check));
-    }
+    choose_pocket(&mut units.punch, pocket)?;
     registers.i = next;
     Ok(Course::GoesOn)
 }

@@ -1,4 +1,5 @@
 pub mod Characters
+pub mod Stretches
 pub mod Parts
 pub mod Marks
 pub mod Moved

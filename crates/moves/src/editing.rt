@@ -7,6 +7,7 @@ ghost use Rattle.core_store.specs.Operands.{are_inside, cut_length};
 ghost use Rattle.moves.specs.Blanked.{ends, leading, blanked};
 ghost use Rattle.moves.specs.Characters.{bare_units};
 ghost use Rattle.moves.specs.declared.blanking.Stop.TheVariants.{Digit};
+ghost use Rattle.moves.specs.Stretches.{AreIn, IsIn};
 ghost use Rattle.moves.specs.Edited.{edited, is_minus, is_place, is_sharing, places, field_edited, IsShown};
 
 use crate::blanking::{Stop, blank_near, blank_start};
@@ -14,7 +15,9 @@ use crate::control::edit_codes;
 use crate::filling::{data_count, fill};
 use crate::lanes;
 use crate::near::put_last;
-use core_store::{Check, Core, Registers, are_inside, cut_length, field_length, is_minus};
+use core_store::{
+    Check, Core, Registers, are_inside, check_inside, cut_length, field_length, is_minus,
+};
 
 /// The number of data characters at A and of control characters at B.
 #[derive(Clone, Copy, Debug, PartialEq, Eq)]
@@ -25,7 +28,7 @@ struct Counts {
 
 /// Whether two ranges of positions, which end at A and at B, have one in common.
 #[inline(always)]
-fn shares(a: u16, a_count: u16, b: u16, b_count: u16) -> bool
+pub fn shares(a: u16, a_count: u16, b: u16, b_count: u16) -> bool
     requires a { a < largest_size }
     requires b { b < largest_size }
     requires a_count { a_count ≤ largest_size }
@@ -40,9 +43,7 @@ fn shares(a: u16, a_count: u16, b: u16, b_count: u16) -> bool
 #[inline(always)]
 #[tactic(auto, using(crate::proofs::FillingLemmas::ending_is_from))]
 fn blank_left<C: Core>(core: &mut C, b: u16, count: u16, through: u16)
-    requires within { b < length (C.cells core.old) }
-    requires from { count ≤ b + 1 }
-    requires below { b < largest_size }
+    requires stretch { IsIn (C.cells core.old) b count }
     requires limit { through ≤ count }
     ensures codes { C.cells core.new ≡ put_codes (C.cells core.old) (b + 1 - count)
         (blanked (min through (leading (ends Digit) (codes_ending (C.cells core.old) b count)))
@@ -60,10 +61,7 @@ fn blank_left<C: Core>(core: &mut C, b: u16, count: u16, through: u16)
 #[inline(always)]
 #[tactic(auto, using(crate::proofs::FillingLemmas::all_edited))]
 fn fill_blanked<C: Core>(core: &mut C, a: u16, a_count: u16, b: u16, b_count: u16)
-    requires a_in { a < length (C.cells core.old) }
-    requires b_in { b < length (C.cells core.old) }
-    requires a_from { a_count ≤ a + 1 }
-    requires b_from { b_count ≤ b + 1 }
+    requires stretches { AreIn (C.cells core.old) a b a_count b_count }
     requires a_some { 1 ≤ a_count }
     requires below { b < largest_size }
     requires apart { is_sharing a a_count b b_count ≡ false }
@@ -179,15 +177,9 @@ fn edit_far<C: Core>(core: &mut C, registers: &mut Registers) -> Result<(), Chec
         (C.cells core.new) registers.new field_edited }
 {
     let Registers { a, b, .. } = *registers;
-    if !are_inside(core, a, b) {
-        return Err(Check::Address);
-    }
-    let Some(b_count) = field_length(core, b) else {
-        return Err(Check::Address);
-    };
-    let Some(a_count) = cut_length(core, a, data_count(core, b, b_count)) else {
-        return Err(Check::Address);
-    };
+    check_inside(core, a, b)?;
+    let b_count = field_length(core, b).ok_or(Check::Address)?;
+    let a_count = cut_length(core, a, data_count(core, b, b_count)).ok_or(Check::Address)?;
     if shares(a, a_count, b, b_count) {
         return Err(Check::Overlap);
     }

@@ -3,6 +3,7 @@
 ghost use Rattle.std.specs.Prelude.{◌≡◌, ◌+◌, ◌-◌, ◌<◌, ◌≤◌, ◌==◌, ◌&&◌, ℕ, false, length, codes, max, if◌then◌else◌};
 ghost use Rattle.core_store.specs.Storage.{codes_ending, put_codes, largest_size};
 ghost use Rattle.moves.specs.Characters.{is_any, bare_units, from_right};
+ghost use Rattle.moves.specs.Stretches.{AreIn, IsIn};
 ghost use Rattle.moves.specs.Edited.{is_place, places, filled_code, filled, through_zero, is_minus, is_sharing};
 
 use crate::lanes;
@@ -33,9 +34,7 @@ fn add_place(places: u16, code: Code) -> u16
 #[inline(never)]
 #[tactic(auto, using(crate::proofs::FillingLemmas::places_none, crate::proofs::FillingLemmas::places_more))]
 fn places_far<C: Core>(core: &C, b: u16, count: u16) -> u16
-    requires within { b < length (C.cells core.now) }
-    requires from { count ≤ b + 1 }
-    requires below { b < largest_size }
+    requires { IsIn (C.cells core.now) b count }
     ensures places { result ≡ places (codes_ending (C.cells core.now) b count) }
     ensures limit { result ≤ count }
 {
@@ -50,9 +49,7 @@ fn places_far<C: Core>(core: &C, b: u16, count: u16) -> u16
 #[inline(always)]
 #[tactic(auto, using(crate::proofs::LaneLemmas::near_long, crate::proofs::LaneLemmas::near_places))]
 fn places<C: Core>(core: &C, b: u16, count: u16) -> u16
-    requires within { b < length (C.cells core.now) }
-    requires from { count ≤ b + 1 }
-    requires below { b < largest_size }
+    requires { IsIn (C.cells core.now) b count }
     ensures places { result ≡ places (codes_ending (C.cells core.now) b count) }
     ensures limit { result ≤ count }
 {
@@ -136,10 +133,7 @@ fn filled_code(minus: bool, count: u16, right: u16, digit: Code, code: Code) -> 
 /// without a zero.
 #[tactic(auto, using(crate::proofs::FillingLemmas::fill_none, crate::proofs::FillingLemmas::places_none, crate::proofs::FillingLemmas::sign_is, crate::proofs::FillingLemmas::seen_none))]
 pub fn fill<C: Core>(core: &mut C, a: u16, a_count: u16, b: u16, b_count: u16) -> u16
-    requires a_in { a < length (C.cells core.old) }
-    requires b_in { b < length (C.cells core.old) }
-    requires a_from { a_count ≤ a + 1 }
-    requires b_from { b_count ≤ b + 1 }
+    requires stretches { AreIn (C.cells core.old) a b a_count b_count }
     requires a_some { 1 ≤ a_count }
     requires below { b < largest_size }
     requires apart { is_sharing a a_count b b_count ≡ false }

@@ -1,23 +1,20 @@
 //! A field loaded with its word mark.
 
-ghost use Rattle.std.specs.Prelude.{◌≡◌, ◌+◌, ◌-◌, ◌<◌, ◌≤◌, ℕ, true, false, Some, length, Ok};
+ghost use Rattle.std.specs.Prelude.{◌≡◌, ◌+◌, ◌-◌, ◌<◌, ℕ, true, false, Some, length, Ok};
 ghost use Rattle.core_store.specs.Doing.{Does};
 ghost use Rattle.core_store.specs.Storage.{Storage, cells_ending, field_length, put_cells, largest_size};
 ghost use Rattle.core_store.specs.declared.registers.Registers.{Registers};
+ghost use Rattle.moves.specs.Stretches.{AreNear};
 ghost use Rattle.moves.specs.Loaded.{field_loaded, IsLoaded};
 
-use crate::near::{clear_near_marks, near_field, put_last};
-use core_store::{Check, Core, Registers, are_inside, field_length, overlaps};
+use crate::near::{clear_near_marks, far_field, near_field, put_last};
+use core_store::{Check, Core, Registers};
 
 /// Copies a field of at most sixteen characters to B, all at once.
 #[inline(always)]
 #[tactic(auto, using(crate::proofs::LaneLemmas::near_long))]
 fn load_near<C: Core>(core: &mut C, a: u16, b: u16, count: u16)
-    requires a_in { a < length (C.cells core.old) }
-    requires b_in { b < length (C.cells core.old) }
-    requires a_room { 15 ≤ a }
-    requires b_room { 15 ≤ b }
-    requires most { count ≤ 16 }
+    requires near { AreNear (C.cells core.old) a b count }
     requires below { b < largest_size }
     requires field { field_length (C.cells core.old) a ≡ Some count }
     ensures { C.cells core.new ≡ put_cells (C.cells core.old) (b + 1 - count)
@@ -69,18 +66,7 @@ fn load_far<C: Core>(core: &mut C, registers: &mut Registers) -> Result<(), Chec
         (C.cells core.new) registers.new field_loaded }
 {
     let Registers { a, b, .. } = *registers;
-    if !are_inside(core, a, b) {
-        return Err(Check::Address);
-    }
-    let Some(count) = field_length(core, a) else {
-        return Err(Check::Address);
-    };
-    if count > b + 1 {
-        return Err(Check::Address);
-    }
-    if overlaps(a, b, count) {
-        return Err(Check::Address);
-    }
+    let count = far_field(core, a, b, Check::Address)?;
     core.move_cells(a, b, count);
     registers.lower(count, count);
     Ok(())

@@ -5,10 +5,11 @@ ghost use Rattle.core_store.specs.Doing.{Does};
 ghost use Rattle.core_store.specs.Storage.{Storage, put_codes, largest_size};
 ghost use Rattle.core_store.specs.Operands.{are_inside, is_overlapping};
 ghost use Rattle.core_store.specs.declared.registers.Registers.{Registers};
+ghost use Rattle.moves.specs.Stretches.{AreIn, AreNear};
 ghost use Rattle.moves.specs.Moved.{least_of, move_length, moved_codes, moved, IsMoved};
 
 use crate::near::put_last;
-use core_store::{Check, Core, Registers, are_inside, field_length, overlaps};
+use core_store::{Check, Core, Registers, are_inside, check_inside, field_length, overlaps};
 
 /// The smaller of two counts; if only one is present, that one.
 #[inline(always)]
@@ -45,7 +46,7 @@ fn near_shared<C: Core>(core: &C, a: u16, b: u16) -> Option<u16>
 /// The number of characters of a move: up to the first mark in either field.
 #[inline(always)]
 #[tactic(auto, unfolding(crate::specs::Moved::move_length))]
-fn move_length<C: Core>(core: &C, a: u16, b: u16) -> Option<u16>
+pub fn move_length<C: Core>(core: &C, a: u16, b: u16) -> Option<u16>
     requires a_in { a < length (C.cells core.now) }
     requires b_in { b < length (C.cells core.now) }
     requires a_below { a < largest_size }
@@ -69,36 +70,21 @@ fn have_room(a: u16, b: u16, count: u16) -> bool
     count <= a + 1 && count <= b + 1
 }
 
-/// Copies the characters that end at A to those that end at B, one by one from the right.
-#[tactic(auto, using(crate::proofs::MovingLemmas::move_none))]
-fn ripple<C: Core>(core: &mut C, a: u16, b: u16, count: u16)
-    requires a_in { a < length (C.cells core.old) }
-    requires b_in { b < length (C.cells core.old) }
-    requires a_from { count ≤ a + 1 }
-    requires b_from { count ≤ b + 1 }
+/// Copies the characters that end at A to those that end at B: all at once if no character is
+/// overwritten before it is copied, else one by one from the right.
+#[tactic(auto, using(crate::proofs::MovingLemmas::move_none, crate::proofs::MovingLemmas::moved_apart))]
+fn copy_codes<C: Core>(core: &mut C, a: u16, b: u16, count: u16)
+    requires stretches { AreIn (C.cells core.old) a b count count }
     ensures { C.cells core.new
         ≡ put_codes (C.cells core.old) (b + 1 - count) (moved_codes (C.cells core.old) a b count) }
 {
+    if !overlaps(a, b, count) {
+        core.move_codes(a, b, count);
+        return;
+    }
     for i in 0..count {
         let code = core.get(a - i);
         core.put(b - i, code);
-    }
-}
-
-/// Copies as `ripple` does, but all at once if no character is overwritten before it is copied.
-#[tactic(auto, using(crate::proofs::MovingLemmas::moved_apart))]
-fn copy_codes<C: Core>(core: &mut C, a: u16, b: u16, count: u16)
-    requires a_in { a < length (C.cells core.old) }
-    requires b_in { b < length (C.cells core.old) }
-    requires a_from { count ≤ a + 1 }
-    requires b_from { count ≤ b + 1 }
-    ensures { C.cells core.new
-        ≡ put_codes (C.cells core.old) (b + 1 - count) (moved_codes (C.cells core.old) a b count) }
-{
-    if overlaps(a, b, count) {
-        ripple(core, a, b, count);
-    } else {
-        core.move_codes(a, b, count);
     }
 }
 
@@ -127,11 +113,7 @@ fn near_count<C: Core>(core: &C, a: u16, b: u16) -> Option<u16>
 #[inline(always)]
 #[tactic(auto, using(crate::proofs::LaneLemmas::near_long))]
 fn move_near<C: Core>(core: &mut C, a: u16, b: u16, count: u16)
-    requires a_in { a < length (C.cells core.old) }
-    requires b_in { b < length (C.cells core.old) }
-    requires a_room { 15 ≤ a }
-    requires b_room { 15 ≤ b }
-    requires most { count ≤ 16 }
+    requires near { AreNear (C.cells core.old) a b count }
     requires apart { is_overlapping a b count ≡ false }
     ensures { C.cells core.new
         ≡ put_codes (C.cells core.old) (b + 1 - count) (moved_codes (C.cells core.old) a b count) }
@@ -178,12 +160,8 @@ fn move_far<C: Core>(core: &mut C, registers: &mut Registers) -> Result<(), Chec
         (C.cells core.new) registers.new moved }
 {
     let Registers { a, b, .. } = *registers;
-    if !are_inside(core, a, b) {
-        return Err(Check::Address);
-    }
-    let Some(count) = move_length(core, a, b) else {
-        return Err(Check::Address);
-    };
+    check_inside(core, a, b)?;
+    let count = move_length(core, a, b).ok_or(Check::Address)?;
     if !have_room(a, b, count) {
         return Err(Check::Address);
     }

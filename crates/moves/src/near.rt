@@ -1,11 +1,14 @@
 //! Fields of at most sixteen characters, written at once.
 
-ghost use Rattle.std.specs.Prelude.{◌≡◌, ◌+◌, ◌-◌, ◌<◌, ◌≤◌, ℕ, All, drop, length, true, false, Some, IfSome};
+ghost use Rattle.std.specs.Prelude.{◌≡◌, ◌+◌, ◌-◌, ◌<◌, ◌≤◌, ℕ, All, drop, length, nat_le, not, true, false, Some, Ok, IfSome, IfOk};
 ghost use Rattle.core_store.specs.Storage.{field_length, put_codes, largest_size};
 ghost use Rattle.core_store.specs.Operands.{are_inside, is_overlapping};
+ghost use Rattle.core_store.specs.Checked.{require, find_or};
+ghost use Rattle.core_store.specs.declared.checks.Check.TheVariants.{Address};
+ghost use Rattle.moves.specs.Stretches.{IsIn};
 ghost use Rattle.moves.specs.Suppressed.{unmarked};
 
-use core_store::{Core, are_inside, last_of, overlaps};
+use core_store::{Check, Core, are_inside, check_inside, field_length, last_of, overlaps};
 use std::simd::prelude::*;
 
 /// Writes the last `count` of sixteen characters to the positions that end at B. Marks stay.
@@ -28,9 +31,7 @@ pub fn put_last<C: Core>(core: &mut C, b: u16, count: u16, codes: u8x16)
 /// Clears the marks of `count` positions that end at B.
 #[tactic(auto, using(crate::proofs::Copying::unmark_step, crate::proofs::Copying::unmark_none, crate::proofs::Copying::length_with_mark))]
 pub fn clear_marks<C: Core>(core: &mut C, b: u16, count: u16)
-    requires within { b < length (C.cells core.old) }
-    requires from { count ≤ b + 1 }
-    requires below { b < largest_size }
+    requires { IsIn (C.cells core.old) b count }
     ensures marks { C.cells core.new ≡ unmarked (C.cells core.old) (b + 1 - count) count }
     ensures size { length (C.cells core.new) ≡ length (C.cells core.old) }
 {
@@ -76,4 +77,29 @@ pub fn near_field<C: Core>(core: &C, a: u16, b: u16) -> Option<u16>
         return None;
     }
     Some(count)
+}
+
+/// The number of characters of the field at A, of any length. Check ADDRESS if A or B is outside
+/// the storage, or if the field would pass position 000 at A or, copied, at B; `overlap` if, copied
+/// to B, it would be overwritten before it is read.
+#[inline(always)]
+pub fn far_field<C: Core>(core: &C, a: u16, b: u16, overlap: Check) -> Result<u16, Check>
+    ensures field { result ≡ require (are_inside (C.cells core.now) a b) Address
+        (find_or (field_length (C.cells core.now) a) Address (λ count.
+        require (nat_le count (b + 1)) Address
+        (require (not (is_overlapping a b count)) overlap (Ok count)))) }
+    ensures within { IfOk result (λ count. (a < length (C.cells core.now))
+        × (b < length (C.cells core.now)) × (a < largest_size) × (b < largest_size)) }
+    ensures room { IfOk result (λ count. (count ≤ a + 1) × (count ≤ b + 1)) }
+    ensures apart { IfOk result (λ count. is_overlapping a b count ≡ false) }
+{
+    check_inside(core, a, b)?;
+    let count = field_length(core, a).ok_or(Check::Address)?;
+    if count > b + 1 {
+        return Err(Check::Address);
+    }
+    if overlaps(a, b, count) {
+        return Err(overlap);
+    }
+    Ok(count)
 }

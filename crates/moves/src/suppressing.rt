@@ -5,14 +5,15 @@ ghost use Rattle.core_store.specs.Doing.{Does};
 ghost use Rattle.core_store.specs.Storage.{code_at, codes_ending, put_codes, largest_size};
 ghost use Rattle.core_store.specs.Operands.{is_overlapping};
 ghost use Rattle.moves.specs.Characters.{bare, bare_units};
+ghost use Rattle.moves.specs.Stretches.{AreIn, AreNear};
 ghost use Rattle.moves.specs.Suppressed.{zeros_suppressed, unmarked, suppressed};
 
 use crate::blanking::{Stop, blank_start};
 use crate::characters::bare;
 use crate::lanes;
-use crate::near::{clear_marks, clear_near_marks, near_field, put_last};
+use crate::near::{clear_marks, clear_near_marks, far_field, near_field, put_last};
 use bcd::Code;
-use core_store::{Check, Core, Registers, are_inside, field_length, overlaps};
+use core_store::{Check, Core, Registers};
 
 /// The character at an index from the right, without its zone if it is the units.
 #[inline(always)]
@@ -29,10 +30,7 @@ pub fn bare_at<C: Core>(core: &C, position: u16, place: u16) -> Code
 /// Copies the characters that end at A to those that end at B, the units without zone.
 #[tactic(auto, using(crate::proofs::Copying::copy_none, crate::proofs::Copying::copied_on, crate::proofs::Copying::size_on))]
 fn copy_bare<C: Core>(core: &mut C, a: u16, b: u16, count: u16)
-    requires a_in { a < length (C.cells core.old) }
-    requires b_in { b < length (C.cells core.old) }
-    requires a_from { count ≤ a + 1 }
-    requires b_from { count ≤ b + 1 }
+    requires stretches { AreIn (C.cells core.old) a b count count }
     requires below { b < largest_size }
     requires apart { is_overlapping a b count ≡ false }
     ensures codes { C.cells core.new ≡ put_codes (C.cells core.old) (b + 1 - count)
@@ -48,10 +46,7 @@ fn copy_bare<C: Core>(core: &mut C, a: u16, b: u16, count: u16)
 /// Moves the characters that end at A to B, without marks and leading zeros.
 #[tactic(auto, using(crate::proofs::Copying::all_suppressed))]
 fn move_far<C: Core>(core: &mut C, a: u16, b: u16, count: u16)
-    requires a_in { a < length (C.cells core.old) }
-    requires b_in { b < length (C.cells core.old) }
-    requires a_from { count ≤ a + 1 }
-    requires b_from { count ≤ b + 1 }
+    requires stretches { AreIn (C.cells core.old) a b count count }
     requires below { b < largest_size }
     requires apart { is_overlapping a b count ≡ false }
     ensures { C.cells core.new ≡ put_codes (unmarked (C.cells core.old) (b + 1 - count) count)
@@ -66,11 +61,7 @@ fn move_far<C: Core>(core: &mut C, a: u16, b: u16, count: u16)
 #[inline(always)]
 #[tactic(auto, using(crate::proofs::LaneLemmas::near_long))]
 fn move_near<C: Core>(core: &mut C, a: u16, b: u16, count: u16)
-    requires a_in { a < length (C.cells core.old) }
-    requires b_in { b < length (C.cells core.old) }
-    requires a_room { 15 ≤ a }
-    requires b_room { 15 ≤ b }
-    requires most { count ≤ 16 }
+    requires near { AreNear (C.cells core.old) a b count }
     requires below { b < largest_size }
     ensures { C.cells core.new ≡ put_codes (unmarked (C.cells core.old) (b + 1 - count) count)
         (b + 1 - count) (suppressed (bare_units (codes_ending (C.cells core.old) a count))) }
@@ -110,18 +101,7 @@ fn suppress_far<C: Core>(core: &mut C, registers: &mut Registers) -> Result<(), 
         (C.cells core.new) registers.new zeros_suppressed }
 {
     let Registers { a, b, .. } = *registers;
-    if !are_inside(core, a, b) {
-        return Err(Check::Address);
-    }
-    let Some(count) = field_length(core, a) else {
-        return Err(Check::Address);
-    };
-    if count > b + 1 {
-        return Err(Check::Address);
-    }
-    if overlaps(a, b, count) {
-        return Err(Check::Overlap);
-    }
+    let count = far_field(core, a, b, Check::Overlap)?;
     move_far(core, a, b, count);
     registers.lower(count, count);
     Ok(())

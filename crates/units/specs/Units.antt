@@ -1,5 +1,5 @@
 -- the operations of the reader, the punch and the printer
-use Rattle.std.specs.Prelude.{ℕ, ◌+◌, ◌<◌, ◌≡◌, nat_lt, ◌&&◌, ◌==◌, ◌⊎◌, if◌then◌else◌, ◌++◌, [], ◌∷◌, length, Bool, Result, Ok, Err, slice_get}
+use Rattle.std.specs.Prelude.{ℕ, ◌+◌, ◌<◌, ◌≡◌, nat_lt, ◌&&◌, ◌==◌, ◌⊎◌, if◌then◌else◌, ◌++◌, [], ◌∷◌, length, Bool, Result, Ok, Err, IsOk, true, false, slice_get}
 use Rattle.std.specs.Int.RustNames.{bit_and}
 use Rattle.cards.specs.declared.decks.Card.{Card}
 use Rattle.cards.specs.Decks.{card_columns}
@@ -93,6 +93,12 @@ line_printed before s p =
       }) ∷ [];
       carriage = carriage;
     })))
+
+-- whether a unit is stopped, whatever is in storage: by this check, or not at all
+pub record IsStopped {T : Type 0} (stopped : Bool) (work : Storage → Result T Check) (by : Check) :
+    Type 0 where
+  pub check : stopped ≡ true → (s : Storage) → work s ≡ Err by
+  pub ready : stopped ≡ false → (s : Storage) → IsOk (work s)
 
 -- why an operation was given up: the check that stops it, or no memory for what it would have made
 abbrev pub GivesUp : {T : Type 0} → (T → Type 0) → Fault → Result T Check → Type 0

@@ -1,9 +1,9 @@
 //! Operations in which several units work together.
 
-ghost use Rattle.std.specs.Prelude.{◌≡◌, ◌≤◌, ◌⊎◌, true, false, length, Ok, Err, IsOk, OnOk, OnErr, IfErr};
+ghost use Rattle.std.specs.Prelude.{◌≡◌, ◌≤◌, ◌⊎◌, length, Ok, Err, IsOk, OnOk, OnErr, IfErr};
 ghost use Rattle.core_store.specs.Storage.{Storage};
 ghost use Rattle.core_store.specs.declared.checks.Check.TheVariants.{ReaderEmpty, PunchFull, PrinterFull};
-ghost use Rattle.units.specs.Units.{areas_end, punch_area_end, read_area_end, reader_works, punch_works, printer_works, operated, PunchFails, PrintFails, OperationFails};
+ghost use Rattle.units.specs.Units.{areas_end, punch_area_end, read_area_end, reader_works, punch_works, printer_works, operated, IsStopped, PunchFails, PrintFails, OperationFails};
 
 use crate::devices::Devices;
 use crate::fault::Fault;
@@ -18,10 +18,7 @@ impl Units {
     /// Whether the reader has no card for an operation that reads.
     #[tactic(auto, unfolding(crate::specs::Units::reader_works))]
     fn reader_stops(&self, devices: Devices) -> bool
-        ensures check { result ≡ true → (s : Storage) →
-            reader_works devices s self.now.hopper ≡ Err ReaderEmpty }
-        ensures ready { result ≡ false → (s : Storage) →
-            IsOk (reader_works devices s self.now.hopper) }
+        ensures { IsStopped result (λ s. reader_works devices s self.now.hopper) ReaderEmpty }
     {
         devices.contains(Devices::READER) && self.hopper.has_no_card()
     }
@@ -29,10 +26,8 @@ impl Units {
     /// Whether the punch has no room for the card of an operation.
     #[tactic(auto, unfolding(crate::specs::Units::punch_works))]
     fn punch_stops(&self, devices: Devices) -> bool
-        ensures check { result ≡ true → (s : Storage) →
-            punch_works devices self.now.before.cards s self.now.punch ≡ Err PunchFull }
-        ensures ready { result ≡ false → (s : Storage) →
-            IsOk (punch_works devices self.now.before.cards s self.now.punch) }
+        ensures { IsStopped result
+            (λ s. punch_works devices self.now.before.cards s self.now.punch) PunchFull }
     {
         devices.contains(Devices::PUNCH) && self.punch.is_full(self.before.cards)
     }
@@ -40,10 +35,8 @@ impl Units {
     /// Whether the printer has no room for the line of an operation.
     #[tactic(auto, unfolding(crate::specs::Units::printer_works))]
     fn printer_stops(&self, devices: Devices) -> bool
-        ensures check { result ≡ true → (s : Storage) →
-            printer_works devices self.now.before.lines s self.now.printer ≡ Err PrinterFull }
-        ensures ready { result ≡ false → (s : Storage) →
-            IsOk (printer_works devices self.now.before.lines s self.now.printer) }
+        ensures { IsStopped result
+            (λ s. printer_works devices self.now.before.lines s self.now.printer) PrinterFull }
     {
         devices.contains(Devices::PRINTER) && self.printer.is_full(self.before.lines)
     }
@@ -148,9 +141,7 @@ fn work_makers<C: Core>(
 {
     let cards = punch.count();
     let chosen = punch.chosen;
-    if let Err(fault) = work_punch(core, punch, before.cards, devices) {
-        return Err(fault);
-    }
+    work_punch(core, punch, before.cards, devices)?;
     if let Err(fault) = work_printer(core, printer, before.lines, devices) {
         punch.take_back(cards, chosen);
         return Err(fault);
@@ -171,13 +162,9 @@ pub fn operate<C: Core>(core: &mut C, units: &mut Units, devices: Devices) -> Re
     ensures unchanged { OnErr result ((C.cells core.new ≡ C.cells core.old)
         × (units.new ≡ units.old)) }
 {
-    if let Err(check) = units.look_for_checks(devices) {
-        return Err(Fault::Stopped(check));
-    }
+    units.look_for_checks(devices)?;
     let before = units.before;
-    if let Err(fault) = work_makers(core, &mut units.punch, &mut units.printer, before, devices) {
-        return Err(fault);
-    }
+    work_makers(core, &mut units.punch, &mut units.printer, before, devices)?;
     work_reader(core, &mut units.hopper, devices);
     Ok(())
 }

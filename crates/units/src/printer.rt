@@ -1,9 +1,8 @@
 //! The printer, and the lines it has printed.
 
-ghost use Rattle.std.specs.Prelude.{◌≡◌, ◌≤◌, true, false, length, Ok, Err, IsOk, OnOk, OnErr, IfErr};
-ghost use Rattle.core_store.specs.Storage.{Storage};
+ghost use Rattle.std.specs.Prelude.{◌≡◌, ◌≤◌, length, Ok, Err, OnOk, OnErr, IfErr};
 ghost use Rattle.core_store.specs.declared.checks.Check.TheVariants.{PrinterFull};
-ghost use Rattle.units.specs.Units.{areas_end, line_printed, PrintFails};
+ghost use Rattle.units.specs.Units.{areas_end, line_printed, IsStopped, PrintFails};
 
 use crate::areas::{PRINT_AREA, codes_at};
 use crate::carriage::Carriage;
@@ -50,9 +49,7 @@ impl Printer {
     /// Whether the printer has made its greatest number of lines, `before` earlier ones and these,
     /// or the carriage would pass the last form after one more.
     pub(crate) fn is_full(&self, before: u32) -> bool
-        ensures check { result ≡ true → (s : Storage) →
-            line_printed before s self.now ≡ Err PrinterFull }
-        ensures ready { result ≡ false → (s : Storage) → IsOk (line_printed before s self.now) }
+        ensures { IsStopped result (λ s. line_printed before s self.now) PrinterFull }
     {
         self.lines.len() >= MOST_LINES.saturating_sub(before as usize)
             || self.carriage.after_line().is_none()

@@ -1,10 +1,9 @@
 //! The card punch.
 
-ghost use Rattle.std.specs.Prelude.{◌≡◌, ◌≤◌, true, false, length, take, Ok, Err, IsOk, OnOk, OnErr, IfErr};
-ghost use Rattle.core_store.specs.Storage.{Storage};
+ghost use Rattle.std.specs.Prelude.{◌≡◌, ◌≤◌, length, take, Ok, Err, OnOk, OnErr, IfErr};
 ghost use Rattle.core_store.specs.declared.checks.Check.TheVariants.{PunchFull};
 ghost use Rattle.units.specs.Pockets.{pocket_chosen};
-ghost use Rattle.units.specs.Units.{punch_area_end, card_punched, PunchFails};
+ghost use Rattle.units.specs.Units.{punch_area_end, card_punched, IsStopped, PunchFails};
 
 use crate::areas::{PUNCH_AREA, codes_at};
 use crate::fault::Fault;
@@ -48,9 +47,7 @@ impl Punch {
     /// Whether the punch has made its greatest number of cards: `before` earlier ones, and these.
     #[tactic(auto, unfolding(crate::specs::Units::card_punched))]
     pub(crate) fn is_full(&self, before: u32) -> bool
-        ensures check { result ≡ true → (s : Storage) →
-            card_punched before s self.now ≡ Err PunchFull }
-        ensures ready { result ≡ false → (s : Storage) → IsOk (card_punched before s self.now) }
+        ensures { IsStopped result (λ s. card_punched before s self.now) PunchFull }
     {
         self.cards.len() >= MOST_CARDS.saturating_sub(before as usize)
     }

@@ -1,10 +1,10 @@
 //! The card reader.
 
-ghost use Rattle.std.specs.Prelude.{◌≡◌, ◌==◌, ◌<◌, ◌≤◌, true, false, length, Ok, Err, IsOk};
+ghost use Rattle.std.specs.Prelude.{◌≡◌, ◌==◌, ◌<◌, ◌≤◌, false, length, Ok, Err};
 ghost use Rattle.core_store.specs.Doing.{Does};
-ghost use Rattle.core_store.specs.Storage.{Storage, put_codes};
+ghost use Rattle.core_store.specs.Storage.{put_codes};
 ghost use Rattle.core_store.specs.declared.checks.Check.TheVariants.{ReaderEmpty};
-ghost use Rattle.units.specs.Units.{read_area_end, card_read};
+ghost use Rattle.units.specs.Units.{read_area_end, card_read, IsStopped};
 
 use crate::areas::{READ_AREA, put_codes};
 use cards::{Card, Deck};
@@ -30,8 +30,7 @@ impl Hopper {
     #[tactic(auto, using(crate::proofs::OperationLemmas::card_there, crate::proofs::OperationLemmas::no_card))]
     pub(crate) fn has_no_card(&self) -> bool
         ensures left { result ≡ false → self.now.taken < length self.now.deck }
-        ensures check { result ≡ true → (s : Storage) → card_read s self.now ≡ Err ReaderEmpty }
-        ensures ready { result ≡ false → (s : Storage) → IsOk (card_read s self.now) }
+        ensures stopped { IsStopped result (λ s. card_read s self.now) ReaderEmpty }
     {
         self.taken as usize >= self.deck.cards().len()
     }

@@ -52,7 +52,7 @@ returns-then-minus_a-minus_b-clause-done g c _ =
     c.near_codes.ensures.codes c.near_codes-old.ensures.codes c.parts-parts_a.ensures c.parts-parts_b.ensures c.greater.ensures (sym c.is_over.ensures ∙ c.if-is_over.false) in
     let values = both_values s r.a r.b counts known room c.near_codes.result c.near_codes-old.result c.parts-parts_a.result c.parts-parts_b.result c.greater.result
     c.near_codes.ensures.codes c.near_codes-old.ensures.codes c.parts-parts_a.ensures c.parts-parts_b.ensures c.greater.ensures (sym c.is_over.ensures ∙ c.if-is_over.false) in
-    differed_is c.args.reversed s r counts c.in-Some.ensures.counts known room.1 room.2 (sym c.overlaps.ensures ∙ c.if-overlaps.false) numbers.0
+    differed_is c.args.reversed s r counts c.in-Some.ensures.counts known room.1 room.2 c.in-Some.ensures.apart numbers.0
     c.is_minus.result c.is_minus.ensures c.near_codes-old.result c.signed-signed.result c.difference-is_greater.result.0 c.near_codes-old.ensures.codes c.difference-is_greater.ensures.sixteen c.difference-is_greater.ensures.digits
     (g.C.Core.cells c.put_near_codes.new.self) c.lower.new.self c.lower.ensures
     (c.put_near_codes.ensures ∙ ap (put_codes s (r.b - 15)) c.write_digits.ensures.codes)
@@ -72,7 +72,7 @@ returns-clause-done g c _ =
     c.near_codes.ensures.codes c.near_codes-old.ensures.codes c.parts-parts_a.ensures c.parts-parts_b.ensures c.greater.ensures (sym c.is_over.ensures ∙ c.if-is_over.false) in
     let values = both_values s r.a r.b counts known room c.near_codes.result c.near_codes-old.result c.parts-parts_a.result c.parts-parts_b.result c.greater.result
     c.near_codes.ensures.codes c.near_codes-old.ensures.codes c.parts-parts_a.ensures c.parts-parts_b.ensures c.greater.ensures (sym c.is_over.ensures ∙ c.if-is_over.false) in
-    combined_is c.args.reversed s r counts c.in-Some.ensures.counts known room.0 room.1 (omega arith) (sym c.overlaps.ensures ∙ c.if-overlaps.false)
+    combined_is c.args.reversed s r counts c.in-Some.ensures.counts known room.0 room.1 (omega arith) c.in-Some.ensures.apart
     c.is_minus.result c.is_minus-minus_b.result c.is_minus.ensures c.is_minus-minus_b.ensures (not_differing _ _ c.if-minus_a-minus_b.false)
     c.near_codes-old.result c.sum-digits.result c.near_codes-old.ensures.codes c.sum-digits.ensures.sixteen c.sum-digits.ensures.digits numbers.0 numbers.1
     (c.sum-digits.ensures.number ∙ ap (λ n. n + number (map digit_of_part c.parts-parts_b.result)) values.0 ∙ ap (λ n. value (codes_ending s r.a counts.a) + n) values.1)

@@ -23,7 +23,7 @@ returns-clause-done g c _ =
     let a_number = field_number s r.a counts.a c.near_codes.result c.parts-parts.result room.0 known.a_in a_few c.near_codes.ensures.codes c.parts-parts.ensures small in
     let a_value = field_value s r.a counts.a c.near_codes.result c.parts-parts.result room.0 known.a_in a_few c.near_codes.ensures.codes c.parts-parts.ensures small in
     let a_long = parts_long s r.a counts.a c.near_codes.result c.parts-parts.result room.0 known.a_in a_few c.near_codes.ensures.codes c.parts-parts.ensures in
-    replaced_is c.args.reversed s r counts c.in-Some.ensures.counts known room.1 room.2 (sym c.overlaps.ensures ∙ c.if-overlaps.false) a_number
+    replaced_is c.args.reversed s r counts c.in-Some.ensures.counts known room.1 room.2 c.in-Some.ensures.apart a_number
     c.is_minus.result c.is_minus.ensures c.near_codes-2.result c.signed-signed.result c.digits.result c.near_codes-2.ensures.codes
     (ap length c.digits.ensures ∙ length-map c.parts-parts.result digit_of_part ∙ a_long) (rw c.digits.ensures (parts_digits c.parts-parts.result small))
     (g.C.Core.cells c.put_near_codes.new.self) c.lower.new.self c.lower.ensures

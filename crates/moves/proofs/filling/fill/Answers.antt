@@ -23,13 +23,13 @@ loop-i-preserved g c =
           let digit = w.data_at-digit.result in
           let put_is = ap g.C.Core.cells w.core-is ∙ w.put.ensures in
           record {
-            codes = filled_on s c.args.a c.args.a_count c.args.b c.args.b_count i c.requires.a_in c.requires.a_from c.requires.b_in c.requires.b_from i_in c.requires.apart c.is_minus-minus.result now c.loop-i.invariant.codes
+            codes = filled_on s c.args.a c.args.a_count c.args.b c.args.b_count i c.requires.stretches.a_in c.requires.stretches.a_from c.requires.stretches.b_in c.requires.stretches.b_from i_in c.requires.apart c.is_minus-minus.result now c.loop-i.invariant.codes
                 c.loop-i.right c.loop-i.invariant.right c.get-code.result c.get-code.ensures digit w.data_at-digit.ensures digit
                 (place_is_digit minus c.args.a_count right digit code place) next put_is;
-            right = right_on s c.args.a c.args.a_count c.args.b c.args.b_count i c.requires.a_in c.requires.a_from c.requires.b_in c.requires.b_from i_in c.requires.apart c.is_minus-minus.result now c.loop-i.invariant.codes
+            right = right_on s c.args.a c.args.a_count c.args.b c.args.b_count i c.requires.stretches.a_in c.requires.stretches.a_from c.requires.stretches.b_in c.requires.stretches.b_from i_in c.requires.apart c.is_minus-minus.result now c.loop-i.invariant.codes
                 c.loop-i.right c.loop-i.invariant.right c.get-code.result c.get-code.ensures c.if-is_place.right
                 (w.right-is ∙ sym (ap (λ b. if b then right + 1 else right) place));
-            through = through_on s c.args.a c.args.a_count c.args.b c.args.b_count i c.requires.a_in c.requires.a_from c.requires.b_in c.requires.b_from i_in c.requires.apart c.is_minus-minus.result now c.loop-i.invariant.codes
+            through = through_on s c.args.a c.args.a_count c.args.b c.args.b_count i c.requires.stretches.a_in c.requires.stretches.a_from c.requires.stretches.b_in c.requires.stretches.b_from i_in c.requires.apart c.is_minus-minus.result now c.loop-i.invariant.codes
                 c.loop-i.right c.loop-i.invariant.right c.get-code.result c.get-code.ensures (c.args.b_count - i) refl c.loop-i.through c.loop-i.invariant.through
                 c.if-is_place.through (w.through-is ∙ w.through_more-through.ensures.through);
             bound = omega (arith, w.right-is);
@@ -41,13 +41,13 @@ loop-i-preserved g c =
           let digit = from_right (bare_units (codes_ending now c.args.a c.args.a_count)) right in
           let put_is = ap g.C.Core.cells w.core-is ∙ w.put-else-is_place.ensures in
           record {
-            codes = filled_on s c.args.a c.args.a_count c.args.b c.args.b_count i c.requires.a_in c.requires.a_from c.requires.b_in c.requires.b_from i_in c.requires.apart c.is_minus-minus.result now c.loop-i.invariant.codes
+            codes = filled_on s c.args.a c.args.a_count c.args.b c.args.b_count i c.requires.stretches.a_in c.requires.stretches.a_from c.requires.stretches.b_in c.requires.stretches.b_from i_in c.requires.apart c.is_minus-minus.result now c.loop-i.invariant.codes
                 c.loop-i.right c.loop-i.invariant.right c.get-code.result c.get-code.ensures digit refl kept
                 (w.filled_code-kept.ensures ∙ other_is_kept minus c.args.a_count right w.blank.result digit code other) next put_is;
-            right = right_on s c.args.a c.args.a_count c.args.b c.args.b_count i c.requires.a_in c.requires.a_from c.requires.b_in c.requires.b_from i_in c.requires.apart c.is_minus-minus.result now c.loop-i.invariant.codes
+            right = right_on s c.args.a c.args.a_count c.args.b c.args.b_count i c.requires.stretches.a_in c.requires.stretches.a_from c.requires.stretches.b_in c.requires.stretches.b_from i_in c.requires.apart c.is_minus-minus.result now c.loop-i.invariant.codes
                 c.loop-i.right c.loop-i.invariant.right c.get-code.result c.get-code.ensures c.if-is_place.right
                 (w.right-is ∙ sym (ap (λ b. if b then right + 1 else right) other));
-            through = through_on s c.args.a c.args.a_count c.args.b c.args.b_count i c.requires.a_in c.requires.a_from c.requires.b_in c.requires.b_from i_in c.requires.apart c.is_minus-minus.result now c.loop-i.invariant.codes
+            through = through_on s c.args.a c.args.a_count c.args.b c.args.b_count i c.requires.stretches.a_in c.requires.stretches.a_from c.requires.stretches.b_in c.requires.stretches.b_from i_in c.requires.apart c.is_minus-minus.result now c.loop-i.invariant.codes
                 c.loop-i.right c.loop-i.invariant.right c.get-code.result c.get-code.ensures (c.args.b_count - i) refl c.loop-i.through c.loop-i.invariant.through
                 c.if-is_place.through (other_is_no_zero c.loop-i.through (c.args.b_count - i) code c.if-is_place.through other w.through-is);
             bound = omega (arith, w.right-is);
@@ -58,13 +58,13 @@ loop-i-preserved g c =
 pub returns-clause-through : goal.returns-clause-through
 returns-clause-through g c =
     let s = g.C.Core.cells c.args.core.now in
-    let long = length-codes_ending s c.args.b c.args.b_count c.requires.b_in c.requires.b_from in
+    let long = length-codes_ending s c.args.b c.args.b_count c.requires.stretches.b_in c.requires.stretches.b_from in
     seen_all (codes_ending s c.args.b c.args.b_count) c.loop-i.i c.loop-i.through (omega (arith, long)) c.loop-i.invariant.through
 
 pub returns-clause-limit : goal.returns-clause-limit
 returns-clause-limit g c =
     let s = g.C.Core.cells c.args.core.now in
     let control = codes_ending s c.args.b c.args.b_count in
-    let long = length-codes_ending s c.args.b c.args.b_count c.requires.b_in c.requires.b_from in
+    let long = length-codes_ending s c.args.b c.args.b_count c.requires.stretches.b_in c.requires.stretches.b_from in
     let through = seen_all control c.loop-i.i c.loop-i.through (omega (arith, long)) c.loop-i.invariant.through in
     omega (arith, long, through, through_within control)

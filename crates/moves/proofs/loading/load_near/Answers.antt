@@ -11,6 +11,6 @@ set_mark-requires g c =
 
 pub returns : goal.returns
 returns g c =
-    near_loaded (g.C.Core.cells c.args.core.now) c.args.a c.args.b c.args.count c.requires.a_in c.requires.b_in c.requires.a_room c.requires.b_room c.requires.most c.requires.field
+    near_loaded (g.C.Core.cells c.args.core.now) c.args.a c.args.b c.args.count c.requires.near.a_in c.requires.near.b_in c.requires.near.a_room c.requires.near.b_room c.requires.near.most c.requires.field
     c.near_codes-codes.result c.near_codes-codes.ensures.codes (g.C.Core.cells c.put_last.new.core) c.put_last.ensures.codes (g.C.Core.cells c.clear_near_marks.new.core) c.clear_near_marks.ensures.marks
     (g.C.Core.cells c.set_mark.new.self) c.set_mark.ensures

@@ -1,7 +1,7 @@
 use Rattle.std.proofs.Common.{◌≡◌, ◌+◌, ◌-◌, length}
 use Rattle.core_store.specs.Storage.{put_codes}
 use Rattle.moves.specs.Moved.{moved_codes}
-use Rattle.moves.proofs.moving.ripple.Given as goal
+use Rattle.moves.proofs.moving.copy_codes.Given as goal
 
 abbrev pub invariant-loop-i : goal.invariant-loop-i
 invariant-loop-i g l =
