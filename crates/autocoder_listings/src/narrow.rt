@@ -2,9 +2,8 @@
 
 ghost use Rattle.std.specs.Prelude.{◌≡◌, ◌++◌, IfOk, OnOk};
 ghost use Rattle.autocoder.specs.Listing.{glyphs_of, line_text};
-ghost use Rattle.autocoder_listings.specs.Narrow.{without_card, is_placed, further_rows, lines_below, narrow_lines};
+ghost use Rattle.autocoder_listings.specs.Narrow.{without_card, is_placed, further_rows};
 
-use crate::cards_shown::first_line;
 use crate::rows::{further_line, rows_for};
 use autocoder::{fills, push_glyphs, push_line};
 use autocoder_layout::{Cell, Slot};
@@ -27,7 +26,11 @@ fn without_card(alloc: Global, line: &[u8]) -> Result<Vec<u8>, AllocError>
 }
 
 /// Adds a line of the wide listing without its card.
-fn push_without_card(alloc: Global, text: &mut Vec<u8>, line: &[u8]) -> Result<(), AllocError>
+pub(crate) fn push_without_card(
+    alloc: Global,
+    text: &mut Vec<u8>,
+    line: &[u8],
+) -> Result<(), AllocError>
     ensures { OnOk result (text.new.items
         ≡ text.old.items ++ line_text (without_card line.now)) }
 {
@@ -36,7 +39,7 @@ fn push_without_card(alloc: Global, text: &mut Vec<u8>, line: &[u8]) -> Result<(
 }
 
 /// Adds the columns of a card.
-fn push_columns(alloc: Global, text: &mut Vec<u8>, card: &Card) -> Result<(), AllocError>
+pub(crate) fn push_columns(alloc: Global, text: &mut Vec<u8>, card: &Card) -> Result<(), AllocError>
     ensures { OnOk result (text.new.items ≡ text.old.items ++ line_text (glyphs_of card.now.0)) }
 {
     let mut line = Vec::new(alloc);
@@ -45,7 +48,11 @@ fn push_columns(alloc: Global, text: &mut Vec<u8>, card: &Card) -> Result<(), Al
 }
 
 /// Adds the lines of the rows after the first.
-fn push_further_rows(alloc: Global, text: &mut Vec<u8>, cells: &[Cell]) -> Result<(), AllocError>
+pub(crate) fn push_further_rows(
+    alloc: Global,
+    text: &mut Vec<u8>,
+    cells: &[Cell],
+) -> Result<(), AllocError>
     ensures { OnOk result (text.new.items ≡ text.old.items ++ further_rows cells.now) }
 {
     for number in 1..rows_for(cells.len()) {
@@ -56,49 +63,11 @@ fn push_further_rows(alloc: Global, text: &mut Vec<u8>, cells: &[Cell]) -> Resul
 }
 
 /// Whether a card has a place or places characters.
-fn is_placed(slot: &Slot, cells: &[Cell]) -> bool
+pub(crate) fn is_placed(slot: &Slot, cells: &[Cell]) -> bool
     ensures { result ≡ is_placed slot.now cells.now }
 {
     if cells.is_empty() {
         return fills(slot.role);
     }
     true
-}
-
-/// Adds the lines below a card.
-#[tactic(auto, unfolding(crate::specs::Narrow::lines_below))]
-fn push_below(
-    alloc: Global,
-    text: &mut Vec<u8>,
-    number: u64,
-    slot: &Slot,
-    card: &Card,
-    cells: &[Cell],
-) -> Result<(), AllocError>
-    ensures { OnOk result (text.new.items
-        ≡ text.old.items ++ lines_below number slot.now card.now cells.now) }
-{
-    if !is_placed(slot, cells) {
-        return Ok(());
-    }
-    let line = first_line(alloc, number, slot, card, cells)?;
-    push_without_card(alloc, text, &line)?;
-    push_further_rows(alloc, text, cells)
-}
-
-/// Adds the lines of a card, with its code below it.
-#[tactic(auto, unfolding(crate::specs::Narrow::narrow_lines))]
-pub(crate) fn push_narrow(
-    alloc: Global,
-    text: &mut Vec<u8>,
-    number: u64,
-    slot: &Slot,
-    card: &Card,
-    cells: &[Cell],
-) -> Result<(), AllocError>
-    ensures { OnOk result (text.new.items
-        ≡ text.old.items ++ narrow_lines number slot.now card.now cells.now) }
-{
-    push_columns(alloc, text, card)?;
-    push_below(alloc, text, number, slot, card, cells)
 }
