@@ -2,8 +2,9 @@
 
 ghost use Rattle.std.specs.Prelude.{◌≡◌, ◌++◌, IfOk, OnOk};
 ghost use Rattle.autocoder.specs.Listing.{glyphs_of, line_text};
-ghost use Rattle.autocoder_listings.specs.Narrow.{without_card, is_placed, further_rows};
+ghost use Rattle.autocoder_listings.specs.Narrow.{without_card, is_placed, further_rows, lines_below, narrow_lines};
 
+use crate::placed::Placed;
 use crate::rows::{further_line, rows_for};
 use autocoder::{fills, push_glyphs, push_line};
 use autocoder_layout::{Cell, Slot};
@@ -26,11 +27,7 @@ fn without_card(alloc: Global, line: &[u8]) -> Result<Vec<u8>, AllocError>
 }
 
 /// Adds a line of the wide listing without its card.
-pub(crate) fn push_without_card(
-    alloc: Global,
-    text: &mut Vec<u8>,
-    line: &[u8],
-) -> Result<(), AllocError>
+fn push_without_card(alloc: Global, text: &mut Vec<u8>, line: &[u8]) -> Result<(), AllocError>
     ensures { OnOk result (text.new.items
         ≡ text.old.items ++ line_text (without_card line.now)) }
 {
@@ -39,7 +36,7 @@ pub(crate) fn push_without_card(
 }
 
 /// Adds the columns of a card.
-pub(crate) fn push_columns(alloc: Global, text: &mut Vec<u8>, card: &Card) -> Result<(), AllocError>
+fn push_columns(alloc: Global, text: &mut Vec<u8>, card: &Card) -> Result<(), AllocError>
     ensures { OnOk result (text.new.items ≡ text.old.items ++ line_text (glyphs_of card.now.0)) }
 {
     let mut line = Vec::new(alloc);
@@ -48,11 +45,7 @@ pub(crate) fn push_columns(alloc: Global, text: &mut Vec<u8>, card: &Card) -> Re
 }
 
 /// Adds the lines of the rows after the first.
-pub(crate) fn push_further_rows(
-    alloc: Global,
-    text: &mut Vec<u8>,
-    cells: &[Cell],
-) -> Result<(), AllocError>
+fn push_further_rows(alloc: Global, text: &mut Vec<u8>, cells: &[Cell]) -> Result<(), AllocError>
     ensures { OnOk result (text.new.items ≡ text.old.items ++ further_rows cells.now) }
 {
     for number in 1..rows_for(cells.len()) {
@@ -63,11 +56,37 @@ pub(crate) fn push_further_rows(
 }
 
 /// Whether a card has a place or places characters.
-pub(crate) fn is_placed(slot: &Slot, cells: &[Cell]) -> bool
+fn is_placed(slot: &Slot, cells: &[Cell]) -> bool
     ensures { result ≡ is_placed slot.now cells.now }
 {
     if cells.is_empty() {
         return fills(slot.role);
     }
     true
+}
+
+impl Placed<'_> {
+    /// Adds the lines below the card in 80 columns.
+    #[tactic(auto, unfolding(crate::specs::Narrow::lines_below))]
+    fn push_below(&self, alloc: Global, text: &mut Vec<u8>) -> Result<(), AllocError>
+        ensures { OnOk result (text.new.items ≡ text.old.items ++ lines_below
+            self.now.number self.now.slot.now self.now.card.now self.now.cells.now) }
+    {
+        if !is_placed(self.slot, self.cells) {
+            return Ok(());
+        }
+        let line = self.first_line(alloc)?;
+        push_without_card(alloc, text, &line)?;
+        push_further_rows(alloc, text, self.cells)
+    }
+
+    /// Adds the lines of the card, with its code below it.
+    #[tactic(auto, unfolding(crate::specs::Narrow::narrow_lines))]
+    pub(crate) fn push_narrow(&self, alloc: Global, text: &mut Vec<u8>) -> Result<(), AllocError>
+        ensures { OnOk result (text.new.items ≡ text.old.items ++ narrow_lines
+            self.now.number self.now.slot.now self.now.card.now self.now.cells.now) }
+    {
+        push_columns(alloc, text, self.card)?;
+        self.push_below(alloc, text)
+    }
 }

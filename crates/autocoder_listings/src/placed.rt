@@ -4,9 +4,7 @@ ghost use Rattle.std.specs.Prelude.{◌≡◌, ◌++◌, length, IfOk, OnOk};
 ghost use Rattle.autocoder.specs.Listing.{card_line};
 ghost use Rattle.autocoder_listings.specs.Coded.{counted_line, first_line, lines_with_code};
 ghost use Rattle.autocoder_listings.specs.Listing.{lines_in};
-ghost use Rattle.autocoder_listings.specs.Narrow.{lines_below, narrow_lines};
 
-use crate::narrow::{is_placed, push_columns, push_further_rows, push_without_card};
 use crate::rows::{push_further_lines, push_row, row_at};
 use crate::widths::Width;
 use autocoder::{card_line, push_line, push_number};
@@ -51,7 +49,7 @@ impl Placed<'_> {
 
     /// The line of the card, with the first row of the code that it places.
     #[tactic(auto, unfolding(crate::specs::Coded::first_line))]
-    fn first_line(&self, alloc: Global) -> Result<Vec<u8>, AllocError>
+    pub(crate) fn first_line(&self, alloc: Global) -> Result<Vec<u8>, AllocError>
         ensures { IfOk result (λ line. line.items ≡ first_line self.now.number
             self.now.slot.now self.now.card.now self.now.cells.now) }
     {
@@ -72,30 +70,6 @@ impl Placed<'_> {
         let line = self.first_line(alloc)?;
         push_line(text, &line)?;
         push_further_lines(alloc, text, self.cells)
-    }
-
-    /// Adds the lines below the card in 80 columns.
-    #[tactic(auto, unfolding(crate::specs::Narrow::lines_below))]
-    fn push_below(&self, alloc: Global, text: &mut Vec<u8>) -> Result<(), AllocError>
-        ensures { OnOk result (text.new.items ≡ text.old.items ++ lines_below
-            self.now.number self.now.slot.now self.now.card.now self.now.cells.now) }
-    {
-        if !is_placed(self.slot, self.cells) {
-            return Ok(());
-        }
-        let line = self.first_line(alloc)?;
-        push_without_card(alloc, text, &line)?;
-        push_further_rows(alloc, text, self.cells)
-    }
-
-    /// Adds the lines of the card, with its code below it.
-    #[tactic(auto, unfolding(crate::specs::Narrow::narrow_lines))]
-    fn push_narrow(&self, alloc: Global, text: &mut Vec<u8>) -> Result<(), AllocError>
-        ensures { OnOk result (text.new.items ≡ text.old.items ++ narrow_lines
-            self.now.number self.now.slot.now self.now.card.now self.now.cells.now) }
-    {
-        push_columns(alloc, text, self.card)?;
-        self.push_below(alloc, text)
     }
 
     /// Adds the lines of the card.
