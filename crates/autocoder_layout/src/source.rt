@@ -47,10 +47,7 @@ impl Model for Source {
 fn is_end(card: &Card) -> bool
     ensures { result ≡ is_end card.now }
 {
-    match operation_of(card) {
-        Some(Operation::End) => true,
-        _ => false,
-    }
+    matches!(operation_of(card), Some(Operation::End))
 }
 
 /// Whether a card is a `CTL`, which gives the size of storage, even if it has a fault.
@@ -58,10 +55,7 @@ fn is_end(card: &Card) -> bool
 fn is_control(card: &Card) -> bool
     ensures { result ≡ is_control card.now }
 {
-    match operation_of(card) {
-        Some(Operation::Control) => true,
-        _ => false,
-    }
+    matches!(operation_of(card), Some(Operation::Control))
 }
 
 /// The index of the card that ends the source.

@@ -13,6 +13,7 @@ mod laws;
 mod listings;
 mod names;
 mod narrow;
+mod placed;
 mod rows;
 mod widths;
 

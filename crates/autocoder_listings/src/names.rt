@@ -183,44 +183,41 @@ fn push_name(
     push_users_lines(alloc, text, many, cards)
 }
 
-/// Adds the lines of the name that a card defines, if it defines one.
-#[tactic(auto, unfolding(crate::specs::Names::lines_of_defined))]
-fn push_defined(
-    alloc: Global,
-    text: &mut Vec<u8>,
+/// How the names of a source are listed: how many users stand on a line, and what its cards say.
+#[derive(Clone, Copy)]
+struct Table<'a> {
     many: usize,
-    lines: &[Line],
-    slot: &Slot,
-) -> Result<(), AllocError>
-    requires some { 0 < many }
-    requires deck { length lines.now ≤ largest_deck }
-    ensures { OnOk result (text.new.items
-        ≡ text.old.items ++ lines_of_defined many lines.now slot.now.defines) }
-{
-    let Some(definition) = slot.defines else {
-        return Ok(());
-    };
-    let cards = users(alloc, &definition.name, lines)?;
-    push_name(alloc, text, many, &definition, &cards)
+    lines: &'a [Line],
 }
 
-/// Adds the lines of the names that cards define.
-fn push_defined_names(
-    alloc: Global,
-    text: &mut Vec<u8>,
-    many: usize,
-    lines: &[Line],
-    slots: &[Slot],
-) -> Result<(), AllocError>
-    requires some { 0 < many }
-    requires deck { length lines.now ≤ largest_deck }
-    ensures { OnOk result (text.new.items ≡ text.old.items
-        ++ flat_map (λ slot. lines_of_defined many lines.now slot.defines) slots.now) }
-{
-    for slot in slots {
-        push_defined(alloc, text, many, lines, slot)?;
+impl Table<'_> {
+    /// Adds the lines of the name that a card defines, if it defines one.
+    #[tactic(auto, unfolding(crate::specs::Names::lines_of_defined))]
+    fn push_defined(&self, alloc: Global, text: &mut Vec<u8>, slot: &Slot) -> Result<(), AllocError>
+        requires some { 0 < self.now.many }
+        requires deck { length self.now.lines.now ≤ largest_deck }
+        ensures { OnOk result (text.new.items ≡ text.old.items
+            ++ lines_of_defined self.now.many self.now.lines.now slot.now.defines) }
+    {
+        let Some(definition) = slot.defines else {
+            return Ok(());
+        };
+        let cards = users(alloc, &definition.name, self.lines)?;
+        push_name(alloc, text, self.many, &definition, &cards)
     }
-    Ok(())
+
+    /// Adds the lines of the names that cards define.
+    fn push_all(&self, alloc: Global, text: &mut Vec<u8>, slots: &[Slot]) -> Result<(), AllocError>
+        requires some { 0 < self.now.many }
+        requires deck { length self.now.lines.now ≤ largest_deck }
+        ensures { OnOk result (text.new.items ≡ text.old.items ++ flat_map (λ slot.
+            lines_of_defined self.now.many self.now.lines.now slot.defines) slots.now) }
+    {
+        for slot in slots {
+            self.push_defined(alloc, text, slot)?;
+        }
+        Ok(())
+    }
 }
 
 /// Adds the table of the names.
@@ -236,6 +233,8 @@ pub(crate) fn push_names(
 {
     push_line(text, b"NAME   PLACE CARDS")?;
     let many = width.users_on_line();
-    push_defined_names(alloc, text, many, layout.source().lines(), layout.slots())?;
+    let lines = layout.source().lines();
+    let table = Table { many, lines };
+    table.push_all(alloc, text, layout.slots())?;
     Ok(())
 }

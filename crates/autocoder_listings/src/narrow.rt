@@ -4,7 +4,7 @@ ghost use Rattle.std.specs.Prelude.{◌≡◌, ◌++◌, IfOk, OnOk};
 ghost use Rattle.autocoder.specs.Listing.{glyphs_of, line_text};
 ghost use Rattle.autocoder_listings.specs.Narrow.{without_card, is_placed, further_rows, lines_below, narrow_lines};
 
-use crate::cards_shown::first_line;
+use crate::placed::Placed;
 use crate::rows::{further_line, rows_for};
 use autocoder::{fills, push_glyphs, push_line};
 use autocoder_layout::{Cell, Slot};
@@ -65,40 +65,28 @@ fn is_placed(slot: &Slot, cells: &[Cell]) -> bool
     true
 }
 
-/// Adds the lines below a card.
-#[tactic(auto, unfolding(crate::specs::Narrow::lines_below))]
-fn push_below(
-    alloc: Global,
-    text: &mut Vec<u8>,
-    number: u64,
-    slot: &Slot,
-    card: &Card,
-    cells: &[Cell],
-) -> Result<(), AllocError>
-    ensures { OnOk result (text.new.items
-        ≡ text.old.items ++ lines_below number slot.now card.now cells.now) }
-{
-    if !is_placed(slot, cells) {
-        return Ok(());
+impl Placed<'_> {
+    /// Adds the lines below the card in 80 columns.
+    #[tactic(auto, unfolding(crate::specs::Narrow::lines_below))]
+    fn push_below(&self, alloc: Global, text: &mut Vec<u8>) -> Result<(), AllocError>
+        ensures { OnOk result (text.new.items ≡ text.old.items ++ lines_below
+            self.now.number self.now.slot.now self.now.card.now self.now.cells.now) }
+    {
+        if !is_placed(self.slot, self.cells) {
+            return Ok(());
+        }
+        let line = self.first_line(alloc)?;
+        push_without_card(alloc, text, &line)?;
+        push_further_rows(alloc, text, self.cells)
     }
-    let line = first_line(alloc, number, slot, card, cells)?;
-    push_without_card(alloc, text, &line)?;
-    push_further_rows(alloc, text, cells)
-}
 
-/// Adds the lines of a card, with its code below it.
-#[tactic(auto, unfolding(crate::specs::Narrow::narrow_lines))]
-pub(crate) fn push_narrow(
-    alloc: Global,
-    text: &mut Vec<u8>,
-    number: u64,
-    slot: &Slot,
-    card: &Card,
-    cells: &[Cell],
-) -> Result<(), AllocError>
-    ensures { OnOk result (text.new.items
-        ≡ text.old.items ++ narrow_lines number slot.now card.now cells.now) }
-{
-    push_columns(alloc, text, card)?;
-    push_below(alloc, text, number, slot, card, cells)
+    /// Adds the lines of the card, with its code below it.
+    #[tactic(auto, unfolding(crate::specs::Narrow::narrow_lines))]
+    pub(crate) fn push_narrow(&self, alloc: Global, text: &mut Vec<u8>) -> Result<(), AllocError>
+        ensures { OnOk result (text.new.items ≡ text.old.items ++ narrow_lines
+            self.now.number self.now.slot.now self.now.card.now self.now.cells.now) }
+    {
+        push_columns(alloc, text, self.card)?;
+        self.push_below(alloc, text)
+    }
 }

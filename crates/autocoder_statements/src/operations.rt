@@ -94,71 +94,64 @@ const NONE: OperandForms = OperandForms {
 /// A branch address.
 const BRANCH: OperandForms = OperandForms {
     form: PLACE,
-    other: None,
-    third: None,
+    ..NONE
 };
 
 /// An empty field, or a branch address.
 const NONE_OR_BRANCH: OperandForms = OperandForms {
-    form: OperandForm::Empty,
     other: Some(PLACE),
-    third: None,
+    ..NONE
 };
 
 /// An empty field, or two fields.
 const NONE_OR_TWO: OperandForms = OperandForms {
-    form: OperandForm::Empty,
     other: Some(FIELDS),
-    third: None,
+    ..NONE
 };
 
 /// An empty field, a field, or two fields.
 const NONE_ONE_OR_TWO: OperandForms = OperandForms {
-    form: OperandForm::Empty,
     other: Some(FIELD),
     third: Some(FIELDS),
+    ..NONE
 };
 
 /// A field, or two fields.
 const ONE_OR_TWO: OperandForms = OperandForms {
     form: FIELD,
     other: Some(FIELDS),
-    third: None,
+    ..NONE
 };
 
 /// A field.
 const ONE: OperandForms = OperandForms {
     form: FIELD,
-    other: None,
-    third: None,
+    ..NONE
 };
 
 /// Two fields.
 const TWO: OperandForms = OperandForms {
     form: FIELDS,
-    other: None,
-    third: None,
+    ..NONE
 };
 
 /// An empty field, a field, or a branch address and a field.
 const CLEAR: OperandForms = OperandForms {
-    form: OperandForm::Empty,
     other: Some(FIELD),
     third: Some(OperandForm::Two(OperandKind::Branch, OperandKind::Field)),
+    ..NONE
 };
 
 /// A branch address and a sense switch.
 const SWITCH: OperandForms = OperandForms {
     form: OperandForm::OneAndModifier(OperandKind::Branch, Modifiers::Switches),
-    other: None,
-    third: None,
+    ..NONE
 };
 
 /// A branch address, a field and a character.
 const CHARACTER: OperandForms = OperandForms {
     form: OperandForm::TwoAndModifier(OperandKind::Branch, OperandKind::Field, Modifiers::Any),
-    other: None,
-    third: None,
+    ..NONE
 };
 
 /// A branch address, a field and a test of it.
@@ -168,29 +161,25 @@ const ZONE: OperandForms = OperandForms {
         OperandKind::Field,
         Modifiers::ZonesAndMarks,
     ),
-    other: None,
-    third: None,
+    ..NONE
 };
 
 /// A branch address and a field.
 const MARK: OperandForms = OperandForms {
     form: OperandForm::Two(OperandKind::Branch, OperandKind::Field),
-    other: None,
-    third: None,
+    ..NONE
 };
 
 /// An order to the carriage.
 const CARRIAGE: OperandForms = OperandForms {
     form: OperandForm::Modifier(Modifiers::Carriage),
-    other: None,
-    third: None,
+    ..NONE
 };
 
 /// A pocket of the punch.
 const POCKET: OperandForms = OperandForms {
     form: OperandForm::Modifier(Modifiers::Pockets),
-    other: None,
-    third: None,
+    ..NONE
 };
 
 /// The mnemonics: name, operation, the fixed last character, forms of the operand field.

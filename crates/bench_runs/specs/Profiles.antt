@@ -63,15 +63,16 @@ abbrev pub right_text : ℕ → List ℕ → List ℕ
 right_text width text = replicate (width - length text) blank ++ text
 
 -- the line of an address at which so many of all attempts began, the first with these characters
-abbrev pub place_line : ℕ → List ℕ → ℕ → ℕ → List ℕ
-place_line address characters count attempts = line_text (position_field address ++ blank ∷ []
+abbrev pub place_columns : ℕ → List ℕ → ℕ → ℕ → List ℕ
+place_columns address characters count attempts = position_field address ++ blank ∷ []
     ++ left 9 characters ++ right blank 8 count ++ blank ∷ []
-    ++ right_text 5 (tenths_words (tenths_of_percent count attempts)))
+    ++ right_text 5 (tenths_words (tenths_of_percent count attempts))
 
 -- what is shown of an address: nothing if no attempt began there
 unfoldable pub place_shown : State → ℕ → ℕ → List ℕ
 place_shown m attempts address = if nat_lt 0 (began_at m attempts address)
-    then place_line address (first_at m attempts address) (began_at m attempts address) attempts
+    then line_text
+    (place_columns address (first_at m attempts address) (began_at m attempts address) attempts)
     else []
 
 -- what is shown of the addresses below one

@@ -11,7 +11,7 @@ use crate::names::{Names, push_name_field};
 use crate::shown::{push_characters, push_padding};
 use autocoder::{push_line, push_number};
 use check_causes::cause_of;
-use core_store::{Check, Compared, Core, Registers};
+use core_store::{Check, Compared, Core};
 use machine::{Machine, Meter, Parts, Standing};
 use std::alloc::{AllocError, Global};
 
@@ -41,14 +41,11 @@ fn channel_sign(channel_12: bool) -> &'static [u8]
 }
 
 /// Adds the registers A and B, and the indicators.
-fn push_registers(
-    line: &mut Vec<u8>,
-    registers: &Registers,
-    channel_12: bool,
-) -> Result<(), AllocError>
-    ensures { OnOk result (line.new.items
-        ≡ line.old.items ++ registers_shown registers.now channel_12) }
+fn push_registers<C: Core>(line: &mut Vec<u8>, parts: &Parts<C>) -> Result<(), AllocError>
+    ensures { OnOk result (line.new.items ≡ line.old.items ++ registers_shown
+        parts.now.works.registers parts.now.works.units.printer.carriage.channel_12) }
 {
+    let registers = &parts.registers;
     line.extend_from_slice(b"A ")?;
     push_number(line, b'0', 5, u64::from(registers.a))?;
     line.extend_from_slice(b" B ")?;
@@ -56,7 +53,7 @@ fn push_registers(
     line.extend_from_slice(b" ")?;
     line.extend_from_slice(compared_sign(registers.compare))?;
     line.extend_from_slice(overflow_sign(registers.overflow))?;
-    line.extend_from_slice(channel_sign(channel_12))
+    line.extend_from_slice(channel_sign(parts.units.printer.carriage.channel_12))
 }
 
 /// Adds what an attempt did that left this machine.
@@ -68,8 +65,7 @@ fn push_effect<C: Core>(
 ) -> Result<(), AllocError>
     ensures { OnOk result (line.new.items ≡ line.old.items ++ effect_shown before parts.now) }
 {
-    let channel_12 = parts.units.printer.carriage.channel_12;
-    push_registers(line, &parts.registers, channel_12)?;
+    push_registers(line, parts)?;
     line.extend_from_slice(b"   ")?;
     let deeds = deeds_since(alloc, before, parts)?;
     line.extend_from_slice(&deeds)

@@ -53,18 +53,6 @@ fn push_deed(deeds: &mut Vec<u8>, deed: &[u8]) -> Result<(), AllocError>
     }
 }
 
-/// The card that was read, if one was.
-fn read_words<C: Core>(alloc: Global, before: Made, parts: &Parts<C>) -> Result<Vec<u8>, AllocError>
-    ensures { IfOk result (λ words. words.items ≡ read_words before parts.now) }
-{
-    let taken = parts.units.hopper.taken;
-    if before.taken >= taken {
-        return Ok(Vec::new(alloc));
-    }
-    let words = format!(in alloc; "read {taken}")?;
-    Ok(words.into_bytes())
-}
-
 /// The line with this number, from 0, if there is one.
 fn line_at(lines: &[Line], number: usize) -> Option<&Line>
     ensures { option_copied result ≡ slice_get lines.now number }
@@ -82,37 +70,41 @@ fn line_words(alloc: Global, printed: &Line) -> Result<Vec<u8>, AllocError>
     Ok(words.into_bytes())
 }
 
-/// The line that was printed, if one was.
-fn printed_words<C: Core>(
-    alloc: Global,
-    before: Made,
-    parts: &Parts<C>,
-) -> Result<Vec<u8>, AllocError>
-    ensures { IfOk result (λ words. words.items ≡ printed_words before parts.now) }
-{
-    let place = before
-        .lines
-        .saturating_sub(parts.units.before.lines as usize);
-    match line_at(&parts.units.printer.lines, place) {
-        None => Ok(Vec::new(alloc)),
-        Some(printed) => line_words(alloc, printed),
+impl Made {
+    /// The card that was read, if one was.
+    fn read_words<C: Core>(self, alloc: Global, parts: &Parts<C>) -> Result<Vec<u8>, AllocError>
+        ensures { IfOk result (λ words. words.items ≡ read_words self parts.now) }
+    {
+        let taken = parts.units.hopper.taken;
+        if self.taken >= taken {
+            return Ok(Vec::new(alloc));
+        }
+        let words = format!(in alloc; "read {taken}")?;
+        Ok(words.into_bytes())
     }
-}
 
-/// How many cards were punched, if one was.
-fn punched_words<C: Core>(
-    alloc: Global,
-    before: Made,
-    parts: &Parts<C>,
-) -> Result<Vec<u8>, AllocError>
-    ensures { IfOk result (λ words. words.items ≡ punched_words before parts.now) }
-{
-    let cards = parts.units.cards_in_all();
-    if before.cards >= cards {
-        return Ok(Vec::new(alloc));
+    /// The line that was printed, if one was.
+    fn printed_words<C: Core>(self, alloc: Global, parts: &Parts<C>) -> Result<Vec<u8>, AllocError>
+        ensures { IfOk result (λ words. words.items ≡ printed_words self parts.now) }
+    {
+        let place = self.lines.saturating_sub(parts.units.before.lines as usize);
+        match line_at(&parts.units.printer.lines, place) {
+            None => Ok(Vec::new(alloc)),
+            Some(printed) => line_words(alloc, printed),
+        }
     }
-    let words = format!(in alloc; "punched {cards}")?;
-    Ok(words.into_bytes())
+
+    /// How many cards were punched, if one was.
+    fn punched_words<C: Core>(self, alloc: Global, parts: &Parts<C>) -> Result<Vec<u8>, AllocError>
+        ensures { IfOk result (λ words. words.items ≡ punched_words self parts.now) }
+    {
+        let cards = parts.units.cards_in_all();
+        if self.cards >= cards {
+            return Ok(Vec::new(alloc));
+        }
+        let words = format!(in alloc; "punched {cards}")?;
+        Ok(words.into_bytes())
+    }
 }
 
 /// What the units did.
@@ -124,10 +116,10 @@ pub(crate) fn deeds_since<C: Core>(
 ) -> Result<Vec<u8>, AllocError>
     ensures { IfOk result (λ deeds. deeds.items ≡ deeds_since before parts.now) }
 {
-    let mut deeds = read_words(alloc, before, parts)?;
-    let printed = printed_words(alloc, before, parts)?;
+    let mut deeds = before.read_words(alloc, parts)?;
+    let printed = before.printed_words(alloc, parts)?;
     push_deed(&mut deeds, &printed)?;
-    let punched = punched_words(alloc, before, parts)?;
+    let punched = before.punched_words(alloc, parts)?;
     push_deed(&mut deeds, &punched)?;
     Ok(deeds)
 }

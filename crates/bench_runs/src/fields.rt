@@ -4,7 +4,7 @@ ghost use Rattle.std.specs.Prelude.{◌≡◌, ◌+◌, ◌-◌, ◌<◌, ◌≤
 ghost use Rattle.core_store.specs.Storage.{largest_size};
 ghost use Rattle.machine.specs.Run.{step};
 ghost use Rattle.bench_runs.specs.Attempts.{attempt_line};
-ghost use Rattle.bench_runs.specs.Fields.{after_line, attempt_shown, before_line, both_lines, field_by, field_shown, fields_lines, past_words, unmarked_words};
+ghost use Rattle.bench_runs.specs.Fields.{after_line, attempt_shown, both_lines, field_by, field_shown, fields_lines, past_words, unmarked_words};
 
 use crate::attempts::push_attempt;
 use crate::names::Names;
@@ -80,22 +80,6 @@ fn field_at<C: Core>(alloc: Global, parts: &Parts<C>, position: u16) -> Result<V
     Ok(field)
 }
 
-/// Adds the line of a field before an attempt.
-fn push_before(
-    alloc: Global,
-    text: &mut Vec<u8>,
-    name: &[u8],
-    field: &[u8],
-) -> Result<(), AllocError>
-    ensures { OnOk result (text.new.items ≡ text.old.items ++ before_line name.now field.now) }
-{
-    let mut line = Vec::new(alloc);
-    line.extend_from_slice(b"              ")?;
-    line.extend_from_slice(name)?;
-    line.extend_from_slice(field)?;
-    push_line(text, &line)
-}
-
 /// Adds the line of a field after an attempt, if it is another than before.
 #[tactic(auto, unfolding(crate::specs::Fields::after_line))]
 fn push_after(
@@ -126,7 +110,11 @@ fn push_both(
     ensures { OnOk result (text.new.items ≡ text.old.items
         ++ both_lines name.now before.now after.now) }
 {
-    push_before(alloc, text, name, before)?;
+    let mut line = Vec::new(alloc);
+    line.extend_from_slice(b"              ")?;
+    line.extend_from_slice(name)?;
+    line.extend_from_slice(before)?;
+    push_line(text, &line)?;
     push_after(alloc, text, before, after)
 }
 

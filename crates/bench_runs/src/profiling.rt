@@ -6,7 +6,7 @@ ghost use Rattle.machine.specs.Run.{State, loaded};
 ghost use Rattle.machine.specs.Standings.{standing_of};
 ghost use Rattle.units.specs.declared.profiles.Profile.TheVariants.{Selecting};
 ghost use Rattle.bench_runs.specs.Ends.{ended};
-ghost use Rattle.bench_runs.specs.Profiles.{IsCounted, attempts_line, began_at, counts_shown, first_at, place_line, place_shown, places_shown, profiled, right_text, tenths_of_percent, tenths_words};
+ghost use Rattle.bench_runs.specs.Profiles.{IsCounted, attempts_line, began_at, counts_shown, first_at, place_columns, place_shown, places_shown, profiled, right_text, tenths_of_percent, tenths_words};
 ghost use Rattle.bench_runs.specs.Shown.{left};
 
 use crate::accounts::Account;
@@ -56,17 +56,16 @@ fn push_left(line: &mut Vec<u8>, width: usize, text: &[u8]) -> Result<(), AllocE
     push_padding(line, width, text.len())
 }
 
-/// Adds the line of an address at which attempts began.
-fn push_place(
+/// The line of an address at which attempts began.
+fn place_columns(
     alloc: Global,
-    text: &mut Vec<u8>,
     address: u16,
     place: &Begun,
     attempts: u32,
-) -> Result<(), AllocError>
+) -> Result<Vec<u8>, AllocError>
     requires { 0 < attempts }
-    ensures { OnOk result (text.new.items ≡ text.old.items
-        ++ place_line address place.now.characters.items place.now.count attempts) }
+    ensures { IfOk result (λ line. line.items
+        ≡ place_columns address place.now.characters.items place.now.count attempts) }
 {
     let mut line = Vec::new(alloc);
     push_number(&mut line, b'0', 5, u64::from(address))?;
@@ -76,7 +75,7 @@ fn push_place(
     line.push(b' ')?;
     let share = tenths_words(alloc, tenths_of_percent(place.count, attempts))?;
     push_right(&mut line, 5, share.as_str())?;
-    push_line(text, &line)
+    Ok(line)
 }
 
 /// Adds what is shown of an address.
@@ -96,7 +95,8 @@ fn push_shown(
     if place.count == 0 {
         return Ok(());
     }
-    push_place(alloc, text, address, place, attempts)
+    let line = place_columns(alloc, address, place, attempts)?;
+    push_line(text, &line)
 }
 
 /// Adds what is shown of all addresses.

@@ -20,43 +20,6 @@ struct Row {
     marks: Vec<bool>,
 }
 
-/// The characters of `count` positions from a first one on.
-#[tactic(auto, using(crate::proofs::RowLemmas::codes_begin, crate::proofs::RowLemmas::codes_on))]
-fn codes_from<C: Core>(
-    alloc: Global,
-    core: &C,
-    first: u16,
-    count: u16,
-) -> Result<Vec<Code>, AllocError>
-    requires { first + count ≤ length (C.cells core.now) }
-    ensures { IfOk result (λ codes. codes.items ≡ codes_from (C.cells core.now) first count) }
-{
-    let mut codes = Vec::new(alloc);
-    for place in 0..count {
-        codes.push(core.get_after(first, place))?;
-    }
-    Ok(codes)
-}
-
-/// The word marks of `count` positions from a first one on.
-#[tactic(auto, using(crate::proofs::RowLemmas::marks_begin, crate::proofs::RowLemmas::marks_on))]
-fn marks_from<C: Core>(
-    alloc: Global,
-    core: &C,
-    first: u16,
-    count: u16,
-) -> Result<Vec<bool>, AllocError>
-    requires within { first + count ≤ length (C.cells core.now) }
-    requires below { first + count ≤ largest_size }
-    ensures { IfOk result (λ marks. marks.items ≡ marks_from (C.cells core.now) first count) }
-{
-    let mut marks = Vec::new(alloc);
-    for place in 0..count {
-        marks.push(core.is_marked(first + place))?;
-    }
-    Ok(marks)
-}
-
 /// Whether some of these are marked.
 fn has_mark(marks: &[bool]) -> bool
     ensures { result ≡ has_mark marks.now }
@@ -80,6 +43,7 @@ fn mark_shown(marked: bool) -> u8
 
 impl Row {
     /// The row of storage that begins at a position.
+    #[tactic(auto, using(crate::proofs::RowLemmas::codes_begin, crate::proofs::RowLemmas::codes_on, crate::proofs::RowLemmas::marks_begin, crate::proofs::RowLemmas::marks_on))]
     fn at<C: Core>(alloc: Global, core: &C, first: u16) -> Result<Row, AllocError>
         requires within { first + row_length ≤ length (C.cells core.now) }
         requires below { first + row_length ≤ largest_size }
@@ -88,8 +52,12 @@ impl Row {
         ensures marks { IfOk result (λ row.
             row.marks.items ≡ marks_from (C.cells core.now) first row_length) }
     {
-        let codes = codes_from(alloc, core, first, ROW_LENGTH)?;
-        let marks = marks_from(alloc, core, first, ROW_LENGTH)?;
+        let mut codes = Vec::new(alloc);
+        let mut marks = Vec::new(alloc);
+        for place in 0..ROW_LENGTH {
+            codes.push(core.get_after(first, place))?;
+            marks.push(core.is_marked(first + place))?;
+        }
         Ok(Row { codes, marks })
     }
 
@@ -124,22 +92,19 @@ fn push_marks_line(alloc: Global, text: &mut Vec<u8>, marks: &[bool]) -> Result<
     push_line(text, &line)
 }
 
-/// Adds the lines of a row that begins at a position.
-fn push_row_lines(
-    alloc: Global,
-    text: &mut Vec<u8>,
-    position: u16,
-    row: &Row,
-) -> Result<(), AllocError>
-    ensures { OnOk result (text.new.items
-        ≡ text.old.items ++ row_lines position row.now.codes.items row.now.marks.items) }
-{
-    let mut line = Vec::new(alloc);
-    push_number(&mut line, b'0', 5, u64::from(position))?;
-    line.push(b' ')?;
-    push_glyphs(&mut line, &row.codes)?;
-    push_line(text, &line)?;
-    push_marks_line(alloc, text, &row.marks)
+impl Row {
+    /// Adds the lines of the row, which begins at a position.
+    fn push_lines(&self, alloc: Global, text: &mut Vec<u8>, position: u16) -> Result<(), AllocError>
+        ensures { OnOk result (text.new.items ≡ text.old.items
+            ++ row_lines position self.now.codes.items self.now.marks.items) }
+    {
+        let mut line = Vec::new(alloc);
+        push_number(&mut line, b'0', 5, u64::from(position))?;
+        line.push(b' ')?;
+        push_glyphs(&mut line, &self.codes)?;
+        push_line(text, &line)?;
+        push_marks_line(alloc, text, &self.marks)
+    }
 }
 
 /// Adds what is shown of a row that is blank and without a mark.
@@ -173,7 +138,7 @@ fn push_row<C: Core>(
         push_blank(text, follows)?;
         return Ok(true);
     }
-    push_row_lines(alloc, text, position, &shown)?;
+    shown.push_lines(alloc, text, position)?;
     Ok(false)
 }
 

@@ -3,12 +3,11 @@ use Rattle.std.specs.Prelude.{ℕ, ◌≡◌, ◌≢◌, ◌==◌, Bool, true, �
 use Rattle.std.specs.List.{All, list_all}
 use Rattle.cards.specs.declared.Card.{Card}
 use Rattle.cards.specs.Files.{text_of}
-use Rattle.hex.specs.Hex.{encode_lower}
-use Rattle.sha2.specs.Sha256.{sha256}
+use Rattle.texts.specs.Digests as digests
 
--- the digest of a deck: the SHA-256 of its deck text, in lower-case hexadecimal digits
+-- the digest of a deck: that of its deck text
 abbrev pub digest_of : List Card → List ℕ
-digest_of deck = encode_lower (sha256 (text_of deck))
+digest_of deck = digests.digest_of (text_of deck)
 
 -- the line of fields with two blanks between them
 abbrev pub fields : List ℕ → List ℕ → List ℕ → List ℕ

@@ -1,7 +1,7 @@
 //! The cards of a deck whose numbers do not rise.
 
 ghost use Rattle.std.specs.Prelude.{◌≡◌, ◌≤◌, ◌<◌, ◌++◌, ◌∷◌, ◌^◌, IfOk, OnOk, length, decimal, is_some, unwrap_or};
-ghost use Rattle.card_tools.specs.Checking.{is_no_rise, last_of, no_rise_line, number_of, number_on, told, told_of};
+ghost use Rattle.card_tools.specs.Checking.{is_no_rise, last_of, number_of, number_on, told, told_of};
 ghost use Rattle.card_tools.specs.Numbering.{is_digit};
 
 use crate::lines::push_glyphs;
@@ -9,7 +9,7 @@ use crate::numbering::number_columns;
 use bcd::Code;
 use cards::Card;
 use std::alloc::{AllocError, Global};
-use texts::push_decimal;
+use texts::push_number_between;
 
 /// Returns what is told of the cards whose numbers do not rise: `card 7: 00000060 after 00000070`,
 /// with the columns 73 to 80 of the card and of the last one before it that has a number. The
@@ -62,7 +62,7 @@ fn is_no_rise(before: Option<u64>, number: Option<u64>) -> bool
     }
 }
 
-/// Adds what is told of a card.
+/// Adds what is told of a card: its line, if its number does not rise.
 fn push_told(
     text: &mut Vec<u8>,
     before: &[Code],
@@ -74,25 +74,10 @@ fn push_told(
     ensures { OnOk result (text.new.items
         ≡ text.old.items ++ told_of before.now place columns.now) }
 {
-    if is_no_rise(number_of(before), number_of(columns)) {
-        return push_line(text, before, place, columns);
+    if !is_no_rise(number_of(before), number_of(columns)) {
+        return Ok(());
     }
-    Ok(())
-}
-
-/// Adds the line of a card whose number does not rise.
-fn push_line(
-    text: &mut Vec<u8>,
-    before: &[Code],
-    place: usize,
-    columns: &[Code],
-) -> Result<(), AllocError>
-    ensures { OnOk result (text.new.items
-        ≡ text.old.items ++ no_rise_line before.now place columns.now) }
-{
-    text.extend_from_slice(b"card ")?;
-    push_decimal(text, place)?;
-    text.extend_from_slice(b": ")?;
+    push_number_between(text, b"card ", place, b": ")?;
     push_glyphs(text, columns)?;
     text.extend_from_slice(b" after ")?;
     push_glyphs(text, before)?;

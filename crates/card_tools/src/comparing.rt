@@ -9,7 +9,7 @@ use bcd::Code;
 use card_forms::filled;
 use cards::{COLUMNS, Card};
 use std::alloc::{AllocError, Global};
-use texts::push_decimal;
+use texts::{push_decimal, push_number_between};
 
 /// What a comparison of two decks found.
 #[derive(Debug, Drop)]
@@ -158,13 +158,9 @@ fn push_sum(
         ++ codes " and " ++ decimal second ++ codes ", " ++ decimal differing
         ++ (if differing == 1 then codes " differs" else codes " differ") ++ 10 ∷ [])) }
 {
-    text.extend_from_slice(b"cards ")?;
-    push_decimal(text, first)?;
-    text.extend_from_slice(b" and ")?;
+    push_number_between(text, b"cards ", first, b" and ")?;
     push_decimal(text, second)?;
-    text.extend_from_slice(b", ")?;
-    push_decimal(text, differing)?;
-    text.extend_from_slice(differ_words(differing))?;
+    push_number_between(text, b", ", differing, differ_words(differing))?;
     text.push(b'\n')?;
     Ok(())
 }

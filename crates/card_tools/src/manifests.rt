@@ -2,12 +2,11 @@
 
 ghost use Rattle.std.specs.Prelude.{◌≡◌, ◌≢◌, ◌++◌, ◌∷◌, ◌==◌, ℕ, List, IfOk, IfSome, IsNone, OnOk, position, nat_le, nat_lt, ◌&&◌};
 ghost use Rattle.std.specs.List.{list_all};
-ghost use Rattle.card_tools.specs.Manifests.{BeginsWithField, HasNoBlank, IsEntry, digest_of, is_decimal, is_hexadecimal, manifest_line, may_be_digest, may_be_number};
+ghost use Rattle.card_tools.specs.Manifests.{BeginsWithField, HasNoBlank, IsEntry, is_decimal, is_hexadecimal, manifest_line, may_be_digest, may_be_number};
 
 use cards::{Deck, write_text};
-use sha2::{Digest, Sha256};
 use std::alloc::{AllocError, Global};
-use texts::push_decimal;
+use texts::{push_digest, push_number_between};
 
 /// The fields of a line of a manifest.
 #[derive(Clone, Copy, Debug)]
@@ -26,23 +25,13 @@ pub struct ManifestEntry<'a> {
 pub fn manifest_line(alloc: Global, deck: &Deck, name: &[u8]) -> Result<Vec<u8>, AllocError>
     ensures { IfOk result (λ line. line.items ≡ manifest_line deck.now name.now) }
 {
-    let mut line = digest(alloc, deck)?;
-    line.extend_from_slice(b"  ")?;
-    push_decimal(&mut line, deck.cards().len())?;
-    line.extend_from_slice(b"  ")?;
+    let text = write_text(alloc, deck)?;
+    let mut line = Vec::new(alloc);
+    push_digest(alloc, &mut line, &text)?;
+    push_number_between(&mut line, b"  ", deck.cards().len(), b"  ")?;
     line.extend_from_slice(name)?;
     line.push(b'\n')?;
     Ok(line)
-}
-
-/// The digest of a deck.
-fn digest(alloc: Global, deck: &Deck) -> Result<Vec<u8>, AllocError>
-    ensures { IfOk result (λ digits. digits.items ≡ digest_of deck.now) }
-{
-    let text = write_text(alloc, deck)?;
-    let digest = Sha256::digest(&text);
-    let digits = hex::encode(alloc, &digest)?;
-    Vec::from_slice(alloc, digits.as_bytes())
 }
 
 /// The fields of a line of a manifest, which is given without its line feed.

@@ -1,17 +1,20 @@
 //! The answers of a session.
 
-ghost use Rattle.std.specs.Prelude.{◌≡◌, ◌++◌, codes, IfOk, OnOk};
+ghost use Rattle.std.specs.Prelude.{◌≡◌, ◌++◌, codes, map, IfOk, OnOk};
 ghost use Rattle.units.specs.Listing.{rendered};
 ghost use Rattle.machine.specs.Run.{lines_of};
 ghost use Rattle.console.specs.Answers.{Answers, deed_shown, done, dump_shown, next, printed, question_shown};
+ghost use Rattle.console.specs.Shown.{cards_shown};
 ghost use Rattle.console.specs.Sittings.{HasCome};
 
 use crate::sayings::{Deed, Question, Saying};
 use crate::sessions::Session;
-use crate::showing::{fault_words, push_bare, push_cards, push_fault, push_help, push_stops};
+use crate::showing::{fault_words, push_bare, push_fault, push_help, push_stops};
 use bench_runs::{DumpOptions, push_machine};
+use card_tools::{ListOptions, list};
+use cards::Card;
 use std::alloc::{AllocError, Global};
-use units::render;
+use units::{Punched, render};
 
 /// The answer to a line.
 #[derive(Drop)]
@@ -42,6 +45,27 @@ fn push_dump(
     push_machine(alloc, text, options, session.parts())
 }
 
+/// The cards that were punched.
+fn cards_of(alloc: Global, punched: &[Punched]) -> Result<Vec<Card>, AllocError>
+    ensures { IfOk result (λ cards. cards.items ≡ map (λ card. card.card) punched.now) }
+{
+    punched.iter().map(|card| card.card).collect(alloc)
+}
+
+/// Adds the cards that were punched.
+fn push_cards(alloc: Global, text: &mut Vec<u8>, session: &Session) -> Result<(), AllocError>
+    ensures { OnOk result (text.new.items
+        ≡ text.old.items ++ cards_shown session.now.machine.works.units.punch.cards) }
+{
+    let cards = cards_of(alloc, &session.parts().units.punch.cards)?;
+    let options = ListOptions {
+        ruler: false,
+        punches: false,
+    };
+    let shown = list(alloc, &cards, options)?;
+    text.extend_from_slice(&shown)
+}
+
 /// Adds the lines that were printed.
 fn push_lines(alloc: Global, text: &mut Vec<u8>, session: &Session) -> Result<(), AllocError>
     ensures { OnOk result (text.new.items
@@ -67,7 +91,7 @@ fn show(
         Question::Dump(first, last) => push_dump(alloc, text, session, first, last),
         Question::Registers => push_bare(alloc, text, session.parts()),
         Question::Field(position) => session.push_field(alloc, text, line, position),
-        Question::Cards => push_cards(alloc, text, &session.parts().units.punch.cards),
+        Question::Cards => push_cards(alloc, text, session),
         Question::Lines => push_lines(alloc, text, session),
         Question::Help => push_help(text),
     }

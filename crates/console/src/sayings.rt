@@ -1,8 +1,7 @@
 //! What lines say.
 
-ghost use Rattle.std.specs.Prelude.{◌≡◌, option_copied, IfOk};
-ghost use Rattle.console.specs.Readings.{most_asked};
-ghost use Rattle.console.specs.Sayings.{IsSaid, address_in, alone, count_in, dump_said, is_end, rows_said, said, said_with, switches_in, watch_said, with};
+ghost use Rattle.std.specs.Prelude.{◌≡◌, option_copied, IfErr, IfOk};
+ghost use Rattle.console.specs.Sayings.{IsSaid, address_in, alone, count_in, dump_said, is_end, rows_said, said, said_with, switches_in, watch_said};
 
 use crate::readings::{Heard, MOST_ASKED};
 use crate::verbs::Verb;
@@ -88,10 +87,7 @@ fn count_in(heard: &Heard, other: u32) -> Result<u32, Saying>
     if !heard.first.given {
         return Ok(other);
     }
-    match heard.first.count {
-        None => Err(Saying::Wrong(Fault::Count)),
-        Some(count) => Ok(count),
-    }
+    heard.first.count.ok_or(Saying::Wrong(Fault::Count))
 }
 
 /// The address of a line.
@@ -101,10 +97,7 @@ fn address_in(heard: &Heard) -> Result<u16, Saying>
     if heard.second.given {
         return Err(Saying::Unknown);
     }
-    match heard.first.address() {
-        None => Err(Saying::Wrong(Fault::Address)),
-        Some(address) => Ok(address),
-    }
+    heard.first.address().ok_or(Saying::Wrong(Fault::Address))
 }
 
 /// The switches of a line.
@@ -114,10 +107,7 @@ fn switches_in(heard: &Heard) -> Result<Switches, Saying>
     if heard.second.given {
         return Err(Saying::Unknown);
     }
-    match heard.first.switches {
-        None => Err(Saying::Wrong(Fault::Switching)),
-        Some(switches) => Ok(switches),
-    }
+    heard.first.switches.ok_or(Saying::Wrong(Fault::Switching))
 }
 
 /// What a line says that has its verb alone.
@@ -131,17 +121,15 @@ fn if_alone(heard: &Heard, saying: Saying) -> Saying
     }
 }
 
-/// What a line `watch` says.
-fn watch_saying(heard: &Heard) -> Saying
-    ensures { result ≡ watch_said heard.now }
+/// What a line `watch` says; where its value is no address, that is the error.
+fn watch_saying(heard: &Heard) -> Result<Saying, Saying>
+    ensures said { IfOk result (λ saying. saying ≡ watch_said heard.now) }
+    ensures wrong { IfErr result (λ saying. saying ≡ watch_said heard.now) }
 {
     if !heard.first.given {
-        return Saying::Do(Deed::Unwatch);
+        return Ok(Saying::Do(Deed::Unwatch));
     }
-    match address_in(heard) {
-        Ok(position) => Saying::Do(Deed::Watch(position)),
-        Err(other) => other,
-    }
+    Ok(Saying::Do(Deed::Watch(address_in(heard)?)))
 }
 
 /// What a line `dump` says with two addresses.
@@ -167,96 +155,27 @@ fn dump_saying(heard: &Heard) -> Saying
     Saying::Ask(Question::Dump(None, None))
 }
 
-/// What a line `step` says.
-fn step_saying(heard: &Heard) -> Saying
-    ensures { result ≡ with (λ value. Saying.Do (Deed.Step value)) (count_in heard.now 1) }
-{
-    match count_in(heard, 1) {
-        Ok(value) => Saying::Do(Deed::Step(value)),
-        Err(other) => other,
-    }
-}
-
-/// What a line `go` says.
-fn go_saying(heard: &Heard) -> Saying
-    ensures { result ≡ with (λ value. Saying.Do (Deed.Go value)) (count_in heard.now most_asked) }
-{
-    match count_in(heard, MOST_ASKED) {
-        Ok(value) => Saying::Do(Deed::Go(value)),
-        Err(other) => other,
-    }
-}
-
-/// What a line `back` says.
-fn back_saying(heard: &Heard) -> Saying
-    ensures { result ≡ with (λ value. Saying.Do (Deed.Back value)) (count_in heard.now 1) }
-{
-    match count_in(heard, 1) {
-        Ok(value) => Saying::Do(Deed::Back(value)),
-        Err(other) => other,
-    }
-}
-
-/// What a line `stop` says.
-fn stop_saying(heard: &Heard) -> Saying
-    ensures { result ≡ with (λ value. Saying.Do (Deed.Stop value)) (address_in heard.now) }
-{
-    match address_in(heard) {
-        Ok(value) => Saying::Do(Deed::Stop(value)),
-        Err(other) => other,
-    }
-}
-
-/// What a line `clear` says.
-fn clear_saying(heard: &Heard) -> Saying
-    ensures { result ≡ with (λ value. Saying.Do (Deed.Clear value)) (address_in heard.now) }
-{
-    match address_in(heard) {
-        Ok(value) => Saying::Do(Deed::Clear(value)),
-        Err(other) => other,
-    }
-}
-
-/// What a line `field` says.
-fn field_saying(heard: &Heard) -> Saying
-    ensures { result ≡ with (λ value. Saying.Ask (Question.Field value)) (address_in heard.now) }
-{
-    match address_in(heard) {
-        Ok(value) => Saying::Ask(Question::Field(value)),
-        Err(other) => other,
-    }
-}
-
-/// What a line `start` says.
-fn start_saying(heard: &Heard) -> Saying
-    ensures { result ≡ with (λ value. Saying.Do (Deed.Start value)) (switches_in heard.now) }
-{
-    match switches_in(heard) {
-        Ok(value) => Saying::Do(Deed::Start(value)),
-        Err(other) => other,
-    }
-}
-
-/// What a line says with this verb.
-fn saying_with(verb: Verb, heard: &Heard) -> Saying
-    ensures { result ≡ said_with verb heard.now }
+/// What a line says with this verb; where a value is none or there are too many, that is the error.
+fn saying_with(verb: Verb, heard: &Heard) -> Result<Saying, Saying>
+    ensures said { IfOk result (λ saying. saying ≡ said_with verb heard.now) }
+    ensures wrong { IfErr result (λ saying. saying ≡ said_with verb heard.now) }
 {
     match verb {
-        Verb::Step => step_saying(heard),
-        Verb::Go => go_saying(heard),
-        Verb::Stop => stop_saying(heard),
-        Verb::Stops => if_alone(heard, Saying::Ask(Question::Stops)),
-        Verb::Clear => clear_saying(heard),
+        Verb::Step => Ok(Saying::Do(Deed::Step(count_in(heard, 1)?))),
+        Verb::Go => Ok(Saying::Do(Deed::Go(count_in(heard, MOST_ASKED)?))),
+        Verb::Stop => Ok(Saying::Do(Deed::Stop(address_in(heard)?))),
+        Verb::Stops => Ok(if_alone(heard, Saying::Ask(Question::Stops))),
+        Verb::Clear => Ok(Saying::Do(Deed::Clear(address_in(heard)?))),
         Verb::Watch => watch_saying(heard),
-        Verb::Dump => dump_saying(heard),
-        Verb::Registers => if_alone(heard, Saying::Ask(Question::Registers)),
-        Verb::Field => field_saying(heard),
-        Verb::Cards => if_alone(heard, Saying::Ask(Question::Cards)),
-        Verb::Lines => if_alone(heard, Saying::Ask(Question::Lines)),
-        Verb::Start => start_saying(heard),
-        Verb::Back => back_saying(heard),
-        Verb::Help => if_alone(heard, Saying::Ask(Question::Help)),
-        Verb::End => if_alone(heard, Saying::End),
+        Verb::Dump => Ok(dump_saying(heard)),
+        Verb::Registers => Ok(if_alone(heard, Saying::Ask(Question::Registers))),
+        Verb::Field => Ok(Saying::Ask(Question::Field(address_in(heard)?))),
+        Verb::Cards => Ok(if_alone(heard, Saying::Ask(Question::Cards))),
+        Verb::Lines => Ok(if_alone(heard, Saying::Ask(Question::Lines))),
+        Verb::Start => Ok(Saying::Do(Deed::Start(switches_in(heard)?))),
+        Verb::Back => Ok(Saying::Do(Deed::Back(count_in(heard, 1)?))),
+        Verb::Help => Ok(if_alone(heard, Saying::Ask(Question::Help))),
+        Verb::End => Ok(if_alone(heard, Saying::End)),
     }
 }
 
@@ -271,7 +190,10 @@ fn saying_of(heard: &Heard) -> Saying
     match heard.verb {
         None => Saying::Unknown,
         Some(_) if heard.long => Saying::Unknown,
-        Some(verb) => saying_with(verb, heard),
+        Some(verb) => match saying_with(verb, heard) {
+            Ok(saying) => saying,
+            Err(wrong) => wrong,
+        },
     }
 }
 

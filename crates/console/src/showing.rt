@@ -1,23 +1,21 @@
 //! What is printed of a machine.
 
-ghost use Rattle.std.specs.Prelude.{◌≡◌, ◌+◌, ◌++◌, ◌∷◌, ◌<◌, ◌≤◌, decimal, length, map, Some, IfOk, OnOk};
+ghost use Rattle.std.specs.Prelude.{◌≡◌, ◌+◌, ◌++◌, ◌∷◌, [], ◌<◌, ◌≤◌, decimal, length, Some, OnOk};
 ghost use Rattle.std.specs.List.{flat_map};
 ghost use Rattle.autocoder.specs.Listing.{position_field};
 ghost use Rattle.machine.specs.Standings.{standing_of, standing_words};
-ghost use Rattle.console.specs.Shown.{cards_shown, changed_line, fault_line, fault_words, field_line, help_text, line_heard, made_words, past_words, place_line, registers_shown, standing_by, stop_line, stopped_shown, stops_line, watched_line, why_line};
+ghost use Rattle.console.specs.Shown.{changed_line, fault_line, fault_words, field_line, help_text, line_heard, made_words, past_words, place_line, registers_shown, standing_by, stopped_shown, stops_line, watched_line, why_line};
 
 use crate::going::{has_changed, stands_at};
 use crate::sayings::Fault;
 use crate::words::Words;
 use autocoder::push_number;
 use bench_runs::{push_field, push_registers, push_units};
-use card_tools::{ListOptions, list};
-use cards::{Card, LINE_FEED};
+use cards::LINE_FEED;
 use core_store::Core;
 use machine::{Parts, Standing};
 use std::alloc::{AllocError, Global};
 use texts::push_decimal;
-use units::Punched;
 
 /// Adds a position in five digits.
 fn push_position(text: &mut Vec<u8>, position: u16) -> Result<(), AllocError>
@@ -93,6 +91,17 @@ pub(crate) fn push_if_stopped<C: Core>(
     push_place(alloc, text, made, parts)
 }
 
+/// Adds the line of some words and a position.
+fn push_position_line(text: &mut Vec<u8>, words: &[u8], position: u16) -> Result<(), AllocError>
+    ensures { OnOk result (text.new.items
+        ≡ text.old.items ++ (words.now ++ position_field position ++ 10 ∷ [])) }
+{
+    text.extend_from_slice(words)?;
+    push_position(text, position)?;
+    text.push(LINE_FEED)?;
+    Ok(())
+}
+
 /// Adds the line of a watched position that has changed.
 fn push_changed(text: &mut Vec<u8>, watched: Option<u16>) -> Result<(), AllocError>
     ensures { OnOk result (text.new.items ≡ text.old.items ++ changed_line watched) }
@@ -100,20 +109,7 @@ fn push_changed(text: &mut Vec<u8>, watched: Option<u16>) -> Result<(), AllocErr
     let Some(position) = watched else {
         return Ok(());
     };
-    text.extend_from_slice(b"changed: ")?;
-    push_position(text, position)?;
-    text.push(LINE_FEED)?;
-    Ok(())
-}
-
-/// Adds the line of a stop.
-fn push_stop<C: Core>(text: &mut Vec<u8>, parts: &Parts<C>) -> Result<(), AllocError>
-    ensures { OnOk result (text.new.items ≡ text.old.items ++ stop_line parts.now) }
-{
-    text.extend_from_slice(b"stop at ")?;
-    push_position(text, parts.registers.i)?;
-    text.push(LINE_FEED)?;
-    Ok(())
+    push_position_line(text, b"changed: ", position)
 }
 
 /// Why a run ends: its stops, and the watched position with what it held before the last attempt.
@@ -143,7 +139,7 @@ pub(crate) fn push_why<C: Core>(
         return push_changed(text, ends.watched);
     }
     if stands_at(ends.stops, parts) {
-        return push_stop(text, parts);
+        return push_position_line(text, b"stop at ", parts.registers.i);
     }
     push_place(alloc, text, made, parts)
 }
@@ -190,10 +186,7 @@ pub(crate) fn push_watched(text: &mut Vec<u8>, watched: Option<u16>) -> Result<(
     let Some(position) = watched else {
         return text.extend_from_slice(b"nothing is watched\n");
     };
-    text.extend_from_slice(b"watching ")?;
-    push_position(text, position)?;
-    text.push(LINE_FEED)?;
-    Ok(())
+    push_position_line(text, b"watching ", position)
 }
 
 /// Adds the line of the field that ends at a position.
@@ -221,30 +214,6 @@ pub(crate) fn push_bare<C: Core>(
     let channel_12 = parts.units.printer.carriage.channel_12;
     push_registers(text, &parts.registers, channel_12)?;
     push_units(alloc, text, &parts.units)
-}
-
-/// The cards that were punched.
-fn cards_of(alloc: Global, punched: &[Punched]) -> Result<Vec<Card>, AllocError>
-    ensures { IfOk result (λ cards. cards.items ≡ map (λ card. card.card) punched.now) }
-{
-    punched.iter().map(|card| card.card).collect(alloc)
-}
-
-/// Adds the cards that were punched.
-pub(crate) fn push_cards(
-    alloc: Global,
-    text: &mut Vec<u8>,
-    punched: &[Punched],
-) -> Result<(), AllocError>
-    ensures { OnOk result (text.new.items ≡ text.old.items ++ cards_shown punched.now) }
-{
-    let cards = cards_of(alloc, punched)?;
-    let options = ListOptions {
-        ruler: false,
-        punches: false,
-    };
-    let shown = list(alloc, &cards, options)?;
-    text.extend_from_slice(&shown)
 }
 
 /// Adds a line as it was heard.

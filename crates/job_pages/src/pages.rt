@@ -70,9 +70,9 @@ fn push_facts(
     out.extend_from_slice(b"<table>\n")?;
     push_deck(alloc, out, b"source and data", subject.source)?;
     push_deck(alloc, out, b"deck that was run", &job.deck)?;
-    push_machine(out, subject.size, subject.switches)?;
-    push_end(alloc, out, &job.machine)?;
-    push_listing(alloc, out, &job.machine)?;
+    push_machine(out, subject)?;
+    push_end(alloc, out, job)?;
+    push_listing(alloc, out, job)?;
     push_punched(alloc, out, cards)?;
     push_maker(out, subject.version)?;
     out.extend_from_slice(b"</table>\n")?;

@@ -1,7 +1,7 @@
 //! The parts of a page behind its table.
 
 ghost use Rattle.std.specs.Prelude.{◌≡◌, ◌++◌, OnOk};
-ghost use Rattle.job_pages.specs.Pages.{cards_shown, code_shown, figures, job_head, listing_shown, style};
+ghost use Rattle.job_pages.specs.Pages.{cards_shown, code_shown, job_head, listing_shown, style};
 
 use crate::styles::JOB_STYLE;
 use cards::Card;
@@ -20,8 +20,7 @@ fn push_style(out: &mut Vec<u8>) -> Result<(), AllocError>
     out.extend_from_slice(FIGURE_STYLE)?;
     out.extend_from_slice(CARD_STYLE)?;
     out.extend_from_slice(FORM_STYLE)?;
-    out.extend_from_slice(b"</style>\n")?;
-    Ok(())
+    out.extend_from_slice(b"</style>\n")
 }
 
 /// Adds the head of a page, with the name of the job.
@@ -34,8 +33,7 @@ pub(crate) fn push_head(out: &mut Vec<u8>, name: &[u8]) -> Result<(), AllocError
     push_style(out)?;
     out.extend_from_slice(b"<h1>")?;
     push_escaped(out, name)?;
-    out.extend_from_slice(b"</h1>\n")?;
-    Ok(())
+    out.extend_from_slice(b"</h1>\n")
 }
 
 /// Adds the source with its code.
@@ -44,8 +42,7 @@ pub(crate) fn push_code(out: &mut Vec<u8>, code: &[u8]) -> Result<(), AllocError
 {
     out.extend_from_slice(b"<h2>Source</h2><pre class=\"code\">\n")?;
     push_escaped(out, code)?;
-    out.extend_from_slice(b"</pre>\n")?;
-    Ok(())
+    out.extend_from_slice(b"</pre>\n")
 }
 
 /// Adds the listing on its forms.
@@ -54,20 +51,9 @@ pub(crate) fn push_listing(out: &mut Vec<u8>, listing: &[u8]) -> Result<(), Allo
 {
     out.extend_from_slice(b"<h2>Listing</h2>\n")?;
     if listing.is_empty() {
-        out.extend_from_slice(b"<p>Nothing was printed.</p>\n")?;
-        return Ok(());
+        return out.extend_from_slice(b"<p>Nothing was printed.</p>\n");
     }
-    push_listing_forms(out, listing)?;
-    Ok(())
-}
-
-/// Adds the stock of the cards, and the figure of each.
-fn push_figures(out: &mut Vec<u8>, cards: &[Card]) -> Result<(), AllocError>
-    ensures { OnOk result (out.new.items ≡ out.old.items ++ figures cards.now) }
-{
-    push_stock_definition(out)?;
-    push_card_figures(out, cards)?;
-    Ok(())
+    push_listing_forms(out, listing)
 }
 
 /// Adds the punched cards.
@@ -76,9 +62,8 @@ pub(crate) fn push_cards(out: &mut Vec<u8>, cards: &[Card]) -> Result<(), AllocE
 {
     out.extend_from_slice(b"<h2>Punched cards</h2>\n")?;
     if cards.is_empty() {
-        out.extend_from_slice(b"<p>No card was punched.</p>\n")?;
-        return Ok(());
+        return out.extend_from_slice(b"<p>No card was punched.</p>\n");
     }
-    push_figures(out, cards)?;
-    Ok(())
+    push_stock_definition(out)?;
+    push_card_figures(out, cards)
 }

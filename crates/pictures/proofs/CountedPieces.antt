@@ -1,5 +1,5 @@
 -- texts of numbered pieces, one piece more
-use Rattle.std.proofs.Common.{◌≡◌, ℕ, zero, suc, ◌+◌, ◌-◌, ◌<◌, ◌≤◌, List, [], ◌∷◌, ◌++◌, length, drop, get_or, ap, sym, ◌∙◌, arith, append_assoc, append-nil}
+use Rattle.std.proofs.Common.{◌≡◌, ℕ, zero, suc, ◌+◌, ◌-◌, ◌<◌, ◌≤◌, List, [], ◌∷◌, ◌++◌, length, drop, get_or, Result, Ok, Err, OnOk, is_ok, if◌then◌else◌, ap, sym, ◌∙◌, arith, append_assoc, append-nil}
 use Rattle.std.specs.List.{flat_map, range_with_len}
 use Rattle.std.proofs.lemmas.List.{drop_more, drop_all}
 use Rattle.std.proofs.lemmas.List.Concat.{flat_map-append}
@@ -9,6 +9,24 @@ use Rattle.pictures.specs.Decks.{figure, figures_from}
 -- one piece more of a text that was added to another
 pub more : (o x e before after : List ℕ) → before ≡ o ++ x → after ≡ before ++ e → after ≡ o ++ (x ++ e)
 more o x e before after first second = second ∙ ap (λ all. all ++ e) first ∙ append_assoc o x e
+
+-- a text and a number between two more
+pub between : (o x b d a before after : List ℕ) → before ≡ o ++ x → after ≡ before ++ (b ++ d ++ a) → after ≡ o ++ (x ++ b ++ d ++ a)
+between o x b d a before after first second =
+    more o x (b ++ d ++ a) before after first second
+    ∙ ap (λ rest. o ++ (x ++ rest)) (append_assoc b d a)
+    ∙ ap (λ all. o ++ all) (sym (append_assoc (x ++ b) d a ∙ append_assoc x b (d ++ a)))
+
+-- what holds after a call holds where that call is the last
+pub at_end : {A E P Q : Type 0} (r : Result A E) → OnOk r P → (P → Q) → OnOk r Q
+at_end (Ok a) is more = more is
+at_end (Err e) is more = is
+
+-- the last piece of a text that was added to another
+pub last_piece : {A E : Type 0} (r : Result A E) (o x e before after : List ℕ) → before ≡ o ++ x → after ≡ (if is_ok r then before ++ e else before)
+    → OnOk r (after ≡ o ++ (x ++ e))
+last_piece (Ok a) o x e before after first second = more o x e before after first second
+last_piece (Err e) o x rest before after first second = tt
 
 -- one piece more of a text
 pub onto : (x e before after : List ℕ) → before ≡ x → after ≡ before ++ e → after ≡ x ++ e

@@ -9,7 +9,7 @@ use crate::stocks::push_stock;
 use crate::styles::{CARD_STYLE, DECK_STYLE, FIGURE_STYLE};
 use cards::Card;
 use std::alloc::{AllocError, Global};
-use texts::push_decimal;
+use texts::push_number_between;
 
 /// Adds the stock of the cards, which shows nothing and which each figure of a card uses.
 pub fn push_stock_definition(out: &mut Vec<u8>) -> Result<(), AllocError>
@@ -27,9 +27,7 @@ pub fn push_stock_definition(out: &mut Vec<u8>) -> Result<(), AllocError>
 fn push_title(out: &mut Vec<u8>, number: usize, card: &Card) -> Result<(), AllocError>
     ensures { OnOk result (out.new.items ≡ out.old.items ++ titled_by_number number card.now) }
 {
-    out.extend_from_slice(b"<title>card ")?;
-    push_decimal(out, number)?;
-    out.extend_from_slice(b": ")?;
+    push_number_between(out, b"<title>card ", number, b": ")?;
     push_card_glyphs(out, card)?;
     out.extend_from_slice(b"</title>")?;
     Ok(())
@@ -39,10 +37,7 @@ fn push_title(out: &mut Vec<u8>, number: usize, card: &Card) -> Result<(), Alloc
 fn push_caption(out: &mut Vec<u8>, number: usize) -> Result<(), AllocError>
     ensures { OnOk result (out.new.items ≡ out.old.items ++ captioned number) }
 {
-    out.extend_from_slice(b"<figcaption>")?;
-    push_decimal(out, number)?;
-    out.extend_from_slice(b"</figcaption>")?;
-    Ok(())
+    push_number_between(out, b"<figcaption>", number, b"</figcaption>")
 }
 
 /// Adds the figure of a card with its number under it.

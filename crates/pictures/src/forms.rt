@@ -6,7 +6,7 @@ ghost use Rattle.pictures.specs.Forms.{form_section, forms_of, is_form_feed, par
 use crate::escapes::push_escaped;
 use crate::finding::FORM_FEED;
 use std::alloc::AllocError;
-use texts::push_decimal;
+use texts::{push_decimal, push_number_between};
 
 /// What stands before the lines of a form. A line feed comes last, since HTML passes over one
 /// there, and a form may begin with an empty line.
@@ -21,10 +21,7 @@ fn push_form(out: &mut Vec<u8>, number: usize, count: usize, form: &[u8]) -> Res
     push_escaped(out, form)?;
     out.extend_from_slice(b"</pre><div class=\"no\">")?;
     push_decimal(out, number)?;
-    out.extend_from_slice(b" of ")?;
-    push_decimal(out, count)?;
-    out.extend_from_slice(b"</div></section>\n")?;
-    Ok(())
+    push_number_between(out, b" of ", count, b"</div></section>\n")
 }
 
 /// The place of the first form feed.

@@ -6,7 +6,7 @@ ghost use Rattle.pictures.specs.Cards.{column_number, column_numbers, face, face
 
 use cards::COLUMNS;
 use std::alloc::AllocError;
-use texts::push_decimal;
+use texts::{push_decimal, push_number_between};
 
 /// The place of the middle of a column, 1 to 80.
 pub(crate) fn column_middle(column: usize) -> usize
@@ -55,9 +55,8 @@ fn push_face_row(out: &mut Vec<u8>, row: u8) -> Result<(), AllocError>
     requires { row ≤ 9 }
     ensures { OnOk result (out.new.items ≡ out.old.items ++ face_row row) }
 {
-    out.extend_from_slice(b"<text class=\"face\" y=\"")?;
-    push_decimal(out, 781 + 250 * row as usize)?;
-    out.extend_from_slice(b"\" x=\"")?;
+    let height = 781 + 250 * row as usize;
+    push_number_between(out, b"<text class=\"face\" y=\"", height, b"\" x=\"")?;
     push_places(out)?;
     out.extend_from_slice(b"\">")?;
     push_repeated(out, b'0' + row, COLUMNS)?;
@@ -71,21 +70,16 @@ fn push_column_number(out: &mut Vec<u8>, column: usize) -> Result<(), AllocError
     requires last { column ≤ 80 }
     ensures { OnOk result (out.new.items ≡ out.old.items ++ column_number column) }
 {
-    out.extend_from_slice(b"<tspan x=\"")?;
-    push_decimal(out, column_middle(column))?;
-    out.extend_from_slice(b"\">")?;
+    push_number_between(out, b"<tspan x=\"", column_middle(column), b"\">")?;
     push_decimal(out, column)?;
-    out.extend_from_slice(b"</tspan>")?;
-    Ok(())
+    out.extend_from_slice(b"</tspan>")
 }
 
 /// Adds the numbers of the columns in one line at this height.
 fn push_column_numbers(out: &mut Vec<u8>, height: usize) -> Result<(), AllocError>
     ensures { OnOk result (out.new.items ≡ out.old.items ++ column_numbers height) }
 {
-    out.extend_from_slice(b"<text class=\"small\" y=\"")?;
-    push_decimal(out, height)?;
-    out.extend_from_slice(b"\">")?;
+    push_number_between(out, b"<text class=\"small\" y=\"", height, b"\">")?;
     for column in 1..COLUMNS + 1 {
         push_column_number(out, column)?;
     }

@@ -1,3 +1,4 @@
+pub mod Digests
 pub mod Made
 pub mod Names
 pub mod Numbers

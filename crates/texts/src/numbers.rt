@@ -54,3 +54,18 @@ pub fn push_decimal(out: &mut Vec<u8>, number: usize) -> Result<(), AllocError>
     let mut buffer = Buffer::new();
     out.extend_from_slice(buffer.format(number).as_bytes())
 }
+
+/// Adds a number in digits between two texts. Fails if there is no memory.
+pub fn push_number_between(
+    out: &mut Vec<u8>,
+    before: &[u8],
+    number: usize,
+    after: &[u8],
+) -> Result<(), AllocError>
+    ensures { OnOk result (out.new.items
+        ≡ out.old.items ++ (before.now ++ decimal number ++ after.now)) }
+{
+    out.extend_from_slice(before)?;
+    push_decimal(out, number)?;
+    out.extend_from_slice(after)
+}

@@ -34,8 +34,8 @@ loop-i-preserved c =
     let at = slot_at size lines slots slots_are literals literals_are i line slot (drop (i + 1) slots) cells k refl refl refl c.in_ok-cells.ensures c.requires.faultless in
     let filled = built_at size lines slots slots_are literals literals_are i line slot (drop (i + 1) slots) cells k refl refl refl c.in_ok-cells.ensures c.requires.faultless in
     let more_is = ap (λ (s : Slot). lines_in c.args.width (i + 1) s card c.deref.result.now) slot_is ∙ ap (lines_in c.args.width (i + 1) slot card) c.deref.ensures.value in
-    cards_step c.args.width c.loop-i.text.items c.push_card.new.text.items (lines_in c.args.width (i + 1) c.index-slots-i.result card c.deref.result.now) c.args.source.now (layout_in layout.source) i card _ slot cells c.loop-i-test.true l
-    c.index-source-i.is at filled more_is c.in_ok-push_card.ensures
+    cards_step c.args.width c.loop-i.text.items c.push.new.text.items (lines_in c.args.width (i + 1) c.index-slots-i.result card c.deref.result.now) c.args.source.now (layout_in layout.source) i card _ slot cells c.loop-i-test.true l
+    c.index-source-i.is at filled more_is c.in_ok-push.ensures
     ∙ c.loop-i.invariant
 
 pub returns : goal.returns

@@ -11,10 +11,10 @@ unfolding table_of_names
 returns c =
     let layout = c.args.layout.now in
     let many = users_on_line c.args.width in
-    let lines_are = c.lines.ensures.lines ∙ ap (λ (s : Source). s.lines) c.source.ensures in
+    let lines_are = c.lines-lines.ensures.lines ∙ ap (λ (s : Source). s.lines) c.source.ensures in
     let names = flat_map (λ (slot : Slot). lines_of_defined many layout.source.lines slot.defines) layout.slots in
-    c.in_ok-push_defined_names.ensures
-    ∙ ap (λ n. c.push_line.new.text.items ++ flat_map (λ (slot : Slot). lines_of_defined n c.lines.result.now slot.defines) c.slots.result.now) c.users_on_line-many.ensures
+    c.in_ok-push_all.ensures
+    ∙ ap (λ n. c.push_line.new.text.items ++ flat_map (λ (slot : Slot). lines_of_defined n c.lines-lines.result.now slot.defines) c.slots.result.now) c.users_on_line-many.ensures
     ∙ ap (λ l. c.push_line.new.text.items ++ flat_map (λ (slot : Slot). lines_of_defined many l slot.defines) c.slots.result.now) lines_are
     ∙ ap (λ s. c.push_line.new.text.items ++ flat_map (λ (slot : Slot). lines_of_defined many layout.source.lines slot.defines) s) c.slots.ensures.slots
     ∙ ap (λ t. t ++ names) c.in_ok-push_line.ensures

@@ -1,7 +1,7 @@
-use Rattle.pictures.proofs.CountedPieces.{more}
+use Rattle.pictures.proofs.CountedPieces.{at_end, more}
 use Rattle.job_pages.proofs.facts.push_deck.Goals as goal
 
 pub returns : goal.returns
 returns c =
     let o = c.args.out.now.items in
-    more o _ _ _ _ (more o _ _ _ _ (more o _ _ _ _ c.in_ok-extend_from_slice.ensures.items c.in_ok-extend_from_slice-2.ensures.items) c.in_ok-extend_from_slice-3.ensures.items) c.in_ok-push_deck_counted.ensures
+    at_end c.push_deck_counted.result c.push_deck_counted.ensures (λ last. more o _ _ _ _ c.in_ok-push_name.ensures last)

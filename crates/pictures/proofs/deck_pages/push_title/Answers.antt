@@ -4,4 +4,4 @@ use Rattle.pictures.proofs.deck_pages.push_title.Goals as goal
 pub returns : goal.returns
 returns c =
     let o = c.args.out.now.items in
-    more o _ _ _ _ (more o _ _ _ _ (more o _ _ _ _ (more o _ _ _ _ c.in_ok-extend_from_slice.ensures.items c.in_ok-push_decimal.ensures) c.in_ok-extend_from_slice-2.ensures.items) c.in_ok-push_card_glyphs.ensures) c.in_ok-extend_from_slice-3.ensures.items
+    more o _ _ _ _ (more o _ _ _ _ c.in_ok-push_number_between.ensures c.in_ok-push_card_glyphs.ensures) c.in_ok-extend_from_slice.ensures.items

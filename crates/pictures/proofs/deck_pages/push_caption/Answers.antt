@@ -1,7 +1,0 @@
-use Rattle.pictures.proofs.CountedPieces.{more}
-use Rattle.pictures.proofs.deck_pages.push_caption.Goals as goal
-
-pub returns : goal.returns
-returns c =
-    let o = c.args.out.now.items in
-    more o _ _ _ _ (more o _ _ _ _ c.in_ok-extend_from_slice.ensures.items c.in_ok-push_decimal.ensures) c.in_ok-extend_from_slice-2.ensures.items
