@@ -66,8 +66,7 @@ fn push_head(out: &mut Vec<u8>) -> Result<(), AllocError>
     out.extend_from_slice(DECK_STYLE)?;
     out.extend_from_slice(FIGURE_STYLE)?;
     out.extend_from_slice(CARD_STYLE)?;
-    out.extend_from_slice(b"</style>\n")?;
-    Ok(())
+    out.extend_from_slice(b"</style>\n")
 }
 
 /// Adds the figures of cards, each with its number under it, for a page that has the stock already

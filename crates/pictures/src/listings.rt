@@ -19,8 +19,7 @@ fn push_head(out: &mut Vec<u8>) -> Result<(), AllocError>
     )?;
     out.extend_from_slice(LISTING_STYLE)?;
     out.extend_from_slice(FORM_STYLE)?;
-    out.extend_from_slice(b"</style>\n")?;
-    Ok(())
+    out.extend_from_slice(b"</style>\n")
 }
 
 /// Returns the pages of a listing, an HTML file that stands alone: a form behind the other, with

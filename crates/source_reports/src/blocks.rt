@@ -2,7 +2,7 @@
 
 ghost use Rattle.std.specs.Prelude.{◌≡◌, ◌++◌, slice_get, slice_index_or, option_copied, OnOk};
 ghost use Rattle.autocoder_layout.specs.Source.{AreInRange, IsInRange, silent};
-ghost use Rattle.source_reports.specs.Blocks.{told_of, card_shown, caret_line, picture, shown_on, block, is_fault_of_card, cards_at_fault, plural, counted, sum_line};
+ghost use Rattle.source_reports.specs.Blocks.{told_of, card_shown, caret_line, shown_on, block, is_fault_of_card, cards_at_fault, plural, counted, sum_line};
 
 use crate::hints::push_hint;
 use crate::pieces::push_text;
@@ -13,6 +13,7 @@ use autocoder_layout::{CardFault, Layout, Line, SourceFault};
 use autocoder_statements::Statement;
 use cards::{Card, LINE_FEED};
 use std::alloc::{AllocError, Global};
+use texts::{push_decimal, push_number_between};
 
 /// What stands before a card that is shown.
 const MARGIN: &[u8] = b"     |";
@@ -51,20 +52,6 @@ fn push_caret(text: &mut Vec<u8>, column: usize) -> Result<(), AllocError>
     Ok(())
 }
 
-/// Adds a card, and below it a caret under a column.
-#[tactic(auto, unfolding(crate::specs::Blocks::picture))]
-fn push_picture(
-    alloc: Global,
-    text: &mut Vec<u8>,
-    card: &Card,
-    column: usize,
-) -> Result<(), AllocError>
-    ensures { OnOk result (text.new.items ≡ text.old.items ++ picture card.now column) }
-{
-    push_card(alloc, text, card)?;
-    push_caret(text, column)
-}
-
 /// What a card says, or a comment for no card.
 fn line_at(lines: &[Line], index: usize) -> Line
     requires { AreInRange lines.now }
@@ -86,6 +73,7 @@ fn card_at(source: &[Card], index: usize) -> Option<&Card>
 }
 
 /// Adds the card of a fault with its caret, if there is a card.
+#[tactic(auto, unfolding(crate::specs::Blocks::picture))]
 fn push_shown(
     alloc: Global,
     text: &mut Vec<u8>,
@@ -104,7 +92,8 @@ fn push_shown(
     let Some(column) = place_of(layout, card, line, fault) else {
         return Ok(());
     };
-    push_picture(alloc, text, card, column)
+    push_card(alloc, text, card)?;
+    push_caret(text, column)
 }
 
 /// Adds the block of a fault: what it is, its card, and a caret under its place.
@@ -159,34 +148,27 @@ fn plural(count: usize) -> &'static str
 }
 
 /// Adds a number of things.
-fn push_counted(
-    alloc: Global,
-    text: &mut Vec<u8>,
-    count: usize,
-    word: &str,
-) -> Result<(), AllocError>
+fn push_counted(text: &mut Vec<u8>, count: usize, word: &str) -> Result<(), AllocError>
     ensures { OnOk result (text.new.items ≡ text.old.items ++ counted count word.now) }
 {
-    let plural = plural(count);
-    let told = format!(in alloc; "{count} {word}{plural}")?;
-    push_text(text, told.as_str())
+    push_decimal(text, count)?;
+    push_text(text, " ")?;
+    push_text(text, word)?;
+    push_text(text, plural(count))
 }
 
 /// Adds the line of the sum: how many faults in how many of all cards of a source.
 #[tactic(auto, unfolding(crate::specs::Blocks::sum_line))]
 pub(crate) fn push_sum(
-    alloc: Global,
     text: &mut Vec<u8>,
     faults: &[CardFault],
     cards: usize,
 ) -> Result<(), AllocError>
     ensures { OnOk result (text.new.items ≡ text.old.items ++ sum_line faults.now cards) }
 {
-    push_counted(alloc, text, faults.len(), "fault")?;
-    let at_fault = cards_at_fault(faults);
-    let told = format!(in alloc; " in {at_fault} of ")?;
-    push_text(text, told.as_str())?;
-    push_counted(alloc, text, cards, "card")?;
+    push_counted(text, faults.len(), "fault")?;
+    push_number_between(text, b" in ", cards_at_fault(faults), b" of ")?;
+    push_counted(text, cards, "card")?;
     text.push(LINE_FEED)?;
     Ok(())
 }

@@ -26,10 +26,10 @@ pub(crate) fn push_hint(
         ≡ text.old.items ++ hint_of layout.now index line.now fault) }
 {
     match fault {
-        SourceFault::TakenLabel => push_taken(alloc, text, layout, line),
+        SourceFault::TakenLabel => push_taken(text, layout, line),
         SourceFault::UnknownName => push_unknown(alloc, text, layout, index, line),
-        SourceFault::Outside => push_outside(alloc, text, layout, line),
-        SourceFault::Filled => push_filled(alloc, text, layout, index),
+        SourceFault::Outside => push_outside(text, layout, line),
+        SourceFault::Filled => push_filled(text, layout, index),
         _ => Ok(()),
     }
 }

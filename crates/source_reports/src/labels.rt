@@ -4,10 +4,10 @@ ghost use Rattle.std.specs.Prelude.{◌≡◌, ◌++◌, OnOk};
 ghost use Rattle.source_reports.specs.Labels.{label_of, taken_hint};
 
 use crate::names::first_card;
-use crate::pieces::push_text;
 use autocoder_layout::{Layout, Line};
 use autocoder_statements::{Name, Statement};
-use std::alloc::{AllocError, Global};
+use std::alloc::AllocError;
+use texts::push_number_between;
 
 /// The label that a card says it defines.
 fn label_of(line: &Line) -> Option<Name>
@@ -24,12 +24,7 @@ fn label_of(line: &Line) -> Option<Name>
 
 /// Adds the card that has a label first.
 #[tactic(auto, unfolding(crate::specs::Labels::taken_hint))]
-pub(crate) fn push_taken(
-    alloc: Global,
-    text: &mut Vec<u8>,
-    layout: &Layout,
-    line: &Line,
-) -> Result<(), AllocError>
+pub(crate) fn push_taken(text: &mut Vec<u8>, layout: &Layout, line: &Line) -> Result<(), AllocError>
     ensures { OnOk result (text.new.items ≡ text.old.items ++ taken_hint layout.now line.now) }
 {
     let Some(label) = label_of(line) else {
@@ -38,6 +33,5 @@ pub(crate) fn push_taken(
     let Some(card) = first_card(layout.slots(), &label) else {
         return Ok(());
     };
-    let told = format!(in alloc; "; card {card} has it first")?;
-    push_text(text, told.as_str())
+    push_number_between(text, b"; card ", card, b" has it first")
 }

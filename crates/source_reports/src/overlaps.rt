@@ -7,7 +7,8 @@ ghost use Rattle.source_reports.specs.Overlaps.{end_of_fill, first_filler, has_b
 use crate::pieces::push_text;
 use autocoder::{fills, push_number};
 use autocoder_layout::{Layout, Slot, is_closed};
-use std::alloc::{AllocError, Global};
+use std::alloc::AllocError;
+use texts::push_number_between;
 
 /// Whether a card is an instruction behind which a marked blank is placed.
 fn has_blank(slots: &[Slot], index: usize) -> bool
@@ -68,27 +69,18 @@ fn first_filler(slots: &[Slot], index: usize) -> Option<usize>
 }
 
 /// Adds the card that fills a position first, and the position.
-fn push_filler(
-    alloc: Global,
-    text: &mut Vec<u8>,
-    earlier: usize,
-    position: u32,
-) -> Result<(), AllocError>
+fn push_filler(text: &mut Vec<u8>, earlier: usize, position: u32) -> Result<(), AllocError>
     requires { earlier < usize.MAX }
     ensures { OnOk result (text.new.items ≡ text.old.items ++ filler_text earlier position) }
 {
-    let card = earlier + 1;
-    let told = format!(in alloc; "; card {card} fills ")?;
-    push_text(text, told.as_str())?;
+    push_number_between(text, b"; card ", earlier + 1, b" fills ")?;
     push_number(text, b'0', 5, position as u64)?;
-    push_text(text, " first")?;
-    Ok(())
+    push_text(text, " first")
 }
 
 /// Adds the earlier card that fills a position of a card first, and the position.
 #[tactic(auto, unfolding(crate::specs::Overlaps::filled_hint))]
 pub(crate) fn push_filled(
-    alloc: Global,
     text: &mut Vec<u8>,
     layout: &Layout,
     index: usize,
@@ -101,6 +93,6 @@ pub(crate) fn push_filled(
     }
     match first_filler(slots, index) {
         None => Ok(()),
-        Some(earlier) => { push_filler(alloc, text, earlier, meeting_place(slots, earlier, index)) }
+        Some(earlier) => { push_filler(text, earlier, meeting_place(slots, earlier, index)) }
     }
 }

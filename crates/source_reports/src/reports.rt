@@ -49,7 +49,7 @@ fn text_of_faults(alloc: Global, deck: &Deck, faulty: &Faulty) -> Result<Vec<u8>
     let source = source_of(deck.cards());
     let mut text = Vec::new(alloc);
     push_blocks(alloc, &mut text, &faulty.layout, source, &faulty.faults)?;
-    push_sum(alloc, &mut text, &faulty.faults, source.len())?;
+    push_sum(&mut text, &faulty.faults, source.len())?;
     Ok(text)
 }
 

@@ -1,4 +1,4 @@
-use Rattle.std.proofs.Common.{◌∙◌, ◌++◌, ap}
+use Rattle.std.proofs.Common.{◌++◌}
 use Rattle.std.specs.Prelude.{codes, decimal}
 use Rattle.source_reports.specs.OutsideAddresses.{reached_text}
 use Rattle.source_reports.proofs.PieceLemmas.{three_pieces}
@@ -8,6 +8,5 @@ pub returns : goal.returns
 returns c =
     three_pieces c.args.text.now.items (codes ": ") (reached_text c.args.adjustment c.args.number)
     (codes ", and the size is " ++ decimal c.args.size)
-    c.push_text.new.text.items c.push_reached.new.text.items c.push_text-2.new.text.items
-    c.in_ok-push_text.ensures c.in_ok-push_reached.ensures
-    (c.in_ok-push_text-2.ensures ∙ ap (λ piece. c.push_reached.new.text.items ++ piece) (c.as_str.ensures.value ∙ c.in_ok-told.ensures.ok))
+    c.push_text.new.text.items c.push_reached.new.text.items c.push_size.new.text.items
+    c.in_ok-push_text.ensures c.in_ok-push_reached.ensures c.in_ok-push_size.ensures
