@@ -24,7 +24,7 @@ complaint_line program Row = program
 complaint_line program (Arguments usage) =
     program ++ codes ": the words after the row's name are not as it has them\n"
 complaint_line program (Hyphen word usage) = program ++ (codes ": `" ++ (word.now
-    ++ codes "` begins with a hyphen; if it is a value, put `--` before the values\n"))
+    ++ codes "` begins with a hyphen; put `--` before the values if it is one\n"))
 complaint_line program (Value said) = program ++ (codes ": " ++ (said.now ++ codes "\n"))
 
 -- how the row is used that the words begin with, where they are not used so

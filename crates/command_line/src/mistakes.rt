@@ -76,7 +76,7 @@ fn complain<E: Write>(errors: &mut E, program: &str, mistake: Mistake<'_>) -> io
         Mistake::Hyphen(word, _) => {
             writeln!(
                 errors,
-                "{program}: `{word}` begins with a hyphen; if it is a value, put `--` before the values"
+                "{program}: `{word}` begins with a hyphen; put `--` before the values if it is one"
             )
         }
         Mistake::Value(said) => writeln!(errors, "{program}: {said}"),

@@ -188,7 +188,11 @@ fn row_task<'a>(row: RowName, found: &Found<'a>) -> Result<Task<'a>, Mistake<'a>
 }
 
 /// The task of a row by words that have it, unless one of them is an option.
-fn clear_task<'a>(words: &'a [String], row: RowName, found: &Found<'a>) -> Result<Task<'a>, Mistake<'a>>
+fn clear_task<'a>(
+    words: &'a [String],
+    row: RowName,
+    found: &Found<'a>,
+) -> Result<Task<'a>, Mistake<'a>>
     ensures ok { IfOk result (λ task. (is_clear bureau (texts words.now) ≡ true)
         × WantsRow row (values_found (given found.now) row) task) }
     ensures mistake { IfErr result (λ mistake.
