@@ -31,7 +31,7 @@ impl<'a> Found<'a> {
     }
 
     /// Returns the value of an argument that the row cannot lack.
-    pub fn needed(&self, name: &str) -> Result<&'a str, Mistake<'a>>
+    pub fn needed(&self, name: &str) -> Result<&'a str, Mistake<'static>>
         ensures { IfOk result (λ text. HasArgument name.now (given self.now) text.now) }
     {
         match self.value(name) {

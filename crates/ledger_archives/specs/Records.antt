@@ -1,7 +1,5 @@
 -- the record of a job: a word and its values a line
 use Rattle.std.specs.Prelude.{ℕ, ◌+◌, Bool, true, false, List, [], ◌∷◌, ◌++◌, codes, decimal, flat_map}
-use Rattle.hex.specs.Hex.{encode_lower}
-use Rattle.sha2.specs.Sha256.{sha256}
 use Rattle.core_store.specs.Storage.{positions_of}
 use Rattle.machine.specs.Standings.{standing_words}
 use Rattle.office.specs.Jobs.{cards_by}
@@ -11,6 +9,7 @@ use Rattle.office.specs.declared.commands.Kind.{Kind}
 use Rattle.office.specs.declared.commands.Kind.TheVariants.{Object, Autocoder}
 use Rattle.office.specs.declared.stretches.Stretch.{Stretch}
 use Rattle.office.specs.declared.summaries.Summary.{Summary}
+use Rattle.texts.specs.Digests.{digest_of}
 use Rattle.texts.specs.Switches as switches
 use Rattle.units.specs.declared.pockets.Pocket.{Pocket}
 use Rattle.units.specs.declared.pockets.Pocket.TheVariants.{Normal, Four, Eight}
@@ -41,10 +40,6 @@ yes_or_no false = codes "no"
 abbrev pub stretch_line : Stretch → List ℕ
 stretch_line s = codes "stretch " ++ switches.text_of s.switches ++ codes " " ++ decimal s.granted
     ++ codes "\n"
-
--- the digest of bytes: their SHA-256, in lower-case hexadecimal digits
-abbrev pub digest_of : List ℕ → List ℕ
-digest_of bytes = encode_lower (sha256 bytes)
 
 -- the line of a file: the digest of its bytes, and its name
 abbrev pub digest_line : List ℕ → List ℕ → List ℕ

@@ -1,13 +1,12 @@
 //! Lines of a record: a word, and its values.
 
 ghost use Rattle.std.specs.Prelude.{◌≡◌, ◌++◌, codes, decimal, OnOk};
-ghost use Rattle.ledger_archives.specs.Records.{apart_line, digest_line, digest_of, line, pocket_line, stretch_line};
+ghost use Rattle.ledger_archives.specs.Records.{apart_line, digest_line, line, pocket_line, stretch_line};
 
 use itoa::Buffer;
 use office::Stretch;
-use sha2::{Digest, Sha256};
 use std::alloc::{AllocError, Global};
-use texts::{push_decimal, push_switches};
+use texts::{push_decimal, push_digest, push_switches};
 use units::Pocket;
 
 /// Adds a line with a word and its value.
@@ -59,15 +58,6 @@ pub(crate) fn push_pocket(out: &mut Vec<u8>, place: usize, pocket: Pocket) -> Re
         Pocket::Four => push_apart(out, place, 4),
         Pocket::Eight => push_apart(out, place, 8),
     }
-}
-
-/// Adds the SHA-256 of bytes (FIPS 180-4) in lower-case hexadecimal digits.
-fn push_digest(alloc: Global, out: &mut Vec<u8>, bytes: &[u8]) -> Result<(), AllocError>
-    ensures { OnOk result (out.new.items ≡ out.old.items ++ digest_of bytes.now) }
-{
-    let digest = Sha256::digest(bytes);
-    let digits = hex::encode(alloc, &digest)?;
-    out.extend_from_slice(digits.as_bytes())
 }
 
 /// Adds the line of a file: the digest of its bytes, and its name.

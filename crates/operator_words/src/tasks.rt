@@ -9,9 +9,10 @@ ghost use Rattle.operator_words.specs.Tasks.{AreRounds, IsPortIn, Wants, WantsAr
 
 use crate::help::{VERSION, page};
 use crate::rows::{OPERATOR, RowName};
-use crate::values::{up_to, up_to_if, up_to_or};
+use crate::values::{up_to_if, up_to_or};
 use command_line::{Asked, Found, Mistake, asked_by};
 use std::alloc::Global;
+use texts::number_up_to;
 
 /// The rounds in which a queue is run.
 #[derive(Clone, Copy)]
@@ -77,7 +78,7 @@ pub enum Task<'a> {
 const NO_PORT: &str = "PORT must be a number from 1 to 65535";
 
 /// The task of a row `check`.
-fn check_task<'a>(found: &Found<'a>) -> Result<Task<'a>, Mistake>
+fn check_task<'a>(found: &Found<'a>) -> Result<Task<'a>, Mistake<'a>>
     ensures { IfOk result (WantsCheck (given found.now)) }
 {
     let file = found.needed("FILE")?;
@@ -85,7 +86,7 @@ fn check_task<'a>(found: &Found<'a>) -> Result<Task<'a>, Mistake>
 }
 
 /// The task of a row `jobs`.
-fn jobs_task<'a>(found: &Found<'a>) -> Result<Task<'a>, Mistake>
+fn jobs_task<'a>(found: &Found<'a>) -> Result<Task<'a>, Mistake<'a>>
     ensures { IfOk result (WantsJobs (given found.now)) }
 {
     let file = found.needed("FILE")?;
@@ -94,7 +95,7 @@ fn jobs_task<'a>(found: &Found<'a>) -> Result<Task<'a>, Mistake>
 }
 
 /// The task of a row `copy`.
-fn copy_task<'a>(found: &Found<'a>) -> Result<Task<'a>, Mistake>
+fn copy_task<'a>(found: &Found<'a>) -> Result<Task<'a>, Mistake<'a>>
     ensures { IfOk result (WantsCopy (given found.now)) }
 {
     let file = found.needed("FILE")?;
@@ -103,7 +104,7 @@ fn copy_task<'a>(found: &Found<'a>) -> Result<Task<'a>, Mistake>
 }
 
 /// The task of a row `archive`.
-fn archive_task<'a>(found: &Found<'a>) -> Result<Task<'a>, Mistake>
+fn archive_task<'a>(found: &Found<'a>) -> Result<Task<'a>, Mistake<'a>>
     ensures { IfOk result (WantsArchive (given found.now)) }
 {
     let file = found.needed("FILE")?;
@@ -112,18 +113,16 @@ fn archive_task<'a>(found: &Found<'a>) -> Result<Task<'a>, Mistake>
 }
 
 /// The port in PORT of a row.
-fn port_in(found: &Found<'_>) -> Result<u16, Mistake>
+fn port_in(found: &Found<'_>) -> Result<u16, Mistake<'static>>
     ensures { IfOk result (IsPortIn (given found.now)) }
 {
     let text = found.needed("PORT")?;
-    match up_to(text, 65_535) {
-        Some(port) => Ok(port as u16),
-        None => Err(Mistake::Value(NO_PORT)),
-    }
+    let port = number_up_to(text, 65_535).ok_or(Mistake::Value(NO_PORT))?;
+    Ok(port as u16)
 }
 
 /// The rounds that the options name.
-fn rounds_in(found: &Found<'_>) -> Result<Rounds, Mistake>
+fn rounds_in(found: &Found<'_>) -> Result<Rounds, Mistake<'static>>
     ensures { IfOk result (AreRounds (given found.now)) }
 {
     let slice = up_to_or(found, "slice", 2_000, 2_000)?;
@@ -133,7 +132,7 @@ fn rounds_in(found: &Found<'_>) -> Result<Rounds, Mistake>
 }
 
 /// The task of a row `work`.
-fn work_task<'a>(found: &Found<'a>) -> Result<Task<'a>, Mistake>
+fn work_task<'a>(found: &Found<'a>) -> Result<Task<'a>, Mistake<'a>>
     ensures { IfOk result (WantsWork (given found.now)) }
 {
     let port = port_in(found)?;
@@ -142,7 +141,7 @@ fn work_task<'a>(found: &Found<'a>) -> Result<Task<'a>, Mistake>
 }
 
 /// The task of a row `watch`.
-fn watch_task<'a>(found: &Found<'a>) -> Result<Task<'a>, Mistake>
+fn watch_task<'a>(found: &Found<'a>) -> Result<Task<'a>, Mistake<'a>>
     ensures { IfOk result (WantsWatch (given found.now)) }
 {
     let port = port_in(found)?;
@@ -156,7 +155,7 @@ fn watch_task<'a>(found: &Found<'a>) -> Result<Task<'a>, Mistake>
 }
 
 /// The task of a row, by what clap found after its name.
-fn row_task<'a>(row: RowName, found: &Found<'a>) -> Result<Task<'a>, Mistake>
+fn row_task<'a>(row: RowName, found: &Found<'a>) -> Result<Task<'a>, Mistake<'a>>
     ensures { IfOk result (WantsTask row (given found.now)) }
 {
     match row {
@@ -170,7 +169,7 @@ fn row_task<'a>(row: RowName, found: &Found<'a>) -> Result<Task<'a>, Mistake>
 }
 
 /// What the words ask for.
-fn wish_of<'a>(alloc: Global, words: &'a [String]) -> Result<Asked<'a, RowName>, Mistake>
+fn wish_of<'a>(alloc: Global, words: &'a [String]) -> Result<Asked<'a, RowName>, Mistake<'a>>
     ensures { IfOk result (λ asked. AsksFor operator (texts words.entry.now) (wish_as asked)) }
 {
     asked_by(alloc, &OPERATOR, words)
@@ -178,7 +177,7 @@ fn wish_of<'a>(alloc: Global, words: &'a [String]) -> Result<Asked<'a, RowName>,
 
 /// Returns the task that the words after the program's name ask for, or else what is wrong with
 /// them.
-pub fn task_of<'a>(alloc: Global, words: &'a [String]) -> Result<Task<'a>, Mistake>
+pub fn task_of<'a>(alloc: Global, words: &'a [String]) -> Result<Task<'a>, Mistake<'a>>
     ensures { IfOk result (Wants (texts words.entry.now)) }
 {
     let asked = wish_of(alloc, words)?;
