@@ -21,10 +21,7 @@ fn size_in(found: &Found<'_>) -> Result<Size, Mistake>
     ensures { IfOk result (λ size.
         HasArgument (codes "SIZE") (given found.now) (decimal (positions_of size))) }
 {
-    match size_of(found.needed("SIZE")?) {
-        Some(size) => Ok(size),
-        None => Err(Mistake::Value(SIZE_COMPLAINT)),
-    }
+    size_of(found.needed("SIZE")?).ok_or(Mistake::Value(SIZE_COMPLAINT))
 }
 
 /// The sense switches in SWITCHES.
@@ -33,23 +30,17 @@ fn switches_in(found: &Found<'_>) -> Result<Switches, Mistake>
     ensures switches { IfOk result (λ switches.
         HasArgument (codes "SWITCHES") (given found.now) (text_of switches)) }
 {
-    match switches_of(found.needed("SWITCHES")?) {
-        Some(switches) => Ok(switches),
-        None => Err(Mistake::Value(SWITCHES_COMPLAINT)),
-    }
+    switches_of(found.needed("SWITCHES")?).ok_or(Mistake::Value(SWITCHES_COMPLAINT))
 }
 
 /// What a machine begins with, whose deck or source is in an argument.
 pub(crate) fn setup_in<'a>(found: &Found<'a>, name: &str) -> Result<Setup<'a>, Mistake>
     ensures { IfOk result (IsSetup name.now (given found.now)) }
 {
-    let input = found.needed(name)?;
-    let size = size_in(found)?;
-    let switches = switches_in(found)?;
     Ok(Setup {
-        input,
-        size,
-        switches,
+        input: found.needed(name)?,
+        size: size_in(found)?,
+        switches: switches_in(found)?,
     })
 }
 
@@ -57,32 +48,27 @@ pub(crate) fn setup_in<'a>(found: &Found<'a>, name: &str) -> Result<Setup<'a>, M
 fn count(text: &str) -> Result<u32, Mistake>
     ensures { IfOk result (IsCount text.now) }
 {
-    match count_of(text) {
-        Some(count) => Ok(count),
-        None => Err(Mistake::Value(NO_NUMBER)),
-    }
+    count_of(text).ok_or(Mistake::Value(NO_NUMBER))
 }
 
 /// The number of an option, if it is given.
 fn number_in(found: &Found<'_>, name: &str) -> Result<Option<u32>, Mistake>
     ensures { IfOk result (λ number. GivesNumber name.now (given found.now) number) }
 {
-    let Some(text) = found.value(name) else {
-        return Ok(None);
-    };
-    let number = number(text)?;
-    Ok(Some(number))
+    match found.value(name) {
+        Some(text) => Ok(Some(number(text)?)),
+        None => Ok(None),
+    }
 }
 
 /// The number of an option that may be 0, if it is given.
 fn count_in(found: &Found<'_>, name: &str) -> Result<Option<u32>, Mistake>
     ensures { IfOk result (λ count. GivesCount name.now (given found.now) count) }
 {
-    let Some(text) = found.value(name) else {
-        return Ok(None);
-    };
-    let count = count(text)?;
-    Ok(Some(count))
+    match found.value(name) {
+        Some(text) => Ok(Some(count(text)?)),
+        None => Ok(None),
+    }
 }
 
 /// The number of `--from`; 1 where it is not given.
@@ -110,19 +96,13 @@ fn shown_in(found: &Found<'_>) -> Result<u32, Mistake>
 pub(crate) fn trace_task<'a>(found: &Found<'a>) -> Result<Task<'a>, Mistake>
     ensures { IfOk result (WantsTrace (given found.now)) }
 {
-    let setup = setup_in(found, "DECK")?;
-    let from = from_in(found)?;
-    let count = shown_in(found)?;
-    let stop = found.value("stop");
-    let names = found.value("names");
-    let fields = found.has_flag("fields");
     Ok(Task::Trace(Tracing {
-        setup,
-        from,
-        count,
-        stop,
-        names,
-        fields,
+        setup: setup_in(found, "DECK")?,
+        from: from_in(found)?,
+        count: shown_in(found)?,
+        stop: found.value("stop"),
+        names: found.value("names"),
+        fields: found.has_flag("fields"),
     }))
 }
 
@@ -130,17 +110,12 @@ pub(crate) fn trace_task<'a>(found: &Found<'a>) -> Result<Task<'a>, Mistake>
 pub(crate) fn dump_task<'a>(found: &Found<'a>) -> Result<Task<'a>, Mistake>
     ensures { IfOk result (WantsDump (given found.now)) }
 {
-    let setup = setup_in(found, "DECK")?;
-    let after = count_in(found, "after")?;
-    let stop = found.value("stop");
-    let first = count_in(found, "first")?;
-    let last = number_in(found, "last")?;
     Ok(Task::Dump(Dumping {
-        setup,
-        after,
-        stop,
-        first,
-        last,
+        setup: setup_in(found, "DECK")?,
+        after: count_in(found, "after")?,
+        stop: found.value("stop"),
+        first: count_in(found, "first")?,
+        last: number_in(found, "last")?,
     }))
 }
 

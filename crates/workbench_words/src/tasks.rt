@@ -209,12 +209,9 @@ pub enum Task<'a> {
 fn tabs_in(alloc: Global, found: &Found<'_>) -> Result<Vec<u8>, Mistake>
     ensures { IfOk result (λ tabs. HasTabs (given found.now) tabs.items) }
 {
-    let Some(text) = found.value("tabs") else {
-        return Ok(Vec::new(alloc));
-    };
-    match stops_of(alloc, text)? {
-        Some(tabs) => Ok(tabs),
-        None => Err(Mistake::Value(NO_TABS)),
+    match found.value("tabs") {
+        Some(text) => stops_of(alloc, text)?.ok_or(Mistake::Value(NO_TABS)),
+        None => Ok(Vec::new(alloc)),
     }
 }
 
@@ -222,12 +219,9 @@ fn tabs_in(alloc: Global, found: &Found<'_>) -> Result<Vec<u8>, Mistake>
 fn signs_in(found: &Found<'_>) -> Result<Signs, Mistake>
     ensures { IfOk result (λ signs. HasSigns (given found.now) signs) }
 {
-    let Some(word) = found.value("signs") else {
-        return Ok(Signs::Bureau);
-    };
-    match signs_of(word) {
-        Some(signs) => Ok(signs),
-        None => Err(Mistake::Value(NO_SIGNS)),
+    match found.value("signs") {
+        Some(word) => signs_of(word).ok_or(Mistake::Value(NO_SIGNS)),
+        None => Ok(Signs::Bureau),
     }
 }
 
@@ -238,22 +232,17 @@ fn kept_in(found: &Found<'_>) -> Result<Option<u8>, Mistake>
     let Some(text) = found.value("keep") else {
         return Ok(None);
     };
-    match column_of(text) {
-        Some(column) => Ok(Some(column)),
-        None => Err(Mistake::Value(NO_COLUMN)),
-    }
+    let column = column_of(text).ok_or(Mistake::Value(NO_COLUMN))?;
+    Ok(Some(column))
 }
 
 /// What an empty line is by `--empty`; a card where it is not given.
 fn empty_in(found: &Found<'_>) -> Result<EmptyLine, Mistake>
     ensures { IfOk result (λ empty. HasEmpty (given found.now) empty) }
 {
-    let Some(word) = found.value("empty") else {
-        return Ok(EmptyLine::Card);
-    };
-    match empty_of(word) {
-        Some(empty) => Ok(empty),
-        None => Err(Mistake::Value(NO_EMPTY_LINE)),
+    match found.value("empty") {
+        Some(word) => empty_of(word).ok_or(Mistake::Value(NO_EMPTY_LINE)),
+        None => Ok(EmptyLine::Card),
     }
 }
 
@@ -270,12 +259,11 @@ fn punch_task<'a>(alloc: Global, found: &Found<'a>) -> Result<Task<'a>, Mistake>
         keeps: kept_in(found)?,
         empty: empty_in(found)?,
     };
-    let reports = found.has_flag("report");
     Ok(Task::Punch(Punching {
         text,
         out,
         rules,
-        reports,
+        reports: found.has_flag("report"),
     }))
 }
 
@@ -283,13 +271,10 @@ fn punch_task<'a>(alloc: Global, found: &Found<'a>) -> Result<Task<'a>, Mistake>
 fn list_task<'a>(found: &Found<'a>) -> Result<Task<'a>, Mistake>
     ensures { IfOk result (WantsList (given found.now)) }
 {
-    let deck = found.needed("DECK")?;
-    let ruler = found.has_flag("ruler");
-    let punches = found.has_flag("punches");
     Ok(Task::List {
-        deck,
-        ruler,
-        punches,
+        deck: found.needed("DECK")?,
+        ruler: found.has_flag("ruler"),
+        punches: found.has_flag("punches"),
     })
 }
 
@@ -306,10 +291,7 @@ fn compare_task<'a>(found: &Found<'a>) -> Result<Task<'a>, Mistake>
 pub(crate) fn number(text: &str) -> Result<u32, Mistake>
     ensures { IfOk result (IsNumeral text.now) }
 {
-    match number_of(text) {
-        Some(number) => Ok(number),
-        None => Err(Mistake::Value(NO_NUMBER)),
-    }
+    number_of(text).ok_or(Mistake::Value(NO_NUMBER))
 }
 
 /// The task of a row `sequence`: with one value a check, with five a numbering.
@@ -320,16 +302,12 @@ fn sequence_task<'a>(found: &Found<'a>) -> Result<Task<'a>, Mistake>
     if found.value("OUT").is_none() {
         return Ok(Task::CheckNumbers { deck });
     }
-    let out = found.needed("OUT")?;
-    let ident = found.needed("IDENT")?;
-    let first = number(found.needed("FIRST")?)?;
-    let step = number(found.needed("STEP")?)?;
     Ok(Task::Number(Numbering {
         deck,
-        out,
-        ident,
-        first,
-        step,
+        out: found.needed("OUT")?,
+        ident: found.needed("IDENT")?,
+        first: number(found.needed("FIRST")?)?,
+        step: number(found.needed("STEP")?)?,
     }))
 }
 
@@ -338,25 +316,18 @@ fn form_in(found: &Found<'_>, name: &str) -> Result<Form, Mistake>
     ensures { IfOk result (λ form.
         HasArgument name.now (given found.now) (word_of form)) }
 {
-    match Form::of(found.needed(name)?) {
-        Some(form) => Ok(form),
-        None => Err(Mistake::Value(NO_FORM)),
-    }
+    Form::of(found.needed(name)?).ok_or(Mistake::Value(NO_FORM))
 }
 
 /// The task of a row `convert`.
 fn convert_task<'a>(found: &Found<'a>) -> Result<Task<'a>, Mistake>
     ensures { IfOk result (WantsConvert (given found.now)) }
 {
-    let deck = found.needed("IN")?;
-    let out = found.needed("OUT")?;
-    let reads = form_in(found, "FROM")?;
-    let writes = form_in(found, "TO")?;
     Ok(Task::Convert {
-        deck,
-        out,
-        reads,
-        writes,
+        deck: found.needed("IN")?,
+        out: found.needed("OUT")?,
+        reads: form_in(found, "FROM")?,
+        writes: form_in(found, "TO")?,
     })
 }
 
@@ -364,12 +335,9 @@ fn convert_task<'a>(found: &Found<'a>) -> Result<Task<'a>, Mistake>
 fn narrow_in(found: &Found<'_>) -> Result<bool, Mistake>
     ensures { IfOk result (λ narrow. IsNarrow (given found.now) narrow) }
 {
-    let Some(word) = found.value("width") else {
-        return Ok(false);
-    };
-    match narrow_of(word) {
-        Some(narrow) => Ok(narrow),
-        None => Err(Mistake::Value(NO_WIDTH)),
+    match found.value("width") {
+        Some(word) => narrow_of(word).ok_or(Mistake::Value(NO_WIDTH)),
+        None => Ok(false),
     }
 }
 
@@ -377,13 +345,10 @@ fn narrow_in(found: &Found<'_>) -> Result<bool, Mistake>
 fn source_task<'a>(found: &Found<'a>) -> Result<Task<'a>, Mistake>
     ensures { IfOk result (WantsSource (given found.now)) }
 {
-    let source = found.needed("IN")?;
-    let narrow = narrow_in(found)?;
-    let with_data = found.has_flag("data");
     Ok(Task::Source {
-        source,
-        narrow,
-        with_data,
+        source: found.needed("IN")?,
+        narrow: narrow_in(found)?,
+        with_data: found.has_flag("data"),
     })
 }
 
@@ -394,10 +359,8 @@ fn option_form_in(found: &Found<'_>) -> Result<Option<Form>, Mistake>
     let Some(word) = found.value("form") else {
         return Ok(None);
     };
-    match Form::of(word) {
-        Some(form) => Ok(Some(form)),
-        None => Err(Mistake::Value(NO_FORM)),
-    }
+    let form = Form::of(word).ok_or(Mistake::Value(NO_FORM))?;
+    Ok(Some(form))
 }
 
 /// The task of a row `manifest`.

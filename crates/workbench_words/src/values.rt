@@ -112,40 +112,32 @@ pub(crate) fn stops_of(alloc: Global, text: &str) -> Result<Option<Vec<u8>>, All
 pub(crate) fn signs_of(word: &str) -> Option<Signs>
     ensures { IfSome result (λ signs. word.now ≡ word_of_signs signs) }
 {
-    if word == "simh" {
-        return Some(Signs::Simh);
+    match word {
+        "simh" => Some(Signs::Simh),
+        "glyphs" => Some(Signs::Bureau),
+        _ => None,
     }
-    if word == "glyphs" {
-        return Some(Signs::Bureau);
-    }
-    None
 }
 
 /// What an empty line is, by its name: `card`, `drop` or `fault`.
 pub(crate) fn empty_of(word: &str) -> Option<EmptyLine>
     ensures { IfSome result (λ empty. word.now ≡ word_of_empty empty) }
 {
-    if word == "card" {
-        return Some(EmptyLine::Card);
+    match word {
+        "card" => Some(EmptyLine::Card),
+        "drop" => Some(EmptyLine::Dropped),
+        "fault" => Some(EmptyLine::Fault),
+        _ => None,
     }
-    if word == "drop" {
-        return Some(EmptyLine::Dropped);
-    }
-    if word == "fault" {
-        return Some(EmptyLine::Fault);
-    }
-    None
 }
 
 /// Whether a width is that of the narrow listing: `80`, and not `120`.
 pub(crate) fn narrow_of(word: &str) -> Option<bool>
     ensures { IfSome result (λ narrow. word.now ≡ word_of_width narrow) }
 {
-    if word == "80" {
-        return Some(true);
+    match word {
+        "80" => Some(true),
+        "120" => Some(false),
+        _ => None,
     }
-    if word == "120" {
-        return Some(false);
-    }
-    None
 }
