@@ -17,7 +17,7 @@ use texts::{size_of, switches_of};
 use units::Switches;
 
 /// The size of storage in SIZE.
-fn size_in(found: &Found<'_>) -> Result<Size, Mistake>
+fn size_in(found: &Found<'_>) -> Result<Size, Mistake<'static>>
     ensures { IfOk result (λ size.
         HasArgument (codes "SIZE") (given found.now) (decimal (positions_of size))) }
 {
@@ -25,7 +25,7 @@ fn size_in(found: &Found<'_>) -> Result<Size, Mistake>
 }
 
 /// The sense switches in SWITCHES.
-fn switches_in(found: &Found<'_>) -> Result<Switches, Mistake>
+fn switches_in(found: &Found<'_>) -> Result<Switches, Mistake<'static>>
     ensures seven { IfOk result AreSeven }
     ensures switches { IfOk result (λ switches.
         HasArgument (codes "SWITCHES") (given found.now) (text_of switches)) }
@@ -34,7 +34,7 @@ fn switches_in(found: &Found<'_>) -> Result<Switches, Mistake>
 }
 
 /// What a machine begins with, whose deck or source is in an argument.
-pub(crate) fn setup_in<'a>(found: &Found<'a>, name: &str) -> Result<Setup<'a>, Mistake>
+pub(crate) fn setup_in<'a>(found: &Found<'a>, name: &str) -> Result<Setup<'a>, Mistake<'static>>
     ensures { IfOk result (IsSetup name.now (given found.now)) }
 {
     Ok(Setup {
@@ -45,14 +45,14 @@ pub(crate) fn setup_in<'a>(found: &Found<'a>, name: &str) -> Result<Setup<'a>, M
 }
 
 /// A number that may be 0.
-fn count(text: &str) -> Result<u32, Mistake>
+fn count(text: &str) -> Result<u32, Mistake<'static>>
     ensures { IfOk result (IsCount text.now) }
 {
     count_of(text).ok_or(Mistake::Value(NO_NUMBER))
 }
 
 /// The number of an option, if it is given.
-fn number_in(found: &Found<'_>, name: &str) -> Result<Option<u32>, Mistake>
+fn number_in(found: &Found<'_>, name: &str) -> Result<Option<u32>, Mistake<'static>>
     ensures { IfOk result (λ number. GivesNumber name.now (given found.now) number) }
 {
     match found.value(name) {
@@ -62,7 +62,7 @@ fn number_in(found: &Found<'_>, name: &str) -> Result<Option<u32>, Mistake>
 }
 
 /// The number of an option that may be 0, if it is given.
-fn count_in(found: &Found<'_>, name: &str) -> Result<Option<u32>, Mistake>
+fn count_in(found: &Found<'_>, name: &str) -> Result<Option<u32>, Mistake<'static>>
     ensures { IfOk result (λ count. GivesCount name.now (given found.now) count) }
 {
     match found.value(name) {
@@ -72,7 +72,7 @@ fn count_in(found: &Found<'_>, name: &str) -> Result<Option<u32>, Mistake>
 }
 
 /// The number of `--from`; 1 where it is not given.
-fn from_in(found: &Found<'_>) -> Result<u32, Mistake>
+fn from_in(found: &Found<'_>) -> Result<u32, Mistake<'static>>
     ensures { IfOk result (λ from. HasNumber (codes "from") 1 (given found.now) from) }
 {
     let Some(text) = found.value("from") else {
@@ -82,7 +82,7 @@ fn from_in(found: &Found<'_>) -> Result<u32, Mistake>
 }
 
 /// The number of `--count`; 1,000 where it is not given.
-fn shown_in(found: &Found<'_>) -> Result<u32, Mistake>
+fn shown_in(found: &Found<'_>) -> Result<u32, Mistake<'static>>
     ensures { IfOk result (λ count.
         HasCount (codes "count") 1000 (given found.now) count) }
 {
@@ -93,7 +93,7 @@ fn shown_in(found: &Found<'_>) -> Result<u32, Mistake>
 }
 
 /// The task of a row `trace`.
-pub(crate) fn trace_task<'a>(found: &Found<'a>) -> Result<Task<'a>, Mistake>
+pub(crate) fn trace_task<'a>(found: &Found<'a>) -> Result<Task<'a>, Mistake<'static>>
     ensures { IfOk result (WantsTrace (given found.now)) }
 {
     Ok(Task::Trace(Tracing {
@@ -107,7 +107,7 @@ pub(crate) fn trace_task<'a>(found: &Found<'a>) -> Result<Task<'a>, Mistake>
 }
 
 /// The task of a row `dump`.
-pub(crate) fn dump_task<'a>(found: &Found<'a>) -> Result<Task<'a>, Mistake>
+pub(crate) fn dump_task<'a>(found: &Found<'a>) -> Result<Task<'a>, Mistake<'static>>
     ensures { IfOk result (WantsDump (given found.now)) }
 {
     Ok(Task::Dump(Dumping {
@@ -120,7 +120,7 @@ pub(crate) fn dump_task<'a>(found: &Found<'a>) -> Result<Task<'a>, Mistake>
 }
 
 /// The task of a row `profile`.
-pub(crate) fn profile_task<'a>(found: &Found<'a>) -> Result<Task<'a>, Mistake>
+pub(crate) fn profile_task<'a>(found: &Found<'a>) -> Result<Task<'a>, Mistake<'static>>
     ensures { IfOk result (WantsProfile (given found.now)) }
 {
     let setup = setup_in(found, "DECK")?;
@@ -129,7 +129,7 @@ pub(crate) fn profile_task<'a>(found: &Found<'a>) -> Result<Task<'a>, Mistake>
 }
 
 /// The task of a row `console`.
-pub(crate) fn console_task<'a>(found: &Found<'a>) -> Result<Task<'a>, Mistake>
+pub(crate) fn console_task<'a>(found: &Found<'a>) -> Result<Task<'a>, Mistake<'static>>
     ensures { IfOk result (WantsConsole (given found.now)) }
 {
     let setup = setup_in(found, "DECK")?;

@@ -9,7 +9,7 @@ use crate::tasks::{Task, number};
 use command_line::{Found, Mistake};
 
 /// The task of a row `card`.
-pub(crate) fn card_task<'a>(found: &Found<'a>) -> Result<Task<'a>, Mistake>
+pub(crate) fn card_task<'a>(found: &Found<'a>) -> Result<Task<'a>, Mistake<'static>>
     ensures { IfOk result (WantsCard (given found.now)) }
 {
     let deck = found.needed("DECK")?;
@@ -19,7 +19,7 @@ pub(crate) fn card_task<'a>(found: &Found<'a>) -> Result<Task<'a>, Mistake>
 }
 
 /// The task of a row `deck`.
-pub(crate) fn deck_task<'a>(found: &Found<'a>) -> Result<Task<'a>, Mistake>
+pub(crate) fn deck_task<'a>(found: &Found<'a>) -> Result<Task<'a>, Mistake<'static>>
     ensures { IfOk result (WantsDeck (given found.now)) }
 {
     let deck = found.needed("DECK")?;
@@ -28,7 +28,7 @@ pub(crate) fn deck_task<'a>(found: &Found<'a>) -> Result<Task<'a>, Mistake>
 }
 
 /// The task of a row `pages`.
-pub(crate) fn pages_task<'a>(found: &Found<'a>) -> Result<Task<'a>, Mistake>
+pub(crate) fn pages_task<'a>(found: &Found<'a>) -> Result<Task<'a>, Mistake<'static>>
     ensures { IfOk result (WantsPages (given found.now)) }
 {
     let listing = found.needed("LISTING")?;
@@ -37,7 +37,7 @@ pub(crate) fn pages_task<'a>(found: &Found<'a>) -> Result<Task<'a>, Mistake>
 }
 
 /// The task of a row `page`.
-pub(crate) fn page_task<'a>(found: &Found<'a>) -> Result<Task<'a>, Mistake>
+pub(crate) fn page_task<'a>(found: &Found<'a>) -> Result<Task<'a>, Mistake<'static>>
     ensures { IfOk result (WantsPage (given found.now)) }
 {
     let setup = setup_in(found, "SOURCE")?;

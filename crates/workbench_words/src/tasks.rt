@@ -206,7 +206,7 @@ pub enum Task<'a> {
 }
 
 /// The columns of `--tabs`; none where it is not given.
-fn tabs_in(alloc: Global, found: &Found<'_>) -> Result<Vec<u8>, Mistake>
+fn tabs_in(alloc: Global, found: &Found<'_>) -> Result<Vec<u8>, Mistake<'static>>
     ensures { IfOk result (λ tabs. HasTabs (given found.now) tabs.items) }
 {
     match found.value("tabs") {
@@ -216,7 +216,7 @@ fn tabs_in(alloc: Global, found: &Found<'_>) -> Result<Vec<u8>, Mistake>
 }
 
 /// The table of `--signs`; the glyphs of a deck text where it is not given.
-fn signs_in(found: &Found<'_>) -> Result<Signs, Mistake>
+fn signs_in(found: &Found<'_>) -> Result<Signs, Mistake<'static>>
     ensures { IfOk result (λ signs. HasSigns (given found.now) signs) }
 {
     match found.value("signs") {
@@ -226,7 +226,7 @@ fn signs_in(found: &Found<'_>) -> Result<Signs, Mistake>
 }
 
 /// The column of `--keep`, if it is given.
-fn kept_in(found: &Found<'_>) -> Result<Option<u8>, Mistake>
+fn kept_in(found: &Found<'_>) -> Result<Option<u8>, Mistake<'static>>
     ensures { IfOk result (λ keeps. HasKept (given found.now) keeps) }
 {
     let Some(text) = found.value("keep") else {
@@ -237,7 +237,7 @@ fn kept_in(found: &Found<'_>) -> Result<Option<u8>, Mistake>
 }
 
 /// What an empty line is by `--empty`; a card where it is not given.
-fn empty_in(found: &Found<'_>) -> Result<EmptyLine, Mistake>
+fn empty_in(found: &Found<'_>) -> Result<EmptyLine, Mistake<'static>>
     ensures { IfOk result (λ empty. HasEmpty (given found.now) empty) }
 {
     match found.value("empty") {
@@ -247,7 +247,7 @@ fn empty_in(found: &Found<'_>) -> Result<EmptyLine, Mistake>
 }
 
 /// The task of a row `punch`.
-fn punch_task<'a>(alloc: Global, found: &Found<'a>) -> Result<Task<'a>, Mistake>
+fn punch_task<'a>(alloc: Global, found: &Found<'a>) -> Result<Task<'a>, Mistake<'static>>
     ensures { IfOk result (WantsPunch (given found.now)) }
 {
     let text = found.needed("IN")?;
@@ -268,7 +268,7 @@ fn punch_task<'a>(alloc: Global, found: &Found<'a>) -> Result<Task<'a>, Mistake>
 }
 
 /// The task of a row `list`.
-fn list_task<'a>(found: &Found<'a>) -> Result<Task<'a>, Mistake>
+fn list_task<'a>(found: &Found<'a>) -> Result<Task<'a>, Mistake<'static>>
     ensures { IfOk result (WantsList (given found.now)) }
 {
     Ok(Task::List {
@@ -279,7 +279,7 @@ fn list_task<'a>(found: &Found<'a>) -> Result<Task<'a>, Mistake>
 }
 
 /// The task of a row `compare`.
-fn compare_task<'a>(found: &Found<'a>) -> Result<Task<'a>, Mistake>
+fn compare_task<'a>(found: &Found<'a>) -> Result<Task<'a>, Mistake<'static>>
     ensures { IfOk result (WantsCompare (given found.now)) }
 {
     let one = found.needed("ONE")?;
@@ -288,14 +288,14 @@ fn compare_task<'a>(found: &Found<'a>) -> Result<Task<'a>, Mistake>
 }
 
 /// A number of 1 to 9 digits without a zero in front.
-pub(crate) fn number(text: &str) -> Result<u32, Mistake>
+pub(crate) fn number(text: &str) -> Result<u32, Mistake<'static>>
     ensures { IfOk result (IsNumeral text.now) }
 {
     number_of(text).ok_or(Mistake::Value(NO_NUMBER))
 }
 
 /// The task of a row `sequence`: with one value a check, with five a numbering.
-fn sequence_task<'a>(found: &Found<'a>) -> Result<Task<'a>, Mistake>
+fn sequence_task<'a>(found: &Found<'a>) -> Result<Task<'a>, Mistake<'static>>
     ensures { IfOk result (WantsSequence (given found.now)) }
 {
     let deck = found.needed("IN")?;
@@ -312,7 +312,7 @@ fn sequence_task<'a>(found: &Found<'a>) -> Result<Task<'a>, Mistake>
 }
 
 /// The form that an argument names.
-fn form_in(found: &Found<'_>, name: &str) -> Result<Form, Mistake>
+fn form_in(found: &Found<'_>, name: &str) -> Result<Form, Mistake<'static>>
     ensures { IfOk result (λ form.
         HasArgument name.now (given found.now) (word_of form)) }
 {
@@ -320,7 +320,7 @@ fn form_in(found: &Found<'_>, name: &str) -> Result<Form, Mistake>
 }
 
 /// The task of a row `convert`.
-fn convert_task<'a>(found: &Found<'a>) -> Result<Task<'a>, Mistake>
+fn convert_task<'a>(found: &Found<'a>) -> Result<Task<'a>, Mistake<'static>>
     ensures { IfOk result (WantsConvert (given found.now)) }
 {
     Ok(Task::Convert {
@@ -332,7 +332,7 @@ fn convert_task<'a>(found: &Found<'a>) -> Result<Task<'a>, Mistake>
 }
 
 /// Whether `--width` asks for 80 columns; not where it is not given.
-fn narrow_in(found: &Found<'_>) -> Result<bool, Mistake>
+fn narrow_in(found: &Found<'_>) -> Result<bool, Mistake<'static>>
     ensures { IfOk result (λ narrow. IsNarrow (given found.now) narrow) }
 {
     match found.value("width") {
@@ -342,7 +342,7 @@ fn narrow_in(found: &Found<'_>) -> Result<bool, Mistake>
 }
 
 /// The task of a row `source`.
-fn source_task<'a>(found: &Found<'a>) -> Result<Task<'a>, Mistake>
+fn source_task<'a>(found: &Found<'a>) -> Result<Task<'a>, Mistake<'static>>
     ensures { IfOk result (WantsSource (given found.now)) }
 {
     Ok(Task::Source {
@@ -353,7 +353,7 @@ fn source_task<'a>(found: &Found<'a>) -> Result<Task<'a>, Mistake>
 }
 
 /// The form that `--form` names, if it is given.
-fn option_form_in(found: &Found<'_>) -> Result<Option<Form>, Mistake>
+fn option_form_in(found: &Found<'_>) -> Result<Option<Form>, Mistake<'static>>
     ensures { IfOk result (λ form. HasForm (given found.now) form) }
 {
     let Some(word) = found.value("form") else {
@@ -364,7 +364,7 @@ fn option_form_in(found: &Found<'_>) -> Result<Option<Form>, Mistake>
 }
 
 /// The task of a row `manifest`.
-fn manifest_task<'a>(alloc: Global, found: &Found<'a>) -> Result<Task<'a>, Mistake>
+fn manifest_task<'a>(alloc: Global, found: &Found<'a>) -> Result<Task<'a>, Mistake<'static>>
     ensures { IfOk result (WantsManifest (given found.now)) }
 {
     let decks = found.values(alloc, "FILE")?;
@@ -374,7 +374,11 @@ fn manifest_task<'a>(alloc: Global, found: &Found<'a>) -> Result<Task<'a>, Mista
 }
 
 /// The task of a row, by what clap found after its name.
-fn row_task<'a>(alloc: Global, row: RowName, found: &Found<'a>) -> Result<Task<'a>, Mistake>
+fn row_task<'a>(
+    alloc: Global,
+    row: RowName,
+    found: &Found<'a>,
+) -> Result<Task<'a>, Mistake<'static>>
     ensures { IfOk result (WantsTask row (given found.now)) }
 {
     match row {
@@ -397,7 +401,7 @@ fn row_task<'a>(alloc: Global, row: RowName, found: &Found<'a>) -> Result<Task<'
 }
 
 /// What the words ask for.
-fn wish_of<'a>(alloc: Global, words: &'a [String]) -> Result<Asked<'a, RowName>, Mistake>
+fn wish_of<'a>(alloc: Global, words: &'a [String]) -> Result<Asked<'a, RowName>, Mistake<'a>>
     ensures { IfOk result (λ asked. AsksFor workbench (texts words.entry.now) (wish_as asked)) }
 {
     asked_by(alloc, &WORKBENCH, words)
@@ -405,7 +409,7 @@ fn wish_of<'a>(alloc: Global, words: &'a [String]) -> Result<Asked<'a, RowName>,
 
 /// Returns the task that the words after the program's name ask for, or else what is wrong with
 /// them.
-pub fn task_of<'a>(alloc: Global, words: &'a [String]) -> Result<Task<'a>, Mistake>
+pub fn task_of<'a>(alloc: Global, words: &'a [String]) -> Result<Task<'a>, Mistake<'a>>
     ensures { IfOk result (Wants (texts words.entry.now)) }
 {
     let asked = wish_of(alloc, words)?;
