@@ -2,7 +2,7 @@
 
 ghost use Rattle.std.specs.Prelude.{IsSome};
 
-use crate::faults::tell_fault;
+use crate::faults::{done_or_told, found, tell_fault};
 use crate::job_folders::{Filed, file_job};
 use command_line::Status;
 use ledger_archives::files_of;
@@ -10,7 +10,7 @@ use ledger_checks::{
     AllRows, JobReport, JobRun, find_strays, job_text, read_rows, run_job, strays_text,
 };
 use ledger_files::{Look, look_into};
-use ledger_tables::{Fault, OpenFault};
+use ledger_tables::OpenFault;
 use sqlite::{Alter, Connection};
 use std::alloc::Global;
 use std::io::Write;
@@ -19,7 +19,7 @@ use std::{fs, io};
 /// The look of an archive into a bureau's tables: their rows, or what hindered it.
 #[derive(Drop)]
 struct RowsLook {
-    rows: Option<Result<AllRows, Fault>>,
+    rows: Option<Result<AllRows, OpenFault>>,
 }
 
 impl Look for RowsLook {
@@ -27,7 +27,7 @@ impl Look for RowsLook {
 
     fn look<S: Alter + Drop>(&mut self, _alloc: Global, conn: Connection<S>) -> S {
         let (rows, store) = read_rows(conn);
-        self.rows = Some(rows);
+        self.rows = Some(rows.map_err(OpenFault::from));
         store
     }
 }
@@ -43,6 +43,7 @@ struct Counts {
 /// The archive of the jobs of a bureau into a folder.
 #[derive(Drop)]
 struct Archiving<'a> {
+    rt: &'a HostRuntime,
     folder: &'a str,
     counts: Counts,
 }
@@ -89,35 +90,25 @@ impl Archiving<'_> {
     }
 
     /// Files a job that is as it ran.
-    fn file<W: Write>(&mut self, rt: &HostRuntime, run: &JobRun, output: &mut W) -> io::Result<()> {
-        let archive = files_of(rt.alloc(), run)?;
-        let filed = file_job(rt, self.folder, run.customer(), run.number(), &archive)?;
+    fn file<W: Write>(&mut self, run: &JobRun, output: &mut W) -> io::Result<()> {
+        let archive = files_of(self.rt.alloc(), run)?;
+        let filed = file_job(self.rt, self.folder, run.customer(), run.number(), &archive)?;
         self.tell(run, &filed, output)
     }
 
     /// Prints what differs of a job.
-    fn tell_difference<W: Write>(
-        &mut self,
-        rt: &HostRuntime,
-        report: &JobReport,
-        output: &mut W,
-    ) -> io::Result<()> {
+    fn tell_difference<W: Write>(&mut self, report: &JobReport, output: &mut W) -> io::Result<()> {
         self.counts.differing = self.counts.differing.saturating_add(1);
-        let text = job_text(rt.alloc(), report)?;
+        let text = job_text(self.rt.alloc(), report)?;
         output.write_all(&text)
     }
 
     /// Runs each job again, and files those that are as they ran.
-    fn file_all<W: Write>(
-        &mut self,
-        rt: &HostRuntime,
-        rows: &AllRows,
-        output: &mut W,
-    ) -> io::Result<()> {
+    fn file_all<W: Write>(&mut self, rows: &AllRows, output: &mut W) -> io::Result<()> {
         for at in 0..rows.jobs.len() {
-            match run_job(rt.alloc(), rows, at)? {
-                Ok(run) => self.file(rt, &run, output)?,
-                Err(report) => self.tell_difference(rt, &report, output)?,
+            match run_job(self.rt.alloc(), rows, at)? {
+                Ok(run) => self.file(&run, output)?,
+                Err(report) => self.tell_difference(&report, output)?,
             }
             output.flush()?;
         }
@@ -180,26 +171,9 @@ fn archive_rows<W: Write>(
         same: 0,
         differing: 0,
     };
-    let mut archiving = Archiving { folder, counts };
-    archiving.file_all(rt, rows, output)?;
+    let mut archiving = Archiving { rt, folder, counts };
+    archiving.file_all(rows, output)?;
     tell_end(rt, rows, archiving.counts, output)
-}
-
-/// Files all jobs, and tells if that failed.
-fn archive_or_tell<W: Write, E: Write>(
-    rt: &HostRuntime,
-    rows: &AllRows,
-    folder: &str,
-    output: &mut W,
-    errors: &mut E,
-) -> io::Result<Status> {
-    match archive_rows(rt, rows, folder, output) {
-        Ok(status) => Ok(status),
-        Err(error) => {
-            writeln!(errors, "{folder}: {error}")?;
-            Ok(Status::NotDone)
-        }
-    }
 }
 
 /// Runs each job of the bureau's file at a path again, and files those that are as they ran in a
@@ -212,12 +186,9 @@ pub(crate) fn archive_file<W: Write, E: Write>(
     errors: &mut E,
 ) -> io::Result<Status> {
     let mut look = RowsLook { rows: None };
-    if let Err(fault) = look_into(rt, file, &mut look) {
-        return tell_fault(file, fault, errors);
-    }
-    match &look.rows {
-        Some(Ok(rows)) => archive_or_tell(rt, rows, folder, output, errors),
-        Some(Err(fault)) => tell_fault(file, OpenFault::from(*fault), errors),
-        None => tell_fault(file, OpenFault::Store, errors),
+    let looked = look_into(rt, file, &mut look);
+    match found(looked, look.rows) {
+        Ok(rows) => done_or_told(archive_rows(rt, &rows, folder, output), folder, errors),
+        Err(fault) => tell_fault(file, fault, errors),
     }
 }

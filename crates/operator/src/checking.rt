@@ -2,11 +2,11 @@
 
 ghost use Rattle.std.specs.Prelude.{IsSome};
 
-use crate::faults::tell_fault;
+use crate::faults::{found, tell_fault};
 use command_line::Status;
 use ledger_checks::{Report, check, report_text};
 use ledger_files::{Look, look_into};
-use ledger_tables::{Fault, OpenFault};
+use ledger_tables::OpenFault;
 use sqlite::{Alter, Connection};
 use std::alloc::Global;
 use std::io;
@@ -15,7 +15,7 @@ use std::io::Write;
 /// The look of a check into a bureau's tables: the report, or what hindered it.
 #[derive(Drop)]
 struct CheckLook {
-    checked: Option<Result<Report, Fault>>,
+    checked: Option<Result<Report, OpenFault>>,
 }
 
 impl Look for CheckLook {
@@ -23,7 +23,7 @@ impl Look for CheckLook {
 
     fn look<S: Alter + Drop>(&mut self, alloc: Global, conn: Connection<S>) -> S {
         let (checked, store) = check(alloc, conn);
-        self.checked = Some(checked);
+        self.checked = Some(checked.map_err(OpenFault::from));
         store
     }
 }
@@ -48,12 +48,9 @@ pub(crate) fn check_file<W: Write, E: Write>(
     errors: &mut E,
 ) -> io::Result<Status> {
     let mut look = CheckLook { checked: None };
-    if let Err(fault) = look_into(rt, path, &mut look) {
-        return tell_fault(path, fault, errors);
-    }
-    match &look.checked {
-        Some(Ok(report)) => show(rt, report, output),
-        Some(Err(fault)) => tell_fault(path, OpenFault::from(*fault), errors),
-        None => tell_fault(path, OpenFault::Store, errors),
+    let looked = look_into(rt, path, &mut look);
+    match found(looked, look.checked) {
+        Ok(report) => show(rt, &report, output),
+        Err(fault) => tell_fault(path, fault, errors),
     }
 }

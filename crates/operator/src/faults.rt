@@ -1,4 +1,4 @@
-//! What is printed of a bureau's file that cannot be used.
+//! What is printed of a bureau's file that cannot be used, and of what failed.
 
 use command_line::Status;
 use ledger_tables::OpenFault;
@@ -28,4 +28,28 @@ pub(crate) fn tell_fault<E: Write>(
     };
     writeln!(errors, "{path}: {words}")?;
     Ok(status)
+}
+
+/// The status of what was done. If it failed, the error is printed behind a name.
+pub(crate) fn done_or_told<E: Write>(
+    done: io::Result<Status>,
+    name: &str,
+    errors: &mut E,
+) -> io::Result<Status> {
+    match done {
+        Ok(status) => Ok(status),
+        Err(error) => {
+            writeln!(errors, "{name}: {error}")?;
+            Ok(Status::NotDone)
+        }
+    }
+}
+
+/// What a look into a bureau's tables found, or what hindered it.
+pub(crate) fn found<T: Drop>(
+    looked: Result<(), OpenFault>,
+    found: Option<Result<T, OpenFault>>,
+) -> Result<T, OpenFault> {
+    looked?;
+    found.ok_or(OpenFault::Store)?
 }

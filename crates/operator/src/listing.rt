@@ -2,7 +2,7 @@
 
 ghost use Rattle.std.specs.Prelude.{IsSome};
 
-use crate::faults::tell_fault;
+use crate::faults::{found, tell_fault};
 use command_line::Status;
 use ledger_archives::list_jobs;
 use ledger_files::{Look, look_into};
@@ -41,16 +41,13 @@ pub(crate) fn show_jobs<W: Write, E: Write>(
         customer,
         listed: None,
     };
-    if let Err(fault) = look_into(rt, file, &mut look) {
-        return tell_fault(file, fault, errors);
-    }
-    match look.listed {
-        Some(Ok(text)) => {
+    let looked = look_into(rt, file, &mut look);
+    match found(looked, look.listed) {
+        Ok(text) => {
             output.write_all(&text)?;
             output.flush()?;
             Ok(Status::Done)
         }
-        Some(Err(fault)) => tell_fault(file, fault, errors),
-        None => tell_fault(file, OpenFault::Store, errors),
+        Err(fault) => tell_fault(file, fault, errors),
     }
 }

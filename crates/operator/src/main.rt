@@ -20,6 +20,7 @@ mod working;
 use crate::archiving::archive_file;
 use crate::checking::check_file;
 use crate::copying::copy_file;
+use crate::faults::done_or_told;
 use crate::listing::show_jobs;
 use crate::watching::watch_queue;
 use crate::working::run_queue;
@@ -56,23 +57,8 @@ fn carry_out<W: Write, E: Write>(
     }
 }
 
-/// Does a task, and tells if it failed: its output could not be written, or there was no memory.
-fn carry_out_or_tell<W: Write, E: Write>(
-    rt: &HostRuntime,
-    task: Task<'_>,
-    output: &mut W,
-    errors: &mut E,
-) -> io::Result<Status> {
-    match carry_out(rt, task, output, errors) {
-        Ok(status) => Ok(status),
-        Err(error) => {
-            writeln!(errors, "operator: {error}")?;
-            Ok(Status::NotDone)
-        }
-    }
-}
-
-/// Does what the process's words ask for.
+/// Does what the process's words ask for. A task that failed is told: its output could not be
+/// written, or there was no memory.
 fn answer(rt: &HostRuntime) -> io::Result<Status> {
     let mut output = rt.stdout();
     let mut errors = Unfailing::new(rt.stderr());
@@ -83,7 +69,10 @@ fn answer(rt: &HostRuntime) -> io::Result<Status> {
     let words = words.as_slice();
     let after_name = if words.is_empty() { words } else { &words[1..] };
     match task_of(rt.alloc(), after_name) {
-        Ok(task) => carry_out_or_tell(rt, task, &mut output, &mut errors),
+        Ok(task) => {
+            let done = carry_out(rt, task, &mut output, &mut errors);
+            done_or_told(done, "operator", &mut errors)
+        }
         Err(mistake) => tell_mistake(&mut errors, "operator", mistake),
     }
 }

@@ -1,16 +1,11 @@
 //! The rows `trace`, `dump` and `profile`.
 
-ghost use Rattle.std.specs.Prelude.{◌<◌, length, IfOk, IfSome};
-
-use crate::decks::deck_at;
-use crate::files::{print, tell_memory};
+use crate::process::Process;
+use crate::undone::Undone;
 use bench_runs::{Account, DumpOptions, Names, TraceOptions, dump, profile, trace};
-use cards::Deck;
 use command_line::Status;
 use core_store::LARGEST_SIZE;
 use counter::status_at;
-use std::alloc::AllocError;
-use std::io;
 use std::io::Write;
 use texts::number_of;
 use workbench_words::{Dumping, Setup, Tracing};
@@ -32,38 +27,37 @@ fn address_of(text: &str) -> Option<u16> {
     }
 }
 
-/// The address that a text names. Where it names none, that is told.
-fn address_in<E: Write>(text: &str, errors: &mut E) -> io::Result<Option<u16>> {
-    let address = address_of(text);
-    if address.is_none() {
-        writeln!(
-            errors,
-            "--stop {text}: that is no address; one is a number from 1 to 15999"
-        )?;
+/// The address that a text names.
+fn address_in<E: Write>(text: &str, errors: &mut E) -> Result<u16, Undone> {
+    if let Some(address) = address_of(text) {
+        return Ok(address);
     }
-    Ok(address)
+    writeln!(
+        errors,
+        "--stop {text}: that is no address; one is a number from 1 to 15999"
+    )?;
+    Err(Undone::Told(Status::Misused))
 }
 
-/// The address that a text names, by the names of a source if there are some. Where it names none,
-/// that is told.
-fn address_by<E: Write>(
-    rt: &HostRuntime,
+/// The address that a text names, by the names of a source if there are some.
+fn address_by<W: Write, E: Write>(
+    process: &mut Process<W, E>,
     text: &str,
     names: Option<&Names>,
-    errors: &mut E,
-) -> io::Result<Option<u16>> {
+) -> Result<u16, Undone> {
     let address = match names {
-        Some(names) => names.position_said(rt.alloc(), text)?,
+        Some(names) => names.position_said(process.alloc(), text)?,
         None => address_of(text),
     };
-    if address.is_none() {
-        writeln!(
-            errors,
-            "--stop {text}: that is no address; one is a number from 1 to 15999, or with --names \
-             a name of the source, as READ or READ&7"
-        )?;
+    if let Some(address) = address {
+        return Ok(address);
     }
-    Ok(address)
+    writeln!(
+        process.errors,
+        "--stop {text}: that is no address; one is a number from 1 to 15999, or with --names a \
+         name of the source, as READ or READ&7"
+    )?;
+    Err(Undone::Told(Status::Misused))
 }
 
 /// The position that a number is; past the largest storage its last one.
@@ -74,72 +68,21 @@ fn position_at(number: u32) -> u16 {
     }
 }
 
-/// The deck in the file at a path, with a card at least. Where there is none, that is told.
-pub(crate) fn deck_to_run<E: Write>(
-    rt: &HostRuntime,
-    path: &str,
-    errors: &mut E,
-) -> io::Result<Option<Deck>>
-    ensures { IfOk result (λ found. IfSome found (λ deck. 0 < length deck)) }
-{
-    let Some(deck) = deck_at(rt, path, errors)? else {
-        return Ok(None);
-    };
-    if deck.cards().is_empty() {
-        writeln!(
-            errors,
-            "{path}: the deck has no card; is it the right file?"
-        )?;
-        return Ok(None);
-    }
-    Ok(Some(deck))
-}
-
-/// The names of the source in the file at a path. Where there are none, that is told.
-pub(crate) fn names_at<E: Write>(
-    rt: &HostRuntime,
-    path: &str,
-    errors: &mut E,
-) -> io::Result<Option<Names>> {
-    let Some(deck) = deck_at(rt, path, errors)? else {
-        return Ok(None);
-    };
-    match Names::of(rt.alloc(), deck) {
-        Ok(Some(names)) => Ok(Some(names)),
-        Ok(None) => {
-            writeln!(
-                errors,
-                "{path}: the source has faults; workbench source shows them"
-            )?;
-            Ok(None)
-        }
-        Err(_) => {
-            tell_memory(errors)?;
-            Ok(None)
-        }
-    }
-}
-
 /// Prints what is shown of a run; the status is that of the run.
 fn print_account<W: Write, E: Write>(
-    account: Result<Account, AllocError>,
-    output: &mut W,
-    errors: &mut E,
-) -> io::Result<Status> {
-    match account {
-        Ok(account) => print(&account.text, status_at(account.standing), output, errors),
-        Err(_) => tell_memory(errors),
-    }
+    process: &mut Process<W, E>,
+    account: &Account,
+) -> Result<Status, Undone> {
+    process.print(&account.text, status_at(account.standing))
 }
 
-/// Prints the trace of a run by these names.
-fn trace_by<W: Write, E: Write>(
-    rt: &HostRuntime,
+/// Prints the trace of a run.
+pub(crate) fn trace_deck<W: Write, E: Write>(
+    process: &mut Process<W, E>,
     tracing: Tracing<'_>,
-    names: Option<&Names>,
-    output: &mut W,
-    errors: &mut E,
-) -> io::Result<Status> {
+) -> Result<Status, Undone> {
+    let names = process.names_at(tracing.names)?;
+    let names = names.as_ref();
     let mut options = TraceOptions {
         from: tracing.from,
         count: tracing.count,
@@ -147,81 +90,32 @@ fn trace_by<W: Write, E: Write>(
         fields: tracing.fields,
     };
     if let Some(text) = tracing.stop {
-        options.stop = address_by(rt, text, names, errors)?;
-        if options.stop.is_none() {
-            return Ok(Status::Misused);
-        }
+        options.stop = Some(address_by(process, text, names)?);
     }
-    let Some(deck) = deck_to_run(rt, tracing.setup.input, errors)? else {
-        return Ok(Status::NotDone);
-    };
     let Setup { size, switches, .. } = tracing.setup;
-    let account = trace(rt.alloc(), &deck, size, switches, names, options);
-    print_account(account, output, errors)
-}
-
-/// Prints the trace of a run.
-pub(crate) fn trace_deck<W: Write, E: Write>(
-    rt: &HostRuntime,
-    tracing: Tracing<'_>,
-    output: &mut W,
-    errors: &mut E,
-) -> io::Result<Status> {
-    let Some(path) = tracing.names else {
-        return trace_by(rt, tracing, None, output, errors);
-    };
-    match names_at(rt, path, errors)? {
-        Some(names) => trace_by(rt, tracing, Some(&names), output, errors),
-        None => Ok(Status::NotDone),
-    }
+    let deck = process.deck_to_run(tracing.setup.input)?;
+    let account = trace(process.alloc(), &deck, size, switches, names, options)?;
+    print_account(process, &account)
 }
 
 /// Prints how often a run did each instruction.
 pub(crate) fn profile_deck<W: Write, E: Write>(
-    rt: &HostRuntime,
+    process: &mut Process<W, E>,
     setup: Setup<'_>,
     names: Option<&str>,
-    output: &mut W,
-    errors: &mut E,
-) -> io::Result<Status> {
-    let Some(deck) = deck_to_run(rt, setup.input, errors)? else {
-        return Ok(Status::NotDone);
-    };
-    let Some(path) = names else {
-        let account = profile(rt.alloc(), &deck, setup.size, setup.switches, None);
-        return print_account(account, output, errors);
-    };
-    let Some(names) = names_at(rt, path, errors)? else {
-        return Ok(Status::NotDone);
-    };
-    let account = profile(rt.alloc(), &deck, setup.size, setup.switches, Some(&names));
-    print_account(account, output, errors)
-}
-
-/// Prints a machine after a run up to a stop, if there is one.
-fn dump_at<W: Write, E: Write>(
-    rt: &HostRuntime,
-    setup: Setup<'_>,
-    options: DumpOptions,
-    output: &mut W,
-    errors: &mut E,
-) -> io::Result<Status> {
-    let Some(deck) = deck_to_run(rt, setup.input, errors)? else {
-        return Ok(Status::NotDone);
-    };
-    match dump(rt.alloc(), &deck, setup.size, setup.switches, options) {
-        Ok(text) => print(&text, Status::Done, output, errors),
-        Err(_) => tell_memory(errors),
-    }
+) -> Result<Status, Undone> {
+    let deck = process.deck_to_run(setup.input)?;
+    let names = process.names_at(names)?;
+    let alloc = process.alloc();
+    let account = profile(alloc, &deck, setup.size, setup.switches, names.as_ref())?;
+    print_account(process, &account)
 }
 
 /// Prints a machine after a run.
 pub(crate) fn dump_deck<W: Write, E: Write>(
-    rt: &HostRuntime,
+    process: &mut Process<W, E>,
     dumping: Dumping<'_>,
-    output: &mut W,
-    errors: &mut E,
-) -> io::Result<Status> {
+) -> Result<Status, Undone> {
     let mut options = DumpOptions {
         after: dumping.after,
         stop: None,
@@ -229,10 +123,10 @@ pub(crate) fn dump_deck<W: Write, E: Write>(
         last: dumping.last.map(position_at),
     };
     if let Some(text) = dumping.stop {
-        options.stop = address_in(text, errors)?;
-        if options.stop.is_none() {
-            return Ok(Status::Misused);
-        }
+        options.stop = Some(address_in(text, &mut process.errors)?);
     }
-    dump_at(rt, dumping.setup, options, output, errors)
+    let setup = dumping.setup;
+    let deck = process.deck_to_run(setup.input)?;
+    let text = dump(process.alloc(), &deck, setup.size, setup.switches, options)?;
+    process.print(&text, Status::Done)
 }

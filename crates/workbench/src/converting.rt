@@ -6,11 +6,11 @@ ghost use Rattle.cards.specs.declared.Card.{Card};
 ghost use Rattle.card_forms.specs.Forms.{IsFileOf, file_of};
 
 use crate::decks::tell_form_fault;
-use crate::files::{read, write};
+use crate::process::Process;
+use crate::undone::Undone;
 use card_forms::{Form, FormFault, OUT_OF_MEMORY};
 use command_line::Status;
 use std::alloc::Global;
-use std::io;
 use std::io::Write;
 
 /// The file of the same deck in another form.
@@ -27,17 +27,13 @@ fn converted(alloc: Global, reads: Form, bytes: &[u8], writes: Form) -> Result<V
 
 /// Makes a deck of one form one of another.
 pub(crate) fn convert<W: Write, E: Write>(
-    rt: &HostRuntime,
+    process: &mut Process<W, E>,
     deck: (&str, Form),
     out: (&str, Form),
-    output: &mut W,
-    errors: &mut E,
-) -> io::Result<Status> {
-    let Some(bytes) = read(rt, deck.0, errors)? else {
-        return Ok(Status::NotDone);
-    };
-    match converted(rt.alloc(), deck.1, &bytes, out.1) {
-        Ok(file) => write(rt, out.0, &file, output, errors),
-        Err(fault) => tell_form_fault(errors, deck.0, fault),
+) -> Result<Status, Undone> {
+    let bytes = process.read(deck.0)?;
+    match converted(process.alloc(), deck.1, &bytes, out.1) {
+        Ok(file) => process.write(out.0, &file),
+        Err(fault) => Err(tell_form_fault(&mut process.errors, deck.0, fault)?),
     }
 }

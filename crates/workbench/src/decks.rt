@@ -5,7 +5,7 @@ ghost use Rattle.cards.specs.Decks.{IsDeck};
 ghost use Rattle.card_forms.specs.Forms.{IsFileOf};
 ghost use Rattle.workbench.specs.Decks.{form_of};
 
-use crate::files::{read, tell_memory};
+use crate::undone::Undone;
 use card_forms::{Form, FormError, FormFault, read_either};
 use cards::Deck;
 use command_line::Status;
@@ -54,16 +54,16 @@ pub(crate) fn tell_form_fault<E: Write>(
     errors: &mut E,
     path: &str,
     fault: FormFault,
-) -> io::Result<Status> {
+) -> io::Result<Undone> {
     if let FormError::NoMemory = fault.error {
-        return tell_memory(errors);
+        return Ok(Undone::Memory);
     }
     let card = fault.card;
     let column = fault.column;
     write!(errors, "{path}: card {card} column {column}: ")?;
     tell_bytes(errors, fault.error)?;
     errors.write_all(words_of(fault).as_bytes())?;
-    Ok(Status::NotDone)
+    Ok(Undone::Told(Status::NotDone))
 }
 
 /// Reads a deck from a file in a form, or in that which its first line tells.
@@ -73,23 +73,5 @@ pub(crate) fn read_as(alloc: Global, form: Option<Form>, bytes: &[u8]) -> Result
     match form {
         Some(form) => card_forms::read(alloc, form, bytes),
         None => read_either(alloc, bytes),
-    }
-}
-
-/// The deck in the file at a path: a text or a punch file. Where there is none, that is told.
-pub(crate) fn deck_at<E: Write>(
-    rt: &HostRuntime,
-    path: &str,
-    errors: &mut E,
-) -> io::Result<Option<Deck>> {
-    let Some(bytes) = read(rt, path, errors)? else {
-        return Ok(None);
-    };
-    match read_as(rt.alloc(), None, &bytes) {
-        Ok(deck) => Ok(Some(deck)),
-        Err(fault) => {
-            tell_form_fault(errors, path, fault)?;
-            Ok(None)
-        }
     }
 }

@@ -1,7 +1,7 @@
 //! The rows `card`, `deck` and `pages`.
 
-use crate::decks::deck_at;
-use crate::files::{read, tell_memory, write};
+use crate::process::Process;
+use crate::undone::Undone;
 use cards::{Card, Deck};
 use command_line::Status;
 use pictures::{ListingError, ListingFault, card_picture, deck_page, listing_pages};
@@ -15,48 +15,39 @@ fn card_with(deck: &Deck, number: u32) -> Option<&Card> {
 
 /// Writes the picture of the card of a deck with this number.
 pub(crate) fn draw_card<W: Write, E: Write>(
-    rt: &HostRuntime,
+    process: &mut Process<W, E>,
     (path, out): (&str, &str),
     number: u32,
-    output: &mut W,
-    errors: &mut E,
-) -> io::Result<Status> {
-    let Some(deck) = deck_at(rt, path, errors)? else {
-        return Ok(Status::NotDone);
-    };
+) -> Result<Status, Undone> {
+    let deck = process.deck_at(path)?;
     let Some(card) = card_with(&deck, number) else {
         let count = deck.cards().len();
-        writeln!(errors, "{path}: there is no card {number}; it has {count}")?;
+        writeln!(
+            process.errors,
+            "{path}: there is no card {number}; it has {count}"
+        )?;
         return Ok(Status::NotDone);
     };
-    match card_picture(rt.alloc(), card) {
-        Ok(picture) => write(rt, out, &picture, output, errors),
-        Err(_) => tell_memory(errors),
-    }
+    let picture = card_picture(process.alloc(), card)?;
+    process.write(out, &picture)
 }
 
 /// Writes the page of a deck.
 pub(crate) fn draw_deck<W: Write, E: Write>(
-    rt: &HostRuntime,
+    process: &mut Process<W, E>,
     (path, out): (&str, &str),
-    output: &mut W,
-    errors: &mut E,
-) -> io::Result<Status> {
-    let Some(deck) = deck_at(rt, path, errors)? else {
-        return Ok(Status::NotDone);
-    };
-    match deck_page(rt.alloc(), deck.cards()) {
-        Ok(page) => write(rt, out, &page, output, errors),
-        Err(_) => tell_memory(errors),
-    }
+) -> Result<Status, Undone> {
+    let deck = process.deck_at(path)?;
+    let page = deck_page(process.alloc(), deck.cards())?;
+    process.write(out, &page)
 }
 
 /// Says why a text is no listing.
-fn tell_fault<E: Write>(errors: &mut E, path: &str, fault: ListingFault) -> io::Result<Status> {
+fn tell_fault<E: Write>(errors: &mut E, path: &str, fault: ListingFault) -> io::Result<Undone> {
     let line = fault.line;
     let column = fault.column;
     match fault.error {
-        ListingError::NoMemory => return tell_memory(errors),
+        ListingError::NoMemory => return Ok(Undone::Memory),
         ListingError::Sign(byte) => writeln!(
             errors,
             "{path}: line {line} column {column}: the byte {byte} is in no listing"
@@ -66,21 +57,17 @@ fn tell_fault<E: Write>(errors: &mut E, path: &str, fault: ListingFault) -> io::
             "{path}: line {line} column {column}: the line is longer than 132 columns"
         )?,
     }
-    Ok(Status::NotDone)
+    Ok(Undone::Told(Status::NotDone))
 }
 
 /// Writes the pages of a listing.
 pub(crate) fn draw_pages<W: Write, E: Write>(
-    rt: &HostRuntime,
+    process: &mut Process<W, E>,
     (path, out): (&str, &str),
-    output: &mut W,
-    errors: &mut E,
-) -> io::Result<Status> {
-    let Some(listing) = read(rt, path, errors)? else {
-        return Ok(Status::NotDone);
-    };
-    match listing_pages(rt.alloc(), &listing) {
-        Ok(pages) => write(rt, out, &pages, output, errors),
-        Err(fault) => tell_fault(errors, path, fault),
+) -> Result<Status, Undone> {
+    let listing = process.read(path)?;
+    match listing_pages(process.alloc(), &listing) {
+        Ok(pages) => process.write(out, &pages),
+        Err(fault) => Err(tell_fault(&mut process.errors, path, fault)?),
     }
 }

@@ -1,5 +1,6 @@
 //! The files that paths name, where a path may be that of a folder.
 
+use crate::process::Process;
 use std::alloc::AllocError;
 use std::fs::DirEntry;
 use std::io::{ErrorKind, Write};
@@ -12,11 +13,6 @@ pub(crate) struct Found {
     pub paths: Vec<String>,
     /// Whether all were found that are there.
     pub whole: bool,
-}
-
-/// Says why a folder or a file is not taken.
-pub(crate) fn tell_path<E: Write>(errors: &mut E, path: &str, why: &str) -> io::Result<()> {
-    writeln!(errors, "{path}: {why}")
 }
 
 /// Whether there is a folder at a path.
@@ -78,79 +74,70 @@ fn take_entry(
     Ok(())
 }
 
+/// What is said where something in a folder is not taken.
+fn words_of(kind: ErrorKind) -> &'static str {
+    match kind {
+        ErrorKind::InvalidFilename => "a name in it is no UTF-8 text; rename the file",
+        _ => "not all of the folder can be read",
+    }
+}
+
 /// Adds the paths of the files in a folder, and the folders in it to those still to be read. What
 /// cannot be read of it is told.
-fn take_folder<E: Write>(
-    rt: &HostRuntime,
+fn take_folder<W: Write, E: Write>(
+    process: &mut Process<W, E>,
     found: &mut Found,
     folders: &mut Vec<String>,
     path: &str,
-    errors: &mut E,
 ) -> io::Result<()> {
-    let Ok(entries) = fs::read_dir(rt, path) else {
+    let Ok(entries) = fs::read_dir(&process.rt, path) else {
         found.whole = false;
-        return tell_path(errors, path, "the folder cannot be read; may it be read?");
+        return process.tell(path, "the folder cannot be read; may it be read?");
     };
     for entry in entries {
         match entry {
-            Ok(entry) => take_entry(rt, found, folders, &entry)?,
+            Ok(entry) => take_entry(&process.rt, found, folders, &entry)?,
             Err(error) => {
                 found.whole = false;
-                tell_entry(errors, path, error.kind())?;
+                process.tell(path, words_of(error.kind()))?;
             }
         }
     }
     Ok(())
 }
 
-/// Says why something in a folder is not taken.
-fn tell_entry<E: Write>(errors: &mut E, path: &str, kind: ErrorKind) -> io::Result<()> {
-    match kind {
-        ErrorKind::InvalidFilename => {
-            tell_path(
-                errors,
-                path,
-                "a name in it is no UTF-8 text; rename the file",
-            )
-        }
-        _ => tell_path(errors, path, "not all of the folder can be read"),
-    }
-}
-
 /// Adds the paths of the files in a folder and in the folders below it.
-fn take_folders<E: Write>(
-    rt: &HostRuntime,
+fn take_folders<W: Write, E: Write>(
+    process: &mut Process<W, E>,
     found: &mut Found,
     path: &str,
-    errors: &mut E,
 ) -> io::Result<()> {
-    let mut folders = Vec::new(rt.alloc());
-    folders.push(String::from_str(rt.alloc(), path)?)?;
+    let mut folders = Vec::new(process.alloc());
+    folders.push(String::from_str(process.alloc(), path)?)?;
     for _folder in 0..u64::MAX {
         let Some(folder) = folders.pop() else {
             return Ok(());
         };
-        take_folder(rt, found, &mut folders, folder.as_str(), errors)?;
+        take_folder(process, found, &mut folders, folder.as_str())?;
     }
     Ok(())
 }
 
 /// The files that paths name, each once and sorted by their names: of a folder all files in it and
 /// below it. What cannot be read of a folder is told.
-pub(crate) fn files_of<E: Write>(
-    rt: &HostRuntime,
+pub(crate) fn files_of<W: Write, E: Write>(
+    process: &mut Process<W, E>,
     paths: &[&str],
-    errors: &mut E,
 ) -> io::Result<Found> {
     let mut found = Found {
-        paths: Vec::new(rt.alloc()),
+        paths: Vec::new(process.alloc()),
         whole: true,
     };
     for path in paths {
-        if *path != "-" && is_folder(rt, path) {
-            take_folders(rt, &mut found, path, errors)?;
+        if *path != "-" && is_folder(&process.rt, path) {
+            take_folders(process, &mut found, path)?;
         } else {
-            found.paths.push(String::from_str(rt.alloc(), path)?)?;
+            found.paths.push(String::from_str(process.alloc(), path)?)?;
         }
     }
     found.paths.sort()?;

@@ -16,21 +16,25 @@ mod folders;
 mod listing;
 mod manifests;
 mod numbering;
+mod process;
 mod punching;
 mod sources;
 mod talking;
+mod undone;
 
 use crate::benching::{dump_deck, profile_deck, trace_deck};
 use crate::converting::convert;
 use crate::drawing::{draw_card, draw_deck, draw_pages};
-use crate::files::tell_memory;
 use crate::filing::write_page;
 use crate::listing::{compare_decks, list_deck};
 use crate::manifests::manifest;
 use crate::numbering::{check_numbers, number_deck};
+use crate::process::Process;
 use crate::punching::punch_text;
 use crate::sources::{Showing, show_source};
 use crate::talking::talk;
+use crate::undone::Undone;
+use card_tools::ListOptions;
 use command_line::{Mistake, Status, Unfailing, exit_code, show_text, tell_mistake};
 use std::io::Write;
 use std::process::ExitCode;
@@ -44,67 +48,82 @@ fn words_given(rt: &HostRuntime) -> Result<Vec<String>, Mistake> {
 
 /// Does a task.
 fn work<W: Write, E: Write>(
-    rt: &HostRuntime,
+    process: &mut Process<W, E>,
     task: &Task<'_>,
-    output: &mut W,
-    errors: &mut E,
-) -> io::Result<Status> {
+) -> Result<Status, Undone> {
     match task {
-        Task::Show(text) => show_text(text, output, errors),
-        Task::Punch(punching) => punch_text(rt, punching, output, errors),
+        Task::Show(text) => Ok(show_text(text, &mut process.output, &mut process.errors)?),
+        Task::Punch(punching) => punch_text(process, punching),
         Task::List {
             deck,
             ruler,
             punches,
-        } => list_deck(rt, deck, *ruler, *punches, output, errors),
-        Task::Compare { one, other } => compare_decks(rt, one, other, output, errors),
-        Task::Number(numbering) => number_deck(rt, *numbering, output, errors),
-        Task::CheckNumbers { deck } => check_numbers(rt, deck, output, errors),
+        } => {
+            let (ruler, punches) = (*ruler, *punches);
+            list_deck(process, deck, ListOptions { ruler, punches })
+        },
+        Task::Compare { one, other } => compare_decks(process, one, other),
+        Task::Number(numbering) => number_deck(process, *numbering),
+        Task::CheckNumbers { deck } => check_numbers(process, deck),
         Task::Convert {
             deck,
             out,
             reads,
             writes,
-        } => convert(rt, (deck, *reads), (out, *writes), output, errors),
+        } => convert(process, (deck, *reads), (out, *writes)),
         Task::Source {
             source,
             narrow,
             with_data,
-        } => show_source(rt, source, Showing::of(*narrow, *with_data), output, errors),
-        Task::Manifest { decks, form, known } => {
-            manifest(rt, decks, *form, *known, output, errors)
-        }
-        Task::Trace(tracing) => trace_deck(rt, *tracing, output, errors),
-        Task::Dump(dumping) => dump_deck(rt, *dumping, output, errors),
-        Task::Profile { setup, names } => profile_deck(rt, *setup, *names, output, errors),
-        Task::Console { setup, names } => talk(rt, *setup, *names, output, errors),
-        Task::Card { deck, number, out } => draw_card(rt, (deck, out), *number, output, errors),
-        Task::Deck { deck, out } => draw_deck(rt, (deck, out), output, errors),
-        Task::Pages { listing, out } => draw_pages(rt, (listing, out), output, errors),
-        Task::Page { setup, out } => write_page(rt, *setup, out, output, errors),
+        } => show_source(process, source, Showing::of(*narrow, *with_data)),
+        Task::Manifest { decks, form, known } => manifest(process, decks, *form, *known),
+        Task::Trace(tracing) => trace_deck(process, *tracing),
+        Task::Dump(dumping) => dump_deck(process, *dumping),
+        Task::Profile { setup, names } => profile_deck(process, *setup, *names),
+        Task::Console { setup, names } => talk(process, *setup, *names),
+        Task::Card { deck, number, out } => draw_card(process, (deck, out), *number),
+        Task::Deck { deck, out } => draw_deck(process, (deck, out)),
+        Task::Pages { listing, out } => draw_pages(process, (listing, out)),
+        Task::Page { setup, out } => write_page(process, *setup, out),
     }
 }
 
-/// Does what the process's words ask for. Nothing but want of memory is an error of a task, since
-/// the second output has none.
-fn carry_out(rt: &HostRuntime) -> io::Result<Status> {
-    let mut output = rt.stdout();
-    let mut errors = Unfailing::new(rt.stderr());
-    let words = match words_given(rt) {
+/// Does a task, and says if there was no memory for it.
+fn work_or_tell<W: Write, E: Write>(
+    process: &mut Process<W, E>,
+    task: &Task<'_>,
+) -> io::Result<Status> {
+    match work(process, task) {
+        Ok(status) => Ok(status),
+        Err(Undone::Told(status)) => Ok(status),
+        Err(Undone::Memory) => {
+            process
+                .errors
+                .write_all(b"there is not enough memory: end other programs\n")?;
+            Ok(Status::NotDone)
+        }
+    }
+}
+
+/// Does what the process's words ask for.
+fn carry_out(rt: HostRuntime) -> io::Result<Status> {
+    let mut process = Process {
+        output: rt.stdout(),
+        errors: Unfailing::new(rt.stderr()),
+        rt,
+    };
+    let words = match words_given(&process.rt) {
         Ok(words) => words,
-        Err(mistake) => return tell_mistake(&mut errors, "workbench", mistake),
+        Err(mistake) => return tell_mistake(&mut process.errors, "workbench", mistake),
     };
     let words = words.as_slice();
     let after_name = if words.is_empty() { words } else { &words[1..] };
-    match task_of(rt.alloc(), after_name) {
-        Ok(task) => match work(rt, &task, &mut output, &mut errors) {
-            Ok(status) => Ok(status),
-            Err(_) => tell_memory(&mut errors),
-        },
-        Err(mistake) => tell_mistake(&mut errors, "workbench", mistake),
+    match task_of(process.alloc(), after_name) {
+        Ok(task) => work_or_tell(&mut process, &task),
+        Err(mistake) => tell_mistake(&mut process.errors, "workbench", mistake),
     }
 }
 
 fn main(rt: HostRuntime) -> ExitCode {
-    exit_code(carry_out(&rt))
+    exit_code(carry_out(rt))
 }

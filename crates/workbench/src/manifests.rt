@@ -8,8 +8,9 @@ ghost use Rattle.card_tools.specs.Manifests.{manifest_line};
 ghost use Rattle.workbench.specs.Decks.{form_of};
 
 use crate::decks::{read_as, tell_form_fault};
-use crate::files::{print, read};
-use crate::folders::{Found, files_of, tell_path};
+use crate::folders::{Found, files_of};
+use crate::process::{Process, status_if};
+use crate::undone::Undone;
 use card_forms::{Form, FormFault, OUT_OF_MEMORY};
 use card_tools::{ManifestEntry, manifest_line, read_manifest_line};
 use command_line::Status;
@@ -35,26 +36,19 @@ fn line_of(
     }
 }
 
-/// The line of the deck in the file at a path. Where there is none, that is told.
-fn line_at<E: Write>(
-    rt: &HostRuntime,
+/// The line of the deck in the file at a path.
+fn line_at<W: Write, E: Write>(
+    process: &mut Process<W, E>,
     path: &str,
     form: Option<Form>,
-    errors: &mut E,
-) -> io::Result<Option<Vec<u8>>> {
+) -> Result<Vec<u8>, Undone> {
     if path.as_bytes().contains(&b'\n') {
-        tell_path(errors, path, "its name has a line feed; rename it")?;
-        return Ok(None);
+        return Err(process.refuse(path, "its name has a line feed; rename it")?);
     }
-    let Some(bytes) = read(rt, path, errors)? else {
-        return Ok(None);
-    };
-    match line_of(rt.alloc(), path, form, &bytes) {
-        Ok(line) => Ok(Some(line)),
-        Err(fault) => {
-            tell_form_fault(errors, path, fault)?;
-            Ok(None)
-        }
+    let bytes = process.read(path)?;
+    match line_of(process.alloc(), path, form, &bytes) {
+        Ok(line) => Ok(line),
+        Err(fault) => Err(tell_form_fault(&mut process.errors, path, fault)?),
     }
 }
 
@@ -67,21 +61,21 @@ struct Lines {
     whole: bool,
 }
 
-/// The lines of the decks in files, one for each path.
-fn lines_at<E: Write>(
-    rt: &HostRuntime,
+/// The lines of the decks in files, one for each path. Where there is none, that is told.
+fn lines_at<W: Write, E: Write>(
+    process: &mut Process<W, E>,
     files: &Found,
     form: Option<Form>,
-    errors: &mut E,
-) -> io::Result<Lines> {
+) -> Result<Lines, Undone> {
     let mut lines = Lines {
-        text: Vec::new(rt.alloc()),
+        text: Vec::new(process.alloc()),
         whole: files.whole,
     };
     for path in &files.paths {
-        match line_at(rt, path.as_str(), form, errors)? {
-            Some(line) => lines.text.extend_from_slice(&line)?,
-            None => lines.whole = false,
+        match line_at(process, path.as_str(), form) {
+            Ok(line) => lines.text.extend_from_slice(&line)?,
+            Err(Undone::Told(_)) => lines.whole = false,
+            Err(Undone::Memory) => return Err(Undone::Memory),
         }
     }
     Ok(lines)
@@ -147,18 +141,6 @@ fn push_changed(
     }
 }
 
-/// Adds a deck that a manifest does not know.
-fn push_new(
-    told: &mut Vec<u8>,
-    entry: ManifestEntry<'_>,
-    known: &[&[u8]],
-) -> Result<(), AllocError> {
-    match entry_named(known, entry.name) {
-        None => push_told(told, b"new ", entry.name),
-        Some(_) => Ok(()),
-    }
-}
-
 /// In what decks differ from those that a manifest knows, by their lines.
 fn differences(alloc: Global, known: &[&[u8]], found: &[&[u8]]) -> Result<Vec<u8>, AllocError> {
     let mut told = Vec::new(alloc);
@@ -169,7 +151,9 @@ fn differences(alloc: Global, known: &[&[u8]], found: &[&[u8]]) -> Result<Vec<u8
     }
     for line in found {
         if let Some(entry) = read_manifest_line(*line) {
-            push_new(&mut told, entry, known)?;
+            if entry_named(known, entry.name).is_none() {
+                push_told(&mut told, b"new ", entry.name)?;
+            }
         }
     }
     Ok(told)
@@ -188,48 +172,33 @@ fn tell_odd_lines<E: Write>(errors: &mut E, path: &str, known: &[&[u8]]) -> io::
     Ok(are_all)
 }
 
-/// The status of a comparison that told this much, where all could be compared or not.
-fn status_of(told: &[u8], whole: bool) -> Status {
-    if told.is_empty() && whole {
-        Status::Done
-    } else {
-        Status::NotDone
-    }
-}
-
 /// Compares decks with those that a manifest's file knows.
 fn check_manifest<W: Write, E: Write>(
-    rt: &HostRuntime,
+    process: &mut Process<W, E>,
     lines: &Lines,
     path: &str,
-    output: &mut W,
-    errors: &mut E,
-) -> io::Result<Status> {
-    let Some(known) = read(rt, path, errors)? else {
-        return Ok(Status::NotDone);
-    };
-    let known = lines_of(rt.alloc(), &known)?;
-    let found = lines_of(rt.alloc(), &lines.text)?;
-    let are_all = tell_odd_lines(errors, path, &known)?;
-    let told = differences(rt.alloc(), &known, &found)?;
-    let status = status_of(&told, lines.whole && are_all);
-    print(&told, status, output, errors)
+) -> Result<Status, Undone> {
+    let known = process.read(path)?;
+    let known = lines_of(process.alloc(), &known)?;
+    let found = lines_of(process.alloc(), &lines.text)?;
+    let are_all = tell_odd_lines(&mut process.errors, path, &known)?;
+    let told = differences(process.alloc(), &known, &found)?;
+    let is_same = told.is_empty() && lines.whole && are_all;
+    process.print(&told, status_if(is_same))
 }
 
 /// Prints the digests of decks in the order of their names, or compares them with those of a file.
 /// The decks are in files of a form, if one is named; a path may be that of a folder.
 pub(crate) fn manifest<W: Write, E: Write>(
-    rt: &HostRuntime,
+    process: &mut Process<W, E>,
     paths: &[&str],
     form: Option<Form>,
     known: Option<&str>,
-    output: &mut W,
-    errors: &mut E,
-) -> io::Result<Status> {
-    let files = files_of(rt, paths, errors)?;
-    let lines = lines_at(rt, &files, form, errors)?;
+) -> Result<Status, Undone> {
+    let files = files_of(process, paths)?;
+    let lines = lines_at(process, &files, form)?;
     match known {
-        Some(path) => check_manifest(rt, &lines, path, output, errors),
-        None => print(&lines.text, status_of(&[], lines.whole), output, errors),
+        Some(path) => check_manifest(process, &lines, path),
+        None => process.print(&lines.text, status_if(lines.whole)),
     }
 }

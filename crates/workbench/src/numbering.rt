@@ -1,7 +1,7 @@
 //! The row `sequence`.
 
-use crate::decks::deck_at;
-use crate::files::{print, tell_memory, write};
+use crate::process::Process;
+use crate::undone::Undone;
 use card_tools::{SequenceError, SequenceFault, check_sequence, sequence};
 use cards::write_text;
 use command_line::Status;
@@ -33,9 +33,9 @@ fn tell_sequence_fault<E: Write>(
     errors: &mut E,
     path: &str,
     fault: SequenceFault,
-) -> io::Result<Status> {
+) -> io::Result<Undone> {
     match fault.error {
-        SequenceError::NoMemory => return tell_memory(errors),
+        SequenceError::NoMemory => return Ok(Undone::Memory),
         SequenceError::Ident => {}
         SequenceError::Held(glyphs) => {
             tell_card(errors, path, fault.card)?;
@@ -45,16 +45,14 @@ fn tell_sequence_fault<E: Write>(
         SequenceError::TooGreat => tell_card(errors, path, fault.card)?,
     }
     errors.write_all(words_of(fault.error).as_bytes())?;
-    Ok(Status::NotDone)
+    Ok(Undone::Told(Status::NotDone))
 }
 
 /// Numbers the cards of a deck in columns 73 to 80.
 pub(crate) fn number_deck<W: Write, E: Write>(
-    rt: &HostRuntime,
+    process: &mut Process<W, E>,
     numbering: Numbering<'_>,
-    output: &mut W,
-    errors: &mut E,
-) -> io::Result<Status> {
+) -> Result<Status, Undone> {
     let Numbering {
         deck: path,
         out,
@@ -62,32 +60,24 @@ pub(crate) fn number_deck<W: Write, E: Write>(
         first,
         step,
     } = numbering;
-    let Some(deck) = deck_at(rt, path, errors)? else {
-        return Ok(Status::NotDone);
-    };
-    let numbered = match sequence(rt.alloc(), &deck, ident, first, step) {
+    let deck = process.deck_at(path)?;
+    let numbered = match sequence(process.alloc(), &deck, ident, first, step) {
         Ok(numbered) => numbered,
-        Err(fault) => return tell_sequence_fault(errors, path, fault),
+        Err(fault) => return Err(tell_sequence_fault(&mut process.errors, path, fault)?),
     };
-    match write_text(rt.alloc(), &numbered) {
-        Ok(text) => write(rt, out, &text, output, errors),
-        Err(_) => tell_memory(errors),
-    }
+    let text = write_text(process.alloc(), &numbered)?;
+    process.write(out, &text)
 }
 
 /// Prints where the numbers of a deck's cards do not rise.
 pub(crate) fn check_numbers<W: Write, E: Write>(
-    rt: &HostRuntime,
+    process: &mut Process<W, E>,
     path: &str,
-    output: &mut W,
-    errors: &mut E,
-) -> io::Result<Status> {
-    let Some(deck) = deck_at(rt, path, errors)? else {
-        return Ok(Status::NotDone);
-    };
-    match check_sequence(rt.alloc(), deck.cards()) {
-        Ok(text) if text.is_empty() => Ok(Status::Done),
-        Ok(text) => print(&text, Status::NotDone, output, errors),
-        Err(_) => tell_memory(errors),
+) -> Result<Status, Undone> {
+    let deck = process.deck_at(path)?;
+    let text = check_sequence(process.alloc(), deck.cards())?;
+    if text.is_empty() {
+        return Ok(Status::Done);
     }
+    process.print(&text, Status::NotDone)
 }

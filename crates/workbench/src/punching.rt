@@ -1,9 +1,10 @@
 //! The row `punch`.
 
-ghost use Rattle.std.specs.Prelude.{◌≡◌, ◌≤◌, [], IfOk, IfSome};
+ghost use Rattle.std.specs.Prelude.{◌≡◌, ◌≤◌, [], IfOk};
 ghost use Rattle.card_texts.specs.Punching.{deck_text_of, faults_of};
 
-use crate::files::{read, tell_memory, write};
+use crate::process::Process;
+use crate::undone::Undone;
 use card_texts::{Change, Rules, TextError, TextFault, Unpunched, changes, punch};
 use command_line::Status;
 use std::alloc::Global;
@@ -84,26 +85,23 @@ fn tell_text_faults<E: Write>(errors: &mut E, faults: &[TextFault]) -> io::Resul
     Ok(())
 }
 
-/// The deck's text of a text. Where it has faults, these are told, and there is none.
+/// The deck's text of a text. Where it has faults, these are told.
 fn punched<E: Write>(
     alloc: Global,
     rules: &Rules,
     text: &[u8],
     errors: &mut E,
-) -> io::Result<Option<Vec<u8>>>
-    ensures { IfOk result (λ found. IfSome found (λ deck. (faults_of rules.now text.now ≡ [])
-        × (deck.items ≡ deck_text_of rules.now text.now))) }
+) -> Result<Vec<u8>, Undone>
+    ensures { IfOk result (λ deck. (faults_of rules.now text.now ≡ [])
+        × (deck.items ≡ deck_text_of rules.now text.now)) }
 {
     match punch(alloc, rules, text) {
-        Ok(deck) => Ok(Some(deck)),
+        Ok(deck) => Ok(deck),
         Err(Unpunched::Faults(faults)) => {
             tell_text_faults(errors, &faults)?;
-            Ok(None)
+            Err(Undone::Told(Status::NotDone))
         }
-        Err(Unpunched::NoMemory) => {
-            tell_memory(errors)?;
-            Ok(None)
-        }
+        Err(Unpunched::NoMemory) => Err(Undone::Memory),
     }
 }
 
@@ -196,20 +194,14 @@ fn tell_changes<E: Write>(
 
 /// Takes a text as a deck, and writes the deck's text.
 pub(crate) fn punch_text<W: Write, E: Write>(
-    rt: &HostRuntime,
+    process: &mut Process<W, E>,
     punching: &Punching<'_>,
-    output: &mut W,
-    errors: &mut E,
-) -> io::Result<Status> {
-    let Some(text) = read(rt, punching.text, errors)? else {
-        return Ok(Status::NotDone);
-    };
-    let Some(deck) = punched(rt.alloc(), &punching.rules, &text, errors)? else {
-        return Ok(Status::NotDone);
-    };
-    let status = write(rt, punching.out, &deck, output, errors)?;
-    if let Status::Done = status {
-        tell_changes(rt.alloc(), &punching.rules, &text, punching.reports, errors)?;
-    }
+) -> Result<Status, Undone> {
+    let alloc = process.alloc();
+    let rules = &punching.rules;
+    let text = process.read(punching.text)?;
+    let deck = punched(alloc, rules, &text, &mut process.errors)?;
+    let status = process.write(punching.out, &deck)?;
+    tell_changes(alloc, rules, &text, punching.reports, &mut process.errors)?;
     Ok(status)
 }

@@ -5,8 +5,8 @@ ghost use Rattle.autocoder_layout.specs.Source.{source_of};
 ghost use Rattle.source_reports.specs.Reports.{faults_for};
 ghost use Rattle.workbench.specs.Sources.{cards_behind, data_by, shown_of};
 
-use crate::decks::deck_at;
-use crate::files::{print, tell_memory};
+use crate::process::{Process, status_if};
+use crate::undone::Undone;
 use autocoder_layout::source_of;
 use autocoder_listings::Width;
 use card_tools::{ListOptions, list_from};
@@ -14,7 +14,6 @@ use cards::Deck;
 use command_line::Status;
 use source_reports::Report;
 use std::alloc::{AllocError, Global};
-use std::io;
 use std::io::Write;
 
 /// How a source is shown.
@@ -31,15 +30,6 @@ impl Showing {
     pub(crate) fn of(narrow: bool, with_data: bool) -> Showing {
         let width = if narrow { Width::Narrow } else { Width::Wide };
         Showing { width, with_data }
-    }
-}
-
-/// The status where there are so many faults.
-fn status_of(faults: usize) -> Status {
-    if faults == 0 {
-        Status::Done
-    } else {
-        Status::NotDone
     }
 }
 
@@ -90,17 +80,11 @@ fn shown(alloc: Global, deck: &Deck, showing: Showing) -> Result<Report, AllocEr
 
 /// Prints a source with its code and names, or its faults.
 pub(crate) fn show_source<W: Write, E: Write>(
-    rt: &HostRuntime,
+    process: &mut Process<W, E>,
     path: &str,
     showing: Showing,
-    output: &mut W,
-    errors: &mut E,
-) -> io::Result<Status> {
-    let Some(deck) = deck_at(rt, path, errors)? else {
-        return Ok(Status::NotDone);
-    };
-    match shown(rt.alloc(), &deck, showing) {
-        Ok(report) => print(&report.text, status_of(report.faults), output, errors),
-        Err(_) => tell_memory(errors),
-    }
+) -> Result<Status, Undone> {
+    let deck = process.deck_at(path)?;
+    let report = shown(process.alloc(), &deck, showing)?;
+    process.print(&report.text, status_if(report.faults == 0))
 }

@@ -1,11 +1,7 @@
 //! The row `console`.
 
-ghost use Rattle.std.specs.Prelude.{◌<◌, length};
-
-use crate::benching::{deck_to_run, names_at};
-use crate::files::tell_memory;
-use bench_runs::Names;
-use cards::Deck;
+use crate::process::Process;
+use crate::undone::Undone;
 use command_line::Status;
 use console::{Ended, Session, console};
 use std::io;
@@ -21,10 +17,10 @@ fn tell_taken<E: Write>(errors: &mut E) -> io::Result<Status> {
 }
 
 /// The status after a session. Where it did not go to its end, that is told.
-fn status_of<E: Write>(ended: Ended, errors: &mut E) -> io::Result<Status> {
+fn status_of<E: Write>(ended: Ended, errors: &mut E) -> Result<Status, Undone> {
     match ended {
         Ended::AtEnd | Ended::Asked => return Ok(Status::Done),
-        Ended::NoMemory => return tell_memory(errors),
+        Ended::NoMemory => return Err(Undone::Memory),
         Ended::ReadFailed => errors.write_all(b"the standard input cannot be read\n")?,
         Ended::WriteFailed => errors.write_all(b"the standard output cannot be written\n")?,
     }
@@ -39,45 +35,24 @@ fn is_input(path: Option<&str>) -> bool {
     }
 }
 
-/// Answers the lines of the standard input about a machine that was loaded with a deck.
-fn talk_about<W: Write, E: Write>(
-    rt: &HostRuntime,
-    setup: Setup<'_>,
-    deck: Deck,
-    names: Option<Names>,
-    output: &mut W,
-    errors: &mut E,
-) -> io::Result<Status>
-    requires { 0 < length deck }
-{
-    let begun = Session::begin(rt.alloc(), deck, setup.size, setup.switches, names);
-    let Ok(mut session) = begun else {
-        return tell_memory(errors);
-    };
-    let mut lines = rt.reader();
-    let ended = console(rt.alloc(), &mut session, &mut lines, output);
-    status_of(ended, errors)
-}
-
 /// Goes through a run step by step, as the lines of the standard input say.
 pub(crate) fn talk<W: Write, E: Write>(
-    rt: &HostRuntime,
+    process: &mut Process<W, E>,
     setup: Setup<'_>,
     names: Option<&str>,
-    output: &mut W,
-    errors: &mut E,
-) -> io::Result<Status> {
+) -> Result<Status, Undone> {
     if is_input(Some(setup.input)) || is_input(names) {
-        return tell_taken(errors);
+        return Ok(tell_taken(&mut process.errors)?);
     }
-    let Some(deck) = deck_to_run(rt, setup.input, errors)? else {
-        return Ok(Status::NotDone);
-    };
-    let Some(path) = names else {
-        return talk_about(rt, setup, deck, None, output, errors);
-    };
-    match names_at(rt, path, errors)? {
-        Some(names) => talk_about(rt, setup, deck, Some(names), output, errors),
-        None => Ok(Status::NotDone),
-    }
+    let deck = process.deck_to_run(setup.input)?;
+    let names = process.names_at(names)?;
+    let mut session = Session::begin(process.alloc(), deck, setup.size, setup.switches, names)?;
+    let mut lines = process.rt.reader();
+    let ended = console(
+        process.alloc(),
+        &mut session,
+        &mut lines,
+        &mut process.output,
+    );
+    status_of(ended, &mut process.errors)
 }

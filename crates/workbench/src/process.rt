@@ -1,0 +1,117 @@
+//! The process in which a row is done.
+
+ghost use Rattle.std.specs.Prelude.{◌<◌, length, IfOk};
+
+use crate::decks::{read_as, tell_form_fault};
+use crate::files::bytes_at;
+use crate::undone::Undone;
+use bench_runs::Names;
+use cards::Deck;
+use command_line::{Fault, Status, put_out};
+use counter::put_file;
+use std::alloc::Global;
+use std::io;
+use std::io::Write;
+
+/// The process in which a row is done: the system with its files, and two outputs.
+#[derive(Drop)]
+pub(crate) struct Process<W, E> {
+    /// The system.
+    pub rt: HostRuntime,
+    /// What is asked for is printed here.
+    pub output: W,
+    /// What is wrong is told here.
+    pub errors: E,
+}
+
+/// The status of a row that found all as it should be, or did not.
+pub(crate) fn status_if(is_right: bool) -> Status {
+    if is_right {
+        Status::Done
+    } else {
+        Status::NotDone
+    }
+}
+
+impl<W: Write, E: Write> Process<W, E> {
+    /// The memory.
+    pub(crate) fn alloc(&self) -> Global {
+        self.rt.alloc()
+    }
+
+    /// Says why a file or a folder is not taken.
+    pub(crate) fn tell(&mut self, path: &str, why: &str) -> io::Result<()> {
+        writeln!(self.errors, "{path}: {why}")
+    }
+
+    /// Says why a row is not done with a file.
+    pub(crate) fn refuse(&mut self, path: &str, why: &str) -> io::Result<Undone> {
+        self.tell(path, why)?;
+        Ok(Undone::Told(Status::NotDone))
+    }
+
+    /// Prints a text, and ends with a status; or says that it cannot be printed.
+    pub(crate) fn print(&mut self, text: &[u8], status: Status) -> Result<Status, Undone> {
+        if put_out(&mut self.output, text).is_err() {
+            self.errors
+                .write_all(b"the standard output cannot be written\n")?;
+            return Err(Undone::Told(Status::NotDone));
+        }
+        Ok(status)
+    }
+
+    /// Writes bytes to the file at a path, or to the standard output for `-`.
+    pub(crate) fn write(&mut self, path: &str, bytes: &[u8]) -> Result<Status, Undone> {
+        if path == "-" {
+            return self.print(bytes, Status::Done);
+        }
+        match put_file(&self.rt, path, bytes) {
+            Ok(()) => Ok(Status::Done),
+            Err(Fault::Memory) => Err(Undone::Memory),
+            Err(_) => Err(self.refuse(
+                path,
+                "it cannot be written; look at its permissions, and for a full disk",
+            )?),
+        }
+    }
+
+    /// The bytes of the file at a path, or of the standard input for `-`.
+    pub(crate) fn read(&mut self, path: &str) -> Result<Vec<u8>, Undone> {
+        match bytes_at(&self.rt, path) {
+            Ok(bytes) => Ok(bytes),
+            Err(why) => Err(self.refuse(path, why.words())?),
+        }
+    }
+
+    /// The deck in the file at a path: a text or a punch file.
+    pub(crate) fn deck_at(&mut self, path: &str) -> Result<Deck, Undone> {
+        let bytes = self.read(path)?;
+        match read_as(self.alloc(), None, &bytes) {
+            Ok(deck) => Ok(deck),
+            Err(fault) => Err(tell_form_fault(&mut self.errors, path, fault)?),
+        }
+    }
+
+    /// The deck in the file at a path, with a card at least.
+    pub(crate) fn deck_to_run(&mut self, path: &str) -> Result<Deck, Undone>
+        ensures { IfOk result (λ deck. 0 < length deck) }
+    {
+        let deck = self.deck_at(path)?;
+        if deck.cards().is_empty() {
+            return Err(self.refuse(path, "the deck has no card; is it the right file?")?);
+        }
+        Ok(deck)
+    }
+
+    /// The names of the source in the file at a path, if there is one.
+    pub(crate) fn names_at(&mut self, path: Option<&str>) -> Result<Option<Names>, Undone> {
+        let Some(path) = path else {
+            return Ok(None);
+        };
+        let deck = self.deck_at(path)?;
+        match Names::of(self.alloc(), deck)? {
+            Some(names) => Ok(Some(names)),
+            None => Err(self.refuse(path, "the source has faults; workbench source shows them")?),
+        }
+    }
+}
