@@ -30,34 +30,7 @@ const ANSWER: u64 = 30;
 /// The number of seconds for which what a client sends after its request is read.
 const REST: u64 = 1;
 
-/// Serves one connection: one request.
-fn serve_one<S: Alter>(
-    rt: &HostRuntime,
-    routes: &Routes,
-    bureau: &mut Bureau<S>,
-    stream: &TcpStream,
-    meter: &mut Meter,
-)
-    ensures works { HasWorked S.Store bureau.old.conn bureau.new.conn bureau.new.broken
-        IsSomeWork }
-    ensures clean { doubt (state S.Store bureau.old.conn).is_clean
-        ≤ doubt (state S.Store bureau.new.conn).is_clean }
-{
-    // A law, for the proof: it does nothing.
-    kept_offices_run_whole();
-    let (Ok(mut reader), Ok(mut writer)) = (
-        Timed::new(rt, stream, REQUEST),
-        Timed::new(rt, stream, REQUEST + ANSWER),
-    ) else {
-        return;
-    };
-    match exchange(rt.alloc(), routes, &mut reader, &mut writer, bureau, meter) {
-        Exchange::Answered { .. } => close(rt, stream, REST),
-        Exchange::ReadFailed | Exchange::WriteFailed { .. } => {}
-    }
-}
-
-/// Serves the next connection. One that fails is dropped.
+/// Serves the next connection: one request. A connection that fails is dropped.
 fn serve_next<S: Alter>(
     rt: &HostRuntime,
     routes: &Routes,
@@ -75,7 +48,16 @@ fn serve_next<S: Alter>(
     let Ok(stream) = stream else {
         return;
     };
-    serve_one(rt, routes, bureau, &stream, meter);
+    let (Ok(mut reader), Ok(mut writer)) = (
+        Timed::new(rt, &stream, REQUEST),
+        Timed::new(rt, &stream, REQUEST + ANSWER),
+    ) else {
+        return;
+    };
+    match exchange(rt.alloc(), routes, &mut reader, &mut writer, bureau, meter) {
+        Exchange::Answered { .. } => close(rt, &stream, REST),
+        Exchange::ReadFailed | Exchange::WriteFailed { .. } => {}
+    }
 }
 
 /// Serves this number of connections, one after the other.
