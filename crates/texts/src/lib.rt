@@ -20,9 +20,7 @@ mod switches;
 pub use digests::push_digest;
 pub use made::{Made, push_made};
 pub use names::{JobName, is_customer, is_number};
-pub use numbers::{
-    number_of, number_or_zero, number_up_to, push_decimal, push_number_between,
-};
+pub use numbers::{number_of, number_or_zero, number_up_to, push_decimal, push_number_between};
 pub use part_names::{MOST_PARTS, part_name};
 pub use reading::read_up_to;
 pub use sending::{Sent, send};
