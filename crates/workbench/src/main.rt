@@ -42,7 +42,7 @@ use std::{env, io};
 use workbench_words::{Task, task_of};
 
 /// The words of the process. The first is the program's name.
-fn words_given(rt: &HostRuntime) -> Result<Vec<String>, Mistake> {
+fn words_given(rt: &HostRuntime) -> Result<Vec<String>, Mistake<'static>> {
     Ok(env::args(rt)?.collect(rt.alloc())?)
 }
 
