@@ -1,8 +1,8 @@
 -- what the program does by its words
 use Rattle.std.specs.Prelude.{◌≡◌, ◌⊎◌, ℕ, List, codes}
 use Rattle.std.specs.Io.KnownBytes.{Appends, Keeps}
-use Rattle.counter.specs.Assembling.{Assembles}
-use Rattle.counter.specs.Runs.{Tells}
+use Rattle.local_runs.specs.Assembling.{Assembles}
+use Rattle.local_runs.specs.Runs.{Tells}
 use Rattle.command_line.specs.Tasks.{IsMistake, Wants}
 use Rattle.command_line.specs.Mistakes.{mistake_message, mistake_status}
 use Rattle.command_line.specs.Printed.{IsTextShown, version_text}
@@ -10,13 +10,13 @@ use Rattle.command_line.specs.declared.statuses.Status.{Status}
 use Rattle.command_line.specs.declared.mistakes.Mistake.{Mistake}
 use Rattle.command_line.specs.declared.tasks.Task.{Task}
 use Rattle.command_line.specs.declared.tasks.Task.TheVariants as task
-use Rattle.counter.specs.declared.Assembled.{Assembled}
-use Rattle.counter.specs.Put.{IsPut}
+use Rattle.local_runs.specs.declared.Assembled.{Assembled}
+use Rattle.local_runs.specs.Put.{IsPut}
 use Rattle.command_line.specs.Asked.{page_of}
-use Rattle.service.specs.Migrating.{HasMigrated}
-use Rattle.service.specs.Outcomes.{HasShown, status_of}
-use Rattle.service.specs.Work.{Bytes, HasApplied}
-use Rattle.service.specs.declared.outcomes.Outcome.{Outcome}
+use Rattle.bureau.specs.Migrating.{HasMigrated}
+use Rattle.bureau.specs.Outcomes.{HasShown, status_of}
+use Rattle.bureau.specs.Work.{Bytes, HasApplied}
+use Rattle.bureau.specs.declared.outcomes.Outcome.{Outcome}
 
 -- the assembly of a text ended, or a fault kept it from being read, and its bytes for OUT were
 -- written or that failed

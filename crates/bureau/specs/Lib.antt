@@ -1,1 +1,4 @@
 pub mod Answers
+pub mod Migrating
+pub mod Outcomes
+pub mod Work

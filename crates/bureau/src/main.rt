@@ -7,6 +7,14 @@
 //! only if a deck was made.
 #![tactic(auto)]
 
+mod connections;
+mod ended;
+mod exporting;
+mod migrating;
+mod outcomes;
+mod scripting;
+mod serving;
+
 ghost use Rattle.std.specs.Prelude.{Option, IfOk};
 ghost use Rattle.command_line.specs.Printed.{IsTextShown, version_text};
 ghost use Rattle.command_line.specs.Asked.{IsHelp, page_of};
@@ -15,11 +23,16 @@ ghost use Rattle.command_line.specs.Programs.{IsVersion};
 ghost use Rattle.command_line.specs.declared.rows.RowName.{RowName};
 ghost use Rattle.bureau.specs.Answers.{HasAnswered, HasAssembled, HasEnded, HasEndedMigration, HasEndedScript};
 
+use crate::exporting::export;
+use crate::migrating::tell_migrated;
+use crate::outcomes::{Outcome, show_outcome};
+use crate::scripting::apply;
+use crate::serving::serve;
 use command_line::{
     Mistake, Status, Task, Unfailing, exit_code, show_help, show_version, task_of, tell_mistake,
 };
-use counter::{assemble_file, run_input, write_out};
-use service::{Outcome, apply, export, init, migrate, serve, show_outcome, tell_migrated};
+use ledger_files::{init, migrate};
+use local_runs::{assemble_file, run_input, write_out};
 use sqlite::Unknown;
 use std::io::Write;
 use std::process::ExitCode;

@@ -6,25 +6,25 @@ use Rattle.std.specs.Str.{bytes_eq}
 use Rattle.std.proofs.lemmas.Bool.{eqb-true}
 use Rattle.std.proofs.lemmas.Fmt.{decimal_injective}
 use Rattle.bcd.proofs.Tables.{at_each}
-use Rattle.http_requests.specs.declared.routes.Route.{Route}
-use Rattle.http_requests.specs.declared.routes.Route.TheVariants as route
-use Rattle.http_requests.specs.declared.routes.Verb.{Verb}
-use Rattle.http_requests.specs.declared.routes.Verb.TheVariants as verb
-use Rattle.http_requests.specs.Parts.{part}
-use Rattle.http_requests.specs.Paths.{route_at}
+use Rattle.http_messages.specs.declared.routes.Route.{Route}
+use Rattle.http_messages.specs.declared.routes.Route.TheVariants as route
+use Rattle.http_messages.specs.declared.routes.Verb.{Verb}
+use Rattle.http_messages.specs.declared.routes.Verb.TheVariants as verb
+use Rattle.http_messages.specs.Parts.{part}
+use Rattle.http_messages.specs.Paths.{route_at}
 use Rattle.units.specs.declared.switches.Switches.{Switches}
 use Rattle.texts.specs.Numbers.{IsNumberOf}
 use Rattle.texts.specs.Switches.{AreSwitchesOf, letters_of, risen, text_of_bits}
 use Rattle.office.specs.declared.commands.JobCommand.{JobCommand}
 use Rattle.office.specs.declared.commands.JobCommand.TheVariants as on
 use Rattle.office.specs.declared.stackers.Stacker.{Stacker}
-use Rattle.http_requests.specs.Targets.{Asks, IsCommandBy, IsJobOf}
-use Rattle.http_requests.specs.Fields.{body_length}
-use Rattle.http_requests.specs.Heads.{AsksFor}
-use Rattle.http_requests.specs.declared.targets.Target.{Target}
-use Rattle.http_requests.specs.declared.targets.Target.TheVariants as target
+use Rattle.http_messages.specs.Targets.{Asks, IsCommandBy, IsJobOf}
+use Rattle.http_messages.specs.Fields.{body_length}
+use Rattle.http_messages.specs.Judging.{AsksFor}
+use Rattle.http_messages.specs.declared.targets.Target.{Target}
+use Rattle.http_messages.specs.declared.targets.Target.TheVariants as target
 use Rattle.texts.specs.declared.names.JobName.{JobName}
-use Rattle.http_requests.specs.Tests.{count_of, fields_of}
+use Rattle.http_messages.specs.HeadTests.{count_of, fields_of}
 use Rattle.httparse.specs.Grammar.{RequestHead}
 use Rattle.bureau_laws.specs.Same.{IsSameTarget, IsSameJob}
 use Rattle.bureau_laws.proofs.HeadLaw.{same_head}

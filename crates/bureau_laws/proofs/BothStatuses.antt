@@ -2,7 +2,7 @@
 use Rattle.std.proofs.Common.{◌≡◌, ◌∙◌, ◌⊎◌, ◌↔◌, ℕ, ◌-◌, ◌+◌, ◌≤◌, List, [], ◌++◌, length, take, sym, ap, subst, refl, arith, append_assoc, inl, inr}
 use Rattle.std.proofs.Math.Seq.{take-append-add}
 use Rattle.httparse.specs.Grammar.{HasNoRequest, ReadsRequest, RequestHead}
-use Rattle.http_requests.specs.Heads.{EndsEarly, IsNoHead, IsTooLong, Refuses}
+use Rattle.http_messages.specs.Judging.{EndsEarly, IsNoHead, IsTooLong, Refuses}
 use Rattle.bureau_laws.specs.Statuses.{EndsInBadTarget, HasFurtherFault}
 use Rattle.bureau_laws.proofs.HeadLaw.{one_of_head}
 

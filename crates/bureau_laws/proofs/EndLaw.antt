@@ -4,12 +4,12 @@ use Rattle.std.proofs.lemmas.Bool.{cases_lt}
 use Rattle.std.proofs.lemmas.List.{length-append, nil_from_length}
 use Rattle.httparse.specs.Grammar.{HasNoRequest, ReadsRequest, RequestHead, print_request}
 use Rattle.httparse.proofs.GrammarLemmas.{ReadsRequest-append, request_unique}
-use Rattle.http_requests.specs.Asking.{IsAskedBy}
-use Rattle.http_requests.specs.Heads.{AsksFor, BeginsWith, IsRefused, IsUnread, Refuses}
-use Rattle.http_requests.specs.Requests.{IsRefusedFor, IsRequestOf}
-use Rattle.http_requests.specs.declared.request.Request.{Request}
-use Rattle.http_requests.specs.declared.request.Request.TheVariants as request
-use Rattle.http_requests.specs.declared.targets.Target.{Target}
+use Rattle.http_messages.specs.Asking.{IsAskedBy}
+use Rattle.http_messages.specs.Judging.{AsksFor, BeginsWith, IsRefused, IsUnread, Refuses}
+use Rattle.http_messages.specs.Requests.{IsRefusedFor, IsRequestOf}
+use Rattle.http_messages.specs.declared.request.Request.{Request}
+use Rattle.http_messages.specs.declared.request.Request.TheVariants as request
+use Rattle.http_messages.specs.declared.targets.Target.{Target}
 use Rattle.bureau_laws.specs.Ends.{EndsWithBody, HasWholeBody, IsTooLarge}
 use Rattle.bureau_laws.proofs.AskingLaw.{same_asking}
 use Rattle.bureau_laws.proofs.HeadLaw.{is_read, many_always, not_both, not_refused, one_refusal, same_head}

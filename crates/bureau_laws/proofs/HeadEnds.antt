@@ -8,7 +8,7 @@ use Rattle.std.proofs.Math.ListN.{replicate}
 use Rattle.std.specs.List.{flat_map}
 use Rattle.httparse.specs.Grammar.{Field, HasNoRequest, IsField, IsRequestHead, IsToken, ReadsRequest, RequestHead, is_token_byte, is_uri_byte, is_value_byte, lf, print_field, print_section}
 use Rattle.httparse.proofs.GrammarLemmas.{ReadsRequest-append, print_request-append, request_unique}
-use Rattle.http_requests.specs.Heads.{Refuses}
+use Rattle.http_messages.specs.Judging.{Refuses}
 use Rattle.bureau_laws.proofs.HeadLaw.{started, started-append}
 
 -- a field line of three bytes

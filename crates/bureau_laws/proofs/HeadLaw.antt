@@ -11,10 +11,10 @@ use Rattle.httparse.proofs.PieceLemmas.{Refutes_next, RequestStart_deterministic
 use Rattle.httparse.proofs.ReadLemmas.{SectionOfAtMost_overflow}
 use Rattle.std.specs.List.{flat_map}
 use Rattle.std.specs.Prelude.{Some, None}
-use Rattle.http_requests.specs.Heads.{AsksFor, BeginsWith, IsRefused, IsUnread, Refuses}
-use Rattle.http_requests.specs.Targets.{Asks}
-use Rattle.http_requests.specs.Tests.{status_of}
-use Rattle.http_requests.specs.declared.targets.Target.{Target}
+use Rattle.http_messages.specs.Judging.{AsksFor, BeginsWith, IsRefused, IsUnread, Refuses}
+use Rattle.http_messages.specs.Targets.{Asks}
+use Rattle.http_messages.specs.HeadTests.{status_of}
+use Rattle.http_messages.specs.declared.targets.Target.{Target}
 use Rattle.bureau_laws.specs.Same.{IsHeadless, IsSameStatus}
 
 pub same_head : (input : List ℕ) (h k : RequestHead) (one : BeginsWith input h) (other : BeginsWith input k)

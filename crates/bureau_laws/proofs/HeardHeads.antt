@@ -13,8 +13,8 @@ use Rattle.httparse.specs.Grammar.{Field, IsField, IsResponseHead, ReadsResponse
 use Rattle.httparse.specs.Spans.{name_and_value}
 use Rattle.httparse.proofs.GrammarLemmas.{print_response-append}
 use Rattle.httparse.proofs.TrimLemmas.{AllPass-reverse, skip_ows_no, trim_ows_space}
-use Rattle.http_replies.specs.Replies.{HasPhrase, answer_bytes, phrase_of}
-use Rattle.http_replies.proofs.Phrases.{each}
+use Rattle.http_messages.specs.Replies.{HasPhrase, answer_bytes, phrase_of}
+use Rattle.http_messages.proofs.Phrases.{each}
 use Rattle.queue_rounds.specs.Responses.{IsLengthField, IsNumber, StatesLength}
 use Rattle.bureau_laws.proofs.HeardDigits.{decimal_is_text, decimal_passes}
 

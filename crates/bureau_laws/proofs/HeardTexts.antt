@@ -30,7 +30,7 @@ use Rattle.serde_json.specs.View.{items_of}
 use Rattle.serde_json.specs.Written.{comma_if, compact_text, items_outline, items_text, members_outline, members_text, outline}
 use Rattle.serde_json.proofs.Numbers.{number_of-decimal}
 use Rattle.serde_json.proofs.Texts.{print-outline}
-use Rattle.http_replies.specs.Values.{count, queue_data, queued_data, ran_data, refusal_data, summary_data}
+use Rattle.http_messages.specs.Values.{count, queue_data, queued_data, ran_data, refusal_data, summary_data}
 use Rattle.bureau_laws.specs.Hearing.{HasCounts, IsJob}
 use Rattle.bureau_laws.proofs.HeardDigits.{and_is, decimal_is_text}
 

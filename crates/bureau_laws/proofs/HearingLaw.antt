@@ -4,13 +4,13 @@ use Rattle.std.specs.Prelude.{option_and_then, string_bytes}
 use Rattle.std.specs.Fmt.{digits}
 use Rattle.std.specs.Str.{IsUtf8}
 use Rattle.std.proofs.lemmas.List.Elements.{All-head, All-tail}
-use Rattle.http_replies.specs.Bodies.{body_of, refusal_body, summary_body}
-use Rattle.http_replies.specs.Fixed.{fault_bytes, fault_number, fault_status, refusing_status}
-use Rattle.http_replies.specs.Replies.{HasPhrase, answer_bytes, content_type_of, refusal_status, refused_bytes, reply_bytes, status_of}
-use Rattle.http_replies.specs.Values.{count, queue_data, queued_data, ran_data, refusal_data, summary_data}
-use Rattle.http_replies.specs.declared.fixed.Fault.{Fault}
-use Rattle.http_replies.specs.declared.fixed.Fault.TheVariants as fault
-use Rattle.http_replies.proofs.BodyTexts.{queue_is, ran_is, refusal_is, summary_is}
+use Rattle.http_messages.specs.ReplyBodies.{body_of, refusal_body, summary_body}
+use Rattle.http_messages.specs.Fixed.{fault_bytes, fault_number, fault_status, refusing_status}
+use Rattle.http_messages.specs.Replies.{HasPhrase, answer_bytes, content_type_of, refusal_status, refused_bytes, reply_bytes, status_of}
+use Rattle.http_messages.specs.Values.{count, queue_data, queued_data, ran_data, refusal_data, summary_data}
+use Rattle.http_messages.specs.declared.fixed.Fault.{Fault}
+use Rattle.http_messages.specs.declared.fixed.Fault.TheVariants as fault
+use Rattle.http_messages.proofs.BodyTexts.{queue_is, ran_is, refusal_is, summary_is}
 use Rattle.httparse.specs.Grammar.{status_code}
 use Rattle.httparse.proofs.GrammarLemmas.{response_unique}
 use Rattle.machine.specs.Standings.{standing_words}

@@ -6,19 +6,19 @@ use Rattle.cards.specs.Files.{column_of, file_of, text_of}
 use Rattle.cards.specs.declared.decks.Card.{Card}
 use Rattle.cards.specs.declared.faults.CardFault.{CardFault}
 use Rattle.units.specs.declared.switches.Switches.{Switches}
-use Rattle.http_requests.specs.Heads.{AsksFor}
-use Rattle.http_requests.specs.declared.targets.Target.{Target}
-use Rattle.http_requests.specs.declared.targets.Target.TheVariants as target
+use Rattle.http_messages.specs.Judging.{AsksFor}
+use Rattle.http_messages.specs.declared.targets.Target.{Target}
+use Rattle.http_messages.specs.declared.targets.Target.TheVariants as target
 use Rattle.texts.specs.declared.names.JobName.{JobName}
 use Rattle.office.specs.declared.commands.Kind.{Kind}
 use Rattle.httparse.specs.Grammar.{ReadsRequest, RequestHead}
 use Rattle.office.specs.declared.commands.Command.TheVariants as command
 use Rattle.office.specs.declared.commands.Contents.{Contents}
 use Rattle.office.specs.declared.commands.JobCommand.{JobCommand}
-use Rattle.http_requests.specs.Asking.{AreContents, AsksOfJobs, IsAskedBy, IsOnJob, IsSubmission, IsTextFault}
-use Rattle.http_requests.specs.Requests.{IsAskedWith, IsRefusedFor, IsRequestOf}
-use Rattle.http_requests.specs.declared.request.Request.{Request}
-use Rattle.http_requests.specs.declared.request.Request.TheVariants as request
+use Rattle.http_messages.specs.Asking.{AreContents, AsksOfJobs, IsAskedBy, IsOnJob, IsSubmission, IsTextFault}
+use Rattle.http_messages.specs.Requests.{IsAskedWith, IsRefusedFor, IsRequestOf}
+use Rattle.http_messages.specs.declared.request.Request.{Request}
+use Rattle.http_messages.specs.declared.request.Request.TheVariants as request
 use Rattle.bureau_laws.specs.Same.{IsSameTarget, IsSameJob, IsSameRequest}
 use Rattle.bureau_laws.proofs.HeadLaw.{not_both, one_of_head, one_status}
 use Rattle.bureau_laws.proofs.AskingLaw.{same_asking}

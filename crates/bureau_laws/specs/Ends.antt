@@ -1,8 +1,8 @@
 -- where a request ends, and heads that are too large
 use Rattle.std.specs.Prelude.{ℕ, ◌<◌, ◌≤◌, ◌⊎◌, List, length}
 use Rattle.httparse.specs.Grammar.{RequestHead, print_request}
-use Rattle.http_requests.specs.Heads.{AsksFor, most_bytes, most_fields}
-use Rattle.http_requests.specs.declared.targets.Target.{Target}
+use Rattle.http_messages.specs.Judging.{AsksFor, most_bytes, most_fields}
+use Rattle.http_messages.specs.declared.targets.Target.{Target}
 
 -- the bytes begin with a head that asks for something, and at least as many bytes follow as its
 -- Content-Length says, which are its body; 0 if it has none

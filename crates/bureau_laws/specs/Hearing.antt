@@ -1,7 +1,7 @@
 -- what the operator hears of the bytes that the counter writes
 use Rattle.std.specs.Prelude.{ℕ, ◌≡◌, ◌≢◌, ◌<◌, ◌^◌, List, Option, None, length, map, string_bytes, true}
 use Rattle.autocoder_layout.specs.declared.card_faults.CardFault.{CardFault}
-use Rattle.http_replies.specs.Bodies.{body_of}
+use Rattle.http_messages.specs.ReplyBodies.{body_of}
 use Rattle.machine.specs.Standings.{standing_words}
 use Rattle.machine.specs.declared.standings.StandingAt.{StandingAt}
 use Rattle.texts.specs.Names.{is_customer, is_number}

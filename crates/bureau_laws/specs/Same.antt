@@ -1,12 +1,12 @@
 -- when two requests, commands or statuses are the same
 use Rattle.std.specs.Prelude.{ℕ, ◌≡◌, ◌⊎◌, ⊤, List, [], ◌∷◌, string_bytes}
-use Rattle.http_requests.specs.declared.targets.Target.{Target}
-use Rattle.http_requests.specs.declared.targets.Target.TheVariants as target
+use Rattle.http_messages.specs.declared.targets.Target.{Target}
+use Rattle.http_messages.specs.declared.targets.Target.TheVariants as target
 use Rattle.texts.specs.declared.names.JobName.{JobName}
 use Rattle.office.specs.declared.commands.Command.{Command}
 use Rattle.office.specs.declared.commands.Command.TheVariants as command
-use Rattle.http_requests.specs.declared.request.Request.{Request}
-use Rattle.http_requests.specs.declared.request.Request.TheVariants as request
+use Rattle.http_messages.specs.declared.request.Request.{Request}
+use Rattle.http_messages.specs.declared.request.Request.TheVariants as request
 
 -- a status with which bytes that begin with no head are refused: 400 or 431
 abbrev pub IsHeadless : ℕ → Type 0

@@ -1,7 +1,7 @@
 -- bytes that may be refused with either of two statuses
 use Rattle.std.specs.Prelude.{ℕ, ◌≤◌, ◌⊎◌, List, length, take}
 use Rattle.httparse.specs.Grammar.{EndsInTarget}
-use Rattle.http_requests.specs.Heads.{EndsEarly, HasManyFields, IsNoHead, most_bytes}
+use Rattle.http_messages.specs.Judging.{EndsEarly, HasManyFields, IsNoHead, most_bytes}
 
 -- the bytes begin with more header fields than a head may have, and have a further fault: they
 -- begin as no head does, or they end before a head does

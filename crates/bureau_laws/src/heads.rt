@@ -2,8 +2,8 @@
 
 ghost use Rattle.std.specs.Prelude.{◌≡◌, ◌⊎◌, ◌↔◌, ℕ, List};
 ghost use Rattle.httparse.specs.Grammar.{ReadsRequest, RequestHead};
-ghost use Rattle.http_requests.specs.Heads.{AsksFor, BeginsWith, Refuses};
-ghost use Rattle.http_requests.specs.declared.targets.Target.{Target};
+ghost use Rattle.http_messages.specs.Judging.{AsksFor, BeginsWith, Refuses};
+ghost use Rattle.http_messages.specs.declared.targets.Target.{Target};
 ghost use Rattle.bureau_laws.specs.Same.{IsSameStatus};
 ghost use Rattle.bureau_laws.specs.Statuses.{EndsInBadTarget, HasFurtherFault};
 

@@ -1,10 +1,10 @@
 //! The law of hearing.
 
 ghost use Rattle.std.specs.Prelude.{◌≡◌, ◌<◌, ◌^◌, ℕ, All, List, Option, Some};
-ghost use Rattle.http_replies.specs.Bodies.{body_of};
-ghost use Rattle.http_replies.specs.Fixed.{fault_bytes, fault_status, refusing_status};
-ghost use Rattle.http_replies.specs.Replies.{refused_bytes, reply_bytes, status_of};
-ghost use Rattle.http_replies.specs.declared.fixed.Fault.{Fault};
+ghost use Rattle.http_messages.specs.ReplyBodies.{body_of};
+ghost use Rattle.http_messages.specs.Fixed.{fault_bytes, fault_status, refusing_status};
+ghost use Rattle.http_messages.specs.Replies.{refused_bytes, reply_bytes, status_of};
+ghost use Rattle.http_messages.specs.declared.fixed.Fault.{Fault};
 ghost use Rattle.machine.specs.declared.standings.StandingAt.{StandingAt};
 ghost use Rattle.office.specs.Numbers.{refusal_number};
 ghost use Rattle.office.specs.Queued.{QueuedJob};

@@ -3,8 +3,8 @@ use Rattle.std.proofs.Common.{◌≡◌, ℕ, zero, suc, ◌+◌, ◌-◌, ◌<�
 use Rattle.machine.specs.Run.{State, after, attempts, is_running, step}
 use Rattle.machine.proofs.Attempts.{attempts_on}
 use Rattle.machine.proofs.Steps.{after_stopped, attempts_stopped}
-use Rattle.bench_runs.specs.Attempts.{attempt_line}
-use Rattle.bench_runs.specs.Names.{Named}
+use Rattle.run_traces.specs.Attempts.{attempt_line}
+use Rattle.run_traces.specs.Names.{Named}
 use Rattle.console.specs.Shown.{attempts_shown}
 
 after_next : (m : State) (limit : ℕ) → after m (suc limit) ≡ after (step m) limit

@@ -4,7 +4,7 @@ use Rattle.std.specs.Prelude.{All, nat_le}
 use Rattle.std.proofs.lemmas.List.Elements.{All-nil, All-push}
 use Rattle.units.specs.declared.switches.Switches.{Switches}
 use Rattle.machine.specs.Run.{State, after, attempts, is_halted}
-use Rattle.bench_runs.specs.Names.{Named}
+use Rattle.run_traces.specs.Names.{Named}
 use Rattle.console.specs.Answers.{advanced, done, going, gone, is_inside, limit_of, next, restarted, set_back, stepped}
 use Rattle.console.specs.Sittings.{HasCome, Sitting, begun, machine_of, most_made, pressed}
 use Rattle.console.specs.declared.sayings.Deed.{Deed}

@@ -4,7 +4,7 @@ use Rattle.std.specs.List.{AllPairs}
 use Rattle.units.specs.Listing.{rendered}
 use Rattle.units.specs.declared.switches.Switches.{Switches}
 use Rattle.machine.specs.Run.{State, after, attempts, is_halted, lines_of}
-use Rattle.bench_runs.specs.Dumps.{machine_shown}
+use Rattle.run_traces.specs.Dumps.{machine_shown}
 use Rattle.console.specs.Goes.{watched_cell, went}
 use Rattle.console.specs.Sayings.{IsSaid, is_end}
 use Rattle.console.specs.Shown.{attempts_shown, cards_shown, fault_line, fault_words, field_line, help_text, last_shown, made_words, past_words, place_line, registers_shown, stopped_shown, stops_line, watched_line, why_line}

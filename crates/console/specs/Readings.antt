@@ -3,8 +3,8 @@ use Rattle.std.specs.Prelude.{ℕ, ◌≡◌, ◌≤◌, ◌<◌, nat_lt, List, 
 use Rattle.core_store.specs.Storage.{largest_size}
 use Rattle.texts.specs.Switches.{AreSwitchesOf}
 use Rattle.units.specs.declared.switches.Switches.{Switches}
-use Rattle.bench_runs.specs.Addresses.{IsSaid}
-use Rattle.bench_runs.specs.Names.{Named}
+use Rattle.run_traces.specs.Addresses.{IsSaid}
+use Rattle.run_traces.specs.Names.{Named}
 use Rattle.console.specs.Words.{first_word, from_fourth, second_word, text_of, third_word}
 use Rattle.console.specs.Verbs.{IsVerbOf}
 use Rattle.console.specs.declared.readings.Heard.{Heard}

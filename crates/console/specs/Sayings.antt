@@ -1,6 +1,6 @@
 -- what a line says
 use Rattle.std.specs.Prelude.{ℕ, ◌≡◌, Bool, true, false, if◌then◌else◌, List, Option, Some, None, Result, Ok, Err}
-use Rattle.bench_runs.specs.Names.{Named}
+use Rattle.run_traces.specs.Names.{Named}
 use Rattle.units.specs.declared.switches.Switches.{Switches}
 use Rattle.console.specs.Readings.{IsHeardOf, most_asked}
 use Rattle.console.specs.declared.readings.Heard.{Heard}

@@ -9,10 +9,10 @@ use Rattle.machine.specs.Standings.{standing_of, standing_words}
 use Rattle.machine.specs.declared.standings.Standing.{Standing}
 use Rattle.machine.specs.declared.standings.Standing.TheVariants.{Running, Halted, Checked}
 use Rattle.units.specs.declared.punch.Punched.{Punched}
-use Rattle.bench_runs.specs.Attempts.{attempt_line}
-use Rattle.bench_runs.specs.Dumps.{registers_line, units_line}
-use Rattle.bench_runs.specs.Fields.{field_shown}
-use Rattle.bench_runs.specs.Names.{Named}
+use Rattle.run_traces.specs.Attempts.{attempt_line}
+use Rattle.run_traces.specs.Dumps.{registers_line, units_line}
+use Rattle.run_traces.specs.Fields.{field_shown}
+use Rattle.run_traces.specs.Names.{Named}
 use Rattle.console.specs.Goes.{has_changed, stands_at}
 use Rattle.console.specs.Words.{first_word, second_word}
 use Rattle.console.specs.declared.sayings.Fault.{Fault}

@@ -2,7 +2,7 @@
 use Rattle.std.specs.Prelude.{ℕ, ◌≡◌, ◌≤◌, ◌-◌, if◌then◌else◌, List, [], ◌∷◌, All, Option, None}
 use Rattle.machine.specs.Run.{State, after, is_halted, started}
 use Rattle.units.specs.declared.switches.Switches.{Switches}
-use Rattle.bench_runs.specs.Names.{Named}
+use Rattle.run_traces.specs.Names.{Named}
 use Rattle.console.specs.declared.starts.Start.{Start}
 
 -- the most instructions of a session

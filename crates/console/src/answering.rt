@@ -10,7 +10,7 @@ ghost use Rattle.console.specs.Sittings.{HasCome};
 use crate::sayings::{Deed, Question, Saying};
 use crate::sessions::Session;
 use crate::showing::{fault_words, push_bare, push_fault, push_help, push_stops};
-use bench_runs::{DumpOptions, push_machine};
+use run_traces::{DumpOptions, push_machine};
 use card_tools::{ListOptions, list};
 use cards::Card;
 use std::alloc::{AllocError, Global};

@@ -11,7 +11,7 @@ ghost use Rattle.console.specs.Sittings.{machine_of, pressed};
 
 use crate::starts::Start;
 use crate::watching::{cells_differ, watched_cell};
-use bench_runs::{Names, load, push_attempt};
+use run_traces::{Names, load, push_attempt};
 use cards::Deck;
 use core_store::{Core, PlaneCore, Size};
 use machine::{Machine, Meter, Parts, Standing};

@@ -2,7 +2,7 @@
 
 ghost use Rattle.std.specs.Prelude.{◌≡◌, ◌+◌, ◌≤◌, ℕ, List, [], Option, false};
 ghost use Rattle.machine.specs.Run.{State, after, attempts};
-ghost use Rattle.bench_runs.specs.Names.{Named};
+ghost use Rattle.run_traces.specs.Names.{Named};
 ghost use Rattle.console.specs.Answers.{Rising, going, next, with_stop, without_stop};
 ghost use Rattle.console.specs.Goes.{IsWent, went};
 ghost use Rattle.console.specs.Sayings.{is_start};

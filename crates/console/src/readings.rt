@@ -7,7 +7,7 @@ ghost use Rattle.console.specs.Readings.{IsCountOf, IsHeardOf, IsPositionOf, IsR
 
 use crate::verbs::Verb;
 use crate::words::{Words, text_of};
-use bench_runs::Names;
+use run_traces::Names;
 use core_store::LARGEST_SIZE;
 use std::alloc::{AllocError, Global};
 use texts::{number_of, switches_of};

@@ -5,7 +5,7 @@ ghost use Rattle.console.specs.Sayings.{IsSaid, address_in, alone, count_in, dum
 
 use crate::readings::{Heard, MOST_ASKED};
 use crate::verbs::Verb;
-use bench_runs::Names;
+use run_traces::Names;
 use std::alloc::{AllocError, Global};
 use units::Switches;
 

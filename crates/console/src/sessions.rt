@@ -17,7 +17,7 @@ use crate::showing::{
 };
 use crate::starts::Start;
 use crate::stops::{starts_until, with_stop, without_stop};
-use bench_runs::{Names, load, push_attempt};
+use run_traces::{Names, load, push_attempt};
 use cards::Deck;
 use core_store::{Core, PlaneCore, Size};
 use machine::{Machine, Parts, Standing};

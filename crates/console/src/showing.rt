@@ -10,7 +10,7 @@ use crate::going::{has_changed, stands_at};
 use crate::sayings::Fault;
 use crate::words::Words;
 use autocoder::push_number;
-use bench_runs::{push_field, push_registers, push_units};
+use run_traces::{push_field, push_registers, push_units};
 use cards::LINE_FEED;
 use core_store::Core;
 use machine::{Parts, Standing};

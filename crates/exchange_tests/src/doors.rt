@@ -4,7 +4,7 @@
 
 use crate::devices::{Dripping, Narrow};
 use exchanges::{exchange, script};
-use http_requests::Routes;
+use http_messages::Routes;
 use ledger::Bureau;
 use machine::Meter;
 use sqlite::{Alter, Connection};

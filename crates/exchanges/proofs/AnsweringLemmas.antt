@@ -10,9 +10,9 @@ use Rattle.office.specs.Meters.{RisenAtMost}
 use Rattle.office.specs.Office.{Office, attempted, take}
 use Rattle.office.specs.declared.commands.Command.{Command}
 use Rattle.office.specs.declared.replies.Reply.{Reply}
-use Rattle.http_replies.specs.Replies.{HasLinesInOrder, reply_bytes, status_of}
-use Rattle.http_replies.specs.declared.fixed.Fault.TheVariants as fault
-use Rattle.http_requests.specs.declared.request.Request.TheVariants as request
+use Rattle.http_messages.specs.Replies.{HasLinesInOrder, reply_bytes, status_of}
+use Rattle.http_messages.specs.declared.fixed.Fault.TheVariants as fault
+use Rattle.http_messages.specs.declared.request.Request.TheVariants as request
 use Rattle.exchanges.specs.Answers.{IsOfFault}
 use Rattle.exchanges.specs.Exchanges.{ComesTo}
 use Rattle.exchanges.proofs.AnsweringLines.{LinesRise, replied_in_order}

@@ -22,7 +22,7 @@ use Rattle.office.specs.declared.replies.Reply.{Reply}
 use Rattle.office.specs.declared.replies.Reply.TheVariants as reply
 use Rattle.ledger.specs.Standing.{CanBeKept, LeftAs, Rows, Stands}
 use Rattle.ledger.proofs.Offices.{job_is}
-use Rattle.http_replies.specs.Replies.{HasLinesInOrder}
+use Rattle.http_messages.specs.Replies.{HasLinesInOrder}
 
 -- ---- a job's lines
 

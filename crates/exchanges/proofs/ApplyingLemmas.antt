@@ -25,7 +25,7 @@ use Rattle.ledger.proofs.ShiftLemmas.{office_more, replies_more}
 use Rattle.ledger.specs.Standing.{Stands}
 use Rattle.ledger_tables.specs.Faults.{fault_number}
 use Rattle.exchanges.specs.Ending.{StopsAtFirst}
-use Rattle.exchanges.specs.declared.endings.ScriptEnd.TheVariants as ended
+use Rattle.exchanges.specs.declared.script_ends.ScriptEnd.TheVariants as ended
 use Rattle.exchanges.specs.Running.{SendsBegun, office_after, replies_to, reply_lines}
 use Rattle.exchanges.specs.Steps.{IsReplyTo, Sends, SendsSome, is_refusal}
 

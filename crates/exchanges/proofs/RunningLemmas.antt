@@ -12,9 +12,9 @@ use Rattle.ledger.specs.Working.{HasWorked}
 use Rattle.ledger_tables.specs.declared.faults.Fault.TheVariants.{NoMemory, Store}
 use Rattle.exchanges.specs.Running.{IsCount, RunLeaves, RunStands, Runs, fault_of}
 use Rattle.exchanges.specs.Work.{TellsScript}
-use Rattle.exchanges.specs.declared.endings.ScriptEnd.{ScriptEnd}
-use Rattle.exchanges.specs.declared.endings.ScriptEnd.TheVariants as ended
-use Rattle.exchanges.specs.declared.endings.Scripted.{Scripted}
+use Rattle.exchanges.specs.declared.script_ends.ScriptEnd.{ScriptEnd}
+use Rattle.exchanges.specs.declared.script_ends.ScriptEnd.TheVariants as ended
+use Rattle.exchanges.specs.declared.script_ends.Scripted.{Scripted}
 use Rattle.office.specs.declared.commands.Command.{Command}
 use Rattle.scripts.specs.Reading.{IsReadOf}
 use Rattle.scripts.specs.Scripts.{IsFaultOf, IsScriptOf}

@@ -1,11 +1,11 @@
 -- the answer to each request
 use Rattle.std.specs.Prelude.{ℕ, ◌≡◌, List, [], ◌⊎◌}
-use Rattle.http_replies.specs.Fixed.{fault_bytes, fault_status}
-use Rattle.http_replies.specs.Replies.{deck_fault_bytes, refused_bytes, reply_bytes, status_of}
-use Rattle.http_replies.specs.declared.fixed.Fault.{Fault}
-use Rattle.http_replies.specs.declared.fixed.Fault.TheVariants as fault
-use Rattle.http_requests.specs.declared.request.Request.{Request}
-use Rattle.http_requests.specs.declared.request.Request.TheVariants as request
+use Rattle.http_messages.specs.Fixed.{fault_bytes, fault_status}
+use Rattle.http_messages.specs.Replies.{deck_fault_bytes, refused_bytes, reply_bytes, status_of}
+use Rattle.http_messages.specs.declared.fixed.Fault.{Fault}
+use Rattle.http_messages.specs.declared.fixed.Fault.TheVariants as fault
+use Rattle.http_messages.specs.declared.request.Request.{Request}
+use Rattle.http_messages.specs.declared.request.Request.TheVariants as request
 use Rattle.office.specs.Office.{Office, attempted, limit_of as command_limit, take}
 use Rattle.office.specs.declared.replies.Reply.{Reply}
 

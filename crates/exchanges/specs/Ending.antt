@@ -8,8 +8,8 @@ use Rattle.scripts.specs.declared.faults.ScriptFault.{ScriptFault}
 use Rattle.scripts.specs.declared.faults.ScriptFault.TheVariants as fault
 use Rattle.exchanges.specs.Running.{IsCount, RunLeaves, RunStands, RunTicks, Runs}
 use Rattle.exchanges.specs.Steps.{Sends, SendsSome}
-use Rattle.exchanges.specs.declared.endings.ScriptEnd.TheVariants as ended
-use Rattle.exchanges.specs.declared.endings.Scripted.{Scripted}
+use Rattle.exchanges.specs.declared.script_ends.ScriptEnd.TheVariants as ended
+use Rattle.exchanges.specs.declared.script_ends.Scripted.{Scripted}
 use Rattle.sqlite.specs.Held.{Held}
 use Rattle.sqlite_trees.specs.declared.store.Store.{Ghosts}
 use Rattle.ledger_tables.specs.declared.faults.Fault.TheVariants.{NoMemory, Store}

@@ -10,16 +10,16 @@ use Rattle.ledger.specs.Standing.{LeftAs, Stands}
 use Rattle.office.specs.Meters.{RisenAtMost}
 use Rattle.office.specs.Office.{Office, attempted, take as after}
 use Rattle.office.specs.declared.commands.Command.{Command}
-use Rattle.http_replies.specs.Fixed.{fault_bytes, fault_status}
-use Rattle.http_replies.specs.declared.fixed.Fault.{Fault}
-use Rattle.http_replies.specs.declared.fixed.Fault.TheVariants as fault
-use Rattle.http_requests.specs.Requests.{IsRequestOf}
-use Rattle.http_requests.specs.declared.request.Request.{Request}
-use Rattle.http_requests.specs.declared.request.Request.TheVariants as request
+use Rattle.http_messages.specs.Fixed.{fault_bytes, fault_status}
+use Rattle.http_messages.specs.declared.fixed.Fault.{Fault}
+use Rattle.http_messages.specs.declared.fixed.Fault.TheVariants as fault
+use Rattle.http_messages.specs.Requests.{IsRequestOf}
+use Rattle.http_messages.specs.declared.request.Request.{Request}
+use Rattle.http_messages.specs.declared.request.Request.TheVariants as request
 use Rattle.exchanges.specs.Answers.{AnswersBroken, IsAnswer, IsOfFault, answer_of}
 use Rattle.exchanges.specs.Answers.{attempted_for, limit_of}
-use Rattle.exchanges.specs.declared.ended.Exchange.{Exchange}
-use Rattle.exchanges.specs.declared.ended.Exchange.TheVariants as exchange
+use Rattle.exchanges.specs.declared.exchange_ends.Exchange.{Exchange}
+use Rattle.exchanges.specs.declared.exchange_ends.Exchange.TheVariants as exchange
 
 -- this is the request in the bytes of the reader, if those are known
 abbrev pub WasRead : Option (List ℕ) → Request → Type 0

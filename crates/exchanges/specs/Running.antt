@@ -10,9 +10,9 @@ use Rattle.std.specs.Io.KnownBytes.{Appends}
 use Rattle.scripts.specs.Replies.{fault_line, reply_line}
 use Rattle.scripts.specs.Sending.{WritesPart, counted}
 use Rattle.exchanges.specs.Steps.{Sends, is_refusal}
-use Rattle.exchanges.specs.declared.endings.ScriptEnd.{ScriptEnd}
-use Rattle.exchanges.specs.declared.endings.ScriptEnd.TheVariants as ended
-use Rattle.exchanges.specs.declared.endings.Scripted.{Scripted}
+use Rattle.exchanges.specs.declared.script_ends.ScriptEnd.{ScriptEnd}
+use Rattle.exchanges.specs.declared.script_ends.ScriptEnd.TheVariants as ended
+use Rattle.exchanges.specs.declared.script_ends.Scripted.{Scripted}
 use Rattle.sqlite.specs.Held.{Held, state}
 use Rattle.sqlite.specs.State.{HasCleanDisk}
 use Rattle.sqlite_trees.specs.declared.store.Store.{Ghosts}

@@ -3,17 +3,17 @@ use Rattle.std.specs.Prelude.{◌≡◌, ◌⊎◌, ℕ, List, [], ◌∷◌, Op
 use Rattle.office.specs.declared.commands.Command.{Command}
 use Rattle.office.specs.declared.replies.Reply.{Reply}
 use Rattle.ledger.specs.Working.{carried_out}
-use Rattle.http_replies.specs.Fixed.{fault_status}
-use Rattle.http_replies.specs.Replies.{status_of}
-use Rattle.http_replies.specs.declared.fixed.Fault.TheVariants as fault
-use Rattle.http_requests.specs.declared.request.Request.{Request}
-use Rattle.http_requests.specs.declared.request.Request.TheVariants as request
+use Rattle.http_messages.specs.Fixed.{fault_status}
+use Rattle.http_messages.specs.Replies.{status_of}
+use Rattle.http_messages.specs.declared.fixed.Fault.TheVariants as fault
+use Rattle.http_messages.specs.declared.request.Request.{Request}
+use Rattle.http_messages.specs.declared.request.Request.TheVariants as request
 use Rattle.exchanges.specs.Ending.{IsNotRun, ReadAs}
 use Rattle.exchanges.specs.Exchanges.{WasRead}
 use Rattle.exchanges.specs.Running.{IsCount, TellsReplies, fault_of}
-use Rattle.exchanges.specs.declared.ended.Exchange.{Exchange}
-use Rattle.exchanges.specs.declared.ended.Exchange.TheVariants as exchange
-use Rattle.exchanges.specs.declared.endings.Scripted.{Scripted}
+use Rattle.exchanges.specs.declared.exchange_ends.Exchange.{Exchange}
+use Rattle.exchanges.specs.declared.exchange_ends.Exchange.TheVariants as exchange
+use Rattle.exchanges.specs.declared.script_ends.Scripted.{Scripted}
 
 -- what a script's result tells: no command was carried out; or those of the reader's bytes were, up
 -- to its end, and the lines of these replies written

@@ -7,7 +7,7 @@ ghost use Rattle.sqlite.specs.Held.{state};
 ghost use Rattle.sqlite.specs.View.{doubt};
 ghost use Rattle.ledger_tables.specs.declared.faults.Fault.TheVariants.{Store};
 
-use crate::endings::{ScriptEnd, Scripted};
+use crate::script_ends::{ScriptEnd, Scripted};
 use crate::steps::{Step, carry_out};
 use ledger::{Bureau, kept_offices_run_whole};
 use machine::Meter;

@@ -6,11 +6,11 @@ ghost use Rattle.sqlite.specs.View.{doubt};
 ghost use Rattle.exchanges.specs.Exchanges.{Ends, EndsBroken, MayEndWith, TicksForRead};
 ghost use Rattle.exchanges.specs.Work.{TellsExchange};
 ghost use Rattle.ledger.specs.Working.{HasWorked};
-ghost use Rattle.http_replies.specs.declared.fixed.Fault.TheVariants as fault;
+ghost use Rattle.http_messages.specs.declared.fixed.Fault.TheVariants as fault;
 
 use crate::answering::answer_next;
-use crate::ended::Exchange;
-use http_requests::Routes;
+use crate::exchange_ends::Exchange;
+use http_messages::Routes;
 use ledger::{Bureau, kept_offices_run_whole};
 use machine::Meter;
 use sqlite::Alter;

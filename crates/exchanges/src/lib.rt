@@ -19,15 +19,15 @@
 
 mod answering;
 mod applying;
-mod ended;
-mod endings;
+mod exchange_ends;
 mod exchanging;
 mod laws;
 mod messages;
 mod running;
+mod script_ends;
 mod steps;
 
-pub use ended::Exchange;
-pub use endings::{ScriptEnd, Scripted};
+pub use exchange_ends::Exchange;
 pub use exchanging::exchange;
 pub use running::script;
+pub use script_ends::{ScriptEnd, Scripted};

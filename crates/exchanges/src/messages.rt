@@ -1,11 +1,11 @@
 //! The bytes of an answer.
 
 ghost use Rattle.std.specs.Prelude.{◌≡◌};
-ghost use Rattle.http_replies.specs.Fixed.{fault_bytes, fault_status};
+ghost use Rattle.http_messages.specs.Fixed.{fault_bytes, fault_status};
 ghost use Rattle.exchanges.specs.Messages.{bytes_in};
 
 use http::StatusCode;
-use http_replies::Fault;
+use http_messages::Fault;
 
 /// The bytes to be written.
 #[derive(Drop)]

@@ -9,7 +9,7 @@ ghost use Rattle.sqlite.specs.View.{doubt};
 ghost use Rattle.ledger_tables.specs.declared.faults.Fault.TheVariants.{Store};
 
 use crate::applying::apply_all;
-use crate::endings::{ScriptEnd, Scripted};
+use crate::script_ends::{ScriptEnd, Scripted};
 use crate::steps::report;
 use ledger::{Bureau, Fault, kept_offices_run_whole};
 use machine::Meter;

@@ -5,8 +5,8 @@ ghost use Rattle.std.specs.Prelude.{IsSome};
 use crate::faults::{done_or_told, found, tell_fault};
 use crate::job_folders::{Filed, file_job};
 use command_line::Status;
-use ledger_archives::files_of;
-use ledger_checks::{
+use job_archives::files_of;
+use job_checks::{
     AllRows, JobReport, JobRun, find_strays, job_text, read_rows, run_job, strays_text,
 };
 use ledger_files::{Look, look_into};

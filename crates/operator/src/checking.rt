@@ -4,7 +4,7 @@ ghost use Rattle.std.specs.Prelude.{IsSome};
 
 use crate::faults::{found, tell_fault};
 use command_line::Status;
-use ledger_checks::{Report, check, report_text};
+use job_checks::{Report, check, report_text};
 use ledger_files::{Look, look_into};
 use ledger_tables::OpenFault;
 use sqlite::{Alter, Connection};

@@ -3,7 +3,7 @@
 ghost use Rattle.std.specs.Prelude.{◌≡◌, true};
 ghost use Rattle.texts.specs.Names.{is_customer};
 
-use ledger_archives::{Archive, ArchivedFile};
+use job_archives::{Archive, ArchivedFile};
 use std::alloc::AllocError;
 use std::fs::{File, OpenOptions};
 use std::io::{ErrorKind, Write};

@@ -4,7 +4,7 @@ ghost use Rattle.std.specs.Prelude.{IsSome};
 
 use crate::faults::{found, tell_fault};
 use command_line::Status;
-use ledger_archives::list_jobs;
+use job_archives::list_jobs;
 use ledger_files::{Look, look_into};
 use ledger_tables::OpenFault;
 use sqlite::{Alter, Connection};

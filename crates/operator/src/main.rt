@@ -1,6 +1,6 @@
 //! The program `operator`: what the operator of a bureau does, beside the bureau's own program.
 //!
-//! What a check finds is said exactly by `ledger_checks`, and the requests of the work on a queue
+//! What a check finds is said exactly by `job_checks`, and the requests of the work on a queue
 //! by `queue_rounds`. Here they are joined to the process's words, files and sockets. The clauses
 //! of the kit do not mention these, so what is read and sent where is tested by
 //! `cases/check-operator`.
@@ -11,9 +11,13 @@ mod checking;
 mod clients;
 mod copying;
 mod faults;
+mod help;
 mod job_folders;
 mod listing;
+mod rows;
 mod tallies;
+mod tasks;
+mod values;
 mod watching;
 mod working;
 
@@ -22,10 +26,10 @@ use crate::checking::check_file;
 use crate::copying::copy_file;
 use crate::faults::done_or_told;
 use crate::listing::show_jobs;
+use crate::tasks::{Task, task_of};
 use crate::watching::watch_queue;
 use crate::working::run_queue;
 use command_line::{Mistake, Status, Unfailing, exit_code, show_text, tell_mistake};
-use operator_words::{Task, task_of};
 use std::io::Write;
 use std::process::ExitCode;
 use std::{env, io};

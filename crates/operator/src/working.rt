@@ -134,7 +134,7 @@ fn passed_in(heard: &Heard) -> Option<Passed> {
 pub(crate) fn run_queue<W: Write, E: Write>(
     rt: &HostRuntime,
     port: u16,
-    options: operator_words::Rounds,
+    options: crate::tasks::Rounds,
     output: &mut W,
     errors: &mut E,
 ) -> io::Result<Status> {

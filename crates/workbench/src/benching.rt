@@ -2,13 +2,13 @@
 
 use crate::process::Process;
 use crate::undone::Undone;
-use bench_runs::{Account, DumpOptions, Names, TraceOptions, dump, profile, trace};
+use run_traces::{Account, DumpOptions, Names, TraceOptions, dump, profile, trace};
 use command_line::Status;
 use core_store::LARGEST_SIZE;
-use counter::status_at;
+use local_runs::status_at;
 use std::io::Write;
 use texts::number_of;
-use workbench_words::{Dumping, Setup, Tracing};
+use workbench_arguments::{Dumping, Setup, Tracing};
 
 /// The address that a number is.
 fn address_at(number: u32) -> Option<u16> {

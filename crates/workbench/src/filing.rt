@@ -8,7 +8,7 @@ use command_line::Status;
 use job_pages::{JobPageError, Subject, job_page};
 use source_reports::Report;
 use std::io::Write;
-use workbench_words::{Setup, VERSION};
+use workbench_arguments::{Setup, VERSION};
 
 /// Prints the faults of a source, as the row `source` does.
 fn show_faults<W: Write, E: Write>(

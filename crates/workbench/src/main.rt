@@ -1,6 +1,6 @@
 //! The program: decks and sources as people have them, made ready for a bureau.
 //!
-//! What the words ask for is proved below (`workbench_words`), and so is what each row makes of the
+//! What the words ask for is proved below (`workbench_arguments`), and so is what each row makes of the
 //! bytes that it is given (`card_texts`, `card_forms`, `card_tools`, `source_reports`). Here it is
 //! joined to the process's words, files and streams. The clauses of the kit do not mention these,
 //! so what is read and written where is tested by `cases/check-workbench`.
@@ -39,7 +39,7 @@ use command_line::{Mistake, Status, Unfailing, exit_code, show_text, tell_mistak
 use std::io::Write;
 use std::process::ExitCode;
 use std::{env, io};
-use workbench_words::{Task, task_of};
+use workbench_arguments::{Task, task_of};
 
 /// The words of the process. The first is the program's name.
 fn words_given(rt: &HostRuntime) -> Result<Vec<String>, Mistake<'static>> {

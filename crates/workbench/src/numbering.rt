@@ -7,7 +7,7 @@ use cards::write_text;
 use command_line::Status;
 use std::io;
 use std::io::Write;
-use workbench_words::Numbering;
+use workbench_arguments::Numbering;
 
 /// What is said of a card that is not numbered, behind the glyphs that it holds, if any are told.
 fn words_of(error: SequenceError) -> &'static str {

@@ -10,7 +10,7 @@ use command_line::Status;
 use std::alloc::Global;
 use std::io;
 use std::io::Write;
-use workbench_words::Punching;
+use workbench_arguments::Punching;
 
 /// How many faults are printed at most.
 const MOST_FAULTS: usize = 100;

@@ -6,7 +6,7 @@ use command_line::Status;
 use console::{Ended, Session, console};
 use std::io;
 use std::io::Write;
-use workbench_words::Setup;
+use workbench_arguments::Setup;
 
 /// Says that an input would be the standard input, which has the lines.
 fn tell_taken<E: Write>(errors: &mut E) -> io::Result<Status> {

@@ -1,6 +1,6 @@
 use Rattle.std.proofs.Common.{subst, sym}
-use Rattle.service.specs.Work.{HasApplied}
-use Rattle.service.proofs.WorkLemmas.{applied_so}
+use Rattle.bureau.specs.Work.{HasApplied}
+use Rattle.bureau.proofs.WorkLemmas.{applied_so}
 use Rattle.bureau.proofs.AnswerLemmas.{ended_script}
 use Rattle.bureau.proofs.apply_script.Goals as goal
 

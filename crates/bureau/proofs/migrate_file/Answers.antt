@@ -1,4 +1,4 @@
-use Rattle.service.proofs.WorkLemmas.{migrated_so}
+use Rattle.bureau.proofs.WorkLemmas.{migrated_so}
 use Rattle.bureau.proofs.AnswerLemmas.{ended_migration}
 use Rattle.bureau.proofs.migrate_file.Goals as goal
 

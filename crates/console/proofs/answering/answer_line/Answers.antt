@@ -1,6 +1,6 @@
 use Rattle.std.proofs.Common.{◌∙◌, ◌++◌, List, ℕ, ap, subst, sym}
 use Rattle.std.specs.Prelude.{Option}
-use Rattle.bench_runs.specs.Names.{Named}
+use Rattle.run_traces.specs.Names.{Named}
 use Rattle.console.specs.Answers.{printed}
 use Rattle.console.specs.Sayings.{IsSaid}
 use Rattle.console.specs.Sittings.{HasCome}

@@ -1,6 +1,0 @@
-use Rattle.std.proofs.Common.{arith}
-use Rattle.bench_runs.proofs.DumpLaw.{read_back}
-use Rattle.bench_runs.proofs.laws.dump_is_read.Goals as goal
-
-pub returns : goal.returns
-returns c = λ s rows whole few below. read_back s rows whole (omega (arith, whole, few)) below

@@ -1,7 +1,0 @@
-use Rattle.std.proofs.Common.{◌≡◌, ◌++◌}
-use Rattle.machine.specs.Run.{State}
-use Rattle.bench_runs.specs.Profiles.{IsCounted, places_shown}
-use Rattle.bench_runs.proofs.profiling.push_places.Given as goal
-
-abbrev pub invariant-loop-address : goal.invariant-loop-address
-invariant-loop-address l = (m : State) → IsCounted m l.attempts l.places → l.text.items ≡ l.fn.text.items ++ places_shown m l.attempts l.address

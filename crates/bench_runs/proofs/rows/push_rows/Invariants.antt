@@ -1,9 +1,0 @@
-use Rattle.std.proofs.Common.{◌≡◌, ◌-◌, ◌++◌}
-use Rattle.bench_runs.specs.Rows.{follows_blank, rows_shown}
-use Rattle.bench_runs.proofs.rows.push_rows.Given as goal
-
-abbrev pub invariant-loop-row : goal.invariant-loop-row
-invariant-loop-row g l = record {
-  text : l.text.items ≡ l.fn.text.items ++ rows_shown (g.C.Core.cells l.core) l.first (l.row - l.first);
-  follows : l.follows ≡ follows_blank (g.C.Core.cells l.core) l.first (l.row - l.first);
-}

@@ -1,7 +1,0 @@
-use Rattle.std.proofs.Common.{take}
-use Rattle.std.specs.Io.KnownBytes.{Appends}
-use Rattle.counter.specs.Endings.{fault_lines}
-use Rattle.counter.proofs.source_faults.put_fault_lines.Given as goal
-
-abbrev pub invariant-loop-fault : goal.invariant-loop-fault
-invariant-loop-fault g l = Appends (g.W.Write.contents l.fn.output) (g.W.Write.contents l.output) (fault_lines (take l.fault-index l.faults))

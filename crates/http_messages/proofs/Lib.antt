@@ -1,0 +1,12 @@
+pub mod PartLemmas
+pub mod PathLemmas
+pub mod ReadingPieces
+pub mod FieldLemmas
+pub mod HeadVerdicts
+pub mod BodyFills
+pub mod RequestStatuses
+pub mod RequestReads
+pub mod NameLaw
+pub mod FixedStatuses
+pub mod BodyTexts
+pub mod Phrases

@@ -1,0 +1,14 @@
+pub mod Parts
+pub mod Paths
+pub mod Fields
+pub mod Targets
+pub mod HeadTests
+pub mod Reading
+pub mod Judging
+pub mod RequestBodies
+pub mod Asking
+pub mod Requests
+pub mod ReplyBodies
+pub mod Replies
+pub mod Values
+pub mod Fixed

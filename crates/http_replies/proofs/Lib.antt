@@ -1,4 +1,0 @@
-pub mod NameLaw
-pub mod FixedStatuses
-pub mod BodyTexts
-pub mod Phrases

@@ -1,5 +1,0 @@
-use Rattle.http_replies.proofs.NameLaw.{name_shown}
-use Rattle.http_replies.proofs.laws.names_stand_as_they_are.Goals as goal
-
-pub returns : goal.returns
-returns c = name_shown

@@ -1,5 +1,0 @@
-use Rattle.http_replies.proofs.Phrases.{has_phrase, is_code}
-use Rattle.http_replies.proofs.laws.phrases_are_standard.Goals as goal
-
-pub returns : goal.returns
-returns c status has = (is_code status has, has_phrase status has)

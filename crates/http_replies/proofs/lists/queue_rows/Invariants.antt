@@ -1,7 +1,0 @@
-use Rattle.std.proofs.Common.{◌≡◌, map, take}
-use Rattle.serde_json.specs.View.{view}
-use Rattle.http_replies.specs.Values.{queued_data}
-use Rattle.http_replies.proofs.lists.queue_rows.Given as goal
-
-abbrev pub invariant-loop-job : goal.invariant-loop-job
-invariant-loop-job l = map view l.rows.items ≡ map queued_data (take l.job-index l.jobs)

@@ -1,4 +1,0 @@
-pub mod Bodies
-pub mod Replies
-pub mod Values
-pub mod Fixed

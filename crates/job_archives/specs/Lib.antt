@@ -1,0 +1,7 @@
+pub mod Archives
+pub mod Facts
+pub mod Lists
+pub mod Names
+pub mod Records
+pub mod Copies
+pub mod Tables

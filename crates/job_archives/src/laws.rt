@@ -1,0 +1,32 @@
+//! The laws of what an archive's files hold.
+
+ghost use Rattle.std.specs.Prelude.{◌≡◌};
+ghost use Rattle.office.specs.Office.{Entry};
+ghost use Rattle.ledger.specs.Standing.{CanBeKept};
+ghost use Rattle.job_archives.specs.Archives.{IsReadBack, archive_of};
+ghost use Rattle.job_archives.specs.Facts.{IsFiled, facts_of};
+
+use office::commands_keep_jobs;
+
+/// The law of reading: the cards that are read in `deck.text` are those of the deck that was handed
+/// in, those in `loaded.text` are the ones that the job's machine loads, and those in `cards.punch`
+/// and in `cards.text` are the ones that it has punched. (`cards::one_reading` says that a reader
+/// returns the cards of which a file is.)
+pub fn archives_are_read()
+    ensures { (e : Entry) → CanBeKept e.job → IsReadBack e }
+{}
+
+/// The law of the whole job: a record alone says what is in it (`specs/Facts.antt`: the job's name, its
+/// kind, size and profile, its stretches and flags, and the pocket of each card that it has
+/// punched), since two jobs with the same record are the same in all these; and two jobs with the
+/// same archive are the same entry. So the entry, and with it the picture of its machine, with all
+/// cards and lines, follows from the files of the archive.
+pub fn archives_are_whole()
+    ensures facts { (e other : Entry) → IsFiled e → IsFiled other
+        → (archive_of e).facts ≡ (archive_of other).facts → facts_of e ≡ facts_of other }
+    ensures whole { (e other : Entry) → IsFiled e → IsFiled other
+        → archive_of e ≡ archive_of other → e ≡ other }
+{
+    // A law, for the proof: it does nothing.
+    commands_keep_jobs();
+}

@@ -1,0 +1,33 @@
+//! What is kept beside a bureau's file: the archive of a job, the list of jobs, and a copy of the file.
+//!
+//! `job_checks` runs a job again, and finds that its rows are those that it makes. [`files_of`]
+//! returns the files of such a job: its decks, what it has printed and punched, and a record with
+//! the digests of these. The contract for the layer above: each file's bytes are those that a
+//! definition gives for the job (`specs/Archives.antt`, `specs/Records.antt`), and what they hold
+//! can be read back: the cards ([`archives_are_read`]), and the whole job ([`archives_are_whole`]).
+//!
+//! [`list_jobs`] returns the list of a bureau's jobs: the text that a definition gives for the
+//! office that the tables stand for (`specs/Lists.antt`), and what a crash may leave of the store
+//! stands for that office whatever it returns.
+//!
+//! [`compare_rows`] compares a bureau's file with a copy of it: it reads the rows of all tables of the
+//! copy, and tells the first table that is not the same as in the file ([`first_other_table`]). If
+//! there is none, the copy stands for the same office.
+#![tactic(auto)]
+
+mod archives;
+mod comparing;
+mod laws;
+mod lines;
+mod listing;
+mod names;
+mod punched;
+mod reading;
+mod records;
+mod rows;
+
+pub use archives::{Archive, ArchivedFile, files_of};
+pub use comparing::first_other_table;
+pub use laws::{archives_are_read, archives_are_whole};
+pub use listing::list_jobs;
+pub use reading::compare_rows;

@@ -1,0 +1,61 @@
+//! The names of a bureau's jobs.
+
+ghost use Rattle.std.specs.Prelude.{◌≡◌, ◌≤◌, ◌<◌, ◌^◌, ℕ, List, pos, map, true, IfErr, IfOk, IfSome, IsOk, IsSome, IsTrue, OnOk};
+ghost use Rattle.std.specs.Str.{IsUtf8};
+ghost use Rattle.texts.specs.Names.{is_customer, is_number};
+ghost use Rattle.office.specs.Office.{Entry, Office};
+ghost use Rattle.sqlite.specs.Held.{state};
+ghost use Rattle.sqlite.specs.Order.{column};
+ghost use Rattle.sqlite.specs.State.{HasCleanDisk};
+ghost use Rattle.sqlite.specs.View.{doubt};
+ghost use Rattle.sqlite.specs.declared.types.Value.TheVariants.{Int, Text};
+ghost use Rattle.ledger.specs.Standing.{Stands, StandsIn, named};
+ghost use Rattle.ledger_tables.specs.Tables.{AreDistinct};
+ghost use Rattle.job_archives.specs.Lists.{Leaves};
+ghost use Rattle.job_archives.specs.Names.{HasName, name_row};
+
+use job_checks::{number_at, text_at};
+use ledger_tables::{Fault, fault_of};
+use sqlite::{Alter, Connection, Row};
+use texts::JobName;
+
+/// Reads the customer and the number of each job, in the order in which the jobs were taken, in a
+/// transaction that is rolled back.
+pub(crate) fn read_names<S: Alter>(conn: &mut Connection<S>) -> Result<Vec<Row>, Fault>
+    ensures names { HasCleanDisk (state S.Store conn.new) → IfOk result (λ rows. (office : Office)
+        → StandsIn (state S.Store conn.old) office → AreDistinct (map named office)
+        × Stands (state S.Store conn.new) office × (rows.items ≡ map name_row office)) }
+    ensures left { (office : Office) → Leaves S.Store conn.old conn.new office }
+    ensures opened { HasCleanDisk (state S.Store conn.new)
+        → OnOk result (IsTrue (state S.Store conn.old).is_open) }
+    ensures clean { doubt (state S.Store conn.old).is_clean
+        ≤ doubt (state S.Store conn.new).is_clean }
+{
+    if !conn.is_autocommit() {
+        return Err(Fault::Store);
+    }
+    let mut tx = conn.transaction();
+    let found = tx.query_all("SELECT customer, number FROM jobs ORDER BY rowid", &[]);
+    tx.rollback();
+    match found {
+        Ok(rows) => Ok(rows),
+        Err(error) => Err(fault_of(error)),
+    }
+}
+
+/// The name of the job that a row names. Fails with 2 if the row has no name.
+pub(crate) fn name_in(row: &Row) -> Result<JobName<'_>, Fault>
+    ensures found { IfOk result (λ name. (e : Entry) → row.now ≡ name_row e
+        → HasName name.customer.now name.number e) }
+    ensures damaged { IfErr result (λ fault. fault ≡ Fault.Store) }
+    ensures lawful { (e : Entry) → row.now ≡ name_row e → is_customer e.customer ≡ true
+        → is_number e.number ≡ true → IsOk result }
+{
+    let Some(customer) = text_at(row, 0) else {
+        return Err(Fault::Store);
+    };
+    let Some(number) = number_at(row, 1) else {
+        return Err(Fault::Store);
+    };
+    Ok(JobName { customer, number })
+}

@@ -1,0 +1,81 @@
+-- what a report tells
+use Rattle.std.specs.Prelude.{◌≡◌, ℕ, pos, Bool, true, false, All, List, [], ◌∷◌, drop, IsNone, ⊤}
+use Rattle.std.specs.List.{AllByRecursion, AllZip}
+use Rattle.office.specs.Kept.{kept_of, summary_of}
+use Rattle.office.specs.Office.{Entry, Office}
+use Rattle.sqlite.specs.Effect.{Database}
+use Rattle.sqlite.specs.Order.{Row}
+use Rattle.ledger.specs.Standing.{Rows}
+use Rattle.job_checks.specs.Jobs.{HasRun}
+use Rattle.job_checks.specs.Kept.{IsNamed}
+use Rattle.job_checks.specs.declared.all_rows.AllRows.{AllRows}
+use Rattle.job_checks.specs.declared.reports.JobReport.{JobReport}
+use Rattle.job_checks.specs.declared.reports.Outcome.{Outcome}
+use Rattle.job_checks.specs.declared.reports.Outcome.TheVariants.{AsItRan, Differs}
+use Rattle.job_checks.specs.declared.reports.Report.{Report}
+
+-- the job's rows are those that it makes
+abbrev pub IsAsItRan : Outcome → Type 0
+IsAsItRan (AsItRan summary) = ⊤
+IsAsItRan (Differs difference) = ⊥
+
+-- whether the job's rows are those that it makes
+abbrev pub is_as_it_ran : Outcome → Bool
+is_as_it_ran (AsItRan summary) = true
+is_as_it_ran (Differs difference) = false
+
+-- no row differs
+pub record HasNoOtherRows (report : Report) : Type 0 where
+  pub jobs : All (λ it. IsAsItRan it.outcome) report.jobs.items
+  pub strays : report.strays.items ≡ []
+
+-- nothing differs: neither the schema nor a row
+pub record HasNoDifference (report : Report) : Type 0 where
+  pub schema : IsNone report.schema
+  pub rows : HasNoOtherRows report
+
+-- the report tells this entry's name and the summary of its job
+pub record Tells (report : JobReport) (e : Entry) : Type 0 where
+  pub customer : report.customer.items ≡ e.customer
+  pub number : report.number ≡ pos e.number
+  pub summary : report.outcome ≡ AsItRan (summary_of (kept_of e.job))
+
+-- the row is that of the job of an entry that the report tells
+pub record IsRun (all : AllRows) (later : List Row) (it : Row) (report : JobReport) : Type 0 where
+  pub entry : Entry
+  pub run : HasRun all later it entry
+  pub tells : Tells report entry
+
+-- a row is reported as it ran exactly if it is that of a job, and then the report tells of this job
+pub record IsReported (all : AllRows) (later : List Row) (it : Row) (report : JobReport)
+    : Type 0 where
+  pub ran : IsAsItRan report.outcome → IsRun all later it report
+  pub each : (e : Entry) → HasRun all later it e → IsAsItRan report.outcome
+
+-- the row at a place among those of `jobs` is so reported
+pub record IsReportedAt (all : AllRows) (jobs : List Row) (at : ℕ) (report : JobReport)
+    : Type 0 where
+  pub it : Row
+  pub later : List Row
+  pub there : drop at jobs ≡ it ∷ later
+  pub reported : IsReported all later it report
+
+-- each row is so reported
+abbrev pub AreReported : AllRows → List Row → List JobReport → Type 0
+AreReported all [] [] = ⊤
+AreReported all [] (report ∷ reports) = ⊥
+AreReported all (row ∷ later) [] = ⊥
+AreReported all (row ∷ later) (report ∷ reports) =
+    IsReported all later row report × AreReported all later reports
+
+-- each job of an office has a name that a job may have
+abbrev pub AreNamed : Office → Type 0
+AreNamed = AllByRecursion IsNamed
+
+-- the tables stand for an office whose jobs have names that jobs may have, and the report tells of
+-- each of its jobs
+pub record StandsFor (db : Database) (report : Report) : Type 0 where
+  pub office : Office
+  pub named : AreNamed office
+  pub rows : Rows db office
+  pub tells : AllZip Tells report.jobs.items office

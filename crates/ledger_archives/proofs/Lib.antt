@@ -1,8 +1,0 @@
-pub mod ReadingLaw
-pub mod NameReads
-pub mod AskedLemmas
-pub mod ListingLines
-pub mod WordsRead
-pub mod RecordLines
-pub mod RecordLaw
-pub mod Readable

@@ -1,6 +1,0 @@
-use Rattle.std.proofs.Common.{◌≡◌, ◌++◌, flat_map, take}
-use Rattle.ledger_archives.specs.Records.{stretch_line}
-use Rattle.ledger_archives.proofs.records.push_stretches.Given as goal
-
-abbrev pub invariant-loop-stretch : goal.invariant-loop-stretch
-invariant-loop-stretch l = l.out.items ≡ l.fn.out.items ++ flat_map stretch_line (take l.stretch-index l.stretches)

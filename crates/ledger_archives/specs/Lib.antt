@@ -1,5 +1,0 @@
-pub mod Archives
-pub mod Facts
-pub mod Lists
-pub mod Names
-pub mod Records

@@ -1,5 +1,0 @@
-use Rattle.ledger_checks.proofs.AlikeLemmas.{AgreeFrom}
-use Rattle.ledger_checks.proofs.alike.first_unlike.Given as goal
-
-abbrev pub invariant-loop-at : goal.invariant-loop-at
-invariant-loop-at g l = AgreeFrom g.T.Part.Is l.parts l.others l.at

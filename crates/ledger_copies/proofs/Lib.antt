@@ -1,2 +1,0 @@
-mod SameRows
-mod CopyLemmas

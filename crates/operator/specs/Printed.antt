@@ -1,0 +1,19 @@
+-- what the program prints of itself
+use Rattle.std.specs.Prelude.{List, ℕ, Option, Some, None, codes}
+use Rattle.operator.specs.declared.rows.RowName.{RowName}
+use Rattle.operator.specs.declared.rows.RowName.TheVariants as name
+use Rattle.operator.specs.declared.help.TheConstants.{ARCHIVE_HELP, CHECK_HELP, COPY_HELP, HELP, JOBS_HELP, WATCH_HELP, WORK_HELP}
+
+-- the text of the help of a row, or of the whole help
+abbrev pub page_of : Option RowName → List ℕ
+page_of None = HELP.now
+page_of (Some name.Check) = CHECK_HELP.now
+page_of (Some name.Jobs) = JOBS_HELP.now
+page_of (Some name.Copy) = COPY_HELP.now
+page_of (Some name.Archive) = ARCHIVE_HELP.now
+page_of (Some name.Work) = WORK_HELP.now
+page_of (Some name.Watch) = WATCH_HELP.now
+
+-- the text of the version, with the logic that the program is proved in
+abbrev pub version_text : List ℕ
+version_text = codes "operator 1\nRattle logic dac8208d650f15bf\n"

@@ -1,0 +1,46 @@
+-- the program's words
+use Rattle.std.specs.Prelude.{[], ◌∷◌, codes}
+use Rattle.command_line.specs.Programs.{Program}
+use Rattle.command_line.specs.declared.tables.Kind.TheVariants.{Value, Further, Setting}
+use Rattle.operator.specs.declared.rows.RowName.{RowName}
+use Rattle.operator.specs.declared.rows.RowName.TheVariants as name
+
+-- the program by its words, with the table of its rows: each with its name, its arguments in order,
+-- by name, and how it is used
+abbrev pub operator : Program RowName
+operator = record {
+  name = codes "operator";
+  rows = (name.Check, codes "check", (codes "FILE", Value) ∷ [], codes "check FILE")
+      ∷ (
+        name.Jobs,
+        codes "jobs",
+        (codes "FILE", Value) ∷ (codes "CUSTOMER", Further) ∷ [],
+        codes "jobs FILE [CUSTOMER]",
+      )
+      ∷ (
+        name.Copy,
+        codes "copy",
+        (codes "FILE", Value) ∷ (codes "NEW", Value) ∷ [],
+        codes "copy FILE NEW",
+      )
+      ∷ (
+        name.Archive,
+        codes "archive",
+        (codes "FILE", Value) ∷ (codes "FOLDER", Value) ∷ [],
+        codes "archive FILE FOLDER",
+      )
+      ∷ (
+        name.Work,
+        codes "work",
+        (codes "PORT", Value) ∷ (codes "slice", Setting) ∷ (codes "rounds", Setting)
+            ∷ (codes "pause", Setting) ∷ [],
+        codes "work PORT [--slice N] [--rounds N] [--pause SECONDS]",
+      )
+      ∷ (
+        name.Watch,
+        codes "watch",
+        (codes "PORT", Value) ∷ (codes "rounds", Setting) ∷ (codes "pause", Setting) ∷ [],
+        codes "watch PORT [--rounds N] [--pause SECONDS]",
+      )
+      ∷ [];
+}

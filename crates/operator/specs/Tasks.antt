@@ -1,0 +1,80 @@
+-- the tasks that words ask for
+use Rattle.std.specs.Prelude.{ℕ, ◌≡◌, List, codes}
+use Rattle.clap.specs.Words.{Row, Text, first_of}
+use Rattle.command_line.specs.Arguments.{HasArgument, MayHaveArgument, ReadsIf, ReadsOr}
+use Rattle.command_line.specs.Programs.{AsksFor, Wish, for_help, for_row, for_version}
+use Rattle.operator.specs.Printed.{page_of, version_text}
+use Rattle.operator.specs.Rows.{operator}
+use Rattle.operator.specs.Values.{IsUpTo}
+use Rattle.operator.specs.declared.rows.RowName.{RowName}
+use Rattle.operator.specs.declared.rows.RowName.TheVariants as name
+use Rattle.operator.specs.declared.tasks.Task.{Task}
+use Rattle.operator.specs.declared.tasks.Task.TheVariants.{Show, Check, Jobs, Copy, Archive, Work, Watch}
+use Rattle.operator.specs.declared.tasks.Rounds.{Rounds}
+
+-- the task of `check`
+abbrev pub WantsCheck : List Row → Task → Type 0
+WantsCheck found (Check file) = HasArgument (codes "FILE") found file.now
+WantsCheck found other = ⊥
+
+-- the task of `jobs`: of all customers where none is given
+abbrev pub WantsJobs : List Row → Task → Type 0
+WantsJobs found (Jobs file customer) = HasArgument (codes "FILE") found file.now
+    × MayHaveArgument (codes "CUSTOMER") found customer
+WantsJobs found other = ⊥
+
+-- the task of `copy`
+abbrev pub WantsCopy : List Row → Task → Type 0
+WantsCopy found (Copy file new) = HasArgument (codes "FILE") found file.now
+    × HasArgument (codes "NEW") found new.now
+WantsCopy found other = ⊥
+
+-- the task of `archive`
+abbrev pub WantsArchive : List Row → Task → Type 0
+WantsArchive found (Archive file folder) = HasArgument (codes "FILE") found file.now
+    × HasArgument (codes "FOLDER") found folder.now
+WantsArchive found other = ⊥
+
+-- this is the port that is given, 1 to 65535
+abbrev pub IsPortIn : List Row → ℕ → Type 0
+IsPortIn found port = (text : Text) × HasArgument (codes "PORT") found text
+    × IsUpTo 65535 text port
+
+-- the rounds that are asked for: slices of 2,000 instructions and a pause of one second, where no
+-- others are given
+pub record AreRounds (found : List Row) (rounds : Rounds) : Type 0 where
+  pub slice : ReadsOr (IsUpTo 2000) 2000 (first_of (codes "slice") found) rounds.slice
+  pub most : ReadsIf (IsUpTo 999999999) (first_of (codes "rounds") found) rounds.most
+  pub pause : ReadsOr (IsUpTo 3600) 1 (first_of (codes "pause") found) rounds.pause
+
+-- the task of `work`
+abbrev pub WantsWork : List Row → Task → Type 0
+WantsWork found (Work port rounds) = IsPortIn found port × AreRounds found rounds
+WantsWork found other = ⊥
+
+-- the task of `watch`: five seconds between two requests for the queue, where no others are given
+abbrev pub WantsWatch : List Row → Task → Type 0
+WantsWatch found (Watch port rounds pause) = IsPortIn found port
+    × ReadsIf (IsUpTo 999999999) (first_of (codes "rounds") found) rounds
+    × ReadsOr (IsUpTo 3600) 5 (first_of (codes "pause") found) pause
+WantsWatch found other = ⊥
+
+-- the task of a row, by what was found after its name
+abbrev pub WantsTask : RowName → List Row → Task → Type 0
+WantsTask name.Check found task = WantsCheck found task
+WantsTask name.Jobs found task = WantsJobs found task
+WantsTask name.Copy found task = WantsCopy found task
+WantsTask name.Archive found task = WantsArchive found task
+WantsTask name.Work found task = WantsWork found task
+WantsTask name.Watch found task = WantsWatch found task
+
+-- the task of what words can ask for
+abbrev pub IsTask : Wish RowName → Task → Type 0
+IsTask (for_help page) (Show text) = text.now ≡ page_of page
+IsTask for_version (Show text) = text.now ≡ version_text
+IsTask (for_row row found) task = WantsTask row found task
+IsTask _ _ = ⊥
+
+-- the words ask for this task
+abbrev pub Wants : List Text → Task → Type 0
+Wants words task = (wish : Wish RowName) × AsksFor operator words wish × IsTask wish task

@@ -1,3 +1,0 @@
-pub mod Migrating
-pub mod Outcomes
-pub mod Work

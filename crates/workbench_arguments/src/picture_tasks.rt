@@ -1,0 +1,46 @@
+//! The tasks of the rows that draw cards and listings.
+
+ghost use Rattle.std.specs.Prelude.{IfOk};
+ghost use Rattle.command_line.specs.Arguments.{given};
+ghost use Rattle.workbench_arguments.specs.Tasks.{WantsCard, WantsDeck, WantsPage, WantsPages};
+
+use crate::bench_tasks::setup_in;
+use crate::tasks::{Task, number};
+use command_line::{Found, Mistake};
+
+/// The task of a row `card`.
+pub(crate) fn card_task<'a>(found: &Found<'a>) -> Result<Task<'a>, Mistake<'static>>
+    ensures { IfOk result (WantsCard (given found.now)) }
+{
+    let deck = found.needed("DECK")?;
+    let number = number(found.needed("N")?)?;
+    let out = found.needed("OUT")?;
+    Ok(Task::Card { deck, number, out })
+}
+
+/// The task of a row `deck`.
+pub(crate) fn deck_task<'a>(found: &Found<'a>) -> Result<Task<'a>, Mistake<'static>>
+    ensures { IfOk result (WantsDeck (given found.now)) }
+{
+    let deck = found.needed("DECK")?;
+    let out = found.needed("OUT")?;
+    Ok(Task::Deck { deck, out })
+}
+
+/// The task of a row `pages`.
+pub(crate) fn pages_task<'a>(found: &Found<'a>) -> Result<Task<'a>, Mistake<'static>>
+    ensures { IfOk result (WantsPages (given found.now)) }
+{
+    let listing = found.needed("LISTING")?;
+    let out = found.needed("OUT")?;
+    Ok(Task::Pages { listing, out })
+}
+
+/// The task of a row `page`.
+pub(crate) fn page_task<'a>(found: &Found<'a>) -> Result<Task<'a>, Mistake<'static>>
+    ensures { IfOk result (WantsPage (given found.now)) }
+{
+    let setup = setup_in(found, "SOURCE")?;
+    let out = found.needed("OUT")?;
+    Ok(Task::Page { setup, out })
+}

@@ -1,0 +1,421 @@
+//! The tasks that the words ask for.
+
+ghost use Rattle.std.specs.Prelude.{IfOk};
+ghost use Rattle.command_line.specs.Arguments.{HasArgument, given};
+ghost use Rattle.command_line.specs.Plain.{texts};
+ghost use Rattle.command_line.specs.Programs.{AsksFor, wish_as};
+ghost use Rattle.workbench_arguments.specs.Rows.{workbench};
+ghost use Rattle.card_forms.specs.Forms.{word_of};
+ghost use Rattle.workbench_arguments.specs.Tasks.{HasEmpty, HasForm, HasKept, HasSigns, HasTabs, IsNarrow, Wants, WantsCompare, WantsConvert, WantsList, WantsManifest, WantsPunch, WantsSequence, WantsSource, WantsTask};
+ghost use Rattle.workbench_arguments.specs.Values.{IsNumeral};
+
+use crate::bench_tasks::{console_task, dump_task, profile_task, trace_task};
+use crate::complaints::{
+    NO_COLUMN, NO_EMPTY_LINE, NO_FORM, NO_NUMBER, NO_SIGNS, NO_TABS, NO_WIDTH,
+};
+use crate::help::{VERSION, page};
+use crate::picture_tasks::{card_task, deck_task, page_task, pages_task};
+use crate::rows::{RowName, WORKBENCH};
+use crate::values::{column_of, empty_of, narrow_of, signs_of, stops_of};
+use card_forms::Form;
+use card_texts::{EmptyLine, Rules, Signs};
+use command_line::{Asked, Found, Mistake, asked_by};
+use core_store::Size;
+use std::alloc::Global;
+use texts::number_of;
+use units::Switches;
+
+/// What a machine begins with.
+#[derive(Clone, Copy)]
+pub struct Setup<'a> {
+    /// The path of its deck, or of the source of its deck.
+    pub input: &'a str,
+    /// How many positions of storage it has.
+    pub size: Size,
+    /// The sense switches that are on.
+    pub switches: Switches,
+}
+
+/// How a text is made a deck.
+#[derive(Drop)]
+pub struct Punching<'a> {
+    /// The path of the text.
+    pub text: &'a str,
+    /// The path of the deck's text.
+    pub out: &'a str,
+    /// How the lines are taken.
+    pub rules: Rules,
+    /// Whether each line that was changed is told.
+    pub reports: bool,
+}
+
+/// How the cards of a deck are numbered.
+#[derive(Clone, Copy)]
+pub struct Numbering<'a> {
+    /// The path of the deck.
+    pub deck: &'a str,
+    /// The path of the numbered deck.
+    pub out: &'a str,
+    /// What stands before each number.
+    pub ident: &'a str,
+    /// The number of the first card.
+    pub first: u32,
+    /// What each next number is more.
+    pub step: u32,
+}
+
+/// Which instructions of a run are printed, and how.
+#[derive(Clone, Copy)]
+pub struct Tracing<'a> {
+    /// What the machine begins with.
+    pub setup: Setup<'a>,
+    /// The number of the first instruction that is printed.
+    pub from: u32,
+    /// How many are printed.
+    pub count: u32,
+    /// The address before whose instruction the run ends, as it is given.
+    pub stop: Option<&'a str>,
+    /// The path of the source that has the names.
+    pub names: Option<&'a str>,
+    /// Whether the fields are printed that an instruction works at.
+    pub fields: bool,
+}
+
+/// When a machine is shown, and how much of its storage.
+#[derive(Clone, Copy)]
+pub struct Dumping<'a> {
+    /// What the machine begins with.
+    pub setup: Setup<'a>,
+    /// How many instructions it does, if it does not go on to its end.
+    pub after: Option<u32>,
+    /// The address before whose instruction the run ends, as it is given.
+    pub stop: Option<&'a str>,
+    /// The first position that is asked for.
+    pub first: Option<u32>,
+    /// The last position that is asked for.
+    pub last: Option<u32>,
+}
+
+/// What the program is to do. A path that is `-` stands for the standard input or output.
+#[derive(Drop)]
+pub enum Task<'a> {
+    /// Print a text: a page of the help, or the version.
+    Show(&'static str),
+    /// Take a text as a deck.
+    Punch(Punching<'a>),
+    /// Print the cards of a deck.
+    List {
+        /// The path of the deck.
+        deck: &'a str,
+        /// Whether a ruler stands over the cards.
+        ruler: bool,
+        /// Whether the punches stand under each card.
+        punches: bool,
+    },
+    /// Print the cards in which two decks differ.
+    Compare {
+        /// The path of the first deck.
+        one: &'a str,
+        /// The path of the second deck.
+        other: &'a str,
+    },
+    /// Number the cards of a deck in columns 73 to 80.
+    Number(Numbering<'a>),
+    /// Print where the numbers of a deck's cards do not rise.
+    CheckNumbers {
+        /// The path of the deck.
+        deck: &'a str,
+    },
+    /// Make a deck of one form one of another.
+    Convert {
+        /// The path of the deck.
+        deck: &'a str,
+        /// The path of the deck in the other form.
+        out: &'a str,
+        /// The form that the deck has.
+        reads: Form,
+        /// The form that is written.
+        writes: Form,
+    },
+    /// Print a source with its code, or its faults.
+    Source {
+        /// The path of the source.
+        source: &'a str,
+        /// Whether its listing has 80 columns.
+        narrow: bool,
+        /// Whether the cards behind it are listed too.
+        with_data: bool,
+    },
+    /// Print the digests of decks, or compare them with those of a file.
+    Manifest {
+        /// The paths of the decks, and of folders with decks.
+        decks: Vec<&'a str>,
+        /// The form that all of their files have, if it is named.
+        form: Option<Form>,
+        /// The path of the digests to compare with.
+        known: Option<&'a str>,
+    },
+    /// Print the instructions of a run.
+    Trace(Tracing<'a>),
+    /// Print the storage after a run.
+    Dump(Dumping<'a>),
+    /// Print how often a run did each instruction.
+    Profile {
+        /// What the machine begins with.
+        setup: Setup<'a>,
+        /// The path of the source that has the names.
+        names: Option<&'a str>,
+    },
+    /// Answer lines about a machine that is gone through step by step.
+    Console {
+        /// What the machine begins with.
+        setup: Setup<'a>,
+        /// The path of the source that has the names.
+        names: Option<&'a str>,
+    },
+    /// Draw a card.
+    Card {
+        /// The path of the deck.
+        deck: &'a str,
+        /// The number of the card.
+        number: u32,
+        /// The path of the picture.
+        out: &'a str,
+    },
+    /// Draw the cards of a deck on a page.
+    Deck {
+        /// The path of the deck.
+        deck: &'a str,
+        /// The path of the page.
+        out: &'a str,
+    },
+    /// Draw a listing as pages of paper.
+    Pages {
+        /// The path of the listing.
+        listing: &'a str,
+        /// The path of the pages.
+        out: &'a str,
+    },
+    /// Draw a job on a page.
+    Page {
+        /// The source of the job, and what the machine begins with.
+        setup: Setup<'a>,
+        /// The path of the page.
+        out: &'a str,
+    },
+}
+
+/// The columns of `--tabs`; none where it is not given.
+fn tabs_in(alloc: Global, found: &Found<'_>) -> Result<Vec<u8>, Mistake<'static>>
+    ensures { IfOk result (λ tabs. HasTabs (given found.now) tabs.items) }
+{
+    match found.value("tabs") {
+        Some(text) => stops_of(alloc, text)?.ok_or(Mistake::Value(NO_TABS)),
+        None => Ok(Vec::new(alloc)),
+    }
+}
+
+/// The table of `--signs`; the glyphs of a deck text where it is not given.
+fn signs_in(found: &Found<'_>) -> Result<Signs, Mistake<'static>>
+    ensures { IfOk result (λ signs. HasSigns (given found.now) signs) }
+{
+    match found.value("signs") {
+        Some(word) => signs_of(word).ok_or(Mistake::Value(NO_SIGNS)),
+        None => Ok(Signs::Bureau),
+    }
+}
+
+/// The column of `--keep`, if it is given.
+fn kept_in(found: &Found<'_>) -> Result<Option<u8>, Mistake<'static>>
+    ensures { IfOk result (λ keeps. HasKept (given found.now) keeps) }
+{
+    let Some(text) = found.value("keep") else {
+        return Ok(None);
+    };
+    let column = column_of(text).ok_or(Mistake::Value(NO_COLUMN))?;
+    Ok(Some(column))
+}
+
+/// What an empty line is by `--empty`; a card where it is not given.
+fn empty_in(found: &Found<'_>) -> Result<EmptyLine, Mistake<'static>>
+    ensures { IfOk result (λ empty. HasEmpty (given found.now) empty) }
+{
+    match found.value("empty") {
+        Some(word) => empty_of(word).ok_or(Mistake::Value(NO_EMPTY_LINE)),
+        None => Ok(EmptyLine::Card),
+    }
+}
+
+/// The task of a row `punch`.
+fn punch_task<'a>(alloc: Global, found: &Found<'a>) -> Result<Task<'a>, Mistake<'static>>
+    ensures { IfOk result (WantsPunch (given found.now)) }
+{
+    let text = found.needed("IN")?;
+    let out = found.needed("OUT")?;
+    let rules = Rules {
+        folds: found.has_flag("fold"),
+        tabs: tabs_in(alloc, found)?,
+        signs: signs_in(found)?,
+        keeps: kept_in(found)?,
+        empty: empty_in(found)?,
+    };
+    Ok(Task::Punch(Punching {
+        text,
+        out,
+        rules,
+        reports: found.has_flag("report"),
+    }))
+}
+
+/// The task of a row `list`.
+fn list_task<'a>(found: &Found<'a>) -> Result<Task<'a>, Mistake<'static>>
+    ensures { IfOk result (WantsList (given found.now)) }
+{
+    Ok(Task::List {
+        deck: found.needed("DECK")?,
+        ruler: found.has_flag("ruler"),
+        punches: found.has_flag("punches"),
+    })
+}
+
+/// The task of a row `compare`.
+fn compare_task<'a>(found: &Found<'a>) -> Result<Task<'a>, Mistake<'static>>
+    ensures { IfOk result (WantsCompare (given found.now)) }
+{
+    let one = found.needed("ONE")?;
+    let other = found.needed("OTHER")?;
+    Ok(Task::Compare { one, other })
+}
+
+/// A number of 1 to 9 digits without a zero in front.
+pub(crate) fn number(text: &str) -> Result<u32, Mistake<'static>>
+    ensures { IfOk result (IsNumeral text.now) }
+{
+    number_of(text).ok_or(Mistake::Value(NO_NUMBER))
+}
+
+/// The task of a row `sequence`: with one value a check, with five a numbering.
+fn sequence_task<'a>(found: &Found<'a>) -> Result<Task<'a>, Mistake<'static>>
+    ensures { IfOk result (WantsSequence (given found.now)) }
+{
+    let deck = found.needed("IN")?;
+    if found.value("OUT").is_none() {
+        return Ok(Task::CheckNumbers { deck });
+    }
+    Ok(Task::Number(Numbering {
+        deck,
+        out: found.needed("OUT")?,
+        ident: found.needed("IDENT")?,
+        first: number(found.needed("FIRST")?)?,
+        step: number(found.needed("STEP")?)?,
+    }))
+}
+
+/// The form that an argument names.
+fn form_in(found: &Found<'_>, name: &str) -> Result<Form, Mistake<'static>>
+    ensures { IfOk result (λ form.
+        HasArgument name.now (given found.now) (word_of form)) }
+{
+    Form::of(found.needed(name)?).ok_or(Mistake::Value(NO_FORM))
+}
+
+/// The task of a row `convert`.
+fn convert_task<'a>(found: &Found<'a>) -> Result<Task<'a>, Mistake<'static>>
+    ensures { IfOk result (WantsConvert (given found.now)) }
+{
+    Ok(Task::Convert {
+        deck: found.needed("IN")?,
+        out: found.needed("OUT")?,
+        reads: form_in(found, "FROM")?,
+        writes: form_in(found, "TO")?,
+    })
+}
+
+/// Whether `--width` asks for 80 columns; not where it is not given.
+fn narrow_in(found: &Found<'_>) -> Result<bool, Mistake<'static>>
+    ensures { IfOk result (λ narrow. IsNarrow (given found.now) narrow) }
+{
+    match found.value("width") {
+        Some(word) => narrow_of(word).ok_or(Mistake::Value(NO_WIDTH)),
+        None => Ok(false),
+    }
+}
+
+/// The task of a row `source`.
+fn source_task<'a>(found: &Found<'a>) -> Result<Task<'a>, Mistake<'static>>
+    ensures { IfOk result (WantsSource (given found.now)) }
+{
+    Ok(Task::Source {
+        source: found.needed("IN")?,
+        narrow: narrow_in(found)?,
+        with_data: found.has_flag("data"),
+    })
+}
+
+/// The form that `--form` names, if it is given.
+fn option_form_in(found: &Found<'_>) -> Result<Option<Form>, Mistake<'static>>
+    ensures { IfOk result (λ form. HasForm (given found.now) form) }
+{
+    let Some(word) = found.value("form") else {
+        return Ok(None);
+    };
+    let form = Form::of(word).ok_or(Mistake::Value(NO_FORM))?;
+    Ok(Some(form))
+}
+
+/// The task of a row `manifest`.
+fn manifest_task<'a>(alloc: Global, found: &Found<'a>) -> Result<Task<'a>, Mistake<'static>>
+    ensures { IfOk result (WantsManifest (given found.now)) }
+{
+    let decks = found.values(alloc, "FILE")?;
+    let form = option_form_in(found)?;
+    let known = found.value("check");
+    Ok(Task::Manifest { decks, form, known })
+}
+
+/// The task of a row, by what clap found after its name.
+fn row_task<'a>(
+    alloc: Global,
+    row: RowName,
+    found: &Found<'a>,
+) -> Result<Task<'a>, Mistake<'static>>
+    ensures { IfOk result (WantsTask row (given found.now)) }
+{
+    match row {
+        RowName::Punch => punch_task(alloc, found),
+        RowName::List => list_task(found),
+        RowName::Compare => compare_task(found),
+        RowName::Sequence => sequence_task(found),
+        RowName::Source => source_task(found),
+        RowName::Manifest => manifest_task(alloc, found),
+        RowName::Convert => convert_task(found),
+        RowName::Trace => trace_task(found),
+        RowName::Dump => dump_task(found),
+        RowName::Profile => profile_task(found),
+        RowName::Console => console_task(found),
+        RowName::Card => card_task(found),
+        RowName::Deck => deck_task(found),
+        RowName::Pages => pages_task(found),
+        RowName::Page => page_task(found),
+    }
+}
+
+/// What the words ask for.
+fn wish_of<'a>(alloc: Global, words: &'a [String]) -> Result<Asked<'a, RowName>, Mistake<'a>>
+    ensures { IfOk result (λ asked. AsksFor workbench (texts words.entry.now) (wish_as asked)) }
+{
+    asked_by(alloc, &WORKBENCH, words)
+}
+
+/// Returns the task that the words after the program's name ask for, or else what is wrong with
+/// them.
+pub fn task_of<'a>(alloc: Global, words: &'a [String]) -> Result<Task<'a>, Mistake<'a>>
+    ensures { IfOk result (Wants (texts words.entry.now)) }
+{
+    let asked = wish_of(alloc, words)?;
+    match asked {
+        Asked::Help(row) => Ok(Task::Show(page(row))),
+        Asked::Version => Ok(Task::Show(VERSION)),
+        Asked::Row(row, found) => row_task(alloc, row, &found),
+    }
+}
