@@ -1,4 +1,4 @@
--- what the program does by its words
+-- what the program does by its arguments
 use Rattle.std.specs.Prelude.{◌≡◌, ◌⊎◌, ℕ, List, codes}
 use Rattle.std.specs.Io.KnownBytes.{Appends, Keeps}
 use Rattle.local_runs.specs.Assembling.{Assembles}
@@ -28,7 +28,7 @@ pub record HasAssembled (status : Status) (output_old output_new errors_old erro
   pub assembles : Assembles text answer output_old output_new errors_old between
   pub put : IsPut answer.status status between errors_new
 
--- a row for a bureau's file had this exit status, and its outcome was printed
+-- a subcommand for a bureau's file had this exit status, and its outcome was printed
 pub record HasEnded (status : Status) (errors_old errors_new : Bytes) : Type 0 where
   pub outcome : Outcome
   pub status_is : status ≡ status_of outcome
@@ -54,8 +54,8 @@ pub record HasEndedMigration (status : Status)
 
 -- the task was done, with this exit status and with what it prints
 abbrev pub HasDone : Task → Status → Bytes → Bytes → Bytes → Bytes → Type 0
-HasDone (task.Help row) status output_old output_new errors_old errors_new =
-    IsTextShown (page_of row) status output_old output_new errors_old errors_new
+HasDone (task.Help subcommand) status output_old output_new errors_old errors_new =
+    IsTextShown (page_of subcommand) status output_old output_new errors_old errors_new
 HasDone task.Version status output_old output_new errors_old errors_new =
     IsTextShown version_text status output_old output_new errors_old errors_new
 HasDone (task.Run deck size switches) status output_old output_new errors_old errors_new =
@@ -69,24 +69,24 @@ HasDone (task.Migrate file) status output_old output_new errors_old errors_new =
 HasDone other status output_old output_new errors_old errors_new =
     Keeps output_old output_new × HasEnded status errors_old errors_new
 
--- the task that the words ask for was done
-pub record HasDoneTask (words : List (List ℕ)) (status : Status)
+-- the task that the arguments ask for was done
+pub record HasDoneTask (arguments : List (List ℕ)) (status : Status)
     (output_old output_new errors_old errors_new : Bytes) : Type 0 where
   pub it : Task
-  pub asked : Wants words it
+  pub asked : Wants arguments it
   pub done : HasDone it status output_old output_new errors_old errors_new
 
--- what is wrong with the words was printed
-pub record HasToldMistake (words : List (List ℕ)) (status : Status)
+-- what is wrong with the arguments was printed
+pub record HasToldMistake (arguments : List (List ℕ)) (status : Status)
     (output_old output_new errors_old errors_new : Bytes) : Type 0 where
   pub mistake : Mistake
-  pub is : IsMistake words mistake
+  pub is : IsMistake arguments mistake
   pub status_is : status ≡ mistake_status mistake
   pub kept : Keeps output_old output_new
   pub told : Appends errors_old errors_new (mistake_message (codes "bureau") mistake)
 
--- the task that the words ask for was done, or what is wrong with them was printed
+-- the task that the arguments ask for was done, or what is wrong with them was printed
 abbrev pub HasAnswered : List (List ℕ) → Status → Bytes → Bytes → Bytes → Bytes → Type 0
-HasAnswered words status output_old output_new errors_old errors_new =
-    HasDoneTask words status output_old output_new errors_old errors_new
-    ⊎ HasToldMistake words status output_old output_new errors_old errors_new
+HasAnswered arguments status output_old output_new errors_old errors_new =
+    HasDoneTask arguments status output_old output_new errors_old errors_new
+    ⊎ HasToldMistake arguments status output_old output_new errors_old errors_new

@@ -1,10 +1,22 @@
-//! The program: connects the counter to the process's words, files and streams.
+//! The program `bureau`: connects local runs, and the bureau in its file, to the process's arguments,
+//! files and streams.
 //!
-//! What the words ask for, what is printed and how the program ends is proved below, and connected
-//! here in [`answer`]. The clauses of the kit do not mention the process's own words and streams,
-//! nor the contents of a file. So [`words_given`] and [`carry_out`] have no contract; `cases/check`
-//! and `examples/check` test that the right files are read and written, and that OUT is written
-//! only if a deck was made.
+//! A bureau's file is created or migrated, a script is applied to it, requests are served from it, and
+//! what a job made is exported from it. A script, requests and an export are each a `Work` of
+//! `ledger_files`: commands that are carried out and replied to. Of [`apply`], [`serve`] and
+//! [`export`] it is proved that their work is a round from the files that were found to whatever a
+//! crash leaves ([`Ended`]), of [`migrate`] that the office stays, and of [`init`] that the new file
+//! holds the office without jobs (both of `ledger_files`). Of [`apply`] it is also proved that the
+//! lines of the replies are on the output, and of [`tell_migrated`] and [`show_outcome`] what is
+//! printed. Each of these calls is for files of any contents (`Start`); `main` calls it for those that
+//! nothing is known of.
+//!
+//! What the arguments ask for, what is printed and how the program ends is proved, and connected in
+//! [`answer`]. The clauses of the kit do not mention the process's own arguments and streams, nor the
+//! contents of files and sockets. So [`arguments_given`] and [`carry_out`] have no contract;
+//! `cases/check` and `examples/check` test that the right files are read and written, and that OUT is
+//! written only if a deck was made.
+//!
 #![tactic(auto)]
 
 mod connections;
@@ -20,7 +32,7 @@ ghost use Rattle.command_line.specs.Printed.{IsTextShown, version_text};
 ghost use Rattle.command_line.specs.Asked.{IsHelp, page_of};
 ghost use Rattle.command_line.specs.Plain.{texts};
 ghost use Rattle.command_line.specs.Programs.{IsVersion};
-ghost use Rattle.command_line.specs.declared.rows.RowName.{RowName};
+ghost use Rattle.command_line.specs.declared.subcommands.Subcommand.{Subcommand};
 ghost use Rattle.bureau.specs.Answers.{HasAnswered, HasAssembled, HasEnded, HasEndedMigration, HasEndedScript};
 
 use crate::exporting::export;
@@ -38,8 +50,8 @@ use std::io::Write;
 use std::process::ExitCode;
 use std::{env, io};
 
-/// The words of the process. The first is the program's name.
-fn words_given(rt: &HostRuntime) -> Result<Vec<String>, Mistake> {
+/// The arguments of the process. The first is the program's name.
+fn arguments_given(rt: &HostRuntime) -> Result<Vec<String>, Mistake> {
     Ok(env::args(rt)?.collect(rt.alloc())?)
 }
 
@@ -131,27 +143,27 @@ fn migrate_file<W: Write, E: Write>(
     show_outcome(errors, outcome)
 }
 
-/// Does what the words after the program's name ask for.
+/// Does what the arguments after the program's name ask for.
 fn answer<W: Write, E: Write>(
     rt: &HostRuntime,
-    words: &[String],
+    arguments: &[String],
     output: &mut W,
     errors: &mut E,
 ) -> io::Result<Status>
-    ensures help { (row : Option RowName) → IsHelp row (texts words.now)
-        → IfOk result (λ status. IsTextShown (page_of row) status
+    ensures help { (subcommand : Option Subcommand) → IsHelp subcommand (texts arguments.now)
+        → IfOk result (λ status. IsTextShown (page_of subcommand) status
         (W.contents output.old) (W.contents output.new)
         (E.contents errors.old) (E.contents errors.new)) }
-    ensures version { IsVersion (texts words.now)
+    ensures version { IsVersion (texts arguments.now)
         → IfOk result (λ status. IsTextShown version_text status
         (W.contents output.old) (W.contents output.new)
         (E.contents errors.old) (E.contents errors.new)) }
-    ensures answered { IfOk result (λ status. HasAnswered (texts words.now) status
+    ensures answered { IfOk result (λ status. HasAnswered (texts arguments.now) status
         (W.contents output.old) (W.contents output.new)
         (E.contents errors.old) (E.contents errors.new)) }
 {
-    match task_of(rt.alloc(), words) {
-        Ok(Task::Help(row)) => show_help(output, errors, row),
+    match task_of(rt.alloc(), arguments) {
+        Ok(Task::Help(subcommand)) => show_help(output, errors, subcommand),
         Ok(Task::Version) => show_version(output, errors),
         Ok(
             Task::Run {
@@ -176,16 +188,20 @@ fn answer<W: Write, E: Write>(
     }
 }
 
-/// Does what the process's words ask for.
+/// Does what the process's arguments ask for.
 fn carry_out(rt: &HostRuntime) -> io::Result<Status> {
     let mut output = rt.stdout();
     let mut errors = Unfailing::new(rt.stderr());
-    let words = match words_given(rt) {
-        Ok(words) => words,
+    let arguments = match arguments_given(rt) {
+        Ok(arguments) => arguments,
         Err(mistake) => return tell_mistake(&mut errors, "bureau", mistake),
     };
-    let words = words.as_slice();
-    let after_name = if words.is_empty() { words } else { &words[1..] };
+    let arguments = arguments.as_slice();
+    let after_name = if arguments.is_empty() {
+        arguments
+    } else {
+        &arguments[1..]
+    };
     answer(rt, after_name, &mut output, &mut errors)
 }
 

@@ -4,7 +4,7 @@ use Rattle.clap.specs.Simple.{is_simple}
 use Rattle.clap.specs.Words.{is_simple_and_free}
 use Rattle.clap.proofs.OnLiterals.{clap_on_literals}
 use Rattle.command_line.specs.Programs.{command}
-use Rattle.command_line.specs.Rows.{bureau}
+use Rattle.command_line.specs.Subcommands.{bureau}
 
 pub simple : is_simple (command bureau) ≡ true
 unfolding command clap_on_literals

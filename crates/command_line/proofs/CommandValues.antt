@@ -1,4 +1,5 @@
--- Clap reads a plain word as a value, wherever it stands, and so as it reads any word after `--`.
+-- Clap reads a plain argument as a value, wherever it stands, and so as it reads any argument after
+-- `--`.
 use Rattle.std.proofs.Common.{◌≡◌, ◌∙◌, ◌==◌, ◌||◌, ℕ, Bool, List, [], ◌∷◌, true, false, refl, Some, None, not, ap, ap₂, sym, if◌then◌else◌}
 use Rattle.std.specs.Prelude.{Option, fold}
 use Rattle.std.specs.Str.{bytes_eq}
@@ -21,7 +22,7 @@ at is_several is_trailing position h = record {
   stopped = None;
 }
 
--- clap reads the word as a value
+-- clap reads the argument as a value
 pub record IsValue (w : Text) : Type 0 where
   pub dashes : bytes_eq w (45 ∷ 45 ∷ []) ≡ false
   pub long : long_of w ≡ None
@@ -64,9 +65,9 @@ turn_value s false false p h w v = rw v.dashes (rw v.long (rw v.short refl))
 
 -- ---- all values
 
--- what clap holds after these words
+-- what clap holds after these arguments
 abbrev pub held_by : List Rule → List Text → Walk → Held
-held_by c words w = (fold (walked c []) w words).held
+held_by c arguments w = (fold (walked c []) w arguments).held
 
 held_next : (c : List Rule) (m t : Bool) (p : ℕ) (h : Held) (o : Option Rule) (w : Text) (ws : List Text)
     → ((m t : Bool) (p : ℕ) (h : Held) → held_by c ws (at m t p h) ≡ held_by c ws (at m true p h))
@@ -74,7 +75,7 @@ held_next : (c : List Rule) (m t : Bool) (p : ℕ) (h : Held) (o : Option Rule) 
 held_next c m t p h None w ws same = same m t p h
 held_next c m t p h (Some a) w ws same = same (is_multiple a) (t || a.trailing_var_arg) (next_position a p) (positional_held c a w h)
 
--- plain words are held as the same words after `--` are
+-- plain arguments are held as the same arguments after `--` are
 pub same_held : (c : List Rule) (m t : Bool) (p : ℕ) (h : Held) (ws : List Text) → ArePlain ws
     → held_by c ws (at m t p h) ≡ held_by c ws (at m true p h)
 same_held c m t p h [] plain = refl
@@ -84,9 +85,9 @@ same_held c m t p h (w ∷ ws) plain =
     ∙ (held_next c m t p h (arg_by_index c p) w ws (λ m t p h. same_held c m t p h ws (plain_tail w ws plain))
     ∙ sym (ap (held_by c ws) (walked_value c m true p h w v)))
 
--- the faults of these words
+-- the faults of these arguments
 abbrev faults_by : Shape → List Text → Walk → Kinds
-faults_by s words w = walk_fault s [] w words
+faults_by s arguments w = walk_fault s [] w arguments
 
 faults_next : (s : Shape) (m t : Bool) (p : ℕ) (h : Held) (o : Option Rule) (w : Text) (ws : List Text)
     → ((m t : Bool) (p : ℕ) (h : Held) → faults_by s ws (at m t p h) ≡ faults_by s ws (at m true p h))
@@ -94,7 +95,7 @@ faults_next : (s : Shape) (m t : Bool) (p : ℕ) (h : Held) (o : Option Rule) (w
 faults_next s m t p h None w ws same = same m t p h
 faults_next s m t p h (Some a) w ws same = same (is_multiple a) (t || a.trailing_var_arg) (next_position a p) (positional_held s.rules a w h)
 
--- plain words have the faults that the same words after `--` have
+-- plain arguments have the faults that the same arguments after `--` have
 pub same_faults : (s : Shape) (m t : Bool) (p : ℕ) (h : Held) (ws : List Text) → ArePlain ws
     → walk_fault s [] (at m t p h) ws ≡ walk_fault s [] (at m true p h) ws
 unfolding walk_fault

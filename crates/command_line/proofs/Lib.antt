@@ -1,9 +1,9 @@
 pub mod CommandValues
 pub mod CommandLeaves
 pub mod BureauCommand
-pub mod RowNameLemmas
-pub mod CommandRows
-pub mod CommandWords
+pub mod SubcommandLemmas
+pub mod CommandSubcommands
+pub mod CommandArguments
 pub mod AskedWays
 pub mod MistakeLines
-pub mod TaskWords
+pub mod TaskArguments

@@ -1,4 +1,4 @@
--- the arguments that are found after a row's name
+-- the arguments that are found after a subcommand's name
 use Rattle.std.specs.Prelude.{◌≡◌, Bool, List, [], Option, Some, None, codes, option_map, unwrap_or}
 use Rattle.std.specs.Borrow.{Bor}
 use Rattle.std.specs.Str.{bytes_eq}

@@ -1,46 +1,47 @@
--- what the program's words ask for
+-- what the program's arguments ask for
 use Rattle.std.specs.Prelude.{◌≡◌, ◌⊎◌, List, [], ◌∷◌, Option, Some, None, codes, map, true, unwrap_or}
 use Rattle.clap.specs.Words.{Row, Text, first_of}
 use Rattle.command_line.specs.Plain.{ArePlain}
-use Rattle.command_line.specs.Programs.{HasRow, IsVersion, Wish, for_help, for_row, for_version, is_clear}
-use Rattle.command_line.specs.Rows.{bureau, name_of, values_of}
-use Rattle.command_line.specs.declared.rows.RowName.{RowName}
-use Rattle.command_line.specs.declared.rows.RowName.TheVariants as name
+use Rattle.command_line.specs.Programs.{HasSubcommand, IsVersion, Wish, for_help, for_subcommand, for_version, is_clear}
+use Rattle.command_line.specs.Subcommands.{bureau, name_of, values_of}
+use Rattle.command_line.specs.declared.subcommands.Subcommand.{Subcommand}
+use Rattle.command_line.specs.declared.subcommands.Subcommand.TheVariants as name
 use Rattle.command_line.specs.declared.help.TheConstants.{APPLY_HELP, ASSEMBLE_HELP, EXPORT_HELP, HELP, INIT_HELP, MIGRATE_HELP, RUN_HELP, SERVE_HELP}
 
--- the words ask for the help of a row, or for the whole help
-abbrev pub IsHelp : Option RowName → List Text → Type 0
-IsHelp None words = (words ≡ codes "--help" ∷ []) ⊎ (words ≡ codes "-h" ∷ [])
-IsHelp (Some row) words =
-    (words ≡ name_of row ∷ codes "--help" ∷ []) ⊎ (words ≡ name_of row ∷ codes "-h" ∷ [])
+-- the arguments ask for the help of a subcommand, or for the whole help
+abbrev pub IsHelp : Option Subcommand → List Text → Type 0
+IsHelp None arguments = (arguments ≡ codes "--help" ∷ []) ⊎ (arguments ≡ codes "-h" ∷ [])
+IsHelp (Some subcommand) arguments =
+    (arguments ≡ name_of subcommand ∷ codes "--help" ∷ []) ⊎ (arguments ≡ name_of subcommand ∷ codes "-h" ∷ [])
 
--- the words are the row's name and these values; no value begins with a hyphen, but for `-` alone,
--- unless `--` comes before the values
-abbrev pub HasValues : RowName → List Text → List Text → Type 0
-HasValues row values words =
-    ((words ≡ name_of row ∷ values) × ArePlain words) ⊎ (words ≡ name_of row ∷ codes "--" ∷ values)
+-- the arguments are the subcommand's name and these values; no value begins with a hyphen, but for
+-- `-` alone, unless `--` comes before the values
+abbrev pub HasValues : Subcommand → List Text → List Text → Type 0
+HasValues subcommand values arguments =
+    ((arguments ≡ name_of subcommand ∷ values) × ArePlain arguments) ⊎ (arguments ≡ name_of subcommand ∷ codes "--" ∷ values)
 
--- the values that were found of a row
-abbrev pub values_found : List Row → RowName → List Text
-values_found found row = map (λ value. unwrap_or (first_of value found) []) (values_of row)
+-- the values that were found of a subcommand
+abbrev pub values_found : List Row → Subcommand → List Text
+values_found found subcommand = map (λ value. unwrap_or (first_of value found) []) (values_of subcommand)
 
--- the words ask for this: a help, the version, or a row with its values
-abbrev pub Asks : List Text → Wish RowName → Type 0
-Asks words (for_help page) = IsHelp page words
-Asks words for_version = IsVersion words
-Asks words (for_row row found) = HasValues row (values_found found row) words
+-- the arguments ask for this: a help, the version, or a subcommand with its values
+abbrev pub Asks : List Text → Wish Subcommand → Type 0
+Asks arguments (for_help page) = IsHelp page arguments
+Asks arguments for_version = IsVersion arguments
+Asks arguments (for_subcommand subcommand found) = HasValues subcommand (values_found found subcommand) arguments
 
--- by the table the words are those of a row with these values, none of which is read as an option
-pub record AreTaken (words : List Text) (row : RowName) (values : List Text) : Type 0 where
+-- by the table the arguments are those of a subcommand with these values, none of which is read as
+-- an option
+pub record AreTaken (arguments : List Text) (subcommand : Subcommand) (values : List Text) : Type 0 where
   pub found : List Row
-  pub clear : is_clear bureau words ≡ true
-  pub has : HasRow bureau words row found
-  pub are : values_found found row ≡ values
+  pub clear : is_clear bureau arguments ≡ true
+  pub has : HasSubcommand bureau arguments subcommand found
+  pub are : values_found found subcommand ≡ values
 
 -- ---- what is printed
 
--- the text of the help of a row, or of the whole help
-abbrev pub page_of : Option RowName → Text
+-- the text of the help of a subcommand, or of the whole help
+abbrev pub page_of : Option Subcommand → Text
 page_of None = HELP.now
 page_of (Some name.Run) = RUN_HELP.now
 page_of (Some name.Assemble) = ASSEMBLE_HELP.now

@@ -2,7 +2,7 @@ pub mod Plain
 pub mod Tables
 pub mod Arguments
 pub mod Programs
-pub mod Rows
+pub mod Subcommands
 pub mod Asked
 pub mod Printed
 pub mod Mistakes

@@ -1,136 +1,137 @@
--- programs as tables of rows, and what words ask for by them
+-- programs as tables of subcommands, and what arguments ask for by them
 use Rattle.std.specs.Prelude.{◌≡◌, ◌⊎◌, ◌&&◌, ◌||◌, Bool, false, List, [], ◌∷◌, Option, Some, None, codes, find, fold, if◌then◌else◌, is_some, map, not, option_map, unwrap_or}
 use Rattle.std.specs.List.{list_any}
 use Rattle.std.specs.Str.{bytes_eq}
 use Rattle.clap.specs.Words.{App, Row, Text, fault_of, subcommand_of}
 use Rattle.command_line.specs.Arguments.{given}
 use Rattle.command_line.specs.Plain.{is_odd}
-use Rattle.command_line.specs.Tables.{is_option, named, with_row}
+use Rattle.command_line.specs.Tables.{is_option, named, with_subcommand_named}
 use Rattle.command_line.specs.declared.mistakes.Mistake.{Mistake}
 use Rattle.command_line.specs.declared.mistakes.Mistake.TheVariants as mistake
 use Rattle.command_line.specs.declared.programs.Asked.{Asked}
 use Rattle.command_line.specs.declared.programs.Asked.TheVariants as asked
-use Rattle.command_line.specs.declared.programs.Line as line
+use Rattle.command_line.specs.declared.programs.Syntax as syntax
 use Rattle.command_line.specs.declared.programs.Program as code
 use Rattle.command_line.specs.declared.tables.Kind.{Kind}
 
--- a row of a program: the row, its name, its arguments in order, and how it is used
-abbrev pub Line : Type 0 → Type 0
-Line R = R × Text × List (Text × Kind) × Text
+-- a subcommand of a program: the subcommand, its name, its arguments in order, and how it is used
+abbrev pub Syntax : Type 0 → Type 0
+Syntax R = R × Text × List (Text × Kind) × Text
 
--- a program by its words: its name, and its rows
+-- a program by its arguments: its name, and its subcommands
 pub record Program (R : Type 0) : Type 0 where
   pub name : Text
-  pub rows : List (Line R)
+  pub subcommands : List (Syntax R)
 
--- a row as the code has it
-abbrev pub line_as : {R : Type 0} → line.Line R → Line R
-line_as line =
-    (line.row, line.name.now, map (λ g. (g.0.now, g.1)) line.arguments.now, line.usage.now)
+-- a subcommand as the code has it
+abbrev pub syntax_as : {R : Type 0} → syntax.Syntax R → Syntax R
+syntax_as syntax =
+    (syntax.subcommand, syntax.name.now, map (λ g. (g.0.now, g.1)) syntax.arguments.now, syntax.usage.now)
 
 -- a program as the code has it
 abbrev pub program_as : {R : Type 0} → code.Program R → Program R
-program_as program = record { name = program.name.now; rows = map line_as program.rows.now }
+program_as program = record { name = program.name.now; subcommands = map syntax_as program.subcommands.now }
 
--- the row with this name, if there is one
-abbrev pub row_named : {R : Type 0} → Program R → Text → Option R
-row_named program word =
-    option_map (λ line. line.0) (find (λ line. bytes_eq line.1 word) program.rows)
+-- the subcommand with this name, if there is one
+abbrev pub subcommand_named : {R : Type 0} → Program R → Text → Option R
+subcommand_named program argument =
+    option_map (λ syntax. syntax.0) (find (λ syntax. bytes_eq syntax.1 argument) program.subcommands)
 
--- how the row with this name is used, if there is one
+-- how the subcommand with this name is used, if there is one
 abbrev pub usage_named : {R : Type 0} → Program R → Text → Option Text
-usage_named program word =
-    option_map (λ line. line.3) (find (λ line. bytes_eq line.1 word) program.rows)
+usage_named program argument =
+    option_map (λ syntax. syntax.3) (find (λ syntax. bytes_eq syntax.1 argument) program.subcommands)
 
--- the program's whole command: with each row, and the row's arguments
+-- the program's whole command: with each subcommand, and the subcommand's arguments
 unfoldable pub command : {R : Type 0} → Program R → App
-command program = fold (λ a line. with_row a line.1 line.2) (named program.name) program.rows
+command program = fold (λ a syntax. with_subcommand_named a syntax.1 syntax.2) (named program.name) program.subcommands
 
--- what words can ask for: the help of a row or the whole help, the version, or a row with what is
--- found of its arguments
+-- what arguments can ask for: the help of a subcommand or the whole help, the version, or a
+-- subcommand with what is found of its arguments
 pub data Wish (R : Type 0) : Type 0 where
   for_help : Option R → Wish R
   for_version : Wish R
-  for_row : R → List Row → Wish R
+  for_subcommand : R → List Row → Wish R
 
--- the word asks for help
-abbrev pub IsHelpWord : Text → Type 0
-IsHelpWord word = (word ≡ codes "--help") ⊎ (word ≡ codes "-h")
+-- the argument asks for help
+abbrev pub IsHelpArgument : Text → Type 0
+IsHelpArgument argument = (argument ≡ codes "--help") ⊎ (argument ≡ codes "-h")
 
--- the words ask for the version
+-- the arguments ask for the version
 abbrev pub IsVersion : List Text → Type 0
-IsVersion words = words ≡ codes "--version" ∷ []
+IsVersion arguments = arguments ≡ codes "--version" ∷ []
 
--- the words ask for the help of the row that the first one names, or for the whole help
+-- the arguments ask for the help of the subcommand that the first one names, or for the whole help
 abbrev pub AsksForHelp : {R : Type 0} → Program R → List Text → Option R → Type 0
-AsksForHelp program (word ∷ []) None = IsHelpWord word
-AsksForHelp program (name ∷ word ∷ []) (Some row) =
-    IsHelpWord word × (row_named program name ≡ Some row)
+AsksForHelp program (argument ∷ []) None = IsHelpArgument argument
+AsksForHelp program (name ∷ argument ∷ []) (Some subcommand) =
+    IsHelpArgument argument × (subcommand_named program name ≡ Some subcommand)
 AsksForHelp program _ _ = ⊥
 
--- clap takes the words by the program's command, and finds this row with these arguments
-pub record HasRow {R : Type 0} (program : Program R) (words : List Text) (row : R)
+-- clap takes the arguments by the program's command, and finds this subcommand with these arguments
+pub record HasSubcommand {R : Type 0} (program : Program R) (arguments : List Text) (subcommand : R)
     (found : List Row) : Type 0 where
   pub name : Text
-  pub taken : fault_of (command program) words ≡ []
-  pub is_row : subcommand_of (command program) words ≡ Some (name, found)
-  pub named : row_named program name ≡ Some row
+  pub taken : fault_of (command program) arguments ≡ []
+  pub is_subcommand : subcommand_of (command program) arguments ≡ Some (name, found)
+  pub named : subcommand_named program name ≡ Some subcommand
 
--- the words ask for this
+-- the arguments ask for this
 abbrev pub AsksFor : {R : Type 0} → Program R → List Text → Wish R → Type 0
-AsksFor program words (for_help page) = AsksForHelp program words page
-AsksFor program words for_version = IsVersion words
-AsksFor program words (for_row row found) = HasRow program words row found
+AsksFor program arguments (for_help page) = AsksForHelp program arguments page
+AsksFor program arguments for_version = IsVersion arguments
+AsksFor program arguments (for_subcommand subcommand found) = HasSubcommand program arguments subcommand found
 
--- the words ask for this in place of a row: a help, or the version
+-- the arguments ask for this in place of a subcommand: a help, or the version
 abbrev pub AsksInPlace : {R : Type 0} → Program R → List Text → Wish R → Type 0
-AsksInPlace program words (for_help page) = AsksForHelp program words page
-AsksInPlace program words for_version = IsVersion words
-AsksInPlace program words (for_row row found) = ⊥
+AsksInPlace program arguments (for_help page) = AsksForHelp program arguments page
+AsksInPlace program arguments for_version = IsVersion arguments
+AsksInPlace program arguments (for_subcommand subcommand found) = ⊥
 
 -- what is asked for, as the code has it
 abbrev pub wish_as : {R : Type 0} → Asked R → Wish R
 wish_as (asked.Help page) = for_help page
 wish_as asked.Version = for_version
-wish_as (asked.Row row found) = for_row row (given found)
+wish_as (asked.Subcommand subcommand found) = for_subcommand subcommand (given found)
 
--- how the row is used that words begin with, if they begin with one
+-- how the subcommand is used that arguments begin with, if they begin with one
 abbrev pub usage_begun : {R : Type 0} → Program R → List Text → Option Text
 usage_begun program [] = None
-usage_begun program (word ∷ more) = usage_named program word
+usage_begun program (argument ∷ more) = usage_named program argument
 
--- ---- words that hold no option
+-- ---- arguments that hold no option
 
--- whether the words begin with a row's name and `--`
+-- whether the arguments begin with a subcommand's name and `--`
 abbrev pub has_dashes : {R : Type 0} → Program R → List Text → Bool
 has_dashes program [] = false
-has_dashes program (word ∷ []) = false
-has_dashes program (word ∷ other ∷ more) =
-    is_some (row_named program word) && bytes_eq other (codes "--")
+has_dashes program (argument ∷ []) = false
+has_dashes program (argument ∷ other ∷ more) =
+    is_some (subcommand_named program argument) && bytes_eq other (codes "--")
 
--- whether none of the words is an option, or they begin with a row's name and `--`
+-- whether none of the arguments is an option, or they begin with a subcommand's name and `--`
 abbrev pub is_clear : {R : Type 0} → Program R → List Text → Bool
-is_clear program words = has_dashes program words || not (is_some (find is_odd words))
+is_clear program arguments = has_dashes program arguments || not (is_some (find is_odd arguments))
 
--- whether the row with this name has an option
+-- whether the subcommand with this name has an option
 abbrev pub has_options : {R : Type 0} → Program R → Text → Bool
-has_options program word = list_any (λ g. is_option g.1)
-    (unwrap_or (option_map (λ line. line.2) (find (λ line. bytes_eq line.1 word) program.rows)) [])
+has_options program argument = list_any (λ g. is_option g.1)
+    (unwrap_or (option_map (λ syntax. syntax.2) (find (λ syntax. bytes_eq syntax.1 argument) program.subcommands)) [])
 
--- the first word that begins with a hyphen, where the row has no options whose name comes first,
--- and `--` does not come behind that
+-- the first argument that begins with a hyphen, where the subcommand has no options whose name
+-- comes first, and `--` does not come behind that
 abbrev pub stray_option : {R : Type 0} → Program R → List Text → Option Text
 stray_option program [] = None
-stray_option program (word ∷ more) =
-    if has_dashes program (word ∷ more) || has_options program word then None
-    else find is_odd (word ∷ more)
+stray_option program (argument ∷ more) =
+    if has_dashes program (argument ∷ more) || has_options program argument then None
+    else find is_odd (argument ∷ more)
 
--- this is what is wrong with words that ask for nothing: they begin with no row's name, or are not
--- used as the row is whose name comes first; one of them may be read as an option there
+-- this is what is wrong with arguments that ask for nothing: they begin with no subcommand's name,
+-- or are not used as the subcommand is whose name comes first; one of them may be read as an option
+-- there
 abbrev pub IsMisread : {R : Type 0} → Program R → List Text → Mistake → Type 0
-IsMisread program words mistake.Row = usage_begun program words ≡ None
-IsMisread program words (mistake.Arguments usage) =
-    (usage_begun program words ≡ Some usage.now) × (stray_option program words ≡ None)
-IsMisread program words (mistake.Hyphen word usage) =
-    (usage_begun program words ≡ Some usage.now) × (stray_option program words ≡ Some word.now)
-IsMisread program words _ = ⊥
+IsMisread program arguments mistake.Subcommand = usage_begun program arguments ≡ None
+IsMisread program arguments (mistake.Arguments usage) =
+    (usage_begun program arguments ≡ Some usage.now) × (stray_option program arguments ≡ None)
+IsMisread program arguments (mistake.Hyphen argument usage) =
+    (usage_begun program arguments ≡ Some usage.now) × (stray_option program arguments ≡ Some argument.now)
+IsMisread program arguments _ = ⊥

@@ -1,4 +1,4 @@
--- commands of clap that are made from tables of rows
+-- commands of clap that are made from tables of subcommands
 use Rattle.std.specs.Prelude.{◌≡◌, Bool, List, true, false, Some, fold}
 use Rattle.clap.specs.Words.{App, Rule, Text, new_app, new_rule, with_rule, with_subcommand}
 use Rattle.clap.specs.Simple.{on_top}
@@ -22,21 +22,21 @@ is_option Flag = true
 is_option Setting = true
 is_option other = false
 
--- the command of a row: its name, and its arguments in order
-abbrev pub row_app : Text → List (Text × Kind) → App
-row_app name arguments =
-    fold (λ a argument. with_rule a (rule_for argument.0 argument.1)) (new_app name) arguments
+-- the command of a subcommand: its name, and its arguments in order
+abbrev pub subcommand_app : Text → List (Text × Kind) → App
+subcommand_app name arguments =
+    fold (λ an argument. with_rule a (rule_for argument.0 argument.1)) (new_app name) arguments
 
--- the command with one more row
-abbrev pub with_row : App → Text → List (Text × Kind) → App
-with_row a name arguments = with_subcommand a (row_app name arguments).top
+-- the command with one more subcommand
+abbrev pub with_subcommand_named : App → Text → List (Text × Kind) → App
+with_subcommand_named a name arguments = with_subcommand a (subcommand_app name arguments).top
 
--- the command hands none of its own arguments down to its rows
+-- the command hands none of its own arguments down to its subcommands
 abbrev pub IsLocal : Command → Type 0
 IsLocal c = (out-Command c).has_globals ≡ false
 
--- the command of this name before it has rows, without clap's own help and without the program's
--- name in front
+-- the command of this name before it has subcommands, without clap's own help and without the
+-- program's name in front
 abbrev pub named : Text → App
 named name = on_top (λ s. record s {
   no_binary_name = true;

@@ -1,4 +1,4 @@
--- the tasks that words ask for, with their values read
+-- the tasks that arguments ask for, with their values read
 use Rattle.std.specs.Prelude.{◌≡◌, ◌≢◌, ◌⊎◌, ◌<◌, ◌≤◌, ⊤, ℕ, List, [], ◌∷◌, codes, decimal}
 use Rattle.clap.specs.Words.{Text}
 use Rattle.core_store.specs.Storage.{positions_of}
@@ -8,11 +8,11 @@ use Rattle.units.specs.Switches.{AreSeven}
 use Rattle.units.specs.declared.Switches.{Switches}
 use Rattle.command_line.specs.Asked.{HasValues, IsHelp}
 use Rattle.command_line.specs.Programs.{IsMisread, IsVersion}
-use Rattle.command_line.specs.Rows.{bureau}
+use Rattle.command_line.specs.Subcommands.{bureau}
 use Rattle.command_line.specs.declared.mistakes.Mistake.{Mistake}
 use Rattle.command_line.specs.declared.mistakes.Mistake.TheVariants.{Memory, Value}
-use Rattle.command_line.specs.declared.rows.RowName.{RowName}
-use Rattle.command_line.specs.declared.rows.RowName.TheVariants as name
+use Rattle.command_line.specs.declared.subcommands.Subcommand.{Subcommand}
+use Rattle.command_line.specs.declared.subcommands.Subcommand.TheVariants as name
 use Rattle.texts.specs.Numbers.{IsNumberOf}
 use Rattle.texts.specs.Switches.{text_of}
 use Rattle.command_line.specs.declared.tasks.Input.TheVariants.{Standard, File}
@@ -27,44 +27,44 @@ IsPort number = (0 < number) × (number ≤ 65535)
 abbrev pub IsCount : ℕ → Type 0
 IsCount number = (0 < number) × (number ≤ 1000000)
 
--- the words ask for this task
+-- the arguments ask for this task
 abbrev pub Wants : List (List ℕ) → Task → Type 0
-Wants words (Help row) = IsHelp row words
-Wants words Version = IsVersion words
-Wants words (Run Standard s w) = (words ≡ []) × (s ≡ Positions4000) × (text_of w ≡ codes "A")
-Wants words (Run (File path) s w) =
-    HasValues name.Run (path.now ∷ decimal (positions_of s) ∷ text_of w ∷ []) words × AreSeven w
-Wants words (Assemble source out) =
-    HasValues name.Assemble (source.now ∷ out.now ∷ []) words
-Wants words (Init file) = HasValues name.Init (file.now ∷ []) words
-Wants words (Apply file script) = HasValues name.Apply (file.now ∷ script.now ∷ []) words
-Wants words (Export file customer number) =
-    (text : List ℕ) × HasValues name.Export (file.now ∷ customer.now ∷ text ∷ []) words
+Wants arguments (Help subcommand) = IsHelp subcommand arguments
+Wants arguments Version = IsVersion arguments
+Wants arguments (Run Standard s w) = (arguments ≡ []) × (s ≡ Positions4000) × (text_of w ≡ codes "A")
+Wants arguments (Run (File path) s w) =
+    HasValues name.Run (path.now ∷ decimal (positions_of s) ∷ text_of w ∷ []) arguments × AreSeven w
+Wants arguments (Assemble source out) =
+    HasValues name.Assemble (source.now ∷ out.now ∷ []) arguments
+Wants arguments (Init file) = HasValues name.Init (file.now ∷ []) arguments
+Wants arguments (Apply file script) = HasValues name.Apply (file.now ∷ script.now ∷ []) arguments
+Wants arguments (Export file customer number) =
+    (text : List ℕ) × HasValues name.Export (file.now ∷ customer.now ∷ text ∷ []) arguments
     × IsNumberOf text number
-Wants words (Migrate file) = HasValues name.Migrate (file.now ∷ []) words
-Wants words (Serve file port count) =
-    HasValues name.Serve (file.now ∷ decimal port ∷ decimal count ∷ []) words
+Wants arguments (Migrate file) = HasValues name.Migrate (file.now ∷ []) arguments
+Wants arguments (Serve file port count) =
+    HasValues name.Serve (file.now ∷ decimal port ∷ decimal count ∷ []) arguments
     × IsPort port × IsCount count
 
--- the task is that of a row with these values
-abbrev pub WantsRow : RowName → List Text → Task → Type 0
-WantsRow row values (Help page) = ⊥
-WantsRow row values Version = ⊥
-WantsRow row values (Run Standard s w) = ⊥
-WantsRow row values (Run (File path) s w) = (row ≡ name.Run)
+-- the task is that of a subcommand with these values
+abbrev pub WantsSubcommand : Subcommand → List Text → Task → Type 0
+WantsSubcommand subcommand values (Help page) = ⊥
+WantsSubcommand subcommand values Version = ⊥
+WantsSubcommand subcommand values (Run Standard s w) = ⊥
+WantsSubcommand subcommand values (Run (File path) s w) = (subcommand ≡ name.Run)
     × (values ≡ path.now ∷ decimal (positions_of s) ∷ text_of w ∷ []) × AreSeven w
-WantsRow row values (Assemble source out) =
-    (row ≡ name.Assemble) × (values ≡ source.now ∷ out.now ∷ [])
-WantsRow row values (Init file) = (row ≡ name.Init) × (values ≡ file.now ∷ [])
-WantsRow row values (Apply file script) =
-    (row ≡ name.Apply) × (values ≡ file.now ∷ script.now ∷ [])
-WantsRow row values (Export file customer number) = (text : Text) × (row ≡ name.Export)
+WantsSubcommand subcommand values (Assemble source out) =
+    (subcommand ≡ name.Assemble) × (values ≡ source.now ∷ out.now ∷ [])
+WantsSubcommand subcommand values (Init file) = (subcommand ≡ name.Init) × (values ≡ file.now ∷ [])
+WantsSubcommand subcommand values (Apply file script) =
+    (subcommand ≡ name.Apply) × (values ≡ file.now ∷ script.now ∷ [])
+WantsSubcommand subcommand values (Export file customer number) = (text : Text) × (subcommand ≡ name.Export)
     × (values ≡ file.now ∷ customer.now ∷ text ∷ []) × IsNumberOf text number
-WantsRow row values (Migrate file) = (row ≡ name.Migrate) × (values ≡ file.now ∷ [])
-WantsRow row values (Serve file port count) = (row ≡ name.Serve)
+WantsSubcommand subcommand values (Migrate file) = (subcommand ≡ name.Migrate) × (values ≡ file.now ∷ [])
+WantsSubcommand subcommand values (Serve file port count) = (subcommand ≡ name.Serve)
     × (values ≡ file.now ∷ decimal port ∷ decimal count ∷ []) × IsPort port × IsCount count
 
--- ---- what is wrong with words that ask for no task
+-- ---- what is wrong with arguments that ask for no task
 
 -- this is said of the texts of a size and of switches: of the size if it is none, else of the
 -- switches
@@ -87,22 +87,22 @@ IsServeMistake port count (Value said) =
     × ((c : ℕ) → IsCount c → count ≢ decimal c))
 IsServeMistake port count _ = ⊥
 
--- this is wrong with the values of a row
-abbrev pub IsRowMistake : RowName → List Text → Mistake → Type 0
-IsRowMistake name.Run (deck ∷ size ∷ switches ∷ []) mistake = IsValueMistake size switches mistake
-IsRowMistake name.Serve (file ∷ port ∷ count ∷ []) mistake = IsServeMistake port count mistake
-IsRowMistake _ _ _ = ⊥
+-- this is wrong with the values of a subcommand
+abbrev pub IsSubcommandMistake : Subcommand → List Text → Mistake → Type 0
+IsSubcommandMistake name.Run (deck ∷ size ∷ switches ∷ []) mistake = IsValueMistake size switches mistake
+IsSubcommandMistake name.Serve (file ∷ port ∷ count ∷ []) mistake = IsServeMistake port count mistake
+IsSubcommandMistake _ _ _ = ⊥
 
--- the words are those of a row, with this wrong in its values
-pub record AreRowWords (words : List Text) (mistake : Mistake) : Type 0 where
-  pub row : RowName
+-- the arguments are those of a subcommand, with this wrong in its values
+pub record AreSubcommandArguments (arguments : List Text) (mistake : Mistake) : Type 0 where
+  pub subcommand : Subcommand
   pub values : List Text
-  pub are : HasValues row values words
-  pub is : IsRowMistake row values mistake
+  pub are : HasValues subcommand values arguments
+  pub is : IsSubcommandMistake subcommand values mistake
 
--- this is wrong with the words: a value of a row, or they ask for nothing; or there was no memory
--- to read them
+-- this is wrong with the arguments: a value of a subcommand, or they ask for nothing; or there was
+-- no memory to read them
 abbrev pub IsMistake : List Text → Mistake → Type 0
-IsMistake words Memory = ⊤
-IsMistake words (Value said) = AreRowWords words (Value said)
-IsMistake words mistake = IsMisread bureau words mistake
+IsMistake arguments Memory = ⊤
+IsMistake arguments (Value said) = AreSubcommandArguments arguments (Value said)
+IsMistake arguments mistake = IsMisread bureau arguments mistake

@@ -1,4 +1,4 @@
-//! The arguments that clap found after a row's name.
+//! The arguments that clap found after a subcommand's name.
 
 ghost use Rattle.std.specs.Prelude.{◌≡◌, [], IfOk, map, unwrap_or};
 ghost use Rattle.clap.specs.Words.{all_of, found_of, rows_of};
@@ -8,7 +8,7 @@ use crate::mistakes::Mistake;
 use clap::ArgMatches;
 use std::alloc::{AllocError, Global};
 
-/// The arguments of a row.
+/// The arguments of a subcommand.
 #[derive(Drop)]
 pub struct Found<'a> {
     matches: ArgMatches<'a>,
@@ -16,7 +16,7 @@ pub struct Found<'a> {
 }
 
 impl<'a> Found<'a> {
-    /// What clap found after the name of a row that is used so.
+    /// What clap found after the name of a subcommand that is used so.
     pub(crate) fn of(matches: ArgMatches<'a>, usage: &'static str) -> Found<'a>
         ensures { given result ≡ rows_of (found_of matches.entry) }
     {
@@ -30,7 +30,7 @@ impl<'a> Found<'a> {
         self.matches.get_str(name)
     }
 
-    /// Returns the value of an argument that the row cannot lack.
+    /// Returns the value of an argument that the subcommand cannot lack.
     pub fn needed(&self, name: &str) -> Result<&'a str, Mistake<'static>>
         ensures { IfOk result (λ text. HasArgument name.now (given self.now) text.now) }
     {

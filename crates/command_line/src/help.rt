@@ -3,7 +3,7 @@
 ghost use Rattle.std.specs.Prelude.{◌≡◌};
 ghost use Rattle.command_line.specs.Asked.{page_of};
 
-use crate::rows::RowName;
+use crate::subcommands::Subcommand;
 
 /// The text that `--help` prints.
 pub const HELP: &str = "\
@@ -18,7 +18,7 @@ usage:
   bureau serve FILE PORT COUNT        answers COUNT requests over HTTP, one after the other
   bureau export FILE CUSTOMER NUMBER  writes what a job punched and printed to five files here
   bureau migrate FILE                 makes a file of an earlier version one of this version
-  bureau ROW --help                   prints the help of a row alone, as run --help (or -h)
+  bureau SUBCOMMAND --help            prints the help of one subcommand, as run --help (or -h)
   bureau --help                       prints this text (or -h)
   bureau --version                    prints the version, and the logic that it is proved in
 
@@ -32,7 +32,7 @@ NUMBER    the customer's number of a job: 1 to 9 digits, the first not 0
 PORT      1 to 65535, on this computer alone (127.0.0.1)
 COUNT     how many connections are served: 1 to 1000000
 
-Where a value begins with a hyphen, put -- after the row's name: bureau run -- -odd.deck 4000 A
+Where a value begins with a hyphen, put -- after the subcommand: bureau run -- -odd.deck 4000 A
 
 examples:
   bureau run examples/two_lines.deck 4000 A
@@ -59,7 +59,7 @@ exit status:
   0  all was done: the machine halted, OUT was written, the script or the requests were served
   1  a fault or a refusal was printed, as `card 5 column 1 fault 31` or `refused 20`, or how the
      machine ended
-  2  the words are not as above
+  2  the arguments are not as above
   3  the bureau's file could not be used: fault 2, 50 or 51
 
 faults and refusals:
@@ -137,7 +137,7 @@ or, in place of `halted next 361`, as `check ADDRESS at 8`, or `running` if all 
 used. A source is no deck to run, and mostly ends with `check INSTRUCTION at 1`: `bureau assemble`
 makes a deck of it.
 
-Status 0: the machine halted. Status 1: it did not, or a fault was printed. Status 2: the words
+Status 0: the machine halted. Status 1: it did not, or a fault was printed. Status 2: the arguments
 are not as above. `bureau --help` lists the faults.
 ";
 
@@ -156,7 +156,7 @@ examples:
 The listing goes to standard output. Where cards are at fault, a line for each goes there in its
 place, as `card 2 fault 45`, and OUT is not written.
 
-Status 0: OUT was written. Status 1: a fault was printed. Status 2: the words are not as above.
+Status 0: OUT was written. Status 1: a fault was printed. Status 2: the arguments are not as above.
 `bureau --help` lists the faults.
 ";
 
@@ -171,7 +171,7 @@ FILE  the path of the new file. A file that is there stays as it is, and is faul
 example:
   bureau init my.bureau
 
-Status 0: FILE was made. Status 1: there is not enough memory. Status 2: the words are not as
+Status 0: FILE was made. Status 1: there is not enough memory. Status 2: the arguments are not as
 above. Status 3: FILE was not made, and `fault 2` was printed. `bureau --help` lists the faults.
 ";
 
@@ -200,7 +200,7 @@ commands whose lines it printed, and at most one more; `standing` says how far a
 While it runs, no other program can use FILE; after it, FILE alone is the whole bureau.
 
 Status 0: each command was done. Status 1: one was refused, or the script is no script, or there
-is not enough memory. Status 2: the words are not as above. Status 3: the bureau's file failed.
+is not enough memory. Status 2: the arguments are not as above. Status 3: the bureau's file failed.
 `bureau --help` lists the faults and refusals.
 ";
 
@@ -220,7 +220,7 @@ each pocket alone, ACME-9.cards0, ACME-9.cards4 and ACME-9.cards8; and ACME-9.li
 lines. Files of these names are replaced. A file is there whole or not at all.
 
 Status 0: all files were written. Status 1: the job is refused, as `refused 20`, or a file could
-not be written. Status 2: the words are not as above. Status 3: the bureau's file failed.
+not be written. Status 2: the arguments are not as above. Status 3: the bureau's file failed.
 `bureau --help` lists the faults and refusals.
 ";
 
@@ -240,7 +240,7 @@ It prints `version 1 to 4`, with the version that FILE had, or `version 4` where
 to do. While it runs, no other program can use FILE.
 
 Status 0: FILE is of this version. Status 1: there is not enough memory, and FILE is as before;
-or that line could not be printed, and FILE is of this version. Status 2: the words are not as
+or that line could not be printed, and FILE is of this version. Status 2: the arguments are not as
 above. Status 3: the bureau's file failed. `bureau --help` lists the faults.
 ";
 
@@ -276,7 +276,7 @@ stopped at any time: what was answered is in the file. Each program of this comp
 commands, and so may each page in a browser on it: let customers come through a proxy.
 
 Status 0: COUNT connections were served. Status 1: the port could not be used, or there is not
-enough memory. Status 2: the words are not as above. Status 3: the bureau's file failed.
+enough memory. Status 2: the arguments are not as above. Status 3: the bureau's file failed.
 `bureau --help` lists the faults and refusals.
 ";
 
@@ -288,18 +288,18 @@ bureau 1
 Rattle logic dac8208d650f15bf
 ";
 
-/// The help of a row, or the whole help.
-pub fn page(row: Option<RowName>) -> &'static str
-    ensures { result.now ≡ page_of row }
+/// The help of a subcommand, or the whole help.
+pub fn page(subcommand: Option<Subcommand>) -> &'static str
+    ensures { result.now ≡ page_of subcommand }
 {
-    match row {
+    match subcommand {
         None => HELP,
-        Some(RowName::Run) => RUN_HELP,
-        Some(RowName::Assemble) => ASSEMBLE_HELP,
-        Some(RowName::Init) => INIT_HELP,
-        Some(RowName::Apply) => APPLY_HELP,
-        Some(RowName::Export) => EXPORT_HELP,
-        Some(RowName::Migrate) => MIGRATE_HELP,
-        Some(RowName::Serve) => SERVE_HELP,
+        Some(Subcommand::Run) => RUN_HELP,
+        Some(Subcommand::Assemble) => ASSEMBLE_HELP,
+        Some(Subcommand::Init) => INIT_HELP,
+        Some(Subcommand::Apply) => APPLY_HELP,
+        Some(Subcommand::Export) => EXPORT_HELP,
+        Some(Subcommand::Migrate) => MIGRATE_HELP,
+        Some(Subcommand::Serve) => SERVE_HELP,
     }
 }

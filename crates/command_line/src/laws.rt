@@ -1,23 +1,24 @@
-//! The law of the words.
+//! The law of the arguments.
 
 ghost use Rattle.std.specs.Prelude.{◌≡◌, ◌↔◌, List, Option, length, true};
 ghost use Rattle.clap.specs.Words.{Row, Text};
 ghost use Rattle.command_line.specs.Asked.{AreTaken, Asks, HasValues};
-ghost use Rattle.command_line.specs.Programs.{AsksFor, for_help, for_row, is_clear};
-ghost use Rattle.command_line.specs.Rows.{bureau, values_of};
-ghost use Rattle.command_line.specs.declared.rows.RowName.{RowName};
+ghost use Rattle.command_line.specs.Programs.{AsksFor, for_help, for_subcommand, is_clear};
+ghost use Rattle.command_line.specs.Subcommands.{bureau, values_of};
+ghost use Rattle.command_line.specs.declared.subcommands.Subcommand.{Subcommand};
 
-/// The law of the words: by the table of the rows words ask for what they say. They ask for a help
-/// in just these words (`help`). Where none of them can be read as an option, a row that they ask
-/// for is that of their first word, with the values after it (`row`); and a row's name with as many
-/// values as it has asks for the row with these values (`values`).
-pub fn words_are_those_of_the_table()
-    ensures help { (words : List Text) (page : Option RowName) →
-        AsksFor bureau words (for_help page) ↔ Asks words (for_help page) }
-    ensures row { (words : List Text) (row : RowName) (found : List Row) →
-        is_clear bureau words ≡ true → AsksFor bureau words (for_row row found) →
-        Asks words (for_row row found) }
-    ensures values { (words values : List Text) (row : RowName) →
-        length values ≡ length (values_of row) → HasValues row values words →
-        AreTaken words row values }
+/// The law of the arguments: by the table of the subcommands arguments ask for what they say. They
+/// ask for a help in just these arguments (`help`). Where none of them can be read as an option, a
+/// subcommand that they ask for is that of their first argument, with the values after it
+/// (`subcommand`); and a subcommand's name with as many values as it has asks for the subcommand
+/// with these values (`values`).
+pub fn arguments_are_those_of_the_table()
+    ensures help { (arguments : List Text) (page : Option Subcommand) →
+        AsksFor bureau arguments (for_help page) ↔ Asks arguments (for_help page) }
+    ensures subcommand { (arguments : List Text) (subcommand : Subcommand) (found : List Row) →
+        is_clear bureau arguments ≡ true → AsksFor bureau arguments (for_subcommand subcommand found) →
+        Asks arguments (for_subcommand subcommand found) }
+    ensures values { (arguments values : List Text) (subcommand : Subcommand) →
+        length values ≡ length (values_of subcommand) → HasValues subcommand values arguments →
+        AreTaken arguments subcommand values }
 {}

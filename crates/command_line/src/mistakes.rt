@@ -1,4 +1,4 @@
-//! What can be wrong with the words of a program of rows, and what is told of it.
+//! What can be wrong with the arguments of a program of subcommands, and what is told of it.
 
 ghost use Rattle.std.specs.Prelude.{◌≡◌, IfOk, OnOk, option_map};
 ghost use Rattle.std.specs.Io.KnownBytes.{Appends};
@@ -11,18 +11,18 @@ use std::alloc::AllocError;
 use std::io;
 use std::io::{ErrorKind, Write};
 
-/// Why words do not ask for anything.
+/// Why arguments do not ask for anything.
 #[derive(Clone, Copy)]
 pub enum Mistake<'a> {
     /// There is no memory to read them.
     Memory,
-    /// A word is not valid text.
+    /// An argument is not valid text.
     NoText,
-    /// The first word is not the name of a row.
-    Row,
-    /// The words after the name of a row that is used so are others.
+    /// The first argument is not the name of a subcommand.
+    Subcommand,
+    /// The arguments after the name of a subcommand that is used so are others.
     Arguments(&'static str),
-    /// This word begins with a hyphen, and the row that is used so has no options.
+    /// This argument begins with a hyphen, and the subcommand that is used so has no options.
     Hyphen(&'a str, &'static str),
     /// A value is none, of which this is said.
     Value(&'static str),
@@ -38,7 +38,7 @@ impl<'a> From<AllocError> for Mistake<'a> {
     }
 }
 
-/// The mistake of a process whose words cannot be read.
+/// The mistake of a process whose arguments cannot be read.
 impl<'a> From<io::Error> for Mistake<'a> {
     ghost use Rattle.std.specs.IoError.{error_kind};
     ghost use Rattle.command_line.specs.Mistakes.{mistake_of};
@@ -53,37 +53,37 @@ impl<'a> From<io::Error> for Mistake<'a> {
     }
 }
 
-/// Writes what is wrong with words of a program.
+/// Writes what is wrong with arguments of a program.
 fn complain<E: Write>(errors: &mut E, program: &str, mistake: Mistake<'_>) -> io::Result<()>
     ensures { OnOk result (Appends (E.contents errors.old) (E.contents errors.new)
         (complaint_line program.now mistake.entry)) }
 {
     match mistake {
-        Mistake::Memory => writeln!(errors, "{program}: no memory to read the words"),
-        Mistake::NoText => writeln!(errors, "{program}: a word is not UTF-8 text"),
-        Mistake::Row => {
+        Mistake::Memory => writeln!(errors, "{program}: no memory to read the arguments"),
+        Mistake::NoText => writeln!(errors, "{program}: an argument is not UTF-8 text"),
+        Mistake::Subcommand => {
             writeln!(
                 errors,
-                "{program}: the first word names nothing that the {program} does"
+                "{program}: the first argument names nothing that the {program} does"
             )
         }
         Mistake::Arguments(_) => {
             writeln!(
                 errors,
-                "{program}: the words after the row's name are not as it has them"
+                "{program}: the arguments after the subcommand are not as it has them"
             )
         }
-        Mistake::Hyphen(word, _) => {
+        Mistake::Hyphen(argument, _) => {
             writeln!(
                 errors,
-                "{program}: `{word}` begins with a hyphen; put `--` before the values if it is one"
+                "{program}: `{argument}` begins with a hyphen; put `--` before the values if it is one"
             )
         }
         Mistake::Value(said) => writeln!(errors, "{program}: {said}"),
     }
 }
 
-/// How the row is used that the words begin with, where they are not used so.
+/// How the subcommand is used that the arguments begin with, where they are not used so.
 fn usage_of(mistake: Mistake<'_>) -> Option<&'static str>
     ensures { option_map (λ usage. usage.now) result ≡ usage_of mistake.entry }
 {
@@ -94,7 +94,7 @@ fn usage_of(mistake: Mistake<'_>) -> Option<&'static str>
     }
 }
 
-/// Writes how words of a program should be.
+/// Writes how arguments of a program should be.
 fn show_usage<E: Write>(errors: &mut E, program: &str, mistake: Mistake<'_>) -> io::Result<()>
     ensures { OnOk result (Appends (E.contents errors.old) (E.contents errors.new)
         (usage_line program.now mistake.entry)) }
@@ -106,12 +106,13 @@ fn show_usage<E: Write>(errors: &mut E, program: &str, mistake: Mistake<'_>) -> 
         ),
         None => writeln!(
             errors,
-            "usage: {program} ROW WORDS..; {program} --help lists them"
+            "usage: {program} SUBCOMMAND ARGUMENTS..; {program} --help lists them"
         ),
     }
 }
 
-/// Prints what is wrong with words of a program, and how they should be. An error is the writer's.
+/// Prints what is wrong with arguments of a program, and how they should be. An error is the
+/// writer's.
 pub fn tell_mistake<E: Write>(
     errors: &mut E,
     program: &str,

@@ -1,4 +1,4 @@
-//! The numbers in the words of rows of a bureau's file.
+//! The numbers in the arguments of subcommands of a bureau's file.
 
 ghost use Rattle.std.specs.Prelude.{◌≡◌, ◌≢◌, ℕ, IfSome, IfNone, decimal};
 ghost use Rattle.command_line.specs.Tasks.{IsCount, IsPort};

@@ -1,4 +1,4 @@
-//! Programs as tables of rows, and what words ask for by them.
+//! Programs as tables of subcommands, and what arguments ask for by them.
 
 ghost use Rattle.std.specs.Prelude.{◌≡◌, ◌≢◌, ◌∷◌, ◌⊎◌, [], true, false, IfErr, IfNone, IfOk, IfSome, List, find, fold, map, option_map};
 ghost use Rattle.std.specs.List.{list_any};
@@ -6,163 +6,171 @@ ghost use Rattle.std.specs.Str.{bytes_eq};
 ghost use Rattle.clap.specs.Words.{Row, app_of, fault_of, is_simple_and_free, subcommand_of, subcommand_rows_of};
 ghost use Rattle.clap.specs.Simple.{is_simple};
 ghost use Rattle.command_line.specs.Plain.{texts};
-ghost use Rattle.command_line.specs.Programs.{AsksFor, AsksInPlace, HasRow, IsHelpWord, IsMisread, Wish, command, has_options, program_as, row_named, stray_option, usage_begun, usage_named, wish_as};
+ghost use Rattle.command_line.specs.Programs.{AsksFor, AsksInPlace, HasSubcommand, IsHelpArgument, IsMisread, Wish, command, has_options, program_as, subcommand_named, stray_option, usage_begun, usage_named, wish_as};
 ghost use Rattle.command_line.specs.declared.mistakes.Mistake.TheVariants.{Memory};
-ghost use Rattle.command_line.specs.Tables.{is_option, with_row};
+ghost use Rattle.command_line.specs.Tables.{is_option, with_subcommand_named};
 
 use crate::arguments::Found;
 use crate::mistakes::Mistake;
-use crate::plain::{first_word, has_dashes, odd_word};
-use crate::tables::{Kind, Unread, named_command, parse, with_row};
+use crate::plain::{first_argument, has_dashes, odd_argument};
+use crate::tables::{Kind, Unread, named_command, parse, with_subcommand_named};
 use clap::{ArgMatches, Command};
 use std::alloc::{AllocError, Global};
 
-/// A row of a program.
+/// How a subcommand of a program is written.
 #[derive(Clone, Copy)]
-pub struct Line<R> {
-    /// The row.
-    pub row: R,
-    /// Its name, which is the first word.
+pub struct Syntax<R> {
+    /// The subcommand.
+    pub subcommand: R,
+    /// Its name, which is the first argument.
     pub name: &'static str,
     /// Its arguments in order, each by its name.
     pub arguments: &'static [(&'static str, Kind)],
-    /// Its name and what belongs after it, as they are told where other words came.
+    /// Its name and what belongs after it, as they are told where other arguments came.
     pub usage: &'static str,
 }
 
-/// A program by its words.
+/// A program by its arguments.
 pub struct Program<R: 'static> {
     /// The program's name.
     pub name: &'static str,
-    /// Its rows.
-    pub rows: &'static [Line<R>],
+    /// Its subcommands.
+    pub subcommands: &'static [Syntax<R>],
 }
 
-/// What words ask for.
+/// What arguments ask for.
 #[derive(Drop)]
 pub enum Asked<'a, R: Drop> {
-    /// The help of a row, or the whole help.
+    /// The help of a subcommand, or the whole help.
     Help(Option<R>),
     /// The version.
     Version,
-    /// A row, with what was found of its arguments.
-    Row(R, Found<'a>),
+    /// A subcommand, with what was found of its arguments.
+    Subcommand(R, Found<'a>),
 }
 
-/// The first line with this name.
-fn line_in<'a, R>(rows: &'a [Line<R>], word: &str) -> Option<&'a Line<R>>
-    ensures { option_map (λ line. line.now) result
-        ≡ find (λ line. bytes_eq line.name.now word.now) rows.entry.now }
+/// How the first subcommand with this name is written.
+fn syntax_in<'a, R>(subcommands: &'a [Syntax<R>], argument: &str) -> Option<&'a Syntax<R>>
+    ensures { option_map (λ syntax. syntax.now) result
+        ≡ find (λ syntax. bytes_eq syntax.name.now argument.now) subcommands.entry.now }
 {
-    rows.iter().find(|line| line.name == word)
+    subcommands.iter().find(|syntax| syntax.name == argument)
 }
 
-/// The row with this name, and how it is used.
-pub(crate) fn row_named<R: Copy>(program: &Program<R>, word: &str) -> Option<(R, &'static str)>
-    ensures row { option_map (λ p. p.0) result ≡ row_named (program_as program.now) word.now }
+/// The subcommand with this name, and how it is used.
+pub(crate) fn subcommand_named<R: Copy>(
+    program: &Program<R>,
+    argument: &str,
+) -> Option<(R, &'static str)>
+    ensures subcommand { option_map (λ p. p.0) result ≡ subcommand_named (program_as program.now) argument.now }
     ensures usage { option_map (λ p. p.1.now) result
-        ≡ usage_named (program_as program.now) word.now }
+        ≡ usage_named (program_as program.now) argument.now }
 {
-    match line_in(program.rows, word) {
-        Some(line) => Some((line.row, line.usage)),
+    match syntax_in(program.subcommands, argument) {
+        Some(syntax) => Some((syntax.subcommand, syntax.usage)),
         None => None,
     }
 }
 
-/// The command with these rows.
-fn with_rows<'a, R>(
+/// The command with these subcommands.
+fn with_subcommands<'a, R>(
     alloc: Global,
     command: Command<'a>,
-    rows: &[Line<R>],
+    subcommands: &[Syntax<R>],
 ) -> Result<Command<'a>, AllocError>
     ensures { IfOk result (λ c. app_of c ≡ fold
-        (λ a line. with_row a line.name.now (map (λ g. (g.0.now, g.1)) line.arguments.now))
-        (app_of command.entry) rows.now) }
+        (λ a syntax. with_subcommand_named a syntax.name.now (map (λ g. (g.0.now, g.1)) syntax.arguments.now))
+        (app_of command.entry) subcommands.now) }
 {
     let mut command = command;
-    for line in rows {
-        command = with_row(alloc, command, line.name, line.arguments)?;
+    for syntax in subcommands {
+        command = with_subcommand_named(alloc, command, syntax.name, syntax.arguments)?;
     }
     Ok(command)
 }
 
-/// The program's command: its rows, and no help of clap's own.
+/// The program's command: its subcommands, and no help of clap's own.
 fn command_of<'a, R>(alloc: Global, program: &Program<R>) -> Result<Command<'a>, AllocError>
     ensures { IfOk result (λ c. app_of c ≡ command (program_as program.now)) }
 {
-    with_rows(alloc, named_command(alloc, program.name), program.rows)
+    with_subcommands(
+        alloc,
+        named_command(alloc, program.name),
+        program.subcommands,
+    )
 }
 
-/// Whether a word asks for help.
-fn is_help_word(word: &str) -> bool
-    ensures help { result ≡ true → IsHelpWord word.now }
-    ensures other { result ≡ false → ¬ IsHelpWord word.now }
+/// Whether an argument asks for help.
+fn is_help_argument(argument: &str) -> bool
+    ensures help { result ≡ true → IsHelpArgument argument.now }
+    ensures other { result ≡ false → ¬ IsHelpArgument argument.now }
 {
-    word == "--help" || word == "-h"
+    argument == "--help" || argument == "-h"
 }
 
-/// What one word asks for in place of a row.
-fn wish_alone<'a, R: Copy>(program: &Program<R>, word: &str) -> Option<Asked<'a, R>>
+/// What one argument asks for in place of a subcommand.
+fn wish_alone<'a, R: Copy>(program: &Program<R>, argument: &str) -> Option<Asked<'a, R>>
     ensures some { IfSome result (λ asked.
-        AsksFor (program_as program.now) (word.now ∷ []) (wish_as asked)) }
+        AsksFor (program_as program.now) (argument.now ∷ []) (wish_as asked)) }
     ensures none { IfNone result ((wish : Wish R)
-        → ¬ AsksInPlace (program_as program.now) (word.now ∷ []) wish) }
+        → ¬ AsksInPlace (program_as program.now) (argument.now ∷ []) wish) }
     ensures one { IfSome result (λ asked. (wish : Wish R)
-        → AsksInPlace (program_as program.now) (word.now ∷ []) wish → wish_as asked ≡ wish) }
+        → AsksInPlace (program_as program.now) (argument.now ∷ []) wish → wish_as asked ≡ wish) }
 {
-    if is_help_word(word) {
+    if is_help_argument(argument) {
         return Some(Asked::Help(None));
     }
-    if word == "--version" {
+    if argument == "--version" {
         return Some(Asked::Version);
     }
     None
 }
 
-/// What two words ask for in place of a row: the help of the row that the first names.
-fn wish_after<'a, R: Copy>(program: &Program<R>, name: &str, word: &str) -> Option<Asked<'a, R>>
+/// What two arguments ask for in place of a subcommand: the help of the subcommand that the first
+/// names.
+fn wish_after<'a, R: Copy>(program: &Program<R>, name: &str, argument: &str) -> Option<Asked<'a, R>>
     ensures some { IfSome result (λ asked.
-        AsksFor (program_as program.now) (name.now ∷ word.now ∷ []) (wish_as asked)) }
+        AsksFor (program_as program.now) (name.now ∷ argument.now ∷ []) (wish_as asked)) }
     ensures none { IfNone result ((wish : Wish R)
-        → ¬ AsksInPlace (program_as program.now) (name.now ∷ word.now ∷ []) wish) }
+        → ¬ AsksInPlace (program_as program.now) (name.now ∷ argument.now ∷ []) wish) }
     ensures one { IfSome result (λ asked. (wish : Wish R)
-        → AsksInPlace (program_as program.now) (name.now ∷ word.now ∷ []) wish
+        → AsksInPlace (program_as program.now) (name.now ∷ argument.now ∷ []) wish
         → wish_as asked ≡ wish) }
 {
-    if !is_help_word(word) {
+    if !is_help_argument(argument) {
         return None;
     }
-    match row_named(program, name) {
-        Some((row, _)) => Some(Asked::Help(Some(row))),
+    match subcommand_named(program, name) {
+        Some((subcommand, _)) => Some(Asked::Help(Some(subcommand))),
         None => None,
     }
 }
 
-/// What words ask for in place of a row.
-fn wish_in<'a, R: Copy>(program: &Program<R>, words: &[String]) -> Option<Asked<'a, R>>
+/// What arguments ask for in place of a subcommand.
+fn wish_in<'a, R: Copy>(program: &Program<R>, arguments: &[String]) -> Option<Asked<'a, R>>
     ensures some { IfSome result (λ asked.
-        AsksFor (program_as program.now) (texts words.now) (wish_as asked)) }
+        AsksFor (program_as program.now) (texts arguments.now) (wish_as asked)) }
     ensures none { IfNone result ((wish : Wish R)
-        → ¬ AsksInPlace (program_as program.now) (texts words.now) wish) }
+        → ¬ AsksInPlace (program_as program.now) (texts arguments.now) wish) }
     ensures one { IfSome result (λ asked. (wish : Wish R)
-        → AsksInPlace (program_as program.now) (texts words.now) wish → wish_as asked ≡ wish) }
+        → AsksInPlace (program_as program.now) (texts arguments.now) wish → wish_as asked ≡ wish) }
 {
-    match words {
-        [word] => wish_alone(program, word.as_str()),
-        [name, word] => wish_after(program, name.as_str(), word.as_str()),
+    match arguments {
+        [argument] => wish_alone(program, argument.as_str()),
+        [name, argument] => wish_after(program, name.as_str(), argument.as_str()),
         _ => None,
     }
 }
 
-/// How the row is used that words begin with, if they begin with one.
-fn usage_begun<R: Copy>(program: &Program<R>, words: &[String]) -> Option<&'static str>
+/// How the subcommand is used that arguments begin with, if they begin with one.
+fn usage_begun<R: Copy>(program: &Program<R>, arguments: &[String]) -> Option<&'static str>
     ensures { option_map (λ usage. usage.now) result
-        ≡ usage_begun (program_as program.now) (texts words.now) }
+        ≡ usage_begun (program_as program.now) (texts arguments.now) }
 {
-    let Some((word, _)) = first_word(words) else {
+    let Some((argument, _)) = first_argument(arguments) else {
         return None;
     };
-    match row_named(program, word) {
+    match subcommand_named(program, argument) {
         Some((_, usage)) => Some(usage),
         None => None,
     }
@@ -175,116 +183,117 @@ fn is_option_among(arguments: &[(&'static str, Kind)]) -> bool
     arguments.iter().any(|one| one.1.is_option())
 }
 
-/// Whether the row with this name has an option.
-fn has_options<R>(program: &Program<R>, word: &str) -> bool
-    ensures { result ≡ has_options (program_as program.now) word.now }
+/// Whether the subcommand with this name has an option.
+fn has_options<R>(program: &Program<R>, argument: &str) -> bool
+    ensures { result ≡ has_options (program_as program.now) argument.now }
 {
-    match line_in(program.rows, word) {
-        Some(line) => is_option_among(line.arguments),
+    match syntax_in(program.subcommands, argument) {
+        Some(syntax) => is_option_among(syntax.arguments),
         None => false,
     }
 }
 
-/// The first word that begins with a hyphen, where the row has no options whose name comes first,
-/// and `--` does not come behind that.
-fn stray_option<'a, R: Copy>(program: &Program<R>, words: &'a [String]) -> Option<&'a str>
-    ensures { option_map (λ word. word.now) result
-        ≡ stray_option (program_as program.now) (texts words.entry.now) }
+/// The first argument that begins with a hyphen, where the subcommand has no options whose name
+/// comes first, and `--` does not come behind that.
+fn stray_option<'a, R: Copy>(program: &Program<R>, arguments: &'a [String]) -> Option<&'a str>
+    ensures { option_map (λ argument. argument.now) result
+        ≡ stray_option (program_as program.now) (texts arguments.entry.now) }
 {
-    let Some((name, _)) = first_word(words) else {
+    let Some((name, _)) = first_argument(arguments) else {
         return None;
     };
-    if has_dashes(program, words) || has_options(program, name) {
+    if has_dashes(program, arguments) || has_options(program, name) {
         return None;
     }
-    odd_word(words)
+    odd_argument(arguments)
 }
 
-/// The mistake of words that ask for nothing.
-pub(crate) fn mistake_in<'a, R: Copy>(program: &Program<R>, words: &'a [String]) -> Mistake<'a>
-    ensures { IsMisread (program_as program.now) (texts words.entry.now) result }
+/// The mistake of arguments that ask for nothing.
+pub(crate) fn mistake_in<'a, R: Copy>(program: &Program<R>, arguments: &'a [String]) -> Mistake<'a>
+    ensures { IsMisread (program_as program.now) (texts arguments.entry.now) result }
 {
-    let Some(usage) = usage_begun(program, words) else {
-        return Mistake::Row;
+    let Some(usage) = usage_begun(program, arguments) else {
+        return Mistake::Subcommand;
     };
-    match stray_option(program, words) {
-        Some(word) => Mistake::Hyphen(word, usage),
+    match stray_option(program, arguments) {
+        Some(argument) => Mistake::Hyphen(argument, usage),
         None => Mistake::Arguments(usage),
     }
 }
 
-/// What clap finds in words by the program's command.
+/// What clap finds in arguments by the program's command.
 fn matches_in<'a, R: Copy>(
     alloc: Global,
     program: &Program<R>,
-    words: &'a [String],
+    arguments: &'a [String],
 ) -> Result<ArgMatches<'a>, Mistake<'a>>
     requires simple { is_simple (command (program_as program.now)) ≡ true }
     requires free { is_simple_and_free (command (program_as program.now)) ≡ true }
     ensures ok { IfOk result (λ m.
-        (fault_of (command (program_as program.now)) (texts words.entry.now) ≡ [])
+        (fault_of (command (program_as program.now)) (texts arguments.entry.now) ≡ [])
         × (subcommand_rows_of m
-        ≡ subcommand_of (command (program_as program.now)) (texts words.entry.now))) }
+        ≡ subcommand_of (command (program_as program.now)) (texts arguments.entry.now))) }
     ensures err { IfErr result (λ mistake. (mistake ≡ Memory)
-        ⊎ (fault_of (command (program_as program.now)) (texts words.entry.now) ≢ [])) }
+        ⊎ (fault_of (command (program_as program.now)) (texts arguments.entry.now) ≢ [])) }
     ensures mistake { IfErr result (λ mistake. (mistake ≡ Memory)
-        ⊎ IsMisread (program_as program.now) (texts words.entry.now) mistake) }
+        ⊎ IsMisread (program_as program.now) (texts arguments.entry.now) mistake) }
 {
-    match parse(command_of(alloc, program)?, words) {
+    match parse(command_of(alloc, program)?, arguments) {
         Ok(matches) => Ok(matches),
         Err(Unread::Memory) => Err(Mistake::Memory),
-        Err(Unread::Words) => Err(mistake_in(program, words)),
+        Err(Unread::Arguments) => Err(mistake_in(program, arguments)),
     }
 }
 
-/// The row that clap finds in words by the program's command.
-fn row_in<'a, R: Copy>(
+/// The subcommand that clap finds in arguments by the program's command.
+fn subcommand_in<'a, R: Copy>(
     alloc: Global,
     program: &Program<R>,
-    words: &'a [String],
+    arguments: &'a [String],
 ) -> Result<Asked<'a, R>, Mistake<'a>>
     requires simple { is_simple (command (program_as program.now)) ≡ true }
     requires free { is_simple_and_free (command (program_as program.now)) ≡ true }
     ensures ok { IfOk result (λ asked.
-        AsksFor (program_as program.now) (texts words.entry.now) (wish_as asked)) }
+        AsksFor (program_as program.now) (texts arguments.entry.now) (wish_as asked)) }
     ensures err { IfErr result (λ mistake. (mistake ≡ Memory)
-        ⊎ ((row : R) → (found : List Row)
-        → ¬ HasRow (program_as program.now) (texts words.entry.now) row found)) }
+        ⊎ ((subcommand : R) → (found : List Row)
+        → ¬ HasSubcommand (program_as program.now) (texts arguments.entry.now) subcommand found)) }
     ensures mistake { IfErr result (λ mistake. (mistake ≡ Memory)
-        ⊎ IsMisread (program_as program.now) (texts words.entry.now) mistake) }
+        ⊎ IsMisread (program_as program.now) (texts arguments.entry.now) mistake) }
 {
-    let mut matches = matches_in(alloc, program, words)?;
+    let mut matches = matches_in(alloc, program, arguments)?;
     let Some((name, inner)) = matches.remove_subcommand() else {
-        return Err(mistake_in(program, words));
+        return Err(mistake_in(program, arguments));
     };
-    match row_named(program, name) {
-        Some((row, usage)) => Ok(Asked::Row(row, Found::of(inner, usage))),
-        None => Err(mistake_in(program, words)),
+    match subcommand_named(program, name) {
+        Some((subcommand, usage)) => Ok(Asked::Subcommand(subcommand, Found::of(inner, usage))),
+        None => Err(mistake_in(program, arguments)),
     }
 }
 
-/// Returns what words ask for, by a program's table of rows, or else what is wrong with them.
+/// Returns what arguments ask for, by a program's table of subcommands, or else what is wrong with
+/// them.
 pub fn asked_by<'a, R: Copy>(
     alloc: Global,
     program: &Program<R>,
-    words: &'a [String],
+    arguments: &'a [String],
 ) -> Result<Asked<'a, R>, Mistake<'a>>
     requires simple { is_simple (command (program_as program.now)) ≡ true }
     requires free { is_simple_and_free (command (program_as program.now)) ≡ true }
     ensures ok { IfOk result (λ asked.
-        AsksFor (program_as program.now) (texts words.entry.now) (wish_as asked)) }
+        AsksFor (program_as program.now) (texts arguments.entry.now) (wish_as asked)) }
     ensures err { IfErr result (λ mistake. (wish : Wish R)
-        → AsksFor (program_as program.now) (texts words.entry.now) wish → mistake ≡ Memory) }
+        → AsksFor (program_as program.now) (texts arguments.entry.now) wish → mistake ≡ Memory) }
     ensures in_place { IfOk result (λ asked. (wish : Wish R)
-        → AsksInPlace (program_as program.now) (texts words.entry.now) wish
+        → AsksInPlace (program_as program.now) (texts arguments.entry.now) wish
         → wish_as asked ≡ wish) }
     ensures never { IfErr result (λ _. (wish : Wish R)
-        → ¬ AsksInPlace (program_as program.now) (texts words.entry.now) wish) }
+        → ¬ AsksInPlace (program_as program.now) (texts arguments.entry.now) wish) }
     ensures mistake { IfErr result (λ mistake. (mistake ≡ Memory)
-        ⊎ IsMisread (program_as program.now) (texts words.entry.now) mistake) }
+        ⊎ IsMisread (program_as program.now) (texts arguments.entry.now) mistake) }
 {
-    match wish_in(program, words) {
+    match wish_in(program, arguments) {
         Some(asked) => Ok(asked),
-        None => row_in(alloc, program, words),
+        None => subcommand_in(alloc, program, arguments),
     }
 }

@@ -14,7 +14,7 @@ pub enum Status {
     Done,
     /// A fault or a refusal was printed, or a machine that ran is not at a halt.
     NotDone,
-    /// The words do not ask for a task.
+    /// The arguments do not ask for a task.
     Misused,
     /// The bureau's file could not be used.
     Unusable,
@@ -34,7 +34,8 @@ impl Status {
     }
 }
 
-/// The exit status of an outcome. An error is one of [`Unfailing`](crate::Unfailing), which has none.
+/// The exit status of an outcome. An error is one of [`Unfailing`](crate::Unfailing), which has
+/// none.
 pub fn exit_code(outcome: io::Result<Status>) -> ExitCode
     ensures ok { IfOk outcome (λ status. exit_status result ≡ status_code status) }
     ensures err { IfErr outcome (λ _. exit_status result ≡ status_code Status.NotDone) }

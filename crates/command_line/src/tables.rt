@@ -1,17 +1,17 @@
-//! Commands of clap that are made from rows, and what clap finds in words by them.
+//! Commands of clap that are made from subcommands, and what clap finds in arguments by them.
 
 ghost use Rattle.std.specs.Prelude.{◌≡◌, ◌≢◌, ◌⊎◌, [], true, false, IfOk, IfErr, map};
 ghost use Rattle.clap.specs.Words.{app_of, fault_of, is_simple_and_free, rule_of, subcommand_of, subcommand_rows_of};
 ghost use Rattle.clap.specs.Simple.{is_simple};
 ghost use Rattle.command_line.specs.Plain.{texts};
-ghost use Rattle.command_line.specs.Tables.{named, row_app, rule_for, with_row, IsLocal};
+ghost use Rattle.command_line.specs.Tables.{named, subcommand_app, rule_for, with_subcommand_named, IsLocal};
 ghost use Rattle.command_line.specs.declared.tables.Unread.TheVariants as unread;
 
 use clap::error::ErrorKind;
 use clap::{Arg, ArgAction, ArgMatches, Command};
 use std::alloc::{AllocError, Global};
 
-/// What an argument of a row is.
+/// What an argument of a subcommand is.
 #[derive(Clone, Copy)]
 pub enum Kind {
     /// A value at its place.
@@ -52,14 +52,14 @@ fn argument<'a>(alloc: Global, name: &'a str, kind: Kind) -> Arg<'a>
     }
 }
 
-/// A row with these arguments.
-fn row<'a>(
+/// A subcommand with these arguments.
+fn command_for<'a>(
     alloc: Global,
     name: &'a str,
     arguments: &[(&'a str, Kind)],
 ) -> Result<Command<'a>, AllocError>
     ensures { IfOk result (λ c. (app_of c
-        ≡ row_app name.entry.now (map (λ a. (a.0.now, a.1)) arguments.now)) × IsLocal c) }
+        ≡ subcommand_app name.entry.now (map (λ a. (a.0.now, a.1)) arguments.now)) × IsLocal c) }
 {
     let mut command = Command::new(alloc, name);
     for one in arguments {
@@ -68,21 +68,21 @@ fn row<'a>(
     Ok(command)
 }
 
-/// Returns the command with one more row. Fails only if there is no memory.
-pub(crate) fn with_row<'a>(
+/// Returns the command with one more subcommand. Fails only if there is no memory.
+pub(crate) fn with_subcommand_named<'a>(
     alloc: Global,
     command: Command<'a>,
     name: &'a str,
     arguments: &[(&'a str, Kind)],
 ) -> Result<Command<'a>, AllocError>
-    ensures { IfOk result (λ c. app_of c ≡ with_row (app_of command.entry) name.entry.now
+    ensures { IfOk result (λ c. app_of c ≡ with_subcommand_named (app_of command.entry) name.entry.now
         (map (λ a. (a.0.now, a.1)) arguments.now)) }
 {
-    command.subcommand(row(alloc, name, arguments)?)
+    command.subcommand(command_for(alloc, name, arguments)?)
 }
 
-/// Returns the command of this name without rows: it takes no program's name as the first word, and
-/// has no help of clap's own.
+/// Returns the command of this name without subcommands: it takes no program's name as the first
+/// argument, and has no help of clap's own.
 pub(crate) fn named_command<'a>(alloc: Global, name: &'a str) -> Command<'a>
     ensures { app_of result ≡ named name.entry.now }
 {
@@ -92,34 +92,37 @@ pub(crate) fn named_command<'a>(alloc: Global, name: &'a str) -> Command<'a>
         .disable_help_subcommand(true)
 }
 
-/// Why clap found nothing in words.
+/// Why clap found nothing in arguments.
 #[derive(Clone, Copy)]
 pub(crate) enum Unread {
     /// There is no memory.
     Memory,
-    /// They are not those of a row.
-    Words,
+    /// They are not those of a subcommand.
+    Arguments,
 }
 
-/// Returns what clap finds in words by a command. The error is that there is no memory, or that the
-/// words have a fault.
-pub(crate) fn parse<'a>(command: Command<'a>, words: &'a [String]) -> Result<ArgMatches<'a>, Unread>
+/// Returns what clap finds in arguments by a command. The error is that there is no memory, or that
+/// the arguments have a fault.
+pub(crate) fn parse<'a>(
+    command: Command<'a>,
+    arguments: &'a [String],
+) -> Result<ArgMatches<'a>, Unread>
     requires simple { is_simple (app_of command) ≡ true }
     requires free { is_simple_and_free (app_of command) ≡ true }
     ensures ok { IfOk result (λ m.
-        (fault_of (app_of command.entry) (texts words.entry.now) ≡ [])
+        (fault_of (app_of command.entry) (texts arguments.entry.now) ≡ [])
         × (subcommand_rows_of m
-        ≡ subcommand_of (app_of command.entry) (texts words.entry.now))) }
+        ≡ subcommand_of (app_of command.entry) (texts arguments.entry.now))) }
     ensures err { IfErr result (λ why. (why ≡ unread.Memory)
-        ⊎ (fault_of (app_of command.entry) (texts words.entry.now) ≢ [])) }
+        ⊎ (fault_of (app_of command.entry) (texts arguments.entry.now) ≢ [])) }
 {
-    match command.try_get_matches_from(words) {
+    match command.try_get_matches_from(arguments) {
         Ok(matches) => Ok(matches),
         Err(error) => {
             if error.kind() == ErrorKind::OutOfMemory {
                 Err(Unread::Memory)
             } else {
-                Err(Unread::Words)
+                Err(Unread::Arguments)
             }
         }
     }

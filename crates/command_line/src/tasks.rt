@@ -1,4 +1,4 @@
-//! What the program's words ask for, with their values read.
+//! What the program's arguments ask for, with their values read.
 
 ghost use Rattle.std.specs.Prelude.{◌≡◌, ◌↔◌, ◌⊎◌, ◌∷◌, [], true, false, Option, IfOk, IfErr, Ok, unwrap_or};
 ghost use Rattle.clap.specs.Words.{first_of};
@@ -6,10 +6,10 @@ ghost use Rattle.command_line.specs.Arguments.{given};
 ghost use Rattle.command_line.specs.Asked.{IsHelp, values_found};
 ghost use Rattle.command_line.specs.Plain.{texts};
 ghost use Rattle.command_line.specs.Programs.{AsksFor, AsksInPlace, IsMisread, IsVersion, Wish, is_clear, wish_as};
-ghost use Rattle.command_line.specs.Rows.{bureau};
-ghost use Rattle.command_line.specs.Tasks.{IsMistake, IsRowMistake, IsServeMistake, IsValueMistake, Wants, WantsRow};
+ghost use Rattle.command_line.specs.Subcommands.{bureau};
+ghost use Rattle.command_line.specs.Tasks.{IsMistake, IsSubcommandMistake, IsServeMistake, IsValueMistake, Wants, WantsSubcommand};
 ghost use Rattle.command_line.specs.declared.mistakes.Mistake.TheVariants.{Memory};
-ghost use Rattle.command_line.specs.declared.rows.RowName.{RowName};
+ghost use Rattle.command_line.specs.declared.subcommands.Subcommand.{Subcommand};
 ghost use Rattle.command_line.specs.declared.tasks.Task.{Task};
 
 use crate::arguments::Found;
@@ -17,7 +17,7 @@ use crate::mistakes::Mistake;
 use crate::plain::is_clear;
 use crate::ports::{count_of, port_of};
 use crate::programs::{Asked, asked_by, mistake_in};
-use crate::rows::{BUREAU, RowName};
+use crate::subcommands::{BUREAU, Subcommand};
 use core_store::Size;
 use std::alloc::Global;
 use texts::{number_or_zero, size_of, switches_of};
@@ -35,8 +35,8 @@ pub enum Input<'a> {
 /// What the program is to do.
 #[derive(Clone, Copy)]
 pub enum Task<'a> {
-    /// Print the help of a row, or the whole help.
-    Help(Option<RowName>),
+    /// Print the help of a subcommand, or the whole help.
+    Help(Option<Subcommand>),
     /// Print the version.
     Version,
     /// Run a deck without a bureau.
@@ -101,7 +101,8 @@ const NO_PORT: &str = "PORT must be a number from 1 to 65535";
 /// What is said of a text that is no number of connections.
 const NO_COUNT: &str = "COUNT must be a number from 1 to 1000000";
 
-/// The value with a name. It is empty where there is none; clap takes no row without its values.
+/// The value with a name. It is empty where there is none; clap takes no subcommand without its
+/// values.
 fn value_of<'a>(found: &Found<'a>, name: &str) -> &'a str
     ensures { result.now ≡ unwrap_or (first_of name.now (given found.now)) [] }
 {
@@ -111,10 +112,10 @@ fn value_of<'a>(found: &Found<'a>, name: &str) -> &'a str
     }
 }
 
-/// The task of a row `run`.
+/// The task of a subcommand `run`.
 fn run_task<'a>(deck: &'a str, size: &str, switches: &str) -> Result<Task<'a>, Mistake<'a>>
     ensures ok { IfOk result
-        (WantsRow RowName.Run (deck.entry.now ∷ size.now ∷ switches.now ∷ [])) }
+        (WantsSubcommand Subcommand.Run (deck.entry.now ∷ size.now ∷ switches.now ∷ [])) }
     ensures mistake { IfErr result (IsValueMistake size.now switches.now) }
 {
     let size = size_of(size).ok_or(Mistake::Value(SIZE_COMPLAINT))?;
@@ -126,10 +127,10 @@ fn run_task<'a>(deck: &'a str, size: &str, switches: &str) -> Result<Task<'a>, M
     })
 }
 
-/// The task of a row `serve`.
+/// The task of a subcommand `serve`.
 fn serve_task<'a>(file: &'a str, port: &str, count: &str) -> Result<Task<'a>, Mistake<'a>>
     ensures ok { IfOk result
-        (WantsRow RowName.Serve (file.entry.now ∷ port.now ∷ count.now ∷ [])) }
+        (WantsSubcommand Subcommand.Serve (file.entry.now ∷ port.now ∷ count.now ∷ [])) }
     ensures mistake { IfErr result (IsServeMistake port.now count.now) }
 {
     let port = port_of(port).ok_or(Mistake::Value(NO_PORT))?;
@@ -137,9 +138,9 @@ fn serve_task<'a>(file: &'a str, port: &str, count: &str) -> Result<Task<'a>, Mi
     Ok(Task::Serve { file, port, count })
 }
 
-/// The task of a row `export`.
+/// The task of a subcommand `export`.
 fn export_task<'a>(file: &'a str, customer: &'a str, number: &str) -> Task<'a>
-    ensures { WantsRow RowName.Export
+    ensures { WantsSubcommand Subcommand.Export
         (file.entry.now ∷ customer.entry.now ∷ number.now ∷ []) result }
 {
     Task::Export {
@@ -149,37 +150,37 @@ fn export_task<'a>(file: &'a str, customer: &'a str, number: &str) -> Task<'a>
     }
 }
 
-/// The task of a row, by what clap found after its name.
-fn row_task<'a>(row: RowName, found: &Found<'a>) -> Result<Task<'a>, Mistake<'a>>
-    ensures ok { IfOk result (WantsRow row (values_found (given found.now) row)) }
-    ensures mistake { IfErr result (IsRowMistake row (values_found (given found.now) row)) }
+/// The task of a subcommand, by what clap found after its name.
+fn subcommand_task<'a>(subcommand: Subcommand, found: &Found<'a>) -> Result<Task<'a>, Mistake<'a>>
+    ensures ok { IfOk result (WantsSubcommand subcommand (values_found (given found.now) subcommand)) }
+    ensures mistake { IfErr result (IsSubcommandMistake subcommand (values_found (given found.now) subcommand)) }
 {
-    match row {
-        RowName::Run => run_task(
+    match subcommand {
+        Subcommand::Run => run_task(
             value_of(found, "DECK"),
             value_of(found, "SIZE"),
             value_of(found, "SWITCHES"),
         ),
-        RowName::Assemble => Ok(Task::Assemble {
+        Subcommand::Assemble => Ok(Task::Assemble {
             source: value_of(found, "IN"),
             out: value_of(found, "OUT"),
         }),
-        RowName::Init => Ok(Task::Init {
+        Subcommand::Init => Ok(Task::Init {
             file: value_of(found, "FILE"),
         }),
-        RowName::Apply => Ok(Task::Apply {
+        Subcommand::Apply => Ok(Task::Apply {
             file: value_of(found, "FILE"),
             script: value_of(found, "SCRIPT"),
         }),
-        RowName::Export => Ok(export_task(
+        Subcommand::Export => Ok(export_task(
             value_of(found, "FILE"),
             value_of(found, "CUSTOMER"),
             value_of(found, "NUMBER"),
         )),
-        RowName::Migrate => Ok(Task::Migrate {
+        Subcommand::Migrate => Ok(Task::Migrate {
             file: value_of(found, "FILE"),
         }),
-        RowName::Serve => serve_task(
+        Subcommand::Serve => serve_task(
             value_of(found, "FILE"),
             value_of(found, "PORT"),
             value_of(found, "COUNT"),
@@ -187,63 +188,63 @@ fn row_task<'a>(row: RowName, found: &Found<'a>) -> Result<Task<'a>, Mistake<'a>
     }
 }
 
-/// The task of a row by words that have it, unless one of them is an option.
+/// The task of a subcommand by arguments that have it, unless one of them is an option.
 fn clear_task<'a>(
-    words: &'a [String],
-    row: RowName,
+    arguments: &'a [String],
+    subcommand: Subcommand,
     found: &Found<'a>,
 ) -> Result<Task<'a>, Mistake<'a>>
-    ensures ok { IfOk result (λ task. (is_clear bureau (texts words.now) ≡ true)
-        × WantsRow row (values_found (given found.now) row) task) }
+    ensures ok { IfOk result (λ task. (is_clear bureau (texts arguments.now) ≡ true)
+        × WantsSubcommand subcommand (values_found (given found.now) subcommand) task) }
     ensures mistake { IfErr result (λ mistake.
-        ((is_clear bureau (texts words.now) ≡ false)
-        × IsMisread bureau (texts words.now) mistake)
-        ⊎ ((is_clear bureau (texts words.now) ≡ true)
-        × IsRowMistake row (values_found (given found.now) row) mistake)) }
+        ((is_clear bureau (texts arguments.now) ≡ false)
+        × IsMisread bureau (texts arguments.now) mistake)
+        ⊎ ((is_clear bureau (texts arguments.now) ≡ true)
+        × IsSubcommandMistake subcommand (values_found (given found.now) subcommand) mistake)) }
 {
-    if !is_clear(&BUREAU, words) {
-        return Err(mistake_in(&BUREAU, words));
+    if !is_clear(&BUREAU, arguments) {
+        return Err(mistake_in(&BUREAU, arguments));
     }
-    row_task(row, found)
+    subcommand_task(subcommand, found)
 }
 
-/// What words ask for by the table.
-fn wish_of<'a>(alloc: Global, words: &'a [String]) -> Result<Asked<'a, RowName>, Mistake<'a>>
-    ensures ok { IfOk result (λ asked. AsksFor bureau (texts words.entry.now) (wish_as asked)) }
-    ensures err { IfErr result (λ mistake. (wish : Wish RowName) →
-        AsksFor bureau (texts words.entry.now) wish → mistake ≡ Memory) }
-    ensures in_place { IfOk result (λ asked. (wish : Wish RowName) →
-        AsksInPlace bureau (texts words.entry.now) wish → wish_as asked ≡ wish) }
-    ensures never { IfErr result (λ _. (wish : Wish RowName) →
-        ¬ AsksInPlace bureau (texts words.entry.now) wish) }
+/// What arguments ask for by the table.
+fn wish_of<'a>(alloc: Global, arguments: &'a [String]) -> Result<Asked<'a, Subcommand>, Mistake<'a>>
+    ensures ok { IfOk result (λ asked. AsksFor bureau (texts arguments.entry.now) (wish_as asked)) }
+    ensures err { IfErr result (λ mistake. (wish : Wish Subcommand) →
+        AsksFor bureau (texts arguments.entry.now) wish → mistake ≡ Memory) }
+    ensures in_place { IfOk result (λ asked. (wish : Wish Subcommand) →
+        AsksInPlace bureau (texts arguments.entry.now) wish → wish_as asked ≡ wish) }
+    ensures never { IfErr result (λ _. (wish : Wish Subcommand) →
+        ¬ AsksInPlace bureau (texts arguments.entry.now) wish) }
     ensures mistake { IfErr result (λ mistake. (mistake ≡ Memory)
-        ⊎ IsMisread bureau (texts words.entry.now) mistake) }
+        ⊎ IsMisread bureau (texts arguments.entry.now) mistake) }
 {
-    asked_by(alloc, &BUREAU, words)
+    asked_by(alloc, &BUREAU, arguments)
 }
 
-/// Returns the task that the words ask for, or else what is wrong with them.
+/// Returns the task that the arguments ask for, or else what is wrong with them.
 #[tactic(auto, unfolding(texts::specs::Switches::letters_of))]
-pub fn task_of<'a>(alloc: Global, words: &'a [String]) -> Result<Task<'a>, Mistake<'a>>
-    ensures ok { IfOk result (Wants (texts words.entry.now)) }
-    ensures err { IfErr result (λ mistake. (task : Task) → Wants (texts words.entry.now) task
+pub fn task_of<'a>(alloc: Global, arguments: &'a [String]) -> Result<Task<'a>, Mistake<'a>>
+    ensures ok { IfOk result (Wants (texts arguments.entry.now)) }
+    ensures err { IfErr result (λ mistake. (task : Task) → Wants (texts arguments.entry.now) task
         → mistake ≡ Memory) }
-    ensures help { (row : Option RowName) →
-        (result ≡ Ok (Task.Help row)) ↔ IsHelp row (texts words.entry.now) }
-    ensures version { (result ≡ Ok Task.Version) ↔ IsVersion (texts words.entry.now) }
-    ensures mistake { IfErr result (IsMistake (texts words.entry.now)) }
+    ensures help { (subcommand : Option Subcommand) →
+        (result ≡ Ok (Task.Help subcommand)) ↔ IsHelp subcommand (texts arguments.entry.now) }
+    ensures version { (result ≡ Ok Task.Version) ↔ IsVersion (texts arguments.entry.now) }
+    ensures mistake { IfErr result (IsMistake (texts arguments.entry.now)) }
 {
-    if words.is_empty() {
+    if arguments.is_empty() {
         return Ok(Task::Run {
             deck: Input::Standard,
             size: Size::Positions4000,
             switches: Switches::A,
         });
     }
-    match wish_of(alloc, words) {
-        Ok(Asked::Help(row)) => Ok(Task::Help(row)),
+    match wish_of(alloc, arguments) {
+        Ok(Asked::Help(subcommand)) => Ok(Task::Help(subcommand)),
         Ok(Asked::Version) => Ok(Task::Version),
-        Ok(Asked::Row(row, found)) => clear_task(words, row, &found),
+        Ok(Asked::Subcommand(subcommand, found)) => clear_task(arguments, subcommand, &found),
         Err(mistake) => Err(mistake),
     }
 }

@@ -7,8 +7,8 @@ ghost use Rattle.command_line.specs.Printed.{IsTextShown, fault_words, version_t
 
 use crate::faults::Fault;
 use crate::help::{VERSION, page};
-use crate::rows::RowName;
 use crate::statuses::Status;
+use crate::subcommands::Subcommand;
 use std::io;
 use std::io::Write;
 
@@ -45,18 +45,18 @@ pub fn show_text<W: Write, E: Write>(
     Ok(Status::Done)
 }
 
-/// Writes the help of a row, or the whole help. An error is the second writer's, on which nothing
-/// can be printed.
+/// Writes the help of a subcommand, or the whole help. An error is the second writer's, on which
+/// nothing can be printed.
 pub fn show_help<W: Write, E: Write>(
     output: &mut W,
     errors: &mut E,
-    row: Option<RowName>,
+    subcommand: Option<Subcommand>,
 ) -> io::Result<Status>
-    ensures { IfOk result (λ status. IsTextShown (page_of row) status
+    ensures { IfOk result (λ status. IsTextShown (page_of subcommand) status
         (W.contents output.old) (W.contents output.new)
         (E.contents errors.old) (E.contents errors.new)) }
 {
-    show_text(page(row), output, errors)
+    show_text(page(subcommand), output, errors)
 }
 
 /// Writes the version, and the line of the toolchain. An error is the second writer's, on which

@@ -18,8 +18,9 @@ use crate::laws::lines_rise;
 use crate::messages::{Bytes, Message, fault_message};
 use cards::CardFault;
 use http::StatusCode;
-use http_messages::{Fault, deck_fault, refusal_answer, reply_to, status_of};
-use http_messages::{Request, RequestFault, Routes};
+use http_messages::{
+    Fault, Request, RequestFault, Routes, deck_fault, refusal_answer, reply_to, status_of,
+};
 use ledger::{Bureau, kept_offices_run_whole};
 use machine::Meter;
 use office::Command;

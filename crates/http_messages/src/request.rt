@@ -3,10 +3,10 @@
 ghost use Rattle.std.specs.Prelude.{◌≡◌, ◌++◌, IfOk, IfSome};
 ghost use Rattle.http_messages.specs.Requests.{HasRefusingStatus, IsAskedWith, IsRefusingStatus, IsRequestOf};
 
-use crate::request_bodies::{Body, read_body};
 use crate::commands::request_for;
 use crate::fault::RequestFault;
 use crate::head::Head;
+use crate::request_bodies::{Body, read_body};
 use crate::routing::Routes;
 use crate::targets::Target;
 use crate::verdicts::Verdict;

@@ -13,8 +13,8 @@ ghost use Rattle.job_archives.specs.Lists.{AddsNamed, FindsStill, Leaves, Leaves
 ghost use Rattle.job_archives.specs.Names.{HasName, name_row};
 
 use crate::names::{name_in, read_names};
-use ledger::Bureau;
 use job_checks::push_summary;
+use ledger::Bureau;
 use ledger_tables::{Fault, OpenFault};
 use machine::Meter;
 use office::{Command, JobCommand, Reply, Summary};

@@ -4,7 +4,7 @@ use Rattle.clap.specs.Simple.{is_simple}
 use Rattle.clap.specs.Words.{is_simple_and_free}
 use Rattle.clap.proofs.OnLiterals.{clap_on_literals}
 use Rattle.command_line.specs.Programs.{command}
-use Rattle.operator.specs.Rows.{operator}
+use Rattle.operator.specs.Subcommands.{operator}
 
 pub simple : is_simple (command operator) ≡ true
 unfolding command clap_on_literals

@@ -1,4 +1,4 @@
-pub mod Rows
+pub mod Subcommands
 pub mod Printed
 pub mod Values
 pub mod Tasks

@@ -1,11 +1,11 @@
 -- what the program prints of itself
 use Rattle.std.specs.Prelude.{List, ℕ, Option, Some, None, codes}
-use Rattle.operator.specs.declared.rows.RowName.{RowName}
-use Rattle.operator.specs.declared.rows.RowName.TheVariants as name
+use Rattle.operator.specs.declared.subcommands.Subcommand.{Subcommand}
+use Rattle.operator.specs.declared.subcommands.Subcommand.TheVariants as name
 use Rattle.operator.specs.declared.help.TheConstants.{ARCHIVE_HELP, CHECK_HELP, COPY_HELP, HELP, JOBS_HELP, WATCH_HELP, WORK_HELP}
 
--- the text of the help of a row, or of the whole help
-abbrev pub page_of : Option RowName → List ℕ
+-- the text of the help of a subcommand, or of the whole help
+abbrev pub page_of : Option Subcommand → List ℕ
 page_of None = HELP.now
 page_of (Some name.Check) = CHECK_HELP.now
 page_of (Some name.Jobs) = JOBS_HELP.now

@@ -1,13 +1,13 @@
--- the tasks that words ask for
+-- the tasks that arguments ask for
 use Rattle.std.specs.Prelude.{ℕ, ◌≡◌, List, codes}
 use Rattle.clap.specs.Words.{Row, Text, first_of}
 use Rattle.command_line.specs.Arguments.{HasArgument, MayHaveArgument, ReadsIf, ReadsOr}
-use Rattle.command_line.specs.Programs.{AsksFor, Wish, for_help, for_row, for_version}
+use Rattle.command_line.specs.Programs.{AsksFor, Wish, for_help, for_subcommand, for_version}
 use Rattle.operator.specs.Printed.{page_of, version_text}
-use Rattle.operator.specs.Rows.{operator}
+use Rattle.operator.specs.Subcommands.{operator}
 use Rattle.operator.specs.Values.{IsUpTo}
-use Rattle.operator.specs.declared.rows.RowName.{RowName}
-use Rattle.operator.specs.declared.rows.RowName.TheVariants as name
+use Rattle.operator.specs.declared.subcommands.Subcommand.{Subcommand}
+use Rattle.operator.specs.declared.subcommands.Subcommand.TheVariants as name
 use Rattle.operator.specs.declared.tasks.Task.{Task}
 use Rattle.operator.specs.declared.tasks.Task.TheVariants.{Show, Check, Jobs, Copy, Archive, Work, Watch}
 use Rattle.operator.specs.declared.tasks.Rounds.{Rounds}
@@ -59,8 +59,8 @@ WantsWatch found (Watch port rounds pause) = IsPortIn found port
     × ReadsOr (IsUpTo 3600) 5 (first_of (codes "pause") found) pause
 WantsWatch found other = ⊥
 
--- the task of a row, by what was found after its name
-abbrev pub WantsTask : RowName → List Row → Task → Type 0
+-- the task of a subcommand, by what was found after its name
+abbrev pub WantsTask : Subcommand → List Row → Task → Type 0
 WantsTask name.Check found task = WantsCheck found task
 WantsTask name.Jobs found task = WantsJobs found task
 WantsTask name.Copy found task = WantsCopy found task
@@ -68,13 +68,13 @@ WantsTask name.Archive found task = WantsArchive found task
 WantsTask name.Work found task = WantsWork found task
 WantsTask name.Watch found task = WantsWatch found task
 
--- the task of what words can ask for
-abbrev pub IsTask : Wish RowName → Task → Type 0
+-- the task of what arguments can ask for
+abbrev pub IsTask : Wish Subcommand → Task → Type 0
 IsTask (for_help page) (Show text) = text.now ≡ page_of page
 IsTask for_version (Show text) = text.now ≡ version_text
-IsTask (for_row row found) task = WantsTask row found task
+IsTask (for_subcommand subcommand found) task = WantsTask subcommand found task
 IsTask _ _ = ⊥
 
--- the words ask for this task
+-- the arguments ask for this task
 abbrev pub Wants : List Text → Task → Type 0
-Wants words task = (wish : Wish RowName) × AsksFor operator words wish × IsTask wish task
+Wants arguments task = (wish : Wish Subcommand) × AsksFor operator arguments wish × IsTask wish task

@@ -1,4 +1,4 @@
--- the values of the rows' arguments, as texts
+-- the values of the subcommands' arguments, as texts
 use Rattle.std.specs.Prelude.{ℕ, ◌≡◌, ◌<◌, ◌≤◌, List, decimal}
 
 -- the text is that of a number from 1 up to this one

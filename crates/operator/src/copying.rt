@@ -4,8 +4,8 @@ ghost use Rattle.std.specs.Prelude.{◌≡◌, Ok, Some, None};
 
 use crate::faults::tell_fault;
 use command_line::Status;
-use job_checks::{AllRows, Table, read_rows};
 use job_archives::compare_rows;
+use job_checks::{AllRows, Table, read_rows};
 use ledger_files::{Comparison, CopyFault, copy};
 use ledger_tables::{Fault, OpenFault};
 use sqlite::{Alter, Connection};

@@ -3,7 +3,7 @@
 ghost use Rattle.std.specs.Prelude.{◌≡◌};
 ghost use Rattle.operator.specs.Printed.{page_of};
 
-use crate::rows::RowName;
+use crate::subcommands::Subcommand;
 
 /// The text that `--help` prints.
 pub const HELP: &str = "\
@@ -17,8 +17,8 @@ operator: what the operator of a bureau does, beside the bureau's own program.
   operator watch PORT [OPTIONS]    tells what comes into that queue, and what leaves it
   operator --help, --version
 
-operator ROW --help says all of a row. Status 0: all was done, and nothing differs. Status 1:
-something differs or failed, and was printed. Status 2: the words are not those of a row. Status 3:
+operator SUBCOMMAND --help says all of one. Status 0: all was done, and nothing differs. Status 1:
+something differs or failed, and was printed. Status 2: the arguments are not as above. Status 3:
 the bureau's file could not be used.
 ";
 
@@ -145,17 +145,17 @@ operator 1
 Rattle logic dac8208d650f15bf
 ";
 
-/// The help of a row, or the whole help.
-pub(crate) fn page(row: Option<RowName>) -> &'static str
-    ensures { result.now ≡ page_of row }
+/// The help of a subcommand, or the whole help.
+pub(crate) fn page(subcommand: Option<Subcommand>) -> &'static str
+    ensures { result.now ≡ page_of subcommand }
 {
-    match row {
+    match subcommand {
         None => HELP,
-        Some(RowName::Check) => CHECK_HELP,
-        Some(RowName::Jobs) => JOBS_HELP,
-        Some(RowName::Copy) => COPY_HELP,
-        Some(RowName::Archive) => ARCHIVE_HELP,
-        Some(RowName::Work) => WORK_HELP,
-        Some(RowName::Watch) => WATCH_HELP,
+        Some(Subcommand::Check) => CHECK_HELP,
+        Some(Subcommand::Jobs) => JOBS_HELP,
+        Some(Subcommand::Copy) => COPY_HELP,
+        Some(Subcommand::Archive) => ARCHIVE_HELP,
+        Some(Subcommand::Work) => WORK_HELP,
+        Some(Subcommand::Watch) => WATCH_HELP,
     }
 }

@@ -1,7 +1,7 @@
 //! The program `operator`: what the operator of a bureau does, beside the bureau's own program.
 //!
-//! What a check finds is said exactly by `job_checks`, and the requests of the work on a queue
-//! by `queue_rounds`. Here they are joined to the process's words, files and sockets. The clauses
+//! What a check finds is said exactly by `job_checks`, and the requests of the work on a queue by
+//! `queue_rounds`. Here they are joined to the process's arguments, files and sockets. The clauses
 //! of the kit do not mention these, so what is read and sent where is tested by
 //! `cases/check-operator`.
 #![tactic(auto)]
@@ -14,7 +14,7 @@ mod faults;
 mod help;
 mod job_folders;
 mod listing;
-mod rows;
+mod subcommands;
 mod tallies;
 mod tasks;
 mod values;
@@ -34,8 +34,8 @@ use std::io::Write;
 use std::process::ExitCode;
 use std::{env, io};
 
-/// The words of the process. The first is the program's name.
-fn words_given(rt: &HostRuntime) -> Result<Vec<String>, Mistake> {
+/// The arguments of the process. The first is the program's name.
+fn arguments_given(rt: &HostRuntime) -> Result<Vec<String>, Mistake> {
     Ok(env::args(rt)?.collect(rt.alloc())?)
 }
 
@@ -61,17 +61,21 @@ fn carry_out<W: Write, E: Write>(
     }
 }
 
-/// Does what the process's words ask for. A task that failed is told: its output could not be
+/// Does what the process's arguments ask for. A task that failed is told: its output could not be
 /// written, or there was no memory.
 fn answer(rt: &HostRuntime) -> io::Result<Status> {
     let mut output = rt.stdout();
     let mut errors = Unfailing::new(rt.stderr());
-    let words = match words_given(rt) {
-        Ok(words) => words,
+    let arguments = match arguments_given(rt) {
+        Ok(arguments) => arguments,
         Err(mistake) => return tell_mistake(&mut errors, "operator", mistake),
     };
-    let words = words.as_slice();
-    let after_name = if words.is_empty() { words } else { &words[1..] };
+    let arguments = arguments.as_slice();
+    let after_name = if arguments.is_empty() {
+        arguments
+    } else {
+        &arguments[1..]
+    };
     match task_of(rt.alloc(), after_name) {
         Ok(task) => {
             let done = carry_out(rt, task, &mut output, &mut errors);

@@ -1,14 +1,14 @@
-//! The task that the words ask for.
+//! The task that the arguments ask for.
 
 ghost use Rattle.std.specs.Prelude.{IfOk};
 ghost use Rattle.command_line.specs.Arguments.{given};
 ghost use Rattle.command_line.specs.Plain.{texts};
 ghost use Rattle.command_line.specs.Programs.{AsksFor, wish_as};
-ghost use Rattle.operator.specs.Rows.{operator};
+ghost use Rattle.operator.specs.Subcommands.{operator};
 ghost use Rattle.operator.specs.Tasks.{AreRounds, IsPortIn, Wants, WantsArchive, WantsCheck, WantsCopy, WantsJobs, WantsTask, WantsWatch, WantsWork};
 
 use crate::help::{VERSION, page};
-use crate::rows::{OPERATOR, RowName};
+use crate::subcommands::{OPERATOR, Subcommand};
 use crate::values::{up_to_if, up_to_or};
 use command_line::{Asked, Found, Mistake, asked_by};
 use std::alloc::Global;
@@ -25,7 +25,7 @@ pub struct Rounds {
     pub pause: u32,
 }
 
-/// What the words ask for.
+/// What the arguments ask for.
 #[derive(Clone, Copy)]
 pub enum Task<'a> {
     /// Print a text: a page of the help, or the version.
@@ -77,7 +77,7 @@ pub enum Task<'a> {
 /// What is said of a text that is no port.
 const NO_PORT: &str = "PORT must be a number from 1 to 65535";
 
-/// The task of a row `check`.
+/// The task of a subcommand `check`.
 fn check_task<'a>(found: &Found<'a>) -> Result<Task<'a>, Mistake<'a>>
     ensures { IfOk result (WantsCheck (given found.now)) }
 {
@@ -85,7 +85,7 @@ fn check_task<'a>(found: &Found<'a>) -> Result<Task<'a>, Mistake<'a>>
     Ok(Task::Check { file })
 }
 
-/// The task of a row `jobs`.
+/// The task of a subcommand `jobs`.
 fn jobs_task<'a>(found: &Found<'a>) -> Result<Task<'a>, Mistake<'a>>
     ensures { IfOk result (WantsJobs (given found.now)) }
 {
@@ -94,7 +94,7 @@ fn jobs_task<'a>(found: &Found<'a>) -> Result<Task<'a>, Mistake<'a>>
     Ok(Task::Jobs { file, customer })
 }
 
-/// The task of a row `copy`.
+/// The task of a subcommand `copy`.
 fn copy_task<'a>(found: &Found<'a>) -> Result<Task<'a>, Mistake<'a>>
     ensures { IfOk result (WantsCopy (given found.now)) }
 {
@@ -103,7 +103,7 @@ fn copy_task<'a>(found: &Found<'a>) -> Result<Task<'a>, Mistake<'a>>
     Ok(Task::Copy { file, new })
 }
 
-/// The task of a row `archive`.
+/// The task of a subcommand `archive`.
 fn archive_task<'a>(found: &Found<'a>) -> Result<Task<'a>, Mistake<'a>>
     ensures { IfOk result (WantsArchive (given found.now)) }
 {
@@ -112,7 +112,7 @@ fn archive_task<'a>(found: &Found<'a>) -> Result<Task<'a>, Mistake<'a>>
     Ok(Task::Archive { file, folder })
 }
 
-/// The port in PORT of a row.
+/// The port in PORT of a subcommand.
 fn port_in(found: &Found<'_>) -> Result<u16, Mistake<'static>>
     ensures { IfOk result (IsPortIn (given found.now)) }
 {
@@ -131,7 +131,7 @@ fn rounds_in(found: &Found<'_>) -> Result<Rounds, Mistake<'static>>
     Ok(Rounds { slice, most, pause })
 }
 
-/// The task of a row `work`.
+/// The task of a subcommand `work`.
 fn work_task<'a>(found: &Found<'a>) -> Result<Task<'a>, Mistake<'a>>
     ensures { IfOk result (WantsWork (given found.now)) }
 {
@@ -140,7 +140,7 @@ fn work_task<'a>(found: &Found<'a>) -> Result<Task<'a>, Mistake<'a>>
     Ok(Task::Work { port, rounds })
 }
 
-/// The task of a row `watch`.
+/// The task of a subcommand `watch`.
 fn watch_task<'a>(found: &Found<'a>) -> Result<Task<'a>, Mistake<'a>>
     ensures { IfOk result (WantsWatch (given found.now)) }
 {
@@ -154,36 +154,36 @@ fn watch_task<'a>(found: &Found<'a>) -> Result<Task<'a>, Mistake<'a>>
     })
 }
 
-/// The task of a row, by what clap found after its name.
-fn row_task<'a>(row: RowName, found: &Found<'a>) -> Result<Task<'a>, Mistake<'a>>
-    ensures { IfOk result (WantsTask row (given found.now)) }
+/// The task of a subcommand, by what clap found after its name.
+fn subcommand_task<'a>(subcommand: Subcommand, found: &Found<'a>) -> Result<Task<'a>, Mistake<'a>>
+    ensures { IfOk result (WantsTask subcommand (given found.now)) }
 {
-    match row {
-        RowName::Check => check_task(found),
-        RowName::Jobs => jobs_task(found),
-        RowName::Copy => copy_task(found),
-        RowName::Archive => archive_task(found),
-        RowName::Work => work_task(found),
-        RowName::Watch => watch_task(found),
+    match subcommand {
+        Subcommand::Check => check_task(found),
+        Subcommand::Jobs => jobs_task(found),
+        Subcommand::Copy => copy_task(found),
+        Subcommand::Archive => archive_task(found),
+        Subcommand::Work => work_task(found),
+        Subcommand::Watch => watch_task(found),
     }
 }
 
-/// What the words ask for.
-fn wish_of<'a>(alloc: Global, words: &'a [String]) -> Result<Asked<'a, RowName>, Mistake<'a>>
-    ensures { IfOk result (λ asked. AsksFor operator (texts words.entry.now) (wish_as asked)) }
+/// What the arguments ask for.
+fn wish_of<'a>(alloc: Global, arguments: &'a [String]) -> Result<Asked<'a, Subcommand>, Mistake<'a>>
+    ensures { IfOk result (λ asked. AsksFor operator (texts arguments.entry.now) (wish_as asked)) }
 {
-    asked_by(alloc, &OPERATOR, words)
+    asked_by(alloc, &OPERATOR, arguments)
 }
 
-/// Returns the task that the words after the program's name ask for, or else what is wrong with
+/// Returns the task that the arguments after the program's name ask for, or else what is wrong with
 /// them.
-pub fn task_of<'a>(alloc: Global, words: &'a [String]) -> Result<Task<'a>, Mistake<'a>>
-    ensures { IfOk result (Wants (texts words.entry.now)) }
+pub fn task_of<'a>(alloc: Global, arguments: &'a [String]) -> Result<Task<'a>, Mistake<'a>>
+    ensures { IfOk result (Wants (texts arguments.entry.now)) }
 {
-    let asked = wish_of(alloc, words)?;
+    let asked = wish_of(alloc, arguments)?;
     match asked {
-        Asked::Help(row) => Ok(Task::Show(page(row))),
+        Asked::Help(subcommand) => Ok(Task::Show(page(subcommand))),
         Asked::Version => Ok(Task::Show(VERSION)),
-        Asked::Row(row, found) => row_task(row, &found),
+        Asked::Subcommand(subcommand, found) => subcommand_task(subcommand, &found),
     }
 }

@@ -1,4 +1,4 @@
-//! The values of the rows' arguments.
+//! The values of the subcommands' arguments.
 
 ghost use Rattle.std.specs.Prelude.{IfOk, IfSome};
 ghost use Rattle.clap.specs.Words.{first_of};

@@ -2,10 +2,10 @@
 
 use crate::process::Process;
 use crate::undone::Undone;
-use run_traces::{Account, DumpOptions, Names, TraceOptions, dump, profile, trace};
 use command_line::Status;
 use core_store::LARGEST_SIZE;
 use local_runs::status_at;
+use run_traces::{Account, DumpOptions, Names, TraceOptions, dump, profile, trace};
 use std::io::Write;
 use texts::number_of;
 use workbench_arguments::{Dumping, Setup, Tracing};

@@ -1,9 +1,10 @@
 //! The program: decks and sources as people have them, made ready for a bureau.
 //!
-//! What the words ask for is proved below (`workbench_arguments`), and so is what each row makes of the
-//! bytes that it is given (`card_texts`, `card_forms`, `card_tools`, `source_reports`). Here it is
-//! joined to the process's words, files and streams. The clauses of the kit do not mention these,
-//! so what is read and written where is tested by `cases/check-workbench`.
+//! What the arguments ask for is proved below (`workbench_arguments`), and so is what each
+//! subcommand makes of the bytes that it is given (`card_texts`, `card_forms`, `card_tools`,
+//! `source_reports`). Here it is joined to the process's arguments, files and streams. The clauses
+//! of the kit do not mention these, so what is read and written where is tested by
+//! `cases/check-workbench`.
 #![tactic(auto)]
 
 mod benching;
@@ -41,8 +42,8 @@ use std::process::ExitCode;
 use std::{env, io};
 use workbench_arguments::{Task, task_of};
 
-/// The words of the process. The first is the program's name.
-fn words_given(rt: &HostRuntime) -> Result<Vec<String>, Mistake<'static>> {
+/// The arguments of the process. The first is the program's name.
+fn arguments_given(rt: &HostRuntime) -> Result<Vec<String>, Mistake<'static>> {
     Ok(env::args(rt)?.collect(rt.alloc())?)
 }
 
@@ -105,19 +106,23 @@ fn work_or_tell<W: Write, E: Write>(
     }
 }
 
-/// Does what the process's words ask for.
+/// Does what the process's arguments ask for.
 fn carry_out(rt: HostRuntime) -> io::Result<Status> {
     let mut process = Process {
         output: rt.stdout(),
         errors: Unfailing::new(rt.stderr()),
         rt,
     };
-    let words = match words_given(&process.rt) {
-        Ok(words) => words,
+    let arguments = match arguments_given(&process.rt) {
+        Ok(arguments) => arguments,
         Err(mistake) => return tell_mistake(&mut process.errors, "workbench", mistake),
     };
-    let words = words.as_slice();
-    let after_name = if words.is_empty() { words } else { &words[1..] };
+    let arguments = arguments.as_slice();
+    let after_name = if arguments.is_empty() {
+        arguments
+    } else {
+        &arguments[1..]
+    };
     match task_of(process.alloc(), after_name) {
         Ok(task) => work_or_tell(&mut process, &task),
         Err(mistake) => tell_mistake(&mut process.errors, "workbench", mistake),

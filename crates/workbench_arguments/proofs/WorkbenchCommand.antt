@@ -4,7 +4,7 @@ use Rattle.clap.specs.Simple.{is_simple}
 use Rattle.clap.specs.Words.{is_simple_and_free}
 use Rattle.clap.proofs.OnLiterals.{clap_on_literals}
 use Rattle.command_line.specs.Programs.{command}
-use Rattle.workbench_arguments.specs.Rows.{workbench}
+use Rattle.workbench_arguments.specs.Subcommands.{workbench}
 
 pub simple : is_simple (command workbench) ≡ true
 unfolding command clap_on_literals

@@ -1,11 +1,11 @@
 -- what the program prints of itself
 use Rattle.std.specs.Prelude.{List, ℕ, Option, Some, None, codes}
-use Rattle.workbench_arguments.specs.declared.rows.RowName.{RowName}
-use Rattle.workbench_arguments.specs.declared.rows.RowName.TheVariants as name
+use Rattle.workbench_arguments.specs.declared.subcommands.Subcommand.{Subcommand}
+use Rattle.workbench_arguments.specs.declared.subcommands.Subcommand.TheVariants as name
 use Rattle.workbench_arguments.specs.declared.help.TheConstants.{CARD_HELP, COMPARE_HELP, CONSOLE_HELP, CONVERT_HELP, DECK_HELP, DUMP_HELP, HELP, LIST_HELP, MANIFEST_HELP, PAGE_HELP, PAGES_HELP, PROFILE_HELP, PUNCH_HELP, SEQUENCE_HELP, SOURCE_HELP, TRACE_HELP}
 
--- the text of the help of a row, or of the whole help
-abbrev pub page_of : Option RowName → List ℕ
+-- the text of the help of a subcommand, or of the whole help
+abbrev pub page_of : Option Subcommand → List ℕ
 page_of None = HELP.now
 page_of (Some name.Punch) = PUNCH_HELP.now
 page_of (Some name.List) = LIST_HELP.now

@@ -1,4 +1,4 @@
--- the tasks that words ask for
+-- the tasks that arguments ask for
 use Rattle.std.specs.Prelude.{ℕ, ◌≡◌, Bool, false, List, [], Option, None, codes, decimal, map, unwrap_or}
 use Rattle.clap.specs.Words.{Row, Text, all_of, first_of}
 use Rattle.core_store.specs.Storage.{positions_of}
@@ -12,12 +12,12 @@ use Rattle.card_texts.specs.declared.Signs.TheVariants.{Bureau}
 use Rattle.card_texts.specs.declared.EmptyLine as line
 use Rattle.card_texts.specs.declared.EmptyLine.TheVariants as empty
 use Rattle.command_line.specs.Arguments.{HasArgument, MayHaveArgument, ReadsIf, ReadsOr, has_flag}
-use Rattle.command_line.specs.Programs.{AsksFor, Wish, for_help, for_row, for_version}
+use Rattle.command_line.specs.Programs.{AsksFor, Wish, for_help, for_subcommand, for_version}
 use Rattle.workbench_arguments.specs.Printed.{page_of, version_text}
-use Rattle.workbench_arguments.specs.Rows.{workbench}
+use Rattle.workbench_arguments.specs.Subcommands.{workbench}
 use Rattle.workbench_arguments.specs.Values.{AreStops, IsColumn, IsCount, IsNumeral, word_of_empty, word_of_signs, word_of_width}
-use Rattle.workbench_arguments.specs.declared.rows.RowName.{RowName}
-use Rattle.workbench_arguments.specs.declared.rows.RowName.TheVariants as name
+use Rattle.workbench_arguments.specs.declared.subcommands.Subcommand.{Subcommand}
+use Rattle.workbench_arguments.specs.declared.subcommands.Subcommand.TheVariants as name
 use Rattle.workbench_arguments.specs.declared.tasks.Setup.{Setup}
 use Rattle.workbench_arguments.specs.declared.tasks.Task.{Task}
 use Rattle.workbench_arguments.specs.declared.tasks.Task.TheVariants.{Show, Punch, List as ListCards, Compare, Convert, Number, CheckNumbers, Source, Manifest, Trace, Dump, Profile, Console, Card, Deck, Pages, Page}
@@ -29,7 +29,7 @@ HasTabs found tabs = ReadsOr AreStops [] (first_of (codes "tabs") found) tabs
 -- this is the table of `--signs`, or that of a deck text where it is not given
 abbrev pub HasSigns : List Row → Signs → Type 0
 HasSigns found signs =
-    ReadsOr (λ word signs. word ≡ word_of_signs signs) Bureau (first_of (codes "signs") found) signs
+    ReadsOr (λ argument signs. argument ≡ word_of_signs signs) Bureau (first_of (codes "signs") found) signs
 
 -- this is the column of `--keep`, 1 to 80, if it is given
 abbrev pub HasKept : List Row → Option ℕ → Type 0
@@ -37,7 +37,7 @@ HasKept found keeps = ReadsIf IsColumn (first_of (codes "keep") found) keeps
 
 -- this is what an empty line is by `--empty`, or a card where it is not given
 abbrev pub HasEmpty : List Row → line.EmptyLine → Type 0
-HasEmpty found is = ReadsOr (λ word is. word ≡ word_of_empty is) empty.Card
+HasEmpty found is = ReadsOr (λ argument is. argument ≡ word_of_empty is) empty.Card
     (first_of (codes "empty") found) is
 
 -- the rules of `punch`, by what was found
@@ -92,7 +92,7 @@ WantsConvert found other = ⊥
 -- this is whether `--width` asks for 80 columns; without it the listing has 120 and more
 abbrev pub IsNarrow : List Row → Bool → Type 0
 IsNarrow found narrow =
-    ReadsOr (λ word is. word ≡ word_of_width is) false (first_of (codes "width") found) narrow
+    ReadsOr (λ argument is. argument ≡ word_of_width is) false (first_of (codes "width") found) narrow
 
 -- the task of `source`
 abbrev pub WantsSource : List Row → Task → Type 0
@@ -102,7 +102,7 @@ WantsSource found other = ⊥
 
 -- this is the form that `--form` names, if it is given
 abbrev pub HasForm : List Row → Option Form → Type 0
-HasForm found form = ReadsIf (λ word form. word ≡ word_of form) (first_of (codes "form") found) form
+HasForm found form = ReadsIf (λ argument form. argument ≡ word_of form) (first_of (codes "form") found) form
 
 -- the task of `manifest`
 abbrev pub WantsManifest : List Row → Task → Type 0
@@ -188,8 +188,8 @@ WantsPage found (Page setup out) =
     IsSetup (codes "SOURCE") found setup × HasArgument (codes "OUT") found out.now
 WantsPage found other = ⊥
 
--- the task of a row, by what was found after its name
-abbrev pub WantsTask : RowName → List Row → Task → Type 0
+-- the task of a subcommand, by what was found after its name
+abbrev pub WantsTask : Subcommand → List Row → Task → Type 0
 WantsTask name.Punch found task = WantsPunch found task
 WantsTask name.List found task = WantsList found task
 WantsTask name.Compare found task = WantsCompare found task
@@ -206,13 +206,13 @@ WantsTask name.Deck found task = WantsDeck found task
 WantsTask name.Pages found task = WantsPages found task
 WantsTask name.Page found task = WantsPage found task
 
--- the task of what words can ask for
-abbrev pub IsTask : Wish RowName → Task → Type 0
+-- the task of what arguments can ask for
+abbrev pub IsTask : Wish Subcommand → Task → Type 0
 IsTask (for_help page) (Show text) = text.now ≡ page_of page
 IsTask for_version (Show text) = text.now ≡ version_text
-IsTask (for_row row found) task = WantsTask row found task
+IsTask (for_subcommand subcommand found) task = WantsTask subcommand found task
 IsTask _ _ = ⊥
 
--- the words ask for this task
+-- the arguments ask for this task
 abbrev pub Wants : List Text → Task → Type 0
-Wants words task = (wish : Wish RowName) × AsksFor workbench words wish × IsTask wish task
+Wants arguments task = (wish : Wish Subcommand) × AsksFor workbench arguments wish × IsTask wish task

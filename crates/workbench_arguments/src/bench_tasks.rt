@@ -1,4 +1,4 @@
-//! The tasks of the rows that run a machine on the bench.
+//! The tasks of the subcommands that run a machine on the bench.
 
 ghost use Rattle.std.specs.Prelude.{◌≡◌, IfOk, codes, decimal};
 ghost use Rattle.command_line.specs.Arguments.{HasArgument, given};
@@ -92,7 +92,7 @@ fn shown_in(found: &Found<'_>) -> Result<u32, Mistake<'static>>
     count(text)
 }
 
-/// The task of a row `trace`.
+/// The task of a subcommand `trace`.
 pub(crate) fn trace_task<'a>(found: &Found<'a>) -> Result<Task<'a>, Mistake<'static>>
     ensures { IfOk result (WantsTrace (given found.now)) }
 {
@@ -106,7 +106,7 @@ pub(crate) fn trace_task<'a>(found: &Found<'a>) -> Result<Task<'a>, Mistake<'sta
     }))
 }
 
-/// The task of a row `dump`.
+/// The task of a subcommand `dump`.
 pub(crate) fn dump_task<'a>(found: &Found<'a>) -> Result<Task<'a>, Mistake<'static>>
     ensures { IfOk result (WantsDump (given found.now)) }
 {
@@ -119,7 +119,7 @@ pub(crate) fn dump_task<'a>(found: &Found<'a>) -> Result<Task<'a>, Mistake<'stat
     }))
 }
 
-/// The task of a row `profile`.
+/// The task of a subcommand `profile`.
 pub(crate) fn profile_task<'a>(found: &Found<'a>) -> Result<Task<'a>, Mistake<'static>>
     ensures { IfOk result (WantsProfile (given found.now)) }
 {
@@ -128,7 +128,7 @@ pub(crate) fn profile_task<'a>(found: &Found<'a>) -> Result<Task<'a>, Mistake<'s
     Ok(Task::Profile { setup, names })
 }
 
-/// The task of a row `console`.
+/// The task of a subcommand `console`.
 pub(crate) fn console_task<'a>(found: &Found<'a>) -> Result<Task<'a>, Mistake<'static>>
     ensures { IfOk result (WantsConsole (given found.now)) }
 {

@@ -3,7 +3,7 @@
 ghost use Rattle.std.specs.Prelude.{◌≡◌};
 ghost use Rattle.workbench_arguments.specs.Printed.{page_of};
 
-use crate::rows::RowName;
+use crate::subcommands::Subcommand;
 
 /// The text that `--help` prints.
 pub const HELP: &str = "\
@@ -26,22 +26,22 @@ usage:
   workbench deck DECK OUT                         draws the cards of a deck on a page
   workbench pages LISTING OUT                     draws a listing as pages of paper
   workbench page SOURCE SIZE SWITCHES OUT         draws a job: its source, its run, what came out
-  workbench ROW --help                            prints the help of a row, as punch --help (or -h)
+  workbench SUBCOMMAND --help                     prints the help of one, as punch --help (or -h)
   workbench --help                                prints this text (or -h)
   workbench --version                             prints the version, and the logic it is proved in
 
 IN, DECK, ONE, OTHER, FILE, LISTING, SOURCE may be - for the standard input, OUT - for the standard
-output: so rows are joined by pipes. Where a value begins with a hyphen, put -- before it. No file
-is changed but OUT. A file there has all of what is written or stays as it was; a link or a device
-is written straight, and a full disk may leave a part.
+output: so subcommands are joined by pipes. Where a value begins with a hyphen, put -- before it.
+No file is changed but OUT. A file there has all of what is written or stays as it was; a link or a
+device is written straight, and a full disk may leave a part.
 
 A deck is a deck text (80 glyphs a line) or a punch file (240 hexadecimal digits a line), which is
-what `bureau export` writes; rows with no other form tell them by their width.
+what `bureau export` writes; subcommands with no other form tell them by their width.
 
 exit status:
   0  all was done, and nothing was found
   1  something was found or refused, and printed
-  2  the words are not as above
+  2  the arguments are not as above
 ";
 
 /// The text that `punch --help` prints.
@@ -329,26 +329,26 @@ workbench 1
 Rattle logic dac8208d650f15bf
 ";
 
-/// The help of a row, or the whole help.
-pub(crate) fn page(row: Option<RowName>) -> &'static str
-    ensures { result.now ≡ page_of row }
+/// The help of a subcommand, or the whole help.
+pub(crate) fn page(subcommand: Option<Subcommand>) -> &'static str
+    ensures { result.now ≡ page_of subcommand }
 {
-    match row {
+    match subcommand {
         None => HELP,
-        Some(RowName::Punch) => PUNCH_HELP,
-        Some(RowName::List) => LIST_HELP,
-        Some(RowName::Compare) => COMPARE_HELP,
-        Some(RowName::Sequence) => SEQUENCE_HELP,
-        Some(RowName::Convert) => CONVERT_HELP,
-        Some(RowName::Source) => SOURCE_HELP,
-        Some(RowName::Manifest) => MANIFEST_HELP,
-        Some(RowName::Trace) => TRACE_HELP,
-        Some(RowName::Dump) => DUMP_HELP,
-        Some(RowName::Profile) => PROFILE_HELP,
-        Some(RowName::Console) => CONSOLE_HELP,
-        Some(RowName::Card) => CARD_HELP,
-        Some(RowName::Deck) => DECK_HELP,
-        Some(RowName::Pages) => PAGES_HELP,
-        Some(RowName::Page) => PAGE_HELP,
+        Some(Subcommand::Punch) => PUNCH_HELP,
+        Some(Subcommand::List) => LIST_HELP,
+        Some(Subcommand::Compare) => COMPARE_HELP,
+        Some(Subcommand::Sequence) => SEQUENCE_HELP,
+        Some(Subcommand::Convert) => CONVERT_HELP,
+        Some(Subcommand::Source) => SOURCE_HELP,
+        Some(Subcommand::Manifest) => MANIFEST_HELP,
+        Some(Subcommand::Trace) => TRACE_HELP,
+        Some(Subcommand::Dump) => DUMP_HELP,
+        Some(Subcommand::Profile) => PROFILE_HELP,
+        Some(Subcommand::Console) => CONSOLE_HELP,
+        Some(Subcommand::Card) => CARD_HELP,
+        Some(Subcommand::Deck) => DECK_HELP,
+        Some(Subcommand::Pages) => PAGES_HELP,
+        Some(Subcommand::Page) => PAGE_HELP,
     }
 }

@@ -1,20 +1,20 @@
-//! The words of the program `workbench`: the task that they ask for.
+//! The arguments of the program `workbench`: the task that they ask for.
 //!
-//! A call is a row's name, its values in their places and its options, in any order after the name,
-//! or a word that asks for the help or the version. They are read by one table (`src/rows.rt`). The
-//! values of options (columns, a form, a number) are read after that, before any file is opened.
-//! The contract for the layer above: [`task_of`] returns a task only if the words ask for it
-//! (`specs/Tasks.antt`).
+//! A call is a subcommand's name, its values in their places and its options, in any order after
+//! the name, or an argument that asks for the help or the version. They are read by one table
+//! (`src/subcommands.rt`). The values of options (columns, a form, a number) are read after that,
+//! before any file is opened. The contract for the layer above: [`task_of`] returns a task only if
+//! the arguments ask for it (`specs/Tasks.antt`).
 #![tactic(auto)]
 
 mod bench_tasks;
 mod complaints;
 mod help;
 mod picture_tasks;
-mod rows;
+mod subcommands;
 mod tasks;
 mod values;
 
 pub use help::VERSION;
-pub use rows::{RowName, WORKBENCH};
+pub use subcommands::{Subcommand, WORKBENCH};
 pub use tasks::{Dumping, Numbering, Punching, Setup, Task, Tracing, task_of};

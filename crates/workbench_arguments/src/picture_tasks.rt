@@ -1,4 +1,4 @@
-//! The tasks of the rows that draw cards and listings.
+//! The tasks of the subcommands that draw cards and listings.
 
 ghost use Rattle.std.specs.Prelude.{IfOk};
 ghost use Rattle.command_line.specs.Arguments.{given};
@@ -8,7 +8,7 @@ use crate::bench_tasks::setup_in;
 use crate::tasks::{Task, number};
 use command_line::{Found, Mistake};
 
-/// The task of a row `card`.
+/// The task of a subcommand `card`.
 pub(crate) fn card_task<'a>(found: &Found<'a>) -> Result<Task<'a>, Mistake<'static>>
     ensures { IfOk result (WantsCard (given found.now)) }
 {
@@ -18,7 +18,7 @@ pub(crate) fn card_task<'a>(found: &Found<'a>) -> Result<Task<'a>, Mistake<'stat
     Ok(Task::Card { deck, number, out })
 }
 
-/// The task of a row `deck`.
+/// The task of a subcommand `deck`.
 pub(crate) fn deck_task<'a>(found: &Found<'a>) -> Result<Task<'a>, Mistake<'static>>
     ensures { IfOk result (WantsDeck (given found.now)) }
 {
@@ -27,7 +27,7 @@ pub(crate) fn deck_task<'a>(found: &Found<'a>) -> Result<Task<'a>, Mistake<'stat
     Ok(Task::Deck { deck, out })
 }
 
-/// The task of a row `pages`.
+/// The task of a subcommand `pages`.
 pub(crate) fn pages_task<'a>(found: &Found<'a>) -> Result<Task<'a>, Mistake<'static>>
     ensures { IfOk result (WantsPages (given found.now)) }
 {
@@ -36,7 +36,7 @@ pub(crate) fn pages_task<'a>(found: &Found<'a>) -> Result<Task<'a>, Mistake<'sta
     Ok(Task::Pages { listing, out })
 }
 
-/// The task of a row `page`.
+/// The task of a subcommand `page`.
 pub(crate) fn page_task<'a>(found: &Found<'a>) -> Result<Task<'a>, Mistake<'static>>
     ensures { IfOk result (WantsPage (given found.now)) }
 {

@@ -1,10 +1,10 @@
-//! The tasks that the words ask for.
+//! The tasks that the arguments ask for.
 
 ghost use Rattle.std.specs.Prelude.{IfOk};
 ghost use Rattle.command_line.specs.Arguments.{HasArgument, given};
 ghost use Rattle.command_line.specs.Plain.{texts};
 ghost use Rattle.command_line.specs.Programs.{AsksFor, wish_as};
-ghost use Rattle.workbench_arguments.specs.Rows.{workbench};
+ghost use Rattle.workbench_arguments.specs.Subcommands.{workbench};
 ghost use Rattle.card_forms.specs.Forms.{word_of};
 ghost use Rattle.workbench_arguments.specs.Tasks.{HasEmpty, HasForm, HasKept, HasSigns, HasTabs, IsNarrow, Wants, WantsCompare, WantsConvert, WantsList, WantsManifest, WantsPunch, WantsSequence, WantsSource, WantsTask};
 ghost use Rattle.workbench_arguments.specs.Values.{IsNumeral};
@@ -15,7 +15,7 @@ use crate::complaints::{
 };
 use crate::help::{VERSION, page};
 use crate::picture_tasks::{card_task, deck_task, page_task, pages_task};
-use crate::rows::{RowName, WORKBENCH};
+use crate::subcommands::{Subcommand, WORKBENCH};
 use crate::values::{column_of, empty_of, narrow_of, signs_of, stops_of};
 use card_forms::Form;
 use card_texts::{EmptyLine, Rules, Signs};
@@ -220,7 +220,7 @@ fn signs_in(found: &Found<'_>) -> Result<Signs, Mistake<'static>>
     ensures { IfOk result (λ signs. HasSigns (given found.now) signs) }
 {
     match found.value("signs") {
-        Some(word) => signs_of(word).ok_or(Mistake::Value(NO_SIGNS)),
+        Some(argument) => signs_of(argument).ok_or(Mistake::Value(NO_SIGNS)),
         None => Ok(Signs::Bureau),
     }
 }
@@ -241,12 +241,12 @@ fn empty_in(found: &Found<'_>) -> Result<EmptyLine, Mistake<'static>>
     ensures { IfOk result (λ empty. HasEmpty (given found.now) empty) }
 {
     match found.value("empty") {
-        Some(word) => empty_of(word).ok_or(Mistake::Value(NO_EMPTY_LINE)),
+        Some(argument) => empty_of(argument).ok_or(Mistake::Value(NO_EMPTY_LINE)),
         None => Ok(EmptyLine::Card),
     }
 }
 
-/// The task of a row `punch`.
+/// The task of a subcommand `punch`.
 fn punch_task<'a>(alloc: Global, found: &Found<'a>) -> Result<Task<'a>, Mistake<'static>>
     ensures { IfOk result (WantsPunch (given found.now)) }
 {
@@ -267,7 +267,7 @@ fn punch_task<'a>(alloc: Global, found: &Found<'a>) -> Result<Task<'a>, Mistake<
     }))
 }
 
-/// The task of a row `list`.
+/// The task of a subcommand `list`.
 fn list_task<'a>(found: &Found<'a>) -> Result<Task<'a>, Mistake<'static>>
     ensures { IfOk result (WantsList (given found.now)) }
 {
@@ -278,7 +278,7 @@ fn list_task<'a>(found: &Found<'a>) -> Result<Task<'a>, Mistake<'static>>
     })
 }
 
-/// The task of a row `compare`.
+/// The task of a subcommand `compare`.
 fn compare_task<'a>(found: &Found<'a>) -> Result<Task<'a>, Mistake<'static>>
     ensures { IfOk result (WantsCompare (given found.now)) }
 {
@@ -294,7 +294,7 @@ pub(crate) fn number(text: &str) -> Result<u32, Mistake<'static>>
     number_of(text).ok_or(Mistake::Value(NO_NUMBER))
 }
 
-/// The task of a row `sequence`: with one value a check, with five a numbering.
+/// The task of a subcommand `sequence`: with one value a check, with five a numbering.
 fn sequence_task<'a>(found: &Found<'a>) -> Result<Task<'a>, Mistake<'static>>
     ensures { IfOk result (WantsSequence (given found.now)) }
 {
@@ -319,7 +319,7 @@ fn form_in(found: &Found<'_>, name: &str) -> Result<Form, Mistake<'static>>
     Form::of(found.needed(name)?).ok_or(Mistake::Value(NO_FORM))
 }
 
-/// The task of a row `convert`.
+/// The task of a subcommand `convert`.
 fn convert_task<'a>(found: &Found<'a>) -> Result<Task<'a>, Mistake<'static>>
     ensures { IfOk result (WantsConvert (given found.now)) }
 {
@@ -336,12 +336,12 @@ fn narrow_in(found: &Found<'_>) -> Result<bool, Mistake<'static>>
     ensures { IfOk result (λ narrow. IsNarrow (given found.now) narrow) }
 {
     match found.value("width") {
-        Some(word) => narrow_of(word).ok_or(Mistake::Value(NO_WIDTH)),
+        Some(argument) => narrow_of(argument).ok_or(Mistake::Value(NO_WIDTH)),
         None => Ok(false),
     }
 }
 
-/// The task of a row `source`.
+/// The task of a subcommand `source`.
 fn source_task<'a>(found: &Found<'a>) -> Result<Task<'a>, Mistake<'static>>
     ensures { IfOk result (WantsSource (given found.now)) }
 {
@@ -356,14 +356,14 @@ fn source_task<'a>(found: &Found<'a>) -> Result<Task<'a>, Mistake<'static>>
 fn option_form_in(found: &Found<'_>) -> Result<Option<Form>, Mistake<'static>>
     ensures { IfOk result (λ form. HasForm (given found.now) form) }
 {
-    let Some(word) = found.value("form") else {
+    let Some(argument) = found.value("form") else {
         return Ok(None);
     };
-    let form = Form::of(word).ok_or(Mistake::Value(NO_FORM))?;
+    let form = Form::of(argument).ok_or(Mistake::Value(NO_FORM))?;
     Ok(Some(form))
 }
 
-/// The task of a row `manifest`.
+/// The task of a subcommand `manifest`.
 fn manifest_task<'a>(alloc: Global, found: &Found<'a>) -> Result<Task<'a>, Mistake<'static>>
     ensures { IfOk result (WantsManifest (given found.now)) }
 {
@@ -373,49 +373,49 @@ fn manifest_task<'a>(alloc: Global, found: &Found<'a>) -> Result<Task<'a>, Mista
     Ok(Task::Manifest { decks, form, known })
 }
 
-/// The task of a row, by what clap found after its name.
-fn row_task<'a>(
+/// The task of a subcommand, by what clap found after its name.
+fn subcommand_task<'a>(
     alloc: Global,
-    row: RowName,
+    subcommand: Subcommand,
     found: &Found<'a>,
 ) -> Result<Task<'a>, Mistake<'static>>
-    ensures { IfOk result (WantsTask row (given found.now)) }
+    ensures { IfOk result (WantsTask subcommand (given found.now)) }
 {
-    match row {
-        RowName::Punch => punch_task(alloc, found),
-        RowName::List => list_task(found),
-        RowName::Compare => compare_task(found),
-        RowName::Sequence => sequence_task(found),
-        RowName::Source => source_task(found),
-        RowName::Manifest => manifest_task(alloc, found),
-        RowName::Convert => convert_task(found),
-        RowName::Trace => trace_task(found),
-        RowName::Dump => dump_task(found),
-        RowName::Profile => profile_task(found),
-        RowName::Console => console_task(found),
-        RowName::Card => card_task(found),
-        RowName::Deck => deck_task(found),
-        RowName::Pages => pages_task(found),
-        RowName::Page => page_task(found),
+    match subcommand {
+        Subcommand::Punch => punch_task(alloc, found),
+        Subcommand::List => list_task(found),
+        Subcommand::Compare => compare_task(found),
+        Subcommand::Sequence => sequence_task(found),
+        Subcommand::Source => source_task(found),
+        Subcommand::Manifest => manifest_task(alloc, found),
+        Subcommand::Convert => convert_task(found),
+        Subcommand::Trace => trace_task(found),
+        Subcommand::Dump => dump_task(found),
+        Subcommand::Profile => profile_task(found),
+        Subcommand::Console => console_task(found),
+        Subcommand::Card => card_task(found),
+        Subcommand::Deck => deck_task(found),
+        Subcommand::Pages => pages_task(found),
+        Subcommand::Page => page_task(found),
     }
 }
 
-/// What the words ask for.
-fn wish_of<'a>(alloc: Global, words: &'a [String]) -> Result<Asked<'a, RowName>, Mistake<'a>>
-    ensures { IfOk result (λ asked. AsksFor workbench (texts words.entry.now) (wish_as asked)) }
+/// What the arguments ask for.
+fn wish_of<'a>(alloc: Global, arguments: &'a [String]) -> Result<Asked<'a, Subcommand>, Mistake<'a>>
+    ensures { IfOk result (λ asked. AsksFor workbench (texts arguments.entry.now) (wish_as asked)) }
 {
-    asked_by(alloc, &WORKBENCH, words)
+    asked_by(alloc, &WORKBENCH, arguments)
 }
 
-/// Returns the task that the words after the program's name ask for, or else what is wrong with
+/// Returns the task that the arguments after the program's name ask for, or else what is wrong with
 /// them.
-pub fn task_of<'a>(alloc: Global, words: &'a [String]) -> Result<Task<'a>, Mistake<'a>>
-    ensures { IfOk result (Wants (texts words.entry.now)) }
+pub fn task_of<'a>(alloc: Global, arguments: &'a [String]) -> Result<Task<'a>, Mistake<'a>>
+    ensures { IfOk result (Wants (texts arguments.entry.now)) }
 {
-    let asked = wish_of(alloc, words)?;
+    let asked = wish_of(alloc, arguments)?;
     match asked {
-        Asked::Help(row) => Ok(Task::Show(page(row))),
+        Asked::Help(subcommand) => Ok(Task::Show(page(subcommand))),
         Asked::Version => Ok(Task::Show(VERSION)),
-        Asked::Row(row, found) => row_task(alloc, row, &found),
+        Asked::Subcommand(subcommand, found) => subcommand_task(alloc, subcommand, &found),
     }
 }

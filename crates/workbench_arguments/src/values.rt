@@ -1,4 +1,4 @@
-//! The values of the rows' arguments.
+//! The values of the subcommands' arguments.
 
 ghost use Rattle.std.specs.Prelude.{◌≡◌, ◌++◌, ◌∷◌, [], true, IfSome, IfOk};
 ghost use Rattle.workbench_arguments.specs.Values.{AreStops, IsColumn, IsCount, rises, stops_text, word_of_empty, word_of_signs, word_of_width};
@@ -109,10 +109,10 @@ pub(crate) fn stops_of(alloc: Global, text: &str) -> Result<Option<Vec<u8>>, All
 }
 
 /// The signs with this name: `simh`.
-pub(crate) fn signs_of(word: &str) -> Option<Signs>
-    ensures { IfSome result (λ signs. word.now ≡ word_of_signs signs) }
+pub(crate) fn signs_of(argument: &str) -> Option<Signs>
+    ensures { IfSome result (λ signs. argument.now ≡ word_of_signs signs) }
 {
-    match word {
+    match argument {
         "simh" => Some(Signs::Simh),
         "glyphs" => Some(Signs::Bureau),
         _ => None,
@@ -120,10 +120,10 @@ pub(crate) fn signs_of(word: &str) -> Option<Signs>
 }
 
 /// What an empty line is, by its name: `card`, `drop` or `fault`.
-pub(crate) fn empty_of(word: &str) -> Option<EmptyLine>
-    ensures { IfSome result (λ empty. word.now ≡ word_of_empty empty) }
+pub(crate) fn empty_of(argument: &str) -> Option<EmptyLine>
+    ensures { IfSome result (λ empty. argument.now ≡ word_of_empty empty) }
 {
-    match word {
+    match argument {
         "card" => Some(EmptyLine::Card),
         "drop" => Some(EmptyLine::Dropped),
         "fault" => Some(EmptyLine::Fault),
@@ -132,10 +132,10 @@ pub(crate) fn empty_of(word: &str) -> Option<EmptyLine>
 }
 
 /// Whether a width is that of the narrow listing: `80`, and not `120`.
-pub(crate) fn narrow_of(word: &str) -> Option<bool>
-    ensures { IfSome result (λ narrow. word.now ≡ word_of_width narrow) }
+pub(crate) fn narrow_of(argument: &str) -> Option<bool>
+    ensures { IfSome result (λ narrow. argument.now ≡ word_of_width narrow) }
 {
-    match word {
+    match argument {
         "80" => Some(true),
         "120" => Some(false),
         _ => None,

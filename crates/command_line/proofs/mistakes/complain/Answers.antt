@@ -9,8 +9,8 @@ returns-in-Memory g c = same_text _ _ _ (sym (ap (complaint_line c.args.program.
 pub returns-in-NoText : goal.returns-in-NoText
 returns-in-NoText g c = same_text _ _ _ (sym (ap (complaint_line c.args.program.now) c.in-NoText.is)) c.writeln-in-NoText.ensures.bytes
 
-pub returns-in-Row : goal.returns-in-Row
-returns-in-Row g c = same_text _ _ _ (sym (ap (complaint_line c.args.program.now) c.in-Row.is)) c.writeln-in-Row.ensures.bytes
+pub returns-in-Subcommand : goal.returns-in-Subcommand
+returns-in-Subcommand g c = same_text _ _ _ (sym (ap (complaint_line c.args.program.now) c.in-Subcommand.is)) c.writeln-in-Subcommand.ensures.bytes
 
 pub returns-in-Arguments : goal.returns-in-Arguments
 returns-in-Arguments g c = same_text _ _ _ (sym (ap (complaint_line c.args.program.now) c.in-Arguments.is)) c.writeln-in-Arguments.ensures.bytes

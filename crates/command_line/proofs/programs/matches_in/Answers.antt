@@ -12,13 +12,13 @@ parse-requires-clause-free g c = ap is_simple_and_free c.in_ok-command_of.ensure
 
 pub returns-in-Ok-clause-ok : goal.returns-in-Ok-clause-ok
 returns-in-Ok-clause-ok g c =
-    let words = texts c.args.words.now in
-    subst (λ (a : App). (fault_of a words ≡ []) × (subcommand_rows_of c.in-Ok.matches ≡ subcommand_of a words))
+    let arguments = texts c.args.arguments.now in
+    subst (λ (a : App). (fault_of a arguments ≡ []) × (subcommand_rows_of c.in-Ok.matches ≡ subcommand_of a arguments))
     c.in_ok-command_of.ensures c.in-Ok.ensures.ok
 
-pub returns-in-Err-Words-clause-err : goal.returns-in-Err-Words-clause-err
-returns-in-Err-Words-clause-err g c =
-    elim c.in-Err-Words.ensures.err [
-      | inl memory ↦ absurd (let none = sym c.in-Err-Words.field-0-is ∙ memory in cc)
-      | inr faulty ↦ inr (subst (λ (a : App). fault_of a (texts c.args.words.now) ≢ []) c.in_ok-command_of.ensures faulty)
+pub returns-in-Err-Arguments-clause-err : goal.returns-in-Err-Arguments-clause-err
+returns-in-Err-Arguments-clause-err g c =
+    elim c.in-Err-Arguments.ensures.err [
+      | inl memory ↦ absurd (let none = sym c.in-Err-Arguments.field-0-is ∙ memory in cc)
+      | inr faulty ↦ inr (subst (λ (a : App). fault_of a (texts c.args.arguments.now) ≢ []) c.in_ok-command_of.ensures faulty)
     ]

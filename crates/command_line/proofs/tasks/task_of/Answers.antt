@@ -7,105 +7,105 @@ use Rattle.command_line.specs.Arguments.{given}
 use Rattle.command_line.specs.Asked.{IsHelp}
 use Rattle.command_line.specs.Plain.{texts}
 use Rattle.command_line.specs.Programs.{AsksFor, AsksInPlace, Wish, for_help, for_version, wish_as}
-use Rattle.command_line.specs.Rows.{bureau}
+use Rattle.command_line.specs.Subcommands.{bureau}
 use Rattle.command_line.specs.declared.mistakes.Mistake.{Mistake}
 use Rattle.command_line.specs.declared.programs.Asked.{Asked}
 use Rattle.command_line.specs.declared.programs.Asked.TheVariants as asked
-use Rattle.command_line.specs.declared.rows.RowName.{RowName}
+use Rattle.command_line.specs.declared.subcommands.Subcommand.{Subcommand}
 use Rattle.command_line.specs.declared.tasks.Task.{Task}
 use Rattle.command_line.specs.declared.tasks.Task.TheVariants as task
 use Rattle.command_line.proofs.AskedWays.{help_is, is_help}
-use Rattle.command_line.proofs.CommandWords.{row_asked}
-use Rattle.command_line.proofs.TaskWords.{no_help, no_row_task, no_version, no_wish, wanted, wrong_is}
+use Rattle.command_line.proofs.CommandArguments.{subcommand_asked}
+use Rattle.command_line.proofs.TaskArguments.{no_help, no_subcommand_task, no_version, no_wish, wanted, wrong_is}
 use Rattle.command_line.proofs.tasks.task_of.Goals as goal
 
--- the words ask for what is found
-abbrev Asks : List Text → Asked RowName → Type 0
-Asks words found = AsksFor bureau words (wish_as found)
+-- the arguments ask for what is found
+abbrev Asks : List Text → Asked Subcommand → Type 0
+Asks arguments found = AsksFor bureau arguments (wish_as found)
 
--- what is found is all that the words ask for in place of a row
-abbrev IsAll : List Text → Asked RowName → Type 0
-IsAll words found = (wish : Wish RowName) → AsksInPlace bureau words wish → wish_as found ≡ wish
+-- what is found is all that the arguments ask for in place of a subcommand
+abbrev IsAll : List Text → Asked Subcommand → Type 0
+IsAll arguments found = (wish : Wish Subcommand) → AsksInPlace bureau arguments wish → wish_as found ≡ wish
 
-some_words : (words : List (String Global)) → (length words == 0) ≡ false → texts words ≡ [] → ⊥
-some_words [] some none = cc
-some_words (word ∷ words) some none = cc
+some_arguments : (arguments : List (String Global)) → (length arguments == 0) ≡ false → texts arguments ≡ [] → ⊥
+some_arguments [] some none = cc
+some_arguments (argument ∷ arguments) some none = cc
 
-same_page : {row page : Option RowName} → for_help row ≡ for_help page → row ≡ page
+same_page : {subcommand page : Option Subcommand} → for_help subcommand ≡ for_help page → subcommand ≡ page
 same_page e = cc
 
 -- that the task is this help is returned
-abbrev told : Option RowName → Result Task Mistake
+abbrev told : Option Subcommand → Result Task Mistake
 told page = Ok (task.Help page)
 
-told_page : {row page : Option RowName} → told row ≡ told page → row ≡ page
+told_page : {subcommand page : Option Subcommand} → told subcommand ≡ told page → subcommand ≡ page
 told_page e = cc
 
--- the help that is found is the help that the words ask for
-same_help : (words : List Text) (row page : Option RowName) → Asks words (asked.Help row) → IsAll words (asked.Help row)
-    → (told row ≡ told page) ↔ IsHelp page words
-same_help words row page asks all = (
-  λ e. help_is words page (subst (λ p. AsksFor bureau words (for_help p)) (told_page e) asks),
-  λ is. ap told (same_page (all (for_help page) (is_help words page is))),
+-- the help that is found is the help that the arguments ask for
+same_help : (arguments : List Text) (subcommand page : Option Subcommand) → Asks arguments (asked.Help subcommand) → IsAll arguments (asked.Help subcommand)
+    → (told subcommand ≡ told page) ↔ IsHelp page arguments
+same_help arguments subcommand page asks all = (
+  λ e. help_is arguments page (subst (λ p. AsksFor bureau arguments (for_help p)) (told_page e) asks),
+  λ is. ap told (same_page (all (for_help page) (is_help arguments page is))),
 )
 
 pub returns-in-Ok-Help-clause-ok : goal.returns-in-Ok-Help-clause-ok
 returns-in-Ok-Help-clause-ok c =
-    help_is _ _ (subst (Asks (texts c.args.words.now)) c.in-Ok-Help.field-0-is c.in-Ok-Help.ensures.ok)
+    help_is _ _ (subst (Asks (texts c.args.arguments.now)) c.in-Ok-Help.field-0-is c.in-Ok-Help.ensures.ok)
 
 pub returns-in-Ok-Help-clause-help : goal.returns-in-Ok-Help-clause-help
 returns-in-Ok-Help-clause-help c page =
-    same_help (texts c.args.words.now) c.in-Ok-Help.row page
-    (subst (Asks (texts c.args.words.now)) c.in-Ok-Help.field-0-is c.in-Ok-Help.ensures.ok)
-    (subst (IsAll (texts c.args.words.now)) c.in-Ok-Help.field-0-is c.in-Ok-Help.ensures.in_place)
+    same_help (texts c.args.arguments.now) c.in-Ok-Help.subcommand page
+    (subst (Asks (texts c.args.arguments.now)) c.in-Ok-Help.field-0-is c.in-Ok-Help.ensures.ok)
+    (subst (IsAll (texts c.args.arguments.now)) c.in-Ok-Help.field-0-is c.in-Ok-Help.ensures.in_place)
 
-pub returns-in-Ok-Row-clause-ok : goal.returns-in-Ok-Row-clause-ok
-returns-in-Ok-Row-clause-ok c =
-    let words = texts c.args.words.now in
-    let asks = subst (Asks words) c.in-Ok-Row.field-0-is c.in-Ok-Row.ensures.ok in
+pub returns-in-Ok-Subcommand-clause-ok : goal.returns-in-Ok-Subcommand-clause-ok
+returns-in-Ok-Subcommand-clause-ok c =
+    let arguments = texts c.args.arguments.now in
+    let asks = subst (Asks arguments) c.in-Ok-Subcommand.field-0-is c.in-Ok-Subcommand.ensures.ok in
     IfOk-weaker c.clear_task.result _ _
-    (λ t is. wanted words _ _ t (row_asked words c.in-Ok-Row.row (given c.in-Ok-Row.found) is.0 asks) is.1) c.clear_task.ensures.ok
+    (λ t is. wanted arguments _ _ t (subcommand_asked arguments c.in-Ok-Subcommand.subcommand (given c.in-Ok-Subcommand.found) is.0 asks) is.1) c.clear_task.ensures.ok
 
-pub returns-in-Ok-Row-clause-err : goal.returns-in-Ok-Row-clause-err
-returns-in-Ok-Row-clause-err c =
-    let words = texts c.args.words.now in
-    let asks = subst (Asks words) c.in-Ok-Row.field-0-is c.in-Ok-Row.ensures.ok in
-    let all = subst (IsAll words) c.in-Ok-Row.field-0-is c.in-Ok-Row.ensures.in_place in
+pub returns-in-Ok-Subcommand-clause-err : goal.returns-in-Ok-Subcommand-clause-err
+returns-in-Ok-Subcommand-clause-err c =
+    let arguments = texts c.args.arguments.now in
+    let asks = subst (Asks arguments) c.in-Ok-Subcommand.field-0-is c.in-Ok-Subcommand.ensures.ok in
+    let all = subst (IsAll arguments) c.in-Ok-Subcommand.field-0-is c.in-Ok-Subcommand.ensures.in_place in
     IfErr-weaker c.clear_task.result _ _
-    (λ m wrong t wants. absurd (no_row_task words c.in-Ok-Row.row (given c.in-Ok-Row.found) m t asks all wrong wants))
+    (λ m wrong t wants. absurd (no_subcommand_task arguments c.in-Ok-Subcommand.subcommand (given c.in-Ok-Subcommand.found) m t asks all wrong wants))
     c.clear_task.ensures.mistake
 
-pub returns-in-Ok-Row-clause-help : goal.returns-in-Ok-Row-clause-help
-returns-in-Ok-Row-clause-help c page =
-    let words = texts c.args.words.now in
-    let all = subst (IsAll words) c.in-Ok-Row.field-0-is c.in-Ok-Row.ensures.in_place in (
+pub returns-in-Ok-Subcommand-clause-help : goal.returns-in-Ok-Subcommand-clause-help
+returns-in-Ok-Subcommand-clause-help c page =
+    let arguments = texts c.args.arguments.now in
+    let all = subst (IsAll arguments) c.in-Ok-Subcommand.field-0-is c.in-Ok-Subcommand.ensures.in_place in (
       λ e. absurd ((IfOk-at_ok _ e c.clear_task.ensures.ok).1),
-      λ is. absurd (no_help c.in-Ok-Row.row (given c.in-Ok-Row.found) words page all is),
+      λ is. absurd (no_help c.in-Ok-Subcommand.subcommand (given c.in-Ok-Subcommand.found) arguments page all is),
     )
 
-pub returns-in-Ok-Row-clause-version : goal.returns-in-Ok-Row-clause-version
-returns-in-Ok-Row-clause-version c =
-    let words = texts c.args.words.now in
-    let all = subst (IsAll words) c.in-Ok-Row.field-0-is c.in-Ok-Row.ensures.in_place in (
+pub returns-in-Ok-Subcommand-clause-version : goal.returns-in-Ok-Subcommand-clause-version
+returns-in-Ok-Subcommand-clause-version c =
+    let arguments = texts c.args.arguments.now in
+    let all = subst (IsAll arguments) c.in-Ok-Subcommand.field-0-is c.in-Ok-Subcommand.ensures.in_place in (
       λ e. absurd ((IfOk-at_ok _ e c.clear_task.ensures.ok).1),
-      λ is. absurd (no_version c.in-Ok-Row.row (given c.in-Ok-Row.found) words all is),
+      λ is. absurd (no_version c.in-Ok-Subcommand.subcommand (given c.in-Ok-Subcommand.found) arguments all is),
     )
 
-pub returns-in-Ok-Row-clause-mistake : goal.returns-in-Ok-Row-clause-mistake
-returns-in-Ok-Row-clause-mistake c =
-    let words = texts c.args.words.now in
-    let asks = subst (Asks words) c.in-Ok-Row.field-0-is c.in-Ok-Row.ensures.ok in
+pub returns-in-Ok-Subcommand-clause-mistake : goal.returns-in-Ok-Subcommand-clause-mistake
+returns-in-Ok-Subcommand-clause-mistake c =
+    let arguments = texts c.args.arguments.now in
+    let asks = subst (Asks arguments) c.in-Ok-Subcommand.field-0-is c.in-Ok-Subcommand.ensures.ok in
     IfErr-weaker c.clear_task.result _ _
-    (λ m wrong. wrong_is words c.in-Ok-Row.row (given c.in-Ok-Row.found) m asks wrong) c.clear_task.ensures.mistake
+    (λ m wrong. wrong_is arguments c.in-Ok-Subcommand.subcommand (given c.in-Ok-Subcommand.found) m asks wrong) c.clear_task.ensures.mistake
 
 pub returns-in-Err-clause-err : goal.returns-in-Err-clause-err
 returns-in-Err-clause-err c t wants =
-    no_wish (texts c.args.words.now) _ t (some_words c.args.words.now (sym c.is_empty.ensures ∙ c.if-is_empty.false))
+    no_wish (texts c.args.arguments.now) _ t (some_arguments c.args.arguments.now (sym c.is_empty.ensures ∙ c.if-is_empty.false))
     c.in-Err.ensures.err c.in-Err.ensures.never wants
 
 pub returns-in-Err-clause-help : goal.returns-in-Err-clause-help
 returns-in-Err-clause-help c page =
-    (λ e. cc, λ is. absurd (c.in-Err.ensures.never (for_help page) (is_help (texts c.args.words.now) page is)))
+    (λ e. cc, λ is. absurd (c.in-Err.ensures.never (for_help page) (is_help (texts c.args.arguments.now) page is)))
 
 pub returns-in-Err-clause-version : goal.returns-in-Err-clause-version
 returns-in-Err-clause-version c = (λ e. cc, λ is. absurd (c.in-Err.ensures.never for_version is))

@@ -2,7 +2,7 @@ use Rattle.std.proofs.Common.{◌≡◌, take}
 use Rattle.clap.specs.Words.{app_of, new_app, with_rule}
 use Rattle.std.specs.Prelude.{fold}
 use Rattle.command_line.specs.Tables.{IsLocal, rule_for}
-use Rattle.command_line.proofs.tables.row.Given as goal
+use Rattle.command_line.proofs.tables.command_for.Given as goal
 
 abbrev pub invariant-loop-one : goal.invariant-loop-one
 invariant-loop-one l = record {

@@ -1,10 +1,10 @@
-//! The table of the rows.
+//! The table of the subcommands.
 
-use command_line::{Kind, Line, Program};
+use command_line::{Kind, Program, Syntax};
 
-/// The name of a row.
+/// The name of a subcommand.
 #[derive(Clone, Copy)]
-pub enum RowName {
+pub enum Subcommand {
     /// `punch`.
     Punch,
     /// `list`.
@@ -37,10 +37,10 @@ pub enum RowName {
     Page,
 }
 
-/// The rows.
-const ROWS: [Line<RowName>; 15] = [
-    Line {
-        row: RowName::Punch,
+/// The subcommands.
+const SUBCOMMANDS: [Syntax<Subcommand>; 15] = [
+    Syntax {
+        subcommand: Subcommand::Punch,
         name: "punch",
         arguments: &[
             ("IN", Kind::Value),
@@ -55,8 +55,8 @@ const ROWS: [Line<RowName>; 15] = [
         usage: "punch IN OUT [--fold] [--tabs LIST] [--signs TABLE] [--keep COLUMN] \
              [--empty MODE] [--report]",
     },
-    Line {
-        row: RowName::List,
+    Syntax {
+        subcommand: Subcommand::List,
         name: "list",
         arguments: &[
             ("DECK", Kind::Value),
@@ -65,14 +65,14 @@ const ROWS: [Line<RowName>; 15] = [
         ],
         usage: "list DECK [--ruler] [--punches]",
     },
-    Line {
-        row: RowName::Compare,
+    Syntax {
+        subcommand: Subcommand::Compare,
         name: "compare",
         arguments: &[("ONE", Kind::Value), ("OTHER", Kind::Value)],
         usage: "compare ONE OTHER",
     },
-    Line {
-        row: RowName::Sequence,
+    Syntax {
+        subcommand: Subcommand::Sequence,
         name: "sequence",
         arguments: &[
             ("IN", Kind::Value),
@@ -83,8 +83,8 @@ const ROWS: [Line<RowName>; 15] = [
         ],
         usage: "sequence IN [OUT IDENT FIRST STEP]",
     },
-    Line {
-        row: RowName::Convert,
+    Syntax {
+        subcommand: Subcommand::Convert,
         name: "convert",
         arguments: &[
             ("IN", Kind::Value),
@@ -94,8 +94,8 @@ const ROWS: [Line<RowName>; 15] = [
         ],
         usage: "convert IN OUT FROM TO",
     },
-    Line {
-        row: RowName::Source,
+    Syntax {
+        subcommand: Subcommand::Source,
         name: "source",
         arguments: &[
             ("IN", Kind::Value),
@@ -104,8 +104,8 @@ const ROWS: [Line<RowName>; 15] = [
         ],
         usage: "source IN [--data] [--width 80|120]",
     },
-    Line {
-        row: RowName::Manifest,
+    Syntax {
+        subcommand: Subcommand::Manifest,
         name: "manifest",
         arguments: &[
             ("FILE", Kind::Several),
@@ -114,8 +114,8 @@ const ROWS: [Line<RowName>; 15] = [
         ],
         usage: "manifest FILE.. [--form FORM] [--check KNOWN]",
     },
-    Line {
-        row: RowName::Trace,
+    Syntax {
+        subcommand: Subcommand::Trace,
         name: "trace",
         arguments: &[
             ("DECK", Kind::Value),
@@ -130,8 +130,8 @@ const ROWS: [Line<RowName>; 15] = [
         usage: "trace DECK SIZE SWITCHES [--from N] [--count N] [--stop ADDRESS] \
              [--names SOURCE] [--fields]",
     },
-    Line {
-        row: RowName::Dump,
+    Syntax {
+        subcommand: Subcommand::Dump,
         name: "dump",
         arguments: &[
             ("DECK", Kind::Value),
@@ -145,8 +145,8 @@ const ROWS: [Line<RowName>; 15] = [
         usage: "dump DECK SIZE SWITCHES [--after N] [--stop ADDRESS] [--first N] \
              [--last N]",
     },
-    Line {
-        row: RowName::Profile,
+    Syntax {
+        subcommand: Subcommand::Profile,
         name: "profile",
         arguments: &[
             ("DECK", Kind::Value),
@@ -156,8 +156,8 @@ const ROWS: [Line<RowName>; 15] = [
         ],
         usage: "profile DECK SIZE SWITCHES [--names SOURCE]",
     },
-    Line {
-        row: RowName::Console,
+    Syntax {
+        subcommand: Subcommand::Console,
         name: "console",
         arguments: &[
             ("DECK", Kind::Value),
@@ -167,8 +167,8 @@ const ROWS: [Line<RowName>; 15] = [
         ],
         usage: "console DECK SIZE SWITCHES [--names SOURCE]",
     },
-    Line {
-        row: RowName::Card,
+    Syntax {
+        subcommand: Subcommand::Card,
         name: "card",
         arguments: &[
             ("DECK", Kind::Value),
@@ -177,20 +177,20 @@ const ROWS: [Line<RowName>; 15] = [
         ],
         usage: "card DECK N OUT",
     },
-    Line {
-        row: RowName::Deck,
+    Syntax {
+        subcommand: Subcommand::Deck,
         name: "deck",
         arguments: &[("DECK", Kind::Value), ("OUT", Kind::Value)],
         usage: "deck DECK OUT",
     },
-    Line {
-        row: RowName::Pages,
+    Syntax {
+        subcommand: Subcommand::Pages,
         name: "pages",
         arguments: &[("LISTING", Kind::Value), ("OUT", Kind::Value)],
         usage: "pages LISTING OUT",
     },
-    Line {
-        row: RowName::Page,
+    Syntax {
+        subcommand: Subcommand::Page,
         name: "page",
         arguments: &[
             ("SOURCE", Kind::Value),
@@ -202,8 +202,8 @@ const ROWS: [Line<RowName>; 15] = [
     },
 ];
 
-/// The program by its words.
-pub const WORKBENCH: Program<RowName> = Program {
+/// The program by its arguments.
+pub const WORKBENCH: Program<Subcommand> = Program {
     name: "workbench",
-    rows: &ROWS,
+    subcommands: &SUBCOMMANDS,
 };

@@ -1,10 +1,10 @@
-//! The table of the rows.
+//! The table of the subcommands.
 
-use command_line::{Kind, Line, Program};
+use command_line::{Kind, Program, Syntax};
 
-/// The name of a row.
+/// The name of a subcommand.
 #[derive(Clone, Copy)]
-pub enum RowName {
+pub enum Subcommand {
     /// `check`.
     Check,
     /// `jobs`.
@@ -19,34 +19,34 @@ pub enum RowName {
     Watch,
 }
 
-/// The rows.
-const ROWS: [Line<RowName>; 6] = [
-    Line {
-        row: RowName::Check,
+/// The subcommands.
+const SUBCOMMANDS: [Syntax<Subcommand>; 6] = [
+    Syntax {
+        subcommand: Subcommand::Check,
         name: "check",
         arguments: &[("FILE", Kind::Value)],
         usage: "check FILE",
     },
-    Line {
-        row: RowName::Jobs,
+    Syntax {
+        subcommand: Subcommand::Jobs,
         name: "jobs",
         arguments: &[("FILE", Kind::Value), ("CUSTOMER", Kind::Further)],
         usage: "jobs FILE [CUSTOMER]",
     },
-    Line {
-        row: RowName::Copy,
+    Syntax {
+        subcommand: Subcommand::Copy,
         name: "copy",
         arguments: &[("FILE", Kind::Value), ("NEW", Kind::Value)],
         usage: "copy FILE NEW",
     },
-    Line {
-        row: RowName::Archive,
+    Syntax {
+        subcommand: Subcommand::Archive,
         name: "archive",
         arguments: &[("FILE", Kind::Value), ("FOLDER", Kind::Value)],
         usage: "archive FILE FOLDER",
     },
-    Line {
-        row: RowName::Work,
+    Syntax {
+        subcommand: Subcommand::Work,
         name: "work",
         arguments: &[
             ("PORT", Kind::Value),
@@ -56,8 +56,8 @@ const ROWS: [Line<RowName>; 6] = [
         ],
         usage: "work PORT [--slice N] [--rounds N] [--pause SECONDS]",
     },
-    Line {
-        row: RowName::Watch,
+    Syntax {
+        subcommand: Subcommand::Watch,
         name: "watch",
         arguments: &[
             ("PORT", Kind::Value),
@@ -68,8 +68,8 @@ const ROWS: [Line<RowName>; 6] = [
     },
 ];
 
-/// The program by its words.
-pub const OPERATOR: Program<RowName> = Program {
+/// The program by its arguments.
+pub const OPERATOR: Program<Subcommand> = Program {
     name: "operator",
-    rows: &ROWS,
+    subcommands: &SUBCOMMANDS,
 };

@@ -6,7 +6,7 @@ use Rattle.clap.specs.Words.{App, Text, new_app, with_rule}
 use Rattle.command_line.specs.Tables.{rule_for}
 use Rattle.command_line.specs.declared.tables.Kind.{Kind}
 use Rattle.command_line.specs.declared.tables.Kind.TheVariants.{Value}
-use Rattle.command_line.proofs.tables.row.Goals as goal
+use Rattle.command_line.proofs.tables.command_for.Goals as goal
 
 abbrev with_argument : App → Text × Kind → App
 with_argument a g = with_rule a (rule_for g.0 g.1)

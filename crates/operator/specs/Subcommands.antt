@@ -1,16 +1,16 @@
--- the program's words
+-- the program's arguments
 use Rattle.std.specs.Prelude.{[], ◌∷◌, codes}
 use Rattle.command_line.specs.Programs.{Program}
 use Rattle.command_line.specs.declared.tables.Kind.TheVariants.{Value, Further, Setting}
-use Rattle.operator.specs.declared.rows.RowName.{RowName}
-use Rattle.operator.specs.declared.rows.RowName.TheVariants as name
+use Rattle.operator.specs.declared.subcommands.Subcommand.{Subcommand}
+use Rattle.operator.specs.declared.subcommands.Subcommand.TheVariants as name
 
--- the program by its words, with the table of its rows: each with its name, its arguments in order,
--- by name, and how it is used
-abbrev pub operator : Program RowName
+-- the program by its arguments, with the table of its subcommands: each with its name, its
+-- arguments in order, by name, and how it is used
+abbrev pub operator : Program Subcommand
 operator = record {
   name = codes "operator";
-  rows = (name.Check, codes "check", (codes "FILE", Value) ∷ [], codes "check FILE")
+  subcommands = (name.Check, codes "check", (codes "FILE", Value) ∷ [], codes "check FILE")
       ∷ (
         name.Jobs,
         codes "jobs",

@@ -1,11 +1,11 @@
-//! The table of the rows.
+//! The table of the subcommands.
 
-use crate::programs::{Line, Program};
+use crate::programs::{Program, Syntax};
 use crate::tables::Kind;
 
-/// The name of a row.
+/// The name of a subcommand.
 #[derive(Clone, Copy, Debug, PartialEq, Eq)]
-pub enum RowName {
+pub enum Subcommand {
     /// `run`.
     Run,
     /// `assemble`.
@@ -22,10 +22,10 @@ pub enum RowName {
     Serve,
 }
 
-/// The rows.
-const ROWS: [Line<RowName>; 7] = [
-    Line {
-        row: RowName::Run,
+/// The subcommands.
+const SUBCOMMANDS: [Syntax<Subcommand>; 7] = [
+    Syntax {
+        subcommand: Subcommand::Run,
         name: "run",
         arguments: &[
             ("DECK", Kind::Value),
@@ -34,26 +34,26 @@ const ROWS: [Line<RowName>; 7] = [
         ],
         usage: "run DECK SIZE SWITCHES",
     },
-    Line {
-        row: RowName::Assemble,
+    Syntax {
+        subcommand: Subcommand::Assemble,
         name: "assemble",
         arguments: &[("IN", Kind::Value), ("OUT", Kind::Value)],
         usage: "assemble IN OUT",
     },
-    Line {
-        row: RowName::Init,
+    Syntax {
+        subcommand: Subcommand::Init,
         name: "init",
         arguments: &[("FILE", Kind::Value)],
         usage: "init FILE",
     },
-    Line {
-        row: RowName::Apply,
+    Syntax {
+        subcommand: Subcommand::Apply,
         name: "apply",
         arguments: &[("FILE", Kind::Value), ("SCRIPT", Kind::Value)],
         usage: "apply FILE SCRIPT",
     },
-    Line {
-        row: RowName::Export,
+    Syntax {
+        subcommand: Subcommand::Export,
         name: "export",
         arguments: &[
             ("FILE", Kind::Value),
@@ -62,14 +62,14 @@ const ROWS: [Line<RowName>; 7] = [
         ],
         usage: "export FILE CUSTOMER NUMBER",
     },
-    Line {
-        row: RowName::Migrate,
+    Syntax {
+        subcommand: Subcommand::Migrate,
         name: "migrate",
         arguments: &[("FILE", Kind::Value)],
         usage: "migrate FILE",
     },
-    Line {
-        row: RowName::Serve,
+    Syntax {
+        subcommand: Subcommand::Serve,
         name: "serve",
         arguments: &[
             ("FILE", Kind::Value),
@@ -80,8 +80,8 @@ const ROWS: [Line<RowName>; 7] = [
     },
 ];
 
-/// The program by its words.
-pub(crate) const BUREAU: Program<RowName> = Program {
+/// The program by its arguments.
+pub(crate) const BUREAU: Program<Subcommand> = Program {
     name: "bureau",
-    rows: &ROWS,
+    subcommands: &SUBCOMMANDS,
 };

@@ -1,16 +1,16 @@
--- the program's words
+-- the program's arguments
 use Rattle.std.specs.Prelude.{[], ◌∷◌, ◌++◌, codes}
 use Rattle.command_line.specs.Programs.{Program}
 use Rattle.command_line.specs.declared.tables.Kind.TheVariants.{Value, Further, Several, Flag, Setting}
-use Rattle.workbench_arguments.specs.declared.rows.RowName.{RowName}
-use Rattle.workbench_arguments.specs.declared.rows.RowName.TheVariants as name
+use Rattle.workbench_arguments.specs.declared.subcommands.Subcommand.{Subcommand}
+use Rattle.workbench_arguments.specs.declared.subcommands.Subcommand.TheVariants as name
 
--- the program by its words, with the table of its rows: each with its name, its arguments in order,
--- by name, and how it is used
-abbrev pub workbench : Program RowName
+-- the program by its arguments, with the table of its subcommands: each with its name, its
+-- arguments in order, by name, and how it is used
+abbrev pub workbench : Program Subcommand
 workbench = record {
   name = codes "workbench";
-  rows = (
+  subcommands = (
     name.Punch,
     codes "punch",
     (codes "IN", Value) ∷ (codes "OUT", Value) ∷ (codes "fold", Flag)
