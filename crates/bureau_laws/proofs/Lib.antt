@@ -13,7 +13,7 @@ pub mod RoundLaw
 pub mod ChainLemmas
 pub mod LaterRoundLaw
 pub mod CustomerRounds
-pub mod HeardDigits
-pub mod HeardHeads
-pub mod HeardTexts
-pub mod HearingLaw
+pub mod ReplyDigits
+pub mod ReplyHeads
+pub mod ReplyTexts
+pub mod ReplyLaw

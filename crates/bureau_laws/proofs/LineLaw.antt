@@ -17,13 +17,13 @@ use Rattle.office.specs.declared.commands.JobCommand.{JobCommand}
 use Rattle.office.specs.declared.commands.JobCommand.TheVariants as on
 use Rattle.office.specs.declared.commands.Kind.{Kind}
 use Rattle.office.specs.declared.commands.Kind.TheVariants.{Object, Autocoder}
-use Rattle.scripts.specs.Commands.{AreJobWords, IsHeading, IsSaidBy, Says, SaysJob}
+use Rattle.scripts.specs.Commands.{AreJobWords, IsHeading, IsMeantBy, Says, SaysJob}
 use Rattle.scripts.specs.Scripts.{BeginsWith, BeginsWithDeck, HasBadCard, HasNoCard}
 use Rattle.scripts.specs.Texts.{IsCountOf, IsKindOf, text_of}
 use Rattle.scripts.specs.Words.{words_of}
 use Rattle.scripts.specs.declared.headings.Heading.{Heading}
-use Rattle.scripts.specs.declared.said.Said.{Said}
-use Rattle.scripts.specs.declared.said.Said.TheVariants as said
+use Rattle.scripts.specs.declared.meanings.Meaning.{Meaning}
+use Rattle.scripts.specs.declared.meanings.Meaning.TheVariants as said
 use Rattle.scripts.proofs.ParsingLemmas.{one_line}
 use Rattle.bureau_laws.specs.Same.{IsSameCommand}
 use Rattle.bureau_laws.proofs.AskingLaw.{one_number, one_set}
@@ -86,9 +86,9 @@ module _ (verb : List ℕ) (after : List (List ℕ)) where
   one_on_job c on.Lines x y = absurd y
 
 -- words say one command on one job
-one_job_said : (words : List (List ℕ)) (customer name : List ℕ) (number place : ℕ) (c d : JobCommand)
+one_job_meant : (words : List (List ℕ)) (customer name : List ℕ) (number place : ℕ) (c d : JobCommand)
     → SaysJob words customer number c → SaysJob words name place d → (customer ≡ name) × (number ≡ place) × (c ≡ d)
-one_job_said words customer name number place c d a b =
+one_job_meant words customer name number place c d a b =
     let verbs = heads (sym a.are ∙ b.are) in
     let names = heads verbs.1 in
     let numerals = heads names.1 in (
@@ -99,21 +99,21 @@ one_job_said words customer name number place c d a b =
     )
 
 -- words say one command
-one_said : (words : List (List ℕ)) (c d : Command) → Says words c → Says words d → IsSameCommand c d
-one_said words (command.Job customer number c) (command.Job name place d) x y = one_job_said words (string_bytes customer) (string_bytes name) number place c d x y
-one_said words (command.Job customer number c) (command.Jobs name) x y = absurd (omega (arith, ap length x.are, ap length y.1))
-one_said words (command.Job customer number c) command.Queue x y = absurd (omega (arith, ap length x.are, ap length y))
-one_said words (command.Jobs customer) (command.Job name place d) x y = absurd (omega (arith, ap length y.are, ap length x.1))
-one_said words (command.Jobs customer) (command.Jobs name) x y =
+one_meant : (words : List (List ℕ)) (c d : Command) → Says words c → Says words d → IsSameCommand c d
+one_meant words (command.Job customer number c) (command.Job name place d) x y = one_job_meant words (string_bytes customer) (string_bytes name) number place c d x y
+one_meant words (command.Job customer number c) (command.Jobs name) x y = absurd (omega (arith, ap length x.are, ap length y.1))
+one_meant words (command.Job customer number c) command.Queue x y = absurd (omega (arith, ap length x.are, ap length y))
+one_meant words (command.Jobs customer) (command.Job name place d) x y = absurd (omega (arith, ap length y.are, ap length x.1))
+one_meant words (command.Jobs customer) (command.Jobs name) x y =
     let e = sym x.1 ∙ y.1 in
     let name_is : x.0 ≡ y.0 = cc in
     x.2 ∙ ap text_of name_is ∙ sym y.2
-one_said words (command.Jobs customer) command.Queue x y = absurd (omega (arith, ap length x.1, ap length y))
-one_said words command.Queue (command.Job name place d) x y = absurd (omega (arith, ap length x, ap length y.are))
-one_said words command.Queue (command.Jobs name) x y = absurd (omega (arith, ap length x, ap length y.1))
-one_said words command.Queue command.Queue x y = tt
-one_said words (command.Submit customer number contents) d x y = absurd x
-one_said words c (command.Submit customer number contents) x y = absurd y
+one_meant words (command.Jobs customer) command.Queue x y = absurd (omega (arith, ap length x.1, ap length y))
+one_meant words command.Queue (command.Job name place d) x y = absurd (omega (arith, ap length x, ap length y.are))
+one_meant words command.Queue (command.Jobs name) x y = absurd (omega (arith, ap length x, ap length y.1))
+one_meant words command.Queue command.Queue x y = tt
+one_meant words (command.Submit customer number contents) d x y = absurd x
+one_meant words c (command.Submit customer number contents) x y = absurd y
 
 -- ---- headings
 
@@ -170,31 +170,31 @@ no_heading words command.Queue h x y = omega (arith, ap length x, ap length y.ar
 -- ---- lines
 
 -- bytes begin with one line
-pub same_line : (bytes : List ℕ) (it other : Said) (rest after : List ℕ) (a : BeginsWith bytes it rest) (b : BeginsWith bytes other after)
+pub same_line : (bytes : List ℕ) (it other : Meaning) (rest after : List ℕ) (a : BeginsWith bytes it rest) (b : BeginsWith bytes other after)
     → (a.line ≡ b.line) × (rest ≡ after)
 same_line bytes it other rest after a b = one_line 10 a.line b.line rest after a.begins.0 b.begins.0 (sym a.begins.1 ∙ b.begins.1)
 
 -- .. which says what the other does
-said_too : (bytes : List ℕ) (it other : Said) (rest after : List ℕ) (a : BeginsWith bytes it rest) (b : BeginsWith bytes other after) → IsSaidBy (words_of a.line) other
-said_too bytes it other rest after a b = subst (λ (l : List ℕ). IsSaidBy (words_of l) other) (sym (same_line bytes it other rest after a b).0) b.says
+meant_too : (bytes : List ℕ) (it other : Meaning) (rest after : List ℕ) (a : BeginsWith bytes it rest) (b : BeginsWith bytes other after) → IsMeantBy (words_of a.line) other
+meant_too bytes it other rest after a b = subst (λ (l : List ℕ). IsMeantBy (words_of l) other) (sym (same_line bytes it other rest after a b).0) b.says
 
-pub same_said : (bytes : List ℕ) (c d : Command) (rest after : List ℕ) → BeginsWith bytes (said.Command c) rest → BeginsWith bytes (said.Command d) after
+pub same_meaning : (bytes : List ℕ) (c d : Command) (rest after : List ℕ) → BeginsWith bytes (said.Command c) rest → BeginsWith bytes (said.Command d) after
     → IsSameCommand c d × (rest ≡ after)
-same_said bytes c d rest after a b = (
-  one_said (words_of a.line) c d a.says (said_too bytes (said.Command c) (said.Command d) rest after a b),
+same_meaning bytes c d rest after a b = (
+  one_meant (words_of a.line) c d a.says (meant_too bytes (said.Command c) (said.Command d) rest after a b),
   (same_line bytes (said.Command c) (said.Command d) rest after a b).1,
 )
 
 pub same_heading : (bytes : List ℕ) (h k : Heading) (rest after : List ℕ) → BeginsWith bytes (said.Heading h) rest → BeginsWith bytes (said.Heading k) after
     → IsSameHeading h k × (rest ≡ after)
 same_heading bytes h k rest after a b = (
-  one_heading (words_of a.line) h k a.says (said_too bytes (said.Heading h) (said.Heading k) rest after a b),
+  one_heading (words_of a.line) h k a.says (meant_too bytes (said.Heading h) (said.Heading k) rest after a b),
   (same_line bytes (said.Heading h) (said.Heading k) rest after a b).1,
 )
 
-pub said_or_headed : (bytes : List ℕ) (c : Command) (h : Heading) (rest after : List ℕ) → BeginsWith bytes (said.Command c) rest → BeginsWith bytes (said.Heading h) after → ⊥
-said_or_headed bytes c h rest after a b =
-    no_heading (words_of a.line) c h a.says (said_too bytes (said.Command c) (said.Heading h) rest after a b)
+pub meant_or_headed : (bytes : List ℕ) (c : Command) (h : Heading) (rest after : List ℕ) → BeginsWith bytes (said.Command c) rest → BeginsWith bytes (said.Heading h) after → ⊥
+meant_or_headed bytes c h rest after a b =
+    no_heading (words_of a.line) c h a.says (meant_too bytes (said.Command c) (said.Heading h) rest after a b)
 
 -- ---- cards
 

@@ -14,14 +14,14 @@ use Rattle.scripts.specs.Scripts.{Begins, BeginsWith, BeginsWithDeck, HasBadCard
 use Rattle.scripts.specs.declared.faults.ScriptFault.{ScriptFault}
 use Rattle.scripts.specs.declared.faults.ScriptFault.TheVariants as fault
 use Rattle.scripts.specs.declared.headings.Heading.{Heading}
-use Rattle.scripts.specs.declared.said.Said.{Said}
-use Rattle.scripts.specs.declared.said.Said.TheVariants as said
+use Rattle.scripts.specs.declared.meanings.Meaning.{Meaning}
+use Rattle.scripts.specs.declared.meanings.Meaning.TheVariants as said
 use Rattle.bureau_laws.specs.Same.{AreSameCommands, IsSameCommand}
-use Rattle.bureau_laws.proofs.LineLaw.{IsSameHeading, deck_or_bad, one_bad_card, said_or_headed, same_deck, same_heading, same_said}
+use Rattle.bureau_laws.proofs.LineLaw.{IsSameHeading, deck_or_bad, one_bad_card, meant_or_headed, same_deck, same_heading, same_meaning}
 
 -- ---- a command
 
-line_shorter : (bytes : List ℕ) (it : Said) (rest : List ℕ) → BeginsWith bytes it rest → length rest < length bytes
+line_shorter : (bytes : List ℕ) (it : Meaning) (rest : List ℕ) → BeginsWith bytes it rest → length rest < length bytes
 line_shorter bytes it rest begins = omega (arith, ap length begins.begins.1, length-append begins.line (10 ∷ rest))
 
 deck_shorter : (bytes : List ℕ) (deck : List Card) (count : ℕ) (rest : List ℕ) → BeginsWithDeck bytes deck count rest → length rest ≤ length bytes
@@ -60,22 +60,22 @@ same_submission bytes customer name number place contents handed n m r s (h, aft
 module _ (bytes : List ℕ) (n m : ℕ) (r s : List ℕ) where
   same_plain : (c d : Command) → BeginsWith bytes (said.Command c) r × (n ≡ 1) → BeginsWith bytes (said.Command d) s × (m ≡ 1)
       → IsSameCommand c d × (n ≡ m) × (r ≡ s)
-  same_plain c d a b = let it = same_said bytes c d r s a.0 b.0 in (it.0, a.1 ∙ sym b.1, it.1)
+  same_plain c d a b = let it = same_meaning bytes c d r s a.0 b.0 in (it.0, a.1 ∙ sym b.1, it.1)
 
   same_begins : (c d : Command) → Begins bytes c n r → Begins bytes d m s → IsSameCommand c d × (n ≡ m) × (r ≡ s)
   same_begins (command.Submit customer number contents) (command.Submit name place handed) a b = same_submission bytes customer name number place contents handed n m r s a b
-  same_begins (command.Submit customer number contents) (command.Job name place d) a b = absurd (said_or_headed bytes _ a.0 s a.1 b.0 a.2)
-  same_begins (command.Submit customer number contents) (command.Jobs name) a b = absurd (said_or_headed bytes _ a.0 s a.1 b.0 a.2)
-  same_begins (command.Submit customer number contents) command.Queue a b = absurd (said_or_headed bytes _ a.0 s a.1 b.0 a.2)
-  same_begins (command.Job customer number c) (command.Submit name place handed) a b = absurd (said_or_headed bytes _ b.0 r b.1 a.0 b.2)
+  same_begins (command.Submit customer number contents) (command.Job name place d) a b = absurd (meant_or_headed bytes _ a.0 s a.1 b.0 a.2)
+  same_begins (command.Submit customer number contents) (command.Jobs name) a b = absurd (meant_or_headed bytes _ a.0 s a.1 b.0 a.2)
+  same_begins (command.Submit customer number contents) command.Queue a b = absurd (meant_or_headed bytes _ a.0 s a.1 b.0 a.2)
+  same_begins (command.Job customer number c) (command.Submit name place handed) a b = absurd (meant_or_headed bytes _ b.0 r b.1 a.0 b.2)
   same_begins (command.Job customer number c) (command.Job name place d) a b = same_plain (command.Job customer number c) (command.Job name place d) a b
   same_begins (command.Job customer number c) (command.Jobs name) a b = same_plain (command.Job customer number c) (command.Jobs name) a b
   same_begins (command.Job customer number c) command.Queue a b = same_plain (command.Job customer number c) command.Queue a b
-  same_begins (command.Jobs customer) (command.Submit name place handed) a b = absurd (said_or_headed bytes _ b.0 r b.1 a.0 b.2)
+  same_begins (command.Jobs customer) (command.Submit name place handed) a b = absurd (meant_or_headed bytes _ b.0 r b.1 a.0 b.2)
   same_begins (command.Jobs customer) (command.Job name place d) a b = same_plain (command.Jobs customer) (command.Job name place d) a b
   same_begins (command.Jobs customer) (command.Jobs name) a b = same_plain (command.Jobs customer) (command.Jobs name) a b
   same_begins (command.Jobs customer) command.Queue a b = same_plain (command.Jobs customer) command.Queue a b
-  same_begins command.Queue (command.Submit name place handed) a b = absurd (said_or_headed bytes _ b.0 r b.1 a.0 b.2)
+  same_begins command.Queue (command.Submit name place handed) a b = absurd (meant_or_headed bytes _ b.0 r b.1 a.0 b.2)
   same_begins command.Queue (command.Job name place d) a b = same_plain command.Queue (command.Job name place d) a b
   same_begins command.Queue (command.Jobs name) a b = same_plain command.Queue (command.Jobs name) a b
   same_begins command.Queue command.Queue a b = same_plain command.Queue command.Queue a b
@@ -90,7 +90,7 @@ a_heading h same = absurd (cc)
 
 plain_or_bad : (bytes : List ℕ) (c : Command) (m : ℕ) (r : List ℕ) → BeginsWith bytes (said.Command c) r → IsBadHere bytes m → ⊥
 plain_or_bad bytes c m r begins (some, inl nothing) = nothing.1 (said.Command c) r (a_command c) begins
-plain_or_bad bytes c m r begins (some, inr bad) = said_or_headed bytes c bad.heading r bad.after begins bad.heads
+plain_or_bad bytes c m r begins (some, inr bad) = meant_or_headed bytes c bad.heading r bad.after begins bad.heads
 
 begins_or_bad : (bytes : List ℕ) (c : Command) (n m : ℕ) (r : List ℕ) → Begins bytes c n r → IsBadHere bytes m → ⊥
 begins_or_bad bytes (command.Submit customer number contents) n m r (h, after, heads, ends) (some, inl nothing) = nothing.1 (said.Heading h) after (a_heading h) heads

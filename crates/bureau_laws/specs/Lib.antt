@@ -6,4 +6,4 @@ pub mod Ends
 pub mod Refusals
 pub mod Rounds
 pub mod KeptRounds
-pub mod Hearing
+pub mod Replies

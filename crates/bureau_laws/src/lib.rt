@@ -1,5 +1,5 @@
 //! The theorems of the bureau: stops lose nothing, customers are apart, a submission may be sent
-//! again, bytes are one request and one script, replies are heard, and each refusal has its reason.
+//! again, bytes are one request and one script, replies are read, and each refusal has its reason.
 //!
 //! They are over the definitions that the program's calls are proved against.
 //!
@@ -29,8 +29,8 @@
 //!   cut short asks for nothing and is refused with 400, and bytes after its end do not matter.
 //! - **Bytes are one script** ([`one_script`]): they are the script of one list of commands, or
 //!   they have one first bad line, or they are too many.
-//! - **Replies are heard** ([`replies_are_heard`]): the bytes of each reply of the counter are read
-//!   as its status and its body, and the operator hears of them what was written: the queue, what a
+//! - **Replies are read** ([`replies_are_read`]): the bytes of each reply of the counter are read
+//!   as its status and its body, and the operator reads of them what was written: the queue, what a
 //!   slice did or why it was refused, how a job stands, and that the bureau failed.
 //! - **Refusals have reasons** ([`refusals_have_reasons`]): for each number with which a command on
 //!   a job is refused, how the job is exactly then, and which reason is given where several hold.
@@ -41,10 +41,10 @@ mod commands;
 mod customers;
 mod ends;
 mod heads;
-mod hearing;
 mod later_rounds;
 mod refusals;
 mod repeats;
+mod replies;
 mod requests;
 mod rounds;
 
@@ -53,7 +53,7 @@ pub use commands::one_script;
 pub use customers::{customers_are_apart, customers_are_apart_in_rounds};
 pub use ends::requests_end;
 pub use heads::{one_head, one_refusal};
-pub use hearing::replies_are_heard;
+pub use replies::replies_are_read;
 pub use later_rounds::repeats_in_later_rounds;
 pub use refusals::refusals_have_reasons;
 pub use repeats::repeats_in_any_shift;

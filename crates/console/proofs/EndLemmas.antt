@@ -5,16 +5,16 @@ use Rattle.machine.specs.Run.{State, after}
 use Rattle.console.specs.Answers.{advanced, before_last, end_shown}
 use Rattle.console.specs.Goes.{watched_cell}
 use Rattle.console.specs.Shown.{last_shown, why_line}
-use Rattle.console.specs.Sittings.{HasCome, Sitting, machine_of}
+use Rattle.console.specs.SessionStates.{HasCome, SessionState, machine_of}
 use Rattle.console.proofs.SessionLemmas.{later_machine}
 
 pub on_ok : {A E P Q : Type 0} (r : Result A E) → (P → Q) → OnOk r P → OnOk r Q
 on_ok (Ok a) more is = more is
 on_ok (Err e) more is = is
 
-module _ (s : Sitting) (count : ℕ) (before : State) (seen : ℕ × Bool) (start middle whole : List ℕ) where
+module _ (s : SessionState) (count : ℕ) (before : State) (seen : ℕ × Bool) (start middle whole : List ℕ) where
   -- the lines were added by a session that has come here
-  abbrev Adds : Sitting → Type 0
+  abbrev Adds : SessionState → Type 0
   Adds now = before ≡ machine_of now.base now.starts (now.made - count + (count - 1))
       → seen ≡ watched_cell now.watched before.works.storage
       → ((made : ℕ) → now.made ≡ made + count → middle ≡ start ++ last_shown now.names made before count)
@@ -33,5 +33,5 @@ module _ (s : Sitting) (count : ℕ) (before : State) (seen : ℕ × Bool) (star
       ∙ ap (λ cell. (start ++ last_shown s.names s.made m count) ++ why_line s.stops s.watched (s.made + count) cell (after s.machine count)) held
       ∙ append_assoc start (last_shown s.names s.made m count) (why_line s.stops s.watched (s.made + count) (watched_cell s.watched m.works.storage) (after s.machine count))
 
-  pub end_added : (now : Sitting) → HasCome s → now ≡ advanced s count → Adds now
+  pub end_added : (now : SessionState) → HasCome s → now ≡ advanced s count → Adds now
   end_added now come same = subst Adds (sym same) (adds_here come)

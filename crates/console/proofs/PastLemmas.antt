@@ -6,7 +6,7 @@ use Rattle.std.proofs.lemmas.List.Elements.{All-head, All-tail, filter_passes}
 use Rattle.machine.specs.Run.{State, after}
 use Rattle.machine.proofs.Steps.{after-after}
 use Rattle.console.specs.Answers.{starts_until}
-use Rattle.console.specs.Sittings.{machine_from, machine_of, pressed}
+use Rattle.console.specs.SessionStates.{machine_from, machine_of, pressed}
 use Rattle.console.specs.declared.starts.Start.{Start}
 
 -- attempts behind the last start are steps

@@ -1,8 +1,8 @@
 pub mod Words
 pub mod Verbs
 pub mod Readings
-pub mod Sayings
-pub mod Sittings
+pub mod Commands
+pub mod SessionStates
 pub mod Goes
 pub mod Shown
 pub mod Answers

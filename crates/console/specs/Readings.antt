@@ -3,11 +3,11 @@ use Rattle.std.specs.Prelude.{ℕ, ◌≡◌, ◌≤◌, ◌<◌, nat_lt, List, 
 use Rattle.core_store.specs.Storage.{largest_size}
 use Rattle.texts.specs.Switches.{AreSwitchesOf}
 use Rattle.units.specs.declared.switches.Switches.{Switches}
-use Rattle.run_traces.specs.Addresses.{IsSaid}
+use Rattle.run_traces.specs.Addresses.{IsCommand}
 use Rattle.run_traces.specs.Names.{Named}
 use Rattle.console.specs.Words.{first_word, from_fourth, second_word, text_of, third_word}
 use Rattle.console.specs.Verbs.{IsVerbOf}
-use Rattle.console.specs.declared.readings.Heard.{Heard}
+use Rattle.console.specs.declared.readings.ParsedLine.{ParsedLine}
 use Rattle.console.specs.declared.readings.Reading.{Reading}
 
 -- the most instructions that a line asks for
@@ -25,7 +25,7 @@ IsPositionOf text position = (position < largest_size) × (text ≡ decimal posi
 -- a text says this address by the names of the source, where there are names
 abbrev pub SaysAddress : Option Named → List ℕ → ℕ → Type 0
 SaysAddress None text address = ⊥
-SaysAddress (Some names) text address = IsSaid names.slots text address
+SaysAddress (Some names) text address = IsCommand names.slots text address
 
 -- what a text may be, each where it is that: a count, a position, an address by its name, and
 -- switches
@@ -42,10 +42,10 @@ pub record IsReadingOf (names : Option Named) (word : List ℕ) (reading : Readi
       ((switches : Switches) → ¬ AreSwitchesOf (text_of word) switches)
       (AreSwitchesOf (text_of word))
 
--- what is heard of a line: its verb, what its second and third word may be, and whether it has more
-pub record IsHeardOf (names : Option Named) (line : List ℕ) (heard : Heard) : Type 0 where
-  pub some : heard.some ≡ nat_lt 0 (length (first_word line))
-  pub verb : IsVerbOf (first_word line) heard.verb
-  pub first : IsReadingOf names (second_word line) heard.first
-  pub second : IsReadingOf names (third_word line) heard.second
-  pub long : heard.long ≡ nat_lt 0 (length (from_fourth line))
+-- what is parsed of a line: its verb, what its second and third word may be, and whether it has more
+pub record IsParsedOf (names : Option Named) (line : List ℕ) (parsed : ParsedLine) : Type 0 where
+  pub some : parsed.some ≡ nat_lt 0 (length (first_word line))
+  pub verb : IsVerbOf (first_word line) parsed.verb
+  pub first : IsReadingOf names (second_word line) parsed.first
+  pub second : IsReadingOf names (third_word line) parsed.second
+  pub long : parsed.long ≡ nat_lt 0 (length (from_fourth line))

@@ -15,8 +15,8 @@ use Rattle.run_traces.specs.Fields.{field_shown}
 use Rattle.run_traces.specs.Names.{Named}
 use Rattle.console.specs.Goes.{has_changed, stands_at}
 use Rattle.console.specs.Words.{first_word, second_word}
-use Rattle.console.specs.declared.sayings.Fault.{Fault}
-use Rattle.console.specs.declared.sayings.Fault.TheVariants as fault
+use Rattle.console.specs.declared.commands.Fault.{Fault}
+use Rattle.console.specs.declared.commands.Fault.TheVariants as fault
 
 -- where a machine stands, by its standing
 abbrev pub standing_by : Standing → State → List ℕ
@@ -85,14 +85,14 @@ abbrev pub cards_shown : List Punched → List ℕ
 cards_shown punched =
     listing (record { ruler = false; punches = false }) (map (λ card. card.card) punched)
 
--- a line as it was heard, for a fault: its first word, and its second where it has one
-abbrev pub line_heard : List ℕ → List ℕ
-line_heard line = first_word line
+-- a line as it was parsed, for a fault: its first word, and its second where it has one
+abbrev pub line_echo : List ℕ → List ℕ
+line_echo line = first_word line
     ++ (if nat_lt 0 (length (second_word line)) then 32 ∷ second_word line else [])
 
 -- the line of a fault, with the way out
 unfoldable pub fault_line : List ℕ → List ℕ → List ℕ
-fault_line line words = line_heard line ++ codes ": " ++ words ++ 10 ∷ []
+fault_line line words = line_echo line ++ codes ": " ++ words ++ 10 ∷ []
 
 -- what a line lacks whose value is none
 abbrev pub fault_words : Fault → List ℕ

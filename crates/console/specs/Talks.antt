@@ -4,7 +4,7 @@ use Rattle.std.specs.Io.{StopsAt}
 use Rattle.std.specs.Io.BufRead.{drop_through, take_through}
 use Rattle.std.specs.Io.KnownBytes.{Appends, Consumes, IsAtEnd, Keeps}
 use Rattle.console.specs.Answers.{Answers}
-use Rattle.console.specs.Sittings.{Sitting}
+use Rattle.console.specs.SessionStates.{SessionState}
 use Rattle.console.specs.declared.talking.Ended.{Ended}
 use Rattle.console.specs.declared.talking.Ended.TheVariants as ended
 
@@ -24,18 +24,18 @@ HasEnded left rest = IsAtEnd left × Keeps left rest
 
 -- from a session and a reader on these lines were read, each was answered before the next was, and
 -- none ended the session; it is now this one, the reader has this left, and this was printed
-pub data Talked (s : Sitting) (from : Option (List ℕ))
-    : List (List ℕ) → Sitting → Option (List ℕ) → List ℕ → Type 0 where
+pub data Talked (s : SessionState) (from : Option (List ℕ))
+    : List (List ℕ) → SessionState → Option (List ℕ) → List ℕ → Type 0 where
   none : Talked s from [] s from []
-  more : (lines : List (List ℕ)) (now : Sitting) (left : Option (List ℕ)) (text : List ℕ)
-      (line : List ℕ) (after : Sitting) (rest : Option (List ℕ)) (told : List ℕ)
+  more : (lines : List (List ℕ)) (now : SessionState) (left : Option (List ℕ)) (text : List ℕ)
+      (line : List ℕ) (after : SessionState) (rest : Option (List ℕ)) (told : List ℕ)
       → Talked s from lines now left text → IsRead left line rest
       → Answers now line after told false
       → Talked s from (lines ++ line ∷ []) after rest (text ++ told)
 
 -- a further line was read and answered so: the session is then this one, and the reader has this
 -- left
-pub record OneMore (now after : Sitting) (left rest : Option (List ℕ)) (ends : Bool)
+pub record OneMore (now after : SessionState) (left rest : Option (List ℕ)) (ends : Bool)
     (told : List ℕ) : Type 0 where
   pub line : List ℕ
   pub read : IsRead left line rest
@@ -54,7 +54,7 @@ IsUnread ended.ReadFailed = Unit {0}
 IsUnread other = ⊥
 
 -- a session is as it was, or a line was read whose answer there was no memory for
-abbrev pub IsUnanswered : Sitting → Sitting → Option (List ℕ) → Option (List ℕ) → Type 0
+abbrev pub IsUnanswered : SessionState → SessionState → Option (List ℕ) → Option (List ℕ) → Type 0
 IsUnanswered now after left rest = (after ≡ now) ⊎ ((line : List ℕ) × IsRead left line rest)
 
 -- how a session ended that had come so far and had printed this, by what it is now, what the reader
@@ -62,7 +62,7 @@ IsUnanswered now after left rest = (after ≡ now) ⊎ ((line : List ℕ) × IsR
 -- reader had; by a line that ends it; for want of memory, before a further line was answered;
 -- because the reader failed, before a further line was read; or because the writer failed, and took
 -- a beginning of a further answer
-abbrev pub EndsSo : Ended → Sitting → Sitting → Option (List ℕ) → Option (List ℕ) → List ℕ
+abbrev pub EndsSo : Ended → SessionState → SessionState → Option (List ℕ) → Option (List ℕ) → List ℕ
     → Option (List ℕ) → Option (List ℕ) → Type 0
 EndsSo ended.AtEnd now after left rest text old new =
     (after ≡ now) × HasEnded left rest × Appends old new text
@@ -78,10 +78,10 @@ EndsSo ended.WriteFailed now after left rest text old new =
 
 -- a session was talked with and is this one after it, over a reader that had this and has this
 -- left, and a writer that had and has this: lines of the reader were answered, one after the other
-pub record IsTalk (s after : Sitting) (from rest old new : Option (List ℕ)) (it : Ended)
+pub record IsTalk (s after : SessionState) (from rest old new : Option (List ℕ)) (it : Ended)
     : Type 0 where
   pub lines : List (List ℕ)
-  pub now : Sitting
+  pub now : SessionState
   pub left : Option (List ℕ)
   pub text : List ℕ
   pub talked : Talked s from lines now left text

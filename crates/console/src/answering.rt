@@ -3,11 +3,11 @@
 ghost use Rattle.std.specs.Prelude.{◌≡◌, ◌++◌, codes, map, IfOk, OnOk};
 ghost use Rattle.units.specs.Listing.{rendered};
 ghost use Rattle.machine.specs.Run.{lines_of};
-ghost use Rattle.console.specs.Answers.{Answers, deed_shown, done, dump_shown, next, printed, question_shown};
+ghost use Rattle.console.specs.Answers.{Answers, action_shown, done, dump_shown, next, printed, question_shown};
 ghost use Rattle.console.specs.Shown.{cards_shown};
-ghost use Rattle.console.specs.Sittings.{HasCome};
+ghost use Rattle.console.specs.SessionStates.{HasCome};
 
-use crate::sayings::{Deed, Question, Saying};
+use crate::commands::{Action, Question, Command};
 use crate::sessions::Session;
 use crate::showing::{fault_words, push_bare, push_fault, push_help, push_stops};
 use run_traces::{DumpOptions, push_machine};
@@ -97,28 +97,28 @@ fn show(
     }
 }
 
-/// Does a deed, and adds what is printed for it.
+/// Does an action, and adds what is printed for it.
 fn act(
     alloc: Global,
     text: &mut Vec<u8>,
     session: &mut Session,
     line: &[u8],
-    deed: Deed,
+    action: Action,
 ) -> Result<(), AllocError>
     requires { HasCome session.old }
-    ensures next { OnOk result (session.new ≡ done session.old deed) }
+    ensures next { OnOk result (session.new ≡ done session.old action) }
     ensures text { OnOk result (text.new.items
-        ≡ text.old.items ++ deed_shown session.old line.now deed) }
+        ≡ text.old.items ++ action_shown session.old line.now action) }
 {
-    match deed {
-        Deed::Step(count) => session.step(alloc, text, count),
-        Deed::Go(count) => session.go(alloc, text, count),
-        Deed::Stop(stop) => session.stop(alloc, text, line, stop),
-        Deed::Clear(stop) => session.clear(alloc, text, stop),
-        Deed::Watch(position) => session.watch(alloc, text, line, position),
-        Deed::Unwatch => session.unwatch(text),
-        Deed::Start(switches) => session.start(alloc, text, line, switches),
-        Deed::Back(count) => session.back(alloc, text, line, count),
+    match action {
+        Action::Step(count) => session.step(alloc, text, count),
+        Action::Go(count) => session.go(alloc, text, count),
+        Action::Stop(stop) => session.stop(alloc, text, line, stop),
+        Action::Clear(stop) => session.clear(alloc, text, stop),
+        Action::Watch(position) => session.watch(alloc, text, line, position),
+        Action::Unwatch => session.unwatch(text),
+        Action::Start(switches) => session.start(alloc, text, line, switches),
+        Action::Back(count) => session.back(alloc, text, line, count),
     }
 }
 
@@ -128,20 +128,20 @@ fn take(
     text: &mut Vec<u8>,
     session: &mut Session,
     line: &[u8],
-    saying: Saying,
+    command: Command,
 ) -> Result<(), AllocError>
     requires { HasCome session.old }
-    ensures next { OnOk result (session.new ≡ next session.old saying) }
+    ensures next { OnOk result (session.new ≡ next session.old command) }
     ensures text { OnOk result (text.new.items
-        ≡ text.old.items ++ printed session.old line.now saying) }
+        ≡ text.old.items ++ printed session.old line.now command) }
 {
-    match saying {
-        Saying::Nothing => Ok(()),
-        Saying::Unknown => text.extend_from_slice(b"no such line; help lists them\n"),
-        Saying::Wrong(fault) => push_fault(text, line, fault_words(fault)),
-        Saying::Do(deed) => act(alloc, text, session, line, deed),
-        Saying::Ask(question) => show(alloc, text, session, line, question),
-        Saying::End => Ok(()),
+    match command {
+        Command::Nothing => Ok(()),
+        Command::Unknown => text.extend_from_slice(b"no such line; help lists them\n"),
+        Command::Wrong(fault) => push_fault(text, line, fault_words(fault)),
+        Command::Do(action) => act(alloc, text, session, line, action),
+        Command::Ask(question) => show(alloc, text, session, line, question),
+        Command::End => Ok(()),
     }
 }
 
@@ -153,11 +153,11 @@ pub fn answer_line(alloc: Global, session: &mut Session, line: &[u8]) -> Result<
         Answers session.old line.now session.new answer.text.items answer.ends) }
     ensures come { OnOk result (HasCome session.new) }
 {
-    let saying = Saying::of(alloc, session.names(), line)?;
+    let command = Command::of(alloc, session.names(), line)?;
     let mut text = Vec::new(alloc);
-    take(alloc, &mut text, session, line, saying)?;
+    take(alloc, &mut text, session, line, command)?;
     Ok(Answer {
         text,
-        ends: saying.is_end(),
+        ends: command.is_end(),
     })
 }

@@ -7,7 +7,7 @@ ghost use Rattle.units.specs.declared.profiles.Profile.TheVariants.{Selecting};
 ghost use Rattle.machine.specs.Run.{is_running, loaded};
 ghost use Rattle.console.specs.Goes.{goes_on_from, has_changed, stands_at, watched_cell, went};
 ghost use Rattle.console.specs.Shown.{attempts_shown};
-ghost use Rattle.console.specs.Sittings.{machine_of, pressed};
+ghost use Rattle.console.specs.SessionStates.{machine_of, pressed};
 
 use crate::starts::Start;
 use crate::watching::{cells_differ, watched_cell};
@@ -140,7 +140,7 @@ pub(crate) fn press<C: Core>(machine: &mut Machine<C>, switches: Switches)
 }
 
 /// Runs a deck anew, from the load button on, for so many instructions, with these starts.
-#[tactic(auto, unfolding(crate::specs::Sittings::machine_from))]
+#[tactic(auto, unfolding(crate::specs::SessionStates::machine_from))]
 pub(crate) fn rerun(
     alloc: Global,
     deck: &Deck,

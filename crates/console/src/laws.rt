@@ -5,12 +5,12 @@ ghost use Rattle.machine.specs.Run.{State, after, attempts};
 ghost use Rattle.run_traces.specs.Names.{Named};
 ghost use Rattle.console.specs.Answers.{Rising, going, next, with_stop, without_stop};
 ghost use Rattle.console.specs.Goes.{IsWent, went};
-ghost use Rattle.console.specs.Sayings.{is_start};
-ghost use Rattle.console.specs.Sittings.{HasCome, Sitting, begun, most_made};
+ghost use Rattle.console.specs.Commands.{is_start};
+ghost use Rattle.console.specs.SessionStates.{HasCome, SessionState, begun, most_made};
 ghost use Rattle.console.specs.Talks.{Talked};
-ghost use Rattle.console.specs.declared.sayings.Deed.TheVariants.{Back, Go, Step};
-ghost use Rattle.console.specs.declared.sayings.Saying.{Saying};
-ghost use Rattle.console.specs.declared.sayings.Saying.TheVariants.{Do};
+ghost use Rattle.console.specs.declared.commands.Action.TheVariants.{Back, Go, Step};
+ghost use Rattle.console.specs.declared.commands.Command.{Command};
+ghost use Rattle.console.specs.declared.commands.Command.TheVariants.{Do};
 
 /// The law of sessions: whatever lines a session is given, its machine is that of its past, which
 /// begins with the machine that the load button left. Without a start it is that machine after as
@@ -18,13 +18,13 @@ ghost use Rattle.console.specs.declared.sayings.Saying.TheVariants.{Do};
 /// `start` is a start.
 pub fn sessions_are_runs()
     ensures begins { (base : State) (names : Option Named) → HasCome (begun base names) }
-    ensures goes_on { (s : Sitting) (saying : Saying) → HasCome s → HasCome (next s saying) }
-    ensures talks { (s now : Sitting) (from left : Option (List ℕ)) (lines : List (List ℕ))
+    ensures goes_on { (s : SessionState) (command : Command) → HasCome s → HasCome (next s command) }
+    ensures talks { (s now : SessionState) (from left : Option (List ℕ)) (lines : List (List ℕ))
         (text : List ℕ) → Talked s from lines now left text → HasCome s → HasCome now }
-    ensures begins_there { (s : Sitting) (saying : Saying) → (next s saying).base ≡ s.base }
-    ensures run { (s : Sitting) → HasCome s → s.starts ≡ [] → s.machine ≡ after s.base s.made }
-    ensures without_start { (s : Sitting) (saying : Saying) → is_start saying ≡ false →
-        s.starts ≡ [] → (next s saying).starts ≡ [] }
+    ensures begins_there { (s : SessionState) (command : Command) → (next s command).base ≡ s.base }
+    ensures run { (s : SessionState) → HasCome s → s.starts ≡ [] → s.machine ≡ after s.base s.made }
+    ensures without_start { (s : SessionState) (command : Command) → is_start command ≡ false →
+        s.starts ≡ [] → (next s command).starts ≡ [] }
 {}
 
 /// The law of going back: it undoes steps. A session that has made all the instructions that were
@@ -32,9 +32,9 @@ pub fn sessions_are_runs()
 /// instructions back as it went.
 #[tactic(auto, using(crate::proofs::SessionLaw::undoes, crate::proofs::SessionLaw::undoes_going))]
 pub fn back_undoes_steps()
-    ensures steps { (s : Sitting) (count : ℕ) → HasCome s → s.made + count ≤ most_made →
+    ensures steps { (s : SessionState) (count : ℕ) → HasCome s → s.made + count ≤ most_made →
         attempts s.machine count ≡ count → next (next s (Do (Step count))) (Do (Back count)) ≡ s }
-    ensures going { (s : Sitting) (count : ℕ) → HasCome s →
+    ensures going { (s : SessionState) (count : ℕ) → HasCome s →
         next (next s (Do (Go count))) (Do (Back (going s count))) ≡ s }
 {}
 

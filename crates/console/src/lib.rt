@@ -1,7 +1,7 @@
 //! A console: looking at a simulated machine step by step, by lines that are read and answered.
 //!
 //! A [`Session`] is a machine that was loaded with a deck, with the stops and the watched position
-//! that were set. [`answer_line`] takes a line (`specs/Sayings.antt`) and answers it
+//! that were set. [`answer_line`] takes a line (`specs/Commands.antt`) and answers it
 //! (`specs/Answers.antt`), and [`console`] does so for the lines of a reader, until it has none
 //! (`specs/Talks.antt`). No line changes storage: a session shows runs of its deck, and nothing
 //! else.
@@ -13,10 +13,10 @@
 #![tactic(auto)]
 
 mod answering;
+mod commands;
 mod going;
 mod laws;
 mod readings;
-mod sayings;
 mod sessions;
 mod showing;
 mod starts;

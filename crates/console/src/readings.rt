@@ -1,9 +1,9 @@
-//! What is heard of a line.
+//! A line, parsed: what each of its words may be.
 
 ghost use Rattle.std.specs.Prelude.{◌≡◌, ◌<◌, ℕ, MatchOption, option_copied, IfOk};
 ghost use Rattle.core_store.specs.Storage.{largest_size};
-ghost use Rattle.console.specs.Sayings.{address_of};
-ghost use Rattle.console.specs.Readings.{IsCountOf, IsHeardOf, IsPositionOf, IsReadingOf, SaysAddress};
+ghost use Rattle.console.specs.Commands.{address_of};
+ghost use Rattle.console.specs.Readings.{IsCountOf, IsParsedOf, IsPositionOf, IsReadingOf, SaysAddress};
 
 use crate::verbs::Verb;
 use crate::words::{Words, text_of};
@@ -31,9 +31,9 @@ pub(crate) struct Reading {
     pub(crate) switches: Option<Switches>,
 }
 
-/// What is heard of a line.
+/// A line, parsed: what each of its words may be.
 #[derive(Clone, Copy)]
-pub(crate) struct Heard {
+pub(crate) struct ParsedLine {
     /// Whether it has a word.
     pub(crate) some: bool,
     /// What its first word is.
@@ -115,15 +115,15 @@ impl Reading {
     }
 }
 
-impl Heard {
-    /// What is heard of the words of a line.
-    pub(crate) fn of(alloc: Global, names: Option<&Names>, line: &[u8]) -> Result<Heard, AllocError>
-        ensures { IfOk result (IsHeardOf (option_copied names.entry) line.now) }
+impl ParsedLine {
+    /// What is parsed of the words of a line.
+    pub(crate) fn of(alloc: Global, names: Option<&Names>, line: &[u8]) -> Result<ParsedLine, AllocError>
+        ensures { IfOk result (IsParsedOf (option_copied names.entry) line.now) }
     {
         let words = Words::of(line);
         let first = Reading::of(alloc, names, words.second)?;
         let second = Reading::of(alloc, names, words.third)?;
-        Ok(Heard {
+        Ok(ParsedLine {
             some: !words.first.is_empty(),
             verb: Verb::of(words.first),
             first,

@@ -8,7 +8,7 @@ ghost use Rattle.console.specs.Goes.{watched_cell, went};
 ghost use Rattle.machine.specs.Ranges.{IsInRange};
 ghost use Rattle.units.specs.Listing.{IsRising};
 ghost use Rattle.console.specs.Shown.{attempts_shown, field_line, last_shown, stops_line, watched_line, why_line};
-ghost use Rattle.console.specs.Sittings.{HasCome, Sitting, begun, machine_of, most_made};
+ghost use Rattle.console.specs.SessionStates.{HasCome, SessionState, begun, machine_of, most_made};
 
 use crate::going::{cell_of, go, press, push_attempts, rerun};
 use crate::showing::{
@@ -47,9 +47,9 @@ impl Model for Session {
     ghost use Rattle.std.specs.Prelude.{◌<◌, length};
     ghost use Rattle.machine.specs.Run.{loaded};
     ghost use Rattle.units.specs.declared.profiles.Profile.TheVariants.{Selecting};
-    ghost use Rattle.console.specs.Sittings.{Sitting};
+    ghost use Rattle.console.specs.SessionStates.{SessionState};
 
-    ghost Value = { Sitting };
+    ghost Value = { SessionState };
 
     ghost view = { λ s. record {
       base = loaded s.deck s.size s.switches Selecting;
@@ -239,7 +239,7 @@ impl Session {
     /// Adds the line of the last of so many attempts, and why the machine stands.
     fn push_end(&self, alloc: Global, text: &mut Vec<u8>, count: u32) -> Result<(), AllocError>
         requires { count ≤ self.now.made }
-        ensures { (s : Sitting) → HasCome s → self.now ≡ advanced s count →
+        ensures { (s : SessionState) → HasCome s → self.now ≡ advanced s count →
             OnOk result (text.new.items ≡ text.old.items ++ end_shown s count) }
     {
         let mut before = self.rerun(alloc, self.count_before(count))?;

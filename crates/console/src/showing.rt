@@ -4,10 +4,10 @@ ghost use Rattle.std.specs.Prelude.{◌≡◌, ◌+◌, ◌++◌, ◌∷◌, [],
 ghost use Rattle.std.specs.List.{flat_map};
 ghost use Rattle.autocoder.specs.Listing.{position_field};
 ghost use Rattle.machine.specs.Standings.{standing_of, standing_words};
-ghost use Rattle.console.specs.Shown.{changed_line, fault_line, fault_words, field_line, help_text, line_heard, made_words, past_words, place_line, registers_shown, standing_by, stopped_shown, stops_line, watched_line, why_line};
+ghost use Rattle.console.specs.Shown.{changed_line, fault_line, fault_words, field_line, help_text, line_echo, made_words, past_words, place_line, registers_shown, standing_by, stopped_shown, stops_line, watched_line, why_line};
 
 use crate::going::{has_changed, stands_at};
-use crate::sayings::Fault;
+use crate::commands::Fault;
 use crate::words::Words;
 use autocoder::push_number;
 use run_traces::{push_field, push_registers, push_units};
@@ -216,9 +216,9 @@ pub(crate) fn push_bare<C: Core>(
     push_units(alloc, text, &parts.units)
 }
 
-/// Adds a line as it was heard.
-fn push_heard(text: &mut Vec<u8>, line: &[u8]) -> Result<(), AllocError>
-    ensures { OnOk result (text.new.items ≡ text.old.items ++ line_heard line.now) }
+/// Adds a line as it was parsed.
+fn push_echo(text: &mut Vec<u8>, line: &[u8]) -> Result<(), AllocError>
+    ensures { OnOk result (text.new.items ≡ text.old.items ++ line_echo line.now) }
 {
     let words = Words::of(line);
     text.extend_from_slice(words.first)?;
@@ -234,7 +234,7 @@ fn push_heard(text: &mut Vec<u8>, line: &[u8]) -> Result<(), AllocError>
 pub(crate) fn push_fault(text: &mut Vec<u8>, line: &[u8], words: &[u8]) -> Result<(), AllocError>
     ensures { OnOk result (text.new.items ≡ text.old.items ++ fault_line line.now words.now) }
 {
-    push_heard(text, line)?;
+    push_echo(text, line)?;
     text.extend_from_slice(b": ")?;
     text.extend_from_slice(words)?;
     text.push(LINE_FEED)?;

@@ -1,7 +1,7 @@
 //! A session over a reader and a writer.
 
 ghost use Rattle.std.specs.Prelude.{IfOk, IfErr, IfSome, IfNone};
-ghost use Rattle.console.specs.Sittings.{HasCome};
+ghost use Rattle.console.specs.SessionStates.{HasCome};
 ghost use Rattle.console.specs.Talks.{HasEnded, HasGiven, IsRead, IsTalk, IsUnread, PutsSo};
 
 use crate::answering::answer_line;

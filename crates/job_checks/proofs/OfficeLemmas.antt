@@ -74,11 +74,11 @@ as_they_ran all (row ∷ later) (r ∷ reports) (e ∷ office) told is named dis
     let once : rows_of e.customer e.number later ≡ [] = ap (rows_of e.customer e.number) others ∙ free_rows e.customer e.number office distinct.0 in
     (told.0.each e (record { named = named.0; once = once; run = record { row = here; kept = kept.0 } }), as_they_ran all later reports office told.1 others named.1 distinct.1 kept.1)
 
-pub exact_for : (all : AllRows) (report : Report) → AreReported all all.jobs.items report.jobs.items → ((report.strays.items ≡ []) ↔ ((all.version.items ≡ version_row) × AreOwned all)) → IsExactFor all report
-exact_for all report told strays = record {
+pub exact_for : (all : AllRows) (report : Report) → AreReported all all.jobs.items report.jobs.items → ((report.orphans.items ≡ []) ↔ ((all.version.items ≡ version_row) × AreOwned all)) → IsExactFor all report
+exact_for all report told orphans = record {
   sound = λ none.
       let it = are_of all all.jobs.items report.jobs.items told none.jobs in
-      let others = strays.0 none.strays in
+      let others = orphans.0 none.orphans in
       record {
         office = it.office;
         named = it.named;
@@ -89,6 +89,6 @@ exact_for all report told strays = record {
       let ran = as_they_ran all all.jobs.items report.jobs.items office told kept.jobs named kept.distinct kept.kept in
       record {
         jobs = λ k d less. all-get_or (λ (it : JobReport). IsAsItRan it.outcome) report.jobs.items k d ran less;
-        strays = strays.1 (kept.version, kept.owned);
+        orphans = orphans.1 (kept.version, kept.owned);
       };
 }

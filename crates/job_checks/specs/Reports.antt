@@ -27,7 +27,7 @@ is_as_it_ran (Differs difference) = false
 -- no row differs
 pub record HasNoOtherRows (report : Report) : Type 0 where
   pub jobs : All (λ it. IsAsItRan it.outcome) report.jobs.items
-  pub strays : report.strays.items ≡ []
+  pub orphans : report.orphans.items ≡ []
 
 -- nothing differs: neither the schema nor a row
 pub record HasNoDifference (report : Report) : Type 0 where

@@ -18,7 +18,7 @@ use Rattle.job_checks.specs.declared.reports.JobReport.{JobReport}
 use Rattle.job_checks.specs.declared.reports.Outcome.{Outcome}
 use Rattle.job_checks.specs.declared.reports.Outcome.TheVariants.{AsItRan, Differs}
 use Rattle.job_checks.specs.declared.reports.Report.{Report}
-use Rattle.job_checks.specs.declared.reports.Stray.{Stray}
+use Rattle.job_checks.specs.declared.reports.Orphan.{Orphan}
 use Rattle.job_checks.specs.declared.schemas.SchemaDifference.{SchemaDifference}
 use Rattle.job_checks.specs.declared.schemas.SchemaDifference.TheVariants as other
 use Rattle.job_checks.specs.declared.reports.Table.{Table}
@@ -112,9 +112,9 @@ outcome_words (Differs it) = codes ": " ++ difference_words it ++ codes "\n"
 abbrev pub job_line : JobReport → List ℕ
 job_line it = it.customer.items ++ codes " " ++ signed_decimal it.number ++ outcome_words it.outcome
 
--- the line of a stray row
-abbrev pub stray_line : Stray → List ℕ
-stray_line it = table_words it.table ++ codes ": row " ++ decimal it.row
+-- the line of an orphan row
+abbrev pub orphan_line : Orphan → List ℕ
+orphan_line it = table_words it.table ++ codes ": row " ++ decimal it.row
     ++ codes " is out of place\n"
 
 -- what is told of a schema that is not a bureau's, before the name
@@ -148,6 +148,6 @@ sum_line jobs differing = codes "jobs " ++ decimal jobs ++ codes ", " ++ decimal
 
 -- all lines of a report
 abbrev pub report_text : Report → List ℕ
-report_text report = flat_map job_line report.jobs.items ++ flat_map stray_line report.strays.items
+report_text report = flat_map job_line report.jobs.items ++ flat_map orphan_line report.orphans.items
     ++ schema_lines report.schema ++ sum_line (length report.jobs.items)
     (count_by (λ it. not (is_as_it_ran it.outcome)) report.jobs.items)

@@ -8,9 +8,9 @@ ghost use Rattle.job_checks.specs.Tables.{LeavesNoMore};
 use crate::all_rows::AllRows;
 use crate::cells::first_other;
 use crate::jobs::check_jobs;
-use crate::owners::first_stray;
+use crate::owners::first_orphan;
 use crate::reading::read_rows;
-use crate::reports::{Report, Stray, Table};
+use crate::reports::{Report, Orphan, Table};
 use crate::schemas::{SchemaDifference, compare_schema};
 use ledger_tables::{Fault, VERSION};
 use sqlite::{Alter, Connection, Row, params};
@@ -30,45 +30,45 @@ fn first_other_version(rows: &[Row]) -> Option<usize>
     }
 }
 
-/// Adds the first stray row of a table, if there is one.
-fn add(strays: &mut Vec<Stray>, table: Table, row: Option<usize>) -> Result<(), AllocError>
-    ensures { OnOk result ((strays.new.items ≡ []) ↔ ((strays.old.items ≡ []) × IsNone row)) }
+/// Adds the first orphan row of a table, if there is one.
+fn add(orphans: &mut Vec<Orphan>, table: Table, row: Option<usize>) -> Result<(), AllocError>
+    ensures { OnOk result ((orphans.new.items ≡ []) ↔ ((orphans.old.items ≡ []) × IsNone row)) }
 {
     if let Some(row) = row {
-        strays.try_reserve(1)?;
-        strays.push_reserved(Stray { table, row });
+        orphans.try_reserve(1)?;
+        orphans.push_reserved(Orphan { table, row });
     }
     Ok(())
 }
 
-/// The first stray row of each table.
-pub fn find_strays(alloc: Global, all: &AllRows) -> Result<Vec<Stray>, AllocError>
-    ensures { IfOk result (λ strays. (strays.items ≡ [])
+/// The first orphan row of each table.
+pub fn find_orphans(alloc: Global, all: &AllRows) -> Result<Vec<Orphan>, AllocError>
+    ensures { IfOk result (λ orphans. (orphans.items ≡ [])
         ↔ ((all.now.version.items ≡ version_row) × AreOwned all.now)) }
 {
     let jobs = all.jobs.as_slice();
-    let mut strays = Vec::new(alloc);
+    let mut orphans = Vec::new(alloc);
     add(
-        &mut strays,
+        &mut orphans,
         Table::Bureau,
         first_other_version(&all.version),
     )?;
     add(
-        &mut strays,
+        &mut orphans,
         Table::Stretches,
-        first_stray(jobs, &all.stretches),
+        first_orphan(jobs, &all.stretches),
     )?;
-    add(&mut strays, Table::States, first_stray(jobs, &all.states))?;
-    add(&mut strays, Table::Pages, first_stray(jobs, &all.pages))?;
-    add(&mut strays, Table::Cards, first_stray(jobs, &all.cards))?;
-    add(&mut strays, Table::Lines, first_stray(jobs, &all.lines))?;
+    add(&mut orphans, Table::States, first_orphan(jobs, &all.states))?;
+    add(&mut orphans, Table::Pages, first_orphan(jobs, &all.pages))?;
+    add(&mut orphans, Table::Cards, first_orphan(jobs, &all.cards))?;
+    add(&mut orphans, Table::Lines, first_orphan(jobs, &all.lines))?;
     add(
-        &mut strays,
+        &mut orphans,
         Table::Profiles,
-        first_stray(jobs, &all.profiles),
+        first_orphan(jobs, &all.profiles),
     )?;
-    add(&mut strays, Table::Pockets, first_stray(jobs, &all.pockets))?;
-    Ok(strays)
+    add(&mut orphans, Table::Pockets, first_orphan(jobs, &all.pockets))?;
+    Ok(orphans)
 }
 
 /// Compares the rows of all tables with what the jobs make, each run again. The report tells of a
@@ -82,11 +82,11 @@ fn check_rows(
     ensures schema { IfOk result (λ report. report.schema ≡ schema) }
 {
     let jobs = check_jobs(alloc, all, all.jobs.as_slice())?;
-    let strays = find_strays(alloc, all)?;
+    let orphans = find_orphans(alloc, all)?;
     Ok(Report {
         schema,
         jobs,
-        strays,
+        orphans,
     })
 }
 

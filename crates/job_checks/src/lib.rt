@@ -23,11 +23,11 @@ mod submitted;
 
 pub use all_rows::AllRows;
 pub use cells::{number_at, text_at, value_at};
-pub use checks::{check, find_strays};
+pub use checks::{check, find_orphans};
 pub use differences::{Difference, Found, Place};
 pub use jobs::run_job;
 pub use reading::read_rows;
-pub use report_lines::{job_text, push_summary, report_text, strays_text};
-pub use reports::{JobReport, Outcome, Report, Stray, Table};
+pub use report_lines::{job_text, push_summary, report_text, orphans_text};
+pub use reports::{JobReport, Outcome, Report, Orphan, Table};
 pub use runs::JobRun;
 pub use schemas::SchemaDifference;

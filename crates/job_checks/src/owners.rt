@@ -37,7 +37,7 @@ fn is_owned(jobs: &[Row], row: &Row) -> bool
 }
 
 /// The first of these rows, counted from 1, that names none of these jobs, if there is one.
-pub(crate) fn first_stray(jobs: &[Row], rows: &[Row]) -> Option<usize>
+pub(crate) fn first_orphan(jobs: &[Row], rows: &[Row]) -> Option<usize>
     ensures { IsNone result ↔ AllByRecursion (IsOwned jobs.now) rows.now }
 {
     for at in 0..rows.len() {

@@ -4,10 +4,10 @@ ghost use Rattle.std.specs.Prelude.{◌≡◌, ◌++◌, codes, decimal, flat_ma
 ghost use Rattle.std.specs.Fmt.{signed_decimal};
 ghost use Rattle.machine.specs.Standings.{standing_words};
 ghost use Rattle.office.specs.Numbers.{refusal_number};
-ghost use Rattle.job_checks.specs.Texts.{apart_words, byte_words, bytes_words, difference_words, found_words, job_line, number_words, outcome_words, place_words, report_text, schema_line, schema_lines, schema_name, schema_words, stray_line, sum_line, summary_words, table_words, value_words};
+ghost use Rattle.job_checks.specs.Texts.{apart_words, byte_words, bytes_words, difference_words, found_words, job_line, number_words, outcome_words, place_words, report_text, schema_line, schema_lines, schema_name, schema_words, orphan_line, sum_line, summary_words, table_words, value_words};
 
 use crate::differences::{Difference, Found, Place};
-use crate::reports::{JobReport, Outcome, Report, Stray, Table};
+use crate::reports::{JobReport, Outcome, Report, Orphan, Table};
 use crate::schemas::SchemaDifference;
 use bcd::Code;
 use itoa::Buffer;
@@ -254,20 +254,20 @@ fn push_row(out: &mut Vec<u8>, row: usize) -> Result<(), AllocError>
     out.extend_from_slice(b" is out of place\n")
 }
 
-/// Adds the line of a stray row.
-fn push_stray(out: &mut Vec<u8>, stray: &Stray) -> Result<(), AllocError>
-    ensures { OnOk result (out.new.items ≡ out.old.items ++ stray_line stray.now) }
+/// Adds the line of an orphan row.
+fn push_orphan(out: &mut Vec<u8>, orphan: &Orphan) -> Result<(), AllocError>
+    ensures { OnOk result (out.new.items ≡ out.old.items ++ orphan_line orphan.now) }
 {
-    out.extend_from_slice(stray.table.name().as_bytes())?;
-    push_row(out, stray.row)
+    out.extend_from_slice(orphan.table.name().as_bytes())?;
+    push_row(out, orphan.row)
 }
 
-/// Adds the lines of stray rows.
-fn push_strays(out: &mut Vec<u8>, strays: &[Stray]) -> Result<(), AllocError>
-    ensures { OnOk result (out.new.items ≡ out.old.items ++ flat_map stray_line strays.now) }
+/// Adds the lines of orphan rows.
+fn push_orphans(out: &mut Vec<u8>, orphans: &[Orphan]) -> Result<(), AllocError>
+    ensures { OnOk result (out.new.items ≡ out.old.items ++ flat_map orphan_line orphans.now) }
 {
-    for stray in strays {
-        push_stray(out, stray)?;
+    for orphan in orphans {
+        push_orphan(out, orphan)?;
     }
     Ok(())
 }
@@ -336,16 +336,16 @@ pub fn job_text(alloc: Global, job: &JobReport) -> Result<Vec<u8>, AllocError>
     Ok(out)
 }
 
-/// The lines of stray rows in a report. Fails only if there is no memory.
-pub fn strays_text(alloc: Global, strays: &[Stray]) -> Result<Vec<u8>, AllocError>
-    ensures { IfOk result (λ text. text.items ≡ flat_map stray_line strays.now) }
+/// The lines of orphan rows in a report. Fails only if there is no memory.
+pub fn orphans_text(alloc: Global, orphans: &[Orphan]) -> Result<Vec<u8>, AllocError>
+    ensures { IfOk result (λ text. text.items ≡ flat_map orphan_line orphans.now) }
 {
     let mut out = Vec::new(alloc);
-    push_strays(&mut out, strays)?;
+    push_orphans(&mut out, orphans)?;
     Ok(out)
 }
 
-/// The lines of a report: one for each job, one for the first stray row of each table, one for a
+/// The lines of a report: one for each job, one for the first orphan row of each table, one for a
 /// schema that is not a bureau's, and a last one with the number of jobs. Fails only if there is no
 /// memory.
 pub fn report_text(alloc: Global, report: &Report) -> Result<Vec<u8>, AllocError>
@@ -353,7 +353,7 @@ pub fn report_text(alloc: Global, report: &Report) -> Result<Vec<u8>, AllocError
 {
     let mut out = Vec::new(alloc);
     push_jobs(&mut out, &report.jobs)?;
-    push_strays(&mut out, &report.strays)?;
+    push_orphans(&mut out, &report.orphans)?;
     push_schema_lines(&mut out, &report.schema)?;
     push_sum(&mut out, report.jobs.len(), report.differing())?;
     Ok(out)

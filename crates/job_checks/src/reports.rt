@@ -44,7 +44,7 @@ impl Table {
 /// The first row of a table that is not as it is to be, whatever the jobs: it names no job, or the
 /// row of `bureau` does not have the version.
 #[derive(Drop)]
-pub struct Stray {
+pub struct Orphan {
     pub table: Table,
     /// Its place among the rows that were read, counted from 1.
     pub row: usize,
@@ -69,12 +69,12 @@ pub struct JobReport {
 }
 
 /// What is told of a bureau's file: how its schema differs from a bureau's, if it does, what came
-/// of each row of `jobs`, in their order, and the first stray row of each table.
+/// of each row of `jobs`, in their order, and the first orphan row of each table.
 #[derive(Drop)]
 pub struct Report {
     pub schema: Option<SchemaDifference>,
     pub jobs: Vec<JobReport>,
-    pub strays: Vec<Stray>,
+    pub orphans: Vec<Orphan>,
 }
 
 impl Outcome {
@@ -127,7 +127,7 @@ impl Report {
     fn has_no_other_rows(&self) -> bool
         ensures { IsTrue result ↔ HasNoOtherRows self.now }
     {
-        self.strays.is_empty() && are_as_they_ran(&self.jobs)
+        self.orphans.is_empty() && are_as_they_ran(&self.jobs)
     }
 
     /// Whether nothing differs.

@@ -7,7 +7,7 @@ use crate::job_folders::{Filed, file_job};
 use command_line::Status;
 use job_archives::files_of;
 use job_checks::{
-    AllRows, JobReport, JobRun, find_strays, job_text, read_rows, run_job, strays_text,
+    AllRows, JobReport, JobRun, find_orphans, job_text, read_rows, run_job, orphans_text,
 };
 use ledger_files::{Look, look_into};
 use ledger_tables::OpenFault;
@@ -128,8 +128,8 @@ fn tell_end<W: Write>(
     counts: Counts,
     output: &mut W,
 ) -> io::Result<Status> {
-    let strays = find_strays(rt.alloc(), rows)?;
-    let text = strays_text(rt.alloc(), &strays)?;
+    let orphans = find_orphans(rt.alloc(), rows)?;
+    let text = orphans_text(rt.alloc(), &orphans)?;
     output.write_all(&text)?;
     let jobs = rows.jobs.len();
     let Counts {
@@ -143,7 +143,7 @@ fn tell_end<W: Write>(
         "jobs {jobs}, {written} written, {same} the same, {differing} {differ}"
     )?;
     output.flush()?;
-    if differing == 0 && strays.is_empty() {
+    if differing == 0 && orphans.is_empty() {
         Ok(Status::Done)
     } else {
         Ok(Status::NotDone)

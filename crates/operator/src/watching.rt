@@ -2,7 +2,7 @@
 
 use crate::clients::{QUEUE, ask};
 use command_line::Status;
-use queue_rounds::{Heard, JobName, Standing, changes_between, hear_queue, hear_standing};
+use queue_rounds::{Outcome, JobName, Standing, changes_between, outcome_of_queue, standing_of};
 use std::alloc::Global;
 use std::io::Write;
 use std::time::Duration;
@@ -29,7 +29,7 @@ fn ask_standing(rt: &HostRuntime, port: u16, job: &JobName) -> io::Result<Option
         "GET /c/{customer}/j/{number} HTTP/1.1\r\nHost: localhost\r\n\r\n"
     )?;
     let reply = ask(rt, port, request.as_bytes())?;
-    Ok(hear_standing(rt.alloc(), &reply)?)
+    Ok(standing_of(rt.alloc(), &reply)?)
 }
 
 /// What is printed of how a job stands.
@@ -112,13 +112,13 @@ impl Watch {
     /// nobody.
     fn look<W: Write>(&mut self, rt: &HostRuntime, output: &mut W) -> io::Result<bool> {
         let reply = ask(rt, self.port, QUEUE)?;
-        match hear_queue(rt.alloc(), &reply)? {
-            Heard::Listed(queue) => {
+        match outcome_of_queue(rt.alloc(), &reply)? {
+            Outcome::Listed(queue) => {
                 self.tell_away(false, output)?;
                 self.tell_queue(rt, queue, output)?;
                 Ok(true)
             }
-            Heard::Nothing => {
+            Outcome::Nothing => {
                 self.tell_away(true, output)?;
                 Ok(true)
             }

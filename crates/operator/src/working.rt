@@ -4,7 +4,7 @@ use crate::clients::{QUEUE, ask};
 use crate::tallies::Tally;
 use command_line::Status;
 use queue_rounds::{
-    Heard, JobName, MOST_TRIES, Next, Passed, Ran, Rounds, Why, hear_queue, hear_slice,
+    Outcome, JobName, MOST_TRIES, Next, Passed, Ran, Rounds, Why, outcome_of_queue, outcome_of_slice,
 };
 use std::io::Write;
 use std::time::Duration;
@@ -20,7 +20,7 @@ struct Work {
 
 impl Work {
     /// Asks for a slice of a job.
-    fn ask_slice(&self, rt: &HostRuntime, job: &JobName) -> io::Result<Heard> {
+    fn ask_slice(&self, rt: &HostRuntime, job: &JobName) -> io::Result<Outcome> {
         let customer = job.customer.as_str();
         let number = job.number;
         let slice = self.slice;
@@ -29,7 +29,7 @@ impl Work {
              Content-Length: 0\r\n\r\n"
         )?;
         let reply = ask(rt, self.port, request.as_bytes())?;
-        Ok(hear_slice(rt.alloc(), &reply)?)
+        Ok(outcome_of_slice(rt.alloc(), &reply)?)
     }
 
     /// Prints that a job has stopped, if its slice says so.
@@ -60,29 +60,29 @@ impl Work {
         rt: &HostRuntime,
         rounds: &Rounds,
         output: &mut W,
-    ) -> io::Result<Heard> {
+    ) -> io::Result<Outcome> {
         let Some(job) = rounds.next() else {
             let reply = ask(rt, self.port, QUEUE)?;
-            return Ok(hear_queue(rt.alloc(), &reply)?);
+            return Ok(outcome_of_queue(rt.alloc(), &reply)?);
         };
-        let heard = self.ask_slice(rt, job)?;
-        if let Heard::Ran(ran) = &heard {
+        let outcome = self.ask_slice(rt, job)?;
+        if let Outcome::Ran(ran) = &outcome {
             self.tell(rt, job, ran, output)?;
         }
-        Ok(heard)
+        Ok(outcome)
     }
 }
 
 /// Prints why no slice ran, and the way out.
-fn tell_barren<E: Write>(
+fn tell_idle<E: Write>(
     port: u16,
     rounds: u32,
-    heard: Option<Passed>,
+    outcome: Option<Passed>,
     errors: &mut E,
 ) -> io::Result<()> {
     let word = if rounds == 1 { "round" } else { "rounds" };
     write!(errors, "port {port}: no slice ran in {rounds} {word}")?;
-    match heard {
+    match outcome {
         Some(Passed::Refused(number)) => writeln!(
             errors,
             "; the last was refused {number}: bureau --help says why"
@@ -106,12 +106,12 @@ fn tell_end<E: Write>(
     port: u16,
     why: Why,
     rounds: u32,
-    heard: Option<Passed>,
+    outcome: Option<Passed>,
     errors: &mut E,
 ) -> io::Result<Status> {
     match why {
         Why::Empty | Why::Rounds => return Ok(Status::Done),
-        Why::Barren => tell_barren(port, rounds, heard, errors)?,
+        Why::Idle => tell_idle(port, rounds, outcome, errors)?,
         Why::Away => writeln!(
             errors,
             "port {port}: no answer in {MOST_TRIES} tries; is bureau serve running there?"
@@ -121,10 +121,10 @@ fn tell_end<E: Write>(
     Ok(Status::NotDone)
 }
 
-/// Why a slice did not run, if that was heard.
-fn passed_in(heard: &Heard) -> Option<Passed> {
-    match heard {
-        Heard::Passed(passed) => Some(*passed),
+/// Why a slice did not run, if its reply was read.
+fn passed_in(outcome: &Outcome) -> Option<Passed> {
+    match outcome {
+        Outcome::Passed(passed) => Some(*passed),
         _ => None,
     }
 }
@@ -145,12 +145,12 @@ pub(crate) fn run_queue<W: Write, E: Write>(
         tally: Tally::new(rt.alloc()),
     };
     for _request in 0..u64::MAX {
-        let heard = work.ask_next(rt, &rounds, output)?;
-        let passed = passed_in(&heard);
-        match rounds.hear(heard) {
+        let outcome = work.ask_next(rt, &rounds, output)?;
+        let passed = passed_in(&outcome);
+        match rounds.advance(outcome) {
             Next::GoOn => {}
             Next::Pause => thread::sleep(rt, Duration::from_secs(u64::from(options.pause))),
-            Next::End(why) => return tell_end(port, why, rounds.barren_rounds(), passed, errors),
+            Next::End(why) => return tell_end(port, why, rounds.idle_rounds(), passed, errors),
         }
     }
     Ok(Status::NotDone)

@@ -5,8 +5,8 @@ use Rattle.std.specs.List.{list_all}
 use Rattle.queue_rounds.specs.Rounds.{State, after, is_last, listed, listed_next, next_after, start, turned, turned_next}
 use Rattle.queue_rounds.specs.Runs.{after_all, all_go_on, begins, begun_by, goes_on, none_ran, paused_by, pauses, total}
 use Rattle.queue_rounds.specs.declared.jobs.JobName.{JobName}
-use Rattle.queue_rounds.specs.declared.replies.Heard.{Heard}
-use Rattle.queue_rounds.specs.declared.replies.Heard.TheVariants.{Listed, Ran, Passed, Nothing, Foreign}
+use Rattle.queue_rounds.specs.declared.replies.Outcome.{Outcome}
+use Rattle.queue_rounds.specs.declared.replies.Outcome.TheVariants.{Listed, Ran, Passed, Nothing, Foreign}
 use Rattle.queue_rounds.specs.declared.rounds.Next.{Next}
 use Rattle.queue_rounds.specs.declared.rounds.Next.TheVariants.{Pause, End}
 use Rattle.queue_rounds.specs.declared.rounds.Why.TheVariants as why
@@ -17,10 +17,10 @@ both_true true c is = (refl, is)
 both_true false c is = cc
 
 -- what follows on a round without a slice
-abbrev after_barren : ℕ → Bool → Next
-after_barren q last = if q == 0 || last then End why.Barren else Pause
+abbrev after_idle : ℕ → Bool → Next
+after_idle q last = if q == 0 || last then End why.Idle else Pause
 
-by_test : (b last : Bool) → goes_on (if b || last then End why.Barren else Pause) ≡ true → (b ≡ false) × (pauses (if b || last then End why.Barren else Pause) ≡ 1)
+by_test : (b last : Bool) → goes_on (if b || last then End why.Idle else Pause) ≡ true → (b ≡ false) × (pauses (if b || last then End why.Idle else Pause) ≡ 1)
 by_test true last is = cc
 by_test false true is = cc
 by_test false false is = (refl, refl)
@@ -30,8 +30,8 @@ not_zero zero is = cc
 not_zero (suc q) is = omega arith
 
 -- where the work goes on, there is patience left, and a pause
-barren_goes_on : (q : ℕ) (last : Bool) → goes_on (after_barren q last) ≡ true → (1 ≤ q) × (pauses (after_barren q last) ≡ 1)
-barren_goes_on q last is = let two = by_test (q == 0) last is in (not_zero q two.0, two.1)
+idle_goes_on : (q : ℕ) (last : Bool) → goes_on (after_idle q last) ≡ true → (1 ≤ q) × (pauses (after_idle q last) ≡ 1)
+idle_goes_on q last is = let two = by_test (q == 0) last is in (not_zero q two.0, two.1)
 
 -- how many rounds more may be begun before one has a slice that runs
 abbrev room_of : List JobName → Bool → ℕ → ℕ
@@ -69,23 +69,23 @@ turned_patient [] l r p t ran is on = record { some = is.some; most = is.most }
 turned_patient (job ∷ []) l true p t ran is on = record { some = omega arith; most = omega arith }
 turned_patient (job ∷ []) l false p t true is on = record { some = omega arith; most = omega arith }
 turned_patient (job ∷ []) l false p t false is on =
-    record { some = (barren_goes_on (p - 1) (is_last l) on).0; most = omega (arith, is.most) }
+    record { some = (idle_goes_on (p - 1) (is_last l) on).0; most = omega (arith, is.most) }
 turned_patient (job ∷ other ∷ rest) l r p t ran is on = record { some = is.some; most = is.most }
 
-patient : (w : List JobName) (l : Option ℕ) (r : Bool) (p t : ℕ) (heard : Heard) → IsPatient (at w l r p t)
-    → goes_on (next_after (at w l r p t) heard) ≡ true → IsPatient (after (at w l r p t) heard)
+patient : (w : List JobName) (l : Option ℕ) (r : Bool) (p t : ℕ) (outcome : Outcome) → IsPatient (at w l r p t)
+    → goes_on (next_after (at w l r p t) outcome) ≡ true → IsPatient (after (at w l r p t) outcome)
 patient w l r p t (Listed jobs) is on = listed_patient w l r p t jobs.items is
 patient w l r p t (Ran it) is on = turned_patient w l r p t true is on
 patient w l r p t (Passed it) is on = turned_patient w l r p t false is on
 patient w l r p t Nothing is on = record { some = is.some; most = is.most }
 patient w l r p t Foreign is on = is
 
-all_patient : (s : State) (answers : List Heard) → IsPatient s → all_go_on s answers ≡ true → IsPatient (after_all s answers)
+all_patient : (s : State) (answers : List Outcome) → IsPatient s → all_go_on s answers ≡ true → IsPatient (after_all s answers)
 unfolding after_all all_go_on
 all_patient s [] is on = is
-all_patient s (heard ∷ rest) is on =
-    let two = both_true (goes_on (next_after s heard)) (all_go_on (after s heard) rest) on in
-    all_patient (after s heard) rest (patient s.waiting s.left s.ran s.patience s.tries heard is two.0) two.1
+all_patient s (outcome ∷ rest) is on =
+    let two = both_true (goes_on (next_after s outcome)) (all_go_on (after s outcome) rest) on in
+    all_patient (after s outcome) rest (patient s.waiting s.left s.ran s.patience s.tries outcome is two.0) two.1
 
 -- ---- answers in which no slice ran
 
@@ -116,52 +116,52 @@ passed_underway : (w : List JobName) (l : Option ℕ) (r : Bool) (p t : ℕ) →
     → underway (at w l r p t) ≤ pauses (turned_next false (at w l r p t)) + underway (turned false (at w l r p t))
 passed_underway [] l r p t on = omega arith
 passed_underway (job ∷ []) l true p t on = omega arith
-passed_underway (job ∷ []) l false p t on = omega (arith, (barren_goes_on (p - 1) (is_last l) on).1)
+passed_underway (job ∷ []) l false p t on = omega (arith, (idle_goes_on (p - 1) (is_last l) on).1)
 passed_underway (job ∷ other ∷ rest) l true p t on = omega arith
 passed_underway (job ∷ other ∷ rest) l false p t on = omega arith
 
-less_room : (w : List JobName) (l : Option ℕ) (r : Bool) (p t : ℕ) (heard : Heard) → 1 ≤ p → none_ran heard ≡ true
-    → goes_on (next_after (at w l r p t) heard) ≡ true
-    → begun_by (at w l r p t) heard + room (after (at w l r p t) heard) ≤ room (at w l r p t)
+less_room : (w : List JobName) (l : Option ℕ) (r : Bool) (p t : ℕ) (outcome : Outcome) → 1 ≤ p → none_ran outcome ≡ true
+    → goes_on (next_after (at w l r p t) outcome) ≡ true
+    → begun_by (at w l r p t) outcome + room (after (at w l r p t) outcome) ≤ room (at w l r p t)
 less_room w l r p t (Listed jobs) some none on = listed_room w l r p t jobs.items some on
 less_room w l r p t (Ran it) some none on = cc
 less_room w l r p t (Passed it) some none on = omega (arith, passed_room w l r p t)
 less_room w l r p t Nothing some none on = omega arith
 less_room w l r p t Foreign some none on = cc
 
-more_underway : (w : List JobName) (l : Option ℕ) (r : Bool) (p t : ℕ) (heard : Heard) → none_ran heard ≡ true
-    → goes_on (next_after (at w l r p t) heard) ≡ true
-    → begun_by (at w l r p t) heard + underway (at w l r p t) ≤ paused_by (at w l r p t) heard + underway (after (at w l r p t) heard)
+more_underway : (w : List JobName) (l : Option ℕ) (r : Bool) (p t : ℕ) (outcome : Outcome) → none_ran outcome ≡ true
+    → goes_on (next_after (at w l r p t) outcome) ≡ true
+    → begun_by (at w l r p t) outcome + underway (at w l r p t) ≤ paused_by (at w l r p t) outcome + underway (after (at w l r p t) outcome)
 more_underway w l r p t (Listed jobs) none on = listed_underway w l r p t jobs.items on
 more_underway w l r p t (Ran it) none on = cc
 more_underway w l r p t (Passed it) none on = omega (arith, passed_underway w l r p t on)
 more_underway w l r p t Nothing none on = omega arith
 more_underway w l r p t Foreign none on = cc
 
-rounds_in_room : (s : State) (answers : List Heard) → IsPatient s → list_all none_ran answers ≡ true → all_go_on s answers ≡ true
+rounds_in_room : (s : State) (answers : List Outcome) → IsPatient s → list_all none_ran answers ≡ true → all_go_on s answers ≡ true
     → total begun_by s answers + room (after_all s answers) ≤ room s
 unfolding total after_all all_go_on
 rounds_in_room s [] is none on = omega arith
-rounds_in_room s (heard ∷ rest) is none on =
-    let two = both_true (goes_on (next_after s heard)) (all_go_on (after s heard) rest) on in
-    let nones = both_true (none_ran heard) (list_all none_ran rest) none in
+rounds_in_room s (outcome ∷ rest) is none on =
+    let two = both_true (goes_on (next_after s outcome)) (all_go_on (after s outcome) rest) on in
+    let nones = both_true (none_ran outcome) (list_all none_ran rest) none in
     omega (
       arith,
-      less_room s.waiting s.left s.ran s.patience s.tries heard is.some nones.0 two.0,
-      rounds_in_room (after s heard) rest (patient s.waiting s.left s.ran s.patience s.tries heard is two.0) nones.1 two.1,
+      less_room s.waiting s.left s.ran s.patience s.tries outcome is.some nones.0 two.0,
+      rounds_in_room (after s outcome) rest (patient s.waiting s.left s.ran s.patience s.tries outcome is two.0) nones.1 two.1,
     )
 
-rounds_and_pauses : (s : State) (answers : List Heard) → list_all none_ran answers ≡ true → all_go_on s answers ≡ true
+rounds_and_pauses : (s : State) (answers : List Outcome) → list_all none_ran answers ≡ true → all_go_on s answers ≡ true
     → total begun_by s answers + underway s ≤ total paused_by s answers + underway (after_all s answers)
 unfolding total after_all all_go_on
 rounds_and_pauses s [] none on = omega arith
-rounds_and_pauses s (heard ∷ rest) none on =
-    let two = both_true (goes_on (next_after s heard)) (all_go_on (after s heard) rest) on in
-    let nones = both_true (none_ran heard) (list_all none_ran rest) none in
+rounds_and_pauses s (outcome ∷ rest) none on =
+    let two = both_true (goes_on (next_after s outcome)) (all_go_on (after s outcome) rest) on in
+    let nones = both_true (none_ran outcome) (list_all none_ran rest) none in
     omega (
       arith,
-      more_underway s.waiting s.left s.ran s.patience s.tries heard nones.0 two.0,
-      rounds_and_pauses (after s heard) rest nones.1 two.1,
+      more_underway s.waiting s.left s.ran s.patience s.tries outcome nones.0 two.0,
+      rounds_and_pauses (after s outcome) rest nones.1 two.1,
     )
 
 room_most : (w : List JobName) (r : Bool) (p : ℕ) → p ≤ 10 → room_of w r p ≤ 10
@@ -179,7 +179,7 @@ underway_most (job ∷ w) false = omega arith
 at_start : (most : Option ℕ) → IsPatient (start most)
 at_start most = record { some = omega arith; most = omega arith }
 
-pub ten_rounds : (most : Option ℕ) (earlier later : List Heard) → all_go_on (start most) earlier ≡ true
+pub ten_rounds : (most : Option ℕ) (earlier later : List Outcome) → all_go_on (start most) earlier ≡ true
     → all_go_on (after_all (start most) earlier) later ≡ true → list_all none_ran later ≡ true
     → total begun_by (after_all (start most) earlier) later ≤ 10
 ten_rounds most earlier later before on none =
@@ -187,7 +187,7 @@ ten_rounds most earlier later before on none =
     let is = all_patient (start most) earlier (at_start most) before in
     omega (arith, rounds_in_room s later is none on, room_most s.waiting s.ran s.patience is.most)
 
-pub with_pauses : (most : Option ℕ) (earlier later : List Heard)
+pub with_pauses : (most : Option ℕ) (earlier later : List Outcome)
     → all_go_on (after_all (start most) earlier) later ≡ true → list_all none_ran later ≡ true
     → total begun_by (after_all (start most) earlier) later ≤ total paused_by (after_all (start most) earlier) later + 1
 with_pauses most earlier later on none =

@@ -3,8 +3,8 @@ use Rattle.std.specs.Prelude.{ℕ, ◌≡◌, ◌≢◌, ◌&&◌, Bool, true, f
 use Rattle.queue_rounds.specs.Answers.{Tells, queue_in, ran_in, refusal_in, standing_in}
 use Rattle.queue_rounds.specs.Names.{name_of}
 use Rattle.queue_rounds.specs.Standings.{stands}
-use Rattle.queue_rounds.specs.declared.replies.Heard.{Heard}
-use Rattle.queue_rounds.specs.declared.replies.Heard.TheVariants as heard
+use Rattle.queue_rounds.specs.declared.replies.Outcome.{Outcome}
+use Rattle.queue_rounds.specs.declared.replies.Outcome.TheVariants as outcome
 use Rattle.queue_rounds.specs.declared.replies.Passed.TheVariants as passed
 use Rattle.queue_rounds.specs.declared.replies.Reply.{Reply}
 use Rattle.queue_rounds.specs.declared.replies.Reply.TheVariants as reply
@@ -15,51 +15,51 @@ abbrev pub is_failure : ℕ → Bool
 is_failure status = nat_le 500 status && nat_le status 599
 
 -- a body says the jobs of a queue, or none
-abbrev pub IsQueueTold : List ℕ → Heard → Type 0
-IsQueueTold body (heard.Listed jobs) = Tells queue_in body (Some (map name_of jobs.items))
-IsQueueTold body heard.Foreign = Tells queue_in body None
+abbrev pub IsQueueTold : List ℕ → Outcome → Type 0
+IsQueueTold body (outcome.Listed jobs) = Tells queue_in body (Some (map name_of jobs.items))
+IsQueueTold body outcome.Foreign = Tells queue_in body None
 IsQueueTold body other = ⊥
 
 -- a status and a body say the jobs of a queue, or that the bureau failed
-pub record IsQueueReplied (status : ℕ) (body : List ℕ) (it : Heard) : Type 0 where
-  pub failed : is_failure status ≡ true → it ≡ heard.Nothing
+pub record IsQueueReplied (status : ℕ) (body : List ℕ) (it : Outcome) : Type 0 where
+  pub failed : is_failure status ≡ true → it ≡ outcome.Nothing
   pub told : status ≡ 200 → IsQueueTold body it
-  pub other : is_failure status ≡ false → status ≢ 200 → it ≡ heard.Foreign
+  pub other : is_failure status ≡ false → status ≢ 200 → it ≡ outcome.Foreign
 
 -- what the reply to the request for the queue says
-abbrev pub IsQueueHeard : Reply → Heard → Type 0
-IsQueueHeard reply.Unsent it = it ≡ heard.Nothing
-IsQueueHeard reply.Lost it = it ≡ heard.Nothing
-IsQueueHeard (reply.Replied status body) it = IsQueueReplied status body.items it
+abbrev pub IsQueueRead : Reply → Outcome → Type 0
+IsQueueRead reply.Unsent it = it ≡ outcome.Nothing
+IsQueueRead reply.Lost it = it ≡ outcome.Nothing
+IsQueueRead (reply.Replied status body) it = IsQueueReplied status body.items it
 
 -- a body says what a slice did, or does not
-abbrev pub IsRanTold : List ℕ → Heard → Type 0
-IsRanTold body (heard.Ran ran) =
+abbrev pub IsRanTold : List ℕ → Outcome → Type 0
+IsRanTold body (outcome.Ran ran) =
     Tells ran_in body (Some (ran.executed, string_bytes ran.standing))
-IsRanTold body heard.Foreign = Tells ran_in body None
+IsRanTold body outcome.Foreign = Tells ran_in body None
 IsRanTold body other = ⊥
 
 -- a body says the number of a refusal, or does not
-abbrev pub IsRefusalTold : List ℕ → Heard → Type 0
-IsRefusalTold body (heard.Passed (passed.Refused number)) = Tells refusal_in body (Some number)
-IsRefusalTold body heard.Foreign = Tells refusal_in body None
+abbrev pub IsRefusalTold : List ℕ → Outcome → Type 0
+IsRefusalTold body (outcome.Passed (passed.Refused number)) = Tells refusal_in body (Some number)
+IsRefusalTold body outcome.Foreign = Tells refusal_in body None
 IsRefusalTold body other = ⊥
 
 -- a status other than 200 and a body say why a slice did not run
-pub record IsSlicePassed (status : ℕ) (body : List ℕ) (it : Heard) : Type 0 where
-  pub failed : is_failure status ≡ true → it ≡ heard.Passed (passed.Failed status)
+pub record IsSlicePassed (status : ℕ) (body : List ℕ) (it : Outcome) : Type 0 where
+  pub failed : is_failure status ≡ true → it ≡ outcome.Passed (passed.Failed status)
   pub told : is_failure status ≡ false → IsRefusalTold body it
 
 -- a status and a body say what a slice did, or why it did not run
-pub record IsSliceReplied (status : ℕ) (body : List ℕ) (it : Heard) : Type 0 where
+pub record IsSliceReplied (status : ℕ) (body : List ℕ) (it : Outcome) : Type 0 where
   pub told : status ≡ 200 → IsRanTold body it
   pub passed : status ≢ 200 → IsSlicePassed status body it
 
 -- what the reply to the request for a slice says: one that was sent and not answered has passed
-abbrev pub IsSliceHeard : Reply → Heard → Type 0
-IsSliceHeard reply.Unsent it = it ≡ heard.Nothing
-IsSliceHeard reply.Lost it = it ≡ heard.Passed passed.Lost
-IsSliceHeard (reply.Replied status body) it = IsSliceReplied status body.items it
+abbrev pub IsSliceRead : Reply → Outcome → Type 0
+IsSliceRead reply.Unsent it = it ≡ outcome.Nothing
+IsSliceRead reply.Lost it = it ≡ outcome.Passed passed.Lost
+IsSliceRead (reply.Replied status body) it = IsSliceReplied status body.items it
 
 -- a status and a body say how a job stands, or nothing of it
 pub record IsStandingReplied (status : ℕ) (body : List ℕ) (it : Option Standing) : Type 0 where
@@ -67,7 +67,7 @@ pub record IsStandingReplied (status : ℕ) (body : List ℕ) (it : Option Stand
   pub other : status ≢ 200 → it ≡ None
 
 -- how a job stands by the reply to the request for its standing
-abbrev pub IsStandingHeard : Reply → Option Standing → Type 0
-IsStandingHeard reply.Unsent it = it ≡ None
-IsStandingHeard reply.Lost it = it ≡ None
-IsStandingHeard (reply.Replied status body) it = IsStandingReplied status body.items it
+abbrev pub IsStandingRead : Reply → Option Standing → Type 0
+IsStandingRead reply.Unsent it = it ≡ None
+IsStandingRead reply.Lost it = it ≡ None
+IsStandingRead (reply.Replied status body) it = IsStandingReplied status body.items it

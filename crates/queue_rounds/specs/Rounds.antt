@@ -1,8 +1,8 @@
 -- the rounds in which a bureau's queue is run: what is asked for, and when the work ends
 use Rattle.std.specs.Prelude.{ℕ, ◌-◌, ◌&&◌, ◌||◌, ◌==◌, Bool, true, false, not, if◌then◌else◌, List, [], ◌∷◌, Option, Some, None}
 use Rattle.queue_rounds.specs.declared.jobs.JobName.{JobName}
-use Rattle.queue_rounds.specs.declared.replies.Heard.{Heard}
-use Rattle.queue_rounds.specs.declared.replies.Heard.TheVariants.{Listed, Ran, Passed, Nothing, Foreign}
+use Rattle.queue_rounds.specs.declared.replies.Outcome.{Outcome}
+use Rattle.queue_rounds.specs.declared.replies.Outcome.TheVariants.{Listed, Ran, Passed, Nothing, Foreign}
 use Rattle.queue_rounds.specs.declared.rounds.Next.{Next}
 use Rattle.queue_rounds.specs.declared.rounds.Next.TheVariants.{GoOn, Pause, End}
 use Rattle.queue_rounds.specs.declared.rounds.Rounds.{Rounds}
@@ -77,11 +77,11 @@ ended s = record s { patience = if s.ran then 10 else s.patience - 1 }
 abbrev pub ended_next : State → Next
 ended_next s =
     if s.ran then (if is_last s.left then End why.Rounds else GoOn)
-    else (if s.patience - 1 == 0 || is_last s.left then End why.Barren else Pause)
+    else (if s.patience - 1 == 0 || is_last s.left then End why.Idle else Pause)
 
 -- how many rounds in a row, up to now, were without a slice that ran
-abbrev pub barren_rounds : State → ℕ
-barren_rounds s = 10 - s.patience
+abbrev pub idle_rounds : State → ℕ
+idle_rounds s = 10 - s.patience
 
 -- the work once the first job had its turn, in which its slice ran or did not
 abbrev pub taken : Bool → State → State
@@ -106,7 +106,7 @@ abbrev pub failed_next : State → Next
 failed_next s = if s.tries == 0 then End why.Away else Pause
 
 -- the work after an answer
-abbrev pub after : State → Heard → State
+abbrev pub after : State → Outcome → State
 after s (Listed jobs) = listed s jobs.items
 after s (Ran it) = turned true s
 after s (Passed it) = turned false s
@@ -114,7 +114,7 @@ after s Nothing = failed s
 after s Foreign = s
 
 -- what follows on an answer
-abbrev pub next_after : State → Heard → Next
+abbrev pub next_after : State → Outcome → Next
 next_after s (Listed jobs) = listed_next s jobs.items
 next_after s (Ran it) = turned_next true s
 next_after s (Passed it) = turned_next false s

@@ -2,20 +2,20 @@
 use Rattle.std.specs.Prelude.{ℕ, ◌+◌, ◌&&◌, Bool, true, false, not, if◌then◌else◌, List, [], ◌∷◌}
 use Rattle.queue_rounds.specs.Rounds.{State, after, is_empty, next_after}
 use Rattle.queue_rounds.specs.declared.jobs.JobName.{JobName}
-use Rattle.queue_rounds.specs.declared.replies.Heard.{Heard}
-use Rattle.queue_rounds.specs.declared.replies.Heard.TheVariants.{Listed, Ran, Passed, Nothing, Foreign}
+use Rattle.queue_rounds.specs.declared.replies.Outcome.{Outcome}
+use Rattle.queue_rounds.specs.declared.replies.Outcome.TheVariants.{Listed, Ran, Passed, Nothing, Foreign}
 use Rattle.queue_rounds.specs.declared.rounds.Next.{Next}
 use Rattle.queue_rounds.specs.declared.rounds.Next.TheVariants.{GoOn, Pause, End}
 
 -- where the work is after these answers, the earliest first
-unfoldable pub after_all : State → List Heard → State
+unfoldable pub after_all : State → List Outcome → State
 after_all s [] = s
-after_all s (heard ∷ rest) = after_all (after s heard) rest
+after_all s (outcome ∷ rest) = after_all (after s outcome) rest
 
 -- what the answers of a run add up to, if each alone adds so much
-unfoldable pub total : (State → Heard → ℕ) → State → List Heard → ℕ
+unfoldable pub total : (State → Outcome → ℕ) → State → List Outcome → ℕ
 total adds s [] = 0
-total adds s (heard ∷ rest) = adds s heard + total adds (after s heard) rest
+total adds s (outcome ∷ rest) = adds s outcome + total adds (after s outcome) rest
 
 -- whether this is not the end
 abbrev pub goes_on : Next → Bool
@@ -24,12 +24,12 @@ goes_on Pause = true
 goes_on (End why) = false
 
 -- whether the work goes on after each of these answers
-unfoldable pub all_go_on : State → List Heard → Bool
+unfoldable pub all_go_on : State → List Outcome → Bool
 all_go_on s [] = true
-all_go_on s (heard ∷ rest) = goes_on (next_after s heard) && all_go_on (after s heard) rest
+all_go_on s (outcome ∷ rest) = goes_on (next_after s outcome) && all_go_on (after s outcome) rest
 
 -- whether an answer is that no slice ran
-abbrev pub none_ran : Heard → Bool
+abbrev pub none_ran : Outcome → Bool
 none_ran (Listed jobs) = true
 none_ran (Ran it) = false
 none_ran (Passed it) = true
@@ -46,7 +46,7 @@ abbrev pub begins : State → List JobName → Bool
 begins s jobs = is_empty s.waiting && not (is_empty jobs)
 
 -- how many rounds an answer begins: one where none waits and there are jobs
-abbrev pub begun_by : State → Heard → ℕ
+abbrev pub begun_by : State → Outcome → ℕ
 begun_by s (Listed jobs) = if begins s jobs.items then 1 else 0
 begun_by s (Ran it) = 0
 begun_by s (Passed it) = 0
@@ -54,7 +54,7 @@ begun_by s Nothing = 0
 begun_by s Foreign = 0
 
 -- how many such jobs an answer lists for a round
-abbrev pub listed_by : (JobName → Bool) → State → Heard → ℕ
+abbrev pub listed_by : (JobName → Bool) → State → Outcome → ℕ
 listed_by is s (Listed jobs) = if begins s jobs.items then count is jobs.items else 0
 listed_by is s (Ran it) = 0
 listed_by is s (Passed it) = 0
@@ -67,7 +67,7 @@ first_of is [] = 0
 first_of is (job ∷ waiting) = if is job then 1 else 0
 
 -- how many slices of such jobs were sent and answered, or cut off: the first that waits has one
-abbrev pub sliced_by : (JobName → Bool) → State → Heard → ℕ
+abbrev pub sliced_by : (JobName → Bool) → State → Outcome → ℕ
 sliced_by is s (Listed jobs) = 0
 sliced_by is s (Ran it) = first_of is s.waiting
 sliced_by is s (Passed it) = first_of is s.waiting
@@ -81,5 +81,5 @@ pauses Pause = 1
 pauses (End why) = 0
 
 -- how many pauses follow on an answer
-abbrev pub paused_by : State → Heard → ℕ
-paused_by s heard = pauses (next_after s heard)
+abbrev pub paused_by : State → Outcome → ℕ
+paused_by s outcome = pauses (next_after s outcome)

@@ -6,14 +6,14 @@ ghost use Rattle.queue_rounds.specs.Names.{Name, is_among, missing};
 ghost use Rattle.queue_rounds.specs.Rounds.{start};
 ghost use Rattle.queue_rounds.specs.Runs.{after_all, all_go_on, begun_by, count, listed_by, none_ran, paused_by, sliced_by, total};
 ghost use Rattle.queue_rounds.specs.declared.jobs.JobName.{JobName};
-ghost use Rattle.queue_rounds.specs.declared.replies.Heard.{Heard};
+ghost use Rattle.queue_rounds.specs.declared.replies.Outcome.{Outcome};
 
 /// The law of rounds: a job has had one slice for each round that listed it, but for the last round
 /// if it still waits there. So each job of a round that is over has had exactly one slice of it,
 /// and none that was sent is sent again in its round, however it was answered.
 #[tactic(auto, using(crate::proofs::TurnLemmas::once))]
 pub fn each_job_of_a_round_has_one_slice()
-    ensures { (most : Option ℕ) (is : JobName → Bool) (answers : List Heard) →
+    ensures { (most : Option ℕ) (is : JobName → Bool) (answers : List Outcome) →
         total (sliced_by is) (start most) answers
         + count is (after_all (start most) answers).waiting
         ≡ total (listed_by is) (start most) answers }
@@ -23,7 +23,7 @@ pub fn each_job_of_a_round_has_one_slice()
 /// twice, none has had more than one slice more than the other.
 #[tactic(auto, using(crate::proofs::TurnLemmas::fair))]
 pub fn turns_are_fair()
-    ensures { (most : Option ℕ) (is other : JobName → Bool) (answers : List Heard) →
+    ensures { (most : Option ℕ) (is other : JobName → Bool) (answers : List Outcome) →
         total (listed_by is) (start most) answers ≡ total (listed_by other) (start most) answers →
         count other (after_all (start most) answers).waiting ≤ 1 →
         total (sliced_by is) (start most) answers
@@ -34,12 +34,12 @@ pub fn turns_are_fair()
 /// before the end, whatever was answered earlier; and a pause stands between two of them.
 #[tactic(auto, using(crate::proofs::EndLemmas::ten_rounds, crate::proofs::EndLemmas::with_pauses))]
 pub fn work_in_which_no_slice_runs_ends()
-    ensures end { (most : Option ℕ) (earlier later : List Heard) →
+    ensures end { (most : Option ℕ) (earlier later : List Outcome) →
         all_go_on (start most) earlier ≡ true →
         all_go_on (after_all (start most) earlier) later ≡ true →
         list_all none_ran later ≡ true →
         total begun_by (after_all (start most) earlier) later ≤ 10 }
-    ensures pauses { (most : Option ℕ) (earlier later : List Heard) →
+    ensures pauses { (most : Option ℕ) (earlier later : List Outcome) →
         all_go_on (after_all (start most) earlier) later ≡ true →
         list_all none_ran later ≡ true →
         total begun_by (after_all (start most) earlier) later
@@ -49,7 +49,7 @@ pub fn work_in_which_no_slice_runs_ends()
 /// The law of the limit: of so many rounds that are asked for, one or more, none is begun beyond.
 #[tactic(auto, using(crate::proofs::LimitLemmas::as_asked))]
 pub fn no_more_rounds_than_asked_for()
-    ensures { (most : ℕ) (answers : List Heard) → 1 ≤ most →
+    ensures { (most : ℕ) (answers : List Outcome) → 1 ≤ most →
         all_go_on (start (Some most)) answers ≡ true →
         total begun_by (start (Some most)) answers ≤ most }
 {}

@@ -1,8 +1,8 @@
 //! Rounds: the jobs of a bureau's queue are run in turns, one slice each, and its queue is watched.
 //!
 //! The operator asks a bureau that is being served for its queue, gives each job of it one slice,
-//! and asks again. [`read_reply`] reads a response by `httparse`, and [`hear_queue`] and
-//! [`hear_slice`] say what a reply is, byte for byte. [`Rounds`] says what is asked for next and
+//! and asks again. [`read_reply`] reads a response by `httparse`, and [`outcome_of_queue`] and
+//! [`outcome_of_slice`] say what a reply is, byte for byte. [`Rounds`] says what is asked for next and
 //! when there is a pause or an end: a state machine whose requests are a function of the replies
 //! (`specs/Rounds.antt`). Its laws:
 //! each job that a round lists has exactly one slice of it ([`each_job_of_a_round_has_one_slice`]);
@@ -31,7 +31,7 @@ pub use laws::{
     changes_lead_to_the_next_queue, each_job_of_a_round_has_one_slice,
     no_more_rounds_than_asked_for, turns_are_fair, work_in_which_no_slice_runs_ends,
 };
-pub use replies::{Heard, Passed, Reply, hear_queue, hear_slice, hear_standing};
+pub use replies::{Outcome, Passed, Reply, outcome_of_queue, outcome_of_slice, standing_of};
 pub use responses::read_reply;
 pub use rounds::{MOST_TRIES, Next, Rounds, Why};
 pub use standings::{Standing, read_standing};

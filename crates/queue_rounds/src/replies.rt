@@ -1,7 +1,7 @@
 //! What a bureau answers to the requests of the work on its queue.
 
 ghost use Rattle.std.specs.Prelude.{◌≡◌, IfOk};
-ghost use Rattle.queue_rounds.specs.Replies.{IsQueueHeard, IsQueueReplied, IsSliceHeard, IsSlicePassed, IsSliceReplied, IsStandingHeard, IsStandingReplied, is_failure};
+ghost use Rattle.queue_rounds.specs.Replies.{IsQueueRead, IsQueueReplied, IsSliceRead, IsSlicePassed, IsSliceReplied, IsStandingRead, IsStandingReplied, is_failure};
 
 use crate::answers::{Ran, read_queue, read_ran, read_refusal};
 use crate::jobs::JobName;
@@ -37,7 +37,7 @@ pub enum Passed {
 
 /// What a reply says.
 #[derive(Drop)]
-pub enum Heard {
+pub enum Outcome {
     /// The queue has these jobs.
     Listed(Vec<JobName>),
     /// A job had its slice.
@@ -58,70 +58,70 @@ fn is_failure(status: u16) -> bool
 }
 
 /// What the body of a queue says.
-fn hear_queue_body(alloc: Global, status: u16, body: &[u8]) -> Result<Heard, AllocError>
+fn outcome_of_queue_body(alloc: Global, status: u16, body: &[u8]) -> Result<Outcome, AllocError>
     ensures { IfOk result (IsQueueReplied status body.now) }
 {
     if status == 200 {
         return match read_queue(alloc, body)? {
-            Some(jobs) => Ok(Heard::Listed(jobs)),
-            None => Ok(Heard::Foreign),
+            Some(jobs) => Ok(Outcome::Listed(jobs)),
+            None => Ok(Outcome::Foreign),
         };
     }
     if is_failure(status) {
-        return Ok(Heard::Nothing);
+        return Ok(Outcome::Nothing);
     }
-    Ok(Heard::Foreign)
+    Ok(Outcome::Foreign)
 }
 
 /// Returns what the reply to the request for the queue says. Fails only if there is no memory.
-pub fn hear_queue(alloc: Global, reply: &Reply) -> Result<Heard, AllocError>
-    ensures { IfOk result (IsQueueHeard reply.now) }
+pub fn outcome_of_queue(alloc: Global, reply: &Reply) -> Result<Outcome, AllocError>
+    ensures { IfOk result (IsQueueRead reply.now) }
 {
     match reply {
-        Reply::Replied { status, body } => hear_queue_body(alloc, *status, body),
-        _ => Ok(Heard::Nothing),
+        Reply::Replied { status, body } => outcome_of_queue_body(alloc, *status, body),
+        _ => Ok(Outcome::Nothing),
     }
 }
 
 /// What the reply to a slice with another status than 200 says.
-fn hear_refusal(alloc: Global, status: u16, body: &[u8]) -> Result<Heard, AllocError>
+fn outcome_of_refusal(alloc: Global, status: u16, body: &[u8]) -> Result<Outcome, AllocError>
     ensures { IfOk result (IsSlicePassed status body.now) }
 {
     if is_failure(status) {
-        return Ok(Heard::Passed(Passed::Failed(status)));
+        return Ok(Outcome::Passed(Passed::Failed(status)));
     }
     match read_refusal(alloc, body)? {
-        Some(number) => Ok(Heard::Passed(Passed::Refused(number))),
-        None => Ok(Heard::Foreign),
+        Some(number) => Ok(Outcome::Passed(Passed::Refused(number))),
+        None => Ok(Outcome::Foreign),
     }
 }
 
 /// What the reply to a slice says.
-fn hear_slice_body(alloc: Global, status: u16, body: &[u8]) -> Result<Heard, AllocError>
+fn outcome_of_slice_body(alloc: Global, status: u16, body: &[u8]) -> Result<Outcome, AllocError>
     ensures { IfOk result (IsSliceReplied status body.now) }
 {
     if status != 200 {
-        return hear_refusal(alloc, status, body);
+        return outcome_of_refusal(alloc, status, body);
     }
     match read_ran(alloc, body)? {
-        Some(ran) => Ok(Heard::Ran(ran)),
-        None => Ok(Heard::Foreign),
+        Some(ran) => Ok(Outcome::Ran(ran)),
+        None => Ok(Outcome::Foreign),
     }
 }
 
 /// Returns what the reply to the request for a slice says. Fails only if there is no memory.
-pub fn hear_slice(alloc: Global, reply: &Reply) -> Result<Heard, AllocError>
-    ensures { IfOk result (IsSliceHeard reply.now) }
+pub fn outcome_of_slice(alloc: Global, reply: &Reply) -> Result<Outcome, AllocError>
+    ensures { IfOk result (IsSliceRead reply.now) }
 {
     match reply {
-        Reply::Unsent => Ok(Heard::Nothing),
-        Reply::Lost => Ok(Heard::Passed(Passed::Lost)),
-        Reply::Replied { status, body } => hear_slice_body(alloc, *status, body),
+        Reply::Unsent => Ok(Outcome::Nothing),
+        Reply::Lost => Ok(Outcome::Passed(Passed::Lost)),
+        Reply::Replied { status, body } => outcome_of_slice_body(alloc, *status, body),
     }
 }
 
 /// How a job stands, as a status and a body say.
-fn hear_standing_body(
+fn standing_of_body(
     alloc: Global,
     status: u16,
     body: &[u8],
@@ -136,11 +136,11 @@ fn hear_standing_body(
 
 /// Returns how a job stands by the reply to the request for its standing; none if that does not say
 /// it. Fails only if there is no memory.
-pub fn hear_standing(alloc: Global, reply: &Reply) -> Result<Option<Standing>, AllocError>
-    ensures { IfOk result (IsStandingHeard reply.now) }
+pub fn standing_of(alloc: Global, reply: &Reply) -> Result<Option<Standing>, AllocError>
+    ensures { IfOk result (IsStandingRead reply.now) }
 {
     match reply {
-        Reply::Replied { status, body } => hear_standing_body(alloc, *status, body),
+        Reply::Replied { status, body } => standing_of_body(alloc, *status, body),
         _ => Ok(None),
     }
 }

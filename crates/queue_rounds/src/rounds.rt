@@ -1,10 +1,10 @@
 //! The rounds in which the queue of a bureau is run.
 
 ghost use Rattle.std.specs.Prelude.{◌≡◌, option_copied, slice_get};
-ghost use Rattle.queue_rounds.specs.Rounds.{after, barren_rounds, ended, ended_next, failed, failed_next, is_last, listed, listed_next, next_after, one_less, start, state_of, turned, turned_next};
+ghost use Rattle.queue_rounds.specs.Rounds.{after, idle_rounds, ended, ended_next, failed, failed_next, is_last, listed, listed_next, next_after, one_less, start, state_of, turned, turned_next};
 
 use crate::jobs::JobName;
-use crate::replies::Heard;
+use crate::replies::Outcome;
 use crate::turns::Turns;
 use std::alloc::Global;
 
@@ -23,7 +23,7 @@ pub enum Why {
     Rounds,
     /// No slice ran in the last rounds, which are [`MOST_BARREN`], or fewer if no more were asked
     /// for.
-    Barren,
+    Idle,
     /// A request failed, and failed again [`MOST_TRIES`] times.
     Away,
     /// What answers is no bureau.
@@ -109,7 +109,7 @@ impl Rounds {
         if jobs.is_empty() {
             return Next::End(Why::Empty);
         }
-        self.turns.hear_queue(jobs);
+        self.turns.outcome_of_queue(jobs);
         self.left = one_less(self.left);
         self.ran = false;
         Next::GoOn
@@ -131,15 +131,15 @@ impl Rounds {
         }
         self.patience = self.patience.saturating_sub(1);
         if self.patience == 0 || is_last {
-            Next::End(Why::Barren)
+            Next::End(Why::Idle)
         } else {
             Next::Pause
         }
     }
 
     /// How many rounds in a row, up to now, were without a slice that ran.
-    pub fn barren_rounds(&self) -> u32
-        ensures { result ≡ barren_rounds (state_of self.now) }
+    pub fn idle_rounds(&self) -> u32
+        ensures { result ≡ idle_rounds (state_of self.now) }
     {
         MOST_BARREN.saturating_sub(self.patience)
     }
@@ -153,7 +153,7 @@ impl Rounds {
         if self.turns.is_over() {
             return Next::GoOn;
         }
-        self.turns.hear_slice();
+        self.turns.outcome_of_slice();
         if ran {
             self.ran = true;
         }
@@ -175,17 +175,17 @@ impl Rounds {
         Next::Pause
     }
 
-    /// Hears what was answered to the request that was next. Returns what is to be done.
-    pub fn hear(&mut self, heard: Heard) -> Next
-        ensures state { state_of self.new ≡ after (state_of self.old) heard }
-        ensures next { result ≡ next_after (state_of self.old) heard }
+    /// Goes on by what was answered to the request that was next. Returns what is to be done.
+    pub fn advance(&mut self, outcome: Outcome) -> Next
+        ensures state { state_of self.new ≡ after (state_of self.old) outcome }
+        ensures next { result ≡ next_after (state_of self.old) outcome }
     {
-        match heard {
-            Heard::Listed(jobs) => self.begin(jobs),
-            Heard::Ran(_) => self.take_turn(true),
-            Heard::Passed(_) => self.take_turn(false),
-            Heard::Nothing => self.fail(),
-            Heard::Foreign => Next::End(Why::Foreign),
+        match outcome {
+            Outcome::Listed(jobs) => self.begin(jobs),
+            Outcome::Ran(_) => self.take_turn(true),
+            Outcome::Passed(_) => self.take_turn(false),
+            Outcome::Nothing => self.fail(),
+            Outcome::Foreign => Next::End(Why::Foreign),
         }
     }
 }

@@ -37,7 +37,7 @@ impl Turns {
     }
 
     /// Begins a round with the jobs of the queue, if none waits.
-    pub fn hear_queue(&mut self, jobs: Vec<JobName>)
+    pub fn outcome_of_queue(&mut self, jobs: Vec<JobName>)
         ensures { self.new.waiting.items ≡ waiting_or self.old.waiting.items jobs.items }
     {
         if self.waiting.is_empty() {
@@ -46,7 +46,7 @@ impl Turns {
     }
 
     /// The first job that waited had its turn.
-    pub fn hear_slice(&mut self)
+    pub fn outcome_of_slice(&mut self)
         ensures { self.new.waiting.items ≡ behind_first self.old.waiting.items }
     {
         if !self.waiting.is_empty() {

@@ -11,10 +11,10 @@ use Rattle.machine.specs.declared.standings.Standing.{Standing}
 use Rattle.machine.specs.declared.standings.Standing.TheVariants.{Running, Halted, Checked}
 use Rattle.check_causes.specs.Causes.{cause}
 use Rattle.run_traces.specs.Causes.{cause_shown}
-use Rattle.run_traces.specs.Deeds.{deeds_since, made_by}
+use Rattle.run_traces.specs.Effects.{effects_since, made_by}
 use Rattle.run_traces.specs.Names.{Named, name_field}
 use Rattle.run_traces.specs.Shown.{characters_next, left}
-use Rattle.run_traces.specs.declared.deeds.Made.{Made}
+use Rattle.run_traces.specs.declared.effects.Made.{Made}
 
 -- the sign of a comparison: how the second operand compares with the first
 abbrev pub compared_sign : Compared → List ℕ
@@ -39,7 +39,7 @@ registers_shown r channel_12 = codes "A " ++ position_field r.a ++ codes " B " +
 abbrev pub effect_shown : Made → State → List ℕ
 effect_shown before m =
     registers_shown m.works.registers m.works.units.printer.carriage.channel_12
-    ++ codes "   " ++ deeds_since before m
+    ++ codes "   " ++ effects_since before m
 
 -- a check that a machine met, with its cause
 abbrev pub check_shown : State → Check → List ℕ

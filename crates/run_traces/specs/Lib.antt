@@ -4,7 +4,7 @@ pub mod Causes
 pub mod Shown
 pub mod Names
 pub mod Addresses
-pub mod Deeds
+pub mod Effects
 pub mod Attempts
 pub mod Fields
 pub mod Traces

@@ -6,7 +6,7 @@ ghost use Rattle.run_traces.specs.Attempts.{attempt_line, beginning, channel_sig
 ghost use Rattle.run_traces.specs.Shown.{characters_next, left};
 
 use crate::causes::push_cause;
-use crate::deeds::{Made, deeds_since, made_by};
+use crate::effects::{Made, effects_since, made_by};
 use crate::names::{Names, push_name_field};
 use crate::shown::{push_characters, push_padding};
 use autocoder::{push_line, push_number};
@@ -67,8 +67,8 @@ fn push_effect<C: Core>(
 {
     push_registers(line, parts)?;
     line.extend_from_slice(b"   ")?;
-    let deeds = deeds_since(alloc, before, parts)?;
-    line.extend_from_slice(&deeds)
+    let effects = effects_since(alloc, before, parts)?;
+    line.extend_from_slice(&effects)
 }
 
 /// Adds a check that a machine met, with its cause.

@@ -1,6 +1,6 @@
 pub mod WordLemmas
 pub mod TextLemmas
-pub mod SayingLemmas
+pub mod MeaningLemmas
 pub mod DeckLemmas
 pub mod ParsingLemmas
 pub mod SendingLemmas

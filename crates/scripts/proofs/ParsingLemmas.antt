@@ -1,9 +1,9 @@
 -- The first line of a script, and what it says.
 use Rattle.std.proofs.Common.{◌≡◌, ◌≢◌, ◌∙◌, inl, inr, ℕ, ◌+◌, ◌<◌, ◌≤◌, length, arith, length-append, List, [], ◌∷◌, ◌++◌, refl, sym, ap, subst}
 use Rattle.std.proofs.lemmas.List.Elements.{All-head, All-tail}
-use Rattle.scripts.specs.declared.said.Said.{Said}
-use Rattle.scripts.specs.declared.said.Said.TheVariants as said
-use Rattle.scripts.specs.Commands.{IsSaidBy, IsSaidIn}
+use Rattle.scripts.specs.declared.meanings.Meaning.{Meaning}
+use Rattle.scripts.specs.declared.meanings.Meaning.TheVariants as said
+use Rattle.scripts.specs.Commands.{IsMeantBy, IsMeantIn}
 use Rattle.scripts.specs.Lines.{IsWithout}
 use Rattle.office.specs.declared.commands.Command.{Command}
 use Rattle.office.specs.declared.commands.Command.TheVariants as command
@@ -37,13 +37,13 @@ one_line byte (x ∷ a) (y ∷ b) r s none other same =
 pub no_line : (bytes : List ℕ) → bytes ≢ [] → IsWithout 10 bytes → IsBadHere bytes 1
 no_line bytes some none = (some, inl (refl, λ it rest other begins. stands 10 begins.line rest (subst (IsWithout 10) begins.begins.1 none)))
 
-no_other : (words : List (List ℕ)) (it : Said) → it ≢ said.Nothing → IsSaidBy words said.Nothing → ¬ IsSaidBy words it
+no_other : (words : List (List ℕ)) (it : Meaning) → it ≢ said.Nothing → IsMeantBy words said.Nothing → ¬ IsMeantBy words it
 no_other words (said.Command c) other none says = none.0 c says
 no_other words (said.Heading h) other none says = none.1 h says
 no_other words said.Nothing other none says = other refl
 
 -- where the first line says nothing
-pub bad_line : (bytes line rest : List ℕ) → bytes ≢ [] → IsWithout 10 line → bytes ≡ line ++ 10 ∷ rest → IsSaidIn line said.Nothing → IsBadHere bytes 1
+pub bad_line : (bytes line rest : List ℕ) → bytes ≢ [] → IsWithout 10 line → bytes ≡ line ++ 10 ∷ rest → IsMeantIn line said.Nothing → IsBadHere bytes 1
 bad_line bytes line rest some none whole says = (
   some,
   inl (
@@ -51,13 +51,13 @@ bad_line bytes line rest some none whole says = (
     λ it after other begins.
         let same : line ≡ begins.line = (one_line 10 line begins.line rest after none begins.begins.0 (sym whole ∙ begins.begins.1)).0 in
         no_other (words_of line) it other (says (subst (λ (l : List ℕ). AreWords (words_of l)) (sym same) begins.words))
-        (subst (λ (l : List ℕ). IsSaidBy (words_of l) it) (sym same) begins.says),
+        (subst (λ (l : List ℕ). IsMeantBy (words_of l) it) (sym same) begins.says),
   ),
 )
 
 -- a heading, and the cards after it
 pub headed : (bytes line rest : List ℕ) (heading : Heading) (it : Command) (lines : ℕ) (after : List ℕ) → IsWithout 10 line → bytes ≡ line ++ 10 ∷ rest
-    → IsSaidIn line (said.Heading heading) → EndsSubmission heading rest it lines after → Begins bytes it lines after
+    → IsMeantIn line (said.Heading heading) → EndsSubmission heading rest it lines after → Begins bytes it lines after
 headed bytes line rest heading (command.Submit customer number contents) lines after none whole says ends =
     (heading, rest, record { line = line; begins = (none, whole); words = says.0; says = says.1 }, ends)
 headed bytes line rest heading (command.Job customer number c) lines after none whole says ends = absurd ends
@@ -79,7 +79,7 @@ headed_some rest heading (command.Jobs customer) lines after ends = absurd ends
 headed_some rest heading command.Queue lines after ends = absurd ends
 
 pub headed_fault : (bytes line rest : List ℕ) (heading : Heading) (it : ScriptFault) → bytes ≢ [] → IsWithout 10 line → bytes ≡ line ++ 10 ∷ rest
-    → IsSaidIn line (said.Heading heading) → HasFaultAfter rest heading.cards it → IsFaultHere bytes it
+    → IsMeantIn line (said.Heading heading) → HasFaultAfter rest heading.cards it → IsFaultHere bytes it
 headed_fault bytes line rest heading (fault.BadLine number) some none whole says bad = (
   some,
   inr (record {

@@ -4,8 +4,8 @@ use Rattle.office.specs.declared.commands.Command.{Command}
 use Rattle.office.specs.declared.commands.Command.TheVariants.{Submit, Job as OnJob, Jobs, Queue}
 use Rattle.office.specs.declared.commands.JobCommand.{JobCommand}
 use Rattle.office.specs.declared.commands.JobCommand.TheVariants.{Slice, Start, Hold, Release, Collect, Standing, Cards, Lines}
-use Rattle.scripts.specs.declared.said.Said.{Said}
-use Rattle.scripts.specs.declared.said.Said.TheVariants as said
+use Rattle.scripts.specs.declared.meanings.Meaning.{Meaning}
+use Rattle.scripts.specs.declared.meanings.Meaning.TheVariants as said
 use Rattle.scripts.specs.declared.headings.Heading.{Heading}
 use Rattle.texts.specs.Numbers.{IsNumberOf}
 use Rattle.texts.specs.Switches.{AreSwitchesOf}
@@ -69,13 +69,13 @@ pub record IsHeading (words : List (List ℕ)) (heading : Heading) : Type 0 wher
   pub count_is : IsCountOf count heading.cards
 
 -- what the words of a line say: a command, a heading, or nothing if they are neither
-abbrev pub IsSaidBy : List (List ℕ) → Said → Type 0
-IsSaidBy words (said.Command command) = Says words command
-IsSaidBy words (said.Heading heading) = IsHeading words heading
-IsSaidBy words said.Nothing =
+abbrev pub IsMeantBy : List (List ℕ) → Meaning → Type 0
+IsMeantBy words (said.Command command) = Says words command
+IsMeantBy words (said.Heading heading) = IsHeading words heading
+IsMeantBy words said.Nothing =
     ((command : Command) → ¬ Says words command) × ((heading : Heading) → ¬ IsHeading words heading)
 
 -- what a line says by its words, which are separated by one blank each
-abbrev pub IsSaidIn : List ℕ → Said → Type 0
-IsSaidIn line said.Nothing = AreWords (words_of line) → IsSaidBy (words_of line) said.Nothing
-IsSaidIn line it = AreWords (words_of line) × IsSaidBy (words_of line) it
+abbrev pub IsMeantIn : List ℕ → Meaning → Type 0
+IsMeantIn line said.Nothing = AreWords (words_of line) → IsMeantBy (words_of line) said.Nothing
+IsMeantIn line it = AreWords (words_of line) × IsMeantBy (words_of line) it

@@ -13,9 +13,9 @@ use Rattle.office.specs.declared.commands.Contents.{Contents}
 use Rattle.scripts.specs.declared.faults.ScriptFault.{ScriptFault}
 use Rattle.scripts.specs.declared.faults.ScriptFault.TheVariants as fault
 use Rattle.scripts.specs.declared.headings.Heading.{Heading}
-use Rattle.scripts.specs.declared.said.Said.{Said}
-use Rattle.scripts.specs.declared.said.Said.TheVariants as said
-use Rattle.scripts.specs.Commands.{IsSaidBy}
+use Rattle.scripts.specs.declared.meanings.Meaning.{Meaning}
+use Rattle.scripts.specs.declared.meanings.Meaning.TheVariants as said
+use Rattle.scripts.specs.Commands.{IsMeantBy}
 use Rattle.scripts.specs.Lines.{BeginsWithLine}
 use Rattle.scripts.specs.Words.{AreWords, words_of}
 
@@ -24,11 +24,11 @@ abbrev pub most_bytes : ℕ
 most_bytes = 4000000
 
 -- the bytes begin with a line that says this, and the rest follows
-pub record BeginsWith (bytes : List ℕ) (it : Said) (rest : List ℕ) : Type 0 where
+pub record BeginsWith (bytes : List ℕ) (it : Meaning) (rest : List ℕ) : Type 0 where
   pub line : List ℕ
   pub begins : BeginsWithLine bytes line rest
   pub words : AreWords (words_of line)
-  pub says : IsSaidBy (words_of line) it
+  pub says : IsMeantBy (words_of line) it
 
 -- ---- a command
 
@@ -129,7 +129,7 @@ HasFaultAfter bytes count fault.NoMemory = ⊤
 
 -- the bytes do not begin with a line that is a command or a heading
 abbrev pub SaysNothing : List ℕ → Type 0
-SaysNothing bytes = (it : Said) → (rest : List ℕ) → it ≢ said.Nothing → ¬ BeginsWith bytes it rest
+SaysNothing bytes = (it : Meaning) → (rest : List ℕ) → it ≢ said.Nothing → ¬ BeginsWith bytes it rest
 
 -- the bytes begin with the heading of a submission, and the card on the line of this number is bad
 pub record HasBadDeck (bytes : List ℕ) (number : ℕ) : Type 0 where

@@ -8,8 +8,8 @@ use crate::decks::deck_in;
 use crate::faults::ScriptFault;
 use crate::found::Found;
 use crate::headings::Heading;
-use crate::said::Said;
-use crate::saying::said_in;
+use crate::meanings::Meaning;
+use crate::meaning::meant_in;
 use cards::LINE_FEED;
 use office::{Command, Contents};
 use std::alloc::Global;
@@ -75,14 +75,14 @@ fn command_in(alloc: Global, bytes: &[u8]) -> Result<Found<'_>, ScriptFault>
     let Some((line, rest)) = cut_at(LINE_FEED, bytes) else {
         return Err(ScriptFault::BadLine(1));
     };
-    match said_in(alloc, line)? {
-        Said::Nothing => Err(ScriptFault::BadLine(1)),
-        Said::Command(command) => Ok(Found {
+    match meant_in(alloc, line)? {
+        Meaning::Nothing => Err(ScriptFault::BadLine(1)),
+        Meaning::Command(command) => Ok(Found {
             command,
             lines: 1,
             rest,
         }),
-        Said::Heading(heading) => submission(alloc, heading, rest),
+        Meaning::Heading(heading) => submission(alloc, heading, rest),
     }
 }
 

@@ -1,7 +1,7 @@
 use Rattle.std.proofs.Common.{◌≡◌, length}
 use Rattle.machine.specs.Run.{loaded}
 use Rattle.units.specs.declared.profiles.Profile.TheVariants.{Selecting}
-use Rattle.console.specs.Sittings.{machine_from, machine_of}
+use Rattle.console.specs.SessionStates.{machine_from, machine_of}
 use Rattle.console.proofs.going.rerun.Given as goal
 
 abbrev pub invariant-loop-start : goal.invariant-loop-start

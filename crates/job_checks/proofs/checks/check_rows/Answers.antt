@@ -8,6 +8,6 @@ pub returns-clause-rows : goal.returns-clause-rows
 returns-clause-rows c =
     let all = c.args.all.now in
     let jobs = c.in_ok-jobs.jobs in
-    exact_for all (record { schema = c.args.schema; jobs = jobs; strays = c.in_ok-strays.strays })
+    exact_for all (record { schema = c.args.schema; jobs = jobs; orphans = c.in_ok-orphans.orphans })
     (subst (λ (rows : List Row). AreReported all rows jobs.items) c.as_slice.ensures.value c.in_ok-jobs.ensures)
-    c.in_ok-strays.ensures
+    c.in_ok-orphans.ensures

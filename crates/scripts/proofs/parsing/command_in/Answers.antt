@@ -1,5 +1,5 @@
 use Rattle.std.proofs.Common.{subst}
-use Rattle.scripts.specs.Commands.{IsSaidIn}
+use Rattle.scripts.specs.Commands.{IsMeantIn}
 use Rattle.std.proofs.lemmas.Result.{IfErr-weaker, IfOk-weaker}
 use Rattle.scripts.proofs.ParsingLemmas.{bad_line, headed, headed_fault, headed_shorter, headed_some, no_line}
 use Rattle.scripts.proofs.parsing.command_in.Goals as goal
@@ -9,11 +9,11 @@ returns-in_default-clause-fault c = no_line c.args.bytes.now c.requires c.in_def
 
 pub returns-in-Nothing-clause-fault : goal.returns-in-Nothing-clause-fault
 returns-in-Nothing-clause-fault c =
-    bad_line c.args.bytes.now c.in-Some.line.now c.in-Some.rest.now c.requires c.in-Some.ensures.found.0 c.in-Some.ensures.found.1 (subst (IsSaidIn c.in-Some.line.now) c.in-Nothing.is c.in_ok-said_in.ensures)
+    bad_line c.args.bytes.now c.in-Some.line.now c.in-Some.rest.now c.requires c.in-Some.ensures.found.0 c.in-Some.ensures.found.1 (subst (IsMeantIn c.in-Some.line.now) c.in-Nothing.is c.in_ok-meant_in.ensures)
 
 pub returns-in-Heading-clause-found : goal.returns-in-Heading-clause-found
 returns-in-Heading-clause-found c = IfOk-weaker c.submission.result _ _
-    (λ found ends. headed c.args.bytes.now c.in-Some.line.now c.in-Some.rest.now c.in-Heading.heading _ _ _ c.in-Some.ensures.found.0 c.in-Some.ensures.found.1 (subst (IsSaidIn c.in-Some.line.now) c.in-Heading.is c.in_ok-said_in.ensures) ends)
+    (λ found ends. headed c.args.bytes.now c.in-Some.line.now c.in-Some.rest.now c.in-Heading.heading _ _ _ c.in-Some.ensures.found.0 c.in-Some.ensures.found.1 (subst (IsMeantIn c.in-Some.line.now) c.in-Heading.is c.in_ok-meant_in.ensures) ends)
     c.submission.ensures.found
 
 pub returns-in-Heading-clause-shorter : goal.returns-in-Heading-clause-shorter
@@ -23,7 +23,7 @@ returns-in-Heading-clause-shorter c = IfOk-weaker c.submission.result _ _
 
 pub returns-in-Heading-clause-fault : goal.returns-in-Heading-clause-fault
 returns-in-Heading-clause-fault c = IfErr-weaker c.submission.result _ _
-    (λ it bad. headed_fault c.args.bytes.now c.in-Some.line.now c.in-Some.rest.now c.in-Heading.heading it c.requires c.in-Some.ensures.found.0 c.in-Some.ensures.found.1 (subst (IsSaidIn c.in-Some.line.now) c.in-Heading.is c.in_ok-said_in.ensures) bad)
+    (λ it bad. headed_fault c.args.bytes.now c.in-Some.line.now c.in-Some.rest.now c.in-Heading.heading it c.requires c.in-Some.ensures.found.0 c.in-Some.ensures.found.1 (subst (IsMeantIn c.in-Some.line.now) c.in-Heading.is c.in_ok-meant_in.ensures) bad)
     c.submission.ensures.fault
 
 pub returns-in-Heading-clause-some : goal.returns-in-Heading-clause-some

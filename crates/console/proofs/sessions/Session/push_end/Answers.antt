@@ -1,5 +1,5 @@
 use Rattle.std.proofs.Common.{◌∙◌, ap}
-use Rattle.console.specs.Sittings.{machine_of}
+use Rattle.console.specs.SessionStates.{machine_of}
 use Rattle.console.proofs.EndLemmas.{end_added, on_ok}
 use Rattle.console.proofs.sessions.Session.push_end.Goals as goal
 

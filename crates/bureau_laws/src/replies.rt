@@ -1,0 +1,54 @@
+//! The law of replies.
+
+ghost use Rattle.std.specs.Prelude.{◌≡◌, ◌<◌, ◌^◌, ℕ, All, List, Option, Some};
+ghost use Rattle.http_messages.specs.ReplyBodies.{body_of};
+ghost use Rattle.http_messages.specs.Fixed.{fault_bytes, fault_status, refusing_status};
+ghost use Rattle.http_messages.specs.Replies.{refused_bytes, reply_bytes, status_of};
+ghost use Rattle.http_messages.specs.declared.fixed.Fault.{Fault};
+ghost use Rattle.machine.specs.declared.standings.StandingAt.{StandingAt};
+ghost use Rattle.office.specs.Numbers.{refusal_number};
+ghost use Rattle.office.specs.Queued.{QueuedJob};
+ghost use Rattle.office.specs.declared.refusals.Refusal.{Refusal};
+ghost use Rattle.office.specs.declared.replies.Reply as office;
+ghost use Rattle.office.specs.declared.replies.Reply.TheVariants as told;
+ghost use Rattle.office.specs.declared.summaries.Summary.{Summary};
+ghost use Rattle.queue_rounds.specs.Answers.{Stands};
+ghost use Rattle.queue_rounds.specs.Responses.{IsReplyIn, IsResponse};
+ghost use Rattle.queue_rounds.specs.declared.replies.Outcome.{Outcome};
+ghost use Rattle.queue_rounds.specs.declared.replies.Outcome.TheVariants as outcome;
+ghost use Rattle.queue_rounds.specs.declared.replies.Passed.TheVariants as passed;
+ghost use Rattle.queue_rounds.specs.declared.replies.Reply.{Reply};
+ghost use Rattle.bureau_laws.specs.Replies.{HasBody, HasCounts, ReadsQueue, ReadsSlice, ReadsStanding, IsAnswer, IsJob, IsListed, IsOfJob, IsRan, stands_told};
+
+/// The law of replies: what the counter writes is read as it was meant. The bytes of each of its replies
+/// are a response with the reply's status and body, and are read as no other, and never as none.
+/// The operator reads of them the queue's jobs in their order; of a slice that ran, how many
+/// instructions it executed and how its job stands; of one that was refused, the refusal's number;
+/// of a job, its standing, flags and counts; and of a fault of the bureau itself, that it failed.
+/// A request that was refused by its status alone is read as nothing that a bureau says.
+pub fn replies_are_read()
+    ensures response { (r : office.Reply) → HasBody r →
+        IsResponse (reply_bytes r) (status_of r) (body_of r) }
+    ensures one { (r : office.Reply) (answer : Reply) → HasBody r →
+        IsReplyIn (reply_bytes r) answer → IsAnswer (status_of r) (body_of r) answer }
+    ensures queue { (jobs : List QueuedJob) (it : Outcome) → All IsJob jobs →
+        HasBody (told.Queue jobs) → ReadsQueue (reply_bytes (told.Queue jobs)) it →
+        IsListed jobs it }
+    ensures ran { (executed : ℕ) (standing : StandingAt) (it : Outcome) → executed < 2 ^ 32 →
+        HasBody (told.Ran executed standing) →
+        ReadsSlice (reply_bytes (told.Ran executed standing)) it → IsRan executed standing it }
+    ensures refused { (reason : Refusal) (it : Outcome) → IsOfJob reason →
+        HasBody (told.Refused reason) → ReadsSlice (reply_bytes (told.Refused reason)) it →
+        it ≡ outcome.Passed (passed.Refused (refusal_number reason)) }
+    ensures failed { (fault : Fault) (it : Outcome) → ReadsSlice (fault_bytes fault) it →
+        it ≡ outcome.Passed (passed.Failed (fault_status fault)) }
+    ensures no_queue { (fault : Fault) (it : Outcome) → ReadsQueue (fault_bytes fault) it →
+        it ≡ outcome.Nothing }
+    ensures foreign { (status : ℕ) (it : Outcome) →
+        ReadsSlice (refused_bytes (refusing_status status)) it → it ≡ outcome.Foreign }
+    ensures foreign_queue { (status : ℕ) (it : Outcome) →
+        ReadsQueue (refused_bytes (refusing_status status)) it → it ≡ outcome.Foreign }
+    ensures standing { (job : Summary) (it : Option Stands) → HasCounts job →
+        HasBody (told.Standing job) → ReadsStanding (reply_bytes (told.Standing job)) it →
+        it ≡ Some (stands_told job) }
+{}
