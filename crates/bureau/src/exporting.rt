@@ -1,8 +1,7 @@
 //! Writing to files what a job has punched and printed.
 
-ghost use Rattle.std.specs.Prelude.{◌≡◌, ◌≤◌, ◌⊎◌, false, IsTrue, IfErr, OnOk};
-ghost use Rattle.sqlite.specs.Held.{state};
-ghost use Rattle.sqlite.specs.View.{doubt};
+ghost use Rattle.std.specs.Prelude.{◌≡◌, ◌⊎◌, false, IsTrue, IfErr, OnOk};
+ghost use Rattle.ledger_tables.specs.Disks.{StaysClean};
 ghost use Rattle.sqlite.specs.WalFiles.{image_at};
 ghost use Rattle.ledger.specs.Working.{HasWorked};
 ghost use Rattle.bureau.specs.Work.{HasEndedFrom, IsFileFor, TellsAsked, TellsExport, query_for};
@@ -74,8 +73,7 @@ fn ask<S: Alter>(
     ensures whole { OnOk result (bureau.new.broken ≡ false) }
     ensures told { IfErr result (λ own. (own ≡ Outcome.Fault OpenFault.NoMemory)
         ⊎ ((own ≡ Outcome.Fault OpenFault.Store) × IsTrue bureau.new.broken)) }
-    ensures clean { doubt (state S.Store bureau.old.conn).is_clean
-        ≤ doubt (state S.Store bureau.new.conn).is_clean }
+    ensures clean { StaysClean S.Store bureau.old.conn bureau.new.conn }
 {
     // A law, for the proof: it does nothing.
     kept_offices_run_whole();
@@ -121,8 +119,7 @@ fn bytes_for<S: Alter>(
     ensures works { HasWorked S.Store bureau.old.conn bureau.new.conn bureau.new.broken
         (TellsAsked customer.now number (query_for part)) }
     ensures whole { OnOk result (bureau.new.broken ≡ false) }
-    ensures clean { doubt (state S.Store bureau.old.conn).is_clean
-        ≤ doubt (state S.Store bureau.new.conn).is_clean }
+    ensures clean { StaysClean S.Store bureau.old.conn bureau.new.conn }
 {
     let reply = ask(alloc, bureau, customer, number, part.query())?;
     bytes_of(alloc, &reply)
@@ -137,8 +134,7 @@ fn made_by<S: Alter>(
 ) -> Result<Vec<Made>, Outcome>
     ensures works { HasWorked S.Store bureau.old.conn bureau.new.conn bureau.new.broken
         (TellsExport customer.now number) }
-    ensures clean { doubt (state S.Store bureau.old.conn).is_clean
-        ≤ doubt (state S.Store bureau.new.conn).is_clean }
+    ensures clean { StaysClean S.Store bureau.old.conn bureau.new.conn }
 {
     // A law, for the proof: it does nothing.
     kept_offices_run_whole();
@@ -177,8 +173,7 @@ fn write_made<S: Alter>(
 ) -> Result<(), Outcome>
     ensures works { HasWorked S.Store bureau.old.conn bureau.new.conn bureau.new.broken
         (TellsExport customer.now number) }
-    ensures clean { doubt (state S.Store bureau.old.conn).is_clean
-        ≤ doubt (state S.Store bureau.new.conn).is_clean }
+    ensures clean { StaysClean S.Store bureau.old.conn bureau.new.conn }
 {
     let made = made_by(rt.alloc(), bureau, customer, number)?;
     for file in &made {

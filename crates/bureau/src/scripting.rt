@@ -1,8 +1,7 @@
 //! Applying a script.
 
-ghost use Rattle.std.specs.Prelude.{◌≡◌, ◌≤◌};
-ghost use Rattle.sqlite.specs.Held.{state};
-ghost use Rattle.sqlite.specs.View.{doubt};
+ghost use Rattle.std.specs.Prelude.{◌≡◌};
+ghost use Rattle.ledger_tables.specs.Disks.{StaysClean};
 ghost use Rattle.sqlite.specs.WalFiles.{image_at};
 ghost use Rattle.ledger.specs.Working.{HasWorked};
 ghost use Rattle.bureau.specs.Work.{HasEndedFrom, HasNotApplied, TellsApply, outcome_of};
@@ -39,8 +38,7 @@ fn run_script<S: Alter, O: Write>(
 ) -> Outcome
     ensures works { HasWorked S.Store bureau.old.conn bureau.new.conn bureau.new.broken
         (TellsApply (O.contents output.old) (O.contents output.new) result) }
-    ensures clean { doubt (state S.Store bureau.old.conn).is_clean
-        ≤ doubt (state S.Store bureau.new.conn).is_clean }
+    ensures clean { StaysClean S.Store bureau.old.conn bureau.new.conn }
 {
     // A law, for the proof: it does nothing.
     kept_offices_run_whole();

@@ -1,8 +1,7 @@
 //! Serving requests over HTTP.
 
-ghost use Rattle.std.specs.Prelude.{◌≡◌, ◌≤◌, length};
-ghost use Rattle.sqlite.specs.Held.{state};
-ghost use Rattle.sqlite.specs.View.{doubt};
+ghost use Rattle.std.specs.Prelude.{◌≡◌, length};
+ghost use Rattle.ledger_tables.specs.Disks.{StaysClean};
 ghost use Rattle.sqlite.specs.WalFiles.{image_at};
 ghost use Rattle.ledger.specs.Working.{HasWorked};
 ghost use Rattle.bureau.specs.Work.{HasEndedFrom, IsSomeWork, TellsServe};
@@ -40,8 +39,7 @@ fn serve_next<S: Alter>(
 )
     ensures works { HasWorked S.Store bureau.old.conn bureau.new.conn bureau.new.broken
         IsSomeWork }
-    ensures clean { doubt (state S.Store bureau.old.conn).is_clean
-        ≤ doubt (state S.Store bureau.new.conn).is_clean }
+    ensures clean { StaysClean S.Store bureau.old.conn bureau.new.conn }
 {
     // A law, for the proof: it does nothing.
     kept_offices_run_whole();
@@ -71,8 +69,7 @@ fn serve_connections<S: Alter>(
 ) -> Outcome
     ensures works { HasWorked S.Store bureau.old.conn bureau.new.conn bureau.new.broken
         (TellsServe result) }
-    ensures clean { doubt (state S.Store bureau.old.conn).is_clean
-        ≤ doubt (state S.Store bureau.new.conn).is_clean }
+    ensures clean { StaysClean S.Store bureau.old.conn bureau.new.conn }
 {
     // A law, for the proof: it does nothing.
     kept_offices_run_whole();
@@ -99,8 +96,7 @@ impl ServeWork {
     fn serve<S: Alter>(&self, rt: &HostRuntime, bureau: &mut Bureau<S>) -> Outcome
         ensures works { HasWorked S.Store bureau.old.conn bureau.new.conn bureau.new.broken
             (TellsServe result) }
-        ensures clean { doubt (state S.Store bureau.old.conn).is_clean
-            ≤ doubt (state S.Store bureau.new.conn).is_clean }
+        ensures clean { StaysClean S.Store bureau.old.conn bureau.new.conn }
     {
         // A law, for the proof: it does nothing.
         kept_offices_run_whole();

@@ -7,12 +7,12 @@ ghost use Rattle.console.specs.Answers.{Answers, action_shown, done, dump_shown,
 ghost use Rattle.console.specs.Shown.{cards_shown};
 ghost use Rattle.console.specs.SessionStates.{HasCome};
 
-use crate::commands::{Action, Question, Command};
+use crate::commands::{Action, Command, Question};
 use crate::sessions::Session;
 use crate::showing::{fault_words, push_bare, push_fault, push_help, push_stops};
-use run_traces::{DumpOptions, push_machine};
 use card_tools::{ListOptions, list};
 use cards::Card;
+use run_traces::{DumpOptions, push_machine};
 use std::alloc::{AllocError, Global};
 use units::{Punched, render};
 

@@ -3,7 +3,7 @@
 ghost use Rattle.std.specs.Prelude.{◌≡◌, option_copied, IfErr, IfOk};
 ghost use Rattle.console.specs.Commands.{IsCommand, address_in, alone, count_in, dump_command, is_end, rows_command, command_of, command_with, switches_in, watch_command};
 
-use crate::readings::{ParsedLine, MOST_ASKED};
+use crate::readings::{MOST_ASKED, ParsedLine};
 use crate::verbs::Verb;
 use run_traces::Names;
 use std::alloc::{AllocError, Global};
@@ -107,7 +107,10 @@ fn switches_in(parsed: &ParsedLine) -> Result<Switches, Command>
     if parsed.second.given {
         return Err(Command::Unknown);
     }
-    parsed.first.switches.ok_or(Command::Wrong(Fault::Switching))
+    parsed
+        .first
+        .switches
+        .ok_or(Command::Wrong(Fault::Switching))
 }
 
 /// What a line says that has its verb alone.

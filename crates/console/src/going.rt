@@ -11,10 +11,10 @@ ghost use Rattle.console.specs.SessionStates.{machine_of, pressed};
 
 use crate::starts::Start;
 use crate::watching::{cells_differ, watched_cell};
-use run_traces::{Names, load, push_attempt};
 use cards::Deck;
 use core_store::{Core, PlaneCore, Size};
 use machine::{Machine, Meter, Parts, Standing};
+use run_traces::{Names, load, push_attempt};
 use std::alloc::{AllocError, Global};
 use units::Switches;
 

@@ -7,8 +7,8 @@ ghost use Rattle.console.specs.Readings.{IsCountOf, IsParsedOf, IsPositionOf, Is
 
 use crate::verbs::Verb;
 use crate::words::{Words, text_of};
-use run_traces::Names;
 use core_store::LARGEST_SIZE;
+use run_traces::Names;
 use std::alloc::{AllocError, Global};
 use texts::{number_of, switches_of};
 use units::Switches;
@@ -117,7 +117,11 @@ impl Reading {
 
 impl ParsedLine {
     /// What is parsed of the words of a line.
-    pub(crate) fn of(alloc: Global, names: Option<&Names>, line: &[u8]) -> Result<ParsedLine, AllocError>
+    pub(crate) fn of(
+        alloc: Global,
+        names: Option<&Names>,
+        line: &[u8],
+    ) -> Result<ParsedLine, AllocError>
         ensures { IfOk result (IsParsedOf (option_copied names.entry) line.now) }
     {
         let words = Words::of(line);

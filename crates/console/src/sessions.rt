@@ -17,10 +17,10 @@ use crate::showing::{
 };
 use crate::starts::Start;
 use crate::stops::{starts_until, with_stop, without_stop};
-use run_traces::{Names, load, push_attempt};
 use cards::Deck;
 use core_store::{Core, PlaneCore, Size};
 use machine::{Machine, Parts, Standing};
+use run_traces::{Names, load, push_attempt};
 use std::alloc::{AllocError, Global};
 use std::marker::Model;
 use units::Switches;

@@ -6,14 +6,14 @@ ghost use Rattle.autocoder.specs.Listing.{position_field};
 ghost use Rattle.machine.specs.Standings.{standing_of, standing_words};
 ghost use Rattle.console.specs.Shown.{changed_line, fault_line, fault_words, field_line, help_text, line_echo, made_words, past_words, place_line, registers_shown, standing_by, stopped_shown, stops_line, watched_line, why_line};
 
-use crate::going::{has_changed, stands_at};
 use crate::commands::Fault;
+use crate::going::{has_changed, stands_at};
 use crate::words::Words;
 use autocoder::push_number;
-use run_traces::{push_field, push_registers, push_units};
 use cards::LINE_FEED;
 use core_store::Core;
 use machine::{Parts, Standing};
+use run_traces::{push_field, push_registers, push_units};
 use std::alloc::{AllocError, Global};
 use texts::push_decimal;
 

@@ -1,9 +1,8 @@
 //! The answer to a request.
 
-ghost use Rattle.std.specs.Prelude.{◌≡◌, ◌⊎◌, ◌≤◌, [], IfSome, IfNone, IsTrue};
+ghost use Rattle.std.specs.Prelude.{◌≡◌, ◌⊎◌, [], IfSome, IfNone, IsTrue};
 ghost use Rattle.std.specs.Option.{IsSomeAnd};
-ghost use Rattle.sqlite.specs.Held.{state};
-ghost use Rattle.sqlite.specs.View.{doubt};
+ghost use Rattle.ledger_tables.specs.Disks.{StaysClean};
 ghost use Rattle.office.specs.Meters.{RisenAtMost};
 ghost use Rattle.http_messages.specs.Requests.{HasRefusingStatus, IsRefusingStatus};
 ghost use Rattle.http_messages.specs.declared.fault.RequestFault.TheVariants.{NoMemory, ReadFailed};
@@ -70,8 +69,7 @@ fn carry_out<S: Alter>(
     ensures kept { (bureau.new.broken ≡ bureau.old.broken)
         ⊎ IsOfFault Fault.Store result.status (bytes_in result.bytes) }
     ensures most { RisenAtMost (limit_of (request.Asks command.now)) meter.old meter.new }
-    ensures clean { doubt (state S.Store bureau.old.conn).is_clean
-        ≤ doubt (state S.Store bureau.new.conn).is_clean }
+    ensures clean { StaysClean S.Store bureau.old.conn bureau.new.conn }
 {
     // Two laws, for the proof: they do nothing.
     lines_rise();
@@ -107,8 +105,7 @@ fn answer<S: Alter>(
     ensures kept { (bureau.new.broken ≡ bureau.old.broken)
         ⊎ IsOfFault Fault.Store result.status (bytes_in result.bytes) }
     ensures most { RisenAtMost (limit_of request.now) meter.old meter.new }
-    ensures clean { doubt (state S.Store bureau.old.conn).is_clean
-        ≤ doubt (state S.Store bureau.new.conn).is_clean }
+    ensures clean { StaysClean S.Store bureau.old.conn bureau.new.conn }
 {
     // A law, for the proof: it does nothing.
     kept_offices_run_whole();
@@ -152,8 +149,7 @@ pub(crate) fn answer_next<R: Read, S: Alter>(
         ⊎ IsSomeAnd result (λ message. IsOfFault Fault.Store message.status
         (bytes_in message.bytes)) }
     ensures most { TicksForRead (R.remaining reader.old) meter.old meter.new }
-    ensures clean { doubt (state S.Store bureau.old.conn).is_clean
-        ≤ doubt (state S.Store bureau.new.conn).is_clean }
+    ensures clean { StaysClean S.Store bureau.old.conn bureau.new.conn }
 {
     // A law, for the proof: it does nothing.
     kept_offices_run_whole();

@@ -1,10 +1,9 @@
 //! Applying the commands of a script, one after the other.
 
-ghost use Rattle.std.specs.Prelude.{◌≡◌, ◌≤◌, ◌⊎◌, ◌||◌, IsTrue, length};
+ghost use Rattle.std.specs.Prelude.{◌≡◌, ◌⊎◌, ◌||◌, IsTrue, length};
 ghost use Rattle.exchanges.specs.Ending.{StopsAtFirst};
 ghost use Rattle.exchanges.specs.Running.{IsCount, RunLeaves, RunStands, RunTicks, Runs};
-ghost use Rattle.sqlite.specs.Held.{state};
-ghost use Rattle.sqlite.specs.View.{doubt};
+ghost use Rattle.ledger_tables.specs.Disks.{StaysClean};
 ghost use Rattle.ledger_tables.specs.declared.faults.Fault.TheVariants.{Store};
 
 use crate::script_ends::{ScriptEnd, Scripted};
@@ -42,8 +41,7 @@ pub(crate) fn apply_all<S: Alter, W: Write>(
         ⊎ (result.ended ≡ ScriptEnd.Fault Store) }
     ensures ended { IsTrue bureau.old.broken → (bureau.new ≡ bureau.old) × (meter.new ≡ meter.old)
         × StopsAtFirst commands.now result (W.contents writer.old) (W.contents writer.new) }
-    ensures clean { doubt (state S.Store bureau.old.conn).is_clean
-        ≤ doubt (state S.Store bureau.new.conn).is_clean }
+    ensures clean { StaysClean S.Store bureau.old.conn bureau.new.conn }
 {
     // A law, for the proof: it does nothing.
     kept_offices_run_whole();

@@ -1,8 +1,7 @@
 //! One exchange.
 
-ghost use Rattle.std.specs.Prelude.{◌≡◌, ◌⊎◌, ◌≤◌, IsTrue};
-ghost use Rattle.sqlite.specs.Held.{state};
-ghost use Rattle.sqlite.specs.View.{doubt};
+ghost use Rattle.std.specs.Prelude.{◌≡◌, ◌⊎◌, IsTrue};
+ghost use Rattle.ledger_tables.specs.Disks.{StaysClean};
 ghost use Rattle.exchanges.specs.Exchanges.{Ends, EndsBroken, MayEndWith, TicksForRead};
 ghost use Rattle.exchanges.specs.Work.{TellsExchange};
 ghost use Rattle.ledger.specs.Working.{HasWorked};
@@ -41,8 +40,7 @@ pub fn exchange<R: Read, W: Write, S: Alter>(
         result }
     ensures broken { (bureau.new.broken ≡ bureau.old.broken) ⊎ MayEndWith fault.Store result }
     ensures meter { TicksForRead (R.remaining reader.old) meter.old meter.new }
-    ensures clean { doubt (state S.Store bureau.old.conn).is_clean
-        ≤ doubt (state S.Store bureau.new.conn).is_clean }
+    ensures clean { StaysClean S.Store bureau.old.conn bureau.new.conn }
 {
     // A law, for the proof: it does nothing.
     kept_offices_run_whole();

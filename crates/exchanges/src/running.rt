@@ -1,11 +1,10 @@
 //! Running a script, from its first byte.
 
-ghost use Rattle.std.specs.Prelude.{◌≡◌, ◌≤◌, ◌⊎◌, IsTrue};
+ghost use Rattle.std.specs.Prelude.{◌≡◌, ◌⊎◌, IsTrue};
 ghost use Rattle.ledger.specs.Working.{HasWorked};
 ghost use Rattle.exchanges.specs.Ending.{Ends, GivesUp, HasNoReply, IsEndOfBroken, TurnsDown};
 ghost use Rattle.exchanges.specs.Work.{TellsScript};
-ghost use Rattle.sqlite.specs.Held.{state};
-ghost use Rattle.sqlite.specs.View.{doubt};
+ghost use Rattle.ledger_tables.specs.Disks.{StaysClean};
 ghost use Rattle.ledger_tables.specs.declared.faults.Fault.TheVariants.{Store};
 
 use crate::applying::apply_all;
@@ -76,8 +75,7 @@ pub fn script<R: Read, W: Write, S: Alter>(
     ensures broken { result.ended ≡ ScriptEnd.Fault Store → IsTrue bureau.new.broken }
     ensures kept { (bureau.new.broken ≡ bureau.old.broken)
         ⊎ (result.ended ≡ ScriptEnd.Fault Store) }
-    ensures clean { doubt (state S.Store bureau.old.conn).is_clean
-        ≤ doubt (state S.Store bureau.new.conn).is_clean }
+    ensures clean { StaysClean S.Store bureau.old.conn bureau.new.conn }
 {
     // A law, for the proof: it does nothing.
     kept_offices_run_whole();

@@ -1,13 +1,12 @@
 //! One command of a script: it is applied, and then its line is written.
 
-ghost use Rattle.std.specs.Prelude.{◌≡◌, ◌≤◌, ◌⊎◌, IsTrue};
+ghost use Rattle.std.specs.Prelude.{◌≡◌, ◌⊎◌, IsTrue};
 ghost use Rattle.office.specs.Office.{attempted, take};
 ghost use Rattle.ledger.specs.Replying.{LeavesEither};
 ghost use Rattle.exchanges.specs.Steps.{IsStep, SendsSome, TicksTo, is_refusal};
 ghost use Rattle.scripts.specs.Replies.{fault_line};
+ghost use Rattle.ledger_tables.specs.Disks.{StaysClean};
 ghost use Rattle.ledger_tables.specs.Faults.{fault_number};
-ghost use Rattle.sqlite.specs.Held.{state};
-ghost use Rattle.sqlite.specs.View.{doubt};
 
 use ledger::{Bureau, Fault};
 use machine::Meter;
@@ -60,8 +59,7 @@ pub(crate) fn carry_out<S: Alter, W: Write>(
     ensures kept { (bureau.new.broken ≡ bureau.old.broken) ⊎ (result ≡ Step.Faulted Fault.Store) }
     ensures ended { IsTrue bureau.old.broken → (result ≡ Step.Faulted Fault.Store)
         × (bureau.new ≡ bureau.old) × (meter.new ≡ meter.old) }
-    ensures clean { doubt (state S.Store bureau.old.conn).is_clean
-        ≤ doubt (state S.Store bureau.new.conn).is_clean }
+    ensures clean { StaysClean S.Store bureau.old.conn bureau.new.conn }
 {
     match bureau.apply(command, meter) {
         Ok(reply) => {

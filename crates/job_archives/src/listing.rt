@@ -6,9 +6,10 @@ ghost use Rattle.office.specs.Kept.{kept_of, summary_of};
 ghost use Rattle.office.specs.Office.{Office, job_of};
 ghost use Rattle.sqlite.specs.Held.{state};
 ghost use Rattle.ledger.specs.Standing.{named};
+ghost use Rattle.ledger_tables.specs.Disks.{StaysClean};
 ghost use Rattle.ledger_tables.specs.Tables.{AreDistinct};
 ghost use Rattle.sqlite.specs.State.{HasCleanDisk};
-ghost use Rattle.sqlite.specs.View.{IsClean, doubt};
+ghost use Rattle.sqlite.specs.View.{IsClean};
 ghost use Rattle.job_archives.specs.Lists.{AddsNamed, FindsStill, Leaves, LeavesAlone, Lists, ListsAlone, count_line, is_of, list_text, listed_line};
 ghost use Rattle.job_archives.specs.Names.{HasName, name_row};
 
@@ -52,8 +53,7 @@ fn ask<S: Alter>(alloc: Global, bureau: &mut Bureau<S>, name: JobName<'_>) -> Re
         → summary ≡ summary_of (kept_of job)) }
     ensures left { (office : Office) → AreDistinct (map named office)
         → Leaves S.Store bureau.old.conn bureau.new.conn office }
-    ensures clean { doubt (state S.Store bureau.old.conn).is_clean
-        ≤ doubt (state S.Store bureau.new.conn).is_clean }
+    ensures clean { StaysClean S.Store bureau.old.conn bureau.new.conn }
 {
     let command = Command::Job {
         customer: String::from_str(alloc, name.customer)?,
@@ -90,8 +90,7 @@ fn push_named<S: Alter>(
     ensures left { (office : Office) → AreDistinct (map named office)
         → Leaves S.Store bureau.old.conn bureau.new.conn office }
     ensures one { IfOk result (λ count. count ≤ 1) }
-    ensures clean { doubt (state S.Store bureau.old.conn).is_clean
-        ≤ doubt (state S.Store bureau.new.conn).is_clean }
+    ensures clean { StaysClean S.Store bureau.old.conn bureau.new.conn }
 {
     if !is_asked(asked, name.customer) {
         return Ok(0);
@@ -116,8 +115,7 @@ fn push_row<S: Alter>(
     ensures left { (office : Office) → AreDistinct (map named office)
         → Leaves S.Store bureau.old.conn bureau.new.conn office }
     ensures one { IfOk result (λ count. count ≤ 1) }
-    ensures clean { doubt (state S.Store bureau.old.conn).is_clean
-        ≤ doubt (state S.Store bureau.new.conn).is_clean }
+    ensures clean { StaysClean S.Store bureau.old.conn bureau.new.conn }
 {
     let name = name_in(row)?;
     push_named(alloc, bureau, out, asked, name)
@@ -144,8 +142,7 @@ fn list_named<S: Alter>(
         → text.items ≡ list_text (option_map (λ it. it.now) asked.entry) office) }
     ensures left { (office : Office) → AreDistinct (map named office)
         → Leaves S.Store bureau.old.conn bureau.new.conn office }
-    ensures clean { doubt (state S.Store bureau.old.conn).is_clean
-        ≤ doubt (state S.Store bureau.new.conn).is_clean }
+    ensures clean { StaysClean S.Store bureau.old.conn bureau.new.conn }
 {
     let mut out = Vec::new(alloc);
     let mut jobs = 0usize;

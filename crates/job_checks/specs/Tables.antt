@@ -12,6 +12,7 @@ use Rattle.std.specs.declared.alloc.Global.{Global}
 use Rattle.sqlite.specs.View.{IsClean, IsShaped}
 use Rattle.sqlite_trees.specs.declared.store.Shape.TheVariants.{Table}
 use Rattle.sqlite_trees.specs.declared.store.Store.{Ghosts}
+use Rattle.texts.specs.declared.names.JobName.{JobName}
 use Rattle.ledger_rows.specs.Pages.{page_bytes}
 use Rattle.ledger_tables.specs.Schema.{bureau_schema}
 use Rattle.ledger_tables.specs.Tables.{cells, is_row_of}
@@ -62,9 +63,13 @@ pub record AreRowsOf (db : Trees) (t : AllRows) : Type 0 where
   pub pockets : IsPermutation (cells (db 17)) t.pockets.items
   pub pockets_rise : RiseByPlace t.pockets.items
 
--- the rows of a job among these
+-- the rows of the job with this customer and this number among these
 abbrev pub rows_of : List ℕ → ℕ → List Row → List Row
 rows_of customer number = filter (is_row_of customer number)
+
+-- the rows of a job among these
+abbrev pub rows_of_job : JobName → List Row → List Row
+rows_of_job name rows = rows_of name.customer.now name.number rows
 
 -- the rows of those of these things that have one, with places that rise by one from the first
 abbrev pub placed_some : {X Y : Type 0} → (X → Option Y) → (ℕ → Y → Row) → ℕ → List X → List Row

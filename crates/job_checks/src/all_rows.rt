@@ -1,10 +1,10 @@
 //! The rows of all tables, read at once.
 
-ghost use Rattle.std.specs.Prelude.{◌≡◌, ◌≤◌, List, [], IfOk, IsPermutation, map};
+ghost use Rattle.std.specs.Prelude.{◌≡◌, List, [], IfOk, IsPermutation, map};
 ghost use Rattle.sqlite.specs.Held.{state};
 ghost use Rattle.sqlite.specs.Order.{Row as Values};
 ghost use Rattle.sqlite.specs.State.{HasCleanDisk, Shown};
-ghost use Rattle.sqlite.specs.View.{doubt};
+ghost use Rattle.ledger_tables.specs.Disks.{StaysClean};
 ghost use Rattle.ledger_tables.specs.Tables.{cells};
 ghost use Rattle.job_checks.specs.Tables.{AreByPlace, AreRowsOf, LeavesLess, Reads, ReadsAll, version_columns};
 
@@ -35,8 +35,7 @@ fn rows<S: Alter>(tx: &mut Transaction<'_, S>, sql: &str) -> Result<Vec<Row>, Fa
         rows.items) }
     ensures same_reference { tx.new.conn.ghost_name ≡ tx.old.conn.ghost_name }
     ensures left { LeavesLess (state S.Store tx.old.conn.now) (state S.Store tx.new.conn.now) }
-    ensures clean { doubt (state S.Store tx.old.conn.now).is_clean
-        ≤ doubt (state S.Store tx.new.conn.now).is_clean }
+    ensures clean { StaysClean S.Store tx.old.conn.now tx.new.conn.now }
 {
     match tx.query_all(sql, &[]) {
         Ok(rows) => Ok(rows),
@@ -49,8 +48,7 @@ fn version_rows<S: Alter>(tx: &mut Transaction<'_, S>) -> Result<Vec<Row>, Fault
         (λ db rows. IsPermutation (map version_columns (db 0)) rows) }
     ensures same_reference { tx.new.conn.ghost_name ≡ tx.old.conn.ghost_name }
     ensures left { LeavesLess (state S.Store tx.old.conn.now) (state S.Store tx.new.conn.now) }
-    ensures clean { doubt (state S.Store tx.old.conn.now).is_clean
-        ≤ doubt (state S.Store tx.new.conn.now).is_clean }
+    ensures clean { StaysClean S.Store tx.old.conn.now tx.new.conn.now }
 {
     rows(tx, "SELECT id, version FROM bureau")
 }
@@ -59,8 +57,7 @@ fn job_rows<S: Alter>(tx: &mut Transaction<'_, S>) -> Result<Vec<Row>, Fault>
     ensures read { Reads S.Store tx.old.conn.now tx.new.conn.now result (λ db rows. rows ≡ cells (db 1)) }
     ensures same_reference { tx.new.conn.ghost_name ≡ tx.old.conn.ghost_name }
     ensures left { LeavesLess (state S.Store tx.old.conn.now) (state S.Store tx.new.conn.now) }
-    ensures clean { doubt (state S.Store tx.old.conn.now).is_clean
-        ≤ doubt (state S.Store tx.new.conn.now).is_clean }
+    ensures clean { StaysClean S.Store tx.old.conn.now tx.new.conn.now }
 {
     rows(
         tx,
@@ -73,8 +70,7 @@ fn stretch_rows<S: Alter>(tx: &mut Transaction<'_, S>) -> Result<Vec<Row>, Fault
     ensures read { Reads S.Store tx.old.conn.now tx.new.conn.now result (λ db rows. rows ≡ cells (db 3)) }
     ensures same_reference { tx.new.conn.ghost_name ≡ tx.old.conn.ghost_name }
     ensures left { LeavesLess (state S.Store tx.old.conn.now) (state S.Store tx.new.conn.now) }
-    ensures clean { doubt (state S.Store tx.old.conn.now).is_clean
-        ≤ doubt (state S.Store tx.new.conn.now).is_clean }
+    ensures clean { StaysClean S.Store tx.old.conn.now tx.new.conn.now }
 {
     rows(
         tx,
@@ -86,8 +82,7 @@ fn state_rows<S: Alter>(tx: &mut Transaction<'_, S>) -> Result<Vec<Row>, Fault>
     ensures read { Reads S.Store tx.old.conn.now tx.new.conn.now result (λ db rows. rows ≡ cells (db 11)) }
     ensures same_reference { tx.new.conn.ghost_name ≡ tx.old.conn.ghost_name }
     ensures left { LeavesLess (state S.Store tx.old.conn.now) (state S.Store tx.new.conn.now) }
-    ensures clean { doubt (state S.Store tx.old.conn.now).is_clean
-        ≤ doubt (state S.Store tx.new.conn.now).is_clean }
+    ensures clean { StaysClean S.Store tx.old.conn.now tx.new.conn.now }
 {
     rows(
         tx,
@@ -100,8 +95,7 @@ fn page_rows<S: Alter>(tx: &mut Transaction<'_, S>) -> Result<Vec<Row>, Fault>
     ensures read { Reads S.Store tx.old.conn.now tx.new.conn.now result (λ db rows. AreByPlace (db 13) rows) }
     ensures same_reference { tx.new.conn.ghost_name ≡ tx.old.conn.ghost_name }
     ensures left { LeavesLess (state S.Store tx.old.conn.now) (state S.Store tx.new.conn.now) }
-    ensures clean { doubt (state S.Store tx.old.conn.now).is_clean
-        ≤ doubt (state S.Store tx.new.conn.now).is_clean }
+    ensures clean { StaysClean S.Store tx.old.conn.now tx.new.conn.now }
 {
     rows(
         tx,
@@ -113,8 +107,7 @@ fn card_rows<S: Alter>(tx: &mut Transaction<'_, S>) -> Result<Vec<Row>, Fault>
     ensures read { Reads S.Store tx.old.conn.now tx.new.conn.now result (λ db rows. rows ≡ cells (db 7)) }
     ensures same_reference { tx.new.conn.ghost_name ≡ tx.old.conn.ghost_name }
     ensures left { LeavesLess (state S.Store tx.old.conn.now) (state S.Store tx.new.conn.now) }
-    ensures clean { doubt (state S.Store tx.old.conn.now).is_clean
-        ≤ doubt (state S.Store tx.new.conn.now).is_clean }
+    ensures clean { StaysClean S.Store tx.old.conn.now tx.new.conn.now }
 {
     rows(
         tx,
@@ -126,8 +119,7 @@ fn line_rows<S: Alter>(tx: &mut Transaction<'_, S>) -> Result<Vec<Row>, Fault>
     ensures read { Reads S.Store tx.old.conn.now tx.new.conn.now result (λ db rows. rows ≡ cells (db 9)) }
     ensures same_reference { tx.new.conn.ghost_name ≡ tx.old.conn.ghost_name }
     ensures left { LeavesLess (state S.Store tx.old.conn.now) (state S.Store tx.new.conn.now) }
-    ensures clean { doubt (state S.Store tx.old.conn.now).is_clean
-        ≤ doubt (state S.Store tx.new.conn.now).is_clean }
+    ensures clean { StaysClean S.Store tx.old.conn.now tx.new.conn.now }
 {
     rows(
         tx,
@@ -139,8 +131,7 @@ fn profile_rows<S: Alter>(tx: &mut Transaction<'_, S>) -> Result<Vec<Row>, Fault
     ensures read { Reads S.Store tx.old.conn.now tx.new.conn.now result (λ db rows. rows ≡ cells (db 15)) }
     ensures same_reference { tx.new.conn.ghost_name ≡ tx.old.conn.ghost_name }
     ensures left { LeavesLess (state S.Store tx.old.conn.now) (state S.Store tx.new.conn.now) }
-    ensures clean { doubt (state S.Store tx.old.conn.now).is_clean
-        ≤ doubt (state S.Store tx.new.conn.now).is_clean }
+    ensures clean { StaysClean S.Store tx.old.conn.now tx.new.conn.now }
 {
     rows(
         tx,
@@ -152,8 +143,7 @@ fn pocket_rows<S: Alter>(tx: &mut Transaction<'_, S>) -> Result<Vec<Row>, Fault>
     ensures read { Reads S.Store tx.old.conn.now tx.new.conn.now result (λ db rows. AreByPlace (db 17) rows) }
     ensures same_reference { tx.new.conn.ghost_name ≡ tx.old.conn.ghost_name }
     ensures left { LeavesLess (state S.Store tx.old.conn.now) (state S.Store tx.new.conn.now) }
-    ensures clean { doubt (state S.Store tx.old.conn.now).is_clean
-        ≤ doubt (state S.Store tx.new.conn.now).is_clean }
+    ensures clean { StaysClean S.Store tx.old.conn.now tx.new.conn.now }
 {
     rows(
         tx,
@@ -167,8 +157,7 @@ impl AllRows {
         ensures read { ReadsAll S.Store tx.old.conn.now tx.new.conn.now result }
         ensures same_reference { tx.new.conn.ghost_name ≡ tx.old.conn.ghost_name }
         ensures left { LeavesLess (state S.Store tx.old.conn.now) (state S.Store tx.new.conn.now) }
-        ensures clean { doubt (state S.Store tx.old.conn.now).is_clean
-            ≤ doubt (state S.Store tx.new.conn.now).is_clean }
+        ensures clean { StaysClean S.Store tx.old.conn.now tx.new.conn.now }
     {
         let version = version_rows(tx)?;
         let jobs = job_rows(tx)?;

@@ -10,7 +10,7 @@ use crate::cells::first_other;
 use crate::jobs::check_jobs;
 use crate::owners::first_orphan;
 use crate::reading::read_rows;
-use crate::reports::{Report, Orphan, Table};
+use crate::reports::{Orphan, Report, Table};
 use crate::schemas::{SchemaDifference, compare_schema};
 use ledger_tables::{Fault, VERSION};
 use sqlite::{Alter, Connection, Row, params};
@@ -67,7 +67,11 @@ pub fn find_orphans(alloc: Global, all: &AllRows) -> Result<Vec<Orphan>, AllocEr
         Table::Profiles,
         first_orphan(jobs, &all.profiles),
     )?;
-    add(&mut orphans, Table::Pockets, first_orphan(jobs, &all.pockets))?;
+    add(
+        &mut orphans,
+        Table::Pockets,
+        first_orphan(jobs, &all.pockets),
+    )?;
     Ok(orphans)
 }
 

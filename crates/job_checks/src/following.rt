@@ -3,7 +3,7 @@
 ghost use Rattle.std.specs.Prelude.{◌≡◌, [], ◌∷◌, List, map, IfErr, IfOk, IfSome, IsNone, OnErr, OnOk};
 ghost use Rattle.sqlite.specs.Order.{Row as Values};
 ghost use Rattle.sqlite_value.specs.Value.{owned};
-ghost use Rattle.job_checks.specs.Tables.{rows_of};
+ghost use Rattle.job_checks.specs.Tables.{rows_of_job};
 
 use crate::cells::first_other;
 use crate::differences::{Difference, Found, Place, value_apart};
@@ -15,9 +15,9 @@ use texts::JobName;
 /// The first row of a job, and the rows after it.
 pub(crate) fn next_of<'a>(rows: &'a [Row], name: JobName<'_>) -> Option<(&'a Row, &'a [Row])>
     ensures found { IfSome result (λ found.
-        rows_of name.entry.customer.now name.entry.number rows.now
-        ≡ found.0.now ∷ rows_of name.entry.customer.now name.entry.number found.1.now) }
-    ensures none { IsNone result → rows_of name.entry.customer.now name.entry.number rows.now ≡ [] }
+        rows_of_job name.entry rows.now
+        ≡ found.0.now ∷ rows_of_job name.entry found.1.now) }
+    ensures none { IsNone result → rows_of_job name.entry rows.now ≡ [] }
 {
     for at in 0..rows.len() {
         if is_row_of(&rows[at], name) {
@@ -34,10 +34,10 @@ pub(crate) fn pass<'a>(
     place: Place,
     wanted: &[ValueRef<'_>],
 ) -> Result<&'a [Row], Difference>
-    ensures passed { IfOk result (λ rest. rows_of name.entry.customer.now name.entry.number rows.now
-        ≡ map owned wanted.now ∷ rows_of name.entry.customer.now name.entry.number rest.now) }
+    ensures passed { IfOk result (λ rest. rows_of_job name.entry rows.now
+        ≡ map owned wanted.now ∷ rows_of_job name.entry rest.now) }
     ensures other { IfErr result (λ difference. (rest : List Values)
-        → ¬ (rows_of name.entry.customer.now name.entry.number rows.now
+        → ¬ (rows_of_job name.entry rows.now
         ≡ map owned wanted.now ∷ rest)) }
 {
     let Some((row, rest)) = next_of(rows, name) else {
@@ -51,8 +51,8 @@ pub(crate) fn pass<'a>(
 
 /// Tests that there are no more rows of a job.
 pub(crate) fn pass_none(rows: &[Row], name: JobName<'_>, place: Place) -> Result<(), Difference>
-    ensures none { OnOk result (rows_of name.entry.customer.now name.entry.number rows.now ≡ []) }
-    ensures some { OnErr result (¬ (rows_of name.entry.customer.now name.entry.number rows.now
+    ensures none { OnOk result (rows_of_job name.entry rows.now ≡ []) }
+    ensures some { OnErr result (¬ (rows_of_job name.entry rows.now
         ≡ [])) }
 {
     match next_of(rows, name) {

@@ -10,7 +10,7 @@ ghost use Rattle.ledger.specs.Standing.{stretch_row as stretch_cells};
 ghost use Rattle.ledger_rows.specs.Columns.{HoldsCharacters, IsLine, line_cells};
 ghost use Rattle.ledger_rows.specs.Pockets.{IsPunched, pocket_cell};
 ghost use Rattle.job_checks.specs.Kept.{rows_of_cards, rows_of_lines, rows_of_pages, rows_of_pockets, rows_of_profile, rows_of_state, rows_of_stretches, HasMachine};
-ghost use Rattle.job_checks.specs.Tables.{rows_of};
+ghost use Rattle.job_checks.specs.Tables.{rows_of_job};
 ghost use Rattle.sqlite.specs.Order.{Row as Values};
 ghost use Rattle.ledger_tables.specs.Cells.{unless_blank};
 ghost use Rattle.ledger_tables.specs.Tables.{line_row, page_row, pocket_row, stretch_row};
@@ -37,11 +37,11 @@ fn pass_stretch<'a>(
     stretch: Stretch,
 ) -> Result<&'a [Row], Difference>
     requires { place < 2 ^ 63 }
-    ensures passed { IfOk result (λ rest. rows_of name.entry.customer.now name.entry.number rows.now
+    ensures passed { IfOk result (λ rest. rows_of_job name.entry rows.now
         ≡ stretch_row name.entry.customer.now name.entry.number place (stretch_cells stretch)
-        ∷ rows_of name.entry.customer.now name.entry.number rest.now) }
+        ∷ rows_of_job name.entry rest.now) }
     ensures other { IfErr result (λ difference. (rest : List Values)
-        → ¬ (rows_of name.entry.customer.now name.entry.number rows.now
+        → ¬ (rows_of_job name.entry rows.now
         ≡ stretch_row name.entry.customer.now name.entry.number place (stretch_cells stretch)
         ∷ rest)) }
 {
@@ -62,9 +62,9 @@ pub(crate) fn check_stretches(
     name: JobName<'_>,
     stretches: &[Stretch],
 ) -> Result<(), Difference>
-    ensures same { OnOk result (rows_of name.entry.customer.now name.entry.number rows.now
+    ensures same { OnOk result (rows_of_job name.entry rows.now
         ≡ rows_of_stretches name.entry.customer.now name.entry.number stretches.now) }
-    ensures other { OnErr result (¬ (rows_of name.entry.customer.now name.entry.number rows.now
+    ensures other { OnErr result (¬ (rows_of_job name.entry rows.now
         ≡ rows_of_stretches name.entry.customer.now name.entry.number stretches.now)) }
 {
     let mut rest = rows;
@@ -77,9 +77,9 @@ pub(crate) fn check_stretches(
 /// The rows of a job's cards are these.
 fn check_cards(rows: &[Row], name: JobName<'_>, cards: &[Punched]) -> Result<(), Difference>
     requires { length cards.now ≤ 20000 }
-    ensures same { OnOk result (rows_of name.entry.customer.now name.entry.number rows.now
+    ensures same { OnOk result (rows_of_job name.entry rows.now
         ≡ rows_of_cards name.entry.customer.now name.entry.number cards.now) }
-    ensures other { OnErr result (¬ (rows_of name.entry.customer.now name.entry.number rows.now
+    ensures other { OnErr result (¬ (rows_of_job name.entry rows.now
         ≡ rows_of_cards name.entry.customer.now name.entry.number cards.now)) }
     ensures characters { OnOk result (All IsPunched cards.now) }
 {
@@ -100,12 +100,12 @@ fn pass_pocket<'a>(
     place: u32,
     pocket: Pocket,
 ) -> Result<&'a [Row], Difference>
-    ensures passed { IfOk result (λ rest. rows_of name.entry.customer.now name.entry.number rows.now
+    ensures passed { IfOk result (λ rest. rows_of_job name.entry rows.now
         ≡ map (pocket_row name.entry.customer.now name.entry.number place)
         (option_to_list (pocket_cell pocket))
-        ++ rows_of name.entry.customer.now name.entry.number rest.now) }
+        ++ rows_of_job name.entry rest.now) }
     ensures other { IfErr result (λ difference. (rest : List Values)
-        → ¬ (rows_of name.entry.customer.now name.entry.number rows.now
+        → ¬ (rows_of_job name.entry rows.now
         ≡ map (pocket_row name.entry.customer.now name.entry.number place)
         (option_to_list (pocket_cell pocket)) ++ rest)) }
 {
@@ -121,9 +121,9 @@ fn pass_pocket<'a>(
 /// The rows of the pockets of a job's cards are these.
 fn check_pockets(rows: &[Row], name: JobName<'_>, cards: &[Punched]) -> Result<(), Difference>
     requires { length cards.now ≤ 20000 }
-    ensures same { OnOk result (rows_of name.entry.customer.now name.entry.number rows.now
+    ensures same { OnOk result (rows_of_job name.entry rows.now
         ≡ rows_of_pockets name.entry.customer.now name.entry.number cards.now) }
-    ensures other { OnErr result (¬ (rows_of name.entry.customer.now name.entry.number rows.now
+    ensures other { OnErr result (¬ (rows_of_job name.entry rows.now
         ≡ rows_of_pockets name.entry.customer.now name.entry.number cards.now)) }
 {
     let mut rest = rows;
@@ -140,11 +140,11 @@ fn pass_line<'a>(
     place: u32,
     line: &Line,
 ) -> Result<&'a [Row], Difference>
-    ensures passed { IfOk result (λ rest. rows_of name.entry.customer.now name.entry.number rows.now
+    ensures passed { IfOk result (λ rest. rows_of_job name.entry rows.now
         ≡ line_row name.entry.customer.now name.entry.number place (line_cells line.now)
-        ∷ rows_of name.entry.customer.now name.entry.number rest.now) }
+        ∷ rows_of_job name.entry rest.now) }
     ensures other { IfErr result (λ difference. (rest : List Values)
-        → ¬ (rows_of name.entry.customer.now name.entry.number rows.now
+        → ¬ (rows_of_job name.entry rows.now
         ≡ line_row name.entry.customer.now name.entry.number place (line_cells line.now)
         ∷ rest)) }
     ensures line { IsLine line.now }
@@ -165,9 +165,9 @@ fn pass_line<'a>(
 /// The rows of a job's lines are these.
 fn check_lines(rows: &[Row], name: JobName<'_>, lines: &[Line]) -> Result<(), Difference>
     requires { length lines.now ≤ 20000 }
-    ensures same { OnOk result (rows_of name.entry.customer.now name.entry.number rows.now
+    ensures same { OnOk result (rows_of_job name.entry rows.now
         ≡ rows_of_lines name.entry.customer.now name.entry.number lines.now) }
-    ensures other { OnErr result (¬ (rows_of name.entry.customer.now name.entry.number rows.now
+    ensures other { OnErr result (¬ (rows_of_job name.entry rows.now
         ≡ rows_of_lines name.entry.customer.now name.entry.number lines.now)) }
     ensures characters { OnOk result (All IsLine lines.now) }
 {
@@ -185,9 +185,9 @@ fn check_state(
     machine: &Parts<PlaneCore>,
 ) -> Result<(), Difference>
     requires { IsInRange machine.now }
-    ensures same { OnOk result (rows_of name.entry.customer.now name.entry.number rows.now
+    ensures same { OnOk result (rows_of_job name.entry rows.now
         ≡ rows_of_state name.entry.customer.now name.entry.number machine.now) }
-    ensures other { OnErr result (¬ (rows_of name.entry.customer.now name.entry.number rows.now
+    ensures other { OnErr result (¬ (rows_of_job name.entry rows.now
         ≡ rows_of_state name.entry.customer.now name.entry.number machine.now)) }
 {
     let s = state_row(machine);
@@ -214,9 +214,9 @@ fn check_state(
 
 /// The row of a job's profile is this punch's.
 fn check_profile(rows: &[Row], name: JobName<'_>, punch: &Punch) -> Result<(), Difference>
-    ensures same { OnOk result (rows_of name.entry.customer.now name.entry.number rows.now
+    ensures same { OnOk result (rows_of_job name.entry rows.now
         ≡ rows_of_profile name.entry.customer.now name.entry.number punch.now) }
-    ensures other { OnErr result (¬ (rows_of name.entry.customer.now name.entry.number rows.now
+    ensures other { OnErr result (¬ (rows_of_job name.entry rows.now
         ≡ rows_of_profile name.entry.customer.now name.entry.number punch.now)) }
 {
     let p = profile_row(punch);
@@ -232,12 +232,12 @@ fn pass_page<'a>(
     page: u32,
     bytes: &[u8; 100],
 ) -> Result<&'a [Row], Difference>
-    ensures passed { IfOk result (λ rest. rows_of name.entry.customer.now name.entry.number rows.now
+    ensures passed { IfOk result (λ rest. rows_of_job name.entry rows.now
         ≡ map (page_row name.entry.customer.now name.entry.number page)
         (option_to_list (unless_blank (Some bytes.now)))
-        ++ rows_of name.entry.customer.now name.entry.number rest.now) }
+        ++ rows_of_job name.entry rest.now) }
     ensures other { IfErr result (λ difference. (rest : List Values)
-        → ¬ (rows_of name.entry.customer.now name.entry.number rows.now
+        → ¬ (rows_of_job name.entry rows.now
         ≡ map (page_row name.entry.customer.now name.entry.number page)
         (option_to_list (unless_blank (Some bytes.now))) ++ rest)) }
 {
@@ -251,9 +251,9 @@ fn pass_page<'a>(
 /// The rows of a job's pages are those of this storage.
 fn check_pages(rows: &[Row], name: JobName<'_>, core: &PlaneCore) -> Result<(), Difference>
     requires { length (cells_of core.now) ≤ largest_size }
-    ensures same { OnOk result (rows_of name.entry.customer.now name.entry.number rows.now
+    ensures same { OnOk result (rows_of_job name.entry rows.now
         ≡ rows_of_pages name.entry.customer.now name.entry.number (cells_of core.now)) }
-    ensures other { OnErr result (¬ (rows_of name.entry.customer.now name.entry.number rows.now
+    ensures other { OnErr result (¬ (rows_of_job name.entry rows.now
         ≡ rows_of_pages name.entry.customer.now name.entry.number (cells_of core.now))) }
 {
     let count = core.size() / PAGE_SIZE;
@@ -271,9 +271,9 @@ fn check_storage(
     machine: &Parts<PlaneCore>,
 ) -> Result<(), Difference>
     requires { IsInRange machine.now }
-    ensures same { OnOk result (rows_of name.entry.customer.now name.entry.number rows.now
+    ensures same { OnOk result (rows_of_job name.entry rows.now
         ≡ rows_of_pages name.entry.customer.now name.entry.number machine.now.works.storage) }
-    ensures other { OnErr result (¬ (rows_of name.entry.customer.now name.entry.number rows.now
+    ensures other { OnErr result (¬ (rows_of_job name.entry rows.now
         ≡ rows_of_pages name.entry.customer.now name.entry.number machine.now.works.storage)) }
     ensures characters { HoldsCharacters machine.now.works.storage }
 {

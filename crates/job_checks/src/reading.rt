@@ -1,8 +1,7 @@
 //! Reading the rows of a connection.
 
-ghost use Rattle.std.specs.Prelude.{◌≤◌};
 ghost use Rattle.sqlite.specs.Held.{state};
-ghost use Rattle.sqlite.specs.View.{doubt};
+ghost use Rattle.ledger_tables.specs.Disks.{StaysClean};
 ghost use Rattle.job_checks.specs.Tables.{LeavesLess, LeavesNoMore, ReadsAlone, ReadsSettled};
 
 use crate::all_rows::AllRows;
@@ -14,8 +13,7 @@ use sqlite_trees::store::Store;
 fn read_settled<S: Alter>(conn: &mut Connection<S>) -> Result<AllRows, Fault>
     ensures read { ReadsSettled S.Store conn.old conn.new result }
     ensures left { LeavesLess (state S.Store conn.old) (state S.Store conn.new) }
-    ensures clean { doubt (state S.Store conn.old).is_clean
-        ≤ doubt (state S.Store conn.new).is_clean }
+    ensures clean { StaysClean S.Store conn.old conn.new }
 {
     if !conn.is_autocommit() {
         return Err(Fault::Store);

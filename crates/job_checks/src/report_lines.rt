@@ -7,7 +7,7 @@ ghost use Rattle.office.specs.Numbers.{refusal_number};
 ghost use Rattle.job_checks.specs.Texts.{apart_words, byte_words, bytes_words, difference_words, found_words, job_line, number_words, outcome_words, place_words, report_text, schema_line, schema_lines, schema_name, schema_words, orphan_line, sum_line, summary_words, table_words, value_words};
 
 use crate::differences::{Difference, Found, Place};
-use crate::reports::{JobReport, Outcome, Report, Orphan, Table};
+use crate::reports::{JobReport, Orphan, Outcome, Report, Table};
 use crate::schemas::SchemaDifference;
 use bcd::Code;
 use itoa::Buffer;

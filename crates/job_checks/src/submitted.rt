@@ -9,7 +9,7 @@ ghost use Rattle.office.specs.Numbers.{kind_number};
 ghost use Rattle.job_checks.specs.Jobs.{numbers_of, row_of};
 ghost use Rattle.job_checks.specs.Kept.{rows_of_profile, rows_of_stretches};
 ghost use Rattle.job_checks.specs.Stops.{Gives, IfDiffers};
-ghost use Rattle.job_checks.specs.Tables.{rows_of};
+ghost use Rattle.job_checks.specs.Tables.{rows_of_job};
 ghost use Rattle.ledger_rows.specs.Columns.{truth};
 ghost use Rattle.ledger_tables.specs.Tables.{job_row, stretch_row};
 ghost use Rattle.office.specs.Jobs.{AreStretches, HasSwitches};
@@ -160,7 +160,7 @@ pub(crate) fn read_stretches(
     name: JobName<'_>,
 ) -> Result<Vec<Stretch>, Stop>
     ensures { (stretches : List Stretch) → AreStretches stretches
-        → rows_of name.entry.customer.now name.entry.number rows.now
+        → rows_of_job name.entry rows.now
         ≡ rows_of_stretches name.entry.customer.now name.entry.number stretches
         → IfOk result (λ read. read.items ≡ stretches)
         × IfErr result (λ stop. stop ≡ Stop.NoMemory) }
@@ -181,7 +181,7 @@ pub(crate) fn read_stretches(
 /// The profile of a job's row of `profiles`.
 pub(crate) fn read_profile(rows: &[Row], name: JobName<'_>) -> Result<Profile, Difference>
     ensures { (punch : Stacked)
-        → rows_of name.entry.customer.now name.entry.number rows.now
+        → rows_of_job name.entry rows.now
         ≡ rows_of_profile name.entry.customer.now name.entry.number punch
         → result ≡ Ok punch.profile }
 {

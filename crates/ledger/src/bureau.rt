@@ -1,9 +1,9 @@
 //! The bureau: each command in one transaction, whose commit is the last call of the store.
 
-ghost use Rattle.std.specs.Prelude.{◌≡◌, ◌⊎◌, ◌≤◌, [], true, false, None, Err, IsTrue, IfOk, IfErr, OnOk, IsErrAnd, IsErrOf};
+ghost use Rattle.std.specs.Prelude.{◌≡◌, ◌⊎◌, [], true, false, None, Err, IsTrue, IfOk, IfErr, OnOk, IsErrAnd, IsErrOf};
 ghost use Rattle.sqlite.specs.Held.{state};
 ghost use Rattle.sqlite.specs.State.{HasCleanDisk};
-ghost use Rattle.sqlite.specs.View.{doubt};
+ghost use Rattle.ledger_tables.specs.Disks.{StaysClean};
 ghost use Rattle.ledger_tables.specs.Making.{is_taken};
 ghost use Rattle.ledger_tables.specs.Schema.{no_schema};
 ghost use Rattle.ledger_tables.specs.Versions.{IsAnswer};
@@ -56,8 +56,7 @@ fn transact<S: Alter>(
     ensures opened { HasCleanDisk (state S.Store conn.new)
         → OnOk result (IsTrue (state S.Store conn.new).is_open) }
     ensures failed { FailsToRead S.Store conn.old conn.new result (OnlyReads command.now) }
-    ensures clean { doubt (state S.Store conn.old).is_clean
-        ≤ doubt (state S.Store conn.new).is_clean }
+    ensures clean { StaysClean S.Store conn.old conn.new }
 {
     if !conn.is_autocommit() {
         return Err(Fault::Store);
@@ -89,8 +88,7 @@ fn make<S: Alter>(alloc: Global, conn: &mut Connection<S>) -> Result<(), Fault>
         → is_taken (state S.Store conn.old).now.schema ≡ true
         → IsErrAnd result (MakesNothing S.Store conn.old conn.new) }
     ensures crash { LeavesNone S.Store conn.old conn.new }
-    ensures clean { doubt (state S.Store conn.old).is_clean
-        ≤ doubt (state S.Store conn.new).is_clean }
+    ensures clean { StaysClean S.Store conn.old conn.new }
 {
     if !conn.is_autocommit() {
         return Err(Fault::Store);
@@ -118,8 +116,7 @@ fn look<S: Alter>(alloc: Global, conn: &mut Connection<S>) -> Result<(), OpenFau
     ensures told { IsTold S.Store conn.old conn.new result }
     ensures answer { HasCleanDisk (state S.Store conn.new)
         → IsAnswer (state S.Store conn.old).now result }
-    ensures clean { doubt (state S.Store conn.old).is_clean
-        ≤ doubt (state S.Store conn.new).is_clean }
+    ensures clean { StaysClean S.Store conn.old conn.new }
 {
     if !conn.is_autocommit() {
         return Err(OpenFault::Store);
@@ -151,8 +148,7 @@ impl<S: Alter> Bureau<S> {
             → FailsToRead S.Store self.old.conn self.new.conn result (OnlyReads command.now) }
         ensures ended { IsTrue self.old.broken
             → (result ≡ Err Fault.Store) × (self.new ≡ self.old) × (meter.new ≡ meter.old) }
-        ensures clean { doubt (state S.Store self.old.conn).is_clean
-            ≤ doubt (state S.Store self.new.conn).is_clean }
+        ensures clean { StaysClean S.Store self.old.conn self.new.conn }
     {
         if self.broken {
             return Err(Fault::Store);
@@ -196,10 +192,8 @@ impl<S: Alter + Drop> Bureau<S> {
         ensures no_memory { IfErr result (λ e. HasCleanDisk (state S.Store e.1)
             → e.0 ≡ Fault.NoMemory → IsAsBefore (state S.Store conn) (state S.Store e.1)) }
         ensures crash { IfErr result (λ e. LeavesNone S.Store conn e.1) }
-        ensures clean { IfOk result (λ bureau. doubt (state S.Store conn).is_clean
-            ≤ doubt (state S.Store bureau.conn).is_clean) }
-        ensures clean_still { IfErr result (λ e. doubt (state S.Store conn).is_clean
-            ≤ doubt (state S.Store e.1).is_clean) }
+        ensures clean { IfOk result (λ bureau. StaysClean S.Store conn bureau.conn) }
+        ensures clean_still { IfErr result (λ e. StaysClean S.Store conn e.1) }
     {
         match make(alloc, &mut conn) {
             Ok(()) => Ok(Bureau {
@@ -226,10 +220,8 @@ impl<S: Alter + Drop> Bureau<S> {
             → IsAnswer (state S.Store conn).now (verdict result) }
         ensures kept { IfErr result (λ e. StandsStill S.Store conn e.1) }
         ensures known { IfErr result (λ e. IsNoFaultOfTables S.Store conn e.1 e.0) }
-        ensures clean { IfOk result (λ bureau. doubt (state S.Store conn).is_clean
-            ≤ doubt (state S.Store bureau.conn).is_clean) }
-        ensures clean_still { IfErr result (λ e. doubt (state S.Store conn).is_clean
-            ≤ doubt (state S.Store e.1).is_clean) }
+        ensures clean { IfOk result (λ bureau. StaysClean S.Store conn bureau.conn) }
+        ensures clean_still { IfErr result (λ e. StaysClean S.Store conn e.1) }
     {
         match look(alloc, &mut conn) {
             Ok(()) => Ok(Bureau {

@@ -1,8 +1,7 @@
 //! Raising the tables of an earlier version to this program's, in one transaction.
 
-ghost use Rattle.std.specs.Prelude.{◌≤◌, IfErr, IfOk, IsErrOf};
-ghost use Rattle.sqlite.specs.Held.{state};
-ghost use Rattle.sqlite.specs.View.{doubt};
+ghost use Rattle.std.specs.Prelude.{IfErr, IfOk, IsErrOf};
+ghost use Rattle.ledger_tables.specs.Disks.{StaysClean};
 ghost use Rattle.ledger_tables.specs.Steps.{IsStep};
 ghost use Rattle.ledger_tables.specs.Versions.{IsNotOld};
 ghost use Rattle.ledger.specs.Migrating.{AddsPages, AddsNext, AddsPagesOf, AddsAllPages, EndsFirst, EndsThird, RaisesFrom, FindsVersion, RaisesFound, KnowsFault, TellsVersion, IsRaised, IsKeptOf, LeavesEitherVersion, LeavesUntouched, IsNoFaultOfVersion, HasVersion, IsAnswerOf, IsToldOfVersion};
@@ -170,8 +169,7 @@ pub fn migrate<S: Alter>(alloc: Global, conn: &mut Connection<S>) -> Result<u32,
     ensures answer { IsAnswerOf S.Store conn.old conn.new result }
     ensures told { IsToldOfVersion S.Store conn.old conn.new result }
     ensures untouched { LeavesUntouched S.Store conn.old conn.new result }
-    ensures clean { doubt (state S.Store conn.old).is_clean
-        ≤ doubt (state S.Store conn.new).is_clean }
+    ensures clean { StaysClean S.Store conn.old conn.new }
 {
     if !conn.is_autocommit() {
         return Err(OpenFault::Store);

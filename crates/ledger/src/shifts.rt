@@ -1,9 +1,8 @@
 //! Applying a list of commands.
 
-ghost use Rattle.std.specs.Prelude.{◌≡◌, ◌<◌, ◌≤◌, ◌+◌, ◌⊎◌, Err, Some, None, IsTrue, OnOk, IsErrOf, length, vec_len};
+ghost use Rattle.std.specs.Prelude.{◌≡◌, ◌<◌, ◌+◌, ◌⊎◌, Err, Some, None, IsTrue, OnOk, IsErrOf, length, vec_len};
 ghost use Rattle.std.specs.Vec.{vec_capacity};
-ghost use Rattle.sqlite.specs.Held.{state};
-ghost use Rattle.sqlite.specs.View.{doubt};
+ghost use Rattle.ledger_tables.specs.Disks.{StaysClean};
 ghost use Rattle.office.specs.Meters.{RisenAtMost};
 ghost use Rattle.office.specs.Office.{take, attempted, limit_of};
 ghost use Rattle.ledger.specs.Replying.{Replies, Rises, RisesAtMost, KeepsOffice, LeavesEither};
@@ -37,8 +36,7 @@ fn apply_with_room<S: Alter>(
     ensures kept { (bureau.new.broken ≡ bureau.old.broken) ⊎ IsErrOf result Fault.Store }
     ensures ended { IsTrue bureau.old.broken → (result ≡ Err Fault.Store)
         × (bureau.new ≡ bureau.old) × (meter.new ≡ meter.old) }
-    ensures clean { doubt (state S.Store bureau.old.conn).is_clean
-        ≤ doubt (state S.Store bureau.new.conn).is_clean }
+    ensures clean { StaysClean S.Store bureau.old.conn bureau.new.conn }
     ensures replies { replies.new.items ≡ replies.old.items }
     ensures room { OnOk result (vec_len replies.new < vec_capacity replies.new) }
 {
@@ -78,8 +76,7 @@ pub fn shift<S: Alter>(
     ensures ended { IsTrue bureau.old.broken → (result.acknowledged ≡ 0)
         × (bureau.new ≡ bureau.old) × (meter.new ≡ meter.old)
         × (0 < length commands.now → result.fault ≡ Some Fault.Store) }
-    ensures clean { doubt (state S.Store bureau.old.conn).is_clean
-        ≤ doubt (state S.Store bureau.new.conn).is_clean }
+    ensures clean { StaysClean S.Store bureau.old.conn bureau.new.conn }
 {
     // A law, for the proof: it does nothing.
     kept_offices_run_whole();

@@ -1,11 +1,11 @@
 //! Creating a new bureau's file.
 
-ghost use Rattle.std.specs.Prelude.{◌≡◌, ◌≤◌, [], IfErr, IfOk};
+ghost use Rattle.std.specs.Prelude.{◌≡◌, [], IfErr, IfOk};
 ghost use Rattle.sqlite.specs.Held.{state};
 ghost use Rattle.sqlite.specs.State.{HasCleanDisk, IsLive, Opens};
-ghost use Rattle.sqlite.specs.View.{doubt};
 ghost use Rattle.sqlite.specs.WalFiles.{image_at};
 ghost use Rattle.ledger.specs.Standing.{Stands};
+ghost use Rattle.ledger_tables.specs.Disks.{StaysClean};
 ghost use Rattle.ledger_tables.specs.Versions.{IsKnown};
 ghost use Rattle.ledger_files.specs.Making.{IsFirst, IsWithoutTables};
 
@@ -27,8 +27,7 @@ fn created<S: Alter + Drop>(
     ensures made { IfOk result (λ made. HasCleanDisk (state S.Store made)
         → Opens (state S.Store conn) → IsLive (state S.Store conn)
         → IsWithoutTables (state S.Store conn).committed.trees → Stands (state S.Store made) []) }
-    ensures clean { IfOk result (λ made. doubt (state S.Store conn).is_clean
-        ≤ doubt (state S.Store made).is_clean) }
+    ensures clean { IfOk result (λ made. StaysClean S.Store conn made) }
     ensures known { IfErr result (λ e. IsKnown e.0) }
 {
     match Bureau::create(alloc, conn) {

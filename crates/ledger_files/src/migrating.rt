@@ -12,6 +12,7 @@ ghost use Rattle.sqlite.specs.View.{doubt};
 ghost use Rattle.sqlite.specs.WalFiles.{image_at, outcomes};
 ghost use Rattle.sqlite_wal.specs.Reads.{AreClean};
 ghost use Rattle.office.specs.Office.{Office};
+ghost use Rattle.ledger_tables.specs.Disks.{StaysClean};
 ghost use Rattle.ledger_tables.specs.Schema.{own_version};
 ghost use Rattle.ledger_tables.specs.Versions.{IsAnswer, IsNotOld};
 ghost use Rattle.ledger.specs.Migrating.{IsKeptOf, IsNoFaultOfVersion, IsRaised, LeavesEitherVersion, as_opened};
@@ -68,10 +69,8 @@ fn raised<S: Alter + Drop>(
     ensures untouched { IfErr result (λ e. e.0 ≡ OpenFault.NotABureau
         → HasCleanDisk (state S.Store e.1) → Opens (state S.Store conn)
         → HoldsOnly (state S.Store e.1) (state S.Store conn).committed.trees) }
-    ensures clean { IfOk result (λ done. doubt (state S.Store conn).is_clean
-        ≤ doubt (state S.Store done.1).is_clean) }
-    ensures clean_still { IfErr result (λ e. doubt (state S.Store conn).is_clean
-        ≤ doubt (state S.Store e.1).is_clean) }
+    ensures clean { IfOk result (λ done. StaysClean S.Store conn done.1) }
+    ensures clean_still { IfErr result (λ e. StaysClean S.Store conn e.1) }
 {
     match ledger::migrate(alloc, &mut conn) {
         Ok(version) => Ok((version, conn)),

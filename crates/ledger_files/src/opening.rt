@@ -1,13 +1,13 @@
 //! Opening a bureau's file.
 
-ghost use Rattle.std.specs.Prelude.{◌≡◌, ◌≤◌, false, Ok, IfOk, IfErr};
+ghost use Rattle.std.specs.Prelude.{◌≡◌, false, Ok, IfOk, IfErr};
 ghost use Rattle.sqlite.specs.Effect.{Database, IsDatabase};
 ghost use Rattle.sqlite.specs.Held.{state};
 ghost use Rattle.sqlite.specs.Files.{file_state, HoldsDatabase};
 ghost use Rattle.sqlite.specs.State.{HasCleanDisk, Opens, IsLive};
 ghost use Rattle.sqlite.specs.Tree.{Trees};
-ghost use Rattle.sqlite.specs.View.{doubt};
 ghost use Rattle.sqlite.specs.WalFiles.{image_at};
+ghost use Rattle.ledger_tables.specs.Disks.{StaysClean};
 ghost use Rattle.ledger_tables.specs.Versions.{IsAnswer, IsKnown};
 ghost use Rattle.office.specs.Office.{Office};
 ghost use Rattle.ledger.specs.Adopting.{StandsStill, IsNoFaultOfTables, IsTold, handed, verdict};
@@ -49,10 +49,8 @@ fn adopted<S: Alter + Drop>(
     ensures stands { IfOk result (λ bureau. StandsStill S.Store conn bureau.conn) }
     ensures kept { IfErr result (λ e. StandsStill S.Store conn e.1) }
     ensures known { IfErr result (λ e. IsNoFaultOfTables S.Store conn e.1 e.0) }
-    ensures clean { IfOk result (λ bureau. doubt (state S.Store conn).is_clean
-        ≤ doubt (state S.Store bureau.conn).is_clean) }
-    ensures clean_still { IfErr result (λ e. doubt (state S.Store conn).is_clean
-        ≤ doubt (state S.Store e.1).is_clean) }
+    ensures clean { IfOk result (λ bureau. StaysClean S.Store conn bureau.conn) }
+    ensures clean_still { IfErr result (λ e. StaysClean S.Store conn e.1) }
 {
     opened_stands(&conn);
     Bureau::adopt(alloc, conn)

@@ -1,9 +1,8 @@
 //! Work with the bureau whose file is at a path: the file is opened, and closed after it.
 
-ghost use Rattle.std.specs.Prelude.{◌≡◌, ◌≤◌, ℕ, List, Option, IfOk, IfErr};
-ghost use Rattle.sqlite.specs.Held.{state};
+ghost use Rattle.std.specs.Prelude.{◌≡◌, ℕ, List, Option, IfOk, IfErr};
+ghost use Rattle.ledger_tables.specs.Disks.{StaysClean};
 ghost use Rattle.sqlite.specs.Recovery.{Image};
-ghost use Rattle.sqlite.specs.View.{doubt};
 ghost use Rattle.sqlite.specs.WalFiles.{image_at};
 ghost use Rattle.office.specs.declared.commands.Command.{Command};
 ghost use Rattle.office.specs.declared.replies.Reply.{Reply};
@@ -43,8 +42,7 @@ pub trait Work {
     )
         ensures works { HasWorked S.Store bureau.old.conn bureau.new.conn bureau.new.broken
             (tells self.old self.new (O.contents output.old) (O.contents output.new)) }
-        ensures clean { doubt (state S.Store bureau.old.conn).is_clean
-            ≤ doubt (state S.Store bureau.new.conn).is_clean };
+        ensures clean { StaysClean S.Store bureau.old.conn bureau.new.conn };
 }
 
 /// Returns what is left of the files of an open that failed. The log, which had this length before,

@@ -7,7 +7,7 @@ use crate::job_folders::{Filed, file_job};
 use command_line::Status;
 use job_archives::files_of;
 use job_checks::{
-    AllRows, JobReport, JobRun, find_orphans, job_text, read_rows, run_job, orphans_text,
+    AllRows, JobReport, JobRun, find_orphans, job_text, orphans_text, read_rows, run_job,
 };
 use ledger_files::{Look, look_into};
 use ledger_tables::OpenFault;

@@ -2,7 +2,7 @@
 
 use crate::clients::{QUEUE, ask};
 use command_line::Status;
-use queue_rounds::{Outcome, JobName, Standing, changes_between, outcome_of_queue, standing_of};
+use queue_rounds::{JobName, Outcome, Standing, changes_between, outcome_of_queue, standing_of};
 use std::alloc::Global;
 use std::io::Write;
 use std::time::Duration;

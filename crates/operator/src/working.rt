@@ -4,7 +4,8 @@ use crate::clients::{QUEUE, ask};
 use crate::tallies::Tally;
 use command_line::Status;
 use queue_rounds::{
-    Outcome, JobName, MOST_TRIES, Next, Passed, Ran, Rounds, Why, outcome_of_queue, outcome_of_slice,
+    JobName, MOST_TRIES, Next, Outcome, Passed, Ran, Rounds, Why, outcome_of_queue,
+    outcome_of_slice,
 };
 use std::io::Write;
 use std::time::Duration;

@@ -121,11 +121,7 @@ pub fn outcome_of_slice(alloc: Global, reply: &Reply) -> Result<Outcome, AllocEr
 }
 
 /// How a job stands, as a status and a body say.
-fn standing_of_body(
-    alloc: Global,
-    status: u16,
-    body: &[u8],
-) -> Result<Option<Standing>, AllocError>
+fn standing_of_body(alloc: Global, status: u16, body: &[u8]) -> Result<Option<Standing>, AllocError>
     ensures { IfOk result (IsStandingReplied status body.now) }
 {
     if status == 200 {

@@ -31,8 +31,8 @@ mod write_failed;
 
 pub use faults::ScriptFault;
 pub use headings::Heading;
+pub use meanings::Meaning;
 pub use parsing::{MOST_BYTES, parse};
 pub use reading::{ReadFault, read_script};
 pub use replying::{write_bad, write_fault, write_refusal, write_reply};
-pub use meanings::Meaning;
 pub use write_failed::WriteFailed;
