@@ -17,7 +17,7 @@ leaf name values = built_leaf (inherited (command bureau).top (subcommand_app na
 
 abbrev after_walk : Shape → Held → Kinds
 after_walk s h = or_else (settle_fault s.rules s.args_override_self h)
-    (or_else (defaults_fault (settled s.rules h).subcommands s.rules) (check_fault s (finished s.rules h) false))
+    (or_else (defaults_fault (settled s.rules h).rows s.rules) (check_fault s (finished s.rules h) false))
 
 -- the faults of the arguments after a subcommand's name
 abbrev pub leaf_fault : Shape → List Text → Kinds

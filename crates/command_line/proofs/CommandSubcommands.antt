@@ -44,7 +44,7 @@ top = built (command bureau)
 abbrev behind : Walk → Kinds
 behind w = or_else (entered_fault top w.stopped)
     (or_else (settle_fault top.top.rules top.top.args_override_self w.held)
-    (or_else (defaults_fault (settled top.top.rules w.held).subcommands top.top.rules)
+    (or_else (defaults_fault (settled top.top.rules w.held).rows top.top.rules)
     (check_fault top.top (finished top.top.rules w.held) (is_some (entered top w.stopped)))))
 
 or_else_nil : (k : Kinds) → or_else k [] ≡ k

@@ -25,7 +25,7 @@ is_option other = false
 -- the command of a subcommand: its name, and its arguments in order
 abbrev pub subcommand_app : Text → List (Text × Kind) → App
 subcommand_app name arguments =
-    fold (λ an argument. with_rule a (rule_for argument.0 argument.1)) (new_app name) arguments
+    fold (λ a argument. with_rule a (rule_for argument.0 argument.1)) (new_app name) arguments
 
 -- the command with one more subcommand
 abbrev pub with_subcommand_named : App → Text → List (Text × Kind) → App

@@ -1,7 +1,7 @@
 use Rattle.std.proofs.Common.{◌∙◌, sym}
 use Rattle.clap.specs.Words.{found_of}
-use Rattle.clap.proofs.WalkLemmas.{first_value-subcommands}
+use Rattle.clap.proofs.WalkLemmas.{first_value-rows}
 use Rattle.command_line.proofs.arguments.Found.value.Goals as goal
 
 pub returns : goal.returns
-returns c = sym (c.get_str.ensures ∙ first_value-subcommands (found_of c.args.self.now.matches) c.args.name.now)
+returns c = sym (c.get_str.ensures ∙ first_value-rows (found_of c.args.self.now.matches) c.args.name.now)
