@@ -55,8 +55,8 @@ take_checked() {
     say "not proved yet: this run is by the toolchain's checked build; ./build $3proves it,\
  which takes about $(minutes "$2") minutes"
     program=$top/crates/$1/out/$1.checked
-    if is_stale "$program" "$top/tools/build-checked" "$top/tools/building"; then
+    if is_stale "$program" "$top/tools/building"; then
         need_tools
-        call "$top/tools/build-checked" "$1"
+        call "$top/tools/building/build-checked" "$1"
     fi
 }

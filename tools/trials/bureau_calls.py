@@ -7,7 +7,7 @@ import socket
 import threading
 import time
 
-TOP = os.path.dirname(os.path.dirname(os.path.realpath(__file__)))
+TOP = os.path.dirname(os.path.dirname(os.path.dirname(os.path.realpath(__file__))))
 # How every row answers a file that it can't use: the status and both outputs.
 REFUSED = (3, "", "fault 2\n")
 # Below the ports that the system gives to clients, so that nobody takes one by chance.
