@@ -1,5 +1,5 @@
-# What ./bureau, ./workbench and ./build share. They source it, with their name in `me` and the top
-# of the repository in `top`.
+# What ./build and run-program share. They source it, with their name in `me` and the top of the
+# repository in `top`.
 
 say() {
     printf '%s: %s\n' "$me" "$1" >&2
