@@ -48,7 +48,8 @@ class Command:
         self.number, self.texts, self.status = number, [text], 0
         self.lines = []
 
-    def take(self, text, number):
+    def take(self, text, number, blank=0):
+        """Takes a line, which so many empty lines stand before."""
         card, status = CARD.fullmatch(text), re.fullmatch(r"\[([0-9]+)\]", text)
         if text.startswith("& "):
             self.texts.append(text[2:])
@@ -60,6 +61,8 @@ class Command:
         elif text[:1] in (">", "!") and text[1:2] in ("", " "):
             self.lines.append((text[0], ANY if text == "! .." else line_of(text[2:]), number))
         else:
+            if self.lines and self.lines[-1][0] == "":
+                self.lines += [("", b"\n", number)] * blank
             self.lines.append(("", ANY if text == ".." else line_of(text), number))
 
     def reads(self):
@@ -87,18 +90,22 @@ def numbered(lines):
 
 def sessions_of(path):
     """The sessions of a file, each a title and its commands. A line `## TITLE` begins one."""
-    found = [("", [])]
+    found, blank, is_inside = [("", [])], 0, False
     with open(path, encoding="utf-8", newline="\n") as file:
         lines = file.read().split("\n")
     for number, line in numbered(lines):
+        if not line.strip():
+            blank += is_inside
+            continue
         if line.startswith("## "):
             found.append((line[3:], []))
         elif line.startswith(f"{INDENT}$ "):
             found[-1][1].append(Command(number, line[len(INDENT) + 2:]))
-        elif line.startswith(INDENT) and line.strip():
+        elif line.startswith(INDENT):
             if not found[-1][1]:
                 raise SystemExit(f"{path}:{number}: there is no command before this line")
-            found[-1][1][-1].take(line[len(INDENT):], number)
+            found[-1][1][-1].take(line[len(INDENT):], number, blank)
+        blank, is_inside = 0, line.startswith(INDENT)
     return [(title, commands) for title, commands in found if commands]
 
 
@@ -239,3 +246,11 @@ class Room:
     def do_gone(self, _, rest):
         """The call has left no such file."""
         self.known.pop(bytes_of(rest), None)
+
+    def do_cards(self, command, rest):
+        """Prints how many cards a file has that the call has left, and takes it away."""
+        path = self.path(bytes_of(rest))
+        size = os.path.getsize(path) if os.path.isfile(path) else 0
+        self.compare(command, f"{size / 81:g}\n".encode())
+        if size:
+            os.remove(path)
