@@ -109,6 +109,20 @@ def sessions_of(path):
     return [(title, commands) for title, commands in found if commands]
 
 
+def records_of(path):
+    """The records of a file, each its lines: the number, the key, and the text behind a blank. An
+    empty line ends a record; a line that begins with `#` is a remark."""
+    found = [[]]
+    with open(path, encoding="ascii", newline="\n") as file:
+        for number, line in enumerate(file.read().split("\n"), 1):
+            if not line:
+                found.append([])
+            elif line[0] != "#":
+                key, _, text = line.partition(" ")
+                found[-1].append((number, key, text))
+    return [record for record in found if record]
+
+
 def agree(wanted, got):
     """Whether lines are as they must be; ANY stands for any lines."""
     if ANY not in wanted:
