@@ -8,7 +8,7 @@ import threading
 import time
 
 TOP = os.path.dirname(os.path.dirname(os.path.dirname(os.path.realpath(__file__))))
-# How every row answers a file that it can't use: the status and both outputs.
+# How every subcommand answers a file that it can't use: the status and both outputs.
 REFUSED = (3, "", "fault 2\n")
 # Below the ports that the system gives to clients, so that nobody takes one by chance.
 PORTS = itertools.cycle(range(20000 + os.getpid() * 97 % 8000, 32000))
