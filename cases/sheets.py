@@ -192,7 +192,8 @@ class Room:
             there, known = files_in(self.folder), self.known
             for name in sorted({*there, *known}):
                 if name not in there or name not in known or known[name] not in (there[name], ANY):
-                    self.wrong(self.called, f"{os.fsdecode(name)} has {there.get(name)!r:.200}")
+                    has = f"has {there[name]!r:.200}" if name in there else "is not there"
+                    self.wrong(self.called, f"{os.fsdecode(name)} {has}")
         self.called = None
 
     def call(self, command, program, words):
