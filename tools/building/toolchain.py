@@ -54,7 +54,7 @@ def stamps(top, names):
 
 
 def command():
-    """The words that start rt in a copy that nobody edits."""
+    """The arguments that start rt in a copy that nobody edits."""
     return ["rt"] if home() is None else [sys.executable, os.path.realpath(__file__)]
 
 
