@@ -1,9 +1,9 @@
-//! The replies of the counter over HTTP: the bytes of each, and how they are written.
+//! The replies of the counter over HTTP: the bytes of each.
 //!
 //! [`reply_to`] returns the bytes of the office's reply, head and body; [`deck_fault`] returns
 //! those for the fault of a deck's text. [`refusal_answer`] returns the bytes that refuse a request
 //! by its status alone, and [`Fault::answer`] those of the bureau's own faults: these are fixed,
-//! and take no memory. [`send`] writes bytes, and returns how many were written.
+//! and take no memory.
 //!
 //! `specs/Bodies.antt` defines the body of each reply, and `specs/Replies.antt` its status and its
 //! head. The contract for the layer above: the bytes of a reply are those of `reply_bytes` there.
