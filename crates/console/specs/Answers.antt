@@ -115,16 +115,19 @@ abbrev pub if_inside : SessionState → List ℕ → ℕ → List ℕ → List �
 if_inside s line position shown = if is_inside s position then shown
     else fault_line line (past_words s.machine.works.storage)
 
--- after a line `stop`, `clear` and `watch`
+-- after a line `stop`
 abbrev pub stopped_at : SessionState → ℕ → SessionState
 stopped_at s stop = if is_inside s stop then record s { stops = with_stop stop s.stops } else s
 
+-- after a line `clear` with a position
 abbrev pub cleared : SessionState → ℕ → SessionState
 cleared s stop = record s { stops = without_stop stop s.stops }
 
+-- after a line `watch` with a position
 abbrev pub watching : SessionState → ℕ → SessionState
 watching s position = if is_inside s position then record s { watched = Some position } else s
 
+-- after a line `watch` without one
 abbrev pub unwatching : SessionState → SessionState
 unwatching s = record s { watched = None }
 

@@ -1,5 +1,15 @@
 //! The check of a bureau's file: each job is run again, and the rows of all tables are compared
 //! with what it makes.
+//!
+//! [`read_rows`] reads the rows of all tables, and [`run_job`] runs the job of one row of `jobs`
+//! again: it returns the job exactly if its rows are those that it makes. [`check`] does so for all
+//! jobs, looks for rows that belong to no job ([`find_orphans`]), and compares the schema with that
+//! of a bureau without jobs. [`report_text`] is what is printed of it (`specs/Texts.antt`).
+//!
+//! The contract for the layer above: a report tells no difference exactly where the tables stand for
+//! an office whose jobs have names that jobs may have, and then it tells of each of its jobs
+//! (`specs/Checks.antt`). Nothing is written: after a check a crash leaves nothing that it might not
+//! have left before.
 #![tactic(auto)]
 
 mod again;
