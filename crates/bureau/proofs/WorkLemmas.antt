@@ -1,4 +1,4 @@
--- What the rows' work tells.
+-- What the subcommands' work tells.
 use Rattle.std.proofs.Common.{◌≡◌, ◌⊎◌, inl, inr, ℕ, ◌≤◌, Bool, false, List, [], ◌∷◌, ◌++◌, length, refl, sym, ap, subst, Result, Ok, Err}
 use Rattle.std.specs.Prelude.{IfErr, IfOk}
 use Rattle.sqlite_disk.specs.declared.Disk as disk
@@ -104,11 +104,11 @@ module _ {D : Type 0} {g : disk.Ghosts D} (files : Image) where
   applied_with old new own (Err (unfinished.Refused fault rest)) round is = inl (fault, ap (closing_with fault) is.0.0, is.0.1)
   applied_with old new own (Err (unfinished.Unclosed fault rest)) round is = inr (own, inr (fault, refl), record { commands = is.0; replies = is.1; told = is.2 })
 
-  -- what a row says that has applied a script
+  -- what a subcommand says that has applied a script
   pub applied_so : (old new : Bytes) (ended : Ended D g) → HasEndedFrom files ended (HasNotApplied ended.work old new) (TellsApply old new ended.work) → HasApplied (outcome_in ended) old new
   applied_so old new ended it = applied_with old new ended.work ended.file it.0 it.1
 
-  -- what a row says that has migrated a file
+  -- what a subcommand says that has migrated a file
   pub migrated_so : (old new : Bytes) (it : Outcome) (migrated : Result (Migrated D g) (Unfinished D g)) → IfErr migrated (IsUnmigrated files) → TellsMigrated migrated it old new → HasMigrated it old new
   migrated_so old new it (Ok done) is tells = inl (done.version, tells)
   migrated_so old new it (Err (unfinished.Unfound fault)) is tells = inr (fault, is, tells.0, tells.1)

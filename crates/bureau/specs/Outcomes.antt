@@ -1,4 +1,4 @@
--- the outcomes of the rows for a bureau's file
+-- the outcomes of the subcommands on a bureau's file
 use Rattle.std.specs.Prelude.{ℕ, List, [], ◌∷◌, ◌++◌, Option, codes, decimal, Result, Ok, Err}
 use Rattle.std.specs.Io.KnownBytes.{Appends, Keeps}
 use Rattle.cards.specs.Files.{line_feed}
@@ -34,7 +34,7 @@ closing_with fault (outcome.Fault earlier) = outcome.Fault earlier
 closing_with fault (outcome.Stopped acknowledged) = outcome.Stopped acknowledged
 closing_with fault other = outcome.Fault fault
 
--- the outcome of a row, by that of its work and by what came of the bureau's file
+-- the outcome of a subcommand, by that of its work and by what came of the bureau's file
 abbrev pub with_file : {D : Type 0} {g : Ghosts D} → Result (Closed D g) (Unfinished D g)
     → Outcome → Outcome
 with_file (Ok closed) outcome = outcome

@@ -1,4 +1,4 @@
--- what the rows for a bureau's file tell of the commands that were carried out
+-- what the subcommands on a bureau's file tell of the commands that were carried out
 use Rattle.std.specs.Prelude.{◌≡◌, ◌⊎◌, ℕ, Bool, true, false, List, [], ◌∷◌, length, Option, Result, Ok, Err, IfErr, IfOk, string_bytes, Vec, ⊤}
 use Rattle.std.specs.declared.alloc.Global.{Global}
 use Rattle.std.specs.List.{AllByRecursion}
@@ -106,13 +106,14 @@ IsFileFor (reply.Cards cards) made = AreMade (punch_file_of cards) made
 IsFileFor (reply.Lines lines) made = IsRising lines → AreMade (rendered lines) made
 IsFileFor other made = AreMade [] made
 
--- the outcome of a row: that of its work, or the fault if the file could not be opened, or closed
+-- the outcome of a subcommand: that of its work, or the fault if the file could not be opened, or
+-- closed
 abbrev pub outcome_in : {D : Type 0} {g : Ghosts D} → Ended D g → Outcome
 outcome_in ended = with_file ended.file ended.work
 
--- the row's work with the bureau of these files, by its own outcome: the files were closed, and it
--- is a round from them to whatever a crash leaves; or they were not, and no work was done, or it
--- tells this
+-- the subcommand's work with the bureau of these files, by its own outcome: the files were closed,
+-- and it is a round from them to whatever a crash leaves; or they were not, and no work was done,
+-- or it tells this
 abbrev pub HasEndedFrom : {D : Type 0} {g : Ghosts D} → Image → Ended D g → Type 0
     → (List Command → List Reply → Type 0) → Type 0
 HasEndedFrom files ended Idle Tells =

@@ -1,4 +1,4 @@
-//! How a row on a bureau's file ended, with the file.
+//! How a subcommand on a bureau's file ended, with the file.
 
 ghost use Rattle.std.specs.Prelude.{◌≡◌};
 ghost use Rattle.bureau.specs.Work.{outcome_in};
@@ -7,8 +7,8 @@ use crate::outcomes::Outcome;
 use ledger_files::{Closed, Unfinished};
 use sqlite_disk::Disk;
 
-/// How a row's work with a bureau's file ended, and what came of the file. It stays locked as long
-/// as this is kept.
+/// How a subcommand's work with a bureau's file ended, and what came of the file. It stays locked
+/// as long as this is kept.
 #[derive(Drop)]
 pub struct Ended<D: Disk> {
     /// The outcome of the work itself.
@@ -25,8 +25,8 @@ impl<D: Disk> Ended<D> {
         Ended { work, file }
     }
 
-    /// The outcome of the row: that of the work, or the fault if the file could not be opened, or
-    /// closed after it.
+    /// The outcome of the subcommand: that of the work, or the fault if the file could not be
+    /// opened, or closed after it.
     pub fn outcome(&self) -> Outcome
         ensures { result ≡ outcome_in self.now }
     {

@@ -1,4 +1,4 @@
-//! How a row of a bureau's file ends.
+//! How a subcommand on a bureau's file ends.
 
 ghost use Rattle.std.specs.Prelude.{◌≡◌, IfOk};
 ghost use Rattle.bureau.specs.Outcomes.{HasShown, closing_with, made_with, status_of, with_file};
@@ -10,7 +10,7 @@ use sqlite_disk::Disk;
 use std::io;
 use std::io::Write;
 
-/// How a row of a bureau's file ended.
+/// How a subcommand on a bureau's file ended.
 #[derive(Clone, Copy, Debug, PartialEq, Eq)]
 pub enum Outcome {
     /// Everything was done.
@@ -41,8 +41,8 @@ impl Outcome {
         }
     }
 
-    /// The outcome of a row whose work had this outcome itself: the fault if the bureau's file could
-    /// not be opened, or closed then.
+    /// The outcome of a subcommand whose work had this outcome itself: the fault if the bureau's
+    /// file could not be opened, or closed then.
     pub(crate) fn with_file<D: Disk>(self, file: &Result<Closed<D>, Unfinished<D>>) -> Outcome
         ensures { result ≡ with_file file.now self }
     {

@@ -1,4 +1,4 @@
-//! The row `archive`.
+//! The subcommand `archive`.
 
 ghost use Rattle.std.specs.Prelude.{IsSome};
 

@@ -1,4 +1,4 @@
-//! The row `check`.
+//! The subcommand `check`.
 
 ghost use Rattle.std.specs.Prelude.{IsSome};
 

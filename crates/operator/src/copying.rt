@@ -1,4 +1,4 @@
-//! The row `copy`.
+//! The subcommand `copy`.
 
 ghost use Rattle.std.specs.Prelude.{◌≡◌, Ok, Some, None};
 

@@ -1,4 +1,4 @@
-//! The row `jobs`.
+//! The subcommand `jobs`.
 
 ghost use Rattle.std.specs.Prelude.{IsSome};
 

@@ -1,4 +1,4 @@
-//! The row `watch`.
+//! The subcommand `watch`.
 
 use crate::clients::{QUEUE, ask};
 use command_line::Status;

@@ -1,4 +1,4 @@
-//! The row `work`.
+//! The subcommand `work`.
 
 use crate::clients::{QUEUE, ask};
 use crate::tallies::Tally;

@@ -1,4 +1,4 @@
-//! The row `convert`.
+//! The subcommand `convert`.
 
 ghost use Rattle.std.specs.Prelude.{◌≡◌, List, IfOk};
 ghost use Rattle.cards.specs.Decks.{IsDeck};

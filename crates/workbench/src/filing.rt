@@ -1,4 +1,4 @@
-//! The row `page`.
+//! The subcommand `page`.
 
 use crate::process::Process;
 use crate::undone::Undone;
@@ -10,7 +10,7 @@ use source_reports::Report;
 use std::io::Write;
 use workbench_arguments::{Setup, VERSION};
 
-/// Prints the faults of a source, as the row `source` does.
+/// Prints the faults of a source, as the subcommand `source` does.
 fn show_faults<W: Write, E: Write>(
     process: &mut Process<W, E>,
     deck: &Deck,

@@ -1,4 +1,4 @@
-//! The row `manifest`.
+//! The subcommand `manifest`.
 
 ghost use Rattle.std.specs.Prelude.{◌≡◌, ◌<◌, List, length, IfOk};
 ghost use Rattle.cards.specs.Decks.{IsDeck};

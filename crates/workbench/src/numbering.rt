@@ -1,4 +1,4 @@
-//! The row `sequence`.
+//! The subcommand `sequence`.
 
 use crate::process::Process;
 use crate::undone::Undone;

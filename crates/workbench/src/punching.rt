@@ -1,4 +1,4 @@
-//! The row `punch`.
+//! The subcommand `punch`.
 
 ghost use Rattle.std.specs.Prelude.{◌≡◌, ◌≤◌, [], IfOk};
 ghost use Rattle.card_texts.specs.Punching.{deck_text_of, faults_of};

@@ -1,4 +1,4 @@
-//! The row `source`.
+//! The subcommand `source`.
 
 ghost use Rattle.std.specs.Prelude.{◌≡◌, ◌++◌, IfOk, OnOk, length};
 ghost use Rattle.autocoder_layout.specs.Source.{source_of};

@@ -1,4 +1,4 @@
-//! The row `console`.
+//! The subcommand `console`.
 
 use crate::process::Process;
 use crate::undone::Undone;
