@@ -3,7 +3,7 @@ use Rattle.std.specs.Prelude.{ℕ, ◌≡◌, ◌≤◌, ◌<◌, nat_lt, List, 
 use Rattle.core_store.specs.Storage.{largest_size}
 use Rattle.texts.specs.Switches.{AreSwitchesOf}
 use Rattle.units.specs.declared.switches.Switches.{Switches}
-use Rattle.run_traces.specs.Addresses.{IsCommand}
+use Rattle.run_traces.specs.Addresses.{IsSaid}
 use Rattle.run_traces.specs.Names.{Named}
 use Rattle.console.specs.Words.{first_word, from_fourth, second_word, text_of, third_word}
 use Rattle.console.specs.Verbs.{IsVerbOf}
@@ -25,7 +25,7 @@ IsPositionOf text position = (position < largest_size) × (text ≡ decimal posi
 -- a text says this address by the names of the source, where there are names
 abbrev pub SaysAddress : Option Named → List ℕ → ℕ → Type 0
 SaysAddress None text address = ⊥
-SaysAddress (Some names) text address = IsCommand names.slots text address
+SaysAddress (Some names) text address = IsSaid names.slots text address
 
 -- what a text may be, each where it is that: a count, a position, an address by its name, and
 -- switches
